@@ -16,7 +16,7 @@ static void give_up(const char *what, unsigned number)
     exit(1);
 }
 
-/* The bytes of a file. The pointer is not null, also where the file is empty. */
+/* The bytes of a file. The pointer is not null, even if the file is empty. */
 static uint8_t *bytes_of(const char *name, size_t *length)
 {
     FILE *file = fopen(name, "rb");
@@ -39,7 +39,7 @@ static int connection_to(const char *port)
     return line;
 }
 
-/* All that is due is written, and goes out. */
+/* Writes all that is due, and sends it. */
 static void give_out(dme_client *client, int line)
 {
     uint8_t room[4096];
@@ -57,7 +57,7 @@ static void give_out(dme_client *client, int line)
         }
 }
 
-/* What has come is fed, and each whole line is read. */
+/* Feeds what has come in, and reads each whole line. */
 static void take_in(dme_client *client, int line)
 {
     uint8_t piece[4096];

@@ -50,7 +50,7 @@ fn push_touch(
     Ok(())
 }
 
-/// The text of a program of so many touches.
+/// The text of a program of that many touches.
 fn push_program(alloc: Global, text: &mut Vec<u8>, touches: u64) -> Result<(), AllocError> {
     text.extend_from_slice(b"DMISMN/'TOUCHES',05.2\nSNSLCT/S(P1)\n")?;
     for number in 0..touches {
@@ -59,7 +59,7 @@ fn push_program(alloc: Global, text: &mut Vec<u8>, touches: u64) -> Result<(), A
     text.extend_from_slice(b"ENDFIL\n")
 }
 
-/// A program of so many touches.
+/// A program of that many touches.
 pub(crate) fn new_program(alloc: Global, touches: u64) -> Result<Program, Stop> {
     let mut text = Vec::new(alloc);
     push_program(alloc, &mut text, touches)?;
@@ -76,7 +76,7 @@ fn new_client(alloc: Global, touches: u64, window: u8) -> Result<Client, Stop> {
     }
 }
 
-/// What stands at the other end: the lines that it answers next, how many touches it has answered, and a sum over the bytes that came.
+/// The peer at the other end: the lines that it answers next, how many touches it has answered, and a sum over the bytes that came.
 #[derive(Drop)]
 struct Peer {
     answers: Vec<u8>,
@@ -90,7 +90,7 @@ impl Peer {
         self.answers.extend_from_slice(text)
     }
 
-    /// A command is received and done; a touch has a point, and the machine is not homed where it is asked.
+    /// A command is received and done; a touch has a point, and the machine answers that it is not homed.
     fn hear(&mut self, line: &[u8]) -> Result<(), AllocError> {
         self.sum = summed_bytes(self.sum, line);
         let (tag, command) = line.split_at(line.len().min(5));
@@ -166,7 +166,8 @@ pub(crate) fn points(features: &[Feature], sum: u64) -> (u64, u64) {
     (count, sum)
 }
 
-/// Drives a client through so many touches, and answers the count of its points and the sum over all bytes that it sent and all its points.
+/// Drives a client through that many touches, and answers the count of its points and the sum over all bytes that it sent and all its
+/// points.
 pub(crate) fn touches(alloc: Global, wanted: u64, window: u8) -> Result<(u64, u64), Stop> {
     let mut client = new_client(alloc, wanted, window)?;
     let mut peer = Peer {

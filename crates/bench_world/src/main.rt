@@ -1,12 +1,13 @@
-//! Programs that are measured: many lines read through a framing buffer, many rounds of a move and a touch on a server, and a client that is
-//! driven through a program of many touches, and the undisturbed run of such a program. Each prints what it has counted, and both ends a sum
-//! over what they have seen; the scripts of `bench/` count its instructions.
+//! Programs that are measured: many lines read through a framing buffer, many rounds of a move and a touch on a server, and a client that
+//! is driven through a program of many touches, and the undisturbed run of such a program. Each prints what it has counted, and both ends a
+//! sum over what they have seen; the scripts of `bench/` count its instructions.
 //!
-//! Its words are `wire commands` or `wire responses` with the count of lines and the bytes of a piece, `server` with the count of rounds, or
-//! `client` or `quiet` with the count of touches, at most 9,900, and the window. `samples` runs a few of each: a test from bytes to bytes.
+//! Its words are `wire commands` or `wire responses` with the count of lines and the bytes of a piece, `server` with the count of rounds,
+//! or `client` or `quiet` with the count of touches, at most 9,900, and the window. `samples` runs a few of each: a test from bytes to
+//! bytes.
 //!
 //! - `wire`, `server`, `client`, `quiet`: what is measured
-//! - `values`: what all of them speak of, and why nothing is printed
+//! - `values`: what all of them use, and why nothing is printed
 #![tactic(auto)]
 
 mod client;

@@ -1,4 +1,4 @@
-// Makes many rounds of a move and a touch on a server by hand.
+// Drives a server directly through many rounds of a move and a touch.
 
 use crate::values::{Stop, place, summed_bytes};
 use dme_line::{Command, Tag, write_command};
@@ -23,7 +23,7 @@ fn take_answers(server: &mut Server, sum: u64) -> u64 {
     sum
 }
 
-/// Feeds a line, reads it, and lets its command have its turn.
+/// Feeds a line, reads it, and processes its command.
 fn begin(server: &mut Server, line: &[u8]) -> Result<(), Stop> {
     server.feed(line)?;
     server.feed(b"\r\n")?;
@@ -70,7 +70,7 @@ fn round(alloc: Global, server: &mut Server, number: u64, sum: u64) -> Result<u6
     Ok(take_answers(server, sum))
 }
 
-/// Makes a new server ready and so many rounds on it, and answers what `rounds` does.
+/// Makes a new server ready, makes that many rounds on it, and answers what `rounds` does.
 fn run_all(alloc: Global, server: &mut Server, wanted: u64) -> Result<(u64, u64), Stop> {
     make_ready(server)?;
     let mut sum = take_answers(server, 0);
@@ -85,7 +85,7 @@ fn new_server(alloc: Global) -> Result<Server, Stop> {
     Ok(Server::new(alloc, setup)?)
 }
 
-/// Makes so many rounds, and answers the count of contacts and the sum over all bytes that were answered.
+/// Makes that many rounds, and answers the count of contacts and the sum over all bytes that were answered.
 pub(crate) fn rounds(alloc: Global, wanted: u64) -> Result<(u64, u64), Stop> {
     let mut server = new_server(alloc)?;
     let ran = run_all(alloc, &mut server, wanted);

@@ -1,4 +1,4 @@
-// The points that all measured programs speak of, sums over what they see, and why nothing is printed.
+// The points that all measured programs use, sums over what they see, and why nothing is printed.
 
 use fixed_um::{Point, Um};
 use std::alloc::{AllocError, AllocFailed};
@@ -6,7 +6,7 @@ use std::alloc::{AllocError, AllocFailed};
 /// Why nothing is printed.
 #[derive(Clone, Copy, Debug, PartialEq, Eq)]
 pub(crate) enum Stop {
-    /// The words are none of those that the program knows.
+    /// The program does not know these words.
     Words,
     Memory,
     /// A call was refused that should have been carried out.

@@ -72,7 +72,7 @@ fn read_line(alloc: Global, side: Side, line: &[u8]) -> Result<(), Stop> {
     if is_read { Ok(()) } else { Err(Stop::Refused) }
 }
 
-/// Reads each whole line where it stands in the buffer, as both ends do, and answers how many they were.
+/// Reads each whole line in place in the buffer, as both ends do, and answers how many there were.
 fn read_lines(alloc: Global, side: Side, lines: &mut Lines) -> Result<u64, Stop> {
     for count in 0..u64::MAX {
         let Some(length) = lines.first_line()? else {
@@ -84,7 +84,7 @@ fn read_lines(alloc: Global, side: Side, lines: &mut Lines) -> Result<u64, Stop>
     Err(Stop::Refused)
 }
 
-/// Feeds bytes in pieces of so many, and answers how many lines were read.
+/// Feeds bytes in pieces of this length, and answers how many lines were read.
 fn read_pieces(
     alloc: Global,
     side: Side,
@@ -106,7 +106,7 @@ fn push_lines(out: &mut Vec<u8>, side: Side, wanted: u64) -> Result<(), Stop> {
     Ok(())
 }
 
-/// Writes so many lines, feeds them in pieces of so many bytes, and answers how many were read.
+/// Writes that many lines, feeds them in pieces of this many bytes, and answers how many were read.
 pub(crate) fn count_lines(
     alloc: Global,
     side: Side,

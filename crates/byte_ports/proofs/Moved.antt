@@ -7,7 +7,7 @@ use Rattle.std.proofs.Math.Seq.{take-add}
 use Rattle.std.proofs.lemmas.Grind.{common_steps}
 use Rattle.byte_ports.specs.Transfers.{ConsumesFront, GaveBytes, GaveTimes, none, more}
 
--- known bytes grew by a front of bs, and then by a front of what was left of bs
+-- known bytes grew by a prefix of bs, and then by a prefix of what was left of bs
 pub Appends-more : (a b c : Option (List ℕ)) (bs : List ℕ) (m n : ℕ) → Appends a b (take m bs) → Appends b c (take n (drop m bs))
     → Appends a c (take (m + n) bs)
 Appends-more a b c bs m n p q = subst (Appends a c) (sym (take-add m n bs)) (Appends-trans a b c (take m bs) (take n (drop m bs)) p q)

@@ -10,7 +10,7 @@ HoldBytes-push : (ps : List (List ℕ)) (p : List ℕ) → HoldBytes ps → 0 < 
 HoldBytes-push [] p h some = (some, tt)
 HoldBytes-push (q ∷ ps) p h some = (h.0, HoldBytes-push ps p h.1 some)
 
--- a piece that has bytes may be stored behind the others
+-- a piece that has bytes may be stored after the others
 pub HoldMore-push : (n : ℕ) (ps : List (List ℕ)) (p : List ℕ) → HoldMore n ps → 0 < length p → HoldMore n (ps ++ p ∷ [])
 HoldMore-push n [] p h some = (rw h some, tt)
 HoldMore-push n (q ∷ ps) p h some = (h.0, HoldBytes-push ps p h.1 some)

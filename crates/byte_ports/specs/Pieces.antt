@@ -8,7 +8,7 @@ pub record PiecesValue : Type 0 where
   pub has_failed : Bool
   pub calls : ℕ
 
--- what storing a piece adds: nothing where it is empty
+-- what storing a piece adds: nothing if it is empty
 abbrev pub stored_piece : List ℕ → List (List ℕ)
 stored_piece [] = []
 stored_piece (b ∷ bs) = (b ∷ bs) ∷ []
@@ -33,7 +33,7 @@ abbrev pub HoldBytes : List (List ℕ) → Type 0
 HoldBytes [] = Unit {0}
 HoldBytes (p ∷ ps) = (0 < length p) × HoldBytes ps
 
--- the next piece has more than n bytes, and no piece behind it is empty
+-- the next piece has more than n bytes, and no piece after it is empty
 abbrev pub HoldMore : ℕ → List (List ℕ) → Type 0
 HoldMore n [] = n ≡ 0
 HoldMore n (p ∷ ps) = (n < length p) × HoldBytes ps

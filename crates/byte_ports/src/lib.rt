@@ -1,8 +1,8 @@
 //! Byte ports (this profile): where bytes come in and go out, and no more.
 //!
 //! A `Source` gives bytes, a `Sink` takes them, and either may fail, once and
-//! for good. Contracts see of a port whether it has failed and, where it
-//! tells them, the bytes that it has left or has taken. All that moves bytes
+//! for good. Contracts see of a port whether it has failed and, if it
+//! reports them, the bytes that it has left or has taken. All that moves bytes
 //! is written against these two traits, so that it is proved for each device.
 //!
 //! - `ports`: the traits and `Failed`.

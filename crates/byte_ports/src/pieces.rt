@@ -12,7 +12,7 @@ use std::marker::Model;
 /// that simulate a device which hands its bytes out bit by bit.
 ///
 /// A piece that is longer than the buffer comes in parts, an empty one is
-/// skipped. It tells its bytes. It can be made to fail at a set pull.
+/// skipped. It reports its bytes. It can be made to fail at a set pull.
 #[derive(Drop)]
 pub struct Pieces {
     alloc: Global,
@@ -78,7 +78,7 @@ impl Pieces {
         }
     }
 
-    /// Stores a copy of a piece behind the others; after want of memory
+    /// Stores a copy of a piece after the others; if out of memory
     /// nothing has changed.
     pub fn add(&mut self, piece: &[u8]) -> Result<(), AllocError>
         ensures stored { MatchResult result (λ _. self.new
@@ -117,7 +117,7 @@ impl Pieces {
     }
 }
 
-// The front of `from`, as much as fits, goes to the front of `to`.
+// The start of `from`, as much as fits, is copied to the start of `to`.
 fn copy_front(from: &[u8], to: &mut [u8]) -> usize
     ensures count { result ≡ min (length from.now) (length to.old) }
     ensures copied { take result to.new ≡ take result from.now }

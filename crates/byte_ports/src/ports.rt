@@ -2,13 +2,13 @@
 ghost use Rattle.std.specs.Prelude.{◌≡◌, ℕ, ◌+◌, ◌<◌, ◌≤◌, List, Option, Bool, true, false, length, IfOk, OnOk, OnErr};
 ghost use Rattle.std.specs.Io.KnownBytes.{ReadConsumes, WriteAppends};
 
-/// The device behind a port refused a read or a write.
+/// The device under a port refused a read or a write.
 #[derive(Clone, Copy, Debug, PartialEq, Eq)]
 pub struct Failed;
 
 /// Where bytes come from.
 ///
-/// `left` is the bytes that are still to come, where the port tells them,
+/// `left` is the bytes that are still to come, if the port reports them,
 /// `has_failed` whether the device has refused a read so far, and `calls` a
 /// count that each pull raises by one at most, and nothing else does: how
 /// often the port was called, where it counts that, else 0 throughout. What is
@@ -20,10 +20,10 @@ pub trait Source {
 
     ghost calls: { Self → ℕ } = { λ _. 0 };
 
-    /// Takes the next bytes into the front of `buf` and answers how many.
+    /// Takes the next bytes into the start of `buf` and returns how many.
     ///
-    /// 0 into a buffer that is not empty is the end of the input. What stands
-    /// in `buf` behind the count means nothing. `Failed` comes where the port
+    /// 0 into a buffer that is not empty is the end of the input. What is
+    /// in `buf` after the count means nothing. `Failed` comes if the port
     /// has failed, by this call or before, and from then on always; it takes
     /// nothing.
     fn pull(&mut self, buf: &mut [u8]) -> Result<usize, Failed>
@@ -37,7 +37,7 @@ pub trait Source {
 
 /// Where bytes go.
 ///
-/// `taken` is the bytes that were taken so far, where the port tells them,
+/// `taken` is the bytes that were taken so far, if the port reports them,
 /// `has_failed` whether the device has refused a write so far, and `calls` a
 /// count of its pushes, as a source's `calls` is of its pulls.
 pub trait Sink {
@@ -47,7 +47,7 @@ pub trait Sink {
 
     ghost calls: { Self → ℕ } = { λ _. 0 };
 
-    /// Hands over the front of `bytes` and answers how many were taken: at
+    /// Hands over a prefix of `bytes` and returns how many were taken: at
     /// least one, unless there are none.
     ///
     /// `Failed` comes where the port has failed, by this call or before, and

@@ -4,7 +4,7 @@ ghost use Rattle.std.specs.Prelude.{◌≡◌, false};
 use crate::ports::{Failed, Source};
 use std::io::Read;
 
-/// A source over a reader. It tells the bytes that its reader tells.
+/// A source over a reader. It reports the bytes that its reader reports.
 ///
 /// A read that answers an error has failed, whatever its kind: one that was
 /// interrupted is not made again (this profile). From then on the reader is

@@ -10,7 +10,7 @@ use std::marker::Model;
 /// A sink that takes at most a set count of bytes a push, into memory of its
 /// own, for tests and for programs that simulate a slow device.
 ///
-/// It tells its bytes. It can be made to fail at a set push; it fails too
+/// It reports its bytes. It can be made to fail at a set push; it fails too
 /// where a growth of its memory is refused.
 #[derive(Drop)]
 pub struct Takes {

@@ -10,9 +10,9 @@ use std::alloc::{AllocError, Global};
 pub const PIECE: usize = 65_536;
 
 /// Pushes all of `bytes`, in as many pushes as the sink takes them in; none
-/// where there are none.
+/// if there are none.
 ///
-/// `Failed` comes only where the sink has failed; it has then taken a front
+/// `Failed` comes only where the sink has failed; it has then taken a prefix
 /// of the bytes, short of all.
 #[tactic(auto, using(crate::proofs::Moved::pushed))]
 pub fn push_all<W: Sink>(sink: &mut W, bytes: &[u8]) -> Result<(), Failed>
@@ -64,7 +64,7 @@ impl From<AllocError> for PullFault {
     }
 }
 
-// Room for one pull. It stands on the heap, since a function pays for its locals.
+// Room for one pull. It is on the heap, since a function pays for its locals.
 fn blank_piece(alloc: Global) -> Result<Vec<u8>, AllocError>
     ensures { IfOk result (λ piece. vec_len piece ≡ PIECE) }
 {
@@ -74,8 +74,8 @@ fn blank_piece(alloc: Global) -> Result<Vec<u8>, AllocError>
 /// Pulls to the end of the input, in at most `bound` pulls of at most `PIECE`
 /// bytes, the one that finds the end among them, and answers all bytes.
 ///
-/// A source that has failed is told as that, or as want of memory where it
-/// had failed before. After a fault the bytes that were pulled are given up.
+/// A source that has failed is reported as that, or as out of memory where it
+/// had failed before. After a fault the bytes that were pulled are discarded.
 #[tactic(auto, using(crate::proofs::Moved::pulled))]
 pub fn pull_all<R: Source>(alloc: Global, source: &mut R, bound: u64) -> Result<Vec<u8>, PullFault>
     ensures all { IfOk result (λ bytes. IfSome (R.left source.old) (λ xs. bytes.items ≡ xs)) }

@@ -4,7 +4,7 @@ ghost use Rattle.std.specs.Prelude.{◌≡◌, false};
 use crate::ports::{Failed, Sink};
 use std::io::Write;
 
-/// A sink over a writer. It tells the bytes that its writer tells.
+/// A sink over a writer. It reports the bytes that its writer reports.
 ///
 /// A write that answers an error has failed, whatever its kind: one that was
 /// interrupted is not made again (this profile). So has one that takes nothing

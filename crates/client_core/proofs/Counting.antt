@@ -27,7 +27,7 @@ counted_is ws kind given p q planned rest first measures number session todo uns
       completed = suc p.completed;
     })))
 
--- behind the whole plan nothing
+-- after the whole plan nothing
 pub none_counted : (ws : List Wanted) (kind : Kind) (given : Option Datum) (p : Progress) → drop p.todo p.plan.items ≡ []
     → (failed : Bool) → tally_of failed p ≡ counted_next ws kind given (tally_of failed p).todo (tally_of failed p)
 none_counted ws kind given p none failed =

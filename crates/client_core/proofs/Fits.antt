@@ -17,18 +17,18 @@ use Rattle.protocol_model.specs.PlanReading.{touch_ends, feature_ends}
 use Rattle.client_core.specs.Calls.{origins_of}
 use Rattle.client_core.specs.Clients.{is_ours, are_ours}
 
--- of the touches of a feature so many are left behind the next one, which then is the last or not
+-- of the touches of a feature that many are left after the next one, which then is the last or not
 abbrev pub ends_left : ℕ → List Bool
 ends_left zero = true ∷ []
 ends_left (suc n) = false ∷ ends_left n
 
--- the touches of the feature that is next, of which so many points are there, and those of the features behind it
+-- the touches of the feature that is next, of which that many points are there, and those of the features after it
 pub record NextFits (w : Wanted) (ws : List Wanted) (points : ℕ) (ends : List Bool) : Type 0 where
   pub left : ℕ
   pub ends_are : ends ≡ ends_left left ++ feature_ends ws
   pub many : points + suc left ≡ length w.touches
 
--- each feature that is held has the label and the count of a wanted one, in order; of the next one so many points are there
+-- each feature that is held has the label and the count of a wanted one, in order; of the next one that many points are there
 abbrev pub Fits : List Wanted → List Feature → ℕ → List Bool → Type 0
 Fits [] [] points ends = ends ≡ []
 Fits (w ∷ ws) [] points ends = NextFits w ws points ends
@@ -70,7 +70,7 @@ plan_fits_features [] (f ∷ fs) h ours = absurd (false≢true ours)
 plan_fits_features (w ∷ ws) (f ∷ fs) h ours = let two = both (is_ours w f) (are_ours ws fs) ours
     in (two.0, plan_fits_features ws fs h.1 two.1)
 
--- the first of them, and those behind it
+-- the first of them, and those after it
 abbrev first_end : List Bool → Bool
 first_end [] = false
 first_end (b ∷ bs) = b

@@ -33,13 +33,13 @@ Fronted front ks ls Effect.Quiet = ls ≡ ks
 Fronted front ks ls Effect.Failure = Unit {0}
 Fronted front ks ls (Effect.Count k given) = (front ≡ true) × (ks ≡ k ∷ ls) × IsGiven k given
 
--- one more in front of them
+-- one more before them
 behind_one : (k : Kind) (ks ls : List Kind) (e : Effect) → Fronted false ks ls e → Fronted false (k ∷ ks) (k ∷ ls) e
 behind_one k ks ls Effect.Quiet h = ap (λ (l : List Kind). k ∷ l) h
 behind_one k ks ls Effect.Failure h = tt
 behind_one k ks ls (Effect.Count kind given) h = absurd (false≢true h.0)
 
--- the mark stands at the command's own tag
+-- the mark is at the command's own tag
 becomes_front : (front : Bool) (h : OpenCommand) (hs : List OpenCommand) (m : Mark) (s : Stage) (b : Bool) → is_failed h.stage ≡ b
     → judged front h.kind h.stage m ≡ Becomes s
     → Fronted front (live_kinds (h ∷ hs)) (live_kinds (staged h s ∷ hs)) Effect.Quiet
@@ -64,7 +64,7 @@ counts_front front h hs m given true failed filled v = absurd (never_counts fron
 counts_front true h hs m given false calm filled v = (refl, live_calm h hs calm, counts_given h.kind h.stage m given filled v)
 counts_front false h hs m given false calm filled v = absurd (no_counts h.kind h.stage m given v)
 
--- the mark stands behind it
+-- the mark follows it
 past_front : (front : Bool) (h : OpenCommand) (hs rest : List OpenCommand) (e : Effect) (b : Bool) → is_failed h.stage ≡ b
     → Fronted (front && b) (live_kinds hs) (live_kinds rest) e
     → Fronted front (live_kinds (h ∷ hs)) (live_kinds (h ∷ rest)) e
@@ -97,7 +97,7 @@ fronted front (h ∷ hs) t m gs e is filled =
     (λ rest other later g. rw g (past_front front h hs rest e (is_failed h.stage) refl
     (fronted (front && is_failed h.stage) hs t m rest e later filled.1)))
 
--- where none is open, none is left that has not failed
+-- if no command is open, no command is left that has not failed
 pub none_live : (hs : List OpenCommand) → count_open hs ≡ 0 → live_kinds hs ≡ []
 none_live [] e = refl
 none_live (h ∷ hs) e = go (is_failed h.stage) refl (none_live hs)
@@ -148,7 +148,7 @@ abbrev pub ask : List Kind → Bool
 ask [] = false
 ask (k ∷ ks) = asks_homed k || ask ks
 
--- where it is not open, none that has not failed asks it
+-- if it is not open, no command that has not failed asks it
 pub none_asks : (hs : List OpenCommand) → is_asking hs ≡ false → ask (live_kinds hs) ≡ false
 none_asks [] e = refl
 none_asks (h ∷ hs) e =
@@ -162,7 +162,7 @@ none_asks (h ∷ hs) e =
         ∙ (ap (λ (b : Bool). b || ask (live_kinds hs)) (sym (and-true (asks_homed h.kind))
         ∙ (ap (λ (b : Bool). asks_homed h.kind && not b) (sym calm) ∙ first)) ∙ others)
 
--- behind the question none stands
+-- no command follows the question
 abbrev pub IsAskedLast : List Kind → Type 0
 IsAskedLast [] = Unit {0}
 IsAskedLast (k ∷ ks) = (asks_homed k ≡ true → ks ≡ []) × IsAskedLast ks

@@ -1,4 +1,4 @@
--- A plan as it is followed: where it is told that the machine is homed, its homing is passed over.
+-- A plan as it is followed: if the machine is reported to be homed, its homing is skipped.
 use Rattle.std.proofs.Common.{◌≡◌, ℕ, ◌+◌, Bool, true, false, cond, ◌||◌, List, [], ◌∷◌, ◌++◌, refl, sym, ◌∙◌, ap, arith, Option}
 use Rattle.std.proofs.Common.{Some, None}
 use Rattle.std.proofs.lemmas.Bool.{false≢true}
@@ -89,7 +89,7 @@ none_homes : (ps : List Planned) → Measure ps → has_homing ps ≡ false
 none_homes [] h = refl
 none_homes (p ∷ ps) h = ap (λ (b : Bool). b || has_homing ps) h.0 ∙ none_homes ps h.2
 
--- what a plan has behind its preamble
+-- what a plan has after its preamble
 abbrev rest_of : Meaning → ℕ → List Planned
 rest_of p k = measuring (tool_behind None (up_to k p.steps)) (frame_behind Machine (up_to k p.steps)) (behind k p.steps)
 
@@ -241,7 +241,7 @@ followed_unhomed (p ∷ ps) = go (is_homing p.command) refl (followed_unhomed ps
     go true e later = later
     go false e later = ap (λ (b : Bool). b || has_homing (without_homings ps)) e ∙ later
 
--- before the question no command homes the machine, and behind it the first alone
+-- before the question no command homes the machine, and after it the first alone
 abbrev pub HomesBehind : List Planned → Type 0
 HomesBehind [] = Unit {0}
 HomesBehind (p ∷ ps) = (asks_homed (kind_of p.command) ≡ true → has_homing (without_homing ps) ≡ false)
@@ -296,7 +296,7 @@ followed_at (p ∷ ps) q qs h none asks =
     go true e = absurd (omega (arith, e))
     go false e = refl
 
--- ---- what the acts tell
+-- ---- what the acts say
 
 pub told_more : (xs ys : List Act) → told_homed (xs ++ ys) ≡ (told_homed xs || told_homed ys)
 told_more [] ys = refl
@@ -321,7 +321,7 @@ tells_not kind.SetCsyTransformation given e = refl
 tells_not kind.SetCoordSystem given e = refl
 tells_not kind.AbortE given e = refl
 
--- the act of a counted command tells it where its data do
+-- the act of a counted command says it where its data do
 pub told_by : (d : Does) (k : Kind) (given : Option Datum) → IsAskedBy d k → HasDatum d given
     → told_homed (act_of d given) ≡ tells_homed k given
 told_by (Does.Touches t last) k None is has = absurd has
@@ -337,7 +337,7 @@ told_by (Does.Moves p f) k given is has = sym (tells_not k given is)
 told_by (Does.Changes n) k given is has = sym (tells_not k given is)
 told_by (Does.Frames f) k given is has = sym (tells_not k given is)
 
--- a command that tells it asks it
+-- a command that says it asks it
 pub told_asks : (k : Kind) (given : Option Datum) → tells_homed k given ≡ true → asks_homed k ≡ true
 told_asks k given e = go (asks_homed k) refl
   where
@@ -368,7 +368,7 @@ one_act : (d : Does) (acts : List Act) (ds : List Does) → is_question d ≡ fa
 one_act d [] ds other h later = absurd h
 one_act d (a ∷ acts) ds other h later = ap (λ (b : Bool). b || told_homed acts) (not_told a d other h.0) ∙ later acts h.1
 
--- before the question it is not told
+-- before the question it is not reported
 pub untold : (acts : List Act) (ps : List Planned) → AreActs acts (acts_planned ps) → AreAsked ps → asked ps ≡ 0
     → told_homed acts ≡ false
 untold [] [] h are none = refl

@@ -54,7 +54,7 @@ joined_within (v ∷ ws) [] points origin short = omega arith
 joined_within (v ∷ ws) (f ∷ fs) points origin short = let less : length (joined ws fs points origin) ≤ length ws =
     joined_within ws fs points origin (omega (arith, short)) in omega (arith, less)
 
--- behind the first n nothing is left where there are no more
+-- after the first n nothing is left where there are no more
 pub nothing_behind : {A : Type 0} (n : ℕ) (xs : List A) → nat_le (length xs) n ≡ is_empty (drop n xs)
 nothing_behind zero [] = refl
 nothing_behind zero (x ∷ xs) = leb-suc-zero (length xs)

@@ -1,4 +1,4 @@
--- What a client holds and counts behind every list of calls.
+-- What a client holds and counts after every list of calls.
 use Rattle.std.proofs.Common.{◌≡◌, ℕ, suc, ◌+◌, ◌≤◌, Bool, true, false, cond, ◌||◌, ◌&&◌, not, is_some, if◌then◌else◌, List, [], ◌∷◌, ◌++◌}
 use Rattle.std.proofs.Common.{length, take, refl, sym, ◌∙◌, ap, subst, arith, append_assoc, append-nil, length-append, Option, Some, None}
 use Rattle.std.proofs.Common.{Result, Ok, Err, eqb, eqb-true, le_refl, zero, drop}
@@ -74,13 +74,13 @@ use Rattle.client_core.proofs.Homing.{told_by, told_asks, untold}
 
 -- ---- what holds on a connection
 
--- what is open of a plan of which no command has failed, and what is unsent of it, are what is to be counted; behind the question whether
+-- what is open of a plan of which no command has failed, and what is unsent of it, are what is to be counted; after the question whether
 -- the machine is homed nothing is open
 pub record IsCalm (hs : List OpenCommand) (y : Tally) : Type 0 where
   pub kinds : live_kinds hs ++ kinds_of y.unsent ≡ kinds_of y.todo
   pub asked_last : IsAskedLast (live_kinds hs)
 
--- the present plan: its counted front, the acts and the features that it gave, and what is open of it
+-- the present plan: its counted prefix, the acts and the features that it gave, and what is open of it
 pub record IsOnPlan (p : Meaning) (hs : List OpenCommand) (y : Tally) (plans : Plans) : Type 0 where
   pub finished : List Planned
   pub first : List Act
@@ -243,7 +243,7 @@ joins_on : (b : Bool) (now before features ended longer : ℕ) → now ≡ befor
 joins_on true now before features ended longer e f g = omega (arith, e, f, g)
 joins_on false now before features ended longer e f g = omega (arith, e, f, g)
 
--- the plan as it is followed, behind one command more
+-- the plan as it is followed, after one command more
 record IsFollowed (p : Meaning) (plans : Plans) (finished rest : List Planned) (q : Planned) (told now : Bool) : Type 0 where
   pub parts : (finished ++ q ∷ []) ++ passed_over told rest ≡ followed now (plan p plans.features (start_behind plans.earlier))
   pub unhomed : told ≡ true → has_homing (passed_over told rest) ≡ false
@@ -849,7 +849,7 @@ resumed_holds p plans c halted h =
       };
     }) tt h.numbered
 
--- ---- the connection is given up
+-- ---- the connection is left
 
 left_off : (s : State) → IsOff (left_state s)
 left_off State.Done = tt
@@ -988,7 +988,7 @@ counted_on_the_last p kept window calls program ours =
     behind_holds p kept window calls program ours in
     h.numbered
 
--- of a plan of which it was told that the machine is homed no homing is unsent
+-- in a plan for which the machine was reported to be homed, no homing is unsent
 pub told_is_unhomed : (p : Meaning) (kept : List Feature) (window : ℕ) (calls : List Call) → IsProgram p
     → are_ours p.features kept ≡ true
     → is_told (plans_begun calls p kept window) (client_behind calls p kept window).table.tally ≡ true

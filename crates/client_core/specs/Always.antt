@@ -22,7 +22,7 @@ pub record IsReached (e : ClientEnd) : Type 0 where
   pub calls : List Call
   pub reached : e ≡ behind_calls calls (new_client_end program kept window)
 
--- a client is on no connection where it is Apart, is on one in each other state, and is Done on one or on none
+-- a client that is Apart is on no connection; in each other state it is on one, but Done may be either
 abbrev pub FitsState : State → Bool → Type 0
 FitsState State.Apart on = on ≡ false
 FitsState State.Running on = on ≡ true

@@ -68,7 +68,7 @@ abbrev pub behind_calls : List Call → ClientEnd → ClientEnd
 behind_calls [] e = e
 behind_calls (call ∷ calls) e = behind_calls calls (behind_call call e)
 
--- an act tells that the machine is homed
+-- an act says that the machine is homed
 abbrev pub tells : Act → Bool
 tells (act.HomedIs homed) = homed
 tells _ = false
@@ -78,19 +78,19 @@ abbrev pub told_homed : List Act → Bool
 told_homed [] = false
 told_homed (a ∷ acts) = tells a || told_homed acts
 
--- a plan that was begun behind so many completed features, how many of its commands were counted, and whether it was told that the
+-- a plan that was begun after that many completed features, how many of its commands were counted, and whether it was answered that the
 -- machine is homed
 pub record PlanStart : Type 0 where
   pub features : ℕ
   pub completed : ℕ
   pub homed : Bool
 
--- the first plan of a connection begins a session, each later one goes on in it
+-- the first plan of a connection begins a session, each later one continues in it
 abbrev pub start_behind : List PlanStart → Start
 start_behind [] = NewConnection
 start_behind (b ∷ bs) = SameConnection
 
--- the acts for which the counted fronts of plans stand, in the order of the plans; the latest plan is the first of the list
+-- the acts for which the counted prefixes of plans stand, in the order of the plans; the latest plan is the first of the list
 abbrev pub acts_of_fronts : Meaning → List PlanStart → List Does
 acts_of_fronts p [] = []
 acts_of_fronts p (b ∷ bs) = acts_of_fronts p bs ++ acts_planned (take b.completed (followed b.homed (plan p b.features (start_behind bs))))
@@ -102,7 +102,7 @@ pub record Plans : Type 0 where
   pub before : ℕ
   pub earlier : List PlanStart
 
--- whether it was told since then that the machine is homed
+-- whether it was answered since then that the machine is homed
 abbrev pub is_told : Plans → Tally → Bool
 is_told plans tally = told_homed (drop plans.before tally.counted)
 
@@ -114,7 +114,7 @@ begun_now plans tally = record { features = plans.features; completed = tally.co
 abbrev pub first_plan : List Feature → Plans
 first_plan features = record { features = length features; before = 0; earlier = [] }
 
--- the plans behind a call: a connection begins the first, a resume one more behind the features that are held then, a restart forgets all
+-- the plans after a call: a connection begins the first, a resume one more after the features that are held then, a restart forgets all
 abbrev pub plans_by : Call → ClientEnd → Plans → Plans
 plans_by (Connected n) e plans = first_plan e.client.table.tally.features
 plans_by Resume e plans = record {
@@ -130,13 +130,13 @@ plans_by Abort e plans = plans
 plans_by Leave e plans = plans
 plans_by (Sent k) e plans = plans
 
--- the plans behind calls, one after another
+-- the plans after calls, one after another
 abbrev pub plans_behind : List Call → ClientEnd → Plans → Plans
 plans_behind [] e plans = plans
 plans_behind (call ∷ calls) e plans =
     plans_behind calls (behind_call call e) (if possible call e then plans_by call e plans else plans)
 
--- a client behind calls, from one that was never on a connection
+-- a client after calls, from one that was never on a connection
 abbrev pub client_behind : List Call → Meaning → List Feature → ℕ → Client
 client_behind calls p kept window = (behind_calls calls (new_client_end p kept window)).client
 
@@ -144,7 +144,7 @@ client_behind calls p kept window = (behind_calls calls (new_client_end p kept w
 abbrev pub plans_begun : List Call → Meaning → List Feature → ℕ → Plans
 plans_begun calls p kept window = plans_behind calls (new_client_end p kept window) (first_plan kept)
 
--- the counted front of the present plan, as it is followed
+-- the counted prefix of the present plan, as it is followed
 abbrev pub front_of : Meaning → Plans → Tally → List Planned
 front_of p plans tally = take tally.completed (followed (is_told plans tally) (plan p plans.features (start_behind plans.earlier)))
 
@@ -179,8 +179,8 @@ abbrev pub origins_ended : ℕ → List Planned → List (Option Origin)
 origins_ended n [] = []
 origins_ended n (p ∷ ps) = origin_ended n p.does ++ origins_ended n ps
 
--- a client's tally is that of its plans: its acts are those for which the counted front of the present plan stands, behind those of the
--- plans before it; and its features are those that it held when that was begun and one for each that ends in the front, with the number of
+-- a client's tally is that of its plans: its acts are those for which the counted prefix of the present plan stands, after those of the
+-- plans before it; and its features are those that it held when that was begun and one for each that ends in the prefix, with the number of
 -- the connection and the frame of its last touch
 pub record AreCounted (p : Meaning) (plans : Plans) (tally : Tally) : Type 0 where
   pub acts : AreActs tally.counted (acts_of_fronts p (begun_now plans tally ∷ plans.earlier))

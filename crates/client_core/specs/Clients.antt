@@ -36,6 +36,6 @@ is_apart _ = false
 abbrev pub may_connect : ℕ → Client → Bool
 may_connect n c = is_apart c.state && (nat_lt c.last n && nat_le n connection_most)
 
--- a client reads while it is on a connection that it has not given up
+-- a client reads while it is on a connection that it has not left
 abbrev pub may_read : Client → Bool
 may_read c = c.on && not (is_faulted c.state)

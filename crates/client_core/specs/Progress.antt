@@ -13,7 +13,7 @@ use Rattle.protocol_model.specs.declared.states.Cause.{Cause}
 use Rattle.client_core.specs.Tables.{table_of}
 use Rattle.client_core.specs.declared.progress.Progress.{Progress}
 
--- what `protocol_model` says of it, with whether a standard command has failed
+-- what `protocol_model` specifies for it, with whether a standard command has failed
 abbrev pub tally_of : Bool → Progress → Tally
 tally_of failed p = record {
   connection = p.connection;
@@ -36,7 +36,7 @@ abbrev pub listed : Option Act → List Act
 listed None = []
 listed (Some act) = act ∷ []
 
--- what `protocol_model` says of a client whose code keeps these
+-- what `protocol_model` specifies for a client whose code keeps these
 abbrev pub seen : Meaning → ℕ → Bool → State → Option Cause → OpenValue → Progress → Option Tag → Client
 seen program window on state cause commands progress abort = record {
   program = program;

@@ -29,13 +29,12 @@ use std::alloc::Global;
 use std::marker::Model;
 
 /// The client of a measuring machine: it measures the features of a program through a server (I++ DME Interface version 1; its plan and
-/// its states are this profile's). It stands on at most one connection. Contracts see `protocol_model`'s end of a connection: the client,
+/// its states are this profile's). It is on at most one connection. Contracts see `protocol_model`'s end of a connection: the client,
 /// the bytes that it was fed and has not read, and those that are to be sent.
 ///
-/// `connected` comes to a connection; `send` writes the command that is `due`, `feed` brings bytes, `read_one` reads a line. What it
-/// writes stands in `out` until `sent`. A feature joins `features` with its last counted point. `abort` stops the server, `resume` begins
-/// the plan again behind the last completed feature; `leave` and `restart` give the connection up. Want of memory leaves the client as it
-/// was.
+/// `connected` comes to a connection; `send` writes the command that is `due`, `feed` brings bytes, `read_one` reads a line. What it writes
+/// is in `out` until `sent`. A feature joins `features` with its last counted point. `abort` stops the server, `resume` begins the plan
+/// again after the last completed feature; `leave` and `restart` leave the connection. Running out of memory leaves the client as it was.
 #[derive(Drop)]
 pub struct Client {
     executor: Executor,
@@ -67,7 +66,7 @@ fn cause_of(fault: FramingFault) -> Cause
 
 impl Client {
     /// A client that was never on a connection, for a program of which it has the first features. The window, from 1 to 16, is how many
-    /// commands it keeps open at most. Takes no memory.
+    /// commands it keeps open at most. Does not allocate.
     ///
     /// `BadWindow`, or `NotOurs` where the kept features have not the labels and counts of the first features of the program; both hand
     /// the program and the features back.
@@ -101,7 +100,7 @@ impl Client {
         })
     }
 
-    /// Comes to the connection of this number, and begins the plan for what is left of the program. `NotNow` where it is not apart, and
+    /// Comes to the connection of this number, and begins the plan for what is left of the program. `NotNow` if it is not apart, and
     /// where the number is not above each earlier one or is above 4,000,000,000; `Faulted`, `Memory`.
     #[tactic(auto, using(crate::proofs::Reached::connected_reached, crate::proofs::Reached::same_reached))]
     pub fn connected(&mut self, number: u64) -> Result<(), ClientFault>
@@ -120,8 +119,8 @@ impl Client {
     }
 
     /// The command that is to be sent next, if one is due: while Running, where fewer than `window` standard commands are open and none of
-    /// them is an `IsHomed()`, and `ClearAllErrors()` only where none is open. Where the plan's `IsHomed()` was counted with 1, its `Home()`
-    /// is passed over, and never due. Takes no memory.
+    /// them is an `IsHomed()`, and `ClearAllErrors()` only if none is open. Where the plan's `IsHomed()` was counted with 1, its `Home()`
+    /// is passed over, and never due. Does not allocate.
     pub fn due(&self) -> Option<&Command>
         ensures asked { is_asking self.now.client.table.standard ≡ true → IsNone result }
         ensures due { MatchOption result (due self.now.client ≡ None)
@@ -130,7 +129,7 @@ impl Client {
         self.executor.due()
     }
 
-    /// Writes the command that is due under a new tag. `NotNow` where none is, `Faulted`, `Memory`. Where all tags are held, the client is
+    /// Writes the command that is due under a new tag. `NotNow` if none is due, `Faulted`, `Memory`. Where all tags are held, the client is
     /// Faulted by this call.
     #[tactic(auto, using(crate::proofs::Reached::sent_reached, crate::proofs::Reached::same_reached))]
     pub fn send(&mut self) -> Result<(), ClientFault>
@@ -174,8 +173,8 @@ impl Client {
 
     /// Reads the first whole line, if one is there; true where a line was read. `NotNow` on no connection, `Memory`. `Faulted` from the
     /// call on that meets a line that is no response, bytes that are no lines, a data text that is not what its command asks for (a point
-    /// for a `PtMeas`, whether the machine is homed for an `IsHomed`), or a mark that has no place. What the server tells is believed: one
-    /// that tells that the machine is homed is not asked to home it.
+    /// for a `PtMeas`, whether the machine is homed for an `IsHomed`), or a mark that is unexpected. What the server says is believed: one
+    /// that says that the machine is homed is not asked to home it.
     #[tactic(auto, using(crate::proofs::Reached::read_reached, crate::proofs::Reached::line_reached, crate::proofs::Reached::same_reached))]
     pub fn read_one(&mut self) -> Result<bool, ClientFault>
         ensures ok { OnOk result (self.new ≡ end_read self.old) }
@@ -208,7 +207,7 @@ impl Client {
         }
     }
 
-    /// Whether a whole line stands at the front of the bytes that were fed and not read. It takes no memory.
+    /// Whether a whole line is at the start of the bytes that were fed and not read. It does not allocate.
     pub fn has_line(&self) -> bool
         ensures { IsTrue result ↔ IsLineDue (next_of self.now.input.rest) }
     {
@@ -240,7 +239,7 @@ impl Client {
         Ok(())
     }
 
-    /// Begins the plan again behind the last completed feature, on the same connection. `NotNow` but in Halted behind a session that was
+    /// Begins the plan again after the last completed feature, on the same connection. `NotNow` but in Halted after a session that was
     /// begun on this connection, `Faulted`, `Memory`.
     #[tactic(auto, using(crate::proofs::Reached::resumed_reached, crate::proofs::Reached::same_reached))]
     pub fn resume(&mut self) -> Result<(), ClientFault>
@@ -256,8 +255,8 @@ impl Client {
         Ok(())
     }
 
-    /// Gives the connection up: Done stays Done, all else is Apart; what was to be sent and the points of the unfinished feature are given
-    /// up; features and counted acts stay. Takes no memory.
+    /// Leaves the connection: Done stays Done, all else is Apart; what was to be sent and the points of the unfinished feature are
+    /// discarded; features and counted acts stay. Does not allocate.
     #[tactic(auto, using(crate::proofs::Reached::left_reached))]
     pub fn leave(&mut self)
         ensures { self.new ≡ end_left self.old }
@@ -268,7 +267,7 @@ impl Client {
     }
 
     /// Begins again with the first features, as a client that was stopped and reads them from a file; earlier connection numbers still
-    /// count. `NotNow` where fewer features are held. Takes no memory.
+    /// count. `NotNow` where fewer features are held. Does not allocate.
     #[tactic(auto, using(crate::proofs::Reached::restarted_reached))]
     pub fn restart(&mut self, count: usize) -> Result<(), ClientFault>
         ensures leads { Leads result self.old self.new (end_restarted count self.old) }
@@ -306,7 +305,7 @@ impl Client {
         &self.executor.program
     }
 
-    /// The first bytes of `out` were sent. The caller owes that there are so many. Takes no memory.
+    /// The first bytes of `out` were sent. The caller must ensure that there are that many. Does not allocate.
     #[tactic(auto, using(crate::proofs::Reached::taken_reached))]
     pub fn sent(&mut self, count: usize)
         requires { count ≤ length self.old.out }
@@ -315,14 +314,14 @@ impl Client {
         self.out.take(count);
     }
 
-    /// Whether it stands on a connection.
+    /// Whether it is on a connection.
     pub fn is_on(&self) -> bool
         ensures { result ≡ self.now.client.on }
     {
         self.executor.is_on()
     }
 
-    /// The state. Its contract tells as well what holds of a client at any time, whatever was called and whatever the peer has sent: each
+    /// The state. Its contract says as well what holds of a client at any time, whatever was called and whatever the peer has sent: each
     /// of these facts, and that a list of calls leads to it, of which `whatever_the_peer_sends` speaks.
     pub fn state(&self) -> State
         ensures state { result ≡ self.now.client.state }
@@ -341,7 +340,7 @@ impl Client {
         self.executor.state()
     }
 
-    /// The completed features. Each has an origin as a list of features owes it, and from 1 to 10,000 points, so that they can be
+    /// The completed features. Each has an origin as a list of features requires it, and from 1 to 10,000 points, so that they can be
     /// written to a file.
     #[tactic(auto, using(crate::proofs::Reached::features_writable))]
     pub fn features(&self) -> &[Feature]
@@ -358,7 +357,7 @@ impl Client {
         self.executor.counted()
     }
 
-    /// How many commands of the present plan are counted; a `Home()` that is passed over is none of them.
+    /// How many commands of the present plan are counted; a `Home()` that is skipped does not count.
     pub fn completed(&self) -> usize
         ensures { result ≡ self.now.client.table.tally.completed }
     {

@@ -9,7 +9,7 @@ use resume_plan::plan;
 use std::alloc::AllocError;
 
 impl Executor {
-    /// The client comes to a connection, with the plan for what is left of its program. Only want of memory is an `Err`.
+    /// The client comes to a connection, with the plan for what is left of its program. Fails only if out of memory.
     pub(crate) fn connect(&mut self, number: u64) -> Result<(), AllocError>
         ensures { Leads result self.old self.new (client_connected number self.old) }
     {
@@ -26,7 +26,7 @@ impl Executor {
         Ok(())
     }
 
-    /// Measuring goes on behind the last completed feature, on the same connection. Only want of memory is an `Err`.
+    /// Measuring continues after the last completed feature, on the same connection. Fails only if out of memory.
     pub(crate) fn resume(&mut self) -> Result<(), AllocError>
         ensures { Leads result self.old self.new (client_resumed self.old) }
     {

@@ -1,4 +1,4 @@
-// What a client keeps besides the bytes of its connection.
+// What a client keeps other than the bytes of its connection.
 
 ghost use Rattle.std.specs.Prelude.{◌≡◌, ◌≤◌, ◌&&◌, length, None, Some, OnOk, OnErr, IfOk, MatchOption, is_some, true, false};
 ghost use Rattle.fixed_um.specs.Calls.{Shows};
@@ -47,7 +47,7 @@ impl Model for Executor {
     ghost invariant = { λ c. IsKept c.progress c.program.features c.state c.cause };
 }
 
-/// The state behind a failure or the end of the abort.
+/// The state after a failure or the end of the abort.
 fn first_state(state: State, ends: bool, failed: bool) -> State
     ensures { result ≡ first_state state ends failed }
 {
@@ -58,7 +58,7 @@ fn first_state(state: State, ends: bool, failed: bool) -> State
     }
 }
 
-/// The state behind the end of the plan, or of all that was open behind a failure.
+/// The state after the end of the plan, or of all that was open after a failure.
 fn last_state(state: State, whole: bool, count: usize) -> State
     ensures { result ≡ last_state state whole count }
 {
@@ -122,7 +122,7 @@ impl Executor {
         self.state = last_state(first, self.is_whole(), self.commands.count());
     }
 
-    /// The client gives its connection up for this cause, and keeps what it holds.
+    /// The client leaves its connection for this cause, and keeps what it holds.
     pub(crate) fn fault(&mut self, cause: Cause)
         ensures { self.new ≡ faulted cause self.old }
     {
@@ -130,7 +130,7 @@ impl Executor {
         self.cause = Some(cause);
     }
 
-    /// The command that is to be sent next, if one is due; none is while it is asked whether the machine is homed.
+    /// The command that is to be sent next, if one is due; none is due while it is asked whether the machine is homed.
     pub(crate) fn due(&self) -> Option<&Command>
         ensures { MatchOption result (due self.now ≡ None)
             (λ command. planned_command (due self.now) ≡ Some command.now) }
@@ -149,7 +149,7 @@ impl Executor {
         Some(&planned.command)
     }
 
-    /// The connection is left, and the points of the unfinished feature are given up.
+    /// The connection is left, and the points of the unfinished feature are discarded.
     pub(crate) fn leave(&mut self)
         ensures { self.new ≡ client_left self.old }
     {

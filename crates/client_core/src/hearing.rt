@@ -42,7 +42,7 @@ impl Executor {
         }
     }
 
-    /// The client gives its connection up, as no command is open under a tag or a mark has no place.
+    /// The client leaves its connection, as no command is open under a tag or a mark is unexpected.
     pub(crate) fn refuse(&mut self, fault: TagFault)
         ensures { (cause : Why) → cause_of fault ≡ Some cause → self.new ≡ faulted cause self.old }
     {
@@ -107,7 +107,7 @@ impl Executor {
         }
     }
 
-    /// The end of a command is read that counts the next one of the plan. Only want of memory is an `Err`.
+    /// The end of a command is read that counts the next one of the plan. Fails only if out of memory.
     #[tactic(auto, using(crate::proofs::Tables::counted))]
     fn count(
         &mut self,
@@ -132,7 +132,7 @@ impl Executor {
         Ok(())
     }
 
-    /// `%` is read under a tag. Only want of memory is an `Err`.
+    /// `%` is read under a tag. Fails only if out of memory.
     pub(crate) fn hear_done(&mut self, tag: Tag) -> Result<(), AllocError>
         requires connection { IsConnection self.old.last }
         ensures { Leads result self.old self.new (client_read self.old tag Mark.Done) }

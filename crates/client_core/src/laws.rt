@@ -9,16 +9,16 @@ ghost use Rattle.protocol_model.specs.Replies.{Mark};
 ghost use Rattle.client_core.specs.Calls.{Call, client_behind, plans_begun, is_told, has_homing, AreCounted, counted_by, next_kind};
 ghost use Rattle.client_core.specs.Clients.{are_ours};
 
-/// Behind every list of calls of a client, from any program and any features of it that are kept, whatever bytes are fed:
+/// After every list of calls of a client, from any program and any features of it that are kept, whatever bytes are fed:
 ///
 /// - `program`: it keeps the program;
 /// - `features`: the features that it holds are the first of the program, by their labels and their counts of points;
-/// - `counted`: each plan was begun behind the features that were held when it was, and is followed as it stands, but that its homing is
-///   passed over where it was told since it was begun that the machine is homed. The acts that are counted on the connection are those for
-///   which the counted front of the present plan stands, behind those of the plans that were begun before it: a contact with the target,
-///   direction, tool and frame of its touch. And the features are those that were held when the present plan was begun, and one for each
-///   that ends in its counted front, with the number of the connection and the frame of its last touch for an origin;
-/// - `homed`: where it was told since the present plan was begun that the machine is homed, no homing is unsent, so that none is ever due;
+/// - `counted`: each plan was begun after the features that were held when it was, and is followed unchanged, but that its homing is
+/// skipped if it was answered since it was begun that the machine is homed. The acts that are counted on the connection are those for
+/// which the counted prefix of the present plan stands, after those of the plans that were begun before it: a contact with the target,
+/// direction, tool and frame of its touch. And the features are those that were held when the present plan was begun, and one for each
+/// that ends in its counted prefix, with the number of the connection and the frame of its last touch for an origin;
+/// - `homed`: if it was answered since the present plan was begun that the machine is homed, no homing is unsent, so that none is ever due;
 /// - `numbered`: that number is the one that the client came to last;
 /// - `next`: a mark that counts a command counts one of the kind of the first command of the plan that is not counted.
 ///

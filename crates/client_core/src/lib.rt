@@ -1,13 +1,13 @@
-//! The client of a measuring machine: it sends the plan of a program, counts what the server's lines tell, and holds the measured features
-//! (I++ DME Interface version 1; plan, states and tags are this profile's).
+//! The client of a measuring machine: it sends the plan of a program, counts what the server's lines report, and holds the measured
+//! features (I++ DME Interface version 1; plan, states and tags are this profile's).
 //!
 //! - `client`: `Client`, with the bytes of its connection
-//! - `executor`: what it keeps besides, and its states
+//! - `executor`: what else it keeps, and its states
 //! - `connecting`, `sending`, `lines`, `hearing`: what each call does to that
 //! - `progress`: what is counted
 //! - `ours`: whose features a client may keep
 //! - `faults`: why a call is refused
-//! - `laws`: what holds behind every list of calls
+//! - `laws`: what holds after every list of calls
 #![tactic(auto)]
 
 mod client;

@@ -38,7 +38,7 @@ impl Executor {
         }
     }
 
-    /// A response is read. Only want of memory is an `Err`.
+    /// A response is read. Fails only if out of memory.
     fn hear(&mut self, tag: Tag, mark: MarkSlice<'_>) -> Result<(), AllocError>
         requires connection { IsConnection self.old.last }
         ensures { Leads result self.old self.new
@@ -53,7 +53,7 @@ impl Executor {
         Ok(())
     }
 
-    /// A line is read, its text where it stands. Only want of memory is an `Err`.
+    /// A line is read, its text in place. Fails only if out of memory.
     #[tactic(auto, using(crate::proofs::Readings::one_response))]
     pub(crate) fn hear_line(&mut self, line: &[u8]) -> Result<(), AllocError>
         requires connection { IsConnection self.old.last }

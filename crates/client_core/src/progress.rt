@@ -14,7 +14,7 @@ use std::alloc::{AllocError, Global};
 use std::mem;
 
 /// What a client has counted on its connection, which has this number, 0 before the first: its plan, of which the first `todo` commands
-/// are counted or passed over and the first `unsent` sent or passed over, how many of them are counted, the acts that those stand for,
+/// are counted or passed over and the first `unsent` sent or passed over, how many of them are counted, the acts that they mean,
 /// the points of the unfinished feature, and the features.
 #[derive(Drop)]
 pub(crate) struct Progress {
@@ -29,7 +29,7 @@ pub(crate) struct Progress {
     pub features: FeatureLedger,
 }
 
-/// The act that a counted command stands for, with what its data line told: whether the machine is homed, or the point of a contact.
+/// The act that a counted command means, with what its data line said: whether the machine is homed, or the point of a contact.
 fn act_of(alloc: Global, does: &Does, given: &Option<Datum>) -> Result<Option<Act>, AllocError>
     ensures { IfOk result (λ act. listed act ≡ act_of does.now given.now) }
 {
@@ -52,7 +52,7 @@ fn act_of(alloc: Global, does: &Does, given: &Option<Datum>) -> Result<Option<Ac
     }
 }
 
-/// The unfinished feature joins the others with one more point, its last, and its origin. Only want of memory is an `Err`.
+/// The unfinished feature joins the others with one more point, its last, and its origin. Fails only if out of memory.
 #[tactic(auto, using(crate::proofs::Joining::joins, crate::proofs::Joining::joins_none, crate::proofs::Joining::front_within, crate::proofs::Joining::front_kept))]
 fn join(
     alloc: Global,
@@ -92,7 +92,7 @@ fn join(
 }
 
 /// What is measured by a counted command: a touch adds its point to the unfinished feature, and the last of a feature ends it, on the
-/// connection of this number. Only want of memory is an `Err`.
+/// connection of this number. Fails only if out of memory.
 #[tactic(auto, using(crate::proofs::Joining::joined_within))]
 fn measure(
     alloc: Global,
@@ -125,14 +125,14 @@ fn measure(
     }
 }
 
-/// Whether a counted command told that the machine is homed.
+/// Whether a counted command reported that the machine is homed.
 fn tells_homed(kind: Kind, given: &Option<Datum>) -> bool
     ensures { result ≡ tells_homed kind given.now }
 {
     matches!((kind, given), (Kind::IsHomed, Some(Datum::Homed(true))))
 }
 
-/// Where the commands of a plan from this index on go on: behind the homing, where that is the first of them.
+/// Where the commands of a plan from this index on continue: after the homing, where that is the first of them.
 fn behind_homing(plan: &[Planned], index: usize) -> usize
     requires { index ≤ length plan.now }
     ensures rest { drop result plan.now ≡ without_homing (drop index plan.now) }
@@ -146,7 +146,7 @@ fn behind_homing(plan: &[Planned], index: usize) -> usize
 }
 
 impl Progress {
-    /// Where the machine is told to be homed, the homing that is next is passed over: it is neither to be counted nor to be sent.
+    /// Where the machine is reported to be homed, the homing that is next is passed over: it is neither to be counted nor to be sent.
     fn pass_over(&mut self, told: bool)
         requires todo { self.old.todo ≤ length self.old.plan.items }
         requires unsent { self.old.unsent ≤ length self.old.plan.items }
@@ -171,8 +171,8 @@ impl Progress {
         }
     }
 
-    /// The next command of the plan is counted, and where it told that the machine is homed, the homing behind it is passed over; behind
-    /// the whole plan nothing is counted. Only want of memory is an `Err`.
+    /// The next command of the plan is counted, and if it reported that the machine is homed, the homing after it is passed over; after
+    /// the whole plan nothing is counted. Fails only if out of memory.
     #[tactic(auto, using(crate::proofs::Counting::counted_is, crate::proofs::Counting::none_counted))]
     pub(crate) fn count(
         &mut self,
@@ -252,7 +252,7 @@ impl Progress {
         self.features.keep(count);
     }
 
-    /// A plan begins anew; what is counted on the connection stays, and the points of the unfinished feature are given up.
+    /// A plan begins anew; what is counted on the connection stays, and the points of the unfinished feature are discarded.
     pub(crate) fn begin_plan(&mut self, plan: Vec<Planned>)
         ensures connection { self.new.connection ≡ self.old.connection }
         ensures plan { self.new.plan ≡ plan }

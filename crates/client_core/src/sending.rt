@@ -15,8 +15,8 @@ use std::alloc::AllocError;
 pub const LINE_MAX: usize = 202;
 
 impl Executor {
-    /// The command that is due goes out under a new tag; where none is free, the client gives its connection up. Only want of memory is
-    /// an `Err`.
+    /// The command that is due goes out under a new tag; if none is free, the client leaves its connection. Fails only
+    /// if out of memory.
     pub(crate) fn send(&mut self, out: &mut Vec<u8>) -> Result<(), AllocError>
         requires due { IsSome (due self.old) }
         requires room { HasRoom out.old LINE_MAX }
@@ -43,7 +43,7 @@ impl Executor {
         }
     }
 
-    /// An abort goes out under a new event tag; where none is free, the client gives its connection up. Only want of memory is an `Err`.
+    /// An abort goes out under a new event tag; if none is free, the client leaves its connection. Fails only if out of memory.
     pub(crate) fn send_abort(&mut self, out: &mut Vec<u8>) -> Result<(), AllocError>
         requires room { HasRoom out.old LINE_MAX }
         ensures client { Leads result self.old self.new (client_aborted self.old).client }

@@ -4,7 +4,7 @@ use Rattle.protocol_model.specs.declared.lines.Waiting.{Waiting}
 use Rattle.command_queue.specs.Limits.{places}
 
 -- a call and how it ended: a command was put, or was handed back because the queue was full; one was taken, or there was none; all were
--- taken at once; all were given up
+-- taken at once; all were discarded
 pub data Call : Type 0 where
   Put : Waiting → Call
   Full : Waiting → Call

@@ -45,7 +45,7 @@ fn is_any_under(ring: &HeapCircularBuffer<Waiting>, tag: Tag) -> bool
 }
 
 impl Queue {
-    /// An empty queue, which takes the memory of all its places now. Only want of memory is an `Err`.
+    /// An empty queue, which takes the memory of all its places now. Fails only if out of memory.
     pub fn new(alloc: Global) -> Result<Queue, AllocError>
         ensures none { IfOk result (λ queue. queue ≡ []) }
         ensures places { PLACES ≡ places }
@@ -54,8 +54,8 @@ impl Queue {
         Ok(Queue { alloc, ring })
     }
 
-    /// Puts a command behind the others. Where 64 wait it hands the command back, and the queue is as before.
-    /// Takes no memory.
+    /// Puts a command after the others. Where 64 wait it hands the command back, and the queue is as before.
+    /// Does not allocate.
     pub fn put(&mut self, command: Waiting) -> Result<(), Waiting>
         ensures room { IsOk result ↔ (length self.old < places) }
         ensures ok { OnOk result (self.new ≡ self.old ++ command ∷ []) }
@@ -64,7 +64,7 @@ impl Queue {
         self.ring.try_push_back(command)
     }
 
-    /// The command that came first, which stays; none where none waits. Takes no memory.
+    /// The command that came first, which stays; `None` if no command waits. Does not allocate.
     pub fn first(&self) -> Option<&Waiting>
         ensures { MatchOption result (self.now ≡ [])
             (λ command. self.now ≡ command.now ∷ drop 1 self.now) }
@@ -72,7 +72,7 @@ impl Queue {
         self.ring.front()
     }
 
-    /// Takes the command that came first; none where none waits. Takes no memory.
+    /// Takes the command that came first; `None` if no command waits. Does not allocate.
     pub fn take(&mut self) -> Option<Waiting>
         ensures { MatchOption result
             ((self.old ≡ []) × (self.new ≡ []))
@@ -81,7 +81,7 @@ impl Queue {
         self.ring.pop_front()
     }
 
-    /// Takes all commands, in order. Only want of memory is an `Err`, and the queue is then as before.
+    /// Takes all commands, in order. Fails only if out of memory, and the queue is then as before.
     pub fn drain_all(&mut self) -> Result<Vec<Waiting>, AllocError>
         ensures all { IfOk result (λ commands. commands.items ≡ self.old) }
         ensures leads { Leads result self.old self.new [] }
@@ -93,14 +93,14 @@ impl Queue {
         Ok(commands)
     }
 
-    /// Gives up all commands. Takes no memory.
+    /// Discards all commands. Does not allocate.
     pub fn clear(&mut self)
         ensures { self.new ≡ [] }
     {
         self.ring.clear();
     }
 
-    /// Whether a command waits under this tag. Takes no memory.
+    /// Whether a command waits under this tag. Does not allocate.
     #[tactic(auto, using(crate::proofs::Queues::waits_under_any))]
     pub fn holds(&self, tag: Tag) -> bool
         ensures { result ≡ waits_under tag self.now }
@@ -116,7 +116,7 @@ impl Queue {
         self.ring.len()
     }
 
-    /// Whether none waits.
+    /// Whether no command waits.
     pub fn is_empty(&self) -> bool
         ensures { IsTrue result ↔ (self.now ≡ []) }
     {

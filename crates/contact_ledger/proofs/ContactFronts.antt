@@ -1,4 +1,4 @@
--- A front of a written text of acts is read as the acts whose lines stand in it whole.
+-- A prefix of a written text of acts is read as the acts whose lines are whole in it.
 use Rattle.std.proofs.Common.{◌≡◌, ℕ, zero, suc, ◌+◌, ◌-◌, ◌<◌, ◌≤◌, Bool, true}
 use Rattle.std.proofs.Common.{false, not, eqb, List, [], ◌∷◌, ◌++◌, length, take, map, refl}
 use Rattle.std.proofs.Common.{ap, sym, subst, ◌∙◌, arith, codes, append_assoc, length-append}
@@ -9,7 +9,7 @@ use Rattle.contact_ledger.specs.declared.acts.Act.{Act}
 use Rattle.contact_ledger.specs.ContactTexts.{AreEntries, act_line, contact_lines, contacts_text, IsContacts, none, some}
 use Rattle.contact_ledger.proofs.ContactLaws.{is_inner, IsInner, line_first, contact_inner, take_lines, take_entries}
 
--- lines, and behind them what has no line end
+-- lines, and after them what has no line end
 inner_alone : (r : List ℕ) → list_all is_inner r ≡ true → slice_split (λ b. eqb b 10) r ≡ r ∷ []
 inner_alone [] h = refl
 inner_alone (x ∷ xs) h =
@@ -37,7 +37,7 @@ lines_in_front : (ls : List (List ℕ)) (r : List ℕ) → AllByRecursion IsInne
 unfolding whole_lines
 lines_in_front ls r h g = rw (split_behind ls r h g) (lines_but_last ls r)
 
--- a front of a text is lines, and behind them the front of a line
+-- a prefix of a text is lines, and after them the prefix of a line
 record IsCut (ls : List (List ℕ)) (n k : ℕ) : Type 0 where
   behind : List ℕ
   inner : list_all is_inner behind ≡ true

@@ -37,12 +37,12 @@ line_read ls more l n es new e d r all h w same =
       entries = all_more IsEntry es e all h;
     })
 
--- behind the last line, the lines are those of the acts
+-- after the last line, the lines are those of the acts
 pub lines_read : (bytes : List ℕ) (n : ℕ) (es : List (ℕ × Act)) → drop n (whole_lines bytes) ≡ []
     → take n (whole_lines bytes) ≡ contact_lines es → AreEntries es → IsContacts bytes es
 lines_read bytes n es d r all = some all (sym (take_whole n (whole_lines bytes) d) ∙ r)
 
--- a line behind lines of acts is an act's, where all are
+-- a line after lines of acts is an act's, where all are
 last_is_entry : (xs es : List (ℕ × Act)) (l : List ℕ) → AreEntries es → map act_line xs ++ l ∷ [] ≡ map act_line es
     → (e : ℕ × Act) × IsEntry e × (l ≡ act_line e)
 last_is_entry [] [] l all h = absurd cc

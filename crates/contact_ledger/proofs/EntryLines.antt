@@ -1,4 +1,4 @@
--- The lines of acts, and the fields behind their words.
+-- The lines of acts, and the fields after their words.
 use Rattle.std.proofs.Common.{◌≡◌, ℕ, ◌+◌, ◌*◌, ◌≤◌, true, false, List, [], ◌∷◌}
 use Rattle.std.proofs.Common.{◌++◌, length, refl, ap, sym, ◌∙◌, arith, codes, Option, Some, None}
 use Rattle.std.proofs.Common.{append-nil, slice_index}
@@ -22,7 +22,7 @@ abbrev pub kind : List (List ℕ) → ℕ
 kind [] = 0
 kind (word ∷ fields) = slice_index word 2 * 10 + length word
 
--- what stands behind fields of a frame or of a direction
+-- what follows fields of a frame or of a direction
 pub frame_tail : (f g : Frame) (x y : List (List ℕ)) → frame_fields f ++ x ≡ frame_fields g ++ y → x ≡ y
 frame_tail Machine Machine x y e = cc
 frame_tail Machine (Part o) x y e =
@@ -47,7 +47,7 @@ direction_tail (Some d) None x y e =
     absurd (omega (arith, first))
 direction_tail (Some d) (Some c) x y e = cc
 
--- ---- fields that are no act's behind a word
+-- ---- fields that are no act's after a word
 
 abbrev NoFrame : List (List ℕ) → Type 0
 NoFrame fields = (f : Frame) (more : List (List ℕ)) → IsFrame f → fields ≡ frame_fields f ++ more → ⊥

@@ -1,4 +1,4 @@
--- What the writers of acts add, one piece behind another.
+-- What the writers of acts add, one piece after another.
 use Rattle.std.proofs.Common.{◌≡◌, ℕ, zero, suc, ◌+◌, ◌<◌, List, [], ◌∷◌, ◌++◌, length, map, take, drop, get_or, refl, ap, sym, ◌∙◌, arith}
 use Rattle.std.proofs.Common.{codes, append_assoc, append-nil}
 use Rattle.std.specs.Prelude.{decimal}

@@ -19,7 +19,7 @@ use Rattle.contact_ledger.specs.declared.places.Place.TheVariants.{Start, Betwee
 use Rattle.contact_ledger.proofs.FeatureRuns.{leads_one, leads_more, leads_split}
 use Rattle.contact_ledger.proofs.FeatureShapes.{IsGood, leads_above, good_lines, held_lead}
 
--- ---- fronts of a list
+-- ---- prefixes of a list
 
 plus_one : (n : ℕ) → n + 1 ≡ suc n
 plus_one n = omega arith
@@ -56,7 +56,7 @@ begins_above ls f p h =
     let a = leads_above ls [] f Start p refl h in
     rw (sym a.lines) (good_lines f p a.good)
 
--- behind the last line, the lines hold the features
+-- after the last line, the lines hold the features
 pub lines_read : (bytes : List ℕ) (n : ℕ) (f : List Feature) (p : Place) → drop n (whole_lines bytes) ≡ []
     → Leads [] Start (take n (whole_lines bytes)) f p → IsFeatures bytes f
 lines_read bytes n f p e h = begins_above (whole_lines bytes) f p (rw (take_whole n (whole_lines bytes) e) at h)

@@ -1,4 +1,4 @@
--- The lines behind which a place stands are those of its features.
+-- The lines above a place are those of its features.
 use Rattle.std.proofs.Common.{◌≡◌, ℕ, zero, suc, ◌+◌, ◌-◌, ◌<◌, ◌≤◌, List, [], ◌∷◌, ◌++◌, length, map, refl, ap, sym, subst, ◌∙◌, arith}
 use Rattle.std.proofs.Common.{codes, inl, inr, append_assoc, append-nil, length-append}
 use Rattle.std.specs.List.{AllByRecursion}
@@ -17,7 +17,7 @@ use Rattle.contact_ledger.specs.declared.places.Place.{Place}
 use Rattle.contact_ledger.specs.declared.places.Place.TheVariants.{Start, Between, Within}
 use Rattle.contact_ledger.proofs.FeatureRuns.{leads_more}
 
--- the lines that stand above a place
+-- the lines that are above a place
 abbrev pub lines_above : List Feature → Place → List (List ℕ)
 lines_above features Start = []
 lines_above features (Between v) = header v ∷ lines_of_all v features
@@ -109,7 +109,7 @@ leads_above (l ∷ ls) f g p q h (m, at, n, more) =
       lines = rest.lines ∙ rw step.lines (append_assoc (lines_above f p) (l ∷ []) ls);
     }
 
--- ---- a place that stands below lines is one that they hold
+-- ---- a place that is below lines is one that they hold
 
 abbrev zeros : ℕ → List Point
 zeros zero = []
@@ -211,7 +211,7 @@ lead_features (g ∷ gs) f v h =
     leads_more (feature_lines v g) (lines_of_all v gs) f (f ++ g ∷ []) (f ++ g ∷ gs) (Between v) (Between v) (Between v)
     (lead_feature f v g h.0) (rw (append_assoc f (g ∷ []) gs) at rest)
 
--- a front of points' lines is the lines of a front of the points
+-- a prefix of points' lines is the lines of a prefix of the points
 record Fronted (ps : List Point) (rest : List (List ℕ)) : Type 0 where
   front : List Point
   behind : List Point

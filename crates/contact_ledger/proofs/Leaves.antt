@@ -69,7 +69,7 @@ pub direction_read : (i j k : List ℕ) (d e : Direction) → ReadsDirection i j
     → j ≡ written_component e.j → k ≡ written_component e.k → d ≡ e
 direction_read i j k d e f h p q r = one_direction i j k d e f (reads_written i j k e h p q r)
 
--- what is read as no direction is none
+-- what is read as no direction gives no direction
 pub no_direction : (i j k : List ℕ) (e : Direction) (read : Result (Option Direction) NumeralFault) → ReadsDirection i j k read
     → ReadsDirection i j k (Ok (Some e)) → ((d : Direction) → read ≡ Ok (Some d) → ⊥) → ⊥
 no_direction i j k e (Ok (Some d)) f g other = other d refl
@@ -99,7 +99,7 @@ number_read field n most r fits small e p = parse-decimal 64 n field r (omega ar
 pub not_same : (a b : List ℕ) → true ≡ not (bytes_eq a b) → a ≡ b → ⊥
 not_same a b h e = let t = (bytes_eq-Decides a b).1 e in absurd cc
 
--- three fields that a written direction has are its components, and what stands behind them is what stands behind
+-- three fields that a written direction has are its components, and what follows them is what follows
 pub written_fields : (rest r s t i j k : List ℕ) (d : Direction) (line : List ℕ) → fields_behind rest ≡ i ∷ fields_behind r
     → fields_behind r ≡ j ∷ fields_behind s → fields_behind s ≡ k ∷ fields_behind t → ReadsDirection i j k (Ok (Some d))
     → line ≡ written_direction d (codes " ") → fields_of line ≡ i ∷ j ∷ k ∷ []

@@ -50,7 +50,7 @@ pub line_none : (bs : List ℕ) → None ≡ position (λ b. eqb b 10) bs → wh
 unfolding whole_lines
 line_none bs e = rw (one_part (λ b. eqb b 10) bs e) refl
 
--- what stands in front of a space, and the fields from it on
+-- what precedes a space, and the fields after it
 pub field_at : (bs : List ℕ) (at : ℕ) → Some at ≡ position (λ b. eqb b 32) bs → fields_of bs ≡ take at bs ∷ fields_of (drop (at + 1) bs)
 unfolding fields_of
 field_at bs at e = (first_part (λ b. eqb b 32) bs at e).1
@@ -69,7 +69,7 @@ one_more n = omega arith
 plus_one : (n : ℕ) → n + 1 ≡ suc n
 plus_one n = omega arith
 
--- from the first byte that passes on, the parts behind it are those of the bytes behind it
+-- from the first byte that passes on, the parts after it are those of the bytes after it
 parts_from : (p : ℕ → Bool) (bs : List ℕ) → position_or_len p bs < length bs
     → drop 1 (slice_split p (drop (position_or_len p bs) bs)) ≡ slice_split p (drop (suc (position_or_len p bs)) bs)
 parts_from p [] h = absurd (omega arith)

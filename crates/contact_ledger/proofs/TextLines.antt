@@ -18,7 +18,7 @@ use Rattle.contact_ledger.proofs.PlainFields.{is_plain, ArePlain, point_plain}
 use Rattle.contact_ledger.proofs.OpeningLines.{opening_plain}
 use Rattle.contact_ledger.proofs.FeatureShapes.{opening_good}
 
--- a byte that is no line end
+-- a byte that is not a line end
 abbrev pub is_text : ℕ → Bool
 is_text c = nat_le 32 c
 
@@ -89,7 +89,7 @@ lines_back (line ∷ lines) tail h =
     ap (λ (t : List ℕ). whole_lines t) (append_assoc line (10 ∷ text_of lines) tail) ∙ line_first line (text_of lines ++ tail) h.0
     ∙ ap (λ (ls : List (List ℕ)). line ∷ ls) (lines_back lines tail h.1)
 
--- ---- a front of a text
+-- ---- a prefix of a text
 
 pub record Cut (lines : List (List ℕ)) (bytes : List ℕ) : Type 0 where
   pub front : List (List ℕ)
@@ -98,7 +98,7 @@ pub record Cut (lines : List (List ℕ)) (bytes : List ℕ) : Type 0 where
   pub short : 0 < length behind
   pub whole : whole_lines bytes ≡ front
 
--- so many bytes of a line and what stands behind it: a front of the line, or the line, its end and a front of the rest
+-- that many bytes of a line and what follows it: a prefix of the line, or the line, its end and a prefix of the rest
 data Fronts (k : ℕ) (line rest : List ℕ) : Type 0 where
   within : take k (line ++ (10 ∷ rest)) ≡ take k line → Fronts k line rest
   beyond : (j : ℕ) → j < k → j + length line + 1 ≡ k → take k (line ++ (10 ∷ rest)) ≡ line ++ (10 ∷ take j rest) → Fronts k line rest

@@ -1,4 +1,4 @@
--- What the writers add, one piece behind another.
+-- What the writers add, one piece after another.
 use Rattle.std.proofs.Common.{◌≡◌, ℕ, zero, suc, ◌+◌, ◌<◌, List, [], ◌∷◌, ◌++◌, length, map, drop, get_or, refl, ap, sym, ◌∙◌, arith}
 use Rattle.std.proofs.Common.{codes, Result, Ok, Err, OnOk, append_assoc, append-nil}
 use Rattle.std.specs.Prelude.{decimal, if◌then◌else◌}
@@ -30,7 +30,7 @@ pub text_more : (xs ys : List (List ℕ)) → text_of (xs ++ ys) ≡ text_of xs 
 text_more [] ys = refl
 text_more (x ∷ xs) ys = ap (λ (t : List ℕ). x ++ 10 ∷ t) (text_more xs ys) ∙ sym (append_assoc x (10 ∷ text_of xs) (text_of ys))
 
--- the pieces of an opening line and of what stands below
+-- the pieces of an opening line and of what is below
 pieces : (old a b c d e f : List ℕ) → ((((((old ++ a) ++ b) ++ c) ++ d) ++ e) ++ f) ≡ old ++ (a ++ (b ++ (c ++ (d ++ (e ++ f)))))
 pieces old a b c d e f = append_assoc ((((old ++ a) ++ b) ++ c) ++ d) e f ∙ append_assoc (((old ++ a) ++ b) ++ c) d (e ++ f)
     ∙ append_assoc ((old ++ a) ++ b) c (d ++ (e ++ f)) ∙ append_assoc (old ++ a) b (c ++ (d ++ (e ++ f)))

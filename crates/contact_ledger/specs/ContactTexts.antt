@@ -18,7 +18,7 @@ IsWrittenAct (act.Changed tool) = IsName tool
 IsWrittenAct (act.Framed frame) = IsFrame frame
 IsWrittenAct (act.Contact target dir tool frame point) = IsOnWire target × IsTouch dir × IsName tool × IsFrame frame × IsOnWire point
 
--- an act that can be written beside the number of its connection
+-- an act that can be written next to the number of its connection
 abbrev pub IsEntry : ℕ × Act → Type 0
 IsEntry entry = IsConnection entry.0 × IsWrittenAct entry.1
 
@@ -30,7 +30,7 @@ abbrev pub homed_field : Bool → List ℕ
 homed_field true = codes "1"
 homed_field false = codes "0"
 
--- the fields of an act behind the number of its connection
+-- the fields of an act after the number of its connection
 abbrev pub act_fields : Act → List (List ℕ)
 act_fields (act.HomedIs homed) = codes "HOMEDIS" ∷ homed_field homed ∷ []
 act_fields act.Homed = codes "HOMED" ∷ []
@@ -57,10 +57,10 @@ pub data AreContactLines (lines : List (List ℕ)) (entries : List (ℕ × Act))
   none : lines ≡ [] → entries ≡ [] → AreContactLines lines entries
   some : AreEntries entries → lines ≡ contact_lines entries → AreContactLines lines entries
 
--- a text says these acts; what stands behind its last LF is not looked at
+-- a text says these acts; what follows its last LF is not examined
 abbrev pub IsContacts : List ℕ → List (ℕ × Act) → Type 0
 IsContacts bytes entries = AreContactLines (whole_lines bytes) entries
 
--- line n of a text is the first that cannot stand in its place
+-- line n of a text is the first that is unexpected
 abbrev pub IsDamagedContacts : List ℕ → ℕ → Type 0
 IsDamagedContacts bytes n = IsDamaged (λ lines. (entries : List (ℕ × Act)) × AreContactLines lines entries) (whole_lines bytes) n

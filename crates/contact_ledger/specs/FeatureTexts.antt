@@ -20,7 +20,7 @@ points_most = 10000
 abbrev pub IsPointCount : ℕ → Type 0
 IsPointCount n = (1 ≤ n) × (n ≤ points_most)
 
--- what a caller owes of a feature that is written: such a count of points, and an origin with a number that a connection may have
+-- what a feature must have to be written: such a count of points, and an origin with a number that a connection may have
 abbrev pub CanBeWritten : Feature → Type 0
 CanBeWritten f = IsPointCount (length f.points) × IsOrigin f.origin
 
@@ -92,14 +92,14 @@ lines_of_all version (f ∷ features) = feature_lines version f ++ lines_of_all 
 abbrev pub features_text : Version → List Feature → List ℕ
 features_text version features = text_of (header version ∷ lines_of_all version features)
 
--- a front of the lines of a feature, and not all of them
+-- a prefix of the lines of a feature, and not all of them
 pub record IsFront (version : Version) (lines : List (List ℕ)) (feature : Feature) : Type 0 where
   pub writable : IsFeature version feature
   pub behind : List (List ℕ)
   pub front : feature_lines version feature ≡ lines ++ behind
   pub short : 0 < length behind
 
--- no line, or such a front of one more feature
+-- no line, or such a prefix of one more feature
 abbrev pub IsTorn : Version → List (List ℕ) → Type 0
 IsTorn version lines = (lines ≡ []) ⊎ ((feature : Feature) × IsFront version lines feature)
 
@@ -116,10 +116,10 @@ pub data AreFeatureLines (lines : List (List ℕ)) (features : List Feature) : T
   none : lines ≡ [] → features ≡ [] → AreFeatureLines lines features
   some : HoldFeatures lines features → AreFeatureLines lines features
 
--- a text says these features; what stands behind its last LF is not looked at
+-- a text says these features; what follows its last LF is not examined
 abbrev pub IsFeatures : List ℕ → List Feature → Type 0
 IsFeatures bytes features = AreFeatureLines (whole_lines bytes) features
 
--- line n of a text is the first that cannot stand in its place
+-- line n of a text is the first that is unexpected
 abbrev pub IsDamagedFeatures : List ℕ → ℕ → Type 0
 IsDamagedFeatures bytes n = IsDamaged (λ lines. (features : List Feature) × AreFeatureLines lines features) (whole_lines bytes) n

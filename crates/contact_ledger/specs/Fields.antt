@@ -1,4 +1,4 @@
--- Values as fields of a line (this profile), and the values that can be written so. A length and a component stand in their written form.
+-- Values as fields of a line (this profile), and the values that can be written so. A length and a component have their written form.
 use Rattle.std.specs.Prelude.{ℕ, ◌≤◌, ℤ, List, [], ◌∷◌, unsigned_abs, codes, Option, Some, None}
 use Rattle.fixed_um.specs.Limits.{wire_limit}
 use Rattle.fixed_um.specs.Shapes.{Direction, IsDirection}

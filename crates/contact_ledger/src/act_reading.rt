@@ -11,7 +11,7 @@ use crate::lines::{first_field, next_field};
 use crate::server_ledger::CONNECTION_MAX;
 use std::alloc::{AllocError, Global};
 
-/// What was said of home, behind its word.
+/// The answer about home, after its word.
 fn read_homed_is(rest: &[u8]) -> Option<Act>
     ensures { Finds result (λ a. IsWrittenAct a
         × (codes "HOMEDIS" ∷ fields_behind rest.now ≡ act_fields a)) }
@@ -27,7 +27,7 @@ fn read_homed_is(rest: &[u8]) -> Option<Act>
     }
 }
 
-/// That the machine is at home, where nothing stands behind the word.
+/// That the machine is at home, where nothing follows the word.
 fn read_homed(rest: &[u8]) -> Option<Act>
     ensures { Finds result (λ a. IsWrittenAct a
         × (codes "HOMED" ∷ fields_behind rest.now ≡ act_fields a)) }
@@ -38,7 +38,7 @@ fn read_homed(rest: &[u8]) -> Option<Act>
     }
 }
 
-/// A target and its frame, behind their word.
+/// A target and its frame, after their word.
 fn read_moved(forms: &mut Forms, rest: &[u8]) -> Option<Act>
     ensures { Finds result (λ a. IsWrittenAct a
         × (codes "MOVED" ∷ fields_behind rest.now ≡ act_fields a)) }
@@ -55,7 +55,7 @@ fn read_moved(forms: &mut Forms, rest: &[u8]) -> Option<Act>
     Some(Act::Moved(target, frame))
 }
 
-/// A tool, behind its word. Only want of memory is an `Err`.
+/// A tool, after its word. Fails only if out of memory.
 fn read_changed(alloc: Global, rest: &[u8]) -> Result<Option<Act>, AllocError>
     ensures { IfOk result (λ found. Finds found (λ a. IsWrittenAct a
         × (codes "CHANGED" ∷ fields_behind rest.now ≡ act_fields a))) }
@@ -72,7 +72,7 @@ fn read_changed(alloc: Global, rest: &[u8]) -> Result<Option<Act>, AllocError>
     Ok(Some(Act::Changed(tool)))
 }
 
-/// A frame, behind its word.
+/// A frame, after its word.
 fn read_framed(forms: &mut Forms, rest: &[u8]) -> Option<Act>
     ensures { Finds result (λ a. IsWrittenAct a
         × (codes "FRAMED" ∷ fields_behind rest.now ≡ act_fields a)) }
@@ -86,7 +86,7 @@ fn read_framed(forms: &mut Forms, rest: &[u8]) -> Option<Act>
     Some(Act::Framed(frame))
 }
 
-/// A contact, behind its word. Only want of memory is an `Err`.
+/// A contact, after its word. Fails only if out of memory.
 fn read_contact(alloc: Global, forms: &mut Forms, rest: &[u8]) -> Result<Option<Act>, AllocError>
     ensures { IfOk result (λ found. Finds found (λ a. IsWrittenAct a
         × (codes "CONTACT" ∷ fields_behind rest.now ≡ act_fields a))) }
@@ -121,7 +121,7 @@ fn read_contact(alloc: Global, forms: &mut Forms, rest: &[u8]) -> Result<Option<
     }))
 }
 
-/// The act that the fields behind a connection's number are. Only want of memory is an `Err`.
+/// The act that the fields after a connection's number are. Fails only if out of memory.
 fn read_act(alloc: Global, forms: &mut Forms, rest: &[u8]) -> Result<Option<Act>, AllocError>
     ensures { IfOk result (λ found. Finds found (λ a. IsWrittenAct a
         × (fields_behind rest.now ≡ act_fields a))) }
@@ -146,7 +146,7 @@ fn read_act(alloc: Global, forms: &mut Forms, rest: &[u8]) -> Result<Option<Act>
     }
 }
 
-/// The act that a line is, and the number of its connection. Only want of memory is an `Err`.
+/// The act that a line is, and the number of its connection. Fails only if out of memory.
 pub fn read_entry(
     alloc: Global,
     forms: &mut Forms,

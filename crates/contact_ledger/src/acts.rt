@@ -2,15 +2,15 @@
 
 use fixed_um::{Dir, Frame, Name, Point};
 
-/// One thing that a server has done: it stands in its ledger from the moment it was completed (this profile).
-/// Points are in the frame beside them.
+/// One thing that a server has done: it is in its ledger from the moment it was completed (this profile).
+/// Points are in the frame next to them.
 #[derive(Debug, Drop)]
 pub enum Act {
-    /// It was told whether the machine is homed.
+    /// It answered whether the machine is homed.
     HomedIs(bool),
     /// The machine is at its home position.
     Homed,
-    /// The probe stands at a target.
+    /// The probe is at a target.
     Moved(Point, Frame),
     /// A tool is in the probe head.
     Changed(Name),

@@ -13,7 +13,7 @@ use crate::lines::cut_line;
 use crate::server_ledger::ServerLedger;
 use std::alloc::Global;
 
-/// Appends the act that the line of this number is. An `Err` gives up the text.
+/// Appends the act that the line of this number is. An `Err` discards the text.
 fn add_line(
     alloc: Global,
     forms: &mut Forms,
@@ -33,10 +33,10 @@ fn add_line(
     Ok(())
 }
 
-/// The acts of a text of version 1. An act counts where its line has its LF. What stands behind the last LF is not looked at, and a
+/// The acts of a text of version 1. An act counts where its line has its LF. What follows the last LF is not examined, and a
 /// text without any line has no acts.
 ///
-/// The first line that cannot stand in its place is answered with its number.
+/// The first line that is unexpected is answered with its number.
 pub fn read_contacts(alloc: Global, bytes: &[u8]) -> Result<ServerLedger, TextFault>
     ensures { ReadsText (IsContacts bytes.now) (IsDamagedContacts bytes.now) result }
 {

@@ -16,7 +16,7 @@ use fixed_um::{Dir, Frame, Name, Point};
 use itoa::Buffer;
 use std::alloc::AllocError;
 
-/// Adds what was said of home.
+/// Adds the answer about home.
 fn add_homed_is(text: &mut Vec<u8>, homed: bool) -> Result<(), AllocError>
     ensures { OnOk result (text.new.items
         ≡ text.old.items ++ spaced (codes "HOMEDIS" ∷ homed_field homed ∷ [])) }
@@ -92,7 +92,7 @@ fn add_act(text: &mut Vec<u8>, act: &Act) -> Result<(), AllocError>
     }
 }
 
-/// Adds the line of an act and its LF. Only want of memory is an `Err`, and then a prefix of the line may be added.
+/// Adds the line of an act and its LF. Fails only if out of memory, and then a prefix of the line may be added.
 pub fn add_entry(text: &mut Vec<u8>, connection: u64, act: &Act) -> Result<(), AllocError>
     ensures text { OnOk result (text.new.items
         ≡ text.old.items ++ text_of (act_line (connection, act.now) ∷ [])) }
@@ -121,7 +121,7 @@ fn add_entries(text: &mut Vec<u8>, entries: &[(u64, Act)]) -> Result<(), AllocEr
 /// Appends the text of a server's acts (this profile): `DME-CONTACTS 1`, and for each act in order a line with the number of its
 /// connection, its word, and what it says, with points in millimetres.
 ///
-/// Only want of memory is an `Err`, and then nothing is appended.
+/// Fails only if out of memory, and then nothing is appended.
 pub fn write_contacts(out: &mut Vec<u8>, ledger: &ServerLedger) -> Result<(), AllocError>
     ensures writes { Writes result out.old out.new (contacts_text ledger.now) }
     ensures entries { OnOk result (AreEntries ledger.now) }

@@ -4,7 +4,7 @@ use std::fmt;
 /// Why a text gives no features or no contacts (this profile).
 #[derive(Clone, Copy, Debug, PartialEq, Eq)]
 pub enum TextFault {
-    /// The line of this number, counted from 1, is the first that cannot stand in its place.
+    /// The line of this number, counted from 1, is the first that is unexpected.
     Damaged(u64),
     /// A growth was refused. The call may be made again.
     Memory,

@@ -27,7 +27,7 @@ impl Model for FeatureLedger {
 }
 
 impl FeatureLedger {
-    /// A list of no features, which takes no memory yet.
+    /// A list of no features, which does not allocate.
     pub fn new(alloc: Global) -> FeatureLedger
         ensures { result ≡ [] }
     {
@@ -36,8 +36,8 @@ impl FeatureLedger {
         }
     }
 
-    /// Appends a feature. Where its origin is known, the caller owes a connection from 1 to 4,000,000,000. Only want of memory is an
-    /// `Err`: it hands the feature back, and the list is as before. The room doubles when it is full.
+    /// Appends a feature. Where its origin is known, the caller must give a connection number from 1 to 4,000,000,000. Fails only if out of
+    /// memory: it hands the feature back, and the list is as before. The room doubles when it is full.
     pub fn push(&mut self, feature: Feature) -> Result<(), AllocFailed<Feature>>
         requires { IsOrigin feature.origin }
         ensures appended { Leads result self.old self.new (self.old ++ feature ∷ []) }
@@ -53,7 +53,7 @@ impl FeatureLedger {
         self.features.as_slice()
     }
 
-    /// Keeps the first `count` features and gives up the others. The caller owes that there are so many.
+    /// Keeps the first `count` features and discards the others. The caller must ensure that there are that many.
     pub fn keep(&mut self, count: usize)
         requires { count ≤ length self.old }
         ensures { self.new ≡ take count self.old }

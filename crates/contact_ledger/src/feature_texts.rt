@@ -12,10 +12,10 @@ use crate::lines::cut_line;
 use crate::places::{Place, behind_line};
 use std::alloc::Global;
 
-/// The features of a text of version 1 or 2, which its first line tells; those of version 1 have no origin. A feature counts where its
-/// `END` line has its LF. What stands behind the last LF is not looked at, and a text without any line has no features.
+/// The features of a text of version 1 or 2, which its first line says; those of version 1 have no origin. A feature counts where its
+/// `END` line has its LF. What follows the last LF is not examined, and a text without any line has no features.
 ///
-/// The first line that cannot stand in its place is answered with its number.
+/// The first line that is unexpected is answered with its number.
 pub fn read_features(alloc: Global, bytes: &[u8]) -> Result<FeatureLedger, TextFault>
     ensures read { ReadsText (IsFeatures bytes.now) (IsDamagedFeatures bytes.now) result }
     ensures writable { IfOk result (AllByRecursion CanBeWritten) }

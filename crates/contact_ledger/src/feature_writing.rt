@@ -85,10 +85,10 @@ fn add_features(text: &mut Vec<u8>, features: &[Feature]) -> Result<(), AllocErr
 }
 
 /// Appends the text of these features, in version 2 (this profile): `DME-FEATURES 2`; for each feature `FEATURE name n`, its origin as
-/// its connection and frame, or `-` where it is unknown, its points in millimetres, and `END`.
+/// its connection and frame, or `-` if it is unknown, its points in millimetres, and `END`.
 ///
-/// The caller owes of each feature 1 to 10,000 points, and a connection from 1 to 4,000,000,000 where the origin is known. Only want of
-/// memory is an `Err`, and then nothing is appended.
+/// Each feature must have 1 to 10,000 points, and a connection from 1 to 4,000,000,000 where the origin is known. Fails only if out of
+/// memory, and then nothing is appended.
 pub fn write_features(out: &mut Vec<u8>, features: &[Feature]) -> Result<(), AllocError>
     requires { AllByRecursion CanBeWritten features.now }
     ensures writes { Writes result out.old out.new (features_text Second features.now) }

@@ -23,7 +23,7 @@ impl Model for Points {
 }
 
 impl Points {
-    /// No points yet; it takes no memory.
+    /// No points yet; it does not allocate.
     pub fn new(alloc: Global) -> Points
         ensures { result ≡ [] }
     {
@@ -32,7 +32,7 @@ impl Points {
         }
     }
 
-    /// Appends a point. Only want of memory is an `Err`; the points are then as before. The room doubles when
+    /// Appends a point. Fails only if out of memory; the points are then as before. The room doubles when
     /// it is full.
     pub fn push(&mut self, point: Point) -> Result<(), AllocError>
         ensures { Leads result self.old self.new (self.old ++ point ∷ []) }
@@ -41,7 +41,7 @@ impl Points {
         Ok(())
     }
 
-    /// Keeps the first `count` points. The caller owes that there are so many.
+    /// Keeps the first `count` points. The caller must ensure that there are that many.
     pub fn keep(&mut self, count: usize)
         requires { count ≤ length self.old }
         ensures { self.new ≡ take count self.old }
@@ -49,7 +49,7 @@ impl Points {
         self.items.truncate(count);
     }
 
-    /// Gives up all points, and keeps their room.
+    /// Discards all points, and keeps their room.
     pub fn clear(&mut self)
         ensures { self.new ≡ [] }
     {
@@ -70,7 +70,7 @@ impl Points {
         self.items.as_slice()
     }
 
-    /// Equal points. Only want of memory is an `Err`.
+    /// Equal points. Fails only if out of memory.
     pub fn copy(&self, alloc: Global) -> Result<Points, AllocError>
         ensures { IfOk result (λ points. points ≡ self.now) }
     {
@@ -98,7 +98,7 @@ pub struct Feature {
 }
 
 impl Feature {
-    /// An equal feature. Only want of memory is an `Err`.
+    /// An equal feature. Fails only if out of memory.
     pub fn copy(&self, alloc: Global) -> Result<Feature, AllocError>
         ensures { IfOk result (λ feature. feature ≡ self.now) }
     {

@@ -70,7 +70,7 @@ pub fn add_frame(text: &mut Vec<u8>, frame: Frame) -> Result<(), AllocError>
     }
 }
 
-/// Adds a direction, or that there is none.
+/// Adds a direction, or its absence.
 pub fn add_direction(text: &mut Vec<u8>, direction: Option<Dir>) -> Result<(), AllocError>
     ensures text { OnOk result (text.new.items ≡ text.old.items
         ++ spaced (direction_fields direction)) }

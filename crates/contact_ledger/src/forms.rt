@@ -1,4 +1,4 @@
-// Fields that stand in their written form.
+// Fields that have their written form.
 
 ghost use Rattle.std.specs.Prelude.{◌≡◌, ◌≢◌, ◌↔◌, ◌≤◌, ◌+◌, ◌++◌, ◌∷◌, [], ℕ, List, Option, decimal, codes, vec_capacity, MatchOption, IfOk, IsTrue, Ok, Some};
 ghost use Rattle.fixed_um.specs.Calls.{Finds};
@@ -76,7 +76,7 @@ fn are_fields(line: &[u8], i: &[u8], j: &[u8], k: &[u8]) -> bool
     next_field(rest).is_none() && first == i && second == j && third == k
 }
 
-/// Reads fields whose numerals stand in their written form: each is written again, and compared.
+/// Reads fields whose numerals have their written form: each is written again, and compared.
 #[derive(Drop)]
 pub struct Forms {
     form: Vec<u8>,
@@ -84,7 +84,7 @@ pub struct Forms {
 }
 
 impl Forms {
-    /// The room in which numerals are written. Only want of memory is an `Err`.
+    /// The room in which numerals are written. Fails only if out of memory.
     pub fn new(alloc: Global) -> Result<Forms, AllocError> {
         let form = Vec::with_capacity(alloc, 47)?;
         Ok(Forms { form })
@@ -122,7 +122,7 @@ impl Forms {
         Some(Point { x, y, z })
     }
 
-    /// The point of the next three fields, and what stands behind them.
+    /// The point of the next three fields, and what follows them.
     pub fn point<'a>(&mut self, rest: &'a [u8]) -> Option<(Point, &'a [u8])>
         ensures { MatchOption result
             ((p : Point) (more : List (List ℕ)) → IsOnWire p
@@ -139,7 +139,7 @@ impl Forms {
         Some((Point { x, y, z }, rest))
     }
 
-    /// The frame of the next fields, and what stands behind them.
+    /// The frame of the next fields, and what follows them.
     pub fn frame<'a>(&mut self, rest: &'a [u8]) -> Option<(Frame, &'a [u8])>
         ensures { MatchOption result
             ((f : Frame) (more : List (List ℕ)) → IsFrame f
@@ -158,7 +158,7 @@ impl Forms {
         }
     }
 
-    /// The origin of version 2, where nothing stands behind it.
+    /// The origin of version 2, where nothing follows it.
     fn second_origin(&mut self, rest: &[u8]) -> Option<Option<Origin>>
         ensures { Finds result (λ o. IsWrittenOrigin o × (fields_behind rest.now
             ≡ origin_fields o)) }
@@ -180,7 +180,7 @@ impl Forms {
         Some(Some(Origin { connection, frame }))
     }
 
-    /// What the fields of an origin say where nothing stands behind them.
+    /// What the fields of an origin say where nothing follows them.
     pub(crate) fn origin(&mut self, version: Version, rest: &[u8]) -> Option<Option<Origin>>
         ensures { Finds result (λ o. IsWrittenOrigin o × IsKnown version o
             × (fields_behind rest.now ≡ known_fields version o)) }
@@ -196,7 +196,7 @@ impl Forms {
         }
     }
 
-    /// The direction of the next three fields, and what stands behind them.
+    /// The direction of the next three fields, and what follows them.
     fn components<'a>(&mut self, rest: &'a [u8]) -> Option<(Dir, &'a [u8])>
         ensures { MatchOption result
             ((d : Direction) (more : List (List ℕ)) → IsDirection d
@@ -219,7 +219,7 @@ impl Forms {
         Some((direction, rest))
     }
 
-    /// The direction of the next fields, or that there is none, and what stands behind them.
+    /// The direction of the next fields, or its absence, and what follows them.
     pub fn direction<'a>(&mut self, rest: &'a [u8]) -> Option<(Option<Dir>, &'a [u8])>
         ensures { MatchOption result
             ((d : Option Direction) (more : List (List ℕ)) → IsTouch d

@@ -41,7 +41,7 @@ pub(crate) fn read_header(line: &[u8]) -> Option<Version>
     }
 }
 
-/// What an opening line says. Only want of memory is an `Err`.
+/// What an opening line says. Fails only if out of memory.
 #[tactic(auto, using(crate::proofs::OpeningLines::openings))]
 pub(crate) fn read_opening(
     alloc: Global,

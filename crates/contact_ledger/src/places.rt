@@ -17,18 +17,18 @@ use crate::forms::Forms;
 use crate::openings::{Opening, Version, read_header, read_opening};
 use std::alloc::Global;
 
-/// Where a reader stands between two lines.
+/// Where a reader is between two lines.
 #[derive(Drop)]
 pub(crate) enum Place {
     /// Before the first line.
     Start,
     /// Where a feature may begin.
     Between(Version),
-    /// Within a feature, behind these of its points.
+    /// Within a feature, after these of its points.
     Within(Version, Opening, Points),
 }
 
-/// The place behind the first line.
+/// The place after the first line.
 fn behind_header(number: u64, line: &[u8]) -> Result<Place, TextFault>
     ensures next { (features : List Feature)
         → IfOk result (λ p. Next features Start line.now features p) }
@@ -42,7 +42,7 @@ fn behind_header(number: u64, line: &[u8]) -> Result<Place, TextFault>
     }
 }
 
-/// The place behind a line that opens a feature.
+/// The place after a line that opens a feature.
 fn behind_opening(
     alloc: Global,
     forms: &mut Forms,
@@ -62,7 +62,7 @@ fn behind_opening(
     }
 }
 
-/// The place behind a point's line of a feature that lacks points.
+/// The place after a point's line of a feature that lacks points.
 fn behind_point(
     forms: &mut Forms,
     version: Version,
@@ -116,7 +116,7 @@ fn behind_end(
     Ok(Place::Between(version))
 }
 
-/// The place behind the line of this number; a feature that it completes joins the others. An `Err` gives up the text.
+/// The place after the line of this number; a feature that it completes joins the others. An `Err` discards the text.
 pub(crate) fn behind_line(
     alloc: Global,
     forms: &mut Forms,

@@ -10,8 +10,8 @@ use std::marker::Model;
 /// The largest number of a connection (this profile): `connection_most` of the definitions.
 pub const CONNECTION_MAX: u64 = 4_000_000_000;
 
-/// What a server has done, in order: each act beside the number of its connection (this profile). Contracts see
-/// this list. An act is appended when it is completed, and none is ever taken away.
+/// What a server has done, in order: each act next to the number of its connection (this profile). Contracts see
+/// this list. An act is appended when it is completed, and no act is ever removed.
 #[derive(Debug, Drop)]
 pub struct ServerLedger {
     acts: Vec<(u64, Act)>,
@@ -41,7 +41,7 @@ fn is_contact(act: &Act) -> bool
 }
 
 impl ServerLedger {
-    /// A ledger of no acts, which takes no memory yet.
+    /// A ledger of no acts, which does not allocate.
     pub fn new(alloc: Global) -> ServerLedger
         ensures { result ≡ [] }
     {
@@ -51,9 +51,9 @@ impl ServerLedger {
         }
     }
 
-    /// Appends an act that was completed on this connection. The caller owes a number from 1 to `CONNECTION_MAX`.
+    /// Appends an act that was completed on this connection. The caller must give a number from 1 to `CONNECTION_MAX`.
     ///
-    /// Only want of memory is an `Err`: it hands the act back, and the ledger is as before. The room doubles
+    /// Fails only if out of memory: it hands the act back, and the ledger is as before. The room doubles
     /// when it is full, so that all pushes together copy no more than twice what they append.
     pub fn push(&mut self, connection: u64, act: Act) -> Result<(), AllocFailed<Act>>
         requires { IsConnection connection }
@@ -76,7 +76,7 @@ impl ServerLedger {
         }
     }
 
-    /// The acts in order, each beside the number of its connection.
+    /// The acts in order, each next to the number of its connection.
     pub fn acts(&self) -> &[(u64, Act)]
         ensures { Shows result.now self.now AreOnConnections }
     {

@@ -25,7 +25,7 @@ three_digits-digits n = (last_digit-digit (n / 100), (last_digit-digit (n / 10),
 six_digits-digits : (n : ℕ) → AllDigits 10 (six_digits n)
 six_digits-digits n = (last_digit-digit (n / 1000 / 100), (last_digit-digit (n / 1000 / 10), (last_digit-digit (n / 1000), three_digits-digits n)))
 
--- the first digit of a number above zero is none
+-- the first digit of a number above zero is not zero
 first_digit : (n : ℕ) → 0 < n → n < 10 ^ 64 → 48 < get_or (decimal n) 0 0
 first_digit n some small = (decimal_by_steps_wide (λ m ds. (0 < length ds) × (0 < m → 48 < get_or ds 0 0)) (λ m l. (omega arith, λ a. omega arith))
     (λ m ds l h. (omega (arith, length-append ds ((48 + m % 10) ∷ [])), λ a. omega (arith, get_or_append_left ds ((48 + m % 10) ∷ []) 0 0 h.0, h.1 (omega arith)))) n small).1 some

@@ -29,18 +29,18 @@ squared n = n * n
 abbrev pub squared_length : Direction → ℕ
 squared_length d = squared (unsigned_abs d.i) + squared (unsigned_abs d.j) + squared (unsigned_abs d.k)
 
--- n is the whole number nearest to the root of s / t, halves up: 2 n - 1 halves are reached, 2 n + 1 are not. For none, 2 n - 1 is none
+-- n is the whole number nearest to the root of s / t, halves up: 2 n - 1 halves are reached, 2 n + 1 are not. If n is 0, so is 2 n - 1
 pub record IsNearestRoot (s t n : ℕ) : Type 0 where
   pub reached : squared (2 * n - 1) * t ≤ 4 * s
   pub short : 4 * s < squared (2 * n + 1) * t
 
--- so much to the side of a number
+-- a length with the sign of a number
 abbrev pub on_side_of : ℤ → ℕ → ℤ
 on_side_of (pos _) n = pos n
 on_side_of (negsuc _) n = neg_ℤ (pos n)
 
--- r is the deviation along a direction: the scalar product divided by the direction's length, to the nearest micrometre, and of two the one
--- farther from zero. That length is a root and is never taken: both sides are squared
+-- r is the deviation along a direction: the scalar product divided by the direction's length, to the nearest micrometre; of two equally
+-- near, the one farther from zero. That length is a root and is never taken: both sides are squared
 pub record IsAlong (v : Deviation) (d : Direction) (r : ℤ) : Type 0 where
   pub near : IsNearestRoot (squared (unsigned_abs (scalar_product v d))) (squared_length d) (unsigned_abs r)
   pub side : r ≡ on_side_of (scalar_product v d) (unsigned_abs r)

@@ -1,5 +1,6 @@
--- The table of deviations as JSON (RFC 8259): an array with an object for each row, whose members are named as the columns of the comma-separated
--- values are. Lengths are numbers in millimetres with three decimals, components of normals have six; null stands where there is nothing to say.
+-- The table of deviations as JSON (RFC 8259): an array with an object for each row, whose members are named as the columns of the
+-- comma-separated values are. Lengths are numbers in millimetres with three decimals, components of normals have six; null is written where
+-- there is no value.
 use Rattle.std.specs.Prelude.{◌≡◌, ℕ, List, [], ◌∷◌, ◌++◌, codes, decimal, ℤ, Option, Some, None, Result, OnOk}
 use Rattle.json.specs.Token.{Token, begin_object, end_object, begin_array, end_array, key, string, number, null}
 use Rattle.json.specs.Print.{print}
@@ -29,7 +30,7 @@ component_member name z = key name ∷ number (written_component z) ∷ []
 abbrev pub length_members : List ℕ → List ℕ → List ℕ → ℤ → ℤ → ℤ → List Token
 length_members i j k x y z = length_member i x ++ (length_member j y ++ length_member k z)
 
--- the components of a direction, or as many nulls
+-- the components of a direction, or three nulls
 abbrev pub components_of : List ℕ → List ℕ → List ℕ → Option Direction → List Token
 components_of i j k (Some d) = component_member i d.i ++ (component_member j d.j ++ component_member k d.k)
 components_of i j k None = key i ∷ null ∷ key j ∷ null ∷ key k ∷ null ∷ []
@@ -39,7 +40,7 @@ abbrev pub length_or_null : List ℕ → Option ℤ → List Token
 length_or_null name (Some z) = length_member name z
 length_or_null name None = key name ∷ null ∷ []
 
--- whose axes a frame has, and where their zero point stands in machine axes
+-- whose axes a frame has, and where their zero point is in machine axes
 abbrev pub kind_of : Frame → List ℕ
 kind_of Machine = codes "MACHINE"
 kind_of (Part offset) = codes "PART"
@@ -83,7 +84,7 @@ unfoldable pub connection_member : Option ℕ → List Token
 connection_member (Some n) = key (codes "connection") ∷ number (decimal n) ∷ []
 connection_member None = key (codes "connection") ∷ null ∷ []
 
--- what was asked for, what was found, and with what and where
+-- what was requested, what was found, and with which tool and where
 unfoldable pub asked_members : Row → List Token
 asked_members r = feature_member r.place.feature ++ (count_member r.place.number ++ (nominal_members r.place.touch.target
     ++ normal_members r.place.touch.dir))

@@ -1,5 +1,5 @@
 -- The table of deviations as records of comma-separated values (RFC 4180), with a header. Lengths are in millimetres with three decimals,
--- components of normals have six; a field is empty where there is nothing to say.
+-- components of normals have six; a field is empty where there is no value.
 use Rattle.std.specs.Prelude.{◌≡◌, ℕ, List, [], ◌∷◌, ◌++◌, codes, decimal, ℤ, Option, Some, None, Result, OnOk}
 use Rattle.csv.specs.Records.{fields_of, partial_of}
 use Rattle.csv.specs.Writing.{default_writer, row_text}
@@ -17,7 +17,7 @@ use Rattle.deviations.specs.Rows.{Row}
 abbrev pub Joins : {A E : Type 0} → Result A E → ByteRecord → ByteRecord → List (List ℕ) → Type 0
 Joins result old new fields = OnOk result ((fields_of new ≡ fields_of old ++ fields) × (partial_of new ≡ []))
 
--- the components of a normal, or as many empty fields
+-- the components of a normal, or three empty fields
 abbrev pub normal_fields : Option Direction → List (List ℕ)
 normal_fields (Some d) = written_component d.i ∷ written_component d.j ∷ written_component d.k ∷ []
 normal_fields None = [] ∷ [] ∷ [] ∷ []
@@ -31,7 +31,7 @@ abbrev pub along_fields : Option ℤ → List (List ℕ)
 along_fields (Some r) = written r ∷ []
 along_fields None = [] ∷ []
 
--- whose axes, and where their zero point stands in machine axes
+-- whose axes, and where their zero point is in machine axes
 abbrev pub frame_columns : Frame → List (List ℕ)
 frame_columns Machine = codes "MACHINE" ∷ point_fields zero_point
 frame_columns (Part offset) = codes "PART" ∷ point_fields offset

@@ -1,4 +1,4 @@
--- The measured points of features, each beside the touch that a program asks for (ISO 22093) and how far it lies from it.
+-- The measured points of features, each with the touch that a program asks for (ISO 22093) and how far it lies from its target.
 use Rattle.std.specs.Prelude.{◌≡◌, ⊤, ℕ, ◌+◌, ℤ, List, [], ◌∷◌, ◌++◌, Option, Some, None, option_map}
 use Rattle.fixed_um.specs.Shapes.{Direction}
 use Rattle.fixed_um.specs.declared.lengths.Point.{Point}
@@ -10,7 +10,7 @@ use Rattle.deviations.specs.Along.{deviation, IsAlong}
 use Rattle.deviations.specs.declared.along.Deviation.{Deviation}
 
 -- a measured point: its feature, its number there, from 1, the touch that asked for it, where it was measured, and the number of the
--- connection that its feature comes from, where that is known
+-- connection that its feature comes from, if known
 pub record Place : Type 0 where
   pub feature : List ℕ
   pub number : ℕ
@@ -34,7 +34,7 @@ connection_of origin = option_map (λ (o : Origin). o.connection) origin
 abbrev pub feature_places : Wanted → Feature → List Place
 feature_places w f = places_from f.label (connection_of f.origin) 1 w.touches f.points
 
--- the places of features beside the first ones that a program wants
+-- the places of features, paired with the first features of a program
 abbrev pub places_of : List Wanted → List Feature → List Place
 places_of wanted [] = []
 places_of [] (f ∷ features) = []
@@ -46,13 +46,13 @@ pub record Row : Type 0 where
   pub deviation : Deviation
   pub along : Option ℤ
 
--- the deviation along the normal is there where the normal is
+-- there is a deviation along the normal exactly if there is a normal
 abbrev pub IsAlongNormal : Deviation → Option Direction → Option ℤ → Type 0
 IsAlongNormal v (Some d) (Some r) = IsAlong v d r
 IsAlongNormal v None None = ⊤
 IsAlongNormal v _ _ = ⊥
 
--- a row says of a place how far it was measured from its target
+-- a row gives a place and how far it was measured from its target
 pub record IsRow (p : Place) (r : Row) : Type 0 where
   pub place : r.place ≡ p
   pub away : r.deviation ≡ deviation p.measured p.touch.target

@@ -37,7 +37,7 @@ fn difference(measured: Um, nominal: Um) -> i64
 }
 
 impl Deviation {
-    /// The measured point less the nominal one. The caller owes that the nominal point is in the machine's volume.
+    /// The measured point less the nominal one. Requires that the nominal point is in the machine's volume.
     pub fn of(measured: Point, nominal: Point) -> Deviation
         requires { IsInVolume nominal }
         ensures value { result ≡ deviation measured nominal }
@@ -113,7 +113,7 @@ fn nearest_root(square: u128, length: u128) -> u128
     if half <= rest { whole + 1 } else { whole }
 }
 
-/// So much to the side of a number.
+/// A length with the sign of a number.
 fn on_side_of(number: i128, magnitude: u128) -> i128
     requires { magnitude ≤ 2 ^ 64 }
     ensures value { result ≡ on_side_of number magnitude }
@@ -124,7 +124,8 @@ fn on_side_of(number: i128, magnitude: u128) -> i128
 }
 
 /// The deviation along a direction, in micrometres: the scalar product of both, divided by the direction's own length, which need not be
-/// one, to the nearest micrometre, and of two the one farther from zero. It is decided in whole numbers, on squares. Takes no memory.
+/// one, to the nearest micrometre; of two equally near, the one farther from zero. It is decided in whole numbers, on squares. Does not
+/// allocate.
 pub fn along_normal(deviation: Deviation, direction: Dir) -> i128
     requires { IsDeviation deviation }
     ensures along { IsAlong deviation direction result }
@@ -136,7 +137,7 @@ pub fn along_normal(deviation: Deviation, direction: Dir) -> i128
     on_side_of(product, root)
 }
 
-/// What is along a direction is one length, whoever computes it.
+/// The deviation along a direction is unique.
 pub fn one_length_is_along()
     ensures { (deviation : Deviation) (direction : Direction) (one other : ℤ)
         → IsAlong deviation direction one → IsAlong deviation direction other → one ≡ other }

@@ -8,9 +8,9 @@ use std::alloc::{AllocError, AllocFailed};
 /// Why features have no table of deviations (this profile).
 #[derive(Clone, Copy, Debug, PartialEq, Eq)]
 pub enum RowsFault {
-    /// They are not the first ones of the program, by labels and counts of points.
+    /// They are not the first features of the program, by labels and counts of points.
     NotOurs,
-    /// Want of memory.
+    /// Out of memory.
     Memory,
 }
 

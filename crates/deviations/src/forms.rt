@@ -1,6 +1,6 @@
-// The forms of what was measured.
+// The forms in which results are printed.
 
-/// A form in which what was measured is printed.
+/// A form in which results are printed.
 #[derive(Clone, Copy, Debug, PartialEq, Eq)]
 pub enum Form {
     /// Comma-separated values (RFC 4180).

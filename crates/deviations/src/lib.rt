@@ -1,10 +1,10 @@
 //! How far measured points lie from the nominal points of a program.
 //!
 //! - `along`: a deviation, and its part along the normal of the surface
-//! - `rows`: the measured points of features with what asked for them and how far they lie from there
+//! - `rows`: the measured points of features, with the touches that asked for them and how far they lie from their targets
 //! - `records`: the table as comma-separated values; `objects`: as JSON; `printed`: how values are printed
-//! - `forms`: the forms in which what was measured is printed; a drawing is that of the crate `drawings`
-//! - `faults`: why there are none
+//! - `forms`: the forms in which results are printed; the crate `drawings` makes the drawing
+//! - `faults`: why there is no table
 #![tactic(auto)]
 
 pub mod along;

@@ -291,7 +291,7 @@ fn put_connection(json: &mut Writer, connection: Option<u64>) -> Result<(), Allo
     Ok(())
 }
 
-/// What was asked for.
+/// What was requested.
 #[tactic(auto, unfolding(crate::specs::Json::asked_members))]
 fn put_asked(alloc: Global, json: &mut Writer, row: &Row<'_>) -> Result<(), AllocError>
     ensures { Puts result json.old json.new (asked_members row.now) }
@@ -314,7 +314,7 @@ fn put_found(alloc: Global, json: &mut Writer, row: &Row<'_>) -> Result<(), Allo
     Ok(())
 }
 
-/// With what, and where.
+/// With which tool, and where.
 #[tactic(auto, unfolding(crate::specs::Json::means_members))]
 fn put_means(alloc: Global, json: &mut Writer, row: &Row<'_>) -> Result<(), AllocError>
     ensures { Puts result json.old json.new (means_members row.now) }
@@ -339,10 +339,10 @@ fn put_row(alloc: Global, json: &mut Writer, row: &Row<'_>) -> Result<(), AllocE
     Ok(())
 }
 
-/// Appends a table as JSON (RFC 8259), in one line that ends with LF: an array with an object for each row, its members named as the columns of
-/// `write_csv` are. A length is a number in millimetres with three decimals, a component of a normal one with six, each written exactly and
-/// by no floating point; `null` stands where there is no normal, or where it is not known which connection a feature comes from.
-/// Only want of memory is an `Err`, and then nothing is appended.
+/// Appends a table as JSON (RFC 8259), in one line that ends with LF: an array with an object for each row, its members named as the
+/// columns of `write_csv` are. A length is a number in millimetres with three decimals, a component of a normal one with six, each written
+/// exactly and without floating point; `null` is written if there is no normal, or if it is not known which connection a feature comes
+/// from. Fails only if out of memory, and then appends nothing.
 pub fn write_json(out: &mut Vec<u8>, rows: &[Row<'_>]) -> Result<(), AllocError>
     ensures text { Writes result out.old out.new (json_of rows.now) }
     ensures reads_back { OnOk result (tokens (array_text rows.now) ≡ json_tokens rows.now) }

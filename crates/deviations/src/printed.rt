@@ -1,4 +1,4 @@
-// Values as they are printed: as lengths and directions are everywhere, but not bound to the wire limit.
+// Values as they are printed: like all lengths and directions, but not bound to the wire limit.
 
 ghost use Rattle.std.specs.Prelude.{◌≡◌, ◌%◌, [], Some, codes};
 ghost use Rattle.fixed_um.specs.Written.{minus_sign, written, written_component};

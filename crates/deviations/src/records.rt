@@ -206,8 +206,8 @@ fn header(alloc: Global) -> Result<ByteRecord, AllocError>
 }
 
 /// Appends a table as comma-separated values (RFC 4180), a header and a record for each row: lengths in millimetres with three decimals,
-/// normals with six. A field is empty where there is no normal, or where it is not known which connection a feature comes from. Lines end
-/// with LF. Only want of memory is an `Err`, and then nothing is appended.
+/// normals with six. A field is empty if there is no normal, or if it is not known which connection a feature comes from. Lines end
+/// with LF. Fails only if out of memory, and then appends nothing.
 pub fn write_csv(out: &mut Vec<u8>, rows: &[Row<'_>]) -> Result<(), AllocError>
     ensures { Writes result out.old out.new (csv_text rows.now) }
 {

@@ -25,7 +25,7 @@ use fixed_um::{Dir, Frame, Name, Point};
 use std::alloc::{AllocError, Global};
 use std::marker::Model;
 
-/// A measured point and what asked for it.
+/// A measured point and the touch that asked for it.
 #[derive(Drop)]
 pub struct Place<'a> {
     feature: &'a Name,
@@ -52,7 +52,7 @@ impl<'a> Model for Place<'a> {
     ghost invariant = { λ p. IsInVolume p.touch.now.target };
 }
 
-/// A row of a table of deviations (this profile): a measured point, what asked for it, and how far it lies from there.
+/// A row of a table of deviations (this profile): a measured point, the touch that asked for it, and how far it lies from its target.
 #[derive(Drop)]
 pub struct Row<'a> {
     place: Place<'a>,
@@ -116,7 +116,7 @@ fn push_places<'a>(
     Ok(())
 }
 
-/// The places of features that are the first of the wanted ones.
+/// The places of features that are the first of those that the program asks for.
 fn places_of<'a>(
     alloc: Global,
     wanted: &'a [Wanted],
@@ -177,7 +177,7 @@ impl<'a> Row<'a> {
         self.place.touch.target
     }
 
-    /// The outward normal of the surface there, where the program gives one.
+    /// The outward normal of the surface there, if the program gives one.
     pub fn normal(&self) -> Option<Dir>
         ensures { result ≡ self.now.place.touch.dir }
     {
@@ -198,7 +198,7 @@ impl<'a> Row<'a> {
         self.deviation
     }
 
-    /// The deviation along the normal in micrometres, where there is a normal.
+    /// The deviation along the normal in micrometres, if there is a normal.
     pub fn along(&self) -> Option<i128>
         ensures { result ≡ self.now.along }
     {
@@ -219,7 +219,7 @@ impl<'a> Row<'a> {
         self.place.touch.frame
     }
 
-    /// The number of the connection that the feature comes from, where it is known.
+    /// The number of the connection that the feature comes from, if known.
     pub fn connection(&self) -> Option<u64>
         ensures { result ≡ self.now.place.connection }
     {
@@ -240,7 +240,7 @@ impl<'a> Row<'a> {
 }
 
 /// The table of deviations of features, which are the first ones of a program: a row for each measured point, in the order of the features
-/// and of their points. They are `NotOurs` where their labels or their counts of points are not those of the program.
+/// and of their points. `NotOurs` if their labels or their counts of points are not those of the program.
 #[tactic(auto, using(crate::proofs::Tables::zip_push))]
 pub fn rows_of<'a>(
     alloc: Global,

@@ -1,19 +1,19 @@
 /*
  * The cores of a client and of a server of a measuring machine (I++ DME Interface version 1), over bytes and numbers.
  *
- * What a caller keeps to, of which nothing is tested here:
+ * What a caller must ensure; the library tests none of it:
  *
- * - A handle is a variable of the caller's, at one place from `.._new` to `.._free`; what is in it is neither read nor written.
- *   `.._new` fills a handle that holds nothing: one that is all zero and was never filled, or that `.._free` has emptied. Where `.._new` answers
- *   another number than DME_DONE the handle holds nothing. Every other call wants a handle that holds a core.
- *   `.._free` gives back all memory of the core. A core that is never freed is lost memory, and nothing else.
+ * - A handle is a variable of the caller's, at one address from `.._new` to `.._free`; the caller neither reads nor writes its contents.
+ *   `.._new` fills a handle that holds nothing: one that is all zero and was never filled, or that `.._free` has emptied. If `.._new`
+ *   answers a number other than DME_DONE, the handle holds nothing. Every other call requires a handle that holds a core.
+ *   `.._free` releases all memory of the core. A core that is never freed leaks memory, and has no other effect.
  * - A handle is used by one call at a time, from the thread that filled it.
- * - Bytes are a pointer and a length. The pointer is never null, also where the length is 0, and the length is below 2^63. Bytes that
- *   are passed in are only read, and only during the call: they stay the caller's. Room that is passed is written only during the
- *   call; it overlaps neither the handle nor other bytes of the same call.
- * - The library takes its memory by the program's `malloc`, `realloc` and `free`, which have to be those of one allocator. A call that
- *   finds no memory answers DME_MEMORY and leaves the core as it was; it can be made again. Other calls than `.._new` answer DME_MEMORY
- *   only where they are possible, and a reading call only for a whole line. No call is made from a signal handler.
+ * - Bytes are a pointer and a length. The pointer is never null, even if the length is 0, and the length is below 2^63. Bytes that are
+ *   passed in are only read, and only during the call: they stay the caller's. Room that is passed is written only during the call; it
+ *   overlaps neither the handle nor other bytes of the same call.
+ * - The library allocates with the program's `malloc`, `realloc` and `free`, which must belong to one allocator. A call that runs out of
+ *   memory answers DME_MEMORY and leaves the core as it was; it can be made again. Calls other than `.._new` answer DME_MEMORY only if
+ *   they are possible, and a reading call only for a whole line. No call is made from a signal handler.
  *
  * Lengths and positions are whole micrometres in this interface, and millimetres in the texts of programs, setups and features.
  */
@@ -28,17 +28,17 @@ extern "C" {
 #endif
 
 /* Answers. */
-#define DME_DONE 0u          /* done; of a reading call: a line was read */
-#define DME_NOTHING 1u       /* of a reading call alone: no whole line is there */
+#define DME_DONE 0u          /* done; for a reading call: a line was read */
+#define DME_NOTHING 1u       /* only for a reading call: there is no whole line */
 #define DME_NOT_NOW 2u       /* the call is not possible now; nothing changed */
-#define DME_MEMORY 3u        /* want of memory; nothing changed */
+#define DME_MEMORY 3u        /* out of memory; nothing changed */
 #define DME_BAD_SETUP 4u     /* `.._new`: the text of the setup is refused */
 #define DME_BAD_PROGRAM 5u   /* `dme_client_new`: the text of the program is refused */
 #define DME_BAD_FEATURES 6u  /* `dme_client_new`: the text of the kept features is refused */
 #define DME_BAD_WINDOW 7u    /* `dme_client_new`: the window is not from 1 to 16 */
 #define DME_NOT_OURS 8u      /* `dme_client_new`: the kept features are not the first ones of the program */
-/* The client has given its connection up, and says why. Leave, and come to a connection again. */
-#define DME_NOT_RESPONSE 16u /* a line was no response, or its data were not what was asked for */
+/* Why the client has closed its connection. Leave it, and come to a new connection. */
+#define DME_NOT_RESPONSE 16u /* a line was not a response, or its data were not what was requested */
 #define DME_LINE_TOO_LONG 17u
 #define DME_BAD_BYTE 18u
 #define DME_UNKNOWN_TAG 19u
@@ -46,17 +46,17 @@ extern "C" {
 #define DME_NO_DATA 21u
 #define DME_SECOND_DATA 22u
 #define DME_TAGS_SPENT 23u
-/* What a server refuses; nothing changed. DME_LINE_TOO_LONG and DME_BAD_BYTE too, until the connection is left. */
+/* What a server refuses; nothing changed. It also answers DME_LINE_TOO_LONG and DME_BAD_BYTE, until the connection is left. */
 #define DME_NOTHING_RUNS 24u
-#define DME_WRONG_OUTCOME 25u /* what runs cannot end so: a touch by `touched` or `missed`, all else by `done` */
+#define DME_WRONG_OUTCOME 25u /* what runs cannot end this way: a touch ends by `touched` or `missed`, anything else by `done` */
 #define DME_OUT_OF_VOLUME 26u /* a touched point is more than 1000000000 micrometres from an axis' zero */
 
 /* States of a client. */
-#define DME_APART 0u    /* on no connection; so is a new client, also where it keeps all features */
+#define DME_APART 0u    /* on no connection; also a new client, even if it keeps all features */
 #define DME_RUNNING 1u
 #define DME_FAILING 2u  /* a command has failed, others are open */
 #define DME_ABORTING 3u
-#define DME_HALTED 4u   /* nothing is open behind a failure or an abort: `dme_client_resume` */
+#define DME_HALTED 4u   /* nothing is open after a failure or an abort: `dme_client_resume` */
 #define DME_FINISHED 5u /* all is measured */
 #define DME_FAULTED 6u
 
@@ -70,59 +70,59 @@ extern "C" {
 typedef struct { uint8_t *at; } dme_client;
 typedef struct { uint8_t *at; } dme_server;
 
-/* A job, its place in whole micrometres and in machine axes, and the outward normal of a touch, in whole millionths; zeros where it has none. */
+/* A job, its place in whole micrometres in machine axes, and the outward normal of a touch, in whole millionths; zeros if it has none. */
 typedef struct { uint32_t number; int64_t x, y, z; int64_t i, j, k; } dme_job;
 
 /* The number of the answer, and how many bytes the text has. */
 typedef struct { uint32_t number; size_t length; } dme_text;
 
 /*
- * A client for the program of this text, with the frames of this setup. `features` is the text of the features that it has already (of
- * no bytes: none); one counts where its END has its line feed. The window, from 1 to 16, is how many commands it keeps open at most.
- * A new client is in DME_APART, was on no connection and has nothing to send; what it keeps are just the features of that text.
+ * A client for the program of this text, with the frames of this setup. `features` is the text of the features that it already has, empty
+ * if there is no such feature; a feature counts if its END has its line feed. The window, from 1 to 16, is how many commands it keeps open
+ * at most. A new client is in DME_APART, was on no connection and has nothing to send; it keeps exactly the features of that text.
  *
- * The first of these that is so is answered, or DME_MEMORY in its place, and no other number: DME_BAD_SETUP, DME_BAD_PROGRAM (with the
- * frames of the setup), DME_BAD_FEATURES (a line is damaged), DME_BAD_WINDOW, DME_NOT_OURS (the kept features have not the labels and
- * counts of points of the program's first). Where none of them is so, DME_DONE or DME_MEMORY.
+ * It answers the first of these that applies, or DME_MEMORY instead, and no other number: DME_BAD_SETUP, DME_BAD_PROGRAM (with the frames
+ * of the setup), DME_BAD_FEATURES (a line is damaged), DME_BAD_WINDOW, DME_NOT_OURS (the kept features do not have the labels and counts
+ * of points of the program's first features). If none of them applies, DME_DONE or DME_MEMORY.
  */
 uint32_t dme_client_new(dme_client *client, const uint8_t *setup, size_t setup_length, const uint8_t *program, size_t program_length,
                         const uint8_t *features, size_t features_length, uint8_t window);
 /* Empties the handle. */
 void dme_client_free(dme_client *client);
-/* A connection came about. Its number, from 1 to 4000000000, is above that of each earlier one. DME_NOT_NOW but in DME_APART. */
+/* There is a new connection. Its number, from 1 to 4000000000, is above that of each earlier one. DME_NOT_NOW except in DME_APART. */
 uint32_t dme_client_connected(dme_client *client, uint64_t number);
-/* Writes the command that is due; DME_NOT_NOW where none is. What it writes is what `dme_client_take` gives. */
+/* Writes the command that is due; DME_NOT_NOW if no command is due. `dme_client_take` gives what it writes. */
 uint32_t dme_client_send(dme_client *client);
 /* Takes bytes that came from the server, however they were cut. */
 uint32_t dme_client_feed(dme_client *client, const uint8_t *piece, size_t piece_length);
-/* Reads the first whole line of what was fed: DME_DONE, or DME_NOTHING where there is none. */
+/* Reads the first whole line of what was fed: DME_DONE, or DME_NOTHING if there is no whole line. */
 uint32_t dme_client_read(dme_client *client);
-/* Copies as much of what is to be sent as fits into the room, which then counts as sent, and answers how many bytes that is. */
+/* Copies as much of what is to be sent as fits into the room. What is copied counts as sent. Answers how many bytes that is. */
 size_t dme_client_take(dme_client *client, uint8_t *room, size_t room_length);
-/* Writes an abort; DME_NOT_NOW but in DME_RUNNING and DME_FAILING. */
+/* Writes an abort; DME_NOT_NOW except in DME_RUNNING and DME_FAILING. */
 uint32_t dme_client_abort(dme_client *client);
-/* Begins the plan again behind the last completed feature, on the same connection; DME_NOT_NOW but in DME_HALTED. */
+/* Resumes the plan after the last completed feature, on the same connection; DME_NOT_NOW except in DME_HALTED. */
 uint32_t dme_client_resume(dme_client *client);
-/* Gives the connection up. What is measured stays. */
+/* Leaves the connection. What is measured stays. */
 void dme_client_leave(dme_client *client);
 /* The number of the state. */
 uint32_t dme_client_state(dme_client *client);
 /*
- * The text of the completed features (`DME-FEATURES 2`). Where its length is at most that of the room it is written to the front of the
- * room; else the room stays as it is. Of the answer only `number` means anything where it is DME_MEMORY.
+ * The text of the completed features (`DME-FEATURES 2`). If its length is at most that of the room, it is written to the start of the
+ * room; otherwise the room stays as it is. If `number` is DME_MEMORY, the rest of the answer has no meaning.
  */
 dme_text dme_client_features(dme_client *client, uint8_t *room, size_t room_length);
 
 /*
  * A server with this setup, not homed, without a tool and never on a connection. Its machine is the caller's: see `dme_server_job`.
- * Where the setup is refused DME_BAD_SETUP, else DME_DONE; in place of either DME_MEMORY, and no other number.
+ * DME_BAD_SETUP if the setup is refused, otherwise DME_DONE; DME_MEMORY instead of either, and no other number.
  */
 uint32_t dme_server_new(dme_server *server, const uint8_t *setup, size_t setup_length);
 /* Empties the handle. */
 void dme_server_free(dme_server *server);
 /*
- * A connection came about. Its number, from 1 to 4000000000, is above that of each earlier one. DME_NOT_NOW while it is on one, and for any
- * other number; there is no other refusal.
+ * There is a new connection. Its number, from 1 to 4000000000, is above that of each earlier one. DME_NOT_NOW while the server is on a
+ * connection, and for any other number; there is no other refusal.
  */
 uint32_t dme_server_accept(dme_server *server, uint64_t number);
 /*
@@ -131,24 +131,24 @@ uint32_t dme_server_accept(dme_server *server, uint64_t number);
  */
 uint32_t dme_server_feed(dme_server *server, const uint8_t *piece, size_t piece_length);
 /*
- * Reads the first whole line of what was fed and answers it: DME_DONE, or DME_NOTHING where there is none. DME_NOT_NOW on no connection;
- * DME_LINE_TOO_LONG or DME_BAD_BYTE where what was fed begins with no line.
+ * Reads the first whole line of what was fed and answers it: DME_DONE, or DME_NOTHING if there is no whole line. DME_NOT_NOW on no
+ * connection; DME_LINE_TOO_LONG or DME_BAD_BYTE if what was fed does not begin with a line.
  */
 uint32_t dme_server_read(dme_server *server);
-/* Lets the first waiting command have its turn; DME_NOT_NOW while a job runs and where nothing waits. */
+/* Processes the first waiting command; DME_NOT_NOW while a job runs and if nothing waits. */
 uint32_t dme_server_turn(dme_server *server);
-/* What the machine is to do now. */
+/* What the machine must do now. */
 dme_job dme_server_job(dme_server *server);
-/* The name of the tool that is to be changed to, of at most 64 bytes, where it fits into the room; answers its length, 0 where none is. */
+/* Copies the name of the tool to change to, of at most 64 bytes, if it fits the room. Answers its length, 0 if no tool change runs. */
 size_t dme_server_tool(dme_server *server, uint8_t *room, size_t room_length);
 /* How what runs has ended: done, a touch with or without a surface, the machine stopped. Each of x, y and z within 4000000000. */
 uint32_t dme_server_done(dme_server *server);
 uint32_t dme_server_touched(dme_server *server, int64_t x, int64_t y, int64_t z);
 uint32_t dme_server_missed(dme_server *server);
 uint32_t dme_server_stopped(dme_server *server);
-/* Copies as much of what is to be sent as fits into the room, which then counts as sent, and answers how many bytes that is. */
+/* Copies as much of what is to be sent as fits into the room. What is copied counts as sent. Answers how many bytes that is. */
 size_t dme_server_take(dme_server *server, uint8_t *room, size_t room_length);
-/* Gives the connection up: what runs stops uncompleted. Homing, tool and ledger stay. */
+/* Leaves the connection: what runs stops uncompleted. Homing, tool and ledger stay. */
 void dme_server_leave(dme_server *server);
 
 #ifdef __cplusplus

@@ -1,4 +1,4 @@
--- Of all that can be due for texts one thing is, so the answer of a call that makes a core tells of each of them whether it is.
+-- Exactly one of the possible outcomes is due for texts, so the answer of a call that makes a core determines for each whether it is due.
 use Rattle.std.specs.Prelude.{◌≡◌, ℕ, Bool, false, true, not, ◌&&◌, List, Result, Ok, Err, IsErr}
 use Rattle.std.proofs.Common.{refl, inl, inr, subst, arith}
 use Rattle.contact_ledger.specs.FeatureTexts.{IsFeatures, IsDamagedFeatures}
@@ -49,7 +49,7 @@ module _ {setup program : List ℕ} where
   one_meaning one other = let alike = frames_alike setup program one.setup_is other.setup_is in
       let here = one.means in let there = other.means in cc
 
--- what a number says of a fault: it is the one, or another
+-- what a number says about a fault: it is this one, or another
 here : {number due : ℕ} {Holds : Type 0} → number ≡ due → Holds → AnswersJust number due Holds
 here is holds = (λ _. holds, λ _. inl is)
 
@@ -117,7 +117,7 @@ module _ (one : One) (never_both : NeverBoth) (setup program features : List ℕ
   refused_others not_made.BadWindow w number is = elsewhere (λ due. omega arith) (λ bad. no_bad_window bad.window_is w)
   refused_others not_made.NotOurs w number is = here is w
 
-  -- where a client is due nothing is refused, but for want of memory
+  -- if a client is due, nothing is refused except if out of memory
   pub no_client : (why : NotMade) → Why why → (client : ClientEnd) → Client client → not_made_number why ≡ 3
   no_client not_made.Memory w client due = refl
   no_client not_made.BadSetup w client due = absurd (no_bad_setup due.texts.program_is w)

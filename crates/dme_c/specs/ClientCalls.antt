@@ -13,7 +13,7 @@ use Rattle.client_core.specs.Refusals.{IsRefused, IsReadRefused, IsSendRefused}
 use Rattle.client_core.specs.declared.faults.ClientFault.{ClientFault}
 use Rattle.client_core.specs.declared.faults.ClientFault.TheVariants as fault
 
--- a call that leads from one client to another where it may, and else changes nothing
+-- a call that leads from one client to another if it is allowed, and otherwise changes nothing
 abbrev pub DoesOrStays : (ClientEnd → Bool) → (ClientEnd → ClientEnd) → ClientEnd → ClientEnd → Result (Unit {0}) ClientFault → Type 0
 DoesOrStays may then old new answer =
     Leads answer old new (then old) × OnOk answer (may old ≡ true) × IfErr answer (λ fault. IsRefused (may old) old fault)
@@ -27,8 +27,8 @@ Feeds piece = DoesOrStays (λ e. may_read e.client) (end_fed piece)
 abbrev pub Resumes : ClientEnd → ClientEnd → Result (Unit {0}) ClientFault → Type 0
 Resumes = DoesOrStays (λ e. may_resume e.client e.client.state) end_resumed
 
--- a call that writes a line where it may; else, or where this call makes the client Faulted, the fault says why. It is out of memory only
--- where it may write
+-- a call that writes a line if it is allowed; otherwise, or if this call makes the client Faulted, the fault says why. It is out of memory
+-- only if it is allowed to write
 pub record Writes (may : ClientEnd → Bool) (then : ClientEnd → ClientEnd) (old new : ClientEnd)
     (answer : Result (Unit {0}) ClientFault) : Type 0 where
   pub ok : OnOk answer (new ≡ then old)
@@ -43,7 +43,7 @@ Sends = Writes (λ e. is_some (due e.client)) end_sent
 abbrev pub Aborts : ClientEnd → ClientEnd → Result (Unit {0}) ClientFault → Type 0
 Aborts = Writes (λ e. may_abort e.client.state) end_aborted
 
--- the client reads a line, finds nothing whole, or is Faulted by what is in front; nothing changes where it may not read, and it is out of
+-- the client reads a line, finds no whole line, or is Faulted by what comes first; nothing changes if it may not read, and it is out of
 -- memory only for a line
 pub record Reads (old new : ClientEnd) (answer : Result Bool ClientFault) : Type 0 where
   pub ok : OnOk answer (new ≡ end_read old)
@@ -56,16 +56,16 @@ pub record Reads (old new : ClientEnd) (answer : Result Bool ClientFault) : Type
   pub memory : IsErrOf answer fault.Memory → may_read old.client ≡ true
   pub line : IsErrOf answer fault.Memory → IsLineDue (next_of old.input.rest)
 
--- a front of what is to be sent went into the front of the room, as much as fits, and counts as sent
+-- a prefix of what is to be sent was copied to the start of the room, as much as fits, and counts as sent
 abbrev pub Takes : List ℕ → List ℕ → ℕ → ClientEnd → ClientEnd → Type 0
 Takes room_old room_new count old new =
     (count ≡ min (length old.out) (length room_old)) × (room_new ≡ take count old.out ++ drop count room_old) × (new ≡ end_taken count old)
 
--- the text of these features in the version that begins so; versions are told apart by their first line
+-- the text of these features in the version whose first line is `DME-FEATURES 2`; the first line distinguishes the versions
 abbrev pub IsTextOf : List Feature → List ℕ → Type 0
 IsTextOf features text = (version : _) × (header version ≡ codes "DME-FEATURES 2") × (text ≡ features_text version features)
 
--- so many bytes has the text of these features, which went into the front of the room where it fits
+-- the length of the text of these features, which was copied to the start of the room if it fits
 pub record HasText (features : List Feature) (count : ℕ) (room_old room_new : List ℕ) : Type 0 where
   pub text : List ℕ
   pub is_text : IsTextOf features text

@@ -1,4 +1,4 @@
--- What is due for the texts of which a core is made, want of memory apart (this profile).
+-- What is due for the texts of which a core is made, apart from running out of memory (this profile).
 use Rattle.std.specs.Prelude.{◌≡◌, ◌⊎◌, ℕ, false, true, List, Ok, IsErr}
 use Rattle.contact_ledger.specs.FeatureTexts.{IsFeatures, IsDamagedFeatures}
 use Rattle.contact_ledger.specs.declared.features.Feature.{Feature}
@@ -9,7 +9,7 @@ use Rattle.protocol_model.specs.Ends.{ClientEnd, new_client_end}
 use Rattle.dme_c.specs.declared.codes.NotMade.{NotMade}
 use Rattle.dme_c.specs.declared.codes.NotMade.TheVariants as not_made
 
--- of a call that answered `number`: `due` is answered only where that holds, and where it holds `due` is, or 3 for want of memory
+-- for a call that answered `number`: it answers `due` only if this holds, and if it holds, it answers `due`, or 3 if out of memory
 abbrev pub AnswersJust : ℕ → ℕ → Type 0 → Type 0
 AnswersJust number due Holds = (number ≡ due → Holds) × (Holds → (number ≡ due) ⊎ (number ≡ 3))
 
@@ -69,11 +69,11 @@ pub record IsClientOf (setup program features : List ℕ) (window : ℕ) (client
   pub ours : are_ours meaning.features kept ≡ true
   pub client_is : client ≡ new_client_end meaning kept window
 
--- why a text gives nothing: want of memory, or this fault of it, which it has
+-- why a text is refused: out of memory, or this fault, which it has
 abbrev pub Refuses : NotMade → Type 0 → NotMade → Type 0
 Refuses fault IsFaulty why = (why ≡ not_made.Memory) ⊎ ((why ≡ fault) × IsFaulty)
 
--- why nothing is made of all texts; want of memory says nothing of them
+-- why nothing is made of all texts; out of memory says nothing about them
 abbrev pub IsWhy : List ℕ → List ℕ → List ℕ → ℕ → NotMade → Type 0
 IsWhy setup program features window not_made.Memory = Unit {0}
 IsWhy setup program features window not_made.BadSetup = IsBadSetup setup

@@ -1,4 +1,4 @@
--- What each call of a server does, in the words of the server's own contracts, and the numbers that stand for its answers.
+-- What each call of a server does, in the words of the server's own contracts, and the numbers of its answers.
 use Rattle.std.specs.Prelude.{◌≡◌, ◌≢◌, ◌↔◌, ◌⊎◌, ◌++◌, ℕ, ℤ, pos, ◌==◌, if◌then◌else◌, min, take, drop, Bool, true, false, Option, Some, None, List, [], length}
 use Rattle.std.specs.Prelude.{Result, Ok, Err, OnOk, IfOk, IfErr, IsOk, IsTrue}
 use Rattle.std.specs.Result.{IsErrOf}
@@ -19,7 +19,7 @@ use Rattle.server_core.specs.Serving.{IsFeedFault, IsReadFault, IsMachineFault}
 use Rattle.server_core.specs.declared.faults.ServerFault.{ServerFault}
 use Rattle.server_core.specs.declared.faults.ServerFault.TheVariants as fault
 
--- the fault of a server that a number stands for
+-- the fault of a server with this number
 abbrev pub server_fault : ℕ → Option ServerFault
 server_fault n =
     if n == 2 then Some fault.NotNow else if n == 3 then Some fault.Memory
@@ -27,26 +27,26 @@ server_fault n =
     else if n == 24 then Some fault.NothingRuns else if n == 25 then Some fault.WrongOutcome
     else if n == 26 then Some fault.OutOfVolume else None
 
--- where no call is done, the number is a fault's
+-- if no call is done, the number is that of a fault
 abbrev pub refused : {A : Type 0} → Option ServerFault → Option (Result A ServerFault)
 refused None = None
 refused (Some why) = Some (Err why)
 
--- a call's answer: 0 where it is done
+-- a call's answer: 0 if it is done
 abbrev pub served : ℕ → Option (Result (Unit {0}) ServerFault)
 served n = if n == 0 then Some (Ok tt) else refused (server_fault n)
 
--- a reading call's answer: 0 where a line was read, 1 where none is there
+-- a reading call's answer: 0 if a line was read, 1 if there is no line
 abbrev pub line_served : ℕ → Option (Result Bool ServerFault)
 line_served n = if n == 0 then Some (Ok true) else if n == 1 then Some (Ok false) else refused (server_fault n)
 
--- the server comes to the connection of this number just where it may; else the call is not possible now, and nothing changes
+-- the server comes to the connection of this number exactly if it is allowed; otherwise the call is not possible now, and nothing changes
 pub record Accepts (number : ℕ) (old new : ServerValue) (answer : Result (Unit {0}) ServerFault) : Type 0 where
   pub can : IsOk answer ↔ (may_accept number old.end.server ≡ true)
   pub leads : Leads answer old new (with_end old (serving_accepted number old.end))
   pub not_now : IfErr answer (λ why. why ≡ fault.NotNow)
 
--- the server takes a piece; it is refused on no connection, after a framing fault, and out of memory only where neither is so
+-- the server takes a piece; it is refused on no connection, after a framing fault, and out of memory only if neither applies
 pub record Feeds (piece : List ℕ) (old new : ServerValue) (answer : Result (Unit {0}) ServerFault) : Type 0 where
   pub can : OnOk answer (may_feed old.end ≡ true)
   pub leads : Leads answer old new (with_end old (serving_fed piece old.end))
@@ -55,8 +55,8 @@ pub record Feeds (piece : List ℕ) (old new : ServerValue) (answer : Result (Un
       ↔ ((old.end.server.on ≡ true) × (old.end.input.fault ≡ Some why))
   pub others : IfErr answer (λ why. IsFeedFault old.end why)
 
--- the server reads a line and answers it, or finds nothing whole; it is refused on no connection, where what is in front is no line, and
--- out of memory only for a line
+-- the server reads a line and answers it, or finds no whole line; it is refused on no connection, if the input does not begin with a line,
+-- and out of memory only for a line
 pub record Reads (old new : ServerValue) (answer : Result Bool ServerFault) : Type 0 where
   pub ok : OnOk answer (new ≡ with_end old (serving_read old.end))
   pub read : IfOk answer (λ read. IsTrue read ↔ IsLineDue (next_of old.end.input.rest))
@@ -67,14 +67,14 @@ pub record Reads (old new : ServerValue) (answer : Result Bool ServerFault) : Ty
       ↔ ((old.end.server.on ≡ true) × (next_of old.end.input.rest ≡ Err why))
   pub others : IfErr answer (λ why. IsReadFault old new why)
 
--- the first waiting command is processed; it is not possible now just where something runs or nothing waits, and else it fails only if out
+-- the first waiting command is processed; this is refused exactly if something runs or nothing waits, and otherwise it fails only if out
 -- of memory
 pub record Turns (old new : ServerValue) (answer : Result (Unit {0}) ServerFault) : Type 0 where
   pub leads : Leads answer old new (with_end old (serving_turned old.end))
   pub not_now : IsErrOf answer fault.NotNow ↔ (may_turn old.end.server ≡ false)
   pub others : IfErr answer (λ why. (why ≡ fault.NotNow) ⊎ (why ≡ fault.Memory))
 
--- what runs has ended so; each refusal comes just where it is due, and out of memory only where none is
+-- what runs has ended with this outcome; each refusal comes exactly if it is due, and out of memory only if none is
 pub record Ends (outcome : Outcome) (old new : ServerValue) (answer : Result (Unit {0}) ServerFault) : Type 0 where
   pub leads : Leads answer old new (with_end old (serving_machined outcome old.end))
   pub can : OnOk answer (may_end old.end.server.running outcome ≡ true)
@@ -85,7 +85,7 @@ pub record Ends (outcome : Outcome) (old new : ServerValue) (answer : Result (Un
       ↔ ((fits_running old.end.server.running outcome ≡ true) × (may_end old.end.server.running outcome ≡ false))
   pub others : IfErr answer (λ why. IsMachineFault old.end.server outcome why)
 
--- a front of what is to be sent went into the front of the room, as much as fits, and counts as sent
+-- a prefix of what is to be sent was copied to the start of the room, as much as fits, and counts as sent
 abbrev pub Takes : List ℕ → List ℕ → ℕ → ServerValue → ServerValue → Type 0
 Takes room_old room_new count old new =
     (count ≡ min (length old.end.out) (length room_old)) × (room_new ≡ take count old.end.out ++ drop count room_old)
@@ -110,7 +110,7 @@ abbrev pub job_normal : Option Job → Option Direction
 job_normal (Some (job.Touch p d)) = d
 job_normal _ = None
 
--- three numbers that say nothing
+-- three zeros, which carry no meaning
 abbrev pub AreZero : ℤ → ℤ → ℤ → Type 0
 AreZero x y z = (x ≡ pos 0) × (y ≡ pos 0) × (z ≡ pos 0)
 

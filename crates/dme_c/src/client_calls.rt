@@ -15,7 +15,7 @@ use contact_ledger::laws::written_features_are_read_back;
 use contact_ledger::write_features;
 use std::alloc::{AllocError, Global};
 
-/// Gives the client up, with all that it holds.
+/// Drops the client, with all that it holds.
 #[unsafe(no_mangle)]
 pub extern "C" fn dme_client_free(client: &mut ClientHandle, alloc: Global)
     requires { IsSome client.old.held }
@@ -62,7 +62,7 @@ pub extern "C" fn dme_client_send(client: &mut ClientHandle, alloc: Global) -> u
     call_number(answer)
 }
 
-/// Reads the first whole line, if one is there.
+/// Reads the first whole line, if there is one.
 #[unsafe(no_mangle)]
 pub extern "C" fn dme_client_read(client: &mut ClientHandle, alloc: Global) -> u32
     requires { IsSome client.old.held }
@@ -86,7 +86,7 @@ pub extern "C" fn dme_client_abort(client: &mut ClientHandle, alloc: Global) -> 
     call_number(answer)
 }
 
-/// Begins the plan again behind the last completed feature.
+/// Resumes the plan after the last completed feature.
 #[tactic(auto, using(crate::proofs::Calls::called))]
 #[unsafe(no_mangle)]
 pub extern "C" fn dme_client_resume(client: &mut ClientHandle, alloc: Global) -> u32
@@ -99,7 +99,7 @@ pub extern "C" fn dme_client_resume(client: &mut ClientHandle, alloc: Global) ->
     call_number(answer)
 }
 
-/// Gives the connection up.
+/// Leaves the connection.
 #[unsafe(no_mangle)]
 pub extern "C" fn dme_client_leave(client: &mut ClientHandle, alloc: Global)
     requires { IsSome client.old.held }
@@ -123,7 +123,7 @@ pub extern "C" fn dme_client_state(client: &mut ClientHandle, alloc: Global) -> 
     number_of_state(state)
 }
 
-/// Copies a front of what is to be sent into the room, as much as fits, which then counts as sent. Answers how many bytes.
+/// Copies a prefix of what is to be sent into the room, as much as fits. It then counts as sent. Answers how many bytes.
 #[tactic(auto, using(crate::proofs::Calls::called))]
 #[unsafe(no_mangle)]
 pub extern "C" fn dme_client_take(
@@ -163,7 +163,7 @@ fn features_written(alloc: Global, client: &Client) -> Result<Vec<u8>, AllocErro
     Ok(text)
 }
 
-/// Copies the text of the completed features into the room where it fits; its length is answered.
+/// Copies the text of the completed features into the room if it fits, and answers its length.
 #[unsafe(no_mangle)]
 pub extern "C" fn dme_client_features(
     client: &mut ClientHandle,

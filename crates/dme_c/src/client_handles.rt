@@ -22,7 +22,7 @@ impl Model for ClientHandle {
 }
 
 impl ClientHandle {
-    /// Takes the client out. The caller owes that one is held.
+    /// Takes the client out. Requires that one is held.
     pub(crate) fn take(&mut self, alloc: Global) -> Box<Client>
         requires { IsSome self.old.held }
         ensures client { self.old.held ≡ Some result.value }

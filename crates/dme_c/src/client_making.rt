@@ -35,7 +35,7 @@ fn client_read(
     }
 }
 
-/// The same in a place of its own.
+/// The same client, boxed.
 fn client_boxed(
     alloc: Global,
     setup: &[u8],
@@ -54,7 +54,7 @@ fn client_boxed(
     }
 }
 
-/// Makes a client of the texts of a setup, a program and the features that are kept. Where it answers another number than 0, none is held.
+/// Makes a client of the texts of a setup, a program and the features that are kept. If it answers a number other than 0, none is held.
 #[unsafe(no_mangle)]
 pub extern "C" fn dme_client_new(
     client: &mut ClientHandle,

@@ -1,4 +1,4 @@
-// The numbers that stand for answers.
+// The numbers of answers.
 
 ghost use Rattle.std.specs.Prelude.{◌≡◌, Some};
 ghost use Rattle.dme_c.specs.Codes.{client_fault, call_answer, read_answer, not_made_number, state_number};
@@ -15,7 +15,7 @@ pub(crate) enum NotMade {
     NotOurs,
 }
 
-/// The number of why no client is made.
+/// The number of the reason why no client is made.
 pub(crate) fn refusal_number(why: NotMade) -> u32
     ensures { result ≡ not_made_number why }
 {

@@ -1,10 +1,10 @@
-//! The cores of a client and of a server, for callers in C: each function is declared in `include/dme.h`, with what its caller owes.
+//! The cores of a client and of a server, for callers in C: each function is declared in `include/dme.h`, with what its caller must ensure.
 //!
 //! - `client_handles`, `server_handles`: what a caller holds, and how a core is taken out and put back
 //! - `client_making`, `client_calls`, `server_calls`, `server_jobs`: the functions that are exported
 //! - `texts`: the setups, programs and features that are passed in
 //! - `room`: what is copied out
-//! - `codes`: the numbers that stand for answers
+//! - `codes`: the numbers of answers
 #![tactic(auto)]
 
 mod client_calls;

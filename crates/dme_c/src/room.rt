@@ -1,8 +1,8 @@
-// Room of a caller, into which bytes are copied.
+// A caller's room, into which bytes are copied.
 
 ghost use Rattle.std.specs.Prelude.{◌≡◌, ◌<◌, ◌≤◌, ◌++◌, length, take, drop, min};
 
-/// Copies as much of the front of these bytes as the room holds, and answers how much that is.
+/// Copies the longest prefix of these bytes that fits into the room, and answers its length.
 pub(crate) fn copy_front(from: &[u8], into: &mut [u8]) -> usize
     ensures count { result ≡ min (length from.now) (length into.old) }
     ensures copied { into.new ≡ take result from.now ++ drop result into.old }
@@ -12,7 +12,7 @@ pub(crate) fn copy_front(from: &[u8], into: &mut [u8]) -> usize
     count
 }
 
-/// Copies all of these bytes to the front of the room where they fit, and answers how many there are.
+/// Copies all of these bytes to the start of the room if they fit, and answers how many there are.
 pub(crate) fn copy_whole(from: &[u8], into: &mut [u8]) -> usize
     ensures count { result ≡ length from.now }
     ensures front { result ≤ length into.old → take result into.new ≡ from.now }

@@ -55,7 +55,7 @@ fn read_number(answer: Result<bool, ServerFault>) -> u32
     }
 }
 
-/// Makes a server of the text of a setup. Where it answers another number than 0, none is held.
+/// Makes a server of the text of a setup. If it answers a number other than 0, none is held.
 #[unsafe(no_mangle)]
 pub extern "C" fn dme_server_new(server: &mut ServerHandle, alloc: Global, setup: &[u8]) -> u32
     requires { server.old.held ≡ None }
@@ -81,7 +81,7 @@ pub extern "C" fn dme_server_new(server: &mut ServerHandle, alloc: Global, setup
     0
 }
 
-/// Gives the server up, with all that it holds.
+/// Drops the server, with all that it holds.
 #[unsafe(no_mangle)]
 pub extern "C" fn dme_server_free(server: &mut ServerHandle, alloc: Global)
     requires { IsSome server.old.held }
@@ -114,7 +114,7 @@ pub extern "C" fn dme_server_feed(server: &mut ServerHandle, alloc: Global, piec
     call_number(answer)
 }
 
-/// Reads the first whole line, if one is there, and answers it.
+/// Reads the first whole line, if there is one, and answers it.
 #[unsafe(no_mangle)]
 pub extern "C" fn dme_server_read(server: &mut ServerHandle, alloc: Global) -> u32
     requires { IsSome server.old.held }
@@ -126,7 +126,7 @@ pub extern "C" fn dme_server_read(server: &mut ServerHandle, alloc: Global) -> u
     read_number(answer)
 }
 
-/// Lets the first waiting command have its turn.
+/// Processes the first waiting command.
 #[unsafe(no_mangle)]
 pub extern "C" fn dme_server_turn(server: &mut ServerHandle, alloc: Global) -> u32
     requires { IsSome server.old.held }
@@ -138,7 +138,7 @@ pub extern "C" fn dme_server_turn(server: &mut ServerHandle, alloc: Global) -> u
     call_number(answer)
 }
 
-/// What runs has ended so.
+/// What runs has ended with this outcome.
 fn ended(server: &mut ServerHandle, alloc: Global, outcome: Outcome) -> u32
     requires { IsSome server.old.held }
     ensures { Called server.old.held server.new.held (served result) (Ends outcome) }
@@ -149,7 +149,7 @@ fn ended(server: &mut ServerHandle, alloc: Global, outcome: Outcome) -> u32
     call_number(answer)
 }
 
-/// What runs, which is no touch, is done.
+/// What runs, which is not a touch, is done.
 #[unsafe(no_mangle)]
 pub extern "C" fn dme_server_done(server: &mut ServerHandle, alloc: Global) -> u32
     requires { IsSome server.old.held }
@@ -176,7 +176,7 @@ pub extern "C" fn dme_server_stopped(server: &mut ServerHandle, alloc: Global) -
     ended(server, alloc, Outcome::Fault)
 }
 
-/// The place of these lengths. The caller owes that each is within the wire limit.
+/// The place of these lengths. Requires that each is within the wire limit.
 fn place(x: i64, y: i64, z: i64) -> Point
     requires x { unsigned_abs x ≤ wire_limit }
     requires y { unsigned_abs y ≤ wire_limit }
@@ -210,7 +210,7 @@ pub extern "C" fn dme_server_touched(
     ended(server, alloc, Outcome::Touched(place(x, y, z)))
 }
 
-/// Copies a front of what is to be sent into the room, as much as fits, which then counts as sent. Answers how many bytes.
+/// Copies a prefix of what is to be sent into the room, as much as fits. It then counts as sent. Answers how many bytes.
 #[tactic(auto, using(crate::proofs::Calls::called))]
 #[unsafe(no_mangle)]
 pub extern "C" fn dme_server_take(
@@ -229,7 +229,7 @@ pub extern "C" fn dme_server_take(
     count
 }
 
-/// Gives the connection up.
+/// Leaves the connection.
 #[unsafe(no_mangle)]
 pub extern "C" fn dme_server_leave(server: &mut ServerHandle, alloc: Global)
     requires { IsSome server.old.held }

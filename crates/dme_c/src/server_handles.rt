@@ -22,7 +22,7 @@ impl Model for ServerHandle {
 }
 
 impl ServerHandle {
-    /// Takes the server out. The caller owes that one is held.
+    /// Takes the server out. Requires that one is held.
     pub(crate) fn take(&mut self, alloc: Global) -> Box<Server>
         requires { IsSome self.old.held }
         ensures server { self.old.held ≡ Some result.value }

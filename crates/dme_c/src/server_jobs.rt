@@ -112,7 +112,7 @@ pub extern "C" fn dme_server_job(server: &mut ServerHandle, alloc: Global) -> Ru
     running
 }
 
-/// The name of the tool that is changed to; no bytes where none is.
+/// The name of the tool that is changed to; empty if no tool change runs.
 fn tool_of(server: &Server) -> &[u8]
     ensures { result.now ≡ job_tool (running_job server.now.end.server) }
 {
@@ -122,7 +122,7 @@ fn tool_of(server: &Server) -> &[u8]
     }
 }
 
-/// Copies the name of the tool that is changed to into the room where it fits, and answers its length.
+/// Copies the name of the tool that is changed to into the room if it fits, and answers its length.
 #[unsafe(no_mangle)]
 pub extern "C" fn dme_server_tool(
     server: &mut ServerHandle,

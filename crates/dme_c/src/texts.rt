@@ -1,4 +1,4 @@
-// What the texts of a caller say, and why one says nothing.
+// What the texts of a caller say, and why one is refused.
 
 ghost use Rattle.std.specs.Prelude.{◌≡◌, Ok, IfOk, IfErr, IsErr};
 ghost use Rattle.contact_ledger.specs.FeatureTexts.{IsFeatures};
@@ -37,7 +37,7 @@ pub(crate) fn program_read(alloc: Global, frames: &Frames, text: &[u8]) -> Resul
     }
 }
 
-/// The features of this text; of no text none.
+/// The features of this text; none if it is empty.
 pub(crate) fn features_read(alloc: Global, text: &[u8]) -> Result<FeatureLedger, NotMade>
     ensures read { IfOk result (IsFeatures text.now) }
     ensures refused { IfErr result (Refuses NotMade.BadFeatures (AreDamaged text.now)) }

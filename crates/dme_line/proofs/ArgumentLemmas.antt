@@ -4,7 +4,7 @@ use Rattle.dme_line.specs.Tokens.{Token, Open, Close, Comma}
 use Rattle.dme_line.specs.Arguments.{Argument, Single, Triple, argument_tokens, list_tokens, enclosed}
 use Rattle.dme_line.specs.Taken.{IsPlaceLong}
 
--- what follows an argument: the others, each behind a comma, and the closing parenthesis
+-- what follows an argument: the others, each after a comma, and the closing parenthesis
 abbrev pub tail_tokens : List Argument → List Token
 tail_tokens [] = Close ∷ []
 tail_tokens (a ∷ more) = Comma ∷ (argument_tokens a ++ tail_tokens more)
@@ -27,7 +27,7 @@ same_argument (Single n x) (Triple m i j k) us vs e = absurd cc
 same_argument (Triple n i j k) (Single m y) us vs e = absurd cc
 same_argument (Triple n i j k) (Triple m o p q) us vs e = record { argument = cc; behind = cc }
 
--- the arguments behind one are determined by their tokens
+-- the arguments after one are determined by their tokens
 pub same_tail : (args others : List Argument) → tail_tokens args ≡ tail_tokens others → args ≡ others
 same_tail [] [] e = refl
 same_tail [] (b ∷ others) e = absurd cc
@@ -69,7 +69,7 @@ same_arguments args others e = let f : inner args ≡ inner others = cc in same_
 
 -- ---- what is left of a list of three or four as it is read
 
--- no list of so many arguments is enclosed there
+-- no list of that many arguments is enclosed there
 abbrev pub NoPlace : List Token → Type 0
 NoPlace ts = (arguments : List Argument) → IsPlaceLong arguments → ts ≡ enclosed (list_tokens arguments) → ⊥
 
@@ -107,12 +107,12 @@ no_first ts us o none args long e =
     none l.a (tail_tokens (l.b ∷ l.d ∷ l.more)) (enclosed-tail l.a (l.b ∷ l.d ∷ l.more) us (sym o ∙ e
     ∙ ap (λ (x : List Argument). enclosed (list_tokens x)) l.is))
 
--- what is left behind the first argument
+-- what is left after the first argument
 behind_first : (ts us vs : List Token) (x a : Argument) (more : List Argument) → ts ≡ Open ∷ us → us ≡ argument_tokens x ++ vs
     → ts ≡ enclosed (list_tokens (a ∷ more)) → vs ≡ tail_tokens more
 behind_first ts us vs x a more o f e = (same_argument x a vs (tail_tokens more) (sym f ∙ enclosed-tail a more us (sym o ∙ e))).behind
 
--- and behind each further one
+-- and after each further one
 behind_next : (us vs : List Token) (x a : Argument) (more : List Argument) → us ≡ Comma ∷ (argument_tokens x ++ vs)
     → us ≡ tail_tokens (a ∷ more) → vs ≡ tail_tokens more
 behind_next us vs x a more f e =
@@ -132,7 +132,7 @@ no_third ts us vs ws x y o f g none args long e =
     let h = behind_first ts us vs x l.a (l.b ∷ l.d ∷ l.more) o f (e ∙ ap (λ (z : List Argument). enclosed (list_tokens z)) l.is) in
     none l.d (tail_tokens l.more) (behind_next vs ws y l.b (l.d ∷ l.more) g h)
 
--- what is left behind the third
+-- what is left after the third
 behind_third : (ts us vs ws xs : List Token) (x y z : Argument) (args : List Argument) (l : IsLong args) → ts ≡ Open ∷ us
     → us ≡ argument_tokens x ++ vs → vs ≡ Comma ∷ (argument_tokens y ++ ws) → ws ≡ Comma ∷ (argument_tokens z ++ xs)
     → ts ≡ enclosed (list_tokens args) → xs ≡ tail_tokens l.more

@@ -1,4 +1,4 @@
--- The written form of a command can stand in a line, and reads back.
+-- The written form of a command can be in a line, and reads back.
 use Rattle.std.proofs.Common.{◌≡◌, ℕ, ◌≤◌, inr, true, false, List, [], ◌∷◌, ◌++◌, map, Option, Some, None, Ok, refl, ap, sym, subst, ◌∙◌}
 use Rattle.std.proofs.Common.{arith, codes, append_assoc, append-nil, ℤ}
 use Rattle.std.specs.Prelude.{unsigned_abs}
@@ -33,7 +33,7 @@ use Rattle.dme_line.proofs.WireTexts.{IsPlainWord, word_bytes, written-word, com
 
 -- ---- the tokens of what is written
 
--- a point with something behind it, its texts one behind another
+-- a point with something after it, its texts one after another
 abbrev pub point_before : Point → List ℕ → List ℕ
 point_before p tail = 88 ∷ 40 ∷ (written p.x ++ (41 ∷ 44 ∷ 32 ∷ 89 ∷ 40
     ∷ (written p.y ++ (41 ∷ 44 ∷ 32 ∷ 90 ∷ 40 ∷ (written p.z ++ (41 ∷ tail))))))
@@ -41,7 +41,7 @@ point_before p tail = 88 ∷ 40 ∷ (written p.x ++ (41 ∷ 44 ∷ 32 ∷ 89 ∷
 pub point-append : (p : Point) (tail : List ℕ) → written_point p ++ tail ≡ point_before p tail
 point-append p tail = simp append_assoc
 
--- a word in front of what is none
+-- a word before what is not a word
 word_before : (limit : ℕ) (w rest : List ℕ) → IsPlainWord limit w → begins_word rest ≡ false → tokens (w ++ rest) ≡ Word w ∷ tokens rest
 word_before limit w rest h stop = tokens-word w rest (word_bytes limit w h) h.some stop
 
@@ -55,7 +55,7 @@ point-tokens p tail h =
     (written-word p.x h.x) refl in
     rw (x, y, z) refl
 
--- a direction behind a point, and the closing parenthesis
+-- a direction after a point, and the closing parenthesis
 abbrev ijk_before : Direction → List ℕ
 ijk_before d = 44 ∷ 32 ∷ 73 ∷ 74 ∷ 75 ∷ 40 ∷ (written_component d.i
     ++ (44 ∷ 32 ∷ (written_component d.j ++ (44 ∷ 32 ∷ (written_component d.k ++ (41 ∷ 41 ∷ []))))))
@@ -128,7 +128,7 @@ zero_is = (
   refl,
 )
 
--- the tokens behind a command's name
+-- the tokens after a command's name
 abbrev written_tokens : Command → List Token
 written_tokens c = tokens (40 ∷ (written_arguments c ++ codes ")"))
 

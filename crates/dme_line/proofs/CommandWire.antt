@@ -1,4 +1,4 @@
--- The written form of a command can stand in a line.
+-- The written form of a command can be in a line.
 use Rattle.std.proofs.Common.{ℕ, ◌≤◌, List, ◌∷◌, ◌++◌, Option, Some, None, refl, arith, codes}
 use Rattle.fixed_um.specs.Shapes.{Direction, IsDirection}
 use Rattle.fixed_um.specs.Written.{written, written_component, written_direction}

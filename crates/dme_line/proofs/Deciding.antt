@@ -77,12 +77,12 @@ words (Close ∷ ts) = words ts
 words (Comma ∷ ts) = words ts
 words (Word w ∷ ts) = w ∷ words ts
 
--- the first of these words, or an empty one where there is none
+-- the first of these words, or an empty one if there is no first
 abbrev pub first_of : List (List ℕ) → List ℕ
 first_of [] = []
 first_of (w ∷ ws) = w
 
--- the words behind the first
+-- the words after the first
 abbrev pub others_of : List (List ℕ) → List (List ℕ)
 others_of [] = []
 others_of (w ∷ ws) = ws
@@ -110,7 +110,7 @@ filled_of ns ts e = filled_again ts ∙ ap (λ (l : List ℕ). filled l (words t
 pub has_shape : (ns : List ℕ) (ts : List Token) → Decided (shapes ts ≡ ns)
 has_shape ns ts = same_bytes (shapes ts) ns
 
--- ---- a front of tokens
+-- ---- a prefix of tokens
 
 length_shapes : (ts : List Token) → length (shapes ts) ≡ length ts
 length_shapes [] = refl
@@ -188,13 +188,13 @@ first_argument ts = go (front_is (3 ∷ 0 ∷ 3 ∷ 1 ∷ []) ts) (front_is (3 �
 cons_behind : (m : Token) (us vs : List Token) → (m ∷ us) ≡ (m ∷ vs) → us ≡ vs
 cons_behind m us vs e = cc
 
--- so many arguments and the closing parenthesis, each argument behind a comma
+-- that many arguments and the closing parenthesis, each argument after a comma
 pub record Behind (k : ℕ) (ts : List Token) : Type 0 where
   pub arguments : List Argument
   pub long : length arguments ≡ k
   pub parts : ts ≡ tail_tokens arguments
 
--- a mark, an argument, and so many more
+-- a mark, an argument, and that many more
 pub record Chain (mark : Token) (k : ℕ) (ts : List Token) : Type 0 where
   pub argument : Argument
   pub more : List Argument
@@ -254,7 +254,7 @@ behind_is (suc k) ts = decided_by here (λ (b : Behind (suc k) ts). there b.argu
     there [] e f = absurd (omega (arith, e))
     there (a ∷ more) e f = record { argument = a; more = more; long = omega (arith, e); parts = f }
 
--- so many arguments in their parentheses, and one
+-- that many arguments in their parentheses, and one
 pub record Listed (k : ℕ) (ts : List Token) : Type 0 where
   pub arguments : List Argument
   pub long : length arguments ≡ suc k
@@ -613,7 +613,7 @@ transformation_is ts = decided_by here there (both (has_shape seven_shape ts)
           ),
         )
 
--- ---- what the tokens behind a command's name say
+-- ---- what the tokens after a command's name say
 
 -- tokens say a command of this kind
 pub record Saying (k : Kind) (ts : List Token) : Type 0 where

@@ -1,4 +1,4 @@
--- Commands whose name stands in its written form.
+-- Commands whose name is in its written form.
 use Rattle.std.proofs.Common.{◌≡◌, ℕ, false, ◌-◌, ◌≤◌, List, [], ◌∷◌, ◌++◌, length, take, drop, get_or, refl, ap, subst, codes, arith, Option, Some, None, IfSome}
 use Rattle.fixed_um.proofs.PlainLemmas.{rest_of}
 use Rattle.fixed_um.specs.Shapes.{Direction}
@@ -14,7 +14,7 @@ use Rattle.dme_line.specs.declared.commands.Kind.TheVariants as kind
 use Rattle.dme_line.specs.declared.commands.Command.{Command}
 use Rattle.dme_line.specs.declared.commands.Command.TheVariants as command
 
--- the bytes at the front of a text and the rest of it
+-- the bytes at the start of a text and the rest of it
 pub five_in_front : (xs : List ℕ) (a b c d e : ℕ) → 5 ≤ length xs
     → get_or xs 0 0 ≡ a → get_or xs 1 0 ≡ b → get_or xs 2 0 ≡ c → get_or xs 3 0 ≡ d
     → get_or xs 4 0 ≡ e
@@ -67,7 +67,7 @@ named_touch text rest (Some (p, d)) e h =
       says = (p, d, h, refl);
     }
 
--- such a command behind a tag of its sort
+-- such a command after a tag of its sort
 pub command_here : (line text : List ℕ) (tag : Tag) (kind : Kind) (command : Command) → IsTagged line tag text
     → is_event_tag tag ≡ is_event_kind kind → IsCommandOf kind text command → IsCommandText line tag command
 command_here line text tag kind command f sort h =

@@ -14,7 +14,7 @@ use Rattle.dme_line.proofs.PlaceLemmas.{one_length, same_point}
 use Rattle.dme_line.proofs.TokenLemmas.{tokens-word, tokens-mark}
 use Rattle.dme_line.proofs.WireTexts.{all_weaker, plain_word}
 
--- the bytes at the front of a slice and the rest of it
+-- the bytes at the start of a slice and the rest of it
 pub one_in_front : (xs : List ℕ) (a : ℕ) → 1 ≤ length xs → get_or xs 0 0 ≡ a → xs ≡ a ∷ take (length xs - 1) (drop 1 xs)
 one_in_front [] a some h = absurd (omega arith)
 one_in_front (x ∷ xs) a some h = rw (rest_of (x ∷ xs) 1) (ap (λ (y : ℕ). y ∷ xs) h)

@@ -4,7 +4,7 @@ use Rattle.dme_line.specs.Words.{is_word}
 use Rattle.dme_line.specs.Tokens.{Token, Open, Close, Comma, Word}
 use Rattle.dme_line.specs.Arguments.{IsReport}
 
--- behind the second axis of a report stands the third
+-- after the second axis of a report comes the third
 third_axis : (ts t u v w z : List Token) (a b : List ℕ) (h : IsReport ts) → ts ≡ Open ∷ t → t ≡ Word a ∷ Open ∷ Close ∷ u → u ≡ Comma ∷ v
     → v ≡ Word b ∷ Open ∷ Close ∷ w → w ≡ Comma ∷ z → z ≡ Word h.z ∷ Open ∷ Close ∷ Close ∷ []
 third_axis ts t u v w z a b h p q r s x = let spelled = h.spelled in cc

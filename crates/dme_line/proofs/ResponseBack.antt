@@ -1,4 +1,4 @@
--- What is written of responses, points and errors can stand in a line, and reads back.
+-- What is written of responses, points and errors can be in a line, and reads back.
 use Rattle.std.proofs.Common.{◌≡◌, ℕ, ◌+◌, inl, List, [], ◌∷◌, ◌++◌, Option, Some, None, Ok, refl, ap, sym, subst, ◌∙◌, arith, codes}
 use Rattle.std.proofs.Common.{append-nil}
 use Rattle.fixed_um.specs.declared.lengths.Point.{Point}

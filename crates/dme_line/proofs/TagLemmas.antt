@@ -5,7 +5,7 @@ use Rattle.dme_line.specs.declared.tags.Tag.{Tag}
 use Rattle.dme_line.specs.declared.tags.Tag.TheVariants.{Std, Event}
 use Rattle.dme_line.specs.Tags.{written_tag, IsTag, IsNumbered}
 
--- a number of so many digits is written in one way
+-- a number of that many digits is written in one way
 four_apart : (m n : ℕ) → m ≤ 9999 → n ≤ 9999 → last_digit (m / 1000) ≡ last_digit (n / 1000) → last_digit (m / 100) ≡ last_digit (n / 100)
     → last_digit (m / 10) ≡ last_digit (n / 10) → last_digit m ≡ last_digit n → m ≡ n
 four_apart m n f g a b c d = omega (arith, a, b, c, d)
@@ -18,7 +18,7 @@ five_apart m n f g a b c d e = omega (arith, a, b, c, d, e)
 no_letter : (n : ℕ) → last_digit n ≡ 69 → ⊥
 no_letter n e = omega (arith, e)
 
--- a tag and what stands behind it
+-- a tag and what follows it
 pub record SameTagged (t u : Tag) (a b : List ℕ) : Type 0 where
   pub tag : t ≡ u
   pub behind : a ≡ b

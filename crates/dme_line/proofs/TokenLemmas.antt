@@ -22,7 +22,7 @@ plain_from_test c h =
     let p = and_parts (not (c == 32)) (not (is_mark c)) h in
     record { no_space = not-true _ p.0; no_mark = not-true _ p.1 }
 
--- what stands behind a word byte, a mark and a space
+-- what follows a word byte, a mark and a space
 pub behind_plain : (c : ℕ) (joins : Bool) (ts : List Token) → IsPlain c
     → tokens_behind c joins ts ≡ cond joins (longer_word c ts) (Word (c ∷ []) ∷ ts)
 behind_plain c joins ts h = rw (h.no_space, h.no_mark) refl
@@ -30,7 +30,7 @@ behind_plain c joins ts h = rw (h.no_space, h.no_mark) refl
 behind_mark : (c : ℕ) (joins : Bool) (ts : List Token) → (c == 32) ≡ false → is_mark c ≡ true → tokens_behind c joins ts ≡ mark_token c ∷ ts
 behind_mark c joins ts h m = rw (h, m) refl
 
--- a word, with what cannot belong to it behind it
+-- a word, with what cannot belong to it after it
 pub tokens-word : (w rest : List ℕ) → list_all is_word_byte w ≡ true → 0 < length w → begins_word rest ≡ false
     → tokens (w ++ rest) ≡ Word w ∷ tokens rest
 tokens-word [] rest all some stop = absurd (omega arith)
@@ -94,7 +94,7 @@ mark_no_word c w (inl p) e = cc
 mark_no_word c w (inr (inl p)) e = cc
 mark_no_word c w (inr (inr p)) e = cc
 
--- no space stands in front
+-- no space comes first
 abbrev pub IsFlush : List ℕ → Type 0
 IsFlush text = (c : ℕ) (more : List ℕ) → text ≡ c ∷ more → c ≢ 32
 
@@ -187,7 +187,7 @@ word_first text some =
     (tokens-word (take n text) (drop n text) (list_all-front is_word_byte text) long
     (begins_word-is (drop n text) (begins-behind is_word_byte text)))
 
--- ---- the same of a text whose spaces in front were skipped
+-- ---- likewise for a text whose spaces in front were skipped
 
 pub mark_first_of : (bytes text : List ℕ) (c : ℕ) (cs : List ℕ) (mark : ℕ) (ts : List Token) → tokens text ≡ tokens bytes → IsFlush text
     → text ≡ c ∷ cs → is_mark mark ≡ true → tokens bytes ≡ mark_token mark ∷ ts → c ≡ mark

@@ -1,4 +1,4 @@
--- What is written can stand in a line, and its numerals and names are words.
+-- What is written can be in a line, and its numerals and names are words.
 use Rattle.std.proofs.Common.{◌≡◌, ◌≢◌, ℕ, ◌+◌, ◌/◌, ◌^◌, ◌<◌, ◌≤◌, Bool, true, false, ◌&&◌, List, [], ◌∷◌, ◌++◌, length, refl, ap, sym}
 use Rattle.std.proofs.Common.{◌∙◌, arith, codes, length-append, ℤ, pos, negsuc}
 use Rattle.std.specs.Prelude.{◌==◌, nat_le, unsigned_abs, decimal}
@@ -22,7 +22,7 @@ use Rattle.dme_line.specs.Points.{written_point, IsOnWire}
 use Rattle.dme_line.specs.declared.tags.Tag.{Tag}
 use Rattle.dme_line.specs.declared.tags.Tag.TheVariants.{Std, Event}
 
--- ---- texts one behind another
+-- ---- texts one after another
 
 pub wire_append : (m n k : ℕ) (a b : List ℕ) → IsWireText m a → IsWireText n b → m + n ≤ k → IsWireText k (a ++ b)
 wire_append m n k a b f g le = record {

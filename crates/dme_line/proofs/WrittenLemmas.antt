@@ -7,13 +7,13 @@ use Rattle.dme_line.specs.Tokens.{Token, Open, Close, Comma, tokens}
 use Rattle.dme_line.specs.Arguments.{Argument, Single, argument_tokens, triple_of, triple_named, EndsWithAlong, IsPlace, IsTarget}
 use Rattle.dme_line.specs.Points.{BeginsWithPoint, HasCoordinates, IsPointText, point_tokens}
 
--- three axes, one behind the other
+-- three axes, one after the other
 pub three_axes : (ts t u v w us : List Token) (x y z : List ℕ) → ts ≡ argument_tokens (Single (codes "X") x) ++ t → t ≡ Comma ∷ u
     → u ≡ argument_tokens (Single (codes "Y") y) ++ v → v ≡ Comma ∷ w → w ≡ argument_tokens (Single (codes "Z") z) ++ us
     → ts ≡ point_tokens x y z ++ us
 three_axes ts t u v w us x y z p q r s e = cc
 
--- the target of a point that stands behind the first parenthesis
+-- the target of a point that follows the first parenthesis
 target_of : (x y z : List ℕ) (more : List Argument) (p : Point) → HasCoordinates x y z p
     → IsTarget (Single (codes "X") x ∷ Single (codes "Y") y ∷ Single (codes "Z") z ∷ more) p
 target_of x y z more p h =
@@ -34,7 +34,7 @@ written_move ts text rest p h e f =
       ijk = refl;
     }
 
--- the direction behind three axes
+-- the direction after three axes
 fourth_found : (x y z : List ℕ) (a : Argument) (words : List ℕ × List ℕ × List ℕ) → triple_of (codes "IJK") a ≡ Some words
     → triple_named (codes "IJK") (Single (codes "X") x ∷ Single (codes "Y") y ∷ Single (codes "Z") z ∷ a ∷ []) ≡ Some words
 fourth_found x y z a words e = rw e refl
@@ -50,7 +50,7 @@ written_touch ts text rest p d h e f =
       ijk = (refl, record { words = f.words; found = fourth_found h.x h.y h.z f.argument f.words f.found; reads = f.reads });
     }
 
--- what three words behind three axes say
+-- what three words after three axes say
 pub along_behind : (ts us : List Token) (a : Argument) (words : List ℕ × List ℕ × List ℕ) (o : Option Direction)
     → triple_of (codes "IJK") a ≡ Some words → ts ≡ Comma ∷ (argument_tokens a ++ us) → us ≡ Close ∷ []
     → ReadsDirection words.0 words.1 words.2 (Ok o) → IfSome o (λ d. EndsWithAlong ts d)

@@ -73,7 +73,7 @@ pub record EndsWithAlong (ts : List Token) (d : Direction) : Type 0 where
   pub spelled : ts ≡ Comma ∷ (argument_tokens argument ++ (Close ∷ []))
   pub reads : ReadsDirection words.0 words.1 words.2 (Ok (Some d))
 
--- beside the axes nothing, or a direction
+-- besides the axes: nothing, or a direction
 abbrev pub HasIjk : List Argument → Option Direction → Type 0
 HasIjk arguments None = length arguments ≡ 3
 HasIjk arguments (Some d) = (length arguments ≡ 4) × IsAlong arguments d
@@ -84,7 +84,7 @@ pub record IsTarget (arguments : List Argument) (p : Point) : Type 0 where
   pub y : IsAxis (codes "Y") arguments p.y
   pub z : IsAxis (codes "Z") arguments p.z
 
--- X, Y, Z and optionally IJK, in any order; since there are no more arguments than that, each stands there once
+-- X, Y, Z and optionally IJK, in any order; since there are no more arguments than that, each is there once
 pub record IsPlace (ts : List Token) (p : Point) (d : Option Direction) : Type 0 where
   pub arguments : List Argument
   pub spelled : ts ≡ enclosed (list_tokens arguments)
@@ -157,7 +157,7 @@ pub record IsTransformation (ts : List Token) (p : Point) : Type 0 where
   pub lengths : HasLengths words p
   pub angles : HasNoAngles words
 
--- what the tokens behind a command's name say
+-- what the tokens after a command's name say
 abbrev pub Says : Kind → List Token → Command → Type 0
 Says kind.StartSession ts c = (ts ≡ enclosed []) × (c ≡ command.StartSession)
 Says kind.EndSession ts c = (ts ≡ enclosed []) × (c ≡ command.EndSession)

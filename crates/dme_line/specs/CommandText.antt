@@ -22,13 +22,13 @@ pub record IsTagged (line : List ℕ) (tag : Tag) (text : List ℕ) : Type 0 whe
 abbrev pub is_name_part : ℕ → Bool
 is_name_part c = not (c == 32) && not (c == 40)
 
--- a text is a command's name and what stands behind it
+-- a text is a command's name and what follows it
 pub record IsNamed (text name rest : List ℕ) : Type 0 where
   pub parts : text ≡ name ++ rest
   pub whole : list_all is_name_part name ≡ true
   pub stop : (c : ℕ) (more : List ℕ) → rest ≡ c ∷ more → is_name_part c ≡ false
 
--- a tag, a space, a name and what stands behind it
+-- a tag, a space, a name and what follows it
 pub record Begins (line : List ℕ) (tag : Tag) (name rest : List ℕ) : Type 0 where
   pub text : List ℕ
   pub tagged : IsTagged line tag text

@@ -8,7 +8,7 @@ use Rattle.dme_line.specs.CommandText.{IsNamed}
 use Rattle.dme_line.specs.declared.commands.Kind.TheVariants.{IsHomed}
 use Rattle.dme_line.specs.declared.homed.NotHomedText.{NotHomedText}
 
--- one digit: 1 where the machine is homed, 0 where it is not
+-- one digit: 1 if the machine is homed, 0 if it is not
 abbrev pub homed_digit : Bool → List ℕ
 homed_digit true = codes "1"
 homed_digit false = codes "0"

@@ -28,13 +28,13 @@ pub record HasCoordinates (x y z : List ℕ) (p : Point) : Type 0 where
   pub y_reads : Reads 3 wire_limit y (Ok p.y)
   pub z_reads : Reads 3 wire_limit z (Ok p.z)
 
--- an axis of this name stands in front of the rest of a text
+-- an axis of this name is at the start of the rest of a text
 pub record BeginsWithAxis (letter : ℕ) (text rest : List ℕ) (value : ℤ) : Type 0 where
   pub numeral : List ℕ
   pub spelled : tokens text ≡ argument_tokens (Single (letter ∷ []) numeral) ++ tokens rest
   pub reads : Reads 3 wire_limit numeral (Ok value)
 
--- the three axes stand in front of the rest of a text
+-- the three axes are at the start of the rest of a text
 pub record BeginsWithPoint (text rest : List ℕ) (p : Point) : Type 0 where
   pub x : List ℕ
   pub y : List ℕ
@@ -51,7 +51,7 @@ pub record IsPointText (text : List ℕ) (p : Point) : Type 0 where
   pub spelled : tokens text ≡ point_tokens x y z
   pub reads : HasCoordinates x y z p
 
--- reading a point text gives its point, or that it is none
+-- reading a point text gives its point, or reports that it is not one
 abbrev pub ReadsPoint : List ℕ → Result Point NotPoint → Type 0
 ReadsPoint text (Ok p) = IsPointText text p
 ReadsPoint text (Err fault) = (p : Point) → IsPointText text p → ⊥

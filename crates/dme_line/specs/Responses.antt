@@ -42,7 +42,7 @@ pub record IsWritableResponse (r : Response) : Type 0 where
 abbrev pub are_spaces : List ℕ → Bool
 are_spaces text = list_all (λ c. c == 32) text
 
--- what stands behind a response's tag and space; an error may lack its text with the space in front of it
+-- what follows a response's tag and space; an error may lack its text with the space in front of it
 abbrev pub IsMarkText : List ℕ → Mark → Type 0
 IsMarkText text Ack = (spaces : List ℕ) × (text ≡ 38 ∷ spaces) × (are_spaces spaces ≡ true)
 IsMarkText text (Given given) = text ≡ 35 ∷ 32 ∷ given
@@ -63,23 +63,23 @@ HoldsText (Given text) = Unit {0}
 HoldsText Done = ⊥
 HoldsText (Error text) = Unit {0}
 
--- the line stands for a response that holds a text; memory can be wanted for that text alone
+-- the line stands for a response that holds a text; only making that text can run out of memory
 abbrev pub HoldsResponseText : List ℕ → Type 0
 HoldsResponseText line = (r : Response) × IsResponseLine line r × HoldsText r.mark
 
--- reading a line gives its response, or that it is none
+-- reading a line gives its response, or reports that it is not one
 abbrev pub ReadsResponse : List ℕ → Result Response NotResponse → Type 0
 ReadsResponse line (Ok r) = IsResponseLine line r
 ReadsResponse line (Err fault) = (r : Response) → IsResponseLine line r → ⊥
 
--- a mark with the text that stands in a line
+-- a mark with the text that is in a line
 abbrev pub the_mark : MarkSlice → Mark
 the_mark marks.Ack = Ack
 the_mark (marks.Given text) = Given text.now
 the_mark marks.Done = Done
 the_mark (marks.Error text) = Error text.now
 
--- the response whose text stands in a line, and the reading that gives it
+-- the response whose text is in a line, and the reading that gives it
 abbrev pub the_response : ResponseSlice → Response
 the_response r = record { tag = r.tag; mark = the_mark r.mark }
 

@@ -12,7 +12,7 @@ four_digits n = last_digit (n / 1000) ∷ last_digit (n / 100) ∷ last_digit (n
 abbrev pub five_digits : ℕ → List ℕ
 five_digits n = last_digit (n / 10000) ∷ four_digits n
 
--- a tag as it stands in a line: five digits, or E and four digits
+-- a tag as written in a line: five digits, or E and four digits
 abbrev pub written_tag : Tag → List ℕ
 written_tag (Std n) = five_digits n
 written_tag (Event n) = 69 ∷ four_digits n
@@ -22,7 +22,7 @@ abbrev pub IsTag : Tag → Type 0
 IsTag (Std n) = n ≤ 99999
 IsTag (Event n) = n ≤ 9999
 
--- a line can be written under a tag: its number has room in its digits, and the line has room for so many bytes
+-- a line can be written under a tag: its number has room in its digits, and the line has room for that many bytes
 abbrev pub HasRoomUnder : {X Z : Type 0} → Tag → Vec X Z → ℕ → Type 0
 HasRoomUnder tag out count = IsTag tag × HasRoom out count
 

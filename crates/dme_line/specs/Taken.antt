@@ -30,7 +30,7 @@ the_seven t = record { system = t.system.now; x = t.x.now; y = t.y.now; z = t.z.
 abbrev pub the_words : Bor (List ℕ) × Bor (List ℕ) × Bor (List ℕ) → List ℕ × List ℕ × List ℕ
 the_words w = (w.0.now, w.1.now, w.2.now)
 
--- a word without a quote in front and one behind
+-- a word without a quote at its start and one at its end
 abbrev pub bare_word : List ℕ → List ℕ
 bare_word word = if nat_le 2 (length word) && ((slice_index word 0 == 34) && (slice_index word (length word - 1) == 34)) then take
     (length word - 2) (drop 1 word) else word

@@ -1,4 +1,4 @@
--- What arguments and point texts are made of: marks and words, with any number of spaces beside them (this profile).
+-- What arguments and point texts are made of: marks and words, with any number of spaces next to them (this profile).
 use Rattle.std.specs.Prelude.{ℕ, Bool, false, not, ◌&&◌, ◌||◌, ◌==◌, if◌then◌else◌, List, [], ◌∷◌}
 
 -- a parenthesis, a comma, or a word

@@ -20,7 +20,7 @@ line_end = 13 ∷ 10 ∷ []
 abbrev pub quoted : List ℕ → List ℕ
 quoted text = 34 ∷ (text ++ 34 ∷ [])
 
--- a text that a line can hold: at most so many bytes, none of them CR or LF
+-- a text that a line can hold: at most that many bytes, none of them CR or LF
 pub record IsWireText (limit : ℕ) (text : List ℕ) : Type 0 where
   pub free : list_all is_content text ≡ true
   pub short : length text ≤ limit

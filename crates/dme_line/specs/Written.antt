@@ -1,4 +1,4 @@
--- The written form of a command line (I++ DME Interface version 1): one space behind the tag and behind each comma, no other space.
+-- The written form of a command line (I++ DME Interface version 1): one space after the tag and after each comma, no other space.
 use Rattle.std.specs.Prelude.{ℕ, List, [], ◌∷◌, ◌++◌, Option, Some, None, codes}
 use Rattle.fixed_um.specs.Names.{IsName}
 use Rattle.fixed_um.specs.Points.{IsInVolume}
@@ -14,7 +14,7 @@ use Rattle.dme_line.specs.Kinds.{kind_of, kind_name, csy_name, IsTagOf}
 use Rattle.dme_line.specs.Words.{quoted}
 use Rattle.dme_line.specs.Points.{written_point, IsOnWire}
 
--- the direction of a touch, where one is given
+-- the direction of a touch, if one is given
 abbrev pub written_ijk : Option Direction → List ℕ
 written_ijk None = []
 written_ijk (Some d) = codes ", IJK(" ++ (written_direction d (codes ", ") ++ codes ")")
@@ -48,7 +48,7 @@ abbrev pub HasVolumeLengths : Command → Type 0
 HasVolumeLengths (SetCsyTransformation p) = IsInVolume p
 HasVolumeLengths _ = Unit {0}
 
--- a direction, where one is given
+-- a direction, if one is given
 abbrev pub IsIjk : Option Direction → Type 0
 IsIjk None = Unit {0}
 IsIjk (Some d) = IsDirection d

@@ -4,7 +4,7 @@ ghost use Rattle.std.specs.Prelude.{◌≡◌, ◌+◌, ◌++◌, ◌≤◌, dro
 ghost use Rattle.fixed_um.specs.Calls.{Grows, HasRoom};
 ghost use Rattle.dme_line.specs.Words.{quoted};
 
-/// Appends a text, where the caller has made room for it.
+/// Appends a text; the caller must have made room for it.
 pub(crate) fn append_reserved(out: &mut Vec<u8>, text: &[u8])
     requires { HasRoom out.old (length text.now) }
     ensures text { out.new.items ≡ out.old.items ++ text.now }
@@ -13,7 +13,7 @@ pub(crate) fn append_reserved(out: &mut Vec<u8>, text: &[u8])
     out.extend_from_slice(text).unwrap();
 }
 
-/// Appends a text in quotes, where the caller has made room for it.
+/// Appends a text in quotes; the caller must have made room for it.
 pub(crate) fn append_quoted_reserved(out: &mut Vec<u8>, text: &[u8])
     requires { HasRoom out.old (2 + length text.now) }
     ensures text { out.new.items ≡ out.old.items ++ quoted text.now }

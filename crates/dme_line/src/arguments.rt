@@ -14,7 +14,7 @@ pub(crate) enum Argument<'a> {
     Triple(&'a [u8], &'a [u8], &'a [u8], &'a [u8]),
 }
 
-/// A named argument and what stands behind it; `None` where none comes first.
+/// A named argument and what follows it; `None` if none comes first.
 pub(crate) fn take_argument(bytes: &[u8]) -> Option<(Argument<'_>, &[u8])>
     ensures { MatchOption result
         ((a : GivenArgument) (ts : List Token) → tokens bytes.now ≡ argument_tokens a ++ ts → ⊥)
@@ -53,7 +53,7 @@ pub(crate) fn is_closed(bytes: &[u8]) -> bool
     }
 }
 
-/// A comma and a named argument, and what stands behind them.
+/// A comma and a named argument, and what follows them.
 pub(crate) fn take_next(bytes: &[u8]) -> Option<(Argument<'_>, &[u8])>
     ensures { MatchOption result
         ((a : GivenArgument) (ts : List Token) → tokens bytes.now ≡ Comma
@@ -63,7 +63,7 @@ pub(crate) fn take_next(bytes: &[u8]) -> Option<(Argument<'_>, &[u8])>
     take_argument(take_mark(bytes, b',')?)
 }
 
-/// Three or four named arguments in their parentheses, and nothing behind them.
+/// Three or four named arguments in their parentheses, and nothing after them.
 pub(crate) fn read_place(bytes: &[u8]) -> Option<Place<'_>>
     ensures { MatchOption result
         ((arguments : List GivenArgument) → IsPlaceLong arguments
@@ -128,7 +128,7 @@ pub(crate) struct Transformation<'a> {
     pub c: &'a [u8],
 }
 
-/// A comma and a word, and what stands behind them.
+/// A comma and a word, and what follows them.
 fn take_next_word(bytes: &[u8]) -> Option<(&[u8], &[u8])>
     ensures { MatchOption result
         ((w : List ℕ) (ts : List Token) → tokens bytes.now ≡ Comma ∷ Word w ∷ ts → ⊥)
@@ -137,7 +137,7 @@ fn take_next_word(bytes: &[u8]) -> Option<(&[u8], &[u8])>
     take_word(take_mark(bytes, b',')?)
 }
 
-/// Seven words in their parentheses, and nothing behind them.
+/// Seven words in their parentheses, and nothing after them.
 pub(crate) fn read_transformation(bytes: &[u8]) -> Option<Transformation<'_>>
     ensures { MatchOption result
         ((words : Seven) → tokens bytes.now ≡ enclosed (seven_tokens words) → ⊥)

@@ -37,7 +37,7 @@ pub enum Command {
     /// Asks for the three coordinates as the data of each touch.
     OnPtMeasReport,
     GoTo(Point),
-    /// A touch at a point, with the direction where one is given.
+    /// A touch at a point, with the direction if one is given.
     PtMeas(Point, Option<Dir>),
     ChangeTool(Name),
     /// The machine's zero point in part coordinates: a part position is the machine position plus these lengths (this profile).

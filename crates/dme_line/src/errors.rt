@@ -22,7 +22,7 @@ pub enum ErrorNumber {
     NoTag,
     /// A tag under which a command runs or waits.
     TagInUse,
-    /// A name that is none of a command.
+    /// A name that is not a command's.
     UnknownCommand,
     /// Arguments that do not read, or a tag that is not of the command's kind.
     BadArguments,
@@ -161,9 +161,9 @@ fn write_report_reserved(out: &mut Vec<u8>, error: ErrorNumber, kind: Option<Kin
 }
 
 /// Appends the line of an error without its end, as `00005 ! Error(3, 9010, "GoTo", "Not homed")`, at most 68 bytes,
-/// where the caller has made room for them. The command's name is empty where there is no kind.
+/// and the caller must have made room for them. The command's name is empty if there is no kind.
 ///
-/// The caller owes a tag whose number has room in its digits.
+/// Requires a tag whose number has room in its digits.
 #[tactic(auto, unfolding(crate::specs::Errors::written_error))]
 pub fn write_error_reserved(out: &mut Vec<u8>, tag: Tag, error: ErrorNumber, kind: Option<Kind>)
     requires { HasRoomUnder tag out.old error_most }
@@ -176,9 +176,9 @@ pub fn write_error_reserved(out: &mut Vec<u8>, tag: Tag, error: ErrorNumber, kin
 }
 
 /// Appends the line of an error without its end, as `00005 ! Error(3, 9010, "GoTo", "Not homed")`.
-/// Only want of memory is an `Err`, and then nothing is appended.
+/// Fails only if out of memory, and then appends nothing.
 ///
-/// The caller owes a tag whose number has room in its digits, and a code from 9001 to 9015.
+/// Requires a tag whose number has room in its digits, and a code from 9001 to 9015.
 pub fn write_error(
     out: &mut Vec<u8>,
     tag: Tag,

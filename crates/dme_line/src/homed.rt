@@ -19,15 +19,15 @@ pub const HOMED_MAX: usize = 10;
 #[derive(Clone, Copy, Debug, PartialEq, Eq)]
 pub struct NotHomedText;
 
-/// The digit of an answer: 1 where the machine is homed, 0 where it is not.
+/// The digit of an answer: 1 if the machine is homed, 0 if it is not.
 fn digit(homed: bool) -> &'static [u8]
     ensures { result.now ≡ homed_digit homed }
 {
     if homed { b"1" } else { b"0" }
 }
 
-/// Appends the answer to `IsHomed`, as `IsHomed(1)` where the machine is homed and `IsHomed(0)` where it is not,
-/// where the caller has made room for its ten bytes.
+/// Appends the answer to `IsHomed`, as `IsHomed(1)` if the machine is homed and `IsHomed(0)` if it is not,
+/// and the caller must have made room for its ten bytes.
 pub fn write_homed_reserved(out: &mut Vec<u8>, homed: bool)
     requires { HasRoom out.old homed_most }
     ensures text { out.new.items ≡ out.old.items ++ written_homed homed }
@@ -38,8 +38,8 @@ pub fn write_homed_reserved(out: &mut Vec<u8>, homed: bool)
     out.push_reserved(b')');
 }
 
-/// Appends the answer to `IsHomed`, as `IsHomed(1)` where the machine is homed and `IsHomed(0)` where it is not.
-/// Only want of memory is an `Err`, and then nothing is appended.
+/// Appends the answer to `IsHomed`, as `IsHomed(1)` if the machine is homed and `IsHomed(0)` if it is not.
+/// Fails only if out of memory, and then appends nothing.
 pub fn write_homed(out: &mut Vec<u8>, homed: bool) -> Result<(), AllocError>
     ensures { Writes result out.old out.new (written_homed homed) }
 {
@@ -76,7 +76,7 @@ fn said_by_call(text: &[u8]) -> Result<bool, NotHomedText>
 }
 
 /// Whether the machine is homed by the text of an answer to `IsHomed`: `IsHomed(1)` or `IsHomed(0)`, the name in any case and
-/// with any number of spaces beside the parentheses and at the end, but none in front; or the digit alone. Takes no memory.
+/// with any number of spaces next to the parentheses and at the end, but none in front; or the digit alone. Does not allocate.
 pub fn read_homed(text: &[u8]) -> Result<bool, NotHomedText>
     ensures { ReadsHomed text.now result }
 {

@@ -9,7 +9,7 @@ ghost use Rattle.fixed_um.specs.Written.{written, written_direction};
 
 use fixed_um::{Dir, Um, read_um, write_dir_reserved, write_um_before, write_um_reserved};
 
-/// Appends a length, where the caller has made room for it. As every length it is within the wire limit.
+/// Appends a length; the caller must have made room for it. As every length it is within the wire limit.
 pub(crate) fn write_length_reserved(out: &mut Vec<u8>, length: Um)
     requires { HasRoom out.old 12 }
     ensures text { out.new.items ≡ out.old.items ++ written length }
@@ -33,7 +33,7 @@ pub(crate) fn put_length_before(text: &mut [u8], end: usize, value: Um) -> usize
     write_um_before(text, end, value)
 }
 
-/// Appends the components of a direction with a comma and a space between each two, where the caller has made room for them.
+/// Appends the components of a direction with a comma and a space between each two; the caller must have made room for them.
 /// As every direction it is not all zero.
 pub(crate) fn write_direction_reserved(out: &mut Vec<u8>, direction: Dir)
     requires { HasRoom out.old 49 }

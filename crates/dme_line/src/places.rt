@@ -102,7 +102,7 @@ impl<'a> Place<'a> {
     }
 }
 
-/// The direction behind the three axes, and nothing behind it.
+/// The direction after the three axes, and nothing after it.
 fn read_direction(bytes: &[u8]) -> Option<Dir>
     ensures { IfSome result (λ d. EndsWithAlong (tokens bytes.now) d) }
 {
@@ -117,8 +117,8 @@ fn read_direction(bytes: &[u8]) -> Option<Dir>
     }
 }
 
-/// The target and the direction, if one is given, of a touch behind its opening parenthesis, its axes in their written form and read at
-/// once. `None` says nothing: it may stand there in another form, or be none.
+/// The target and the direction, if one is given, of a touch after its opening parenthesis, its axes in their written form and read at
+/// once. `None` says nothing: it may be there in another form, or not at all.
 #[inline(always)]
 pub(crate) fn read_written_touch(bytes: &[u8]) -> Option<(Point, Option<Dir>)>
     ensures { IfSome result (λ t. IsPlace (Open ∷ tokens bytes.now) t.0 t.1) }
@@ -133,7 +133,7 @@ pub(crate) fn read_written_touch(bytes: &[u8]) -> Option<(Point, Option<Dir>)>
     Some((target, Some(along)))
 }
 
-/// The target of a move behind its opening parenthesis, its axes in their written form. `None` says nothing, as with a touch.
+/// The target of a move after its opening parenthesis, its axes in their written form. `None` says nothing, as with a touch.
 #[inline(always)]
 pub(crate) fn read_written_move(bytes: &[u8]) -> Option<Point>
     ensures { IfSome result (λ p. IsPlace (Open ∷ tokens bytes.now) p None) }
@@ -147,7 +147,7 @@ pub(crate) fn read_written_move(bytes: &[u8]) -> Option<Point>
     None
 }
 
-/// The target and the direction, if one is given, of a touch whose arguments stand in any order and form.
+/// The target and the direction, if one is given, of a touch whose arguments are in any order and form.
 pub(crate) fn read_touch(bytes: &[u8]) -> Option<(Point, Option<Dir>)>
     ensures { MatchOption result
         ((p : Point) (d : Option Direction) → IsPlace (tokens bytes.now) p d → ⊥)

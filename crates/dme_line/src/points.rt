@@ -22,7 +22,7 @@ pub const POINT_MAX: usize = 49;
 pub struct NotPoint;
 
 /// Appends the text of a point in millimetres, as `X(10.000), Y(20.000), Z(-0.001)`, at most 49 bytes,
-/// where the caller has made room for them.
+/// and the caller must have made room for them.
 pub fn write_point_reserved(out: &mut Vec<u8>, point: Point)
     requires { HasRoom out.old point_most }
     ensures text { out.new.items ≡ out.old.items ++ written_point point }
@@ -41,7 +41,7 @@ pub fn write_point_reserved(out: &mut Vec<u8>, point: Point)
 }
 
 /// Appends the text of a point in millimetres, as `X(10.000), Y(20.000), Z(-0.001)`.
-/// Only want of memory is an `Err`, and then nothing is appended.
+/// Fails only if out of memory, and then appends nothing.
 pub fn write_point(out: &mut Vec<u8>, point: Point) -> Result<(), AllocError>
     ensures writes { Writes result out.old out.new (written_point point) }
     ensures on_wire { OnOk result (IsOnWire point) }
@@ -51,8 +51,8 @@ pub fn write_point(out: &mut Vec<u8>, point: Point) -> Result<(), AllocError>
     Ok(())
 }
 
-/// The micrometres of an axis that stands in front in its written form, with no spaces, and what stands behind it.
-/// `None` says nothing: the axis may stand there in another form.
+/// The micrometres of an axis in its written form, with no spaces, at the start of a text, and what follows it.
+/// `None` says nothing: the axis may be there in another form.
 #[inline(always)]
 fn cut_written_axis(bytes: &[u8], letter: u8) -> Option<(i64, &[u8])>
     requires { is_word_byte letter ≡ true }
@@ -71,7 +71,7 @@ fn cut_written_axis(bytes: &[u8], letter: u8) -> Option<(i64, &[u8])>
     Some((micrometres, rest))
 }
 
-/// What stands behind a comma and a space.
+/// What follows a comma and a space.
 fn cut_written_comma(bytes: &[u8]) -> Option<&[u8]>
     ensures { IfSome result (λ rest. tokens bytes.now ≡ Comma ∷ tokens rest.now) }
 {
@@ -81,7 +81,7 @@ fn cut_written_comma(bytes: &[u8]) -> Option<&[u8]>
     }
 }
 
-/// The word of an axis that is named by one capital letter, and what stands behind it.
+/// The word of an axis that is named by one capital letter, and what follows it.
 fn take_axis(bytes: &[u8], letter: u8) -> Option<(&[u8], &[u8])>
     ensures { MatchOption result
         ((word : List ℕ) (ts : List Token) → tokens bytes.now
@@ -135,7 +135,7 @@ fn point_of(x: i64, y: i64, z: i64) -> Option<Point>
     Some(Point { x, y, z })
 }
 
-/// A point that stands in front in its written form, and what stands behind it, read at once. `None` says nothing: the point may stand
+/// A point in its written form at the start of a text, and what follows it, read at once. `None` says nothing: the point may stand
 /// there in another form, or be none.
 pub(crate) fn cut_written_point(text: &[u8]) -> Option<(Point, &[u8])>
     ensures { IfSome result (λ p. BeginsWithPoint text.now p.1.now p.0) }
@@ -147,7 +147,7 @@ pub(crate) fn cut_written_point(text: &[u8]) -> Option<(Point, &[u8])>
     Some((point, rest))
 }
 
-/// The point of a text with no space in front whose axes stand in their written form. `None` says nothing: they may stand in another
+/// The point of a text with no space in front whose axes are in their written form. `None` says nothing: they may have another
 /// form, or there may be none.
 fn read_written_point(text: &[u8]) -> Option<Point>
     requires { (more : List ℕ) → text.now ≡ 32 ∷ more → ⊥ }
@@ -176,8 +176,8 @@ fn read_any_point(text: &[u8]) -> Result<Point, NotPoint>
     }
 }
 
-/// The point of a text in millimetres, as `X(10.000), Y(20.000), Z(-0.001)`. The axes stand in this order, named by capital letters,
-/// with any number of spaces beside parentheses and commas and at the end, but none in front. Takes no memory.
+/// The point of a text in millimetres, as `X(10.000), Y(20.000), Z(-0.001)`. The axes are in this order, named by capital letters,
+/// with any number of spaces next to parentheses and commas and at the end, but none in front. Does not allocate.
 pub fn read_point(text: &[u8]) -> Result<Point, NotPoint>
     ensures { ReadsPoint text.now result }
 {

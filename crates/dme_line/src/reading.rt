@@ -23,13 +23,13 @@ use std::alloc::{AllocError, Global};
 pub enum LineFault {
     /// The line does not begin with a tag, other than number 0, and one space.
     NoTag,
-    /// The name is none that is known.
+    /// The name is not a known one.
     UnknownCommand(Tag),
     /// The arguments don't read, or the tag is not of the command's kind.
     BadArguments(Tag, Kind),
 }
 
-/// A tag that a command can have at the front of a line, and what stands behind the space that follows it.
+/// A tag that a command can have at the start of a line, and what follows the space that follows it.
 fn cut_numbered_tag(line: &[u8]) -> Option<(Tag, &[u8])>
     ensures { MatchOption result
         ((tag : Tag) (text : List ℕ) → IsTagged line.now tag text → ⊥)
@@ -51,7 +51,7 @@ fn name_len(text: &[u8]) -> usize
         .count()
 }
 
-/// A command's name and what stands behind it.
+/// A command's name and what follows it.
 pub(crate) fn cut_name(text: &[u8]) -> (&[u8], &[u8])
     ensures { IsNamed text.now result.0.now result.1.now }
 {
@@ -82,7 +82,7 @@ fn find_kind(name: &[u8]) -> Option<Kind>
         .find(|kind| is_word(kind.name(), name))
 }
 
-/// The kind that a name most likely is of, by its first letter and its length. It is looked at first: a wrong one costs time alone.
+/// The kind that a name most likely is of, by its first letter and its length. It is tried first: a wrong one only costs time.
 fn likely_kind(name: &[u8]) -> Kind {
     match name.first() {
         Some(b'G') => Kind::GoTo,
@@ -143,7 +143,7 @@ fn read_set_coord_system(bytes: &[u8]) -> Option<Command>
     Some(Command::SetCoordSystem(read_system(bytes)?))
 }
 
-/// Only want of memory is an `Err`.
+/// Fails only if out of memory.
 fn read_change_tool(alloc: Global, bytes: &[u8]) -> Result<Option<Command>, AllocError>
     ensures read { IfOk result (λ o. Finds o (Says Kind.ChangeTool (tokens bytes.now))) }
     ensures err { OnErr result ((word : List ℕ) × IsOneWord (tokens bytes.now) word) }
@@ -154,7 +154,7 @@ fn read_change_tool(alloc: Global, bytes: &[u8]) -> Result<Option<Command>, Allo
     }
 }
 
-/// The command of a kind that the bytes behind its name say. Only want of memory is an `Err`.
+/// The command of a kind that the bytes after its name say. Fails only if out of memory.
 fn read_arguments(alloc: Global, kind: Kind, bytes: &[u8]) -> Result<Option<Command>, AllocError>
     ensures read { IfOk result (λ o. Finds o (Says kind (tokens bytes.now))) }
     ensures err { OnErr result ((kind ≡ Kind.ChangeTool)
@@ -176,7 +176,7 @@ fn read_arguments(alloc: Global, kind: Kind, bytes: &[u8]) -> Result<Option<Comm
     }
 }
 
-/// The target of a `GoTo` behind the tag and its space, its name and axes in their written form and read at once. `None` says nothing:
+/// The target of a `GoTo` after the tag and its space, its name and axes in their written form and read at once. `None` says nothing:
 /// the text may stand for one in another form, or for none.
 #[inline(always)]
 fn read_written_go_to(text: &[u8]) -> Option<Point>
@@ -199,7 +199,7 @@ fn read_written_pt_meas(text: &[u8]) -> Option<(Point, Option<Dir>)>
     }
 }
 
-/// The command of a text behind a tag and its space, in any form; or why there is none.
+/// The command of a text after a tag and its space, in any form; or why there is none.
 #[inline(never)]
 fn read_any_command(
     alloc: Global,
@@ -225,8 +225,9 @@ fn read_any_command(
 
 /// The command that a line without its end stands for, with its tag; or why it stands for none.
 ///
-/// Names of commands, axes and coordinate systems are read in any case, with any number of spaces beside parentheses and commas
-/// and behind the last parenthesis. Only want of memory is an outer `Err`, and only for the name of a tool; the same line may be read again.
+/// Names of commands, axes and coordinate systems are read in any case, with any number of spaces next to parentheses and commas
+/// and after the last parenthesis. The outer `Err` means out of memory, and comes only for the name of a tool. The same line may be
+/// read again.
 pub fn read_command(
     alloc: Global,
     line: &[u8],

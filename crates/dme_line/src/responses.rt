@@ -25,16 +25,16 @@ pub const DATA_MAX: usize = 57;
 /// The most bytes that the line of the answer to `IsHomed` has, without its end.
 pub const HOMED_DATA_MAX: usize = 18;
 
-/// What a response says of its command (I++ DME Interface version 1).
+/// What a response reports about its command (I++ DME Interface version 1).
 #[derive(Debug, Drop)]
 pub enum Mark {
     /// `&`: the command was received.
     Ack,
-    /// `#`: data. A text that is written owes to be at most 192 bytes long, and free of CR and LF.
+    /// `#`: data. To be written, a text must have at most 192 bytes and no CR or LF.
     Given(Text),
     /// `%`: the command is complete.
     Done,
-    /// `!`: an error. The text owes what that of `Given` does.
+    /// `!`: an error. The text has the same limits as that of `Given`.
     Error(Text),
 }
 
@@ -69,9 +69,9 @@ fn write_mark_reserved(out: &mut Vec<u8>, mark: &Mark)
     }
 }
 
-/// Appends the line of a response without its end, as `00008 %`, at most 200 bytes, where the caller has made room for them.
+/// Appends the line of a response without its end, as `00008 %`, at most 200 bytes; the caller must have made room for them.
 ///
-/// The caller owes a tag whose number has room in its digits, and a text of at most 192 bytes without CR and LF.
+/// Requires a tag whose number has room in its digits, and a text of at most 192 bytes without CR and LF.
 pub fn write_response_reserved(out: &mut Vec<u8>, response: &Response)
     requires response { IsWritableResponse response.now }
     requires room { HasRoom out.old response_most }
@@ -83,9 +83,9 @@ pub fn write_response_reserved(out: &mut Vec<u8>, response: &Response)
     write_mark_reserved(out, &response.mark);
 }
 
-/// Appends the line of a response without its end, as `00008 %`. Only want of memory is an `Err`, and then nothing is appended.
+/// Appends the line of a response without its end, as `00008 %`. Fails only if out of memory, and then appends nothing.
 ///
-/// The caller owes what `write_response_reserved` says, but for the room.
+/// The caller must ensure what `write_response_reserved` requires, except the room.
 pub fn write_response(out: &mut Vec<u8>, response: &Response) -> Result<(), AllocError>
     requires { IsWritableResponse response.now }
     ensures writes { Writes result out.old out.new (written_response response.now) }
@@ -95,10 +95,10 @@ pub fn write_response(out: &mut Vec<u8>, response: &Response) -> Result<(), Allo
     Ok(())
 }
 
-/// Appends the line that a command was received without its end, as `00008 &`, of seven bytes, where the caller has made room for them.
+/// Appends the line that a command was received without its end, as `00008 &`, of seven bytes; the caller must have made room for them.
 /// It is what `write_response_reserved` appends of `Mark::Ack`.
 ///
-/// The caller owes a tag whose number has room in its digits.
+/// Requires a tag whose number has room in its digits.
 pub fn write_received_reserved(out: &mut Vec<u8>, tag: Tag)
     requires { HasRoomUnder tag out.old bare_most }
     ensures text { out.new.items ≡ out.old.items
@@ -109,10 +109,10 @@ pub fn write_received_reserved(out: &mut Vec<u8>, tag: Tag)
     append_reserved(out, b" &");
 }
 
-/// Appends the line that a command is complete without its end, as `00008 %`, of seven bytes, where the caller has made room for them.
+/// Appends the line that a command is complete without its end, as `00008 %`, of seven bytes; the caller must have made room for them.
 /// It is what `write_response_reserved` appends of `Mark::Done`.
 ///
-/// The caller owes a tag whose number has room in its digits.
+/// Requires a tag whose number has room in its digits.
 pub fn write_complete_reserved(out: &mut Vec<u8>, tag: Tag)
     requires { HasRoomUnder tag out.old bare_most }
     ensures text { out.new.items ≡ out.old.items
@@ -123,7 +123,7 @@ pub fn write_complete_reserved(out: &mut Vec<u8>, tag: Tag)
     append_reserved(out, b" %");
 }
 
-/// Appends the front of a data line, its tag and mark, where the caller has made room for its eight bytes.
+/// Appends the start of a data line, its tag and mark; the caller must have made room for its eight bytes.
 fn write_data_front_reserved(out: &mut Vec<u8>, tag: Tag)
     requires { HasRoomUnder tag out.old 8 }
     ensures text { out.new.items ≡ out.old.items ++ (written_tag tag ++ codes " # ") }
@@ -134,9 +134,9 @@ fn write_data_front_reserved(out: &mut Vec<u8>, tag: Tag)
 }
 
 /// Appends the line of a data response without its end, as `00008 # X(1.000), Y(2.000), Z(3.000)`, at most 57 bytes,
-/// where the caller has made room for them. It is what `write_response_reserved` appends of `Mark::Given` with the text of the point.
+/// and the caller must have made room for them. It is what `write_response_reserved` appends of `Mark::Given` with the text of the point.
 ///
-/// The caller owes a tag whose number has room in its digits.
+/// Requires a tag whose number has room in its digits.
 pub fn write_data_reserved(out: &mut Vec<u8>, tag: Tag, point: Point)
     requires { HasRoomUnder tag out.old data_most }
     ensures text { out.new.items ≡ out.old.items ++ written_response (data_response tag point) }
@@ -148,9 +148,9 @@ pub fn write_data_reserved(out: &mut Vec<u8>, tag: Tag, point: Point)
 }
 
 /// Appends the line of a data response without its end, as `00008 # X(1.000), Y(2.000), Z(3.000)`.
-/// Only want of memory is an `Err`, and then nothing is appended.
+/// Fails only if out of memory, and then appends nothing.
 ///
-/// The caller owes what `write_data_reserved` says, but for the room.
+/// The caller must ensure what `write_data_reserved` requires, except the room.
 pub fn write_data(out: &mut Vec<u8>, tag: Tag, point: Point) -> Result<(), AllocError>
     requires { IsTag tag }
     ensures writes { Writes result out.old out.new (written_response (data_response tag point)) }
@@ -161,11 +161,11 @@ pub fn write_data(out: &mut Vec<u8>, tag: Tag, point: Point) -> Result<(), Alloc
     Ok(())
 }
 
-/// Appends the line of the answer to `IsHomed` without its end, as `00003 # IsHomed(1)` where the machine is homed and
-/// `00003 # IsHomed(0)` where it is not, of 18 bytes, where the caller has made room for them.
+/// Appends the line of the answer to `IsHomed` without its end, as `00003 # IsHomed(1)` if the machine is homed and
+/// `00003 # IsHomed(0)` if it is not, of 18 bytes; the caller must have made room for them.
 /// It is what `write_response_reserved` appends of `Mark::Given` with the text of the answer.
 ///
-/// The caller owes a tag whose number has room in its digits.
+/// Requires a tag whose number has room in its digits.
 pub fn write_homed_data_reserved(out: &mut Vec<u8>, tag: Tag, homed: bool)
     requires { HasRoomUnder tag out.old homed_data_most }
     ensures text { out.new.items ≡ out.old.items ++ written_response (homed_response tag homed) }
@@ -175,10 +175,10 @@ pub fn write_homed_data_reserved(out: &mut Vec<u8>, tag: Tag, homed: bool)
     write_homed_reserved(out, homed);
 }
 
-/// Appends the line of the answer to `IsHomed` without its end, as `00003 # IsHomed(1)` where the machine is homed and
-/// `00003 # IsHomed(0)` where it is not. Only want of memory is an `Err`, and then nothing is appended.
+/// Appends the line of the answer to `IsHomed` without its end, as `00003 # IsHomed(1)` if the machine is homed and
+/// `00003 # IsHomed(0)` if it is not. Fails only if out of memory, and then appends nothing.
 ///
-/// The caller owes what `write_homed_data_reserved` says, but for the room.
+/// The caller must ensure what `write_homed_data_reserved` requires, except the room.
 pub fn write_homed_data(out: &mut Vec<u8>, tag: Tag, homed: bool) -> Result<(), AllocError>
     requires { IsTag tag }
     ensures { Writes result out.old out.new (written_response (homed_response tag homed)) }
@@ -194,7 +194,7 @@ fn are_spaces(text: &[u8]) -> bool
     text.iter().all(|byte| *byte == b' ')
 }
 
-/// A mark whose text stands in the line that it was read from.
+/// A mark whose text is in the line that it was read from.
 #[derive(Clone, Copy, Debug)]
 pub enum MarkSlice<'a> {
     /// `&`: the command was received.
@@ -207,14 +207,14 @@ pub enum MarkSlice<'a> {
     Error(&'a [u8]),
 }
 
-/// A response whose text stands in the line that it was read from.
+/// A response whose text is in the line that it was read from.
 #[derive(Clone, Copy, Debug)]
 pub struct ResponseSlice<'a> {
     pub tag: Tag,
     pub mark: MarkSlice<'a>,
 }
 
-/// The mark that stands behind a response's tag and space.
+/// The mark that follows a response's tag and space.
 fn cut_mark(text: &[u8]) -> Option<MarkSlice<'_>>
     ensures { MatchOption result
         ((mark : Mark) → IsMarkText text.now mark → ⊥)
@@ -230,9 +230,9 @@ fn cut_mark(text: &[u8]) -> Option<MarkSlice<'_>>
     }
 }
 
-/// The response that a line without its end stands for, its text left where it stands. Takes no memory.
+/// The response that a line without its end stands for, its text left in its place in the line. Does not allocate.
 ///
-/// Spaces behind `&` and `%` are accepted; a `!` with nothing behind it has an empty text.
+/// Spaces after `&` and `%` are accepted; a `!` with nothing after it has an empty text.
 pub fn cut_response(line: &[u8]) -> Result<ResponseSlice<'_>, NotResponse>
     ensures { ReadsResponse line.now (the_reading result) }
 {
@@ -245,7 +245,7 @@ pub fn cut_response(line: &[u8]) -> Result<ResponseSlice<'_>, NotResponse>
     }
 }
 
-/// A mark with a text of its own. Only want of memory is an `Err`.
+/// A mark with a text of its own. Fails only if out of memory.
 fn copied(alloc: Global, mark: MarkSlice<'_>) -> Result<Mark, AllocError>
     ensures read { IfOk result (λ m. m ≡ the_mark mark.entry) }
     ensures err { OnErr result (HoldsText (the_mark mark.entry)) }
@@ -260,7 +260,7 @@ fn copied(alloc: Global, mark: MarkSlice<'_>) -> Result<Mark, AllocError>
 
 /// The response that a line without its end stands for, with a text of its own.
 ///
-/// It is that of `cut_response`. Only want of memory is an outer `Err`, and only for the text of a response; the same line may be
+/// It is that of `cut_response`. The outer `Err` means out of memory, and comes only for the text of a response; the same line may be
 /// read again.
 pub fn read_response(
     alloc: Global,

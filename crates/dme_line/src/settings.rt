@@ -14,7 +14,7 @@ use crate::tokens::{is_word, take_mark, take_word};
 use fixed_um::{Name, Point, is_zero};
 use std::alloc::{AllocError, Global};
 
-/// What stands behind an axis by this name with nothing in its parentheses.
+/// What follows an axis by this name with nothing in its parentheses.
 fn take_empty_axis<'a>(bytes: &'a [u8], name: &[u8]) -> Option<&'a [u8]>
     ensures { MatchOption result
         ((w : List ℕ) (ts : List Token) → tokens bytes.now ≡ Word w ∷ Open ∷ Close ∷ ts
@@ -68,7 +68,7 @@ fn unquoted(word: &[u8]) -> &[u8]
     }
 }
 
-/// The name of a tool, in quotes or not. Only want of memory is an `Err`.
+/// The name of a tool, in quotes or not. Fails only if out of memory.
 pub(crate) fn read_tool(alloc: Global, bytes: &[u8]) -> Result<Option<Name>, AllocError>
     ensures read { IfOk result (λ tool. Finds tool (IsTool (tokens bytes.now))) }
     ensures err { OnErr result ((word : List ℕ) × IsOneWord (tokens bytes.now) word) }

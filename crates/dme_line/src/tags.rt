@@ -8,7 +8,7 @@ ghost use Rattle.fixed_um.specs.Written.{last_digit};
 /// The tag of a line: five decimal digits, or `E` and four digits. A response has the tag of its command;
 /// the event tag number 0 marks what a server says unasked (I++ DME Interface version 1).
 ///
-/// Who writes a tag owes a number of at most 99,999, or 9,999 for an event tag.
+/// Writing a tag requires a number of at most 99,999, or 9,999 for an event tag.
 #[derive(Clone, Copy, Debug, PartialEq, Eq)]
 pub enum Tag {
     Std(u32),
@@ -34,7 +34,7 @@ pub(crate) fn write_four_digits_reserved(out: &mut Vec<u8>, value: u32)
     out.push_reserved(b'0' + (back % 10) as u8);
 }
 
-/// Appends the five bytes of a tag, where the caller has made room for them.
+/// Appends the five bytes of a tag; the caller must have made room for them.
 pub(crate) fn write_tag_reserved(out: &mut Vec<u8>, tag: Tag)
     requires { HasRoom out.old 5 }
     ensures text { out.new.items ≡ out.old.items ++ written_tag tag }
@@ -62,7 +62,7 @@ fn digit(byte: u8) -> Option<u32>
     Some(u32::from(byte - b'0'))
 }
 
-/// The number that four digits write; `None` where they are not all digits.
+/// The number that four digits write; `None` if they are not all digits.
 fn four_digits_value(a: u8, b: u8, c: u8, d: u8) -> Option<u32>
     ensures { MatchOption result
         ((n : ℕ) → four_digits n ≡ a ∷ b ∷ c ∷ d ∷ [] → ⊥)
@@ -71,7 +71,7 @@ fn four_digits_value(a: u8, b: u8, c: u8, d: u8) -> Option<u32>
     Some(digit(a)? * 1000 + digit(b)? * 100 + digit(c)? * 10 + digit(d)?)
 }
 
-/// The number that five digits write; `None` where they are not all digits.
+/// The number that five digits write; `None` if they are not all digits.
 fn five_digits_value(a: u8, b: u8, c: u8, d: u8, e: u8) -> Option<u32>
     ensures { MatchOption result
         ((n : ℕ) → five_digits n ≡ a ∷ b ∷ c ∷ d ∷ e ∷ [] → ⊥)
@@ -80,7 +80,7 @@ fn five_digits_value(a: u8, b: u8, c: u8, d: u8, e: u8) -> Option<u32>
     Some(digit(a)? * 10_000 + four_digits_value(b, c, d, e)?)
 }
 
-/// A tag at the front of a line and what stands behind the one space that follows it; `None` where the line begins otherwise.
+/// A tag at the start of a line and what follows the one space that follows it; `None` if the line begins otherwise.
 #[inline(always)]
 pub(crate) fn cut_tag(line: &[u8]) -> Option<(Tag, &[u8])>
     ensures { MatchOption result

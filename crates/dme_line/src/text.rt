@@ -20,7 +20,7 @@ impl Model for Text {
 }
 
 impl Text {
-    /// A text with these bytes. Only want of memory is an `Err`.
+    /// A text with these bytes. Fails only if out of memory.
     pub fn new(alloc: Global, bytes: &[u8]) -> Result<Text, AllocError>
         ensures { IfOk result (λ text. text ≡ bytes.now) }
     {

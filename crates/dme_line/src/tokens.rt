@@ -1,4 +1,4 @@
-// Taking marks and words off the front of a text. Spaces in front of them mean nothing.
+// Taking marks and words off the start of a text. Spaces in front of them mean nothing.
 
 ghost use Rattle.std.specs.Prelude.{◌≡◌, ◌≢◌, ◌≤◌, ◌↔◌, ℕ, true, List, [], ◌∷◌, length, IsTrue, MatchOption};
 ghost use Rattle.std.specs.List.{prefix_len};
@@ -42,7 +42,7 @@ fn word_len(bytes: &[u8]) -> usize
     bytes.iter().take_while(|byte| is_word_byte(**byte)).count()
 }
 
-/// What stands behind a parenthesis or comma; `None` where another token comes first, or none.
+/// What follows a parenthesis or comma; `None` if another token or no token comes first.
 pub(crate) fn take_mark(bytes: &[u8], mark: u8) -> Option<&[u8]>
     requires { is_mark mark ≡ true }
     ensures { MatchOption result
@@ -56,7 +56,7 @@ pub(crate) fn take_mark(bytes: &[u8], mark: u8) -> Option<&[u8]>
     Some(rest)
 }
 
-/// A word and what stands behind it; `None` where another token comes first, or none.
+/// A word and what follows it; `None` if another token or no token comes first.
 pub(crate) fn take_word(bytes: &[u8]) -> Option<(&[u8], &[u8])>
     ensures { MatchOption result
         ((w : List ℕ) (ts : List Token) → tokens bytes.now ≡ Word w ∷ ts → ⊥)

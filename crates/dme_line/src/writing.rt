@@ -21,7 +21,7 @@ pub const COMMAND_MAX: usize = 200;
 /// The bytes of the end of a line.
 pub const LINE_END_LENGTH: usize = 2;
 
-/// Appends the end of a line, CR LF (I++ DME Interface version 1), where the caller has made room for its two bytes.
+/// Appends the end of a line, CR LF (I++ DME Interface version 1); the caller must have made room for its two bytes.
 pub fn write_line_end_reserved(out: &mut Vec<u8>)
     requires { HasRoom out.old line_end_length }
     ensures text { out.new.items ≡ out.old.items ++ line_end }
@@ -114,9 +114,9 @@ fn write_call_reserved(out: &mut Vec<u8>, command: &Command)
     }
 }
 
-/// Appends the line of a command without its end, as `00003 Home()`, at most 200 bytes, where the caller has made room for them.
+/// Appends the line of a command without its end, as `00003 Home()`, at most 200 bytes; the caller must have made room for them.
 ///
-/// The caller owes a tag of the command's kind, an event tag for `AbortE` and a standard tag for all others, other than number 0,
+/// Requires a tag of the command's kind, an event tag for `AbortE` and a standard tag for all others, other than number 0,
 /// and lengths of a `SetCsyTransformation` within the volume limit. The lengths are written as they stand.
 #[tactic(auto, unfolding(crate::specs::Written::written_command))]
 pub fn write_command_reserved(out: &mut Vec<u8>, tag: Tag, command: &Command)
@@ -132,9 +132,9 @@ pub fn write_command_reserved(out: &mut Vec<u8>, tag: Tag, command: &Command)
     out.push_reserved(b')');
 }
 
-/// Appends the line of a command without its end, as `00003 Home()`. Only want of memory is an `Err`, and then nothing is appended.
+/// Appends the line of a command without its end, as `00003 Home()`. Fails only if out of memory, and then appends nothing.
 ///
-/// The caller owes what `write_command_reserved` says, but for the room.
+/// The caller must ensure what `write_command_reserved` requires, except the room.
 pub fn write_command(out: &mut Vec<u8>, tag: Tag, command: &Command) -> Result<(), AllocError>
     requires tag { IsTagOf (kind_of command.now) tag }
     requires lengths { HasVolumeLengths command.now }

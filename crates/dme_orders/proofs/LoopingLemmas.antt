@@ -1,4 +1,4 @@
--- What follows from how both ends have had their turns.
+-- What follows from the turns that both ends have taken.
 use Rattle.std.proofs.Common.{◌≡◌, inr, ℕ, Option, None, Some, List, [], Result, Ok, Err, OnOk, subst}
 use Rattle.std.specs.Prelude.{IfErr}
 use Rattle.fixed_um.specs.declared.lengths.Point.{Point}

@@ -1,4 +1,4 @@
--- What only proofs speak of.
+-- What only proofs mention.
 use Rattle.std.specs.Prelude.{ℕ, ◌+◌, List, [], ◌∷◌, ◌++◌}
 use Rattle.protocol_model.specs.declared.plans.Planned.{Planned}
 use Rattle.dme_orders.specs.Numbered.{number_behind, line_under}

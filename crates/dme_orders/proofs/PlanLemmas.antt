@@ -1,4 +1,4 @@
--- Numbers that are counted on.
+-- Numbers that are counted up.
 use Rattle.std.proofs.Common.{◌≡◌, ℕ, ◌+◌, ◌%◌, Bool, true, false, cond, ◌==◌, ◌<◌, length, length-append, List, [], ◌∷◌, ◌++◌, refl, ap}
 use Rattle.std.proofs.Common.{◌∙◌, arith, append_assoc}
 use Rattle.std.proofs.lemmas.Bool.{eqb-true, eqb-false}
@@ -10,12 +10,12 @@ use Rattle.dme_orders.specs.Plan.{lines_behind, plan_text}
 use Rattle.dme_orders.specs.Numbered.{number_behind}
 use Rattle.dme_orders.proofs.NumberedLines.{lines_from}
 
--- the number behind is that of one command more
+-- the next number is that of one command more
 number_step : (count : ℕ) (b : Bool) → (count % 9999 + 1 == 9999) ≡ b → cond b 1 (count % 9999 + 1 + 1) ≡ (count + 1) % 9999 + 1
 number_step count true e = let h = eqb-true (count % 9999 + 1) 9999 e in omega arith
 number_step count false e = let h = eqb-false (count % 9999 + 1) 9999 e in omega arith
 
--- counting on gives the tags of the plan
+-- counting up gives the tags of the plan
 pub lines_counted : (count : ℕ) (ps : List Planned) → lines_from (count % 9999 + 1) ps ≡ lines_behind count ps
 lines_counted count [] = refl
 lines_counted count (p ∷ ps) =
@@ -23,7 +23,7 @@ lines_counted count (p ∷ ps) =
     ∙ ap (λ (text : List ℕ). written_command (Std (count % 9999 + 1)) p.command ++ (10 ∷ text))
     (ap (λ (n : ℕ). lines_from n ps) (number_step count (count % 9999 + 1 == 9999) refl) ∙ lines_counted (count + 1) ps)
 
--- text behind other text, with a byte of its own
+-- text after other text, with a byte of its own
 some_behind : (front back : List ℕ) → 0 < length (front ++ 10 ∷ back)
 some_behind front back = let all : length (front ++ 10 ∷ back) ≡ length front + length (10 ∷ back) = length-append front (10 ∷ back)
     in omega arith

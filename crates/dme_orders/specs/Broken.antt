@@ -10,7 +10,7 @@ use Rattle.link_world.specs.declared.connections.links.LoopFault.TheVariants as 
 use Rattle.dme_orders.specs.declared.faults.OrderFault.{OrderFault}
 use Rattle.dme_orders.specs.declared.faults.OrderFault.TheVariants as fault
 
--- this fault blames a port: it broke the connection off only where the port has failed, and it did where a port that worked has failed
+-- this fault blames a port: it broke the connection off only if the port has failed, and it did if a port that worked has failed
 abbrev pub Blames : LoopFault → Option LoopFault → Bool → Bool → Type 0
 Blames fault broken before after = (broken ≡ Some fault → after ≡ true) × (before ≡ false → after ≡ true → broken ≡ Some fault)
 
@@ -24,13 +24,13 @@ abbrev pub BlamesServer : Option LoopFault → (read read_now written written_no
 BlamesServer broken read read_now written written_now =
     Blames (link.Server pump.ReadFailed) broken read read_now × Blames (link.Server pump.WriteFailed) broken written written_now
 
--- what a client's refusal says of its connection
+-- what a client's refusal says about its connection
 abbrev pub client_cause : ClientFault → List ℕ
 client_cause (client_fault.Faulted cause) = codes "the server answered what has no place\n"
 client_cause client_fault.NotNow = codes "the client is on no connection\n"
 client_cause client_fault.Memory = codes "the client is on no connection\n"
 
--- what a server's refusal says of its connection
+-- what a server's refusal says about its connection
 abbrev pub server_cause : ServerFault → List ℕ
 server_cause (server_fault.Framing why) = codes "the client sent bytes that are no lines\n"
 server_cause _ = codes "the server is on no connection\n"
@@ -55,13 +55,13 @@ abbrev pub IsConnectionShown : List ℕ → OrderFault → Type 0
 IsConnectionShown line (fault.ConnectionFailed cause) = cause.now ≡ line
 IsConnectionShown line _ = ⊥
 
--- running out of memory is shown as such, all else as a connection that failed, with the cause where it is asked for
+-- running out of memory is shown as such, all else as a connection that failed, with the cause if that is asked for
 abbrev pub IsBreakShown : LoopFault → Bool → OrderFault → Type 0
 IsBreakShown (link.Client pump.Memory) told shown = shown ≡ fault.Memory
 IsBreakShown (link.Server pump.Memory) told shown = shown ≡ fault.Memory
 IsBreakShown why told shown = IsConnectionShown (if told then cause_of why else []) shown
 
--- 4 for want of memory, 1 for all else
+-- 4 if out of memory, 1 for all else
 abbrev pub break_status : LoopFault → ℕ
 break_status (link.Client pump.Memory) = 4
 break_status (link.Server pump.Memory) = 4

@@ -1,4 +1,4 @@
--- What a program leaves that is run on a server over a connection (this profile).
+-- What running a program on a server over a connection leaves (this profile).
 use Rattle.std.specs.Prelude.{◌≡◌, ◌⊎◌, ℕ, Bool, true, false, List, codes, Option, None, Some, IfSome}
 use Rattle.contact_ledger.specs.FeatureTexts.{features_text, header}
 use Rattle.contact_ledger.specs.declared.features.Feature.{Feature}
@@ -17,7 +17,7 @@ RunCame old new left left_now taken taken_now None = ClientRan old new left left
 RunCame old new left left_now taken taken_now (Some (link.Client fault)) = ClientRunStopped old new left left_now taken taken_now fault
 RunCame old new left left_now taken taken_now (Some (link.Server fault)) = ⊥
 
--- what a file tells that is replaced as a whole: its text, if it does, and whether it has failed
+-- what a file that is replaced as a whole reports: its text, if it does, and whether it has failed
 pub record FileTold : Type 0 where
   pub text : Option (List ℕ)
   pub failed : Bool
@@ -30,11 +30,11 @@ abbrev pub Keeps : Bool → (old new : FileTold) → (List ℕ → Type 0) → T
 Keeps true old new Holds = (new.failed ≡ false) × IfSome new.text Holds
 Keeps false old new Holds = (new.failed ≡ true) × (new.text ≡ old.text)
 
--- the written form of these features, in the version of today
+-- the written form of these features, in the present version
 abbrev pub IsFeaturesText : List Feature → List ℕ → Type 0
 IsFeaturesText features text = (version : _) × (header version ≡ codes "DME-FEATURES 2") × (text ≡ features_text version features)
 
--- what the ports of a client, its watcher and its features file tell
+-- what the ports of a client, its watcher and its features file report
 pub record RunTold : Type 0 where
   pub left : Option (List ℕ)
   pub taken : Option (List ℕ)
@@ -44,8 +44,8 @@ pub record RunTold : Type 0 where
 abbrev pub run_told : (left taken : Option (List ℕ)) → Option (List Note) → FileTold → RunTold
 run_told left taken told file = record { left = left; taken = taken; told = told; file = file }
 
--- a client has had its turns on its connection, and its watcher was told of what they completed; this is how that has ended,
--- this the report of what it then is, and the file keeps the features that it then holds, each of them
+-- a client has taken its turns on its connection, and what they completed was reported to its watcher; this is how that ended, this is the
+-- report of what it then is, and the file keeps the features that it then holds, each of them
 pub record LeavesRun (first : ClientEnd) (old new : RunTold) (driven : RunEnd) (text : List ℕ) : Type 0 where
   pub last : ClientEnd
   pub came : RunCame first last old.left new.left old.taken new.taken driven.ended.broken
@@ -54,8 +54,8 @@ pub record LeavesRun (first : ClientEnd) (old new : RunTold) (driven : RunEnd) (
   pub kept : Keeps driven.is_kept old.file new.file (IsFeaturesText last.client.table.tally.features)
   pub told : text ≡ report_text (end_shown last)
 
--- a client has had its turns on its connection, as far as it came, and its watcher was told of what they completed; the file is
--- as it was, or keeps the features that the client then holds
+-- a client has taken its turns on its connection, as far as it came, and what they completed was reported to its watcher; the file is as it
+-- was, or keeps the features that the client then holds
 pub record LeavesFile (first : ClientEnd) (old new : RunTold) : Type 0 where
   pub last : ClientEnd
   pub broken : Option LoopFault
@@ -64,6 +64,6 @@ pub record LeavesFile (first : ClientEnd) (old new : RunTold) : Type 0 where
   pub kept : (new.file ≡ old.file)
       ⊎ ((is_kept : Bool) × Keeps is_kept old.file new.file (IsFeaturesText last.client.table.tally.features))
 
--- where there is no memory, nothing has moved, or the client has had its turns
+-- if out of memory, nothing has moved, or the client has taken its turns
 abbrev pub StopsRun : ClientEnd → (old new : RunTold) → Type 0
 StopsRun first old new = (new ≡ old) ⊎ LeavesFile first old new

@@ -1,4 +1,4 @@
--- The two ends of an order's connection: how they stand on it at first, and what is shown of them (this profile).
+-- The two ends of an order's connection: their first states on it, and what is shown of them (this profile).
 use Rattle.std.specs.Prelude.{ℕ, List, [], length}
 use Rattle.contact_ledger.specs.declared.acts.Act.{Act}
 use Rattle.contact_ledger.specs.declared.features.Feature.{Feature}
@@ -16,7 +16,7 @@ first_client program kept window = end_connected 1 (new_client_end program kept 
 abbrev pub first_server : SetupValue → ServerEnd
 first_server setup = serving_accepted 1 (new_server_end setup.tools)
 
--- what is shown of a client beside a server's ledger
+-- what is shown of a client and a server's ledger
 abbrev pub ends_shown : ClientEnd → List (ℕ × Act) → Report
 ends_shown e ledger = record {
   state = e.client.state;
@@ -25,6 +25,6 @@ ends_shown e ledger = record {
   contacts = reported ledger;
 }
 
--- what is shown of a client where no ledger is at hand
+-- what is shown of a client without a ledger
 abbrev pub end_shown : ClientEnd → Report
 end_shown e = ends_shown e []

@@ -15,7 +15,7 @@ use Rattle.dme_orders.specs.Reading.{Came}
 use Rattle.dme_orders.specs.declared.reading.FilesFault.{FilesFault}
 use Rattle.dme_orders.specs.declared.reading.FilesFault.TheVariants as files
 
--- the text is that of a table in a form; of a drawing it is not said what it shows
+-- the text is that of a table in a form; what a drawing shows is not specified
 abbrev pub IsInForm : Form → List Row → List ℕ → Type 0
 IsInForm Csv rows text = text ≡ csv_text rows
 IsInForm Json rows text = text ≡ json_of rows
@@ -28,7 +28,7 @@ pub record LeavesTable (form : Form) (program : Meaning) (features : List Featur
   pub are : AllZip IsRow (places_of program.features features) rows
   pub told : IsInForm form rows text
 
--- the features are not the first ones of the program; or memory is wanting
+-- the features are not the first ones of the program; or memory ran out
 abbrev pub RefusesFeatures : Meaning → List Feature → FilesFault → Type 0
 RefusesFeatures program features cause =
     ((cause ≡ files.NotOurs) × (are_ours program.features features ≡ false)) ⊎ (cause ≡ files.Memory)

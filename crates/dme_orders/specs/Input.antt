@@ -10,7 +10,7 @@ use Rattle.dme_orders.specs.declared.reading.FilesFault.{FilesFault}
 use Rattle.dme_orders.specs.Reading.{Came, came, IsUntouched, ReadsSetup, WhyNoSetup, ReadsSchedule, WhyNoSchedule, ReadsFeatures}
 use Rattle.dme_orders.specs.Reading.{WhyNoFeatures, ReadsContacts, WhyNoContacts, ReadsProgram, WhyNoProgram}
 
--- a file stands before others: it is blamed for a reason of its own, and the others are untouched; or it is accepted, and one of the others
+-- a file comes before others: it is blamed for a reason of its own, and the others are untouched; or it is accepted, and one of the others
 -- is blamed
 abbrev pub InTurn : {A : Type 0} → (Read : A → Type 0) → (Why : FilesFault → Type 0) → (others : Type 0) → (Rest : A → FilesFault → Type 0)
     → FilesFault → Type 0
@@ -18,7 +18,7 @@ InTurn Read Why others Rest fault = (Why fault × others) ⊎ ((said : _) × Rea
 
 -- ---- a setup that may be named
 
--- the source of a setup before and after a call, where a setup is named
+-- the source of a setup before and after a call, if a setup is named
 pub record Named (S : Type 0) : Type 0 where
   pub left : S → Option (List ℕ)
   pub has_failed : S → Bool
@@ -29,7 +29,7 @@ abbrev pub named : {S : Type 0} → (S → Option (List ℕ)) → (S → Bool) �
 named left has_failed old new = record { left = left; has_failed = has_failed; old = old; new = new }
 
 module _ {S : Type 0} (left : S → Option (List ℕ)) (has_failed : S → Bool) where
-  -- the setup that is named, or none where none is
+  -- the setup that is named, or none if none is named
   abbrev pub IsNamed : (old new : Option S) → Option SetupValue → Type 0
   IsNamed (Some old) (Some new) (Some said) = ReadsSetup (came left has_failed old new) said
   IsNamed None None None = Unit {0}
@@ -70,7 +70,7 @@ module _ {S F R : Type 0} (s : Came S) (f : Came F) (r : Came R) where
   WhyNoRun = InTurn (ReadsSetup s) (WhyNoSetup s) (IsUntouched f × IsUntouched r) (λ setup.
       InTurn (ReadsFeatures f) (WhyNoFeatures f) (IsUntouched r) (λ features. WhyNoProgram r setup.frames))
 
--- a setup where one is named, and a program under its frames
+-- a setup if one is named, and a program under its frames
 pub record CheckInput : Type 0 where
   pub setup : Option SetupValue
   pub program : Meaning
@@ -118,7 +118,7 @@ module _ {S F C R : Type 0} (s : Came S) (f : Came F) (c : Came C) (r : Came R) 
       InTurn (ReadsFeatures f) (WhyNoFeatures f) (IsUntouched c × IsUntouched r) (λ features.
       InTurn (ReadsContacts c) (WhyNoContacts c) (IsUntouched r) (λ ledger. WhyNoProgram r setup.frames)))
 
--- features, and a program under the frames of a setup, where one is named
+-- features, and a program under the frames of a setup, if one is named
 pub record ExportInput : Type 0 where
   pub setup : Option SetupValue
   pub features : List Feature

@@ -1,4 +1,4 @@
--- What a program leaves that is run over one connection between both ends (this profile).
+-- What running a program over one connection between both ends leaves (this profile).
 use Rattle.std.specs.Prelude.{◌≡◌, ◌⊎◌, ℕ, List, [], Option, None, Some}
 use Rattle.tool_rack.specs.Setups.{SetupValue}
 use Rattle.dmis_program.specs.Meaning.{Meaning}
@@ -13,7 +13,7 @@ use Rattle.link_world.specs.declared.connections.links.LoopFault.{LoopFault}
 use Rattle.dme_orders.specs.Ends.{first_client, first_server, ends_shown}
 use Rattle.dme_orders.specs.declared.ended.ConnectionEnd.{ConnectionEnd}
 
--- what the four ports of a connection's two ends and the client's watcher tell
+-- what the four ports of a connection's two ends and the client's watcher report
 pub record LoopTold : Type 0 where
   pub client_left : Option (List ℕ)
   pub client_taken : Option (List ℕ)
@@ -35,8 +35,8 @@ abbrev pub LoopCame : (Job → ℕ → Outcome) → ClientSide → ClientSide �
 LoopCame answer c c_now s s_now None = LoopRan answer c c_now s s_now
 LoopCame answer c c_now s s_now (Some fault) = LoopStopped answer c c_now s s_now fault
 
--- the client of a program and the server of a setup with its simulated machine, both on connection 1, have had their turns, which have ended
--- so, and the watcher was told of what they completed
+-- the client of a program and the server of a setup with its simulated machine, both on connection 1, have taken their turns, which ended
+-- so, and what they completed was reported to the watcher
 pub record LoopsOver (window : ℕ) (setup : SetupValue) (program : Meaning) (ports ports_now : LoopTold) (broken : Option LoopFault) : Type 0
   where
     pub client : ClientEnd
@@ -48,7 +48,7 @@ pub record LoopsOver (window : ℕ) (setup : SetupValue) (program : Meaning) (po
         (server_side server ports_now.server_left ports_now.server_taken) broken
     pub watched : TellsRun (first_client program [] window) client ports.told ports_now.told
 
--- they have had their turns; this is how that has ended, and this the report of what they then are
+-- they have taken their turns; this is how that ended, and this is the report of what they then are
 pub record LeavesLoop (window : ℕ) (setup : SetupValue) (program : Meaning) (ports ports_now : LoopTold) (ended : ConnectionEnd)
     (text : List ℕ)
     : Type 0 where
@@ -56,7 +56,7 @@ pub record LeavesLoop (window : ℕ) (setup : SetupValue) (program : Meaning) (p
   pub stands : ended.state ≡ ends.client.client.state
   pub told : text ≡ report_text (ends_shown ends.client ends.server.server.ledger)
 
--- where there is no memory, nothing has moved, or they have had their turns
+-- if out of memory, nothing has moved, or they have taken their turns
 abbrev pub StopsLoop : (window : ℕ) → SetupValue → Meaning → (ports ports_now : LoopTold) → Type 0
 StopsLoop window setup program ports ports_now =
     (ports_now ≡ ports) ⊎ ((broken : Option LoopFault) × LoopsOver window setup program ports ports_now broken)

@@ -1,10 +1,10 @@
--- Lines under tags that are counted on, as the code keeps them. No clause of a public function cites this.
+-- Lines under tags that are counted up, as the code keeps them. No clause of a public function cites this.
 use Rattle.std.specs.Prelude.{ℕ, ◌+◌, ◌==◌, List, [], ◌∷◌, ◌++◌, if◌then◌else◌}
 use Rattle.dme_line.specs.declared.tags.Tag.TheVariants.{Std}
 use Rattle.dme_line.specs.declared.commands.Command.{Command}
 use Rattle.dme_line.specs.Written.{written_command}
 
--- the number behind another: from 1 to 9,999, and from 1 again
+-- the number after another: from 1 to 9,999, and from 1 again
 abbrev pub number_behind : ℕ → ℕ
 number_behind n = if n == 9999 then 1 else n + 1
 

@@ -5,7 +5,7 @@ use Rattle.byte_ports.specs.Transfers.{AppendsFront}
 use Rattle.dme_orders.specs.declared.reading.FilesFault.{FilesFault}
 use Rattle.dme_orders.specs.declared.reading.FilesFault.TheVariants as fault
 
--- a sink before and after a call: the bytes that it has taken, where it tells them, and whether it has failed
+-- a sink before and after a call: the bytes that it has taken, if it reports them, and whether it has failed
 pub record Went (W : Type 0) : Type 0 where
   pub taken : W → Option (List ℕ)
   pub has_failed : W → Bool
@@ -16,8 +16,8 @@ abbrev pub went : {W : Type 0} → (W → Option (List ℕ)) → (W → Bool) �
 went taken has_failed old new = record { taken = taken; has_failed = has_failed; old = old; new = new }
 
 module _ {A B W : Type 0} (Reads : A → Type 0) (Leaves : A → B → List ℕ → Type 0) (w : Went W) where
-  -- the files were read, and the text that is due was written after what was there, and nothing else; the sink works, unless there was nothing
-  -- to write
+  -- the files were read, and the text that is due was written after what was there, and nothing else; the sink works, unless there was
+  -- nothing to write
   pub record IsDone (end : B) : Type 0 where
     pub input : A
     pub read : Reads input
@@ -26,7 +26,7 @@ module _ {A B W : Type 0} (Reads : A → Type 0) (Leaves : A → B → List ℕ 
     pub written : Appends (w.taken w.old) (w.taken w.new) text
     pub works : (w.has_failed w.new ≡ false) ⊎ ((text ≡ []) × (w.new ≡ w.old))
 
-  -- the files were read, and the sink has failed, which has taken a prefix of the text that is due, short of all
+  -- the files were read, and the sink has failed and has taken a proper prefix of the text that is due
   pub record IsTorn : Type 0 where
     pub input : A
     pub read : Reads input
@@ -36,7 +36,7 @@ module _ {A B W : Type 0} (Reads : A → Type 0) (Leaves : A → B → List ℕ 
     pub front : AppendsFront (w.taken w.old) (w.taken w.new) text
     pub fails : w.has_failed w.new ≡ true
 
-  -- the order was not carried out: a file is blamed, or there is no memory for what is due, and the sink is untouched; or the sink has failed
+  -- the order was not carried out: a file is blamed, or memory ran out, and the sink is untouched; or the sink has failed
   pub data Stops (WhyNo : FilesFault → Type 0) (cause : FilesFault) : Type 0 where
     blamed : WhyNo cause → w.new ≡ w.old → Stops WhyNo cause
     no_memory : cause ≡ fault.Memory → (input : A) → Reads input → w.new ≡ w.old → Stops WhyNo cause
@@ -47,6 +47,6 @@ module _ {A B W : Type 0} (Reads : A → Type 0) (Leaves : A → B → List ℕ 
   Carries WhyNo (Ok end) = IsDone end
   Carries WhyNo (Err cause) = Stops WhyNo cause
 
--- what an order leaves that reads no file: its text was written, or there was no memory for it, or the sink has failed
+-- what an order that reads no file leaves: its text was written, or memory ran out, or the sink has failed
 abbrev pub Prints : {B W : Type 0} → (Leaves : B → List ℕ → Type 0) → Went W → Result B FilesFault → Type 0
 Prints Leaves w = Carries (λ (input : Unit {0}). Unit {0}) (λ input. Leaves) w (λ cause. ⊥)

@@ -1,4 +1,4 @@
--- The plan of a program as text: the commands of the whole plan on a new connection as lines under tags that are counted on (the lines are
+-- The plan of a program as text: the commands of the whole plan on a new connection as lines under tags that are counted up (the lines are
 -- those of the I++ DME Interface version 1, the tags this profile's).
 use Rattle.std.specs.Prelude.{ℕ, ◌+◌, ◌%◌, List, [], ◌∷◌, ◌++◌}
 use Rattle.dme_line.specs.declared.tags.Tag.{Tag}
@@ -9,11 +9,11 @@ use Rattle.protocol_model.specs.Plan.{plan}
 use Rattle.protocol_model.specs.declared.plans.Planned.{Planned}
 use Rattle.protocol_model.specs.declared.plans.Start.TheVariants.{NewConnection}
 
--- the tag of the command behind so many others: from 1 to 9,999, and from 1 again
+-- the tag of the command after that many others: from 1 to 9,999, and from 1 again
 abbrev pub tag_behind : ℕ → Tag
 tag_behind count = Std (count % 9999 + 1)
 
--- commands behind so many others as lines, each ended by LF
+-- commands after that many others as lines, each ended by LF
 abbrev pub lines_behind : ℕ → List Planned → List ℕ
 lines_behind count [] = []
 lines_behind count (p ∷ ps) = written_command (tag_behind count) p.command ++ (10 ∷ lines_behind (count + 1) ps)

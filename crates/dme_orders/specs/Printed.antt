@@ -16,7 +16,7 @@ use Rattle.refusal_guide.specs.declared.places.Refused.TheVariants as refused
 use Rattle.dme_orders.specs.declared.faults.OrderFault.{OrderFault}
 use Rattle.dme_orders.specs.declared.faults.OrderFault.TheVariants as fault
 
--- 1 for input that is refused, for files and for connections, 4 for want of memory
+-- 1 for input that is refused, for files and for connections, 4 if out of memory
 abbrev pub status_of : OrderFault → ℕ
 status_of (fault.Program cause) = 1
 status_of (fault.Setup cause) = 1

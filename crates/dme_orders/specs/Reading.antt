@@ -1,4 +1,4 @@
--- What reading a file of an order leaves, from any source that tells its bytes.
+-- What reading a file of an order leaves, from any source that reports its bytes.
 use Rattle.std.specs.Prelude.{◌≡◌, ℕ, List, [], Bool, false, Option, Some, Ok, Err, IfSome}
 use Rattle.fixed_um.specs.declared.lengths.Point.{Point}
 use Rattle.contact_ledger.specs.FeatureTexts.{IsFeatures, IsDamagedFeatures}
@@ -26,12 +26,12 @@ abbrev pub told_of_rows : RowsFault → FilesFault
 told_of_rows rows.NotOurs = fault.NotOurs
 told_of_rows rows.Memory = fault.Memory
 
--- a source that told this text was read to its end, and this holds of the text
+-- a source that reported this text was read to its end, and this holds of the text
 pub record WasRead (left : Option (List ℕ)) (Holds : List ℕ → Type 0) (text : List ℕ) : Type 0 where
   pub whole : left ≡ Some []
   pub holds : Holds text
 
--- a source before and after a call: the bytes that it has left, where it tells them, and whether it has failed
+-- a source before and after a call: the bytes that it has left, if it reports them, and whether it has failed
 pub record Came (S : Type 0) : Type 0 where
   pub left : S → Option (List ℕ)
   pub has_failed : S → Bool
@@ -45,17 +45,17 @@ came left has_failed old new = record { left = left; has_failed = has_failed; ol
 abbrev pub IsUntouched : {S : Type 0} → Came S → Type 0
 IsUntouched c = c.new ≡ c.old
 
--- a source was read to its end and has not failed, and this holds of its text, where it told one
+-- a source was read to its end and has not failed, and this holds of its text, if it reported one
 pub record Reads {S : Type 0} (c : Came S) (Holds : List ℕ → Type 0) : Type 0 where
   pub works : c.has_failed c.new ≡ false
   pub text : IfSome (c.left c.old) (WasRead (c.left c.new) Holds)
 
--- memory is wanting, and the source has not failed meanwhile
+-- memory ran out, and the source has not failed meanwhile
 abbrev pub IsStillWorking : Bool → Bool → Type 0
 IsStillWorking before after = before ≡ false → after ≡ false
 
 module _ {S : Type 0} (c : Came S) where
-  -- what the whole text of a source is called that was not read to its end
+  -- what the whole text of a source is called if it was not read to its end
   abbrev pub WhyNoText : Role → FilesFault → Type 0
   WhyNoText part (fault.Unread given) = (given ≡ part) × IsUnread c.left c.has_failed c.old c.new
   WhyNoText part fault.Memory = IsStillWorking (c.has_failed c.old) (c.has_failed c.new)
@@ -65,7 +65,8 @@ module _ {S : Type 0} (c : Came S) where
   abbrev pub ReadsSetup : SetupValue → Type 0
   ReadsSetup said = Reads c (λ text. setup_of text ≡ Ok said)
 
-  -- why there is none: its whole text is refused for what is due, which is never want of memory; or it was not read to its end
+  -- why there is no setup: its whole text is refused for the reason that is due, which is never running out of memory; or it was not read
+  -- to its end
   abbrev pub WhyNoSetup : FilesFault → Type 0
   WhyNoSetup (fault.Setup setup.Memory) = ⊥
   WhyNoSetup (fault.Setup cause) = Reads c (λ text. setup_of text ≡ Err cause)
@@ -75,7 +76,7 @@ module _ {S : Type 0} (c : Came S) where
   abbrev pub ReadsSchedule : List Instruction → Type 0
   ReadsSchedule said = Reads c (λ text. schedule_of text ≡ Ok said)
 
-  -- why there are none
+  -- why there are no such values
   abbrev pub WhyNoSchedule : FilesFault → Type 0
   WhyNoSchedule (fault.Schedule schedule.Memory) = ⊥
   WhyNoSchedule (fault.Schedule cause) = Reads c (λ text. schedule_of text ≡ Err cause)
@@ -85,7 +86,7 @@ module _ {S : Type 0} (c : Came S) where
   abbrev pub ReadsFeatures : List Feature → Type 0
   ReadsFeatures said = Reads c (λ text. IsFeatures text said)
 
-  -- why there are none
+  -- why there are no such values
   abbrev pub WhyNoFeatures : FilesFault → Type 0
   WhyNoFeatures (fault.Features (ledger.Damaged n)) = Reads c (λ text. IsDamagedFeatures text n)
   WhyNoFeatures given = WhyNoText role.Features given
@@ -94,7 +95,7 @@ module _ {S : Type 0} (c : Came S) where
   abbrev pub ReadsContacts : List (ℕ × Act) → Type 0
   ReadsContacts said = Reads c (λ text. IsContacts text said)
 
-  -- why there are none
+  -- why there are no such values
   abbrev pub WhyNoContacts : FilesFault → Type 0
   WhyNoContacts (fault.Contacts (ledger.Damaged n)) = Reads c (λ text. IsDamagedContacts text n)
   WhyNoContacts given = WhyNoText role.Contacts given
@@ -103,7 +104,7 @@ module _ {S : Type 0} (c : Came S) where
   abbrev pub ReadsProgram : List (List ℕ × Point) → Meaning → Type 0
   ReadsProgram frames said = Reads c (λ text. program_of frames text ≡ Ok said)
 
-  -- why there is none
+  -- why there is no such value
   abbrev pub WhyNoProgram : List (List ℕ × Point) → FilesFault → Type 0
   WhyNoProgram frames (fault.Program program.Memory) = ⊥
   WhyNoProgram frames (fault.Program (program.Refused refusal line)) =

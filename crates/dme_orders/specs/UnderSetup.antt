@@ -1,4 +1,4 @@
--- What checking a program leaves, under a setup where one is named (this profile).
+-- What checking a program leaves, under a setup if one is named (this profile).
 use Rattle.std.specs.Prelude.{◌≡◌, Result}
 use Rattle.dme_orders.specs.Input.{Named, ReadsCheck, WhyNoCheck}
 use Rattle.dme_orders.specs.Orders.{Went, Carries}

@@ -8,7 +8,7 @@ use Rattle.ledger_audit.specs.declared.verdicts.Verdict.TheVariants.{Starts, NoR
 use Rattle.protocol_model.specs.declared.states.State.{State}
 use Rattle.protocol_model.specs.declared.states.State.TheVariants.{Halted, Faulted}
 
--- 3 where the client was stopped, or met a line or a mark that has no place
+-- 3 if the client was stopped, or met an unexpected line or mark
 abbrev pub status_of_state : State → ℕ
 status_of_state Halted = 3
 status_of_state Faulted = 3

@@ -16,7 +16,7 @@ use dmis_program::Program;
 use ledger_audit::audit;
 use std::alloc::{AllocError, Global};
 
-/// The exit status of an audit, and its line. Only want of memory is an `Err`.
+/// The exit status of an audit, and its line. Fails only if out of memory.
 fn verdict_line(
     alloc: Global,
     program: &Program,
@@ -33,7 +33,7 @@ fn verdict_line(
     Ok((status, text))
 }
 
-/// The same of features, a ledger and a program that are given up.
+/// Likewise for features, a ledger and a program that are dropped.
 fn audited(
     alloc: Global,
     features: FeatureLedger,
@@ -92,7 +92,7 @@ fn audit_input<S: Source, F: Source, C: Source, R: Source>(
 /// the next is read; audits the features by the contacts; and writes the line of the verdict. It answers the exit status: 0 where every
 /// feature has its run, else 3.
 ///
-/// It writes only once the whole line stands. No file is blamed but for its own first refusal, or where it was not read.
+/// It writes only once the whole line is there. A file is blamed only for its own first refusal, or because it could not be read.
 pub fn audit_files<S: Source, F: Source, C: Source, R: Source, W: Sink>(
     alloc: Global,
     files: &mut AuditFiles<S, F, C, R>,

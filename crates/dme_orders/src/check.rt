@@ -1,4 +1,4 @@
-// The function behind `dme check`.
+// Checking a program: its plan as command lines, from any reader to any writer.
 
 ghost use Rattle.std.specs.Prelude.{◌≡◌, ◌⊎◌, ◌<◌, ◌≤◌, ◌*◌, length, Some, [], true, false, OnOk, IfOk, IfErr, IfSome, IsErrOf};
 ghost use Rattle.dmis_program.specs.Meaning.{program_of};
@@ -12,13 +12,13 @@ use std::alloc::{AllocError, Global};
 /// Why `check_plan` has not printed a plan.
 #[derive(Clone, Copy, Debug, PartialEq, Eq)]
 pub enum CheckFault {
-    /// The program is refused; never for want of memory.
+    /// The program is refused; never because memory ran out.
     Program(ProgramFault),
     /// The source has failed, or a million pulls have not come to the end of the input.
     Read,
-    /// The sink has failed; it may have taken a front of the text.
+    /// The sink has failed; it may have taken a prefix of the text.
     Write,
-    /// Want of memory.
+    /// Out of memory.
     Memory,
 }
 
@@ -108,8 +108,8 @@ fn checked_text<R: Source>(
 /// Reads a DMIS program to the end of its input, in at most a million pulls of at most 65,536 bytes, and writes the command lines
 /// of its plan on a new connection, each ended by LF, the i-th with tag `((i - 1) mod 9,999) + 1`.
 ///
-/// It writes only once the whole text stands: nothing is written on a refused program, a read that failed or want of memory. A port
-/// that fails is told, and no port is blamed otherwise, but for a source that has not ended after a million pulls.
+/// It writes only once the whole text is there: nothing is written if the program is refused, a read failed or memory ran out. A port
+/// that fails is reported, and no port is blamed otherwise, except a source that has not ended after a million pulls.
 pub fn check_plan<R: Source, W: Sink>(
     alloc: Global,
     frames: &Frames,
@@ -126,7 +126,7 @@ pub fn check_plan<R: Source, W: Sink>(
     ensures refused { IfErr result (BlamesProgram frames.now (R.left source.old)
         (R.left source.new)) }
 
-    // A source is blamed where it has failed, or has not ended after a million pulls, and only there.
+    // A source is blamed if it has failed, or has not ended after a million pulls, and only then.
     ensures unread { R.has_failed source.old ≡ false → R.has_failed source.new ≡ true
         → IsErrOf result CheckFault.Read }
     ensures long { IfSome (R.left source.old) (λ input. 999999 * 65536 < length input
@@ -134,14 +134,14 @@ pub fn check_plan<R: Source, W: Sink>(
     ensures read { IsErrOf result CheckFault.Read
         → IsUnread R.left R.has_failed source.old source.new }
 
-    // A sink is blamed where it has failed, and only there; it has taken a front of the text, short of all.
+    // A sink is blamed if it has failed, and only then; it has taken a proper prefix of the text.
     ensures unwritten { W.has_failed sink.old ≡ false → W.has_failed sink.new ≡ true
         → IsErrOf result CheckFault.Write }
     ensures write { IsErrOf result CheckFault.Write → W.has_failed sink.new ≡ true }
     ensures front { IsErrOf result CheckFault.Write → IfSome (R.left source.old) (λ input.
         PrintsFront frames.now input (W.taken sink.old) (W.taken sink.new)) }
 
-    // But for a sink that fails, nothing was written.
+    // Unless the sink failed, nothing was written.
     ensures silent { IfErr result (UnlessWrite (sink.new ≡ sink.old)) }
 {
     let text = checked_text(alloc, frames, source)?;

@@ -44,7 +44,7 @@ fn features_text(alloc: Global, client: &Client) -> Result<Vec<u8>, AllocError>
     Ok(text)
 }
 
-/// The features that a client holds are put in their file; whether that was possible. Only want of memory is an `Err`.
+/// The features that a client holds are put in their file; whether that was possible. Fails only if out of memory.
 fn keep_features<F: TextFile>(
     alloc: Global,
     client: &Client,
@@ -63,8 +63,7 @@ fn keep_features<F: TextFile>(
     }
 }
 
-/// A client has its turns, and its features are put in their file; how that has ended, and the report of it. Only want of memory is an
-/// `Err`.
+/// A client takes its turns, and its features are put in their file; how that ended, and the report of it. Fails only if out of memory.
 fn turned<R: Source, W: Sink, N: Watcher, F: TextFile>(
     alloc: Global,
     client: &mut Client,
@@ -99,9 +98,9 @@ fn turned<R: Source, W: Sink, N: Watcher, F: TextFile>(
     Ok((RunEnd { ended, is_kept }, text))
 }
 
-/// Runs a program on a server: a client that has come to its connection has its turns, its features are put in their file, and its report
-/// is written, without contacts. It answers how that has ended; both are done as well where a fault has broken the turns
-/// off, and the report is written as well where the file could not be. `Memory` and `Write` are the only `Err`s.
+/// Runs a program on a server: a client that has come to its connection takes its turns, its features are put in their file, and its report
+/// is written, without contacts. The answer is how that ended. Both are done also if a fault has broken the turns off, and the report is
+/// written also if the file could not be. `Memory` and `Write` are the only `Err`s.
 pub fn drive<R: Source, W: Sink, N: Watcher, F: TextFile, O: Sink>(
     alloc: Global,
     client: Client,
@@ -109,8 +108,8 @@ pub fn drive<R: Source, W: Sink, N: Watcher, F: TextFile, O: Sink>(
     watcher: &mut N,
     outputs: &mut RunOutputs<F, O>,
 ) -> Result<RunEnd, FilesFault>
-    // The report of what the client has become was written, its file keeps what it then holds, and the watcher was told of what was
-    // completed; or there was no memory for that, or the output has failed.
+    // The report of what the client has become was written, its file keeps what it then holds, and what was completed was reported to the
+    // watcher; or memory ran out, or the output has failed.
     ensures prints { Prints (LeavesRun client
         (run_told (R.left ports.old.source) (W.taken ports.old.sink) (N.told watcher.old)
         (file_told (F.kept outputs.old.features) (F.has_failed outputs.old.features)))
@@ -118,15 +117,15 @@ pub fn drive<R: Source, W: Sink, N: Watcher, F: TextFile, O: Sink>(
         (file_told (F.kept outputs.new.features) (F.has_failed outputs.new.features))))
         (went O.taken O.has_failed outputs.old.report outputs.new.report) result }
 
-    // Where there is no memory, nothing has moved; or the watcher was told of what was completed, and the file is as it was or keeps what
-    // the client then holds.
+    // If out of memory, nothing has moved; or what was completed was reported to the watcher, and the file is as it was or keeps what the
+    // client then holds.
     ensures stops { IsErrOf result FilesFault.Memory → StopsRun client
         (run_told (R.left ports.old.source) (W.taken ports.old.sink) (N.told watcher.old)
         (file_told (F.kept outputs.old.features) (F.has_failed outputs.old.features)))
         (run_told (R.left ports.new.source) (W.taken ports.new.sink) (N.told watcher.new)
         (file_told (F.kept outputs.new.features) (F.has_failed outputs.new.features))) }
 
-    // A port of the connection is told as what broke it off where it has failed, and only there.
+    // A port of the connection is reported as what broke it off if it has failed, and only then.
     ensures blamed { IfOk result (λ driven. BlamesClient driven.ended.broken
         (R.has_failed ports.old.source) (R.has_failed ports.new.source)
         (W.has_failed ports.old.sink) (W.has_failed ports.new.sink)) }

@@ -14,13 +14,13 @@ use server_core::ServerFault;
 /// How an order over a connection has ended.
 #[derive(Clone, Copy, Debug, PartialEq, Eq)]
 pub struct ConnectionEnd {
-    /// The state in which the client stands at last.
+    /// The last state of the client.
     pub state: State,
-    /// Why the connection was broken off, where it was.
+    /// Why the connection was broken off, if it was.
     pub broken: Option<LoopFault>,
 }
 
-/// What a client's refusal says of its connection, as a line.
+/// What a client's refusal says about its connection, as a line.
 fn client_cause(fault: ClientFault) -> &'static str
     ensures { result.now ≡ client_cause fault }
 {
@@ -30,7 +30,7 @@ fn client_cause(fault: ClientFault) -> &'static str
     }
 }
 
-/// What a server's refusal says of its connection, as a line.
+/// What a server's refusal says about its connection, as a line.
 fn server_cause(fault: ServerFault) -> &'static str
     ensures { result.now ≡ server_cause fault }
 {
@@ -62,8 +62,8 @@ fn cause(fault: LoopFault) -> &'static str
     }
 }
 
-/// What is shown for a connection that was broken off: want of memory as such, all else as a connection that failed, and with its cause
-/// as a second line where more is asked for.
+/// What is shown for a connection that was broken off: running out of memory as such, all else as a connection that failed, with its cause
+/// as a second line if more is asked for.
 pub fn shown_break(fault: LoopFault, is_told: bool) -> OrderFault
     ensures shown { IsBreakShown fault is_told result }
     ensures status { status_of result ≡ break_status fault }
@@ -77,7 +77,7 @@ pub fn shown_break(fault: LoopFault, is_told: bool) -> OrderFault
 }
 
 impl ConnectionEnd {
-    /// The exit status of an order whose connection was not broken off, as its client's last state has it; else what is shown for that.
+    /// The exit status of an order whose connection was not broken off, by its client's last state; else what is shown for the break.
     pub fn verdict(self, is_told: bool) -> Result<u8, OrderFault>
         ensures can { IsOk result ↔ (self.broken ≡ None) }
         ensures status { IfOk result (λ status. status ≡ status_of_state self.state) }

@@ -16,7 +16,7 @@ use server_core::Server;
 use std::alloc::{AllocError, Global};
 use tool_rack::Setup;
 
-/// A new client of a program, on connection 1. Only want of memory is an `Err`.
+/// A new client of a program, on connection 1. Fails only if out of memory.
 pub(crate) fn first_client(
     alloc: Global,
     program: Program,
@@ -38,8 +38,8 @@ pub(crate) fn first_client(
     }
 }
 
-/// A new client of a program of which it has these features. They are `NotOurs` where they are not the first ones of the program, by labels
-/// and counts of points. Takes no memory.
+/// A new client of a program of which it has these features. They are `NotOurs` if they are not the first ones of the program, by labels
+/// and counts of points. Does not allocate.
 pub fn kept_client(
     alloc: Global,
     program: Program,
@@ -57,7 +57,7 @@ pub fn kept_client(
     }
 }
 
-/// The server of a setup, on connection 1. Only want of memory is an `Err`.
+/// The server of a setup, on connection 1. Fails only if out of memory.
 pub(crate) fn first_server(alloc: Global, setup: Setup) -> Result<Server, AllocError>
     ensures { IfOk result (λ server. server
         ≡ record { setup = setup; end = first_server setup }) }
@@ -69,7 +69,7 @@ pub(crate) fn first_server(alloc: Global, setup: Setup) -> Result<Server, AllocE
     }
 }
 
-/// The report of a client beside a server's ledger. Only want of memory is an `Err`.
+/// The report of a client and a server's ledger. Fails only if out of memory.
 pub(crate) fn ends_report(
     alloc: Global,
     client: &Client,
@@ -85,7 +85,7 @@ pub(crate) fn ends_report(
     Ok(text)
 }
 
-/// The report of a client where no ledger is at hand. Only want of memory is an `Err`.
+/// The report of a client without a ledger. Fails only if out of memory.
 pub(crate) fn end_report(alloc: Global, client: &Client) -> Result<Vec<u8>, AllocError>
     ensures text { IfOk result (λ text. text.items ≡ report_text (end_shown client.now)) }
     ensures some { IfOk result (λ text. 0 < length text.items) }

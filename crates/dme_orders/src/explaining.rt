@@ -11,7 +11,7 @@ use byte_ports::Sink;
 use refusal_guide::{Page, Topic, write_page};
 use std::alloc::{AllocError, Global};
 
-/// The text of a page. Only want of memory is an `Err`.
+/// The text of a page. Fails only if out of memory.
 fn text_of(alloc: Global, page: &Page) -> Result<Vec<u8>, AllocError>
     ensures text { IfOk result (λ text. text.items ≡ page_text page.now) }
     ensures some { IfOk result (λ text. 0 < length text.items) }
@@ -22,7 +22,7 @@ fn text_of(alloc: Global, page: &Page) -> Result<Vec<u8>, AllocError>
 }
 
 /// Writes the page of a refusal: its title, what it means, what to do about it, and a line as it should be. It writes only once the whole
-/// page stands.
+/// page is there.
 pub fn explain<W: Sink>(alloc: Global, topic: Topic, sink: &mut W) -> Result<(), FilesFault>
     ensures { Prints (IsPage topic) (went W.taken W.has_failed sink.old sink.new) result }
 {

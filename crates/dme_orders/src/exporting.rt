@@ -1,4 +1,4 @@
-// An export as a whole, over ports: what was measured of features beside what a program asks for.
+// An export as a whole, over ports: what was measured of features next to what a program asks for.
 
 ghost use Rattle.std.specs.Prelude.{◌<◌, length, Option, IfOk, IfErr};
 ghost use Rattle.tool_rack.specs.Setups.{SetupValue};
@@ -27,7 +27,7 @@ pub struct ExportFiles<S, F, R> {
     pub program: R,
 }
 
-/// Reads a setup where one is named, then features, then a program under the setup's frames, each to the end of its text and understood
+/// Reads a setup if one is named, then features, then a program under the setup's frames, each to the end of its text and understood
 /// before the next is read.
 fn export_input<S: Source, F: Source, R: Source>(
     alloc: Global,
@@ -51,7 +51,7 @@ fn export_input<S: Source, F: Source, R: Source>(
 /// The declaration of a text in XML, with its line's end.
 const XML: &[u8] = b"<?xml version=\"1.0\" encoding=\"UTF-8\"?>\n";
 
-/// A drawing of features. Only want of memory is an `Err`.
+/// A drawing of features. Fails only if out of memory.
 fn drawn(alloc: Global, program: &Program, features: &[Feature]) -> Result<Vec<u8>, AllocError>
     ensures { IfOk result (λ text. 0 < length text.items) }
 {
@@ -61,7 +61,7 @@ fn drawn(alloc: Global, program: &Program, features: &[Feature]) -> Result<Vec<u
     Ok(text)
 }
 
-/// Rows in a form; in a drawing the features whose rows they are. Only want of memory is an `Err`.
+/// Rows in a form; in a drawing the features whose rows they are. Fails only if out of memory.
 fn form_text(
     alloc: Global,
     form: Form,
@@ -81,7 +81,7 @@ fn form_text(
     Ok(text)
 }
 
-/// The table of features in a form. They are refused only where they are not the first ones of the program.
+/// The table of features in a form. They are refused only if they are not the first ones of the program.
 fn table_text(
     alloc: Global,
     form: Form,
@@ -96,11 +96,11 @@ fn table_text(
     Ok(form_text(alloc, form, rows.as_slice(), program, features)?)
 }
 
-/// Reads a setup where one is named, then features, then a program under the setup's frames, each to the end of its text and understood
+/// Reads a setup if one is named, then features, then a program under the setup's frames, each to the end of its text and understood
 /// before the next is read; and writes the table of the features in a form: a row for each measured point, and how far it lies from where
 /// the program asks for it. Features that are not the first ones of the program are `NotOurs`.
 ///
-/// It writes only once the whole table stands. No file is blamed but for its own first refusal, or where it was not read.
+/// It writes only once the whole table is there. A file is blamed only for its own first refusal, or because it could not be read.
 pub fn export_files<S: Source, F: Source, R: Source, W: Sink>(
     alloc: Global,
     form: Form,

@@ -16,19 +16,19 @@ use tool_rack::SetupFault;
 /// Why an order was not carried out, as it is shown on standard error.
 #[derive(Debug, Drop, Error)]
 pub enum OrderFault {
-    /// A DMIS program that is refused; never for want of memory.
+    /// A DMIS program that is refused; never because memory ran out.
     #[error("dme: {0}\n")]
     Program(ProgramFault),
-    /// A setup that is refused; never for want of memory.
+    /// A setup that is refused; never because memory ran out.
     #[error("dme: {0} in setup\n")]
     Setup(SetupFault),
-    /// A schedule that is refused; never for want of memory.
+    /// A schedule that is refused; never because memory ran out.
     #[error("dme: {0} in schedule\n")]
     Schedule(ScheduleFault),
-    /// Features that are refused; never for want of memory.
+    /// Features that are refused; never because memory ran out.
     #[error("dme: {0} in features\n")]
     Features(TextFault),
-    /// Contacts that are refused; never for want of memory.
+    /// Contacts that are refused; never because memory ran out.
     #[error("dme: {0} in contacts\n")]
     Contacts(TextFault),
     /// A file that cannot be opened or read; `-` is standard input.
@@ -43,10 +43,10 @@ pub enum OrderFault {
     /// Features of a file that are not the first ones of the program.
     #[error("dme: C4 NotOurs\n")]
     NotOurs,
-    /// No connection, or one that was broken off; behind it a second line of the cause, or nothing.
+    /// No connection, or one that was broken off; then a second line with the cause, or nothing.
     #[error("dme: connection failed\n{0}")]
     ConnectionFailed(&'static str),
-    /// Want of memory.
+    /// Out of memory.
     #[error("dme: out of memory\n")]
     Memory,
 }
@@ -74,7 +74,7 @@ impl<T: Drop> From<AllocFailed<T>> for OrderFault {
 }
 
 impl OrderFault {
-    /// The exit status: 1 for refused input, a file or a connection, 4 for want of memory.
+    /// The exit status: 1 for refused input, a file or a connection, 4 if out of memory.
     pub fn status(&self) -> u8
         ensures { result ≡ status_of self.now }
     {

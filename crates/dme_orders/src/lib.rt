@@ -1,11 +1,11 @@
-//! The orders of the program `dme` over ports: each is a function that is proved for every source, sink, file and watcher, whatever stands
-//! behind them. Of files, sockets and the command line this crate knows nothing. What the orders print is this profile's.
+//! The orders of the program `dme` over ports: each is a function that is proved for every source, sink, file and watcher, whatever they
+//! are. This crate knows nothing of files, sockets and the command line. What the orders print is this profile's.
 //!
-//! - `orders`: a program is checked under a setup, where one is named
+//! - `orders`: a program is checked under a setup, if one is named
 //! - `reading`: the files of an order are read and understood
 //! - `simulating`: a program is run by a schedule on a simulated machine
 //! - `auditing`: a client's features are judged by a server's contacts
-//! - `exporting`: what was measured is put beside what a program asks for; `explaining`: what a refusal means
+//! - `exporting`: what was measured is put next to what a program asks for; `explaining`: what a refusal means
 //! - `preparing`: the files of an order over a connection are read before there is one
 //! - `looping`: a program is run over one connection between both ends
 //! - `driving`: a program is run on a server over a connection, and its features are kept

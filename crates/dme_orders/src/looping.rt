@@ -32,7 +32,7 @@ pub struct LoopTask {
     pub window: u8,
 }
 
-/// The simulated machine and the server of a setup, and a new client of a program, both on connection 1. Only want of memory is an `Err`.
+/// The simulated machine and the server of a setup, and a new client of a program, both on connection 1. Fails only if out of memory.
 fn new_ends(alloc: Global, task: LoopTask) -> Result<(Simulated, Server, Client), AllocError>
     requires { is_window task.window ≡ true }
     ensures machine { IfOk result (λ ends. ends.0 ≡ task.setup.shifts) }
@@ -52,7 +52,7 @@ fn new_ends(alloc: Global, task: LoopTask) -> Result<(Simulated, Server, Client)
     }
 }
 
-/// Both ends of a program and a setup have their turns; how that has ended, and the report of them. Fails only if out of memory.
+/// Both ends of a program and a setup take their turns; how that ended, and the report of them. Fails only if out of memory.
 fn looped<CR: Source, CW: Sink, SR: Source, SW: Sink, N: Watcher>(
     alloc: Global,
     task: LoopTask,
@@ -94,8 +94,8 @@ fn looped<CR: Source, CW: Sink, SR: Source, SW: Sink, N: Watcher>(
 }
 
 /// Runs a program of both ends: a new client of the program, with this window, and the server of the setup with its simulated machine,
-/// each on connection 1 and over its own ports, have their turns in turn, and the report of both is written. It answers how that has ended;
-/// the report is written as well where a fault has broken it off. `Memory` and `Write` are the only `Err`s.
+/// each on connection 1 and over its own ports, take turns, and the report of both is written. The answer is how that ended; the report is
+/// written also if a fault has broken it off. `Memory` and `Write` are the only `Err`s.
 pub fn loop_over<CR: Source, CW: Sink, SR: Source, SW: Sink, N: Watcher, W: Sink>(
     alloc: Global,
     task: LoopTask,
@@ -105,8 +105,8 @@ pub fn loop_over<CR: Source, CW: Sink, SR: Source, SW: Sink, N: Watcher, W: Sink
 ) -> Result<ConnectionEnd, FilesFault>
     requires { is_window task.window ≡ true }
 
-    // The report of what both ends have become was written, and the watcher was told of what was completed; or there was no memory for
-    // that, or the sink has failed.
+    // The report of what both ends have become was written, and what was completed was reported to the watcher; or memory ran out, or the
+    // sink has failed.
     ensures prints { Prints (LeavesLoop task.window task.setup task.program
         (loop_told (CR.left ports.old.client.source) (CW.taken ports.old.client.sink)
         (SR.left ports.old.server.source) (SW.taken ports.old.server.sink) (N.told watcher.old))
@@ -114,14 +114,14 @@ pub fn loop_over<CR: Source, CW: Sink, SR: Source, SW: Sink, N: Watcher, W: Sink
         (SR.left ports.new.server.source) (SW.taken ports.new.server.sink) (N.told watcher.new)))
         (went W.taken W.has_failed sink.old sink.new) result }
 
-    // Where there is no memory, nothing has moved; or the watcher was told of what was completed.
+    // If out of memory, nothing has moved; or what was completed was reported to the watcher.
     ensures stops { IsErrOf result FilesFault.Memory → StopsLoop task.window task.setup task.program
         (loop_told (CR.left ports.old.client.source) (CW.taken ports.old.client.sink)
         (SR.left ports.old.server.source) (SW.taken ports.old.server.sink) (N.told watcher.old))
         (loop_told (CR.left ports.new.client.source) (CW.taken ports.new.client.sink)
         (SR.left ports.new.server.source) (SW.taken ports.new.server.sink) (N.told watcher.new)) }
 
-    // A port of the connection is told as what broke it off where it has failed, and only there.
+    // A port of the connection is reported as what broke it off if it has failed, and only then.
     ensures client_blamed { IfOk result (λ ended. BlamesClient ended.broken
         (CR.has_failed ports.old.client.source) (CR.has_failed ports.new.client.source)
         (CW.has_failed ports.old.client.sink) (CW.has_failed ports.new.client.sink)) }

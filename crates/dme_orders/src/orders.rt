@@ -1,4 +1,4 @@
-// A check as a whole, over ports: a program is checked under a setup, where one is named.
+// A check as a whole, over ports: a program is checked under a setup, if one is named.
 
 ghost use Rattle.std.specs.Prelude.{Option, IfOk, IfErr};
 ghost use Rattle.dme_orders.specs.Input.{named, ReadsCheck, WhyNoCheck, CheckInput};
@@ -14,7 +14,7 @@ use byte_ports::{Sink, Source};
 use dmis_program::Program;
 use std::alloc::Global;
 
-/// Reads a setup where one is named, then a program under the setup's frames, each to the end of its text; the setup is understood before
+/// Reads a setup if one is named, then a program under the setup's frames, each to the end of its text; the setup is understood before
 /// the program is read.
 fn check_input<S: Source, R: Source>(
     alloc: Global,
@@ -32,11 +32,11 @@ fn check_input<S: Source, R: Source>(
     Ok(program_under(alloc, &setup, program)?)
 }
 
-/// Reads a setup where one is named, then a DMIS program, each to the end of its text, and writes the command lines of the program's plan on
-/// a new connection, each ended by LF. The program may recall the frames of the setup, and none without one.
+/// Reads a setup if one is named, then a DMIS program, each to the end of its text, and writes the command lines of the program's plan on
+/// a new connection, each ended by LF. The program may recall the frames of the setup, and no frames without one.
 ///
-/// It writes only once the whole text stands. The setup is read and refused before the program is read at all; each file is blamed only for
-/// its own first refusal, or where it was not read; a sink that fails is blamed, and has taken a prefix of the text.
+/// It writes only once the whole text is there. The setup is read and refused before the program is read at all. Each file is blamed only
+/// for its own first refusal, or because it could not be read. A sink that fails is blamed, and has taken a prefix of the text.
 pub fn check_under_setup<S: Source, R: Source, W: Sink>(
     alloc: Global,
     setup: &mut Option<S>,

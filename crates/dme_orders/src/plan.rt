@@ -40,7 +40,7 @@ impl Lines {
     }
 }
 
-/// Commands as lines. Only want of memory is an `Err`.
+/// Commands as lines. Fails only if out of memory.
 fn lines_text(alloc: Global, commands: &[Planned]) -> Result<Vec<u8>, AllocError>
     requires { All IsSendable commands.now }
     ensures { IfOk result (λ text. text.items ≡ lines_behind 0 commands.now) }
@@ -55,7 +55,7 @@ fn lines_text(alloc: Global, commands: &[Planned]) -> Result<Vec<u8>, AllocError
     Ok(lines.text)
 }
 
-/// The text of the plan of a program on a new connection, with no feature completed. Only want of memory is an `Err`.
+/// The text of the plan of a program on a new connection, with no feature completed. Fails only if out of memory.
 #[tactic(auto, using(crate::proofs::PlanLemmas::plan_has_text))]
 pub fn plan_text(alloc: Global, program: &Program) -> Result<Vec<u8>, AllocError>
     ensures text { IfOk result (λ text. text.items ≡ plan_text program.now) }

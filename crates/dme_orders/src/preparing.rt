@@ -12,7 +12,7 @@ use std::alloc::Global;
 use tool_rack::Setup;
 
 /// Reads a setup, then a program under the setup's frames, each to the end of its text; the setup is understood before the program is read.
-/// No file is blamed but for its own first refusal, or where it was not read.
+/// A file is blamed only for its own first refusal, or because it could not be read.
 pub fn setup_and_program<S: Source, R: Source>(
     alloc: Global,
     setup: &mut S,
@@ -31,7 +31,7 @@ pub fn setup_and_program<S: Source, R: Source>(
 }
 
 /// Reads a setup, then features, then a program under the setup's frames, each to the end of its text and understood before the next is
-/// read. No file is blamed but for its own first refusal, or where it was not read.
+/// read. A file is blamed only for its own first refusal, or because it could not be read.
 pub fn features_and_program<S: Source, F: Source, R: Source>(
     alloc: Global,
     setup: &mut S,

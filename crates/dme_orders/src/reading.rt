@@ -31,23 +31,23 @@ pub enum Role {
 /// Why an order was not carried out.
 #[derive(Clone, Copy, Debug, PartialEq, Eq)]
 pub enum FilesFault {
-    /// The setup is refused; never for want of memory.
+    /// The setup is refused; never because memory ran out.
     Setup(SetupFault),
-    /// The schedule is refused; never for want of memory.
+    /// The schedule is refused; never because memory ran out.
     Schedule(ScheduleFault),
-    /// The features are refused; never for want of memory.
+    /// The features are refused; never because memory ran out.
     Features(TextFault),
-    /// The contacts are refused; never for want of memory.
+    /// The contacts are refused; never because memory ran out.
     Contacts(TextFault),
-    /// The program is refused, under the setup's frames; never for want of memory.
+    /// The program is refused, under the setup's frames; never because memory ran out.
     Program(ProgramFault),
     /// A source has failed, or a million pulls have not come to the end of its text.
     Unread(Role),
     /// The features are not the first ones of the program, by labels and counts of points.
     NotOurs,
-    /// The sink has failed; it may have taken a front of the text.
+    /// The sink has failed; it may have taken a prefix of the text.
     Write,
-    /// Want of memory.
+    /// Out of memory.
     Memory,
 }
 
@@ -180,7 +180,7 @@ pub(crate) fn read_program<S: Source>(
     }
 }
 
-/// The setup that a source gives, where there is one.
+/// The setup that a source gives, if there is one.
 pub(crate) fn named_setup<S: Source>(
     alloc: Global,
     source: &mut Option<S>,
@@ -194,7 +194,7 @@ pub(crate) fn named_setup<S: Source>(
     }
 }
 
-/// The program that a source gives under the frames of a setup, and under none without one.
+/// The program that a source gives under the frames of a setup, and under no frames without one.
 pub(crate) fn program_under<R: Source>(
     alloc: Global,
     setup: &Option<Setup>,

@@ -17,8 +17,8 @@ use link_world::{Machine, PumpFault, serve_link, write_contact_rows};
 use server_core::{Server, ServerFault};
 use std::alloc::{AllocError, Global};
 
-/// A server comes to the connection of this number and has its turns on it, until the input has ended, and it has then left. A fault of a
-/// turn is the answer, and so is that the server may not come to this connection: then it is as it was.
+/// A server comes to the connection of this number and takes its turns on it until the input has ended; it has then left. The answer is the
+/// fault of a turn, or that the server may not come to this connection: then it is as it was.
 pub fn serve_one<M: Machine, R: Source, W: Sink>(
     server: &mut Server,
     machine: &mut M,
@@ -35,7 +35,7 @@ pub fn serve_one<M: Machine, R: Source, W: Sink>(
         → server.new.end.server.on ≡ false }
     ensures keeps { M.answers machine.new ≡ M.answers machine.old }
 
-    // A port is blamed where it has failed, and only there.
+    // A port is blamed if it has failed, and only then.
     ensures blamed { BlamesPorts PumpFault.ReadFailed PumpFault.WriteFailed result
         (R.has_failed ports.old.source) (R.has_failed ports.new.source)
         (W.has_failed ports.old.sink) (W.has_failed ports.new.sink) }
@@ -61,7 +61,7 @@ pub fn with_break(
     }
 }
 
-/// What a server did is put in its file; whether that was possible. Only want of memory is an `Err`.
+/// What a server did is put in its file; whether that was possible. Fails only if out of memory.
 fn keep_contacts<F: TextFile>(
     alloc: Global,
     ledger: &ServerLedger,
@@ -81,15 +81,15 @@ fn keep_contacts<F: TextFile>(
     }
 }
 
-/// Puts what a server did in its file, and writes the lines of its contacts; whether the file has it now. The lines are written as well
-/// where the file could not be. `Memory` and `Write` are the only `Err`s.
+/// Puts what a server did in its file, and writes the lines of its contacts; whether the file has it now. The lines are written also if the
+/// file could not be. `Memory` and `Write` are the only `Err`s.
 pub fn close_service<F: TextFile, O: Sink>(
     alloc: Global,
     ledger: &ServerLedger,
     file: &mut F,
     out: &mut O,
 ) -> Result<bool, FilesFault>
-    // The lines were written, and the file keeps what was done; or there was no memory for that, or the output has failed.
+    // The lines were written, and the file keeps what was done; or memory ran out, or the output has failed.
     ensures prints { Prints (LeavesLedger ledger.now
         (file_told (F.kept file.old) (F.has_failed file.old))
         (file_told (F.kept file.new) (F.has_failed file.new)))

@@ -29,7 +29,7 @@ struct Simulation {
     program: Program,
 }
 
-/// The world of a program and a setup in which nothing has happened. Only want of memory is an `Err`.
+/// The world of a program and a setup in which nothing has happened. Fails only if out of memory.
 fn new_world(alloc: Global, program: Program, setup: Setup, window: u8) -> Result<World, AllocError>
     requires { is_window window ≡ true }
     ensures { IfOk result (λ world. world
@@ -42,8 +42,8 @@ fn new_world(alloc: Global, program: Program, setup: Setup, window: u8) -> Resul
     }
 }
 
-/// Plays a schedule in a world; where there is a sink for them, the lines that both sides write are written to it. A sink that takes none
-/// changes nothing. Only want of memory is an `Err`.
+/// Plays a schedule in a world. If there is a sink for them, the lines that both sides write are written to it. A sink that takes no line
+/// changes nothing. Fails only if out of memory.
 fn play<L: Sink>(
     schedule: &Schedule,
     world: &mut World,
@@ -62,7 +62,7 @@ fn play<L: Sink>(
     Ok(())
 }
 
-/// Plays the schedule of a simulation in a new world. Only want of memory is an `Err`.
+/// Plays the schedule of a simulation in a new world. Fails only if out of memory.
 fn played<L: Sink>(
     alloc: Global,
     input: Simulation,
@@ -83,7 +83,7 @@ fn played<L: Sink>(
     }
 }
 
-/// The state in which the client of a world stands, and the world's report. Only want of memory is an `Err`.
+/// The state of the client of a world, and the world's report. Fails only if out of memory.
 fn reported(alloc: Global, world: &World) -> Result<(State, Vec<u8>), AllocError>
     ensures state { IfOk result (λ end. end.0 ≡ world.now.world.client.client.state) }
     ensures text { IfOk result (λ end. end.1.items ≡ report_text (shown_of world.now.world)) }
@@ -95,7 +95,7 @@ fn reported(alloc: Global, world: &World) -> Result<(State, Vec<u8>), AllocError
     Ok((report.state, text))
 }
 
-/// Plays the schedule of a simulation in a new world: the client's last state, and the world's report. Only want of memory is an `Err`.
+/// Plays the schedule of a simulation in a new world: the client's last state, and the world's report. Fails only if out of memory.
 fn simulated_report<L: Sink>(
     alloc: Global,
     input: Simulation,
@@ -166,11 +166,11 @@ pub(crate) fn write_text<W: Sink>(sink: &mut W, text: &[u8]) -> Result<(), Files
 }
 
 /// Reads a setup, then a schedule, then a program under the setup's frames, each to the end of its text and understood before the next is
-/// read; plays the schedule in a new world of the program and the setup, with this window; and writes the world's report. It answers the
-/// state in which the client stands at last. Where there is a sink for them, the lines that both sides write are written to it before the
-/// report, as `World::traced` has them; a sink that takes none changes nothing.
+/// read; plays the schedule in a new world of the program and the setup, with this window; and writes the world's report. The answer
+/// is the last state of the client. If there is a sink for them, the lines that both sides write are written to it before the report, as
+/// `World::traced` has them; a sink that takes no line changes nothing.
 ///
-/// It writes only once the whole report stands. No file is blamed but for its own first refusal, or where it was not read.
+/// It writes only once the whole report is there. A file is blamed only for its own first refusal, or because it could not be read.
 pub fn simulate<S: Source, C: Source, R: Source, L: Sink, W: Sink>(
     alloc: Global,
     files: &mut SimulationFiles<S, C, R>,

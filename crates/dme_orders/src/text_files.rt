@@ -4,7 +4,7 @@ ghost use Rattle.std.specs.Prelude.{◌≡◌, List, ℕ, Option, Bool, true, fa
 
 use byte_ports::Failed;
 
-/// A file that is replaced as a whole. `kept` is its text, where it tells it.
+/// A file that is replaced as a whole. `kept` is its text, if it reports it.
 pub trait TextFile {
     ghost kept: { Self → Option (List ℕ) };
 

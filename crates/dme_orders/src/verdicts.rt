@@ -10,7 +10,7 @@ use contact_ledger::Feature;
 use ledger_audit::Verdict;
 use std::alloc::{AllocError, Global};
 
-/// The exit status of a run that ended with its client in this state: 3 where it was stopped or has met what has no place, else 0.
+/// The exit status of a run that ended with its client in this state: 3 if it was stopped or has met something unexpected, else 0.
 pub fn status(state: State) -> u8
     ensures { result ≡ status_of_state state }
 {
@@ -20,7 +20,7 @@ pub fn status(state: State) -> u8
     }
 }
 
-/// Appends the numbers at which runs begin. Only want of memory is an `Err`.
+/// Appends the numbers at which runs begin. Fails only if out of memory.
 fn push_starts(text: &mut String, starts: &[u64]) -> Result<(), AllocError>
     ensures { OnOk result (string_bytes text.new
         ≡ string_bytes text.old ++ start_fields starts.now) }
@@ -31,7 +31,7 @@ fn push_starts(text: &mut String, starts: &[u64]) -> Result<(), AllocError>
     Ok(())
 }
 
-/// The line of a verdict. Only want of memory is an `Err`.
+/// The line of a verdict. Fails only if out of memory.
 fn verdict_text(
     alloc: Global,
     features: &[Feature],
@@ -56,8 +56,8 @@ fn verdict_text(
 }
 
 /// Appends the line of an audit's verdict on features, and answers the exit status: `RUNS` and the number at which each run begins, 0;
-/// or `NONE`, the count of the first features that have no runs and the label of the last of them, 3 (this profile). The caller owes
-/// that there are so many features. Only want of memory is an `Err`, and then nothing is appended.
+/// or `NONE`, the count of the first features that have no runs and the label of the last of them, 3 (this profile). Requires that there
+/// are that many features. Fails only if out of memory, and then appends nothing.
 pub fn write_verdict(
     out: &mut Vec<u8>,
     features: &[Feature],

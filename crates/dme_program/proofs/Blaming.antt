@@ -1,4 +1,4 @@
--- A setup is blamed only where one is named.
+-- A setup is blamed only if one is named.
 use Rattle.std.proofs.Common.{◌≡◌, ℕ, List, Bool, true, Option, Some, None, is_some, Result, Ok, Err, IfErr, inl, inr, refl, sym, subst}
 use Rattle.tool_rack.specs.Setups.{SetupValue}
 use Rattle.dme_orders.specs.Input.{Named, IsBlamed, ReadsCheck, WhyNoCheck, frames_under}
@@ -30,7 +30,7 @@ on_any P files.Memory p = tt
 no_setup : role.Setup ≡ role.Program → ⊥
 no_setup is = absurd (cc)
 
--- a fault of the program is none of the setup
+-- a fault of the program is not one of the setup
 of_program : {R : Type 0} (r : Came R) (said : Option SetupValue) (P : Type 0) (cause : FilesFault)
     → WhyNoProgram r (frames_under said) cause → OnSetup P cause
 of_program r said P (files.Setup cause) why = absurd why
@@ -61,7 +61,7 @@ of_stop s r w P cause p (blamed (inr why) same) = of_program r why.0 P cause why
 of_stop s r w P cause p (no_memory is input read same) = subst (OnSetup P) (sym is) tt
 of_stop s r w P cause p (torn is front) = subst (OnSetup P) (sym is) tt
 
--- a check blames its setup only where one is named
+-- a check blames its setup only if one is named
 pub only_named : {S R W : Type 0} (s : Named S) (r : Came R) (w : Went W) (P : Type 0) (result : Result (Unit {0}) FilesFault)
     → Checks s r w result → (is_some s.old ≡ true → P) → IfErr result (OnSetup P)
 only_named s r w P (Ok done) h p = tt

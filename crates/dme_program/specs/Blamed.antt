@@ -1,4 +1,4 @@
--- What the fault of a check says of its setup (this profile).
+-- What the fault of a check says about its setup (this profile).
 use Rattle.dme_orders.specs.declared.reading.FilesFault.{FilesFault}
 use Rattle.dme_orders.specs.declared.reading.FilesFault.TheVariants as files
 use Rattle.dme_orders.specs.declared.reading.Role.TheVariants as role

@@ -19,7 +19,7 @@ use std::io::{self, ErrorKind};
 use std::net::{Net, TcpListener, TcpStream};
 use std::rt::Files;
 
-/// Why a connection does not come about, as a line.
+/// Why a connection is not made, as a line.
 fn cause(kind: ErrorKind) -> &'static str {
     match kind {
         ErrorKind::ConnectionRefused => "connection refused\n",
@@ -32,7 +32,7 @@ fn cause(kind: ErrorKind) -> &'static str {
     }
 }
 
-/// What is shown for a connection that does not come about, and its cause where more is asked for.
+/// What is shown for a connection that is not made, with its cause if more is asked for.
 pub(crate) fn no_connection(error: &io::Error, is_told: bool) -> OrderFault {
     OrderFault::ConnectionFailed(if is_told { cause(error.kind()) } else { "" })
 }
@@ -61,8 +61,8 @@ struct Task {
     trace: bool,
 }
 
-/// Both ends of a program over this connection, and their report on standard output. (It is apart from the connection's making, since the
-/// ports of both ends have one lifetime.)
+/// Both ends of a program over this connection, and their report on standard output. (The connection is made
+/// elsewhere, since the ports of both ends have one lifetime.)
 fn loop_ends<'a, R: Print + Eprint + Net<Listener = TcpListener, Stream = TcpStream> + AllocGlobal>(
     rt: &'a R,
     near: &'a TcpStream,

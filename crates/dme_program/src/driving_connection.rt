@@ -24,7 +24,7 @@ use std::io;
 use std::net::{Net, TcpListener, TcpStream};
 use std::rt::Files;
 
-/// What is shown where a file could not be written: that, and then why the order was not carried out, if it was not.
+/// What is shown if a file could not be written: that, and then why the order was not carried out, if it was not.
 fn with_unwritten<R: Eprint>(
     rt: &R,
     verdict: Result<u8, OrderFault>,
@@ -64,7 +64,7 @@ struct Call {
     progress: bool,
 }
 
-/// A client that has its turns over a connection to the server that is called.
+/// A client takes its turns over a connection to the server that is called.
 fn drive_client<
     R: Files + Print + Eprint + Net<Listener = TcpListener, Stream = TcpStream> + AllocGlobal,
 >(
@@ -112,7 +112,7 @@ fn drive_program<
     drive_client(rt, client, 1, call, &mut Follower::new(rt, progress, None))
 }
 
-/// Likewise, where a record is kept of it. A record whose last connection is the last that there may be is one that cannot be written.
+/// Likewise, with a record of it. A record in which the last connection has the greatest possible number cannot be written.
 fn drive_recorded<
     R: Files + Print + Eprint + Net<Listener = TcpListener, Stream = TcpStream> + AllocGlobal,
 >(rt: &R, open: OpenRecord, program: Program, call: Call) -> Result<u8, OrderFault>

@@ -20,13 +20,13 @@ pub enum Fault {
     /// A word that is not UTF-8.
     #[error("error: invalid UTF-8 was detected in one or more arguments\n\nFor more information, try '--help'.\n")]
     NotUtf8,
-    /// A code that is that of no refusal.
+    /// A code that no refusal has.
     #[error("error: invalid value '{0}' for '<CODE>': no refusal has this code\n\nFor more information, try '--help'.\n")]
     NoCode(String),
-    /// A form that is none.
+    /// A word that names no form.
     #[error("error: invalid value '{0}' for '--as <FORM>'\n  [possible values: csv, json, svg]\n\nFor more information, try '--help'.\n")]
     NoForm(String),
-    /// A part that is none.
+    /// A text that may not be a part.
     #[error("error: invalid value '{0}' for '--part <TEXT>': 1 to 64 printable bytes\n\nFor more information, try '--help'.\n")]
     NoPart(String),
     /// A part without a record.
@@ -35,13 +35,13 @@ pub enum Fault {
     /// The same file for features and for a record.
     #[error("error: '--features' and '--record' name one file, '{0}'\n\nFor more information, try '--help'.\n")]
     OneFile(String),
-    /// A record that the run may not continue; never for want of memory.
+    /// A record that the run may not continue; never because memory ran out.
     #[error("dme: {0} in record\n")]
     Record(RecordRefusal),
     /// An order that was not carried out.
     #[error("{0}")]
     Order(OrderFault),
-    /// An order that was not carried out, and behind it where its file is refused and what is wrong there.
+    /// An order that was not carried out, and then where its file is refused and what is wrong there.
     #[error("{0}{1}")]
     Explained(OrderFault, String),
 }

@@ -24,7 +24,7 @@ enum Place<F, I> {
 }
 
 /// A file of an order, by its name, or standard input. It is opened at its first pull, so that files are refused in the order in
-/// which they are read. It does not tell its bytes; where that is asked for, it keeps the text that was read.
+/// which they are read. It does not report its bytes. If asked, it keeps the text that was read.
 #[derive(Drop)]
 pub struct NamedSource<'a, R: Files + Input> {
     rt: &'a R,
@@ -109,7 +109,7 @@ impl<'a, R: Files + Input + AllocGlobal> Sources<'a, R> {
 }
 
 impl<'a, R: Files + Input> NamedSource<'a, R> {
-    /// Keeps what was read. Where memory is wanting for it, no more of the text is kept: it is shown, and not understood.
+    /// Keeps what was read. If out of memory, no more of the text is kept, and the file counts as short.
     fn keep(&mut self, bytes: &[u8])
         ensures { self.new.has_failed ≡ self.old.has_failed }
     {
@@ -130,7 +130,7 @@ impl<'a, R: Files + Input> NamedSource<'a, R> {
         Ok(count)
     }
 
-    /// One read, which opens the file where it is closed.
+    /// One read, which opens the file if it is closed.
     fn read(&mut self, buf: &mut [u8]) -> io::Result<usize>
         ensures within { IfOk result (λ n. n ≤ length buf.new) }
         ensures same { self.new.has_failed ≡ self.old.has_failed }

@@ -1,13 +1,13 @@
 //! The program `dme`: DMIS inspection programs (ISO 22093) over the I++ DME Interface version 1. Its command line and what it prints
 //! are this profile's.
 //!
-//! What an order does stands in `dme_orders`, over ports. This is the edge, where files, sockets and the standard streams are those ports.
+//! What an order does is in `dme_orders`, over ports. This is the edge, where files, sockets and the standard streams are those ports.
 //!
 //! - `running`: an order is carried out on files and the standard streams; `connecting`, `driving_connection`, `serving_connections`: one
 //!   that needs a connection, on sockets too; `exporting`: what was measured is printed, and what a refusal means
 //! - `files`: the files of an order as ports; `text_files`: files that are replaced as a whole
 //! - `recording`: the record of a run, as a file that grows
-//! - `progress`: lines that tell how far an order is; `tracing`: the lines of a connection
+//! - `progress`: lines that report how far an order is; `tracing`: the lines of a connection
 //! - `explaining`: what is shown for an order whose files are refused
 //! - `faults`: what is printed on standard error, and the exit status
 #![tactic(auto)]

@@ -1,4 +1,4 @@
-// Lines on standard error that tell how far an order is.
+// Lines on standard error that report how far an order is.
 
 ghost use Rattle.std.specs.Prelude.{None};
 
@@ -6,7 +6,7 @@ use client_core::Client;
 use contact_ledger::Feature;
 use link_world::Watcher;
 
-/// Tells of each completed feature by a line on standard error, where it is asked for. A line that cannot be written changes nothing.
+/// Reports each completed feature by a line on standard error, if asked. A line that cannot be written changes nothing.
 #[derive(Drop)]
 pub struct Progress<'a, R: Eprint> {
     rt: &'a R,
@@ -15,7 +15,7 @@ pub struct Progress<'a, R: Eprint> {
 }
 
 impl<'a, R: Eprint> Progress<'a, R> {
-    /// Of a program with so many features.
+    /// For a program with that many features.
     pub fn new(rt: &'a R, is_told: bool, total: usize) -> Self {
         Progress { rt, is_told, total }
     }

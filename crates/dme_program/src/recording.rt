@@ -1,4 +1,4 @@
-// The record of a run, as a file that grows while the run goes on.
+// The record of a run, as a file that grows during the run.
 
 ghost use Rattle.std.specs.Prelude.{None};
 
@@ -41,7 +41,7 @@ impl LockedFile {
         })
     }
 
-    /// Gives the file this text, of which it has the first bytes, and forces it to the device. What follows those is torn, and goes.
+    /// Gives the file this text, of which it has the first bytes, and forces it to the device. What follows them is torn and is cut off.
     fn begin(&mut self, text: &[u8], held: usize, length: usize) -> io::Result<()> {
         if held < length {
             self.file.set_len(held as u64)?;
@@ -76,12 +76,12 @@ impl GrowingFile for LockedFile {
 pub struct RecordWords {
     /// The file's name; `-` is a file of that name.
     pub name: String,
-    /// The part, where it is told.
+    /// The part, if it is named.
     pub part: Option<String>,
 }
 
-/// Which record the words of a command line name. A part is one of a record, and has from 1 to 64 printable bytes; the record and the
-/// features are two files.
+/// Which record the words of a command line name. A part needs a record, and has from 1 to 64 printable bytes; the record and the features
+/// are two files.
 pub fn record_words(
     record: Option<String>,
     part: Option<String>,
@@ -154,7 +154,7 @@ pub struct OpenRecord {
     pub file: LockedFile,
 }
 
-/// Tells how many features a record gives back, where it gives any.
+/// Reports how many features a record gives back, if it gives any.
 fn tell_kept<R: Eprint>(rt: &R, name: &str, kept: usize, total: usize) {
     if kept == total && kept > 0 {
         let _ = eprintln!(rt; "all {kept} features kept from {name}, nothing is measured");
@@ -163,7 +163,7 @@ fn tell_kept<R: Eprint>(rt: &R, name: &str, kept: usize, total: usize) {
     }
 }
 
-/// Reads and opens the record of a run of a program. It is refused, and left as it is, where it is damaged, or of another part or program.
+/// Reads and opens the record of a run of a program. It is refused, and left as it is, if it is damaged, or is of another part or program.
 /// Features of a file that it does not give back are `NotOurs`: the run would put others in their place.
 pub fn open_record<R: Files<File = File> + Input + Eprint + AllocGlobal>(
     rt: &R,
@@ -197,7 +197,7 @@ pub fn open_record<R: Files<File = File> + Input + Eprint + AllocGlobal>(
     })
 }
 
-/// Who follows a run: its progress is told, and its record is kept.
+/// Who follows a run: reports its progress, and keeps its record.
 #[derive(Drop)]
 pub struct Follower<'a, R: Eprint> {
     rt: &'a R,

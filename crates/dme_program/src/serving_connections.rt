@@ -25,14 +25,14 @@ struct Post {
     progress: bool,
 }
 
-/// Tells that a connection is taken or left, where it is asked for. A line that cannot be written changes nothing.
+/// Reports that a connection is taken or left, if asked. A line that cannot be written changes nothing.
 fn tell<R: Eprint>(rt: &R, is_told: bool, number: u64, what: &str) {
     if is_told {
         let _ = eprintln!(rt; "connection {number} {what}");
     }
 }
 
-/// Serves so many connections, one after the other; why some were broken off, if any was. Where none can be taken any more, it serves no
+/// Serves that many connections, one after the other; why some were broken off, if any was. If a connection cannot be taken, it serves no
 /// more.
 fn serve_connections<R: Eprint + Net<Listener = TcpListener, Stream = TcpStream>>(
     rt: &R,
@@ -59,7 +59,7 @@ fn serve_connections<R: Eprint + Net<Listener = TcpListener, Stream = TcpStream>
     broken
 }
 
-/// What is shown of a service: where its file could not be written, that too, and behind it what broke connections off.
+/// What is shown of a service: if its file could not be written, that first, and then what broke connections off.
 fn service_verdict<R: Eprint>(
     rt: &R,
     broken: Option<PumpFault<ServerFault>>,

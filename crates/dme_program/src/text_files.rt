@@ -9,9 +9,9 @@ use std::fs::{self, OpenFile};
 use std::io::Write;
 use std::rt::Files;
 
-/// A file of this name, `-` too, or none where none is named. A text is written beside it, behind `.new`, forced to the device, and takes
-/// the file's name, so that a crash leaves the old text or the new one. A link, a device or a pipe of this name is written itself. It does
-/// not tell its text.
+/// A file of this name, `-` too, or no file if none is named. A text is written to a file next to it, whose name ends in `.new`, forced to
+/// the device, and renamed, so that a crash leaves the old text or the new one. A link, a device or a pipe of this name is written itself.
+/// It does not report its text.
 #[derive(Drop)]
 pub struct NamedFile<'a, R> {
     rt: &'a R,
@@ -20,7 +20,7 @@ pub struct NamedFile<'a, R> {
 }
 
 impl<'a, R: Files + AllocGlobal> NamedFile<'a, R> {
-    /// The file of this name, if one is named. The name of the one beside it is made here, so that nothing is to grow when all is done.
+    /// The file of this name, if one is named. The name of the one next to it is made here, so that nothing need be allocated at the end.
     pub fn new(rt: &'a R, name: Option<&str>) -> Result<Self, AllocError> {
         let names = match name {
             Some(name) => Some((
@@ -36,7 +36,7 @@ impl<'a, R: Files + AllocGlobal> NamedFile<'a, R> {
         })
     }
 
-    /// The name of the file beside.
+    /// The name of the file next to it.
     fn beside(alloc: Global, name: &str) -> Result<String, AllocError> {
         let mut beside = String::new(alloc);
         beside.push_str(name)?;
@@ -75,7 +75,7 @@ impl<'a, R: Files + AllocGlobal> NamedFile<'a, R> {
         result
     }
 
-    /// Writes a text to the file of this name, which is replaced where it may be.
+    /// Writes a text to the file of this name, which is replaced if it may be.
     fn write(&self, text: &[u8], beside: &str, name: &str) -> std::io::Result<()> {
         if self.may_be_replaced(name) {
             self.put(text, beside, name)

@@ -5,7 +5,7 @@ ghost use Rattle.std.specs.Prelude.{◌≡◌, None};
 use byte_ports::{Failed, Sink};
 use std::alloc::AllocError;
 
-/// Standard error as a sink of text. It does not tell its bytes.
+/// Standard error as a sink of text. It does not report its bytes.
 #[derive(Drop)]
 pub struct ErrorOutput<'a, R: Eprint> {
     rt: &'a R,
@@ -40,8 +40,8 @@ impl<'a, R: Eprint> Sink for ErrorOutput<'a, R> {
     }
 }
 
-/// The lines of a side on connection 1. Where that is asked for, each is shown on standard error once all of it is written, behind the side's
-/// mark: `>` for the client, `<` for the server.
+/// The lines of a side on connection 1. If asked, each is shown on standard error once all of it is written, after the side's mark: `>` for
+/// the client, `<` for the server.
 #[derive(Drop)]
 struct Lines<'a, R: Eprint> {
     rt: &'a R,
@@ -69,7 +69,7 @@ impl<'a, R: Eprint> Lines<'a, R> {
         Ok(())
     }
 
-    /// Bytes that were written. Where memory is wanting for them, that stands in place of their line, and no more is shown.
+    /// Bytes that were written. If memory runs out for them, that is shown in place of their line, and no more is shown.
     fn keep_all(&mut self, bytes: &[u8]) {
         if !self.is_on {
             return;
@@ -85,7 +85,7 @@ impl<'a, R: Eprint> Lines<'a, R> {
     }
 }
 
-/// A sink of what a side writes on connection 1, which shows its lines where that is asked for.
+/// A sink of what a side writes on connection 1, which shows its lines if asked.
 #[derive(Drop)]
 pub struct TracingPort<'a, R: Eprint, W: Sink> {
     sink: W,

@@ -313,7 +313,7 @@ ends_event o hs t n (Ok x) is held ok refused =
 ends_event o hs t n (Err f) is held ok refused = fits_err Ended o t Mark.Done f
     (refused_event o hs t n Mark.Done (cause_of f) is held refused)
 
--- the same of the answer to an end, from the effect alone
+-- likewise for the answer to an end, from the effect alone
 pub ending_standard : {o view : OpenValue} {t : Tag} {n : ℕ} {r : Result Ended TagFault} {hs : List OpenCommand} → t ≡ Std n → view ≡ o
     → hs ≡ view.standard → IfOk r (λ x. effect_heard (heard_in (not view.failed) hs t Mark.Done) ≡ Some (effect_of x))
     → IfErr r (λ f. IsRefused (heard_in (not view.failed) hs t Mark.Done) (cause_of f)) → IsEnding t o r

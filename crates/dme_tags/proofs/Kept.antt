@@ -13,9 +13,9 @@ use Rattle.protocol_model.specs.declared.held.OpenCommand.{OpenCommand}
 use Rattle.protocol_model.specs.declared.held.Stage.{Stage}
 use Rattle.dme_tags.specs.Kept.{Slots, slot, command_at, listed, IsApart, AreKeys}
 
--- ---- a slot that is no listed one
+-- ---- a slot that is not a listed one
 
--- what stands at a listed key is its command
+-- what is at a listed key is its command
 filled : (slots : Slots) (k : ℕ) (h : OpenCommand) → slot slots k ≡ Some h → command_at slots k ≡ h
 filled slots k h e = rw e refl
 
@@ -215,7 +215,7 @@ removed_at s r ks js hs i key h list within is items e u are =
       here = command_there s.slots ks (listed s.slots ks) i key h refl inside is e;
     }
 
--- a command was inserted behind those that are listed, into a slab that was given room
+-- a command was inserted after those that are listed, into a slab that was given room
 pub record IsInserted (s r : Slab OpenCommand) (ks js : List ℕ) (h : OpenCommand) : Type 0 where
   pub keys : AreKeys r.slots js
   pub list : listed r.slots js ≡ listed s.slots ks ++ h ∷ []
@@ -234,7 +234,7 @@ inserted_at s m r ks ls js key h same kept items none u are =
 
 -- ---- counts
 
--- one of the commands is such where their count is not 0
+-- one of the commands is such if their count is not 0
 positive : (n : ℕ) → true ≡ not ((1 + n) == 0)
 positive n = grind arith
 

@@ -28,7 +28,7 @@ held_here sort hs n bound h e = ap (first_free sort hs n) (less n bound h) ∙ s
 pub none_left : (sort : ℕ → Tag) (hs : List OpenCommand) (n bound : ℕ) → bound ≤ n → first_free sort hs n (bound - n) ≡ None
 none_left sort hs n bound h = let none : bound - n ≡ 0 = omega arith in ap (first_free sort hs n) none
 
--- ---- the next number, of so many
+-- ---- the next number, of that many
 
 same : (sort : ℕ → Tag) (hs : List OpenCommand) (d bound : ℕ) → first_free sort hs (d + 1) (suc bound - (d + 1))
     ≡ first_free sort hs (suc d) (bound - d)

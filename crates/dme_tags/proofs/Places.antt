@@ -157,7 +157,7 @@ pub ended_at : (front : Bool) (hs : List OpenCommand) (t : Tag) (m : Mark) (i : 
     → heard_in front hs t m ≡ Ok (remove hs i, effect)
 ended_at front hs t m i h effect b at front_is is = heard_at front hs t m i h b at front_is ∙ ap (behind (take i hs)) is
 
--- the mark has no place
+-- the mark is unexpected
 pub refused_at : (front : Bool) (hs : List OpenCommand) (t : Tag) (m : Mark) (i : ℕ) (h : OpenCommand) (cause : Option Cause) (b : Bool)
     → IsAt t hs i h
     → b ≡ (front && all_failed (take i hs)) → IsRefused (settled_at b hs i h m) cause → IsRefused (heard_in front hs t m) cause

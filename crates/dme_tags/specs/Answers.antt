@@ -11,7 +11,7 @@ use Rattle.dme_tags.specs.declared.faults.TagFault.TheVariants as fault
 use Rattle.dme_tags.specs.declared.endings.Ended.{Ended}
 use Rattle.dme_tags.specs.declared.endings.Ended.TheVariants as ended
 
--- why a client that meets a fault gives its connection up; it does not for want of memory
+-- why a client that meets a fault leaves its connection; it stays if memory ran out
 abbrev pub cause_of : TagFault → Option Cause
 cause_of fault.UnknownTag = Some cause.UnknownTag
 cause_of fault.OutOfOrder = Some cause.OutOfOrder
@@ -34,7 +34,7 @@ abbrev pub effect_of : Ended → Effect
 effect_of (ended.Counted kind given) = Effect.Count kind given
 effect_of ended.Closed = Effect.Quiet
 
--- the effect of a mark, if it has a place
+-- the effect of a mark, if it is expected
 abbrev pub effect_heard : {A : Type 0} → Result (A × Effect) Cause → Option Effect
 effect_heard (Ok (behind, effect)) = Some effect
 effect_heard (Err cause) = None

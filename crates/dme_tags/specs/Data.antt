@@ -21,7 +21,7 @@ is_fit kind Stage.Received = true
 is_fit kind (Stage.Given datum) = fits kind datum
 is_fit kind Stage.Failed = true
 
--- the same of each of these commands
+-- likewise for each of these commands
 abbrev pub AreFit : List OpenCommand → Type 0
 AreFit [] = ⊤
 AreFit (h ∷ hs) = (is_fit h.kind h.stage ≡ true) × AreFit hs

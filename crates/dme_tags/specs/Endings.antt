@@ -10,7 +10,7 @@ use Rattle.dme_tags.specs.declared.faults.TagFault.TheVariants as fault
 use Rattle.dme_tags.specs.declared.endings.Ended.{Ended}
 use Rattle.dme_tags.specs.declared.endings.Ended.TheVariants as ended
 
--- the answer to a `%` under a tag: the command counts where it does, and is closed where it has failed; each refusal comes where it is
+-- the answer to a `%` under a tag: the command counts where it does, and is closed where it has failed; each refusal comes if it is
 -- due, and out of order is all that is left
 pub record IsEnding (tag : Tag) (before : OpenValue) (result : Result Ended TagFault) : Type 0 where
   pub counted : (kind : Kind) (given : Option Datum) → (result ≡ Ok (ended.Counted kind given)) ↔ CountsAs tag before kind given

@@ -22,7 +22,7 @@ command_at slots key = unwrap_or (slot slots key) (record { tag = Std 0; kind = 
 abbrev pub listed : Slots → List ℕ → List OpenCommand
 listed slots keys = map (command_at slots) keys
 
--- a key is none of these
+-- a key is not one of these
 abbrev pub IsApart : ℕ → List ℕ → Type 0
 IsApart key [] = ⊤
 IsApart key (other ∷ others) = (key ≢ other) × IsApart key others

@@ -15,7 +15,7 @@ use Rattle.dme_tags.specs.Limits.{last_number}
 use Rattle.dme_tags.specs.Places.{ahead_of, all_failed}
 
 -- the commands that are held under standard tags and under event tags, each in sending order; whether a standard command has failed
--- since the plan began; the numbers of the tags of both sorts that were drawn last, 0 where none was
+-- since the plan began; the numbers of the tags of both sorts that were drawn last, 0 if none was
 pub record OpenValue : Type 0 where
   pub standard : List OpenCommand
   pub event : List OpenCommand
@@ -65,7 +65,7 @@ number_of (Event n) = n
 abbrev pub IsSpentFor : Kind → OpenValue → Type 0
 IsSpentFor kind o = (tag : Tag) → IsTagOf kind tag → number_of tag ≤ last_number → is_held tag (held_beside tag o) ≡ true
 
--- a number lies behind the one that was drawn last and before the next one, where 1 comes again behind the last
+-- a number lies after the one that was drawn last and before the next one, where 1 comes again after the last
 abbrev pub IsBetween : ℕ → ℕ → ℕ → Type 0
 IsBetween last n next = ((last < n) × (n < next)) ⊎ ((next ≤ last) × (((last < n) × (n ≤ last_number)) ⊎ ((1 ≤ n) × (n < next))))
 
@@ -76,13 +76,13 @@ ArePassedOver (Event k) o = (n : ℕ) → IsBetween o.event_drawn n k → is_hel
 
 -- ---- marks
 
--- whether a standard command has failed since the plan began, behind one with this effect
+-- whether a standard command has failed since the plan began, after one with this effect
 abbrev pub failed_behind : Effect → Bool → Bool
 failed_behind Effect.Quiet failed = failed
 failed_behind Effect.Failure failed = true
 failed_behind (Effect.Count kind given) failed = failed
 
--- the open commands after a mark with its effect, or why it has no place
+-- the open commands after a mark with its effect, or why it is unexpected
 abbrev pub Answer : Type 0
 Answer = Result (OpenValue × Effect) Cause
 
@@ -91,7 +91,7 @@ abbrev pub heard_standard : OpenValue → Heard → Answer
 heard_standard o (Ok (hs, effect)) = Ok (record o { standard = hs; failed = failed_behind effect o.failed }, effect)
 heard_standard o (Err cause) = Err cause
 
--- the same where it is on an event tag; a failed event command keeps no standard one back
+-- likewise if it is on an event tag; a failed event command holds no standard one back
 abbrev pub heard_event : OpenValue → Heard → Answer
 heard_event o (Ok (hs, effect)) = Ok (record o { event = hs }, effect)
 heard_event o (Err cause) = Err cause

@@ -12,11 +12,11 @@ pub record IsTableOf (b : Table) (o : OpenValue) : Type 0 where
   pub event : b.event ≡ o.event
   pub failed : b.tally.failed ≡ o.failed
 
--- a client's tally behind a reply with this effect; only standard commands are tallied
+-- a client's tally after a reply with this effect; only standard commands are tallied
 abbrev pub tally_behind : Client → Tag → Effect → Tally → Tally
 tally_behind c (Std n) effect y = tallied c.program.features effect y
 tally_behind c (Event n) effect y = y
 
--- a client's table behind a reply that leaves these open commands
+-- a client's table after a reply that leaves these open commands
 abbrev pub table_behind : Client → OpenValue → Tag → Effect → Table
 table_behind c next t effect = record { standard = next.standard; event = next.event; tally = tally_behind c t effect c.table.tally }

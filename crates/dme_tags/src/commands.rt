@@ -13,7 +13,7 @@ use std::marker::Model;
 
 /// The open commands of one sort of tags. Contracts see their list, in sending order.
 ///
-/// They stand in a slab, and their keys in a list beside it, so that the end of a command moves keys alone. How many have not failed, and
+/// They are in a slab, and their keys in a list next to it, so that the end of a command moves keys alone. How many have not failed, and
 /// how many of those ask whether the machine is homed, is kept: a client asks for it at each reply.
 #[derive(Debug, Drop)]
 pub(crate) struct Commands {
@@ -64,7 +64,7 @@ fn question_one(held: &OpenCommand) -> usize
 }
 
 impl Commands {
-    /// None is open. Takes no memory yet.
+    /// No command is open. Does not allocate.
     pub(crate) fn new(alloc: Global) -> Commands
         ensures { result ≡ [] }
     {
@@ -76,7 +76,7 @@ impl Commands {
         }
     }
 
-    /// Gives all up. Takes no memory.
+    /// Discards all commands. Does not allocate.
     pub(crate) fn clear(&mut self)
         ensures { self.new ≡ [] }
     {
@@ -100,7 +100,7 @@ impl Commands {
         &self.slab[self.keys[index]]
     }
 
-    /// A command that is sent now, behind the others. Room is made for it and for its key before anything changes.
+    /// A command that is sent now, after the others. Room is made for it and for its key before anything changes.
     pub(crate) fn push(&mut self, tag: Tag, kind: Kind) -> Result<(), AllocError>
         ensures ok { OnOk result (self.new ≡ self.old ++ held_now tag kind ∷ []) }
         ensures err { OnErr result (self.new ≡ self.old) }
@@ -119,7 +119,7 @@ impl Commands {
         Ok(())
     }
 
-    /// The command at a place comes to this stage. Takes no memory.
+    /// The command at a place comes to this stage. Does not allocate.
     pub(crate) fn set_stage(&mut self, index: usize, stage: Stage)
         requires { index < length self.old }
         ensures { (held : OpenCommand) → get_or self.old index held ≡ held
@@ -133,7 +133,7 @@ impl Commands {
         self.slab[key] = next;
     }
 
-    /// The command at a place has ended. Takes no memory.
+    /// The command at a place has ended. Does not allocate.
     pub(crate) fn remove(&mut self, index: usize)
         requires { index < length self.old }
         ensures { self.new ≡ remove self.old index }

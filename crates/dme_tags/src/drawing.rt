@@ -74,7 +74,7 @@ fn first_free(commands: &Commands, sort: Sort, from: u32) -> Option<u32>
     None
 }
 
-/// The number that is drawn next behind this one: the numbers come one after another, and again from 1 on.
+/// The number that is drawn next after this one: the numbers come one after another, and again from 1 on.
 #[tactic(auto, using(crate::proofs::Numbers::next_again))]
 fn next_number(commands: &Commands, sort: Sort, drawn: u32) -> Option<u32>
     requires { drawn ≤ last_number }
@@ -89,7 +89,7 @@ fn next_number(commands: &Commands, sort: Sort, drawn: u32) -> Option<u32>
     }
 }
 
-/// The tag that is drawn next behind the one with this number.
+/// The tag that is drawn next after the one with this number.
 pub(crate) fn next_tag(commands: &Commands, sort: Sort, drawn: u32) -> Result<Tag, TagFault>
     requires { drawn ≤ last_number }
     ensures next { IfOk result (λ tag. tagged (numbered sort)

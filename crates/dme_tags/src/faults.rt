@@ -6,7 +6,7 @@ ghost use Rattle.dme_tags.specs.Answers.{cause_of};
 use protocol_model::Cause;
 use std::alloc::AllocError;
 
-/// Why a tag is not drawn, or a mark has no place (this profile).
+/// Why a tag is not drawn, or a mark is unexpected (this profile).
 #[derive(Clone, Copy, Debug, PartialEq, Eq)]
 pub enum TagFault {
     /// G1: no command is held under the tag. This comes before all else.
@@ -24,7 +24,7 @@ pub enum TagFault {
 }
 
 impl TagFault {
-    /// Why a client that meets this fault gives its connection up; none for want of memory.
+    /// Why a client that meets this fault leaves its connection; none if memory ran out.
     pub fn cause(self) -> Option<Cause>
         ensures { result ≡ cause_of self }
     {

@@ -62,8 +62,8 @@ pub fn marks_of_a_command_are_its_replies()
         → AreAtFront false (taken_under tag (with_drawn o tag kind) calls) }
 {}
 
-/// No number is passed over though its tag is free: each one behind that of the tag drawn last and before that of the next one is held,
-/// where 1 comes again behind 9999.
+/// No number is passed over though its tag is free: each one after that of the tag drawn last and before that of the next one is held,
+/// where 1 comes again after 9999.
 #[tactic(auto, using(crate::proofs::Passing::passed_over))]
 pub fn numbers_passed_over_are_held()
     ensures { (o : OpenValue) (kind : Kind) (tag : Tag) → next_tag o kind ≡ Some tag

@@ -58,7 +58,7 @@ impl Model for Open {
 }
 
 impl Open {
-    /// Nothing is open, and no tag was drawn. Takes no memory yet.
+    /// Nothing is open, and no tag was drawn. Does not allocate.
     pub fn new(alloc: Global) -> Open
         ensures { result ≡ none_open }
     {
@@ -71,7 +71,7 @@ impl Open {
         }
     }
 
-    /// Gives all open commands up for a new connection, on which the tags begin at number 1 again. Takes no memory.
+    /// Discards all open commands for a new connection, on which the tags begin at number 1 again. Does not allocate.
     pub fn clear(&mut self)
         ensures { self.new ≡ none_open }
     {
@@ -82,7 +82,7 @@ impl Open {
         self.event_drawn = 0;
     }
 
-    /// The tag that `draw` would give to a command of this kind; nothing is drawn, and no memory is taken.
+    /// The tag that `draw` would give to a command of this kind. Draws nothing and does not allocate.
     ///
     /// The only refusal is `TagsSpent` (G5).
     pub fn next_tag(&self, kind: Kind) -> Result<Tag, TagFault>
@@ -101,11 +101,11 @@ impl Open {
     }
 
     /// Draws a tag for a command of this kind, which is open under it from now on: an event tag for an abort, a standard tag for any
-    /// other. Tags are drawn with the numbers 1 to 9999 one after the other, again from 1 on behind the last, and those that are held
+    /// other. Tags are drawn with the numbers 1 to 9999 one after the other, again from 1 on after the last, and those that are held
     /// are passed over (this profile).
     ///
-    /// `TagsSpent` (G5) where all of them are held. `Memory` where a growth was refused; nothing is drawn then. Nothing but this
-    /// growth can fail where `next_tag` has answered a tag.
+    /// `TagsSpent` (G5) if all of them are held. `Memory` if a growth was refused; nothing is drawn then. Only this
+    /// growth can fail if `next_tag` has answered a tag.
     pub fn draw(&mut self, kind: Kind) -> Result<Tag, TagFault>
         ensures next { IfOk result (λ tag. next_tag self.old kind ≡ Some tag) }
         ensures drawn { Draws result self.old self.new kind }
@@ -131,7 +131,7 @@ impl Open {
         Ok(tag)
     }
 
-    /// The kind of the command that is held under a tag; none where none is. Takes no memory.
+    /// The kind of the command that is held under a tag; `None` if no command is. Does not allocate.
     pub fn kind_of(&self, tag: Tag) -> Option<Kind>
         ensures { result ≡ kind_under tag self.now }
     {
@@ -141,9 +141,9 @@ impl Open {
         }
     }
 
-    /// Takes in that `&` was read under a tag. Takes no memory.
+    /// Takes in that `&` was read under a tag. Does not allocate.
     ///
-    /// `UnknownTag` (G1) where none is held under it; `OutOfOrder` (G2) where a mark was read for the command before.
+    /// `UnknownTag` (G1) if no command is held under it; `OutOfOrder` (G2) where a mark was read for the command before.
     pub fn received(&mut self, tag: Tag) -> Result<(), TagFault>
         ensures due { IsOk result ↔ IsUnread tag self.old }
         ensures unknown { IsErrOf result TagFault.UnknownTag ↔ (kind_under tag self.old ≡ None) }
@@ -158,11 +158,11 @@ impl Open {
         }
     }
 
-    /// Takes in that these data were read under a tag. Where a `PtMeas` is held under it the caller owes a point, and where an `IsHomed`
-    /// is, whether the machine is homed. Takes no memory.
+    /// Takes in that these data were read under a tag. Where a `PtMeas` is held under it the caller must give a point, and where an
+    /// `IsHomed` is, whether the machine is homed. Does not allocate.
     ///
-    /// `UnknownTag` (G1) where none is held under it; `SecondData` (G4) where the command, a `PtMeas` or `IsHomed` at the front, has data
-    /// already; `OutOfOrder` (G2) where it asks for no data, is not at the front, not yet received, or failed.
+    /// `UnknownTag` (G1) if no command is held under it; `SecondData` (G4) where the command, a `PtMeas` or `IsHomed` at the front, has
+    /// data already; `OutOfOrder` (G2) where it asks for no data, is not at the front, not yet received, or failed.
     pub fn data(&mut self, tag: Tag, datum: Datum) -> Result<(), TagFault>
         requires { may_be_given (kind_under tag self.old) datum ≡ true }
         ensures due { IsOk result ↔ AwaitsData tag self.old }
@@ -181,9 +181,9 @@ impl Open {
         }
     }
 
-    /// Takes in that `!` was read under a tag: the command has failed, and a further `!` of it changes nothing. Takes no memory.
+    /// Takes in that `!` was read under a tag: the command has failed, and a further `!` of it changes nothing. Does not allocate.
     ///
-    /// `UnknownTag` (G1) where none is held under it.
+    /// `UnknownTag` (G1) if no command is held under it.
     pub fn failed(&mut self, tag: Tag) -> Result<(), TagFault>
         ensures unknown { IsErrOf result TagFault.UnknownTag ↔ (kind_under tag self.old ≡ None) }
         ensures named { IfErr result (λ fault. fault ≡ TagFault.UnknownTag) }
@@ -204,7 +204,7 @@ impl Open {
         Ok(())
     }
 
-    /// How `complete` would answer. Nothing changes, and no memory is taken.
+    /// How `complete` would answer. Changes nothing and does not allocate.
     #[tactic(auto, using(crate::proofs::Effects::standard_effect, crate::proofs::Effects::event_effect))]
     pub fn end_of(&self, tag: Tag) -> Result<Ended, TagFault>
         ensures ending { IsEnding tag self.now result }
@@ -221,9 +221,9 @@ impl Open {
     }
 
     /// Takes in that `%` was read under a tag, which is free from now on: the command counts, a `PtMeas` with its point and an `IsHomed`
-    /// with whether the machine is homed, or is closed where it had failed. Takes no memory.
+    /// with whether the machine is homed, or is closed where it had failed. Does not allocate.
     ///
-    /// `UnknownTag` (G1) where none is held under it; `NoData` (G3) where a `PtMeas` or `IsHomed` at the front was received and has no
+    /// `UnknownTag` (G1) if no command is held under it; `NoData` (G3) where a `PtMeas` or `IsHomed` at the front was received and has no
     /// data; `OutOfOrder` (G2) where the command has not failed and is not at the front, or was not received. So commands count in sending
     /// order, standard ones and event ones each.
     pub fn complete(&mut self, tag: Tag) -> Result<Ended, TagFault>
@@ -240,28 +240,28 @@ impl Open {
         }
     }
 
-    /// How many standard commands are open: neither their `!` nor their `%` was read. Takes no memory.
+    /// How many standard commands are open: neither their `!` nor their `%` was read. Does not allocate.
     pub fn count(&self) -> usize
         ensures { result ≡ count_open self.now.standard }
     {
         self.standard.count_open()
     }
 
-    /// Whether an `IsHomed` is open: neither its `!` nor its `%` was read. No command is due meanwhile. Takes no memory.
+    /// Whether an `IsHomed` is open: neither its `!` nor its `%` was read. No command is due meanwhile. Does not allocate.
     pub fn is_asking(&self) -> bool
         ensures { result ≡ is_asking self.now.standard }
     {
         self.standard.is_asking()
     }
 
-    /// Whether an event command is open. Takes no memory.
+    /// Whether an event command is open. Does not allocate.
     pub fn event_open(&self) -> bool
         ensures { result ≡ not (count_open self.now.event == 0) }
     {
         self.event.count_open() != 0
     }
 
-    /// Whether a standard command has failed since the plan began. Takes no memory.
+    /// Whether a standard command has failed since the plan began. Does not allocate.
     pub fn has_failed(&self) -> bool
         ensures { result ≡ self.now.failed }
     {
@@ -269,7 +269,7 @@ impl Open {
     }
 
     /// Begins a plan: no command of it has failed yet. Commands that have failed and whose `%` is on its way keep their tags; a client
-    /// begins a plan only while no standard command is open. Takes no memory.
+    /// begins a plan only while no standard command is open. Does not allocate.
     pub fn begin_plan(&mut self)
         ensures { self.new ≡ record self.old { failed = false } }
     {

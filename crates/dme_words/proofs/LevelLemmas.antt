@@ -63,7 +63,7 @@ known_found c p (x ∷ xs) a all e = go (p x) e (known_found c p xs a all.1)
     go true e behind = subst (Known c) (same_Some _ _ e) all.0
     go false e behind = behind e
 
--- values behind values
+-- values after values
 both_pass : (again : Bool) (parser : ValueParser) (xs ys : List Text) → values_kinds again parser xs ≡ []
     → values_kinds again parser ys ≡ []
     → values_kinds again parser (xs ++ ys) ≡ []

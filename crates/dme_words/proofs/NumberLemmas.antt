@@ -1,4 +1,4 @@
--- A text that passed a range from 1 on reads as the number that it writes, and a flag as it was told.
+-- A text that passed a range from 1 on reads as the number that it writes, and a flag as it was given.
 use Rattle.std.proofs.Common.{◌≡◌, ◌==◌, ◌<◌, ◌^◌, ◌&&◌, ◌∙◌, ℕ, Bool, true, false, cond, List, [], ◌∷◌, Option, Some, None}
 use Rattle.std.proofs.Common.{Result, Ok, Err, refl, sym, subst, ap, ap₂, arith, le-leb, true≢false}
 use Rattle.std.specs.Prelude.{codes, pos, unwrap_or}
@@ -48,7 +48,7 @@ number_reads E G bits most t r read only fits passed = go (starts_with_minus t) 
 pub number-window : (window : ℕ) (text : Text) → IsNumber 16 window text → is_window window ≡ true
 number-window window text is = ap₂ (λ a b. a && b) (le-leb 1 window is.1) (le-leb window 16 is.2)
 
--- the flag that was read is the one that was told
+-- the flag that was read is the one that was given
 pub flag_reads : (id : Text) (rows : List Row) (one : Option Text) (result : Bool) → one ≡ one_of id rows → HasFlag id rows
     → (one ≡ Some (codes "true") → result ≡ true) → (one ≡ Some (codes "false") → result ≡ false) → IsFlagOf id rows result
 flag_reads id rows one result same has raised lowered = go has.is_set has.written (same ∙ has.read)

@@ -21,7 +21,7 @@ found_askable a words m is none has = subst (λ (found : Option (Text × List Ro
     (sym ((has (ap is_simple is ∙ refl)).1 ∙ ap (λ (x : App). subcommand_of x words) is))
     (asked words (subst (λ (x : App). fault_of x words ≡ []) is none))
 
--- the same of an answer of either kind
+-- likewise for an answer of either kind
 pub names_askable : (a : App) (words : List Text) (answer : Result ArgMatches Error) → a ≡ whole_line
     → FailsBy (fault_of a words) answer → IfOk answer (HasMatchesOf a words)
     → IfOk answer (λ m. IsSomeAnd (subcommand_rows_of m) IsAskable)

@@ -8,7 +8,7 @@ use Rattle.dme_words.specs.declared.line.Argument.TheVariants as argument
 use Rattle.dme_words.specs.declared.line.Kind.{Kind}
 use Rattle.dme_words.specs.declared.line.Kind.TheVariants as kind
 
--- what `clap` is told of an argument
+-- what `clap` is given of an argument
 abbrev pub argument_rule : Argument → Rule
 argument_rule argument.Setup = text_rule (codes "setup")
 argument_rule argument.NeededSetup = needed_rule (codes "setup")
@@ -36,7 +36,7 @@ argument_rule argument.Program = program_rule
 abbrev pub with_next : App → Argument → App
 with_next line argument = with_rule line (argument_rule argument)
 
--- what `clap` is told of a subcommand
+-- what `clap` is given of a subcommand
 abbrev pub kind_line : Kind → App
 kind_line kind.Check = check_line
 kind_line kind.Simulate = simulate_line

@@ -4,7 +4,7 @@ use Rattle.clap.specs.Words.{App, Rule, Text, new_app, new_rule, with_rule, with
 use Rattle.clap.specs.declared.builder.action.ArgAction.TheVariants.{SetTrue}
 use Rattle.clap.specs.declared.builder.value_parser.ValueParser.TheVariants.{Signed}
 
--- the option `--NAME TEXT`, whose text is taken as it stands, as a file's name is
+-- the option `--NAME TEXT`, whose text is taken unchanged, as a file's name is
 abbrev pub text_rule : Text → Rule
 text_rule name = record (new_rule name) { long = Some name; value_names = 1 }
 
@@ -16,7 +16,7 @@ needed_rule name = record (text_rule name) { required = true }
 abbrev pub number_rule : Text → ℕ → Rule
 number_rule name most = record (text_rule name) { parser = Some (Signed (pos 1) (pos most)) }
 
--- the option `--window W`: a number from 1 to 16, 1 where none is named
+-- the option `--window W`: a number from 1 to 16, 1 if none is named
 abbrev pub window_rule : Rule
 window_rule = record (number_rule (codes "window") 16) { defaults = codes "1" ∷ [] }
 
@@ -24,7 +24,7 @@ window_rule = record (number_rule (codes "window") 16) { defaults = codes "1" �
 abbrev pub port_rule : Rule
 port_rule = record (number_rule (codes "port") 65535) { required = true }
 
--- the option `--connections K`: a number from 1 to 4,000,000,000, 1 where none is named
+-- the option `--connections K`: a number from 1 to 4,000,000,000, 1 if none is named
 abbrev pub connections_rule : Rule
 connections_rule = record (number_rule (codes "connections") 4000000000) { defaults = codes "1" ∷ [] }
 
@@ -32,7 +32,7 @@ connections_rule = record (number_rule (codes "connections") 4000000000) { defau
 abbrev pub flag_rule : Text → Rule
 flag_rule name = record (new_rule name) { long = Some name; action = Some SetTrue }
 
--- the positional `PROGRAM`, `-` where none is named
+-- the positional `PROGRAM`, `-` if none is named
 abbrev pub program_rule : Rule
 program_rule = record (new_rule (codes "PROGRAM")) { defaults = codes "-" ∷ [] }
 

@@ -29,11 +29,11 @@ use Rattle.dme_words.specs.declared.words.WordsFault.TheVariants.{Line, Memory, 
 abbrev pub IsValueOf : Text → List Row → Text → Type 0
 IsValueOf id rows name = first_of id rows ≡ Some name
 
--- the name is the value of the option with this id, or none where none is named
+-- the name is the value of the option with this id, or none if none is named
 abbrev pub IsMaybeOf : Text → List Row → Option Text → Type 0
 IsMaybeOf id rows name = name ≡ first_of id rows
 
--- the program is the named one, or standard input where none is named
+-- the program is the named one, or standard input if none is named
 abbrev pub IsProgramOf : List Row → Text → Type 0
 IsProgramOf rows name = name ≡ unwrap_or (first_of (codes "PROGRAM") rows) (codes "-")
 
@@ -65,7 +65,7 @@ IsFlagOf id rows is_set = first_of id rows ≡ Some (bool_text is_set)
 abbrev pub IsExplainedOf : List Row → Bool → Type 0
 IsExplainedOf = IsFlagOf (codes "explain")
 
--- a check of the program with the named setup, or with none where none is named
+-- a check of the program with the named setup, or with none if none is named
 abbrev pub IsCheckOf : List Row → Check → Type 0
 IsCheckOf rows o =
     IsMaybeOf (codes "setup") rows (option_map string_bytes o.setup) × IsExplainedOf rows o.explain
@@ -90,7 +90,7 @@ IsLoopOf rows o =
     IsValueOf (codes "setup") rows (string_bytes o.setup) × IsWindowOf rows o.window × IsFlagOf (codes "progress") rows o.progress
     × IsFlagOf (codes "trace") rows o.trace × IsExplainedOf rows o.explain × IsProgramOf rows (string_bytes o.program)
 
--- a server with the named setup at the named port, for so many connections, with the named file for its contacts, if any
+-- a server with the named setup at the named port, for that many connections, with the named file for its contacts, if any
 abbrev pub IsServeOf : List Row → Service → Type 0
 IsServeOf rows o =
     IsValueOf (codes "setup") rows (string_bytes o.setup) × IsPortOf rows o.port × IsConnectionsOf rows o.connections
@@ -120,7 +120,7 @@ form_word Csv = codes "csv"
 form_word Json = codes "json"
 form_word Svg = codes "svg"
 
--- what was measured of the program, in the named form, with the named features, and with the named setup or with none where none is named
+-- what was measured of the program, in the named form, with the named features, and with the named setup or with none if none is named
 abbrev pub IsExportOf : List Row → Export → Type 0
 IsExportOf rows o =
     IsValueOf (codes "as") rows (form_word o.form) × IsMaybeOf (codes "setup") rows (option_map string_bytes o.setup)
@@ -246,7 +246,7 @@ pub record Asks (words : List Text) (asked : Order) : Type 0 where
   pub faultless : fault_of whole_line words ≡ []
   pub named : IsOrderOf (subcommand_of whole_line words) asked
 
--- the words have a fault, and the text is that of this fault, which is never want of memory
+-- the words have a fault, and the text is that of this fault, which is never running out of memory
 pub record HasFault (words : List Text) (error : Error) : Type 0 where
   pub fault : IsAmong (kind_of error) (fault_of whole_line words)
   pub told : kind_of error ≢ OutOfMemory
@@ -255,23 +255,23 @@ pub record HasFault (words : List Text) (error : Error) : Type 0 where
 abbrev pub IsNoCode : Text → Type 0
 IsNoCode code = (topic : Topic) → IsCodeOf topic code → ⊥
 
--- the word stands for no form
+-- the word names no form
 abbrev pub IsNoForm : Text → Type 0
 IsNoForm word = (form : Form) → word ≡ form_word form → ⊥
 
--- the named code is that of no refusal; or want of memory
+-- no refusal has the named code; or memory ran out
 abbrev pub HasNoTopic : List Row → WordsFault → Type 0
 HasNoTopic rows (NoCode code) = IsValueOf (codes "CODE") rows (string_bytes code) × IsNoCode (string_bytes code)
 HasNoTopic rows Memory = Unit {0}
 HasNoTopic rows _ = ⊥
 
--- the named form is none; or want of memory
+-- the named word is not a form; or memory ran out
 abbrev pub HasNoForm : List Row → WordsFault → Type 0
 HasNoForm rows (NoForm word) = IsValueOf (codes "as") rows (string_bytes word) × IsNoForm (string_bytes word)
 HasNoForm rows Memory = Unit {0}
 HasNoForm rows _ = ⊥
 
--- why a subcommand asks for nothing: its code is that of no refusal, or its form is none; or want of memory
+-- why a subcommand asks for nothing: no refusal has its code, or its word is not a form; or memory ran out
 abbrev pub AsksForNothing : Option (Text × List Row) → WordsFault → Type 0
 AsksForNothing found (Line error) = ⊥
 AsksForNothing found Memory = Unit {0}
@@ -285,14 +285,14 @@ pub record HasNoValue (words : List Text) (fault : WordsFault) : Type 0 where
   pub faultless : fault_of whole_line words ≡ []
   pub named : AsksForNothing (subcommand_of whole_line words) fault
 
--- only a fault of the words is called a bad line, and only a value that is none a bad value
+-- only a fault of the words is called a bad line, and only an unknown code or form a bad value
 abbrev pub IsRefusal : List Text → WordsFault → Type 0
 IsRefusal words (Line error) = HasFault words error
 IsRefusal words Memory = Unit {0}
 IsRefusal words (NoCode code) = HasNoValue words (NoCode code)
 IsRefusal words (NoForm word) = HasNoValue words (NoForm word)
 
--- what an error of `clap` is called: want of memory just where it is that, and a bad line, with its text, where it is any other
+-- what an error of `clap` is called: running out of memory exactly if it is that, and a bad line, with its text, if it is any other
 abbrev pub IsCalled : Error → WordsFault → Type 0
 IsCalled error (Line told) = (kind_of error ≢ OutOfMemory) × (told ≡ error)
 IsCalled error Memory = kind_of error ≡ OutOfMemory

@@ -1,6 +1,6 @@
 //! The command line of `dme` and what its words ask for. The command line is this profile's; the crate `clap` reads it.
 //!
-//! - `line`: the command line, as `clap` is told it
+//! - `line`: the command line, as `clap` is given it
 //! - `orders`: what words ask for
 //! - `words`: which of these the words of a command line ask for, or why they ask for nothing
 #![tactic(auto)]

@@ -1,4 +1,4 @@
-// The command line of `dme`, as the crate `clap` is told it.
+// The command line of `dme`, as the crate `clap` is given it.
 
 ghost use Rattle.std.specs.Prelude.{◌≡◌, IfOk, false, codes, fold};
 ghost use Rattle.clap.specs.declared.builder.command.Command.TheViews.{out-Command};
@@ -11,7 +11,7 @@ ghost use Rattle.dme_words.specs.Arguments.{argument_rule, kind_line, with_kind,
 use clap::{Arg, ArgAction, Command};
 use std::alloc::{AllocError, Global};
 
-/// The window, and the count of connections, where none is named.
+/// The window, and the count of connections, if none is named.
 const ONE: &str = "1";
 
 /// An argument of a command.
@@ -247,7 +247,7 @@ fn form_option<'a>(alloc: Global) -> Arg<'a>
         .required(true)
 }
 
-/// The argument of a command, as `clap` is told it.
+/// The argument of a command, as `clap` is given it.
 fn made_argument<'a>(alloc: Global, argument: Argument) -> Arg<'a>
     ensures rule { rule_of result ≡ argument_rule argument }
     ensures local { result.global ≡ false }
@@ -302,7 +302,7 @@ fn made_argument<'a>(alloc: Global, argument: Argument) -> Arg<'a>
     }
 }
 
-/// A command that takes an argument more.
+/// A command with one more argument.
 fn with_argument<'a>(command: Command<'a>, argument: Arg<'a>) -> Result<Command<'a>, AllocError>
     requires command { (out-Command command).has_globals ≡ false }
     requires argument { argument.global ≡ false }
@@ -313,7 +313,7 @@ fn with_argument<'a>(command: Command<'a>, argument: Arg<'a>) -> Result<Command<
     command.arg(argument)
 }
 
-/// A command that takes this argument more.
+/// A command with this argument added.
 fn with_next<'a>(
     alloc: Global,
     command: Command<'a>,
@@ -326,7 +326,7 @@ fn with_next<'a>(
     with_argument(command, made_argument(alloc, argument))
 }
 
-/// A command that takes these arguments more, in their order.
+/// A command with these arguments added, in their order.
 fn with_arguments<'a>(
     alloc: Global,
     command: Command<'a>,
@@ -344,7 +344,7 @@ fn with_arguments<'a>(
     Ok(command)
 }
 
-/// A command that has a subcommand more.
+/// A command with one more subcommand.
 fn with_order<'a>(command: Command<'a>, order: Command<'a>) -> Result<Command<'a>, AllocError>
     requires command { (out-Command command).has_globals ≡ false }
     requires order { (out-Command order).has_globals ≡ false }
@@ -542,7 +542,7 @@ fn order_command<'a>(alloc: Global, kind: Kind) -> Result<Command<'a>, AllocErro
     }
 }
 
-/// A command that has the subcommand of this kind more.
+/// A command with the subcommand of this kind added.
 fn with_kind<'a>(alloc: Global, command: Command<'a>, kind: Kind) -> Result<Command<'a>, AllocError>
     requires command { (out-Command command).has_globals ≡ false }
     ensures shape { IfOk result (λ made. app_of made ≡ with_kind (app_of command.entry) kind) }
@@ -551,7 +551,7 @@ fn with_kind<'a>(alloc: Global, command: Command<'a>, kind: Kind) -> Result<Comm
     with_order(command, order_command(alloc, kind)?)
 }
 
-/// A command that has the subcommands of these kinds more, in their order.
+/// A command with the subcommands of these kinds added, in their order.
 fn with_kinds<'a>(
     alloc: Global,
     command: Command<'a>,

@@ -25,11 +25,11 @@ use std::alloc::{AllocError, Global};
 pub enum WordsFault {
     /// A bad command line, or a call for help, with `clap`'s text.
     Line(Error),
-    /// A code that is that of no refusal.
+    /// A code that no refusal has.
     NoCode(String),
-    /// A word that stands for no form.
+    /// A word that names no form.
     NoForm(String),
-    /// Want of memory.
+    /// Out of memory.
     Memory,
 }
 
@@ -44,7 +44,7 @@ impl From<AllocError> for WordsFault {
     }
 }
 
-/// A copy of a value, where there is one.
+/// A copy of a value, if there is one.
 fn copied(alloc: Global, value: Option<&str>) -> Result<Option<String>, AllocError>
     ensures { IfOk result (λ copy. option_map string_bytes copy
         ≡ option_map (λ v. v.now) value.entry) }
@@ -55,7 +55,7 @@ fn copied(alloc: Global, value: Option<&str>) -> Result<Option<String>, AllocErr
     }
 }
 
-/// The first value of an argument, where it has one.
+/// The first value of an argument, if it has one.
 fn value_of<'a>(values: &ArgMatches<'a>, id: &str) -> Option<&'a str>
     ensures { option_map (λ text. text.now) result
         ≡ first_of id.now (rows_of (found_of values.now)) }
@@ -83,7 +83,7 @@ fn copied_program(alloc: Global, values: &ArgMatches) -> Result<String, AllocErr
     String::from_str(alloc, value_of(values, "PROGRAM").unwrap_or("-"))
 }
 
-/// A copy of the value of an option, where it has one.
+/// A copy of the value of an option, if it has one.
 fn copied_maybe(alloc: Global, values: &ArgMatches, id: &str) -> Result<Option<String>, AllocError>
     ensures { IfOk result (λ copy. IsMaybeOf id.now (rows_of (found_of values.now))
         (option_map string_bytes copy)) }
@@ -289,7 +289,7 @@ fn explain_order(alloc: Global, values: &ArgMatches) -> Result<Topic, WordsFault
     topic_of(code)
 }
 
-/// The form that a word stands for.
+/// The form that a word names.
 fn form_of(word: String) -> Result<Form, WordsFault>
     ensures ok { IfOk result (λ form. string_bytes word ≡ form_word form) }
     ensures err { IfErr result (λ fault. (fault ≡ WordsFault.NoForm word)
@@ -354,7 +354,7 @@ fn order_of(alloc: Global, matches: &ArgMatches) -> Result<Order, WordsFault>
     }
 }
 
-/// What an error of `clap` is called: want of memory where it is that, else a bad line.
+/// What an error of `clap` is called: out of memory if it is that, else a bad line.
 fn refusal_of(error: Error) -> WordsFault
     ensures { IsCalled error result }
 {
@@ -364,8 +364,8 @@ fn refusal_of(error: Error) -> WordsFault
     WordsFault::Line(error)
 }
 
-/// What `clap`'s answer asks for. Words that it takes are refused only for a code that is that of no refusal, for a form that is none, and
-/// for want of memory, in copying a value.
+/// What `clap`'s answer asks for. Words that it takes are refused only for a code that no refusal has, for a word that names no form, or
+/// because memory ran out in copying a value.
 fn answered(alloc: Global, answer: Result<ArgMatches, Error>) -> Result<Order, WordsFault>
     requires { IfOk answer (λ matches. IsSomeAnd (subcommand_rows_of matches) IsAskable) }
     ensures order { IfOk answer.entry (λ matches. IfOk result
@@ -383,9 +383,8 @@ fn answered(alloc: Global, answer: Result<ArgMatches, Error>) -> Result<Order, W
 
 /// What the words of a command line ask for. The first word names the program in `clap`'s texts.
 ///
-/// Words are a bad line only for a fault that they have; a code is refused only where it is that of no refusal, and a form where it is none.
-/// Want of memory is told as that alone, in building the command, in `clap`,
-/// or in copying a value.
+/// Words are a bad line only for a fault that they have; a code is refused only if no refusal has it, and a word only if it names no form.
+/// Running out of memory is reported as that alone, in building the command, in `clap`, or in copying a value.
 pub fn read_words<'a>(alloc: Global, words: &'a [&'a str]) -> Result<Order, WordsFault>
     ensures order { IfOk result (Asks (map (λ word. word.now) words.now)) }
     ensures refused { IfErr result (IsRefusal (map (λ word. word.now) words.now)) }

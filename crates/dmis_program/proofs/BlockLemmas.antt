@@ -6,7 +6,7 @@ use Rattle.dmis_program.specs.declared.steps.Step.{Step}
 use Rattle.dmis_program.specs.declared.steps.Step.TheVariants.{Goto, Begin, Touch, Tool, Recall, End}
 use Rattle.dmis_program.specs.declared.features.Touch as touch
 
--- the touches of a block that ends do not go on behind its end
+-- the touches of a block that ends do not continue after its end
 block_ends : (n : ℕ) (steps more : List Step) → AreBlocks (Some n) steps → block_touches (steps ++ more) ≡ block_touches steps
 block_ends n [] more h = absurd h
 block_ends n (Goto target ∷ steps) more h = block_ends n steps more h

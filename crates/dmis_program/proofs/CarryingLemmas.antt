@@ -43,7 +43,7 @@ same_context c d number tool frame wanted touched = λ i. record {
   touched = touched i;
 }
 
--- the parts of what is carried, as they stand above
+-- the parts of what is carried, as they are above
 record Stands (frames : List (List ℕ × Point)) (above : List Statement) (c : ReaderState) : Type 0 where
   number : c.number ≡ length above
   tool : c.tool ≡ nearest tool_said above

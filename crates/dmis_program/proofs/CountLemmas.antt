@@ -10,7 +10,7 @@ use Rattle.std.proofs.lemmas.List.{drop_all}
 use Rattle.std.proofs.lemmas.Bool.Decides.{nat_tests}
 use Rattle.dmis_program.specs.Parameters.{count_of}
 
--- digits behind a number make it no smaller
+-- digits after a number make it no smaller
 digits_value_after-ge : (n : ℕ) (ds : List ℕ) → n ≤ digits_value_after 10 n ds
 digits_value_after-ge n [] = omega arith
 digits_value_after-ge n (d ∷ ds) = omega (arith, digits_value_after-ge (n * 10 + digit_value d) ds)
@@ -68,7 +68,7 @@ pub zero_count : (text : List ℕ) (n : ℕ) → list_all is_ascii_digit text �
 unfolding count_of
 zero_count text n h e none = rw (h, e) (grind (arith, nat_tests))
 
--- behind the last digit
+-- after the last digit
 pub all_counted : (value : ℕ) (digits : List ℕ) (i : ℕ) → length digits ≤ i
     → digits_value_after 10 value (drop i digits) ≡ digits_value 10 digits → digits_value 10 digits ≡ value
 all_counted value digits i past e = sym (rw (drop_all i digits past) at e)

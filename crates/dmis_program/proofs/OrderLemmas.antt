@@ -1,4 +1,4 @@
--- The first statement that is refused decides, and behind the end nothing is read.
+-- The first statement that is refused decides, and after the end nothing is read.
 use Rattle.std.proofs.Common.{◌≡◌, ℕ, true, List, [], ◌∷◌, ◌++◌, length, Ok, Err, Option, refl}
 use Rattle.dmis_text.specs.declared.elements.Statement.{Statement}
 use Rattle.dmis_text.specs.declared.reading.TextFault.{TextFault}

@@ -1,4 +1,4 @@
--- What a statement says by itself is within the limits, and tells the statement's keyword.
+-- What a statement says by itself is within the limits, and says the statement's keyword.
 use Rattle.std.proofs.Common.{◌≡◌, ℕ, ◌≤◌, Bool, true, false, cond, List, [], ◌∷◌, ℤ, pos, Result, Ok, Err, Option, Some, None, refl, ◌&&◌}
 use Rattle.std.proofs.Common.{nat_le, codes, drop, length}
 use Rattle.std.specs.Prelude.{option_and_then, IfOk, IfSome, unsigned_abs}

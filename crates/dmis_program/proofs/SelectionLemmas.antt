@@ -9,7 +9,7 @@ use Rattle.dmis_program.specs.declared.steps.Step.{Step}
 use Rattle.dmis_program.specs.declared.steps.Step.TheVariants.{Goto, Begin, Touch, Tool, Recall, End}
 use Rattle.dmis_program.specs.declared.features.Touch as touch
 
--- behind some steps, what is selected there
+-- after some steps, what is selected there
 record Behind (steps : List Step) : Type 0 where
   tool : Option (List ℕ)
   frame : Frame

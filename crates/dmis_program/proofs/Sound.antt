@@ -19,7 +19,7 @@ use Rattle.dmis_program.specs.declared.features.Touch as touch
 use Rattle.dmis_program.specs.declared.features.Wanted.{Wanted}
 use Rattle.dmis_program.specs.declared.reading.Block.{Block}
 
--- what a statement says by itself tells its keyword, and is within the limits
+-- what a statement says by itself says its keyword, and is within the limits
 abbrev pub SaidBy : Keyword → StatementMeaning → Type 0
 SaidBy keyword (Goes target) = IsInVolume target
 SaidBy keyword (Begins name count) = (keyword ≡ word.Meas) × IsName name × (1 ≤ count)

@@ -24,7 +24,7 @@ use Rattle.dmis_program.specs.declared.features.Touch as touch
 use Rattle.dmis_program.specs.declared.features.Wanted.{Wanted}
 use Rattle.dmis_program.specs.declared.reading.Block.{Block}
 
--- one step behind others, and more behind it
+-- one step after others, and more after it
 one_more : (front : List Step) (step : Step) (more : List Step) → (front ++ step ∷ []) ++ more ≡ front ++ (step ∷ more)
 one_more front step more = append_assoc front (step ∷ []) more
 

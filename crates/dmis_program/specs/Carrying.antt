@@ -83,7 +83,7 @@ changed frames c (said.Recalls name) = recalled_at c (offset_of frames name)
 changed frames c said.Closes = c
 changed frames c said.Passes = c
 
--- going on by what a statement says: whether the program ends there, and what is carried on
+-- continuing by what a statement says: whether the program ends there, and what is carried on
 abbrev pub follows : List (List ℕ × Point) → ReaderState → StatementMeaning → Result (Bool × ReaderState) Refusal
 follows frames c s = settled frames c.tool (count_wanted c.open_block) (length c.touches) s >>= λ settled_said. Ok (
   closes settled_said,
@@ -93,7 +93,7 @@ follows frames c s = settled frames c.tool (count_wanted c.open_block) (length c
 abbrev pub counted : ReaderState → ReaderState
 counted c = record c { number = c.number + 1 }
 
--- the same of a whole statement
+-- likewise for a whole statement
 abbrev pub next : List (List ℕ × Point) → ReaderState → Statement → Result (Bool × ReaderState) Refusal
 next frames c s = judged frames (context_of c) s >>= λ said. Ok (closes said, changed frames (counted c) said)
 

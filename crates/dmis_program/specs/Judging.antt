@@ -32,7 +32,7 @@ is_unsupported first Recall params = is_other_recall params
 is_unsupported first Unknown params = true
 is_unsupported first _ params = false
 
--- a statement in the wrong place: the count tells that a block is open
+-- a statement in the wrong place: the count says that a block is open
 abbrev pub misplaced : Keyword → Option ℕ → Option Refusal
 misplaced Ptmeas None = Some OutsideBlock
 misplaced Endmes None = Some OutsideBlock

@@ -1,4 +1,4 @@
--- What stands above a statement, looked back for in the text. Statements above are given nearest first.
+-- What is above a statement, looked back for in the text. Statements above are given nearest first.
 use Rattle.std.specs.Prelude.{ℕ, ◌+◌, List, [], ◌∷◌, length, Option, Some, None, Result, Ok}
 use Rattle.dmis_text.specs.declared.elements.Statement.{Statement}
 use Rattle.fixed_um.specs.declared.frames.Frame.{Frame}
@@ -43,7 +43,7 @@ bound_said _ = None
 abbrev pub selected_tool : List Statement → Option (List ℕ)
 selected_tool above = nearest tool_said above
 
--- the frame of the nearest `RECALL/D`, or the machine's. A frame that is not stored is refused where it is recalled
+-- the frame of the nearest `RECALL/D`, or the machine's. A frame that is not stored is refused at its `RECALL`
 abbrev pub part_at : Option Point → Frame
 part_at None = Machine
 part_at (Some offset) = Part offset
@@ -63,7 +63,7 @@ bound_count (Some count) = count
 abbrev pub open_block : List Statement → Option ℕ
 open_block above = bound_count (nearest bound_said above)
 
--- how many `PTMEAS` stand behind the nearest `MEAS` or `ENDMES`
+-- how many `PTMEAS` follow the nearest `MEAS` or `ENDMES`
 abbrev pub touched_with : Result StatementMeaning Refusal → ℕ → ℕ
 touched_with (Ok (Begins name count)) older = 0
 touched_with (Ok Ends) older = 0
@@ -74,7 +74,7 @@ abbrev pub touched : List Statement → ℕ
 touched [] = 0
 touched (s ∷ above) = touched_with (saying s) (touched above)
 
--- what decides over a statement: how many stand above it, the tool and the frame that are selected, the count of touches that
+-- what decides over a statement: how many are above it, the tool and the frame that are selected, the count of touches that
 -- the open block asks for, and how many it has
 pub record Context : Type 0 where
   pub number : ℕ

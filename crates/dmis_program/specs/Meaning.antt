@@ -48,7 +48,7 @@ abbrev pub closes : StatementMeaning → Bool
 closes said.Closes = true
 closes _ = false
 
--- the refusal where the text ends without an `ENDFIL`, or where a line cannot be read. Want of memory is no refusal of a text
+-- the refusal where the text ends without an `ENDFIL`, or where a line cannot be read. Running out of memory is no refusal of a text
 abbrev pub without_end : ℕ → ℕ → Refusal × ℕ
 without_end number lines = if number == 0 then (NotDmis, 1) else (Truncated, lines)
 
@@ -62,7 +62,7 @@ abbrev pub with_front : List Step → Result (List Step) (Refusal × ℕ) → Re
 with_front front (Ok steps) = Ok (front ++ steps)
 with_front front (Err e) = Err e
 
--- a statement's part, and what the statements behind it give: nothing is read behind `ENDFIL`
+-- a statement's part, and what the statements after it give: nothing is read after `ENDFIL`
 abbrev pub continued : ℕ → Result StatementMeaning Refusal → (StatementMeaning → List Step) → Result (List Step) (Refusal × ℕ)
     → Result (List Step) (Refusal × ℕ)
 continued line (Err refusal) steps behind = Err (refusal, line)
@@ -105,10 +105,10 @@ abbrev pub meant : Result (List Step) (Refusal × ℕ) → Result Meaning (Refus
 meant (Ok steps) = Ok (meaning_with steps)
 meant (Err e) = Err e
 
--- the meaning of the statements of a text with so many lines, or its first refusal with its line
+-- the meaning of the statements of a text with that many lines, or its first refusal with its line
 unfoldable pub meaning_of : List (List ℕ × Point) → Reading → ℕ → Result Meaning (Refusal × ℕ)
 meaning_of frames reading lines = meant (steps_from frames reading.fault lines [] reading.statements)
 
--- the same of a whole text
+-- likewise for a whole text
 abbrev pub program_of : List (List ℕ × Point) → List ℕ → Result Meaning (Refusal × ℕ)
 program_of frames text = meaning_of frames (text_reading text) (length (lines text))

@@ -10,7 +10,7 @@ use Rattle.fixed_um.specs.declared.lengths.Point.{Point}
 abbrev pub names_of : List (List ℕ × Point) → List (List ℕ)
 names_of frames = map (λ (f : List ℕ × Point). f.0) frames
 
--- no name stands there twice
+-- no name is there twice
 abbrev pub AreDistinct : List (List ℕ) → Type 0
 AreDistinct [] = Unit {0}
 AreDistinct (name ∷ names) = AllByRecursion (λ other. name ≢ other) names × AreDistinct names

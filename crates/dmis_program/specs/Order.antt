@@ -16,7 +16,7 @@ AreRead frames above (s ∷ statements) = ((said : StatementMeaning) × (judged 
     × (closes said ≡ false))
     × AreRead frames (s ∷ above) statements
 
--- what stands above the statement behind them, nearest first
+-- what is above the statement after them, nearest first
 abbrev pub above_behind : List Statement → List Statement → List Statement
 above_behind above [] = above
 above_behind above (s ∷ statements) = above_behind (s ∷ above) statements

@@ -15,7 +15,7 @@ is_letters text = nat_lt 0 (length text) && list_all is_ascii_alphabetic text
 abbrev pub begins : List ℕ → List ℕ → Bool
 begins front text = starts_with nat_eq text front
 
--- what stands before a `)` at the end
+-- what precedes a `)` at the end
 abbrev pub before_close : List ℕ → Option (List ℕ)
 before_close text = if slice_index text (length text - 1) == 41 then Some (take (length text - 1) text) else None
 
@@ -34,7 +34,7 @@ within_count n = if nat_le 1 n && nat_le n 10000 then Some n else None
 unfoldable pub count_of : List ℕ → Option ℕ
 count_of text = if list_all is_ascii_digit text then within_count (digits_value 10 text) else None
 
--- the parameters behind a first `CART`
+-- the parameters after a first `CART`
 abbrev pub without_cart : List (List ℕ) → List (List ℕ)
 without_cart [] = []
 without_cart (first ∷ rest) = if bytes_eq first (codes "CART") then rest else first ∷ rest

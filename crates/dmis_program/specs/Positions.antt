@@ -9,11 +9,11 @@ use Rattle.dmis_program.specs.Outcomes.{◌>>=◌, numeral_refused}
 use Rattle.dmis_program.specs.declared.faults.Refusal.{Refusal}
 use Rattle.dmis_program.specs.declared.faults.Refusal.TheVariants.{ZeroVector}
 
--- the length in micrometres that a numeral in millimetres stands for, within the machine's volume
+-- the length in micrometres that a numeral in millimetres means, within the machine's volume
 unfoldable pub length_of : List ℕ → Result ℤ Refusal
 length_of text = numeral_refused (value_of 3 volume_limit text)
 
--- the component in millionths that a numeral stands for
+-- the component in millionths that a numeral means
 unfoldable pub component_of : List ℕ → Result ℤ Refusal
 component_of text = numeral_refused (value_of 6 component_limit text)
 

@@ -34,8 +34,8 @@ IsStep (Tool name) = IsName name
 IsStep (Recall offset) = IsInVolume offset
 IsStep End = Unit {0}
 
--- touches stand in blocks, each block has one at least and ends, and none stands in another. A number tells that a block is open
--- and has so many touches
+-- touches are in blocks, each block has one at least and ends, and none is in another. A number says that a block is open
+-- and has that many touches
 abbrev pub AreBlocks : Option ℕ → List Step → Type 0
 AreBlocks None [] = Unit {0}
 AreBlocks None (Goto target ∷ steps) = AreBlocks None steps

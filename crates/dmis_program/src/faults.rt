@@ -8,23 +8,23 @@ use std::alloc::{AllocError, AllocFailed};
 /// in the order that the statement's kind gives.
 #[derive(Clone, Copy, Debug, PartialEq, Eq)]
 pub enum Refusal {
-    /// The first statement is no `DMISMN`, or there is none.
+    /// The first statement is not `DMISMN`, or there is no statement.
     NotDmis,
     /// The text ends without an `ENDFIL`.
     Truncated,
     /// A line has more than 4,096 bytes without its end.
     LineTooLong,
-    /// A line has a byte that may not stand in its place.
+    /// A line has a byte that is not allowed there.
     BadByte,
-    /// The statement is none that this profile reads.
+    /// This profile does not read the statement.
     Unsupported,
-    /// Wrong number or form of parameters, a label before a word that is no definition, or a text that is not closed.
+    /// Wrong number or form of parameters, a label before a word that is not a definition, or a text that is not closed.
     BadArguments,
     /// A numeral is refused; of several the leftmost.
     BadNumeral(NumeralFault),
-    /// The statement belongs into a measurement block, and none is open.
+    /// The statement belongs in a measurement block, and none is open.
     OutsideBlock,
-    /// The statement cannot stand in a measurement block, and one is open.
+    /// The statement cannot be in a measurement block, and one is open.
     InsideBlock,
     /// A measurement block ends with fewer touches than it asks for.
     TooFewPoints,
@@ -109,7 +109,7 @@ impl<T: Drop> From<AllocFailed<T>> for StatementFault {
 impl StatementFault {
     ghost use Rattle.dmis_program.specs.Outcomes.{fault_at};
 
-    /// The same of a whole text, where the statement begins on this line.
+    /// Likewise for a whole text, where the statement begins on this line.
     pub(crate) fn at(self, line: u64) -> ProgramFault
         ensures { result ≡ fault_at self line }
     {

@@ -18,7 +18,7 @@ pub struct Touch {
 }
 
 impl Touch {
-    /// An equal touch. Only want of memory is an `Err`.
+    /// An equal touch. Fails only if out of memory.
     pub fn copy(&self, alloc: Global) -> Result<Touch, AllocError>
         ensures { IfOk result (λ touch. touch ≡ self.now) }
     {

@@ -26,7 +26,7 @@ impl Model for Frames {
 }
 
 impl Frames {
-    /// No frame. It takes no memory yet.
+    /// No frame. It does not allocate yet.
     pub fn new(alloc: Global) -> Frames
         ensures { result ≡ [] }
     {
@@ -35,7 +35,7 @@ impl Frames {
         }
     }
 
-    /// The zero point of the frame of this name, or `None`. Takes no memory.
+    /// The zero point of the frame of this name, or `None`. Does not allocate.
     pub fn get(&self, name: &Name) -> Option<Point>
         ensures offset { result ≡ offset_of self.now name.now }
         ensures frames { AreFrames self.now }
@@ -47,8 +47,8 @@ impl Frames {
         Some(entry.1)
     }
 
-    /// Adds a frame behind the others; false where one of this name is there, and then nothing has changed.
-    /// The caller owes a zero point in the machine's volume. Only want of memory is an `Err`, and then nothing has changed either.
+    /// Adds a frame after the others; false if one of this name is there, and then nothing has changed.
+    /// The caller must give a zero point in the machine's volume. Fails only if out of memory, and then nothing has changed either.
     pub fn add(&mut self, name: Name, point: Point) -> Result<bool, AllocError>
         requires { IsInVolume point }
         ensures is_new { IfOk result (λ added. IsTrue added ↔ (offset_of self.old name ≡ None)) }

@@ -43,7 +43,7 @@ pub(crate) fn begins(text: &[u8], front: &[u8]) -> bool
     text.starts_with(front)
 }
 
-/// What stands before a `)` at the end.
+/// What precedes a `)` at the end.
 fn before_close(text: &[u8]) -> Option<&[u8]>
     ensures { option_map (λ t. t.now) result ≡ before_close text.now }
 {
@@ -95,7 +95,7 @@ pub(crate) fn count_of(text: &[u8]) -> Option<u64>
     if value > 0 { Some(value) } else { None }
 }
 
-/// The parameters behind a first `CART`.
+/// The parameters after a first `CART`.
 pub(crate) fn without_cart<'p, 'a>(params: &'p [Text<'a>]) -> &'p [Text<'a>]
     ensures { result.now ≡ without_cart params.now }
 {

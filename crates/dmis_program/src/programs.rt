@@ -17,7 +17,7 @@ use std::marker::Model;
 
 /// A measurement program (ISO 22093). Contracts see its features and its steps.
 ///
-/// Whatever text it was read from: touches stand in blocks, each block is a feature with 1 to 10,000 touches, and each touch has the
+/// Whatever text it was read from: touches are in blocks, each block is a feature with 1 to 10,000 touches, and each touch has the
 /// tool and the frame that were selected last above it; positions lie in the machine's volume, and there are at most 10,000 steps.
 #[derive(Debug, Drop)]
 pub struct Program {
@@ -64,10 +64,10 @@ impl Program {
         Program { features, steps }
     }
 
-    /// Reads the text of a program up to its `ENDFIL`; `frames` are those that it may recall. What is behind is not read.
+    /// Reads the text of a program up to its `ENDFIL`; `frames` are those that it may recall. What is after is not read.
     ///
     /// Statements are read in order, and the first refusal in the text is answered with its line. Of several refusals of one
-    /// statement the first in this order decides: more than 10,000 statements; no `DMISMN` in front; a statement that this profile
+    /// statement the first in this order decides: more than 10,000 statements; no `DMISMN` at the start; a statement that this profile
     /// does not read; one that is outside or inside a block where it may not be; its arguments; its numerals, from the left; what
     /// its values mean (no direction, an unknown frame, too few points, another unit or mode); no tool. A line that cannot be read
     /// is refused before the statement that reaches it. Without an `ENDFIL` the text is truncated, at its last line.
@@ -90,7 +90,7 @@ impl Program {
         Err(reader.missing_end(statements.lines()))
     }
 
-    /// The features in the order of their blocks. Takes no memory.
+    /// The features in the order of their blocks. Does not allocate.
     pub fn features(&self) -> &[Wanted]
         ensures features { result.now ≡ self.now.features }
         ensures program { IsProgram self.now }
@@ -98,7 +98,7 @@ impl Program {
         self.features.as_slice()
     }
 
-    /// The steps, which are what the statements command, in their order; a statement that commands nothing leaves none. Takes no memory.
+    /// The steps, which are what the statements command, in their order; a statement that commands nothing leaves none. Does not allocate.
     pub fn statements(&self) -> &[Step]
         ensures steps { result.now ≡ self.now.steps }
         ensures program { IsProgram self.now }

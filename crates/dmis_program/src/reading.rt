@@ -57,7 +57,7 @@ fn is_start(keyword: Keyword) -> bool
     }
 }
 
-/// Whether a statement is none that this profile reads.
+/// Whether this profile does not read a statement.
 fn is_unsupported(first: bool, keyword: Keyword, params: &[Text]) -> bool
     ensures { result ≡ is_unsupported first keyword params.now }
 {
@@ -71,7 +71,7 @@ fn is_unsupported(first: bool, keyword: Keyword, params: &[Text]) -> bool
     }
 }
 
-/// The refusal of a statement that stands in the wrong place.
+/// The refusal of a statement that is in the wrong place.
 fn misplaced(keyword: Keyword, wanted: Option<u64>) -> Option<Refusal>
     ensures { result ≡ misplaced keyword wanted }
 {
@@ -150,7 +150,7 @@ impl Reader {
         Ok(false)
     }
 
-    /// `PTMEAS`: a touch with the selected tool and frame. It stands in the steps and in the block.
+    /// `PTMEAS`: a touch with the selected tool and frame. It is in the steps and in the block.
     fn touch(&mut self, target: Point, dir: Option<Dir>) -> Result<bool, StatementFault>
         ensures { GivesNext result self.new (follows [] self.old (StatementMeaning.Touches target dir)) }
     {
@@ -207,7 +207,7 @@ impl Reader {
         Ok(false)
     }
 
-    /// Goes on by what a statement says. True at the end of the program.
+    /// Continues with what a statement says. True at the end of the program.
     fn follow(&mut self, frames: &Frames, said: StatementMeaning) -> Result<bool, StatementFault>
         ensures { GivesNext result self.new (follows frames.now self.old said) }
     {
@@ -226,7 +226,7 @@ impl Reader {
         }
     }
 
-    /// Takes one statement more. True at the end of the program. After an `Err` the reader is of no further use.
+    /// Takes one more statement. True at the end of the program. After an `Err` the reader is of no further use.
     #[tactic(auto, unfolding(crate::specs::Judging::judged))]
     pub(crate) fn read(
         &mut self,
@@ -248,7 +248,7 @@ impl Reader {
         self.follow(frames, said)
     }
 
-    /// The refusal of a text that ends here, without an `ENDFIL`, and has so many lines.
+    /// The refusal of a text that ends here, without an `ENDFIL`, and has that many lines.
     pub(crate) fn missing_end(&self, lines: u64) -> ProgramFault
         ensures { result ≡ refused_at (without_end self.now.number lines) }
     {

@@ -15,7 +15,7 @@ use std::alloc::Global;
 pub(crate) enum StatementMeaning {
     /// A move.
     Goes(Point),
-    /// A block begins for a feature, which asks for so many touches.
+    /// A block begins for a feature, which asks for that many touches.
     Begins(Name, u64),
     /// A touch at a target, with a direction or none.
     Touches(Point, Option<Dir>),
@@ -55,7 +55,7 @@ fn begins_block(alloc: Global, params: &[Text]) -> Result<StatementMeaning, Stat
     }
 }
 
-/// `PTMEAS/CART` behind its first parameter.
+/// `PTMEAS/CART` after its first parameter.
 fn touches_at(params: &[Text]) -> Result<StatementMeaning, Refusal>
     ensures { result ≡ touches_at params.now }
 {
@@ -159,7 +159,7 @@ fn mode(params: &[Text]) -> Result<StatementMeaning, Refusal>
     }
 }
 
-/// By keyword. The caller owes a word that this profile reads.
+/// By keyword. The caller must give a word that this profile reads.
 #[tactic(auto, unfolding(crate::specs::Sayings::said_by))]
 fn said_by(
     alloc: Global,
@@ -191,7 +191,7 @@ fn is_badly_formed(keyword: Keyword, statement: &Statement) -> bool
     (statement.label.is_some() && keyword != Keyword::Definition) || statement.is_open()
 }
 
-/// What a statement with this keyword says. The caller owes a word that this profile reads.
+/// What a statement with this keyword says. The caller must give a word that this profile reads.
 #[tactic(auto, unfolding(crate::specs::Sayings::said_of))]
 pub(crate) fn said_of(
     alloc: Global,

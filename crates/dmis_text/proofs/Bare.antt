@@ -1,4 +1,4 @@
--- A line of bare bytes, and perhaps a comment behind them: what it is to its statement.
+-- A line of bare bytes, and perhaps a comment after them: what it is to its statement.
 use Rattle.std.proofs.Common.{◌≡◌, ℕ, suc, ◌+◌, ◌-◌, ◌≤◌, Bool, true, false, not, ◌&&◌, cond, eqb, List, [], ◌∷◌, ◌++◌, take, drop, length}
 use Rattle.std.proofs.Common.{refl, sym, ap, ◌∙◌, arith, inl, inr}
 use Rattle.std.specs.Prelude.{◌⊎◌, nat_lt, nat_le}

@@ -70,7 +70,7 @@ kept_last (x ∷ xs) front c e = go (λ (ys : List ℕ) h. kept_last xs ys c h) 
         rw first at (first_not_blank x xs h (blank_from_none xs none))
     go rest (y ∷ ys) false h e = let tail : without_end_blanks xs ≡ ys ++ c ∷ [] = cc in rest ys tail
 
--- a byte that is not blank, with blanks behind it
+-- a byte that is not blank, with blanks after it
 not_all_blank : (front blanks : List ℕ) (c : ℕ) → is_blank c ≡ false → all_blank (front ++ c ∷ blanks) ≡ false
 not_all_blank [] blanks c h = and_left (is_blank c) (all_blank blanks) h
 not_all_blank (x ∷ xs) blanks c h = and_right (is_blank x) (all_blank (xs ++ c ∷ blanks)) (not_all_blank xs blanks c h)
@@ -86,7 +86,7 @@ without_mark_last [] blanks c h b = rw b
 without_mark_last (x ∷ xs) blanks c h b = rw (not_all_blank xs blanks c h)
     (ap (λ (ys : List ℕ). x ∷ ys) (without_mark_last xs blanks c h b))
 
--- a line whose last byte that is not blank is `$` goes on, and loses that byte alone
+-- a line whose last byte that is not blank is `$` continues, and loses that byte alone
 pub role_continued : (front blanks : List ℕ) → all_blank blanks ≡ true → content_role (front ++ 36 ∷ blanks) ≡ Continued (front ++ blanks)
 role_continued front blanks b = rw (
   not_all_blank front blanks 36 refl,

@@ -13,13 +13,13 @@ abbrev others : List ℕ → List ℕ
 others [] = []
 others (c ∷ cs) = cs
 
--- what stands in front
+-- what comes first
 pub front_kept : (inside : Bool) (front behind : List ℕ) → folded inside (front ++ behind) ≡ front ++ behind → folded inside front ≡ front
 front_kept inside [] behind e = refl
 front_kept inside (c ∷ cs) behind e =
     ap₂ (λ (x : ℕ) (xs : List ℕ). x ∷ xs) (ap first e) (front_kept (turned inside c) cs behind (ap others e))
 
--- and what stands behind it
+-- and what follows it
 behind_kept : (inside : Bool) (front behind : List ℕ) → folded inside (front ++ behind) ≡ front ++ behind
     → folded (inside_after inside front) behind ≡ behind
 behind_kept inside [] behind e = e
@@ -37,7 +37,7 @@ module _ (mark : ℕ) (text front behind : List ℕ) (cut : cut_at mark false te
   pub front_of_cut : folded false front ≡ front
   front_of_cut = front_kept false front (mark ∷ behind) whole
 
-  -- and behind it
+  -- and after it
   pub behind_cut : eqb mark 39 ≡ false → folded false behind ≡ behind
   behind_cut other =
       let closed = ((cut_is mark text front behind).1 cut).closed in
@@ -52,7 +52,7 @@ blank_turns c e = go (eqb c 32) refl e
     go true space e = rw (eqb-true c 32 space)
     go false other e = rw (eqb-true c 9 e)
 
--- what stands behind blanks
+-- what follows blanks
 pub behind_blanks : (bytes : List ℕ) → folded false bytes ≡ bytes → folded false (without_front_blanks bytes) ≡ without_front_blanks bytes
 behind_blanks [] e = refl
 behind_blanks (c ∷ cs) e = go (λ k. behind_blanks cs k) (is_blank c) refl

@@ -1,4 +1,4 @@
--- What stands before a comment, and which bytes may stand, place by place.
+-- What is before a comment, and which bytes may stand, place by place.
 use Rattle.std.proofs.Common.{◌≡◌, ℕ, zero, suc, ◌<◌, Bool, true, false, ◌&&◌, ◌||◌, cond, leb, List, [], ◌∷◌, ◌++◌, length, take, drop}
 use Rattle.std.proofs.Common.{refl, sym, ap, ◌∙◌, inl, inr, arith}
 use Rattle.std.specs.Prelude.{◌↔◌, ◌⊎◌, slice_index}
@@ -13,7 +13,7 @@ pub nothing_before : (inside : Bool) (line : List ℕ) → begins_comment inside
 nothing_before inside [] e = refl
 nothing_before inside (c ∷ cs) e = rw e
 
--- what fits is what stands before the comment
+-- what fits is what is before the comment
 content_only : (inside : Bool) (content comment : List ℕ) → ((k : ℕ) → k < length content
     → begins_comment (inside_after inside (take k (content ++ comment))) (drop k (content ++ comment)) ≡ false)
     → (comment ≡ []) ⊎ (begins_comment (inside_after inside content) comment ≡ true) → content ≡ before_comment inside (content ++ comment)
@@ -49,7 +49,7 @@ content_there inside (c ∷ cs) = go (content_there (turned inside c) cs) (begin
       ends = rest.ends;
     })
 
--- the content of a line is what stands before its comment, and nothing else
+-- the content of a line is what is before its comment, and nothing else
 pub content_is : (inside : Bool) (line content : List ℕ) → IsContent inside line content ↔ (content ≡ before_comment inside line)
 content_is inside line content = (
   λ h. rw h.parts (content_only inside content h.comment (rw h.parts at h.none) h.ends),
@@ -116,6 +116,6 @@ stands_each inside (c ∷ cs) h = go (λ g. stands_each (turned inside c) cs g) 
         (at_first inside (length (before_comment (turned inside c) cs)) c cs ∙ rw e at (h 0 (omega arith)))
         (rest (λ k l. rw leb_suc at (rw e at (h (suc k) (omega arith))))))
 
--- a line is clean where each byte may stand in its place
+-- a line is clean where each byte may be in its place
 pub clean_is : (inside : Bool) (line : List ℕ) → (is_clean inside line ≡ true) ↔ EachStands inside line
 clean_is inside line = (each_stands inside line, stands_each inside line)

@@ -1,4 +1,4 @@
--- One byte more of a line: what stands before the comment, what may stand there, and whether a text is open.
+-- One byte more of a line: what is before the comment, what may be there, and whether a text is open.
 use Rattle.std.proofs.Common.{◌≡◌, ℕ, ◌+◌, ◌<◌, Bool, true, false, List, [], ◌∷◌, ◌++◌, length, take, drop, get_or, refl, sym, ap}
 use Rattle.std.proofs.Common.{append_assoc}
 use Rattle.std.proofs.lemmas.List.{drop_more, take_more}

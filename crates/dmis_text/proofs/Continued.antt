@@ -1,4 +1,4 @@
--- A statement that goes on behind a line.
+-- A statement that continues after a line.
 use Rattle.std.proofs.Common.{◌≡◌, ℕ, Bool, true, false, eqb, ◌||◌, ◌&&◌, List, [], ◌∷◌, ◌++◌, map, Option, Some, None, refl, ap, ◌∙◌, sym}
 use Rattle.std.proofs.Common.{append_assoc}
 use Rattle.std.proofs.lemmas.Bool.{eqb-true}
@@ -54,7 +54,7 @@ blanks_before (c ∷ cs) text e = go (λ k. blanks_before cs text k) (is_blank c
         ∙ sym (ap (map element_of) (pieces_by_cut false (cs ++ text)))
         ∙ rest e)
 
--- all pieces but the last, and the last behind them
+-- all pieces but the last, and the last after them
 pub pieces_to_last : (made texts : List (List ℕ)) (last bytes : List ℕ) → ((more : List ℕ) → made ++ map element_of (pieces false (last ++ more))
     ≡ texts ++ map element_of (pieces false (bytes ++ more)))
     → cut_at 44 false last ≡ None → made ++ element_of last ∷ [] ≡ texts ++ map element_of (pieces false bytes)

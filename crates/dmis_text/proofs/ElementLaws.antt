@@ -78,7 +78,7 @@ last_of_more : (c : ℕ) (cs : List ℕ) → (cs ≡ [] → is_blank c ≡ false
 last_of_more c [] alone last = alone refl
 last_of_more c (d ∷ ds) alone last = let e : length (c ∷ d ∷ ds) - 1 ≡ suc (length (d ∷ ds) - 1) = omega arith in rw e last
 
--- and behind
+-- and after it
 end_blanks : (bytes : List ℕ) → (behind : List ℕ) × (bytes ≡ without_end_blanks bytes ++ behind) × (all_blank behind ≡ true)
     × (is_blank (slice_index (without_end_blanks bytes) (length (without_end_blanks bytes) - 1)) ≡ false)
 end_blanks [] = ([], refl, refl, refl)
@@ -148,7 +148,7 @@ trimmed_is bytes kept = (
   λ e. rw e (trimmed_there bytes),
 )
 
--- a text that is open behind bytes is open behind their element
+-- a text that is open after bytes is open after their element
 open_element : (bytes : List ℕ) → inside_after false (element_of bytes) ≡ inside_after false bytes
 open_element bytes =
     let kept = without_end_blanks (without_front_blanks bytes) in

@@ -47,7 +47,7 @@ run_of p bytes at r z room fits found f lanes all =
     ∙ mask_l-mod (map stops v) 64 (omega (arith, length-map v stops, long)) in
     found ∙ ap (λ m. lowest_set m 16) mask ∙ counted stops v long ∙ alike stops p v all (chunk-fits w8 at 16 bytes fits)
 
--- a run that ends within a block, or goes on behind it
+-- a run that ends within a block, or continues after it
 within_block : (p : ℕ → Bool) (front behind : List ℕ) → prefix_len p front < length front
     → prefix_len p (front ++ behind) ≡ prefix_len p front
 within_block p front behind short =
@@ -111,7 +111,7 @@ behind_filled p bytes at room filled =
     ∙ past_block p (take 64 (drop at bytes)) (drop (at + 64) bytes) (omega (arith, long, filled))
     ∙ ap (λ n. n + prefix_len p (drop (at + 64) bytes)) long
 
--- a run goes on from each place that it passes
+-- a run continues from each place that it passes
 within_run : (p : ℕ → Bool) (d : List ℕ) (k : ℕ) → k ≤ prefix_len p d → k + prefix_len p (drop k d) ≡ prefix_len p d
 within_run p d zero h = omega arith
 within_run p [] (suc k) h = absurd (omega arith)

@@ -49,7 +49,7 @@ line_in_front line rest after h g (inr e) =
     let cut : line ++ 13 ∷ 10 ∷ after ≡ (line ++ 13 ∷ []) ++ 10 ∷ after = simp append_assoc in
     rw (e, cut, first_line (line ++ 13 ∷ []) after (lacks_more 10 line (13 ∷ []) h refl), strip_one line)
 
--- lines that were written with LF behind each
+-- lines that were written with LF after each
 pub lines_written : (ls : List (List ℕ)) → list_all is_line ls ≡ true → lines (flat_map (λ (l : List ℕ). l ++ 10 ∷ []) ls) ≡ ls
 lines_written [] h = refl
 lines_written (l ∷ ls) h =
@@ -91,7 +91,7 @@ parts_lack (c ∷ cs) h =
     go e rest true = rest
     go e rest false = onto_lacks c (slice_split (λ b. eqb b 10) cs) e rest
 
--- parts, and nothing behind the last LF
+-- parts, and nothing after the last LF
 lines_of_all : (parts : List (List ℕ)) → list_all (lacks 13) parts ≡ true → lines_of_parts (parts ++ [] ∷ []) ≡ parts
 lines_of_all [] h = refl
 lines_of_all (p ∷ ps) h =

@@ -1,4 +1,4 @@
--- A part more of a statement that goes on.
+-- A part more of a statement that continues.
 use Rattle.std.proofs.Common.{◌≡◌, ℕ, ◌+◌, ◌-◌, ◌<◌, ◌≤◌, Bool, true, false, cond, List, [], ◌∷◌, ◌++◌, length, Option, Some, None, refl}
 use Rattle.std.proofs.Common.{sym, ap, ◌∙◌, arith, rules, append_assoc}
 use Rattle.std.specs.Prelude.{IfNone}
@@ -13,7 +13,7 @@ pub grown_as : (first : Option ℕ) (text : List ℕ) (line : ℕ) (part : List 
 grown_as None text line part none = rw none
 grown_as (Some first) text line part none = refl
 
--- whether a text is open behind it
+-- whether a text is open after it
 pub open_behind : (first : Option ℕ) (text part : List ℕ) → IfNone first (text ≡ [])
     → inside_after (is_open (begun_of first text)) part ≡ inside_after false (text ++ part)
 open_behind None text part none = rw none

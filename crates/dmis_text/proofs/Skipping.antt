@@ -165,7 +165,7 @@ put_twice : (xs ys : List ℕ) (o : Option (List ℕ × List ℕ)) → put_befor
 put_twice xs ys None = refl
 put_twice xs ys (Some p) = rw append_assoc
 
--- the cut as it stands before a run, behind it
+-- the cut before a run, after that run
 pub cut_behind : (mark : ℕ) (inside : Bool) (bytes : List ℕ) (at : ℕ) → is_unmarked mark ≡ false
     → put_before (take (at + prefix_len (is_within inside) (drop at bytes)) bytes)
     (cut_at mark inside (drop (at + prefix_len (is_within inside) (drop at bytes)) bytes))
@@ -174,13 +174,13 @@ cut_behind mark inside bytes at m =
     rw (take-add at (prefix_len (is_within inside) (drop at bytes)) bytes, put_twice)
     (ap (put_before (take at bytes)) (cut_run mark inside bytes at m))
 
--- the cut of all bytes, behind the first run
+-- the cut of all bytes, after the first run
 pub cut_first : (mark : ℕ) (bytes : List ℕ) → is_unmarked mark ≡ false
     → put_before (take (prefix_len is_unmarked bytes) bytes) (cut_at mark false (drop (prefix_len is_unmarked bytes) bytes))
     ≡ cut_at mark false bytes
 cut_first mark bytes m = uncut (cut_at mark false) is_unmarked (λ c cs e. uncut_byte mark false c cs m e) bytes
 
--- no mark stands in front of the first
+-- no mark is before the first
 pub plain_uncut : (mark : ℕ) (front behind : List ℕ) → is_unmarked mark ≡ false → length front ≤ prefix_len is_unmarked (front ++ behind)
     → cut_at mark false front ≡ None
 plain_uncut mark [] behind m e = refl
@@ -217,7 +217,7 @@ open_run inside bytes at =
 pub run_within : (p : ℕ → Bool) (bytes : List ℕ) (at : ℕ) → at ≤ length bytes → at + prefix_len p (drop at bytes) ≤ length bytes
 run_within p bytes at h = omega (arith, prefix_len-le-length p (drop at bytes), length-drop at bytes)
 
--- a byte and the run behind it, for each loop
+-- a byte and the run after it, for each loop
 pub open_next : (inside : Bool) (bytes : List ℕ) (at : ℕ) → at < length bytes
     → inside_after (turned inside (get_or bytes at 0)) (drop (at + 1 + prefix_len is_unquoted (drop (at + 1) bytes)) bytes)
     ≡ inside_after inside (drop at bytes)

@@ -23,7 +23,7 @@ NoneFrom inside mark bytes = (k : ℕ) → k < length bytes → inside_after ins
 none_behind : (inside : Bool) (mark c : ℕ) (cs : List ℕ) → NoneFrom inside mark (c ∷ cs) → NoneFrom (turned inside c) mark cs
 none_behind inside mark c cs h k within closed = h (suc k) (omega arith) closed
 
--- where a mark stands in front, a byte in front that is none, and no byte
+-- if a mark comes first, if another byte comes first, and if there is no byte
 test_true : (inside : Bool) (c mark : ℕ) → (not inside && eqb c mark) ≡ true → (inside ≡ false) × (c ≡ mark)
 test_true true c mark e = absurd (false≢true e)
 test_true false c mark e = (refl, eqb-true c mark e)
@@ -40,7 +40,7 @@ uncut : (inside : Bool) (mark : ℕ) (bytes : List ℕ) → NoneFrom inside mark
 uncut inside mark [] h = refl
 uncut inside mark (c ∷ cs) h = rw (none_first inside mark c cs h, uncut (turned inside c) mark cs (none_behind inside mark c cs h))
 
--- and with one behind bytes without one it is there
+-- and with one after bytes without one it is there
 cut_there : (inside : Bool) (mark : ℕ) (front behind : List ℕ) → NoneFrom inside mark front → inside_after inside front ≡ false
     → cut_at mark inside (front ++ mark ∷ behind) ≡ Some (front, behind)
 cut_there inside mark [] behind h closed = rw (closed, eq-eqb mark mark refl)
@@ -116,7 +116,7 @@ pub no_label : (text head behind : List ℕ) → cut_at 47 false text ≡ Some (
 no_label text head behind e within = plain_uncut 61 head (47 ∷ behind) refl
     (subst (λ (xs : List ℕ). length head ≤ prefix_len is_unmarked xs) ((cut_is 47 text head behind).1 e).parts within)
 
--- and not at all where there is none
+-- and not at all if there is none
 pub uncut_is : (mark : ℕ) (text : List ℕ) → NoneOutside mark text ↔ (cut_at mark false text ≡ None)
 uncut_is mark text = (λ h. uncut false mark text h, λ e. none_found false mark text e)
 

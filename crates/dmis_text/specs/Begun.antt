@@ -1,4 +1,4 @@
--- A statement that goes on over several lines (ISO 22093, continued lines).
+-- A statement that continues over several lines (ISO 22093, continued lines).
 use Rattle.std.specs.Prelude.{ℕ, Bool, false, List, ◌++◌, Option, Some, None}
 use Rattle.dmis_text.specs.Texts.{inside_after}
 
@@ -7,12 +7,12 @@ pub record OpenStatement : Type 0 where
   pub line : ℕ
   pub text : List ℕ
 
--- whether its open text goes on; none has no open text
+-- whether its open text continues; if none has begun, there is no open text
 abbrev pub is_open : Option OpenStatement → Bool
 is_open None = false
 is_open (Some begun) = inside_after false begun.text
 
--- the same with one part more, which stands on line n: where none has begun, one begins there
+-- the same with one part more, which is on line n: if none has begun, one begins there
 abbrev pub grown : Option OpenStatement → ℕ → List ℕ → OpenStatement
 grown None n part = record { line = n; text = part }
 grown (Some begun) n part = record { line = begun.line; text = begun.text ++ part }

@@ -1,17 +1,17 @@
--- What stands before a comment, and what is left without blanks, as relations: what the laws of this crate tie its functions to.
+-- What is before a comment, and what is left without blanks, as relations: what the laws of this crate tie its functions to.
 use Rattle.std.specs.Prelude.{◌≡◌, ◌⊎◌, ℕ, ◌<◌, ◌-◌, Bool, true, false, not, ◌||◌, ◌&&◌, ◌==◌, nat_le, List, [], ◌++◌, length, take, drop}
 use Rattle.std.specs.Prelude.{slice_index}
 use Rattle.std.specs.List.{list_all}
 use Rattle.dmis_text.specs.Texts.{inside_after, is_blank, all_blank, begins_comment, before_comment, may_stand}
 
--- a line is this content and its comment: no comment begins in the content, and one begins behind it or the line ends there
+-- a line is this content and its comment: no comment begins in the content, and one begins after it or the line ends there
 pub record IsContent (inside : Bool) (line content : List ℕ) : Type 0 where
   pub comment : List ℕ
   pub parts : line ≡ content ++ comment
   pub none : (k : ℕ) → k < length content → begins_comment (inside_after inside (take k line)) (drop k line) ≡ false
   pub ends : (comment ≡ []) ⊎ (begins_comment (inside_after inside content) comment ≡ true)
 
--- each byte may stand in its place, where texts and the comment are free
+-- each byte may be in its place, where texts and the comment are free
 abbrev pub EachStands : Bool → List ℕ → Type 0
 EachStands inside line = (k : ℕ) → k < length line
     → may_stand (inside_after inside (take k line) || nat_le (length (before_comment inside line)) k) (slice_index line k) ≡ true

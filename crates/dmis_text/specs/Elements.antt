@@ -9,7 +9,7 @@ use Rattle.dmis_text.specs.Texts.{turned, without_front_blanks, without_end_blan
 abbrev pub onto_front : ℕ → List ℕ × List ℕ → List ℕ × List ℕ
 onto_front c p = (c ∷ p.0, p.1)
 
--- the bytes before and behind the first mark outside texts
+-- the bytes before and after the first mark outside texts
 abbrev pub cut_at : ℕ → Bool → List ℕ → Option (List ℕ × List ℕ)
 cut_at mark inside [] = None
 cut_at mark inside (c ∷ cs) = if not inside && (c == mark) then Some ([], cs) else option_map (onto_front c)

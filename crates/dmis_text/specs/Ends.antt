@@ -4,7 +4,7 @@ use Rattle.std.specs.List.{prefix_len}
 use Rattle.dmis_text.specs.Texts.{begins_comment}
 use Rattle.dmis_text.specs.Runs.{is_in_comment}
 
--- what stands behind the end of a line, LF or CR LF
+-- what follows the end of a line, LF or CR LF
 abbrev pub IsBehindEnd : List ℕ → List ℕ → Type 0
 IsBehindEnd bytes after = (bytes ≡ 10 ∷ after) ⊎ (bytes ≡ 13 ∷ 10 ∷ after)
 

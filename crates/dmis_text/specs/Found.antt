@@ -1,4 +1,4 @@
--- What the code's step of a reading tells: no public clause cites it.
+-- What the code's step of a reading reports: no public clause cites it.
 use Rattle.std.specs.Prelude.{◌≡◌, [], Option, Some, None}
 use Rattle.std.specs.Str.Lines.{lines}
 use Rattle.dmis_text.specs.Reading.{Reading, reading_of, with_first, refused}
@@ -12,7 +12,7 @@ abbrev pub LeavesWith : Reading → Option Statement → Reading → Type 0
 LeavesWith reading None left = (reading ≡ record { statements = []; fault = None }) × (left ≡ reading)
 LeavesWith reading (Some s) left = reading ≡ with_first s left
 
--- what was found, and the reading of the lines behind it
+-- what was found, and the reading of the lines after it
 abbrev pub Leaves : Reading → Found → Type 0
 Leaves reading found = LeavesWith reading found.statement (reading_of found.number (lines found.rest.now))
 

@@ -8,7 +8,7 @@ use Rattle.dmis_text.specs.declared.lines.Part.{Part}
 use Rattle.dmis_text.specs.declared.lines.Look.{Look}
 use Rattle.dmis_text.specs.declared.lines.Look.TheVariants as look
 
--- what a line that goes on adds to its statement
+-- what a line that continues adds to its statement
 abbrev pub part_text : Part → List ℕ
 part_text part = part.front.now ++ part.blanks.now
 
@@ -20,7 +20,7 @@ role_of look.Dropped = Dropped
 role_of (look.Continued part) = Continued (part_text part)
 role_of (look.Last content capitals) = Last content.now
 
--- a line that goes on tells whether a text is open behind it, and the last one may tell that no small letter stands outside texts
+-- a line that continues reports whether a text is open after it, and the last one may report that no small letter is outside texts
 abbrev pub TellsFlag : Bool → Look → Type 0
 TellsFlag inside look.TooLong = Unit {0}
 TellsFlag inside look.Damaged = Unit {0}

@@ -9,7 +9,7 @@ abbrev pub AreNumbered : ℕ → ℕ → List Statement → Type 0
 AreNumbered from to [] = Unit {0}
 AreNumbered from to (s ∷ ss) = (from ≤ s.line) × (s.line < to) × AreNumbered (s.line + 1) to ss
 
--- a refusal of one of these lines; want of memory has none
+-- a refusal of one of these lines; running out of memory has none
 abbrev pub IsFaultWithin : ℕ → ℕ → TextFault → Type 0
 IsFaultWithin from to (LineTooLong n) = (from ≤ n) × (n < to)
 IsFaultWithin from to (BadByte n) = (from ≤ n) × (n < to)

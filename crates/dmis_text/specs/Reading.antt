@@ -8,7 +8,7 @@ use Rattle.dmis_text.specs.declared.elements.Statement.{Statement}
 use Rattle.dmis_text.specs.declared.reading.TextFault.{TextFault}
 use Rattle.dmis_text.specs.declared.reading.TextFault.TheVariants.{LineTooLong, BadByte, Memory}
 
--- what a line is to its statement: too long, with a byte that may not stand there, nothing, a part that goes on, the last part
+-- what a line is to its statement: too long, with a byte that may not be there, nothing, a part that continues, the last part
 pub data Role : Type 0 where
   TooLong : Role
   Damaged : Role
@@ -16,12 +16,12 @@ pub data Role : Type 0 where
   Continued : List ℕ → Role
   Last : List ℕ → Role
 
--- the role by what stands before the comment: blanks alone count for nothing, a `$` at the end goes on and is left out
+-- the role by what is before the comment: blanks alone count for nothing, a `$` at the end continues and is left out
 abbrev pub content_role : List ℕ → Role
 content_role content = if all_blank content then Dropped else
     (if is_continued content then Continued (without_mark content) else Last content)
 
--- the role of a line, without its end, that begins inside a text or outside: its length is looked at before its bytes
+-- the role of a line, without its end, that begins inside a text or outside: its length is checked before its bytes
 abbrev pub line_role : Bool → List ℕ → Role
 line_role inside line = if nat_lt 4096 (length line) then TooLong else
     (if is_clean inside line then content_role (before_comment inside line) else Damaged)
@@ -35,7 +35,7 @@ pub record Reading : Type 0 where
 abbrev pub refused : TextFault → Reading
 refused fault = record { statements = []; fault = Some fault }
 
--- a statement, and behind it what the rest gives
+-- a statement, and after it what the rest gives
 abbrev pub with_first : Statement → Reading → Reading
 with_first statement rest = record { statements = statement ∷ rest.statements; fault = rest.fault }
 
@@ -43,12 +43,12 @@ with_first statement rest = record { statements = statement ∷ rest.statements;
 abbrev pub finished : OpenStatement → Statement
 finished begun = statement_of begun.line begun.text
 
--- at the end of the text a statement that has begun counts as far as it goes, and one of blanks alone is none
+-- at the end of the text a statement that has begun counts as far as it goes, and one of blanks alone does not
 abbrev pub ended : Option OpenStatement → Reading
 ended None = record { statements = []; fault = None }
 ended (Some begun) = record { statements = (if all_blank begun.text then [] else finished begun ∷ []); fault = None }
 
--- line n in its role: `rest` reads the lines behind it, with the statement that has begun by then
+-- line n in its role: `rest` reads the lines after it, with the statement that has begun by then
 abbrev pub read_line : Role → Option OpenStatement → ℕ → (Option OpenStatement → Reading) → Reading
 read_line TooLong begun n rest = refused (LineTooLong n)
 read_line Damaged begun n rest = refused (BadByte n)
@@ -79,7 +79,7 @@ pub record Unread : Type 0 where
 abbrev pub unread_from : ℕ → List (List ℕ) → Unread
 unread_from n lines = record { left = (reading_of n lines).statements; fault = (reading_of n lines).fault; lines = n - 1 + length lines }
 
--- a refusal is due where nothing is left before it; want of memory says nothing of the text
+-- a refusal is due if nothing is left before it; running out of memory says nothing about the text
 abbrev pub IsDue : Unread → TextFault → Type 0
 IsDue unread (LineTooLong n) = (unread.left ≡ []) × (unread.fault ≡ Some (LineTooLong n))
 IsDue unread (BadByte n) = (unread.left ≡ []) × (unread.fault ≡ Some (BadByte n))

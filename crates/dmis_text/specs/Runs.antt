@@ -13,16 +13,16 @@ is_in_line c = not (c == 10)
 abbrev pub is_plain : ℕ → Bool
 is_plain c = may_stand false c && (not (c == 39) && not (c == 36))
 
--- a byte that may stand in a text and does not end it
+-- a byte that may be in a text and does not end it
 abbrev pub is_in_text : ℕ → Bool
 is_in_text c = may_stand true c && not (c == 39)
 
--- a byte that neither opens nor closes a text, begins no comment and may stand there
+-- a byte that neither opens nor closes a text, begins no comment and may be there
 abbrev pub is_passed : Bool → ℕ → Bool
 is_passed true = is_in_text
 is_passed false = is_plain
 
--- a byte that may stand in a comment
+-- a byte that may be in a comment
 abbrev pub is_in_comment : ℕ → Bool
 is_in_comment c = may_stand true c
 
@@ -30,7 +30,7 @@ is_in_comment c = may_stand true c
 abbrev pub is_unquoted : ℕ → Bool
 is_unquoted c = not (c == 39)
 
--- a byte that begins no text and is none of the marks between elements
+-- a byte that begins no text and is not one of the marks between elements
 abbrev pub is_unmarked : ℕ → Bool
 is_unmarked c = not (c == 39) && (not (c == 44) && (not (c == 47) && not (c == 61)))
 

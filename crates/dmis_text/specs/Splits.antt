@@ -4,7 +4,7 @@ use Rattle.dmis_text.specs.Texts.{inside_after}
 use Rattle.dmis_text.specs.Elements.{element_of}
 use Rattle.dmis_text.specs.declared.elements.Statement.{Statement}
 
--- the mark stands at no place outside texts
+-- the mark is at no place outside texts
 abbrev pub NoneOutside : ℕ → List ℕ → Type 0
 NoneOutside mark bytes = (k : ℕ) → k < length bytes → inside_after false (take k bytes) ≡ false → slice_index bytes k ≢ mark
 
@@ -20,7 +20,7 @@ IsSplit text [] = ⊥
 IsSplit text (piece ∷ []) = (text ≡ piece) × NoneOutside 44 piece
 IsSplit text (piece ∷ next ∷ pieces) = (behind : List ℕ) × IsCut 44 text piece behind × IsSplit behind (next ∷ pieces)
 
--- a text says a statement: a word, a word with parameters behind a `/`, or a label before its `=` too
+-- a text says a statement: a word, a word with parameters after a `/`, or a label before its `=` too
 pub data Says (line : ℕ) (text : List ℕ) : Statement → Type 0 where
   word_alone : NoneOutside 47 text → Says line text (record { line = line; label = None; word = element_of text; params = [] })
   with_params : (word behind : List ℕ) (params : List (List ℕ)) → IsCut 47 text word behind → NoneOutside 61 word → IsSplit behind params

@@ -18,7 +18,7 @@ parted line text (Some p) = headed line (map element_of (pieces false p.1)) p.0 
 abbrev pub statement_of : ℕ → List ℕ → Statement
 statement_of line text = parted line text (cut_at 47 false text)
 
--- the last of the parameters, or the word where there is none
+-- the last of the parameters, or the word if there is none
 abbrev pub last_element : List ℕ → List (List ℕ) → List ℕ
 last_element word [] = word
 last_element word (param ∷ params) = last_element param params

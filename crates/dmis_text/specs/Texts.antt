@@ -1,13 +1,13 @@
--- Texts, blanks and comments on one line (ISO 22093: a text stands in apostrophes, `$$` begins a comment, `$` continues a
+-- Texts, blanks and comments on one line (ISO 22093: a text is between apostrophes, `$$` begins a comment, `$` continues a
 -- line). An apostrophe is 39, `$` is 36.
 use Rattle.std.specs.Prelude.{ℕ, Bool, true, false, not, List, [], ◌∷◌, ◌&&◌, ◌||◌, ◌==◌, nat_le, if◌then◌else◌}
 use Rattle.std.specs.List.{list_all}
 
--- whether what follows a byte stands in a text: each apostrophe turns it, so a doubled one needs no rule
+-- whether what follows a byte is in a text: each apostrophe turns it, so a doubled one needs no rule
 abbrev pub turned : Bool → ℕ → Bool
 turned inside c = if c == 39 then not inside else inside
 
--- the same behind a list of bytes
+-- the same after a list of bytes
 abbrev pub inside_after : Bool → List ℕ → Bool
 inside_after inside [] = inside
 inside_after inside (c ∷ cs) = inside_after (turned inside c) cs
@@ -26,7 +26,7 @@ begins_comment inside [] = false
 begins_comment inside (c ∷ []) = false
 begins_comment inside (c ∷ d ∷ cs) = not inside && ((c == 36) && (d == 36))
 
--- what stands before the comment, or the whole line where there is none; `inside` says that a text is open before it
+-- what is before the comment, or the whole line if there is none; `inside` says that a text is open before it
 abbrev pub before_comment : Bool → List ℕ → List ℕ
 before_comment inside [] = []
 before_comment inside (c ∷ cs) = if begins_comment inside (c ∷ cs) then [] else c ∷ before_comment (turned inside c) cs
@@ -35,7 +35,7 @@ before_comment inside (c ∷ cs) = if begins_comment inside (c ∷ cs) then [] e
 abbrev pub may_stand : Bool → ℕ → Bool
 may_stand free c = (c == 9) || ((nat_le 32 c && nat_le c 126) || (free && nat_le 128 c))
 
--- whether each byte of a line may stand in its place
+-- whether each byte of a line may be in its place
 abbrev pub is_clean : Bool → List ℕ → Bool
 is_clean inside [] = true
 is_clean inside (c ∷ cs) = if begins_comment inside (c ∷ cs) then list_all (may_stand true) (c ∷ cs) else may_stand inside c

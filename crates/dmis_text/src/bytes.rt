@@ -10,7 +10,7 @@ use crate::runs::{
     run_end_by_last_block,
 };
 
-/// Whether what follows the byte stands in a text.
+/// Whether what follows the byte is in a text.
 pub(crate) fn turned(inside: bool, byte: u8) -> bool
     ensures { result ≡ turned inside byte }
 {
@@ -27,7 +27,7 @@ fn unquoted_end(bytes: &[u8], at: usize) -> usize
     long_run_end(&Unquoted, bytes, at)
 }
 
-/// Whether a text is open behind the bytes, where none is before them.
+/// Whether a text is open after the bytes, if none is open before them.
 pub(crate) fn ends_inside(bytes: &[u8]) -> bool
     ensures { result ≡ inside_after false bytes.now }
 {
@@ -57,7 +57,7 @@ pub(crate) fn begins_comment(inside: bool, bytes: &[u8]) -> bool
     }
 }
 
-/// Whether the byte may stand in a text or comment, which are free, or elsewhere.
+/// Whether the byte may be in a text or comment, which are free, or elsewhere.
 pub(crate) fn may_stand(free: bool, byte: u8) -> bool
     ensures { result ≡ may_stand free byte }
 {
@@ -71,7 +71,7 @@ pub(crate) fn is_all_blank(bytes: &[u8]) -> bool
     bytes.iter().all(|byte| is_blank(*byte))
 }
 
-/// Whether each byte of a line from this place on may stand in a comment.
+/// Whether each byte of a line from this place on may be in a comment.
 pub(crate) fn may_be_comment(line: &[u8], at: usize) -> bool
     requires { at ≤ length line.now }
     ensures { result ≡ list_all (may_stand true) (drop at line.now) }
@@ -110,7 +110,7 @@ fn count_to_last(bytes: &[u8]) -> usize
     count
 }
 
-/// The bytes up to the last that is not blank, and the blanks behind.
+/// The bytes up to the last that is not blank, and the blanks after it.
 pub(crate) fn split_end_blanks(bytes: &[u8]) -> (&[u8], &[u8])
     ensures kept { result.0.now ≡ without_end_blanks bytes.now }
     ensures whole { bytes.now ≡ result.0.now ++ result.1.now }
@@ -165,7 +165,7 @@ pub(crate) fn first_mark(bytes: &[u8]) -> usize
     within_end(bytes, 0, false)
 }
 
-/// What stands before and behind the first mark outside texts: a `/`, a `=` or a comma. The caller has the place of the first mark of any kind.
+/// What is before and after the first mark outside texts: a `/`, a `=` or a comma. The caller has the place of the first mark of any kind.
 #[inline(always)]
 pub(crate) fn cut_from(bytes: &[u8], mark: u8, first: usize) -> Option<(&[u8], &[u8])>
     requires mark { is_unmarked mark ≡ false }
@@ -189,7 +189,7 @@ pub(crate) fn cut_from(bytes: &[u8], mark: u8, first: usize) -> Option<(&[u8], &
     None
 }
 
-/// The same where the caller has no place.
+/// Likewise if the caller knows no place.
 #[inline(always)]
 pub(crate) fn cut_at(bytes: &[u8], mark: u8) -> Option<(&[u8], &[u8])>
     requires { is_unmarked mark ≡ false }

@@ -22,7 +22,7 @@ enum Bytes<'a> {
 /// The bytes of a label, a word or a parameter, which contracts see as their list: without blanks at both ends, capitals outside texts,
 /// and texts as written, with their apostrophes. It is read as a slice.
 ///
-/// They are lent by the text that is read, where they stand in it as they are handed out.
+/// They are lent by the text that is read, if it holds them just as they are handed out.
 #[derive(Debug, Drop)]
 pub struct Text<'a> {
     bytes: Bytes<'a>,
@@ -78,8 +78,8 @@ fn fold(alloc: Global, bytes: &[u8]) -> Result<Vec<u8>, AllocError>
 }
 
 impl<'a> Text<'a> {
-    /// The bytes without blanks at both ends, small letters as capitals outside texts. They are not looked at for small letters
-    /// where the caller has seen that none stands there.
+    /// The bytes without blanks at both ends, small letters as capitals outside texts. They are not examined for small letters
+    /// if the caller has seen that there are none.
     #[inline(always)]
     fn element(alloc: Global, bytes: &'a [u8], capitals: bool) -> Result<Text<'a>, AllocError>
         requires { IsTrue capitals → folded false bytes.now ≡ bytes.now }
@@ -115,7 +115,7 @@ impl<'a> Text<'a> {
     }
 }
 
-/// These texts, and behind them equal texts of others with bytes of their own.
+/// These texts, and after them equal texts of others with bytes of their own.
 fn owned_texts<'b>(
     alloc: Global,
     texts: Vec<Text<'b>>,
@@ -130,8 +130,8 @@ fn owned_texts<'b>(
     Ok(made)
 }
 
-/// These texts, and behind them the pieces up to the last comma outside texts; and the piece behind that comma, with which what follows
-/// the bytes goes on.
+/// These texts, and after them the pieces up to the last comma outside texts; and the piece after that comma, with which what follows
+/// the bytes continues.
 #[inline(always)]
 fn cut_pieces<'a>(
     alloc: Global,
@@ -155,7 +155,7 @@ fn cut_pieces<'a>(
     Ok((made, rest))
 }
 
-/// The bytes of both, one behind the other.
+/// The bytes of both, one after the other.
 fn join(alloc: Global, front: &[u8], behind: &[u8]) -> Result<Vec<u8>, AllocError>
     ensures { IfOk result (λ joined. joined.items ≡ front.now ++ behind.now) }
 {
@@ -167,7 +167,7 @@ fn join(alloc: Global, front: &[u8], behind: &[u8]) -> Result<Vec<u8>, AllocErro
 
 /// The parameters of a statement in order, which contracts see as a list of lists of bytes. They are read as a slice.
 ///
-/// There are none only where the statement has no `/`: behind a `/` stands at least one, which may be empty.
+/// There are none only if the statement has no `/`: at least one follows a `/`, and it may be empty.
 #[derive(Debug, Drop)]
 pub struct Params<'a> {
     texts: Vec<Text<'a>>,
@@ -192,7 +192,7 @@ impl<'a> DerefSlice for Params<'a> {
 }
 
 impl<'a> Params<'a> {
-    /// These texts, and behind them the pieces between the commas outside texts.
+    /// These texts, and after them the pieces between the commas outside texts.
     #[inline(always)]
     fn with_pieces(
         alloc: Global,
@@ -209,7 +209,7 @@ impl<'a> Params<'a> {
         Ok(Params { texts: made })
     }
 
-    /// The same of bytes that are joined first, with bytes of their own.
+    /// Likewise for bytes that are joined first, with bytes of their own.
     #[inline(never)]
     fn with_joined_pieces(
         alloc: Global,
@@ -243,8 +243,8 @@ impl<'a> Params<'a> {
         Params::with_pieces(alloc, texts, bytes, capitals)
     }
 
-    /// The same of bytes that go on behind a line, without small letters outside texts. What ends on its line is lent by it, and a line
-    /// mostly ends behind a comma.
+    /// Likewise for bytes that continue after a line, without small letters outside texts. What ends on its line is lent by it, and a line
+    /// mostly ends after a comma.
     fn split_over(
         alloc: Global,
         memory: Vec<Text<'a>>,
@@ -278,16 +278,16 @@ impl<'a> Params<'a> {
 
 /// One statement of a DMIS text: `word`, `word/p1,p2,..` or `label=word/..` (ISO 22093).
 ///
-/// A text that was opened and not closed runs to the end of the last of these elements: `is_open` tells it.
+/// A text that was opened and not closed runs to the end of the last of these elements: `is_open` reports it.
 #[derive(Debug, Drop)]
 pub struct Statement<'a> {
     /// The number of the line on which it begins.
     pub line: u64,
-    /// What stands before the first `=` outside texts; none where no such `=` stands before the `/`, or no `/` is there.
+    /// What is before the first `=` outside texts; none where no such `=` stands before the `/`, or no `/` is there.
     pub label: Option<Text<'a>>,
-    /// What stands before the first `/` outside texts and behind the label, or the whole where there is no `/`.
+    /// What is before the first `/` outside texts and after the label, or the whole if there is no `/`.
     pub word: Text<'a>,
-    /// What stands behind that `/`, split at the commas outside texts.
+    /// What follows that `/`, split at the commas outside texts.
     pub params: Params<'a>,
 }
 
@@ -375,7 +375,7 @@ impl<'a> Statement<'a> {
         Statement::headed(alloc, line, head, capitals, params)
     }
 
-    /// The statement with these parameters and what stands before the `/`: the word, or the label and the word.
+    /// The statement with these parameters and what is before the `/`: the word, or the label and the word.
     #[inline(always)]
     fn headed(
         alloc: Global,

@@ -38,7 +38,7 @@ fn append_part<'a>(text: &mut Vec<u8>, part: Part<'a>) -> Result<&'a [u8], Alloc
     Ok(part.blanks)
 }
 
-/// A statement under way, or none. Its last part is lent by the text that is read, where no blanks stand behind the mark that ends it.
+/// A statement under way, or none. Its last part is lent by the text that is read, if no blanks follow the mark that ends it.
 #[derive(Drop)]
 pub(crate) struct Joined<'a> {
     first: Option<u64>,
@@ -73,14 +73,14 @@ impl<'a> Joined<'a> {
         }
     }
 
-    /// Whether an open text goes on.
+    /// Whether an open text continues.
     pub(crate) fn is_open(&self) -> bool
         ensures { result ≡ is_open self.now }
     {
         self.inside
     }
 
-    /// One part more, which stands on this line.
+    /// One part more, which is on this line.
     #[tactic(auto, using(crate::proofs::Readings::parts))]
     pub(crate) fn with(self, line: u64, part: Part<'a>) -> Result<Joined<'a>, AllocError>
         requires { part.inside ≡ inside_after (is_open self) (part_text part) }
@@ -133,7 +133,7 @@ impl<'a> Joined<'a> {
         Statement::split_owned(alloc, memory, first, text.as_slice())
     }
 
-    /// The statement as far as it goes; none where there is none, or one of blanks alone.
+    /// The statement as far as it goes; none if there is none, or one of blanks alone.
     pub(crate) fn end(self, alloc: Global) -> Result<Option<Statement<'a>>, AllocError>
         ensures { IfOk result (λ statement. (ended self.entry).statements ≡ option_to_list statement) }
     {

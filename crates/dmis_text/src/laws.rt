@@ -15,7 +15,7 @@ ghost use Rattle.dmis_text.specs.Reading.Role.{Dropped, Continued, Last};
 ghost use Rattle.dmis_text.specs.Numbers.{AreNumbered, IsFaultWithin};
 ghost use Rattle.dmis_text.specs.declared.elements.Statement.{Statement};
 
-/// Lines that are written with LF behind each, or with CR LF, are read as they were written, and the lines of a text
+/// Lines that are written with LF after each, or with CR LF, are read as they were written, and the lines of a text
 /// without CR give it back.
 pub fn lines_read_back()
     ensures feeds { (ls : List (List ℕ)) → list_all is_line ls ≡ true
@@ -26,7 +26,7 @@ pub fn lines_read_back()
         → join_with_byte 10 (lines (text ++ 10 ∷ [])) ≡ text }
 {}
 
-/// A comment begins at the first two `$` outside texts, and a line is clean where each of its bytes may stand in its
+/// A comment begins at the first two `$` outside texts, and a line is clean where each of its bytes may be in its
 /// place.
 pub fn lines_are_content_and_comment()
     ensures content { (inside : Bool) (line content : List ℕ)
@@ -35,7 +35,7 @@ pub fn lines_are_content_and_comment()
         → (is_clean inside line ≡ true) ↔ EachStands inside line }
 {}
 
-/// What stands before a comment counts for nothing where it is blank, goes on where a `$` is its last byte that is not,
+/// What is before a comment counts for nothing if it is blank, continues if a `$` is its last byte that is not,
 /// losing that byte alone, and else ends its statement.
 pub fn a_dollar_at_the_end_continues()
     ensures dropped { (content : List ℕ) → all_blank content ≡ true
@@ -77,7 +77,7 @@ pub fn open_texts_are_seen_in_the_statement()
         → has_open_text (statement_of line text) ≡ inside_after false text }
 {}
 
-/// The lines on which statements begin ascend and are lines of the text, and so is that of the refusal behind them.
+/// The lines on which statements begin ascend and are lines of the text, and so is that of the refusal after them.
 pub fn numbers_ascend()
     ensures statements { (n : ℕ) (ls : List (List ℕ))
         → AreNumbered n (n + length ls) (reading_of n ls).statements }

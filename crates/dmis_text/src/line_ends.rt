@@ -25,7 +25,7 @@ fn line_feed(bytes: &[u8]) -> Option<usize>
     if at < bytes.len() { Some(at) } else { None }
 }
 
-/// The first line of a text without its end, LF or CR LF, and the bytes behind that end; none where there is no byte. The last line may
+/// The first line of a text without its end, LF or CR LF, and the bytes after that end; none if there is no byte. The last line may
 /// lack its end, and a CR there is a byte of the line.
 #[tactic(auto, using(crate::proofs::LineEnds::cuts))]
 pub fn cut_line(bytes: &[u8]) -> Option<(&[u8], &[u8])>

@@ -17,7 +17,7 @@ use crate::runs::{Bare, InComment, InText, Plain, long_run_end, run_end, run_end
 /// The most bytes that a line may have without its end (this profile).
 const LONGEST_LINE: usize = 4096;
 
-/// A line that goes on: what stands before its last `$`, the blanks behind it, and whether a text is open there.
+/// A line that continues: what is before its last `$`, the blanks after it, and whether a text is open there.
 #[derive(Clone, Copy)]
 pub(crate) struct Part<'a> {
     pub(crate) front: &'a [u8],
@@ -36,7 +36,7 @@ pub(crate) enum Look<'a> {
     Last(&'a [u8], bool),
 }
 
-/// The end of the bytes from this place on that neither open nor close a text, begin no comment and may stand there.
+/// The end of the bytes from this place on that neither open nor close a text, begin no comment and may be there.
 #[inline(always)]
 fn passed_end(line: &[u8], at: usize, inside: bool) -> usize
     requires { at ≤ length line.now }
@@ -50,7 +50,7 @@ fn passed_end(line: &[u8], at: usize, inside: bool) -> usize
     }
 }
 
-/// What stands before the comment, and whether a text is open behind it; none where a byte may not stand in its place.
+/// What is before the comment, and whether a text is open after it; none if a byte may not be in its place.
 #[tactic(auto, using(crate::proofs::Comments::steps))]
 fn content_of(line: &[u8], mut inside: bool) -> Option<(&[u8], bool)>
     ensures clean { MatchOption result (is_clean inside line.now ≡ false)
@@ -78,7 +78,7 @@ fn content_of(line: &[u8], mut inside: bool) -> Option<(&[u8], bool)>
     Some((line, inside))
 }
 
-/// What a line is to its statement by what stands before its comment.
+/// What a line is to its statement by what is before its comment.
 #[tactic(auto, using(crate::proofs::Blanks::ends))]
 fn examine_content(content: &[u8], inside: bool) -> Look<'_>
     ensures role { role_of result ≡ content_role content.now }
@@ -140,7 +140,7 @@ fn examine_bare<'a>(line: &[u8], content: &'a [u8]) -> Look<'a>
     }
 }
 
-/// What stands behind the end of a line, LF or CR LF, which is in front of the bytes.
+/// What follows the end of a line, LF or CR LF, which is in front of the bytes.
 #[inline(always)]
 fn behind_end(bytes: &[u8]) -> Option<&[u8]>
     ensures { IfSome result (λ after. IsBehindEnd bytes.now after.now) }
@@ -168,14 +168,14 @@ fn comment_end(bytes: &[u8], at: usize) -> usize
     }
 }
 
-/// The first line of a text, what stands behind its end, and what the line is to its statement.
+/// The first line of a text, what follows its end, and what the line is to its statement.
 pub(crate) struct First<'a> {
     pub(crate) line: &'a [u8],
     pub(crate) after: &'a [u8],
     pub(crate) look: Look<'a>,
 }
 
-/// The first line of a text, where no text is open before it, by one pass over bare bytes and one over a comment behind them; none where
+/// The first line of a text, where no text is open before it, by one pass over bare bytes and one over a comment after them; none where
 /// it has other bytes or no end.
 #[inline(always)]
 fn first_bare_line(bytes: &[u8]) -> Option<First<'_>>
@@ -196,7 +196,7 @@ fn first_bare_line(bytes: &[u8]) -> Option<First<'_>>
     })
 }
 
-/// The first line of a text, where a text is open before it or not; none where there is no byte.
+/// The first line of a text, where a text is open before it or not; none if there is no byte.
 #[inline(always)]
 pub(crate) fn first_line(bytes: &[u8], inside: bool) -> Option<First<'_>>
     ensures cut { MatchOption result (bytes.now ≡ [])

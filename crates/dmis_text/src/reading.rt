@@ -16,7 +16,7 @@ use std::marker::Model;
 pub enum TextFault {
     /// The line with this number has more than 4,096 bytes without its end.
     LineTooLong(u64),
-    /// The line with this number has a byte that may not stand in its place: one other than a tab and 32 to 126, but
+    /// The line with this number has a byte that may not be in its place: one other than a tab and 32 to 126, but
     /// in texts and in comments 128 to 255 may stand too.
     BadByte(u64),
     /// A growth was refused. The call changed nothing and may be made again.
@@ -34,7 +34,7 @@ impl From<AllocError> for TextFault {
     }
 }
 
-/// A statement or none, the bytes behind it, and the number of their first line.
+/// A statement or none, the bytes after it, and the number of their first line.
 #[derive(Drop)]
 struct Found<'a> {
     statement: Option<Statement<'a>>,
@@ -97,7 +97,7 @@ fn read_statement<'a>(
 
 /// The statements of a DMIS text, handed out one by one (ISO 22093).
 ///
-/// Contracts see what is left: the statements still to come, the refusal behind them, and the count of lines of the
+/// Contracts see what is left: the statements still to come, the refusal after them, and the count of lines of the
 /// whole text. Between two calls no statement is under way, so all of this is a function of the lines that are left
 /// and of the number of the first of them.
 #[derive(Drop)]
@@ -127,7 +127,7 @@ impl<'a> Statements<'a> {
     /// All statements of the text, of which the first line has number 1. Lines end with LF or CR LF; the last may lack
     /// its end, and none follows a last LF.
     ///
-    /// Nothing is looked at yet, and no memory is taken.
+    /// Nothing is examined yet, and nothing is allocated.
     pub fn new(alloc: Global, text: &'a [u8]) -> Statements<'a>
         ensures left { result.left ≡ (text_reading text.now).statements }
         ensures fault { result.fault ≡ (text_reading text.now).fault }

@@ -7,7 +7,7 @@ ghost use Rattle.dmis_text.specs.Runs.{lowest_set, is_in_line, is_in_comment, is
 use crate::bytes::may_stand;
 use std::simd::prelude::*;
 
-/// How many bytes are looked at together.
+/// How many bytes are examined together.
 const LANES: usize = 16;
 
 /// The same where long runs are usual.
@@ -81,7 +81,7 @@ pub(crate) fn run_end<C: Class>(class: &C, bytes: &[u8], from: usize) -> usize
     run_end_by_one(class, bytes, at)
 }
 
-/// The same where few bytes stand behind the run. The last block ends with the bytes: what it has in front was passed over before.
+/// Likewise if few bytes follow the run. The last block ends with the bytes: what it has in front was passed over before.
 #[inline(always)]
 pub(crate) fn run_end_by_last_block<C: Class>(class: &C, bytes: &[u8], from: usize) -> usize
     requires { from ≤ length bytes.now }
@@ -135,7 +135,7 @@ pub(crate) fn short_or_long_run_end<C: Class>(class: &C, bytes: &[u8], from: usi
     long_run_end(class, bytes, at)
 }
 
-/// Whether the bytes from this place on, fewer than are looked at together, are seen to be all of the class: with those before them.
+/// Whether the bytes from this place on, fewer than are examined together, are seen to be all of the class: with those before them.
 #[inline(always)]
 pub(crate) fn is_filled_to_end<C: Class>(class: &C, bytes: &[u8], from: usize) -> bool
     requires { from ≤ length bytes.now }
@@ -173,7 +173,7 @@ impl Class for InLine {
     }
 }
 
-/// The bytes that may stand in a comment.
+/// The bytes that may be in a comment.
 pub(crate) struct InComment;
 
 impl Class for InComment {
@@ -241,7 +241,7 @@ impl Class for Bare {
     }
 }
 
-/// The bytes that may stand in a text and do not end it.
+/// The bytes that may be in a text and do not end it.
 pub(crate) struct InText;
 
 impl Class for InText {
@@ -293,7 +293,7 @@ impl Class for Unquoted {
     }
 }
 
-/// The bytes that begin no text and are none of the marks between elements.
+/// The bytes that begin no text and are not marks between elements.
 pub(crate) struct Unmarked;
 
 impl Class for Unmarked {

@@ -1,4 +1,4 @@
--- The place that is farthest to the right, of several the first, as a walk over places finds it.
+-- The place farthest to the right, the first if there are several, as a walk over places finds it.
 use Rattle.std.proofs.Common.{◌≡◌, refl, List, [], ◌∷◌, arith}
 use Rattle.std.proofs.lemmas.Int.{ints}
 use Rattle.dmis_program.specs.declared.features.Touch.{Touch}
@@ -9,7 +9,7 @@ use Rattle.drawings.specs.declared.places.Place.{Place}
 farther_twice : (a b c : Place) → farther (farther a b) c ≡ farther a (farther b c)
 farther_twice a b c = grind (arith, ints)
 
--- the farther of two, and those behind
+-- the farther of two, and the places that follow
 pub farthest_more : (p : Place) (t : Touch) (touches : List Touch) → farthest (farther p (touch_place t)) touches
     ≡ farthest p (t ∷ touches)
 farthest_more p t [] = refl

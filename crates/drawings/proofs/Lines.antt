@@ -1,4 +1,4 @@
--- The lines of labels, as they are found from top to bottom.
+-- The lines of labels, found from top to bottom.
 use Rattle.std.proofs.Common.{◌++◌, append_assoc, ◌≡◌, refl, ap, suc, ℕ, ◌+◌, ◌≤◌, List, [], ◌∷◌, length, min, arith}
 use Rattle.std.proofs.Math.Nat.{le-max_left, le-max_right, max-le}
 use Rattle.std.specs.List.{AllZip}
@@ -6,7 +6,7 @@ use Rattle.drawings.specs.declared.marks.Mark.{Mark}
 use Rattle.drawings.specs.declared.views.View.{View}
 use Rattle.drawings.specs.Labels.{Anchor, anchors_from, more_if_any, lowest_line, line_for, MayStand, AreHighest}
 
--- each label as high as it may stand
+-- each label as high as it may be placed
 abbrev pub lines_for : ℕ → List Anchor → List ℕ
 lines_for highest [] = []
 lines_for highest (a ∷ order) = line_for highest a.0 (length order) ∷ lines_for (line_for highest a.0 (length order) + 4800) order

@@ -1,4 +1,4 @@
--- The longest deviation, as it is found from stop to stop.
+-- The longest deviation, found stop by stop.
 use Rattle.std.proofs.Common.{◌≡◌, ℕ, ◌+◌, ◌*◌, ◌≤◌, List, [], ◌∷◌, max, arith, mul-le-mul}
 use Rattle.std.proofs.Math.Nat.{le-max_left, le-max_right, max-le}
 use Rattle.drawings.specs.Whiskers.{IsAtMost, NotLonger, NoneLonger, IsLongestAway}
@@ -6,7 +6,7 @@ use Rattle.drawings.specs.declared.walk.Act.{Act}
 use Rattle.drawings.specs.declared.walk.Act.TheVariants as act
 use Rattle.drawings.specs.declared.walk.Stop.{Stop}
 
--- a length is the longest of the stops that are not left
+-- a length is the longest of the stops examined so far
 pub record IsFound (stops left : List Stop) (longest : ℕ) : Type 0 where
   pub keeps : (most : ℕ) → longest ≤ most → NoneLonger most left → NoneLonger most stops
   pub least : (most : ℕ) → NoneLonger most stops → (longest ≤ most) × NoneLonger most left

@@ -9,12 +9,12 @@ quotients : (a b d : ℕ) → a ≤ b → a / d ≤ b / d
 quotients a b zero le = let e = div-zero a in let f = div-zero b in omega (arith, e, f)
 quotients a b (suc d) le = let e = div-mul-le_self a (suc d) in le-div (a / suc d) b (suc d) (omega arith) (omega (arith, e, le))
 
--- a shorter length is no longer on paper
+-- a shorter length is not longer on paper
 pub shorter : (scale a b : ℕ) → a ≤ b → on_paper scale a ≤ on_paper scale b
 unfolding on_paper
 shorter scale a b le = quotients (a * numerator scale) (b * numerator scale) (denominator scale) (mul-le-mul_right (numerator scale) le)
 
--- no length is none on paper
+-- a length of zero is zero on paper
 pub nothing : (scale : ℕ) → on_paper scale 0 ≡ 0
 unfolding on_paper
 nothing scale = let e : 0 * numerator scale ≡ 0 = omega arith in ap (λ x. x / denominator scale) e ∙ zero-div (denominator scale)
@@ -47,7 +47,7 @@ shortest_fits scale room le enough = let e : 1 * numerator scale ≡ numerator s
     let f = div-le_self (numerator scale) (denominator scale) in
     rw e (omega (arith, f, le, enough))
 
--- the root, up, is the least number whose square is as large
+-- the root, rounded up, is the least number whose square is at least as large
 pub root_above : (root square most : ℕ) → root * root < square → square ≤ most * most → root + 1 ≤ most
 root_above root square most less le = let f : most ≤ root → ⊥ = λ h. let b = mul-le-mul h h in omega (arith, b, less, le) in grind (arith, f)
 

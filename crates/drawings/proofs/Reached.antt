@@ -1,4 +1,4 @@
--- The coordinates between which stops lie, as they are found from stop to stop.
+-- The coordinates between which stops lie, found stop by stop.
 use Rattle.std.proofs.Common.{◌≡◌, ℤ, ◌≤ℤ◌, List, [], ◌∷◌, arith}
 use Rattle.std.proofs.lemmas.Int.{ints}
 use Rattle.drawings.specs.Extents.{AreWithin, AreNearest}
@@ -6,7 +6,7 @@ use Rattle.drawings.specs.Places.{IsWider}
 use Rattle.drawings.specs.declared.places.Place.{Place}
 use Rattle.drawings.specs.declared.walk.Stop.{Stop}
 
--- two coordinates are those of the stops that are not left
+-- two coordinates are the bounds of the stops examined so far
 pub record IsReached (axis : Place → ℤ) (stops left : List Stop) (low high : ℤ) : Type 0 where
   pub keeps : (lower higher : ℤ) → lower ≤ℤ low → high ≤ℤ higher → AreWithin axis left lower higher → AreWithin axis stops lower higher
   pub nearest : (lower higher : ℤ) → AreWithin axis stops lower higher

@@ -7,7 +7,7 @@ use Rattle.fixed_um.specs.Points.{zero_point}
 use Rattle.drawings.specs.Stops.{zero_with, zero_below, later_with, later_features, points_with, points_left, stops_at, stops_from}
 use Rattle.drawings.specs.declared.walk.Stop.{Stop}
 
--- what is carried is that of the steps above, and the stops so far and those of the steps that are left are all
+-- the state is that after the steps so far, and the stops so far and those of the steps that are left are all stops
 pub record Walked (steps : List Step) (features : List Feature) (left : List Step) (stops : List Stop) (zero : Point) (later : List Feature)
     (points : List Point) : Type 0 where
   pub above : List Step

@@ -1,15 +1,15 @@
--- The scale bars below the views: how long they are on the sheet, and the text that names that length.
+-- The scale bars below the views: their length on the sheet, and the text that names it.
 use Rattle.std.specs.Prelude.{◌≡◌, ℕ, ◌+◌, ◌<◌, ◌≤◌, List, ◌++◌, codes}
 use Rattle.drawings.specs.Scales.{round, on_paper}
 use Rattle.drawings.specs.Texts.{markup, line_text, text_start, text_end, millimetres}
 
--- of the round lengths, which reach up to 10 km, the longest that has room on paper at a scale: the one of this number
+-- the longest of the round lengths, which reach up to 10 km, that fits on paper at a scale: the one with this number
 pub record IsLongest (scale room number : ℕ) : Type 0 where
   pub known : number ≤ 30
   pub fits : on_paper scale (round number) ≤ room
   pub longest : (longer : ℕ) → number < longer → longer ≤ 30 → on_paper scale (round longer) ≤ room → ⊥
 
--- a bar from left to right, and behind its right end a length in millimetres with its unit
+-- a bar from left to right, and after its right end a length in millimetres with its unit
 unfoldable pub bar_text : ℕ → ℕ → ℕ → List ℕ → List ℕ
 bar_text left right length unit = line_text (record { across = left; down = 195300 }) (record { across = right; down = 195300 })
     ++ (markup (codes "<g stroke=\"none\">") ++ (text_start (record { across = right + 2000; down = 196500 })
@@ -19,7 +19,7 @@ bar_text left right length unit = line_text (record { across = left; down = 1953
 abbrev pub bar_at : ℕ → ℕ → ℕ → List ℕ → List ℕ
 bar_at scale left number unit = bar_text left (left + on_paper scale (round number)) (round number) unit
 
--- the bar of the longest length that has room at a scale
+-- the bar of the longest length that fits at a scale
 pub record IsBar (scale room left : ℕ) (unit text : List ℕ) : Type 0 where
   pub number : ℕ
   pub longest : IsLongest scale room number
@@ -32,7 +32,7 @@ bars_text scale magnification bar magnified = markup (codes "<g stroke=\"#000\" 
     ++ (markup (codes "</g>\n<g stroke=\"#d00000\" stroke-width=\"0.5\">\n")
     ++ (bar_at magnification 85000 magnified (codes " mm of deviation") ++ markup (codes "</g>\n"))))
 
--- both bars, each the longest that has room
+-- both bars, each the longest that fits
 pub record AreBars (scale magnification : ℕ) (text : List ℕ) : Type 0 where
   pub bar : ℕ
   pub magnified : ℕ

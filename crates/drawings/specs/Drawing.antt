@@ -25,8 +25,8 @@ head_text = markup (codes "<svg xmlns=\"http://www.w3.org/2000/svg\" width=\"297
     ++ (markup (codes "<rect width=\"297\" height=\"210\" fill=\"#fff\"/>\n<g font-size=\"5\">\n")
     ++ (text_element (spot 10000 12000) (codes "Measured points and their deviations") ++ markup (codes "</g>\n"))))
 
--- A drawing of stops, with labels of marks, which have the names of features: the head, the labels, a plan and a front view, and the footer.
--- The views are those of what the stops fill, at one scale and with the same whiskers, and the bars are of these scales
+-- A drawing of stops, with labels of marks, which have the names of features: the head, the labels, a plan and a front view, and the
+-- footer. The views are those of what the stops fill, at one scale and with the same whiskers, and the bars are of these scales
 pub record IsDrawingOf (stops : List Stop) (marks : List Mark) (wanted : List Wanted) (text : List ℕ) : Type 0 where
   pub extents : Extents
   pub filled : AreFilled stops extents

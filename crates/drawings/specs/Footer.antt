@@ -9,7 +9,7 @@ use Rattle.drawings.specs.declared.walk.Act.TheVariants as act
 use Rattle.drawings.specs.declared.walk.Stop.{Stop}
 use Rattle.drawings.specs.declared.whiskers.Whiskers.{Whiskers}
 
--- a scale: how much of the paper stands for how much of the thing
+-- a scale: the ratio of paper to part
 unfoldable pub ratio_text : ℕ → List ℕ
 ratio_text scale = decimal (numerator scale) ++ (codes ":" ++ decimal (denominator scale))
 
@@ -26,7 +26,7 @@ legend_words = text_element (spot 162500 196500) (codes "measured")
     ++ (text_element (spot 188500 196500) (codes "not measured yet")
     ++ text_element (spot 236500 196500) (codes "way of the machine"))
 
--- how many points of stops are measured, and how many are asked for
+-- how many points of stops are measured, and how many are requested
 abbrev pub is_measured : Act → Bool
 is_measured (act.Measured away) = true
 is_measured act.Move = false

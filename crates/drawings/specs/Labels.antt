@@ -40,7 +40,7 @@ use Rattle.drawings.specs.Texts.{markup, disc_text, line_text, text_start, text_
 use Rattle.drawings.specs.declared.views.View.{View}
 use Rattle.drawings.specs.declared.marks.Mark.{Mark}
 
--- a feature that is measured has a black disc, and one that is not a hollow one
+-- a measured feature has a black disc, one that is not measured a hollow disc
 abbrev pub bullet_start : Bool → List ℕ
 bullet_start true = markup (codes "<g fill=\"#000\">")
 bullet_start false = markup (codes "<g fill=\"#fff\" stroke=\"#000\" stroke-width=\"0.25\" stroke-dasharray=\"none\">")
@@ -54,28 +54,28 @@ unfoldable pub name_text : List ℕ → ℕ → List ℕ
 name_text name line = markup (codes "<g stroke=\"none\" font-family=\"monospace\">")
     ++ (text_start (record { across = 227000; down = line }) ++ (shown_name name ++ (text_end ++ markup (codes "</g>\n"))))
 
--- a label: the line from what it names to it, its disc, and its name
+-- a label: the line to it from what it names, its disc, and its name
 unfoldable pub label_text : View → Mark → List ℕ → ℕ → List ℕ
 label_text plan mark name line = line_text (spot_of plan mark.place) (record { across = 222500; down = line - 1200 })
     ++ (bullet_text mark.is_measured (line - 1200) ++ name_text name line)
 
--- at most 33 labels have room, each of them on a line of its own, 4.8 mm below the one above it
+-- at most 33 labels fit, each on a line of its own, 4.8 mm below the one above it
 abbrev pub most_labels : ℕ
 most_labels = 33
 
--- where a label is wanted: the line whose middle is as far down as what it names, how far across that is, and the number of its feature
+-- the desired position of a label: the line whose middle is as far down as what it names, how far across that is, and its feature's number
 abbrev pub Anchor : Type 0
 Anchor = ℕ × ℕ × ℕ
 
 abbrev pub anchor_of : View → ℕ → Mark → Anchor
 anchor_of plan number mark = ((spot_of plan mark.place).down + 1200, (spot_of plan mark.place).across, number)
 
--- those of marks, which are numbered from here on
+-- the desired positions of marks, which are numbered from here on
 abbrev pub anchors_from : View → ℕ → List Mark → List Anchor
 anchors_from plan number [] = []
 anchors_from plan number (mark ∷ marks) = anchor_of plan number mark ∷ anchors_from plan (number + 1) marks
 
--- from top to bottom, in one height from left to right, and in one place by their numbers
+-- from top to bottom, at equal height from left to right, and at the same place by their numbers
 abbrev pub by_height : Anchor → Anchor → Ordering
 by_height a b = ordering_then (ordering_then (nat_cmp a.0 b.0) (nat_cmp a.1 b.1)) (nat_cmp a.2 b.2)
 
@@ -84,15 +84,15 @@ pub record AreOrdered (plan : View) (marks : List Mark) (order : List Anchor) : 
   pub same : IsPermutation (anchors_from plan 0 (take most_labels marks)) order
   pub sorted : IsSorted by_height order
 
--- the lowest line of a label, below which so many have to stand, and the line of a label where another is free from a line on
+-- the lowest line of a label that leaves room for that many below it, and the line of a label if lines are free from a given line on
 abbrev pub lowest_line : ℕ → ℕ
 lowest_line later = 186000 - later * 4800
 
 abbrev pub line_for : ℕ → ℕ → ℕ → ℕ
 line_for highest wanted later = max (min wanted (lowest_line later)) highest
 
--- lines on which labels may stand: none above the highest that is free; each a label's height below the one above it; and none above what it
--- names, unless those that come below it need the room
+-- lines on which labels may be placed: none above the highest free line; each at least a label's height below the one above it; and none
+-- above what it names, unless the labels below it need the room
 abbrev pub MayStand : ℕ → List Anchor → List ℕ → Type 0
 MayStand highest [] [] = ⊤
 MayStand highest [] (line ∷ lines) = ⊥
@@ -100,7 +100,7 @@ MayStand highest (a ∷ order) [] = ⊥
 MayStand highest (a ∷ order) (line ∷ lines) = (highest ≤ line) × (min a.0 (lowest_line (length order)) ≤ line)
     × MayStand (line + 4800) order lines
 
--- the highest of such lines: each stands as near to what it names as these rules let it
+-- the highest of such lines: each is as near to what it names as these rules allow
 pub record AreHighest (order : List Anchor) (lines : List ℕ) : Type 0 where
   pub may : MayStand 26000 order lines
   pub highest : (others : List ℕ) → MayStand 26000 order others → AllZip (λ line other. line ≤ other) lines others
@@ -131,12 +131,12 @@ more_text more = text_start (spot 227000 190800) ++ (codes "and " ++ (decimal mo
 abbrev pub more_if_any : ℕ → List ℕ
 more_if_any more = if more == 0 then [] else more_text more
 
--- labels, and how many there are more
+-- labels, and how many more there are
 unfoldable pub labels_text : List ℕ → ℕ → List ℕ
 labels_text labels more = markup (codes "<g stroke=\"#999\" stroke-width=\"0.15\" stroke-dasharray=\"1 0.7\">\n")
     ++ (labels ++ (markup (codes "</g>\n") ++ more_if_any more))
 
--- the labels of the features that a program wants
+-- the labels of the features that a program asks for
 pub record AreLabels (plan : View) (marks : List Mark) (wanted : List Wanted) (text : List ℕ) : Type 0 where
   pub order : List Anchor
   pub ordered : AreOrdered plan marks order

@@ -20,32 +20,32 @@ spot_of v p = record {
   down = v.base - on_paper v.scale (height_in v.upright.low v.upright.high (upright_of v.side p));
 }
 
--- the disc of a point that is not measured yet; others have none in its group
+-- the disc of a point that is not measured yet; other stops have no disc in its group
 abbrev pub open_disc : Spot → ℕ → Act → List ℕ
 open_disc at radius act.Touch = disc_text at radius
 open_disc at radius act.Move = []
 open_disc at radius (act.Measured away) = []
 
--- the disc of a measured point; others have none in its group
+-- the disc of a measured point; other stops have no disc in its group
 abbrev pub done_disc : Spot → ℕ → Act → List ℕ
 done_disc at radius (act.Measured away) = disc_text at radius
 done_disc at radius act.Move = []
 done_disc at radius act.Touch = []
 
--- the whisker of a measured point, from where it is drawn; others have none
+-- the whisker of a measured point, from its position in the view; other stops have no whisker
 abbrev pub whisker_of : View → Whiskers → Spot → Act → List ℕ
 whisker_of v w from (act.Measured away) = line_text from (tip_of v.side w from away)
 whisker_of v w from act.Move = []
 whisker_of v w from act.Touch = []
 
--- how large discs are: smaller where there are more than 400 stops; and how thick whiskers
+-- the size of discs, smaller if there are more than 400 stops, and the thickness of whiskers
 abbrev pub radius_for : ℕ → ℕ
 radius_for count = if nat_le count 400 then 800 else 400
 
 abbrev pub thickness_for : ℕ → ℕ
 thickness_for count = if nat_le count 400 then 500 else 250
 
--- what is drawn of a stop: its disc among those that are not measured yet, that among the measured ones, and its whisker
+-- what is drawn of a stop: its disc among the points that are not measured yet, its disc among the measured ones, and its whisker
 unfoldable pub open_dot : View → ℕ → Stop → List ℕ
 open_dot v radius s = open_disc (spot_of v s.place) radius s.act
 

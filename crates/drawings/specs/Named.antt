@@ -1,4 +1,4 @@
--- What labels name: of each feature of a program the touch that is farthest to the right, and whether it is begun.
+-- What labels name: for each feature of a program, the touch that is farthest to the right, and whether the feature has begun.
 use Rattle.std.specs.Prelude.{Bool, true, false, List, [], ◌∷◌, int_lt, drop, map, if◌then◌else◌}
 use Rattle.contact_ledger.specs.declared.features.Feature.{Feature}
 use Rattle.dmis_program.specs.declared.features.Touch.{Touch}
@@ -14,16 +14,16 @@ use Rattle.drawings.specs.declared.marks.Mark.{Mark}
 abbrev pub touch_place : Touch → Place
 touch_place t = place_of t.target (zero_of t.frame)
 
--- of two places the later one only where it is farther to the right
+-- the one of two places that is farther to the right; the earlier one if both are equally far
 abbrev pub farther : Place → Place → Place
 farther first later = if int_lt first.x later.x then later else first
 
--- of a place and those of touches the one that is farthest to the right, of several the first
+-- the place farthest to the right among a place and those of touches; the first if there are several
 abbrev pub farthest : Place → List Touch → Place
 farthest first [] = first
 farthest first (t ∷ touches) = farther first (farthest (touch_place t) touches)
 
--- that of the touches of a feature, of which each has one at least
+-- that among the touches of a feature; each feature has at least one
 abbrev pub farthest_of : List Touch → Place
 farthest_of [] = place_of zero_point zero_point
 farthest_of (t ∷ touches) = farthest (touch_place t) touches
@@ -33,7 +33,7 @@ abbrev pub is_begun : List Point → Bool
 is_begun [] = false
 is_begun (p ∷ points) = true
 
--- what is named of each feature that a program wants, beside those that were measured first
+-- the mark of each feature that a program asks for, paired with the features that were measured first
 abbrev pub marks_of : List Wanted → List Feature → List Mark
 marks_of [] features = []
 marks_of (w ∷ wanted) features = record { place = farthest_of w.touches; is_measured = is_begun (next_points features) }

@@ -1,4 +1,4 @@
--- What a view's picture has besides its marks: the title, the frame and the arrows of the axes.
+-- What a view's picture has in addition to its marks: the title, the frame and the arrows of the axes.
 use Rattle.std.specs.Prelude.{ℕ, List, ◌++◌, ◌-◌, codes}
 use Rattle.fixed_um.specs.Written.{written}
 use Rattle.drawings.specs.Marks.{way_text, dots_text, whiskers_text}
@@ -23,11 +23,11 @@ abbrev pub up_letter : Side → List ℕ
 up_letter Plan = codes "y"
 up_letter Front = codes "z"
 
--- from where to where a view reaches along an axis
+-- the range of a view along an axis
 unfoldable pub span_text : List ℕ → Span → List ℕ
 span_text name s = name ++ (written s.low ++ (codes " to " ++ written s.high))
 
--- the title: the view's name, and from where to where it reaches across and upwards
+-- the title: the view's name, and its ranges across and upwards
 unfoldable pub title_text : View → List ℕ
 title_text v = text_start (spot 10000 (v.top - 1500)) ++ (side_name v.side ++ (span_text (codes "x ") v.across
     ++ (span_text (codes ", " ++ (up_letter v.side ++ codes " ")) v.upright ++ text_end)))

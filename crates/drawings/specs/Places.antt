@@ -4,8 +4,8 @@ use Rattle.fixed_um.specs.declared.lengths.Point.{Point}
 use Rattle.drawings.specs.declared.away.Away.{Away}
 use Rattle.drawings.specs.declared.places.Place.{Place}
 
--- a coordinate in machine axes, in micrometres: one on the wire, and a zero point of a frame that is one. Nor do two points on the wire lie
--- farther apart
+-- a coordinate in machine axes, in micrometres: a wire coordinate plus a frame's zero point, which is also one. Nor do two points on the
+-- wire lie farther apart
 abbrev pub machine_limit : ℕ
 machine_limit = 8000000000
 
@@ -13,7 +13,7 @@ machine_limit = 8000000000
 abbrev pub place_of : Point → Point → Place
 place_of p origin = record { x = p.x +ℤ origin.x; y = p.y +ℤ origin.y; z = p.z +ℤ origin.z }
 
--- how far a measured point lies from its nominal one
+-- the distance of a measured point from its nominal one, axis by axis
 abbrev pub away_of : Point → Point → Away
 away_of measured nominal = record {
   x = measured.x -ℤ nominal.x;
@@ -21,21 +21,21 @@ away_of measured nominal = record {
   z = measured.z -ℤ nominal.z;
 }
 
--- what lies between two coordinates
+-- the span between two coordinates
 abbrev pub IsBetween : ℤ → ℤ → ℤ → Type 0
 IsBetween low high c = (low ≤ℤ c) × (c ≤ℤ high)
 
--- a span that is wider than another by a coordinate, and no wider
+-- the smallest span that contains another and a coordinate
 pub record IsWider (low high c : ℤ) (low' high' : ℤ) : Type 0 where
   pub holds : IsBetween low' high' c
   pub low_is : low' ≤ℤ low
   pub high_is : high ≤ℤ high'
   pub nearest : (lower higher : ℤ) → IsBetween lower higher c → lower ≤ℤ low → high ≤ℤ higher → (lower ≤ℤ low') × (high' ≤ℤ higher)
 
--- the coordinate between a lowest and a highest one that is nearest to a coordinate: itself where it lies between them
+-- the coordinate between a lowest and a highest one that is nearest to a coordinate: itself if it lies between them
 abbrev pub nearest : ℤ → ℤ → ℤ → ℤ
 nearest low high c = if int_lt c low then low else if int_lt high c then high else c
 
--- how far above the lowest that is
+-- how far that is above the lowest
 unfoldable pub height_in : ℤ → ℤ → ℤ → ℕ
 height_in low high c = unsigned_abs (nearest low high c -ℤ low)

@@ -1,4 +1,4 @@
--- Where the two views stand on the sheet, and their scale.
+-- The places of the two views on the sheet, and their scale.
 use Rattle.std.specs.Prelude.{◌≡◌, ℕ, ◌+◌, ◌-◌, ◌/◌, ◌-ℤ◌, unsigned_abs}
 use Rattle.drawings.specs.Scales.{on_paper, IsScaleFor}
 use Rattle.drawings.specs.declared.extents.Extents.{Extents}
@@ -9,7 +9,7 @@ use Rattle.drawings.specs.declared.sides.Side.TheVariants.{Plan, Front}
 use Rattle.drawings.specs.declared.spans.Span.{Span}
 use Rattle.drawings.specs.declared.views.View.{View}
 
--- how long a span is
+-- the length of a span
 abbrev pub span_length : Span → ℕ
 span_length s = unsigned_abs (s.high -ℤ s.low)
 
@@ -20,11 +20,11 @@ lengths_of e = record { across = span_length e.x; first = span_length e.y; secon
 abbrev pub views_room : Room
 views_room = record { across = 177000; upright = 98000 }
 
--- what is left above each view and below it where both are drawn at a scale: a quarter of what they do not fill
+-- the space left above and below each view if both are drawn at a scale: a quarter of what they do not fill
 abbrev pub free_at : ℕ → Lengths → ℕ
 free_at scale lengths = (98000 - on_paper scale lengths.first - on_paper scale lengths.second) / 4
 
--- a view stands in a frame from its top on: what it shows in the middle across, with margins on all sides and what is left above and below
+-- a view is placed in a frame from its top down: its content centred across, with margins on all sides and the space left above and below
 pub record IsPlaced (scale free top : ℕ) (across upright : Span) (v : View) : Type 0 where
   pub scale_is : v.scale ≡ scale
   pub across_is : v.across ≡ across
@@ -34,7 +34,7 @@ pub record IsPlaced (scale free top : ℕ) (across upright : Span) (v : View) : 
   pub base : v.base ≡ top + 15000 + free + on_paper scale (span_length upright)
   pub bottom : v.bottom ≡ v.base + free + 15000
 
--- the plan, which stands above, and the front view, at the largest scale at which both have room
+-- the plan, which is above, and the front view, at the largest scale at which both fit
 pub record AreViews (e : Extents) (v : Views) : Type 0 where
   pub scale : IsScaleFor (lengths_of e) views_room v.plan.scale
   pub plan_side : v.plan.side ≡ Plan

@@ -3,7 +3,7 @@ use Rattle.std.specs.Prelude.{◌≡◌, ℕ, zero, suc, ◌+◌, ◌-◌, ◌*�
 use Rattle.drawings.specs.declared.scales.Lengths.{Lengths}
 use Rattle.drawings.specs.declared.scales.Room.{Room}
 
--- the first digits of round numbers in turn
+-- the first digits of round numbers, in turn
 abbrev pub leading : ℕ → ℕ
 leading zero = 1
 leading (suc zero) = 2
@@ -20,28 +20,28 @@ numerator scale = round (12 - scale)
 unfoldable pub denominator : ℕ → ℕ
 denominator scale = round (scale - 12)
 
--- a length on paper, in whole micrometres, cut
+-- a length on paper, in whole micrometres, rounded down
 unfoldable pub on_paper : ℕ → ℕ → ℕ
 on_paper scale length = length * numerator scale / denominator scale
 
--- at a scale there is room for a length across the paper, and for two above each other
+-- at a scale, a length fits across the paper, and two fit above each other
 pub record Fits (scale : ℕ) (lengths : Lengths) (room : Room) : Type 0 where
   pub across : on_paper scale lengths.across ≤ room.across
   pub upright : on_paper scale lengths.first + on_paper scale lengths.second ≤ room.upright
 
--- nothing is to be drawn
+-- there is nothing to draw
 pub record AreNothing (lengths : Lengths) : Type 0 where
   pub across : lengths.across ≡ 0
   pub first : lengths.first ≡ 0
   pub second : lengths.second ≡ 0
 
--- the largest scale at which there is room; 1:1 where nothing is to be drawn
+-- the largest scale at which the lengths fit; 1:1 if there is nothing to draw
 pub record IsScaleFor (lengths : Lengths) (room : Room) (scale : ℕ) : Type 0 where
   pub full : AreNothing lengths → scale ≡ 12
   pub fits : Fits scale lengths room
   pub largest : (larger : ℕ) → larger < scale → Fits larger lengths room → AreNothing lengths
 
--- a length that is drawn, in micrometres: no span of the machine is longer
+-- a drawn length, in micrometres: no span of the machine is longer
 abbrev pub length_limit : ℕ
 length_limit = 16000000000
 

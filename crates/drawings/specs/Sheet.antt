@@ -17,6 +17,6 @@ pub record IsOnSheet (p : Spot) : Type 0 where
   pub across : p.across ≤ sheet_width
   pub down : p.down ≤ sheet_height
 
--- how much room is kept around what a view draws: the longest line of a deviation
+-- the margin around a view's content: the longest line of a deviation
 abbrev pub margin : ℕ
 margin = 15000

@@ -1,4 +1,4 @@
--- Where a program stops the machine, and what was measured there. The steps above a step are given nearest first.
+-- Where a program stops the machine, and what was measured there. The steps before a step are given nearest first.
 use Rattle.std.specs.Prelude.{List, [], ◌∷◌, ◌++◌, drop}
 use Rattle.contact_ledger.specs.declared.features.Feature.{Feature}
 use Rattle.dmis_program.specs.declared.steps.Step.{Step}
@@ -17,7 +17,7 @@ abbrev pub zero_of : Frame → Point
 zero_of Machine = zero_point
 zero_of (Part offset) = offset
 
--- the zero point of the frame that is selected: of the one that was recalled, or touched in, nearest above; the machine's where none was
+-- the zero point of the selected frame: the one recalled, or touched in, most recently; the machine's if none was
 abbrev pub zero_with : Step → Point → Point
 zero_with (Goto target) above = above
 zero_with (Begin name) above = above
@@ -30,7 +30,7 @@ abbrev pub zero_below : List Step → Point
 zero_below [] = zero_point
 zero_below (step ∷ above) = zero_with step (zero_below above)
 
--- the features that are left for later blocks: each block that begins takes the next one
+-- the features left for later blocks: each block that begins takes the next one
 abbrev pub later_with : Step → List Feature → List Feature
 later_with (Goto target) features = features
 later_with (Begin name) features = drop 1 features
@@ -49,7 +49,7 @@ next_points [] = []
 next_points (f ∷ features) = f.points
 
 -- the points that are left for touches: a block that begins brings those of the next feature, each touch takes one, and where the block
--- ends there are none
+-- ends no points are left
 abbrev pub points_with : Step → List Feature → List Point → List Point
 points_with (Goto target) features points = points
 points_with (Begin name) features points = next_points features
@@ -62,7 +62,7 @@ abbrev pub points_left : List Feature → List Step → List Point
 points_left features [] = []
 points_left features (step ∷ above) = points_with step (later_features features above) (points_left features above)
 
--- a touch has measured the first of the points that are left for it; where none is left, it is still to be made
+-- a touch has measured the first of the points that are left for it; if no point is left, it has not been made yet
 abbrev pub act_by : List Point → Point → Act
 act_by [] nominal = act.Touch
 act_by (p ∷ points) nominal = act.Measured (away_of p nominal)
@@ -76,7 +76,7 @@ stops_at zero points (Tool name) = []
 stops_at zero points (Recall offset) = []
 stops_at zero points End = []
 
--- the stops of the steps from here on, by those above
+-- the stops of the steps from here on, by the steps before them
 abbrev pub stops_from : List Feature → List Step → List Step → List Stop
 stops_from features above [] = []
 stops_from features above (step ∷ steps) = stops_at (zero_below above) (points_left features above) step

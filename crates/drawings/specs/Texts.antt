@@ -14,21 +14,21 @@ abbrev pub escaped : List ℕ → List ℕ
 escaped [] = []
 escaped (b ∷ text) = escaped_byte b ++ escaped text
 
--- a name of at most 26 bytes as it is, a longer one by its first 24 and two points, escaped
+-- a name of at most 26 bytes unchanged, a longer one by its first 24 bytes and two points, escaped
 abbrev pub shown_name : List ℕ → List ℕ
 shown_name name = if nat_le (length name) 26 then escaped name else escaped (take 24 name) ++ codes ".."
 
--- a position in millimetres, as in a list of points
+-- a position in millimetres, in the form of a list of points
 abbrev pub spot_text : Spot → List ℕ
 spot_text p = written (pos p.across) ++ (codes "," ++ written (pos p.down))
 
--- a text of which something is true is appended to another
+-- a text with some property is appended to another
 pub record Adds (Is : List ℕ → Type 0) (old new : List ℕ) : Type 0 where
   pub text : List ℕ
   pub is : Is text
   pub added : new ≡ old ++ text
 
--- markup, which is written as it is: a word of its own, so that no proof looks into long constants
+-- markup, written unchanged: it has a name of its own so that no proof unfolds long constants
 unfoldable pub markup : List ℕ → List ℕ
 markup text = text
 
@@ -63,7 +63,7 @@ text_end = markup (codes "</text>\n")
 unfoldable pub text_element : Spot → List ℕ → List ℕ
 text_element at text = text_start at ++ (escaped text ++ text_end)
 
--- the decimals of a length in millimetres up to the last that is not zero, and no point where all are zero
+-- the decimals of a length in millimetres up to the last that is not zero, and no point if all are zero
 abbrev pub needed_decimals : ℕ → List ℕ
 needed_decimals n =
     if n % 1000 == 0 then [] else

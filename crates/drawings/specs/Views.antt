@@ -18,24 +18,24 @@ abbrev pub part_of : Side → Away → ℤ
 part_of Plan v = v.y
 part_of Front v = v.z
 
--- a nominal point is drawn so far inside that the longest line from there stays on the sheet
+-- a nominal point is drawn far enough inside the sheet that the longest line from it stays on the sheet
 pub record IsInView (p : Spot) : Type 0 where
   pub left : margin ≤ p.across
   pub right : p.across + margin ≤ sheet_width
   pub above : margin ≤ p.down
   pub below : p.down + margin ≤ sheet_height
 
--- a position moved to the side of a number
+-- a position moved in the direction of a number's sign
 abbrev pub moved : ℕ → ℤ → ℕ → ℕ
 moved from (pos _) by = from + by
 moved from (negsuc _) by = from - by
 
--- a part of a deviation on paper, at the whiskers' scale: in whole micrometres, cut, and none longer than the longest
+-- a part of a deviation on paper, at the whiskers' scale: in whole micrometres, rounded down, and no longer than the longest
 abbrev pub stretched : Whiskers → ℤ → ℕ
 stretched w part = on_paper w.scale (min (unsigned_abs part) w.longest)
 
--- where the whisker of a deviation ends that begins at a position: moved by its part along x to the right, and by its part that is up
--- upwards
+-- the end of a deviation's whisker that starts at a position: moved to the right by its part along x, and upwards by its part
+-- that is up
 abbrev pub tip_of : Side → Whiskers → Spot → Away → Spot
 tip_of side w from v = record {
   across = moved from.across v.x (stretched w v.x);

@@ -85,10 +85,10 @@ fn put_drawing(
 
 /// Appends a drawing (SVG 1.1) of a program and of the features that were measured first, in their order, on one sheet A4: plan and front
 /// view in machine axes at one round scale, the way of the machine, the nominal points, hollow where they are not measured yet, and from
-/// each measured one a line that shows how far the measured point lies from it, at a round scale of its own. Of features that are not those
-/// of the program, points are taken in their order as far as there are touches.
+/// each measured one a line that shows how far the measured point lies from it, at a round scale of its own. If the features are not those
+/// of the program, points are taken in order as long as there are touches.
 ///
-/// Only want of memory is an `Err`, and then nothing is appended.
+/// Fails only if out of memory, and then appends nothing.
 pub fn write_drawing(
     alloc: Global,
     out: &mut Vec<u8>,

@@ -1,4 +1,4 @@
-// What stops fill.
+// The ranges that stops occupy.
 
 ghost use Rattle.std.specs.Prelude.{◌∷◌};
 ghost use Rattle.drawings.specs.Extents.{AreFilled, IsAlone, TakesIn};
@@ -7,7 +7,7 @@ use crate::places::Place;
 use crate::spans::Span;
 use crate::walk::Stop;
 
-/// The spans that stops fill along each axis.
+/// The spans that stops occupy along each axis.
 #[derive(Clone, Copy)]
 pub(crate) struct Extents {
     pub x: Span,
@@ -47,7 +47,7 @@ impl Extents {
         extents
     }
 
-    /// The extents of stops; of none, the zero point.
+    /// The extents of stops; the zero point if there is no stop.
     pub fn of(stops: &[Stop]) -> Extents
         ensures { AreFilled stops.now result }
     {

@@ -1,4 +1,4 @@
-// What stands below the views: the scales, what the marks mean, and how much was measured.
+// What is below the views: the scales, the legend, and how much was measured.
 
 ghost use Rattle.std.specs.Prelude.{◌≡◌, ◌≤◌, ◌+◌, ◌++◌, OnOk};
 ghost use Rattle.drawings.specs.Bars.{bar_text, IsBar, AreBars};
@@ -14,7 +14,7 @@ use crate::walk::{Act, Stop};
 use crate::whiskers::Whiskers;
 use std::alloc::AllocError;
 
-/// The line of the bars, and that of the texts beside them.
+/// The line of the bars, and that of the texts next to them.
 const BAR_DOWN: u64 = 195_300;
 
 const TEXT_DOWN: u64 = 196_500;
@@ -28,7 +28,7 @@ fn put_ratio(out: &mut Vec<u8>, scale: Scale) -> Result<(), AllocError>
     put_number(out, scale.denominator())
 }
 
-/// A bar from left to right, and the length that it stands for.
+/// A bar from left to right, and the length that it represents.
 #[tactic(auto, unfolding(crate::specs::Bars::bar_text))]
 fn put_bar_from(
     out: &mut Vec<u8>,
@@ -55,7 +55,7 @@ fn put_bar_from(
     put_markup(out, b"</g>\n")
 }
 
-/// A bar, and how long that is.
+/// A bar, and its length.
 fn put_bar(
     out: &mut Vec<u8>,
     scale: Scale,
@@ -156,7 +156,7 @@ fn asked_count(stops: &[Stop]) -> u64
     stops.iter().filter(|stop| is_asked(*stop)).count() as u64
 }
 
-/// How much was measured of what is asked for.
+/// How many of the requested points were measured.
 fn put_counts(out: &mut Vec<u8>, stops: &[Stop]) -> Result<(), AllocError>
     ensures { OnOk result (out.new.items
         ≡ out.old.items ++ counts_text (measured_count stops.now) (asked_count stops.now)) }
@@ -195,7 +195,7 @@ fn put_caption(
     end_text(out)
 }
 
-/// Appends what stands below the views.
+/// Appends what is below the views.
 pub(crate) fn put_footer(
     out: &mut Vec<u8>,
     scale: Scale,

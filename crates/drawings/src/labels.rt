@@ -11,7 +11,7 @@ use crate::views::View;
 use dmis_program::Wanted;
 use std::alloc::{AllocError, Global};
 
-/// The lines of names: where the first stands, how far below each the next, and how many there are at most.
+/// The lines of names: where the first is, the distance from each to the next, and how many there are at most.
 const FIRST_LINE: u64 = 26_000;
 
 const PITCH: u64 = 4_800;
@@ -21,13 +21,13 @@ const MOST: usize = 33;
 /// How far above its line the middle of a name is.
 const HALF_LETTER: u64 = 1_200;
 
-/// The lowest line behind which so many more stand.
+/// The lowest line of the last label.
 const LAST_LINE: u64 = 186_000;
 
 /// The most bytes of a name that are shown.
 const NAME_BYTES: usize = 26;
 
-/// The line of a name: as near to what it names as the lines above and those that are to come below it let it.
+/// The line of a name: as near to what it names as the lines above it, and those that must fit below it, allow.
 fn line_at(highest: u64, wanted: u64, later: u64) -> u64
     requires later { later ≤ 32 }
     requires room { highest + later * 4800 ≤ 186000 }
@@ -50,7 +50,7 @@ fn labelled(marks: &[Mark]) -> &[Mark]
     }
 }
 
-/// Where labels are wanted: for each mark its line, how far across it is, and its number.
+/// The desired positions of labels: for each mark its line, how far across it is, and its number.
 fn anchors(alloc: Global, marks: &[Mark], plan: &View) -> Result<Vec<(u64, u64, usize)>, AllocError>
     requires { length marks.now ≤ 33 }
     ensures { IfOk result (λ anchors. anchors.items ≡ anchors_from plan.now 0 marks.now) }
@@ -67,7 +67,7 @@ fn anchors(alloc: Global, marks: &[Mark], plan: &View) -> Result<Vec<(u64, u64, 
     Ok(anchors)
 }
 
-/// What is named where, from top to bottom.
+/// The labels' desired positions, from top to bottom.
 fn ordered(alloc: Global, marks: &[Mark], plan: &View) -> Result<Vec<(u64, u64, usize)>, AllocError>
     ensures ordered { IfOk result (λ order. AreOrdered plan.now marks.now order.items) }
     ensures few { IfOk result (λ order. length order.items ≤ 33) }
@@ -193,7 +193,7 @@ fn put_each_label(
     Ok(())
 }
 
-/// Tells how many features have no line.
+/// Writes how many features have no line.
 #[tactic(auto, unfolding(crate::specs::Labels::more_text))]
 fn put_more(out: &mut Vec<u8>, more: u64) -> Result<(), AllocError>
     ensures { OnOk result (out.new.items ≡ out.old.items ++ more_text more) }
@@ -205,7 +205,7 @@ fn put_more(out: &mut Vec<u8>, more: u64) -> Result<(), AllocError>
     end_text(out)
 }
 
-/// Tells how many features have no line, where there are any.
+/// Writes how many features have no line, if there are any.
 fn put_more_if_any(out: &mut Vec<u8>, more: usize) -> Result<(), AllocError>
     ensures { OnOk result (out.new.items ≡ out.old.items ++ more_if_any more) }
 {
@@ -216,7 +216,8 @@ fn put_more_if_any(out: &mut Vec<u8>, more: usize) -> Result<(), AllocError>
     }
 }
 
-/// Appends the names of the first features, each on a line of its own, from top to bottom as what they name, and how many there are more.
+/// Appends the names of the first features, each on a line of its own, in the order of their marks from top to bottom, and how many more
+/// there are.
 #[tactic(auto, unfolding(crate::specs::Labels::labels_text))]
 pub(crate) fn put_labels(
     alloc: Global,

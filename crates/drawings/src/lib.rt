@@ -1,13 +1,13 @@
 //! An SVG drawing of a program and of what was measured: the way of the machine, the points that the program asks for, and how far the
-//! measured ones lie from there, in a plan and a front view on one sheet.
+//! measured points lie from them, in a plan and a front view on one sheet.
 //!
-//! - `places`, `away`: positions in machine axes, and deviations; `spans`, `extents`: what positions fill
-//! - `scales`: round scales, and the largest at which lengths have room
+//! - `places`, `away`: positions in machine axes, and deviations; `spans`, `extents`: the ranges of positions
+//! - `scales`: round scales, and the largest at which lengths fit
 //! - `sheet`: positions on the sheet of paper
 //! - `walk`: a program as stops of the machine in machine axes, each with what was measured there
-//! - `sides`, `views`: the two views, where they stand on the sheet, and where a place is in them
-//! - `whiskers`: how long deviations are drawn
-//! - `pictures`: what is drawn in a view; `marks`: what labels name; `labels`: the column of the features' names; `footer`: what stands
+//! - `sides`, `views`: the two views, their places on the sheet, and where a position is in them
+//! - `whiskers`: the drawn length of deviations
+//! - `pictures`: what is drawn in a view; `marks`: what labels name; `labels`: the column of the features' names; `footer`: what is
 //!   below
 //! - `texts`: the elements of SVG; `drawing`: the whole
 #![tactic(auto)]

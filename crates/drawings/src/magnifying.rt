@@ -1,4 +1,4 @@
-// How long deviations are, and the scale of their lines.
+// The lengths of deviations, and the scale of their lines.
 
 ghost use Rattle.std.specs.Prelude.{◌≡◌, ◌≤◌, ◌*◌, ◌+◌, ℕ, unsigned_abs};
 ghost use Rattle.drawings.specs.Scales.{on_paper, IsScaleFor};
@@ -21,7 +21,7 @@ fn squared(part: i64) -> u128
     part * part
 }
 
-/// The length of what is so long across and upright, in whole micrometres, up.
+/// The length of a line with these parts across and upright, in whole micrometres, rounded up.
 #[tactic(auto, using(crate::proofs::Paper::root_within, crate::proofs::Paper::root_above, crate::proofs::Paper::root_exact))]
 fn length(across: i64, upright: i64) -> u64
     requires across { unsigned_abs across ≤ 8000000000 }
@@ -62,7 +62,7 @@ fn longest(stops: &[Stop]) -> u64
     longest
 }
 
-/// The scale of whiskers the longest of which is so long.
+/// The scale of whiskers whose longest has this length.
 #[tactic(auto, using(crate::proofs::Paper::whisker_fits))]
 fn scale_of(longest: u64) -> Scale
     requires { longest ≤ 12000000000 }
@@ -81,7 +81,7 @@ fn scale_of(longest: u64) -> Scale
     Scale::for_room(lengths, room)
 }
 
-/// The deviations of stops at the largest scale at which the longest is at most 15 mm on paper; 1:1 where there is none.
+/// The deviations of stops at the largest scale at which the longest is at most 15 mm on paper; 1:1 if there is no deviation.
 pub(crate) fn whiskers_of(stops: &[Stop]) -> Whiskers
     ensures { AreWhiskers stops.now result }
 {

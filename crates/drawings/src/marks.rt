@@ -10,7 +10,7 @@ use dmis_program::{Program, Touch, Wanted};
 use fixed_um::Point;
 use std::alloc::{AllocError, Global};
 
-/// A feature: the touch of it that is farthest to the right, and whether its first was measured.
+/// A feature: its touch that is farthest to the right, and whether its first touch was measured.
 #[derive(Clone, Copy)]
 pub(crate) struct Mark {
     pub place: Place,
@@ -23,7 +23,7 @@ fn touch_place(touch: &Touch) -> Place
     Place::of(touch.target, zero_of(touch.frame))
 }
 
-/// Of two places the later one only where it is farther to the right.
+/// The one of two places that is farther to the right; the earlier one if both are equally far.
 fn farther(first: Place, later: Place) -> Place
     ensures { result ≡ farther first later }
 {
@@ -34,7 +34,7 @@ fn farther(first: Place, later: Place) -> Place
     }
 }
 
-/// Where a place and touches lie farthest to the right.
+/// The place farthest to the right among a place and those of touches.
 fn farthest(first: Place, touches: &[Touch]) -> Place
     ensures { result ≡ farthest first touches.now }
 {
@@ -45,7 +45,7 @@ fn farthest(first: Place, touches: &[Touch]) -> Place
     place
 }
 
-/// Where touches, of which there is one at least, lie farthest to the right.
+/// The place farthest to the right among touches. There is at least one touch.
 fn farthest_of(touches: &[Touch]) -> Place
     requires { 0 < length touches.now }
     ensures { result ≡ farthest_of touches.now }
@@ -65,7 +65,7 @@ fn is_begun(points: &[Point]) -> bool
     }
 }
 
-/// What is named of each feature of a program, beside those that were measured first.
+/// The mark of each feature of a program, paired with the features that were measured first.
 pub(crate) fn marks_of(
     alloc: Global,
     program: &Program,

@@ -18,7 +18,7 @@ use crate::walk::{Act, Stop};
 use crate::whiskers::Whiskers;
 use std::alloc::AllocError;
 
-/// Up to how many stops dots are large.
+/// The most stops for which dots are large.
 const FEW: usize = 400;
 
 #[tactic(auto, unfolding(crate::specs::Pictures::span_text))]
@@ -31,7 +31,7 @@ fn put_span(out: &mut Vec<u8>, name: &[u8], span: Span) -> Result<(), AllocError
     put_coordinate(out, span.high)
 }
 
-/// The title above the frame: what is seen, and from where to where.
+/// The title above the frame: the view's name, and the ranges that it shows.
 #[tactic(auto, unfolding(crate::specs::Pictures::title_text))]
 fn put_title(out: &mut Vec<u8>, view: &View) -> Result<(), AllocError>
     ensures { OnOk result (out.new.items ≡ out.old.items ++ title_text view.now) }
@@ -213,7 +213,7 @@ fn put_done_dots(
     Ok(())
 }
 
-/// The points that are measured, and those that are not yet.
+/// The points that are measured, and those that are not measured yet.
 #[tactic(auto, unfolding(crate::specs::Marks::dots_text))]
 fn put_dots(out: &mut Vec<u8>, view: &View, stops: &[Stop]) -> Result<(), AllocError>
     ensures { OnOk result (out.new.items ≡ out.old.items ++ dots_text view.now stops.now) }

@@ -25,7 +25,7 @@ impl Model for Coordinate {
 }
 
 impl Coordinate {
-    /// A length in the axes of a frame whose zero point stands there.
+    /// A length in the axes of a frame with this zero point.
     fn of(length: Um, origin: Um) -> Coordinate
         ensures { result ≡ length +ℤ origin }
     {
@@ -61,7 +61,7 @@ pub(crate) struct Place {
 }
 
 impl Place {
-    /// A point in the axes of a frame whose zero point stands there. Takes no memory.
+    /// A point in the axes of a frame with this zero point. Does not allocate.
     pub fn of(point: Point, origin: Point) -> Place
         ensures { result ≡ place_of point origin }
     {

@@ -1,4 +1,4 @@
-// Where the two views stand on the sheet, and their scale.
+// The places of the two views on the sheet, and their scale.
 
 ghost use Rattle.std.specs.Prelude.{◌≡◌, ◌≤◌, ◌+◌};
 ghost use Rattle.drawings.specs.Placing.{views_room, AreViews};
@@ -9,12 +9,12 @@ use crate::scales::{Lengths, Room, Scale};
 use crate::sides::Side;
 use crate::views::{FRAME_LEFT, View};
 
-/// The upper edge of the plan's frame, and what lies between it and the front's.
+/// The upper edge of the plan's frame, and the gap between it and the front view's.
 const TOP: u64 = 22_000;
 
 const TITLE: u64 = 7_000;
 
-/// What is kept free around what is drawn.
+/// The margin around the drawn content.
 const MARGIN: u64 = 15_000;
 
 /// The paper within the margins of both frames.
@@ -42,7 +42,7 @@ fn scale_of(lengths: Lengths) -> Scale
 }
 
 impl Views {
-    /// The views of what fills these extents.
+    /// The views of content with these extents.
     pub fn of(extents: &Extents) -> Views
         ensures { AreViews extents.now result }
     {

@@ -1,4 +1,4 @@
-// Scales, and the largest at which there is room.
+// Scales, and the largest at which lengths fit.
 
 ghost use Rattle.std.specs.Prelude.{◌≡◌, ◌≤◌, ◌<◌, ◌*◌, ◌^◌, ℕ, IsTrue, ◌↔◌};
 ghost use Rattle.drawings.specs.Scales.{round, numerator, denominator, on_paper, Fits, AreShort, IsScaleFor, length_limit};
@@ -6,7 +6,7 @@ ghost use Rattle.drawings.specs.Bars.{IsLongest};
 
 use std::marker::Model;
 
-/// Lengths that are to be drawn, in micrometres: one across the paper, and two above each other.
+/// Lengths to draw, in micrometres: one across the paper, and two above each other.
 #[derive(Clone, Copy)]
 pub(crate) struct Lengths {
     pub across: u64,
@@ -14,7 +14,7 @@ pub(crate) struct Lengths {
     pub second: u64,
 }
 
-/// The paper that there is, in micrometres.
+/// The available paper, in micrometres.
 #[derive(Clone, Copy)]
 pub(crate) struct Room {
     pub across: u64,
@@ -91,7 +91,7 @@ impl Scale {
         Scale { number: 12 }
     }
 
-    /// How much of the paper stands for so much of the thing.
+    /// The numerator of the ratio of paper to part.
     #[tactic(auto, unfolding(crate::specs::Scales::numerator))]
     pub fn numerator(self) -> u64
         ensures value { result ≡ numerator self }
@@ -100,7 +100,7 @@ impl Scale {
         round(12usize.saturating_sub(self.number))
     }
 
-    /// How much of the thing so much of the paper stands for.
+    /// The denominator of the ratio of paper to part.
     #[tactic(auto, unfolding(crate::specs::Scales::denominator))]
     pub fn denominator(self) -> u64
         ensures value { result ≡ denominator self }
@@ -109,7 +109,7 @@ impl Scale {
         round(self.number.saturating_sub(12))
     }
 
-    /// A length on paper, in whole micrometres, cut.
+    /// A length on paper, in whole micrometres, rounded down.
     #[tactic(auto, unfolding(crate::specs::Scales::on_paper))]
     pub fn on_paper(self, length: u64) -> u64
         requires { length ≤ length_limit }
@@ -129,7 +129,7 @@ impl Scale {
         across <= u128::from(room.across) && first + second <= u128::from(room.upright)
     }
 
-    /// The largest scale at which there is room. The caller owes that there is at the smallest.
+    /// The largest scale at which the lengths fit. Requires that they fit at the smallest.
     fn largest(lengths: Lengths, room: Room) -> Scale
         requires lengths { AreShort lengths }
         requires smallest { Fits 30 lengths room }
@@ -145,7 +145,7 @@ impl Scale {
         Scale { number: 30 }
     }
 
-    /// The largest scale at which there is room; 1:1 where nothing is to be drawn. The caller owes that there is room at the smallest.
+    /// The largest scale at which the lengths fit; 1:1 if there is nothing to draw. Requires that they fit at the smallest.
     #[tactic(auto, using(crate::proofs::Paper::nothing))]
     pub fn for_room(lengths: Lengths, room: Room) -> Scale
         requires lengths { AreShort lengths }
@@ -159,7 +159,7 @@ impl Scale {
         }
     }
 
-    /// The number of the longest round length that is at most so long on paper; that of the shortest where none is.
+    /// The number of the longest round length that is at most this long on paper; that of the shortest if none fits.
     #[tactic(auto, using(crate::proofs::Paper::shortest_fits))]
     pub fn bar(self, room: u64) -> usize
         ensures within { result ≤ 30 }

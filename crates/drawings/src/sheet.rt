@@ -25,7 +25,7 @@ impl Model for Position {
 }
 
 impl Position {
-    /// A position, which the caller owes to be on the sheet.
+    /// A position. Requires that it is on the sheet.
     pub fn new(across: u64, down: u64) -> Position
         requires { IsOnSheet (record { across = across; down = down }) }
         ensures { result ≡ record { across = across; down = down } }

@@ -1,4 +1,4 @@
-// From where the thing is seen.
+// The side from which the part is seen.
 
 ghost use Rattle.std.specs.Prelude.{◌≡◌, ◌≤◌, unsigned_abs};
 ghost use Rattle.drawings.specs.Views.{upright_of, part_of};
@@ -6,7 +6,7 @@ ghost use Rattle.drawings.specs.Views.{upright_of, part_of};
 use crate::away::Away;
 use crate::places::{Coordinate, Place};
 
-/// From where the thing is seen.
+/// The side from which the part is seen.
 #[derive(Clone, Copy)]
 pub(crate) enum Side {
     /// From above: x to the right, y up.

@@ -6,7 +6,7 @@ ghost use Rattle.drawings.specs.Places.{machine_limit, height_in, IsBetween, IsW
 
 use crate::places::Coordinate;
 
-/// From the lowest to the highest of coordinates, in micrometres.
+/// The range from the lowest to the highest coordinate, in micrometres.
 #[derive(Clone, Copy)]
 pub(crate) struct Span {
     pub low: i64,
@@ -37,7 +37,7 @@ impl Span {
         Span { low: 0, high: 0 }
     }
 
-    /// The span that has this coordinate too.
+    /// The span extended to include this coordinate.
     pub fn with(self, coordinate: Coordinate) -> Span
         ensures { IsWider self.low self.high coordinate result.low result.high }
     {
@@ -65,7 +65,7 @@ impl Span {
         (self.high - self.low) as u64
     }
 
-    /// How far above the lowest a coordinate is; one that lies outside is taken at the nearer end.
+    /// How far a coordinate is above the lowest; one that lies outside is clamped to the nearer end.
     #[tactic(auto, unfolding(crate::specs::Places::height_in))]
     pub fn above(self, coordinate: Coordinate) -> u64
         ensures value { IsBetween self.low self.high coordinate

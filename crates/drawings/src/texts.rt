@@ -27,7 +27,7 @@ pub(crate) fn put_length(out: &mut Vec<u8>, micrometres: u64) -> Result<(), Allo
     write_um(out, length)
 }
 
-/// Appends a position as in a list of points.
+/// Appends a position in the form of a list of points.
 pub(crate) fn put_spot(out: &mut Vec<u8>, position: Position) -> Result<(), AllocError>
     ensures { OnOk result (out.new.items ≡ out.old.items ++ spot_text position) }
 {
@@ -78,7 +78,7 @@ pub(crate) fn put_attribute(out: &mut Vec<u8>, name: &[u8], length: u64) -> Resu
     Ok(out.push(b'"')?)
 }
 
-/// Appends a disc, whose attributes but for its centre are its group's.
+/// Appends a disc; its group has all its attributes except the centre.
 #[tactic(auto, unfolding(crate::specs::Texts::disc_text))]
 pub(crate) fn put_disc(out: &mut Vec<u8>, centre: Position, radius: u64) -> Result<(), AllocError>
     requires { radius ≤ 5000 }

@@ -43,7 +43,7 @@ pub(crate) struct View {
 }
 
 impl View {
-    /// Where a place is in the view: across from left to right, and up from below.
+    /// The position of a place in the view: across from the left, and up from the base.
     #[tactic(auto, using(crate::proofs::Paper::shorter))]
     pub fn position(&self, place: Place) -> Position
         ensures across { IsBetween self.now.across.low self.now.across.high place.x
@@ -68,7 +68,7 @@ impl View {
         Position::new(self.left + right, self.base - up)
     }
 
-    /// Where the line of a deviation ends that begins at a position in the view.
+    /// The end of a deviation's line that starts at a position in the view.
     pub fn tip(&self, from: Position, away: &Away, whiskers: &Whiskers) -> Position
         requires { IsInView from }
         ensures { result ≡ tip_of self.now.side whiskers.now from away.now }
@@ -95,7 +95,7 @@ impl View {
     }
 }
 
-/// A length moved by another to the side of a number: up where it is above zero, and down where it is below.
+/// A length moved by another in the direction of a number's sign: up if the number is above zero, down if it is below.
 fn moved(from: u64, side: i64, by: u64) -> u64
     requires enough { by ≤ from }
     requires small { from ≤ 300000 }

@@ -11,14 +11,14 @@ use dmis_program::{Step, Touch};
 use fixed_um::{Frame, Point};
 use std::alloc::{AllocError, Global};
 
-/// What the machine does where it stops.
+/// What the machine does at a stop.
 #[derive(Clone, Copy)]
 pub(crate) enum Act {
-    /// It only comes by.
+    /// It only passes.
     Move,
-    /// It is to touch, and has not yet.
+    /// It must touch, and has not done so yet.
     Touch,
-    /// It has touched, so far away.
+    /// It has touched, at this deviation.
     Measured(Away),
 }
 
@@ -30,7 +30,7 @@ pub(crate) struct Stop {
 }
 
 /// What is carried from step to step: the stops so far, the zero point of the selected frame, the features of later blocks, and the points
-/// that are left for touches.
+/// left for touches.
 #[derive(Drop)]
 struct Walk<'a> {
     stops: Vec<Stop>,
@@ -79,7 +79,7 @@ fn later_points<'a>(points: &'a [Point]) -> &'a [Point]
     }
 }
 
-/// What the next of the points that are left says of a nominal point.
+/// What the next of the remaining points means for a nominal point: measured, with its deviation, or still open.
 fn act_by(points: &[Point], nominal: Point) -> Act
     ensures { result ≡ act_by points.now nominal }
 {

@@ -1,4 +1,4 @@
-// How long deviations are drawn.
+// The drawn length of deviations.
 
 ghost use Rattle.std.specs.Prelude.{◌≡◌, ◌≤◌, min, unsigned_abs};
 ghost use Rattle.drawings.specs.Scales.{on_paper, length_limit};
@@ -6,7 +6,7 @@ ghost use Rattle.drawings.specs.Sheet.{margin};
 
 use crate::scales::Scale;
 
-/// How deviations are drawn: the longest in any view, in micrometres, and the scale at which that has room.
+/// How deviations are drawn: the longest in any view, in micrometres, and the scale at which it fits.
 #[derive(Clone, Copy)]
 pub(crate) struct Whiskers {
     pub scale: Scale,
@@ -16,7 +16,7 @@ pub(crate) struct Whiskers {
 }
 
 impl Whiskers {
-    /// How long a part of a deviation is on paper.
+    /// The length of a part of a deviation on paper.
     #[tactic(auto, using(crate::proofs::Paper::shorter))]
     pub fn length(&self, part: i64) -> u64
         ensures value { unsigned_abs part ≤ self.now.longest

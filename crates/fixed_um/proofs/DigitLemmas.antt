@@ -11,7 +11,7 @@ use Rattle.std.proofs.lemmas.Str.Parse.{digits_value_short, numerals_by_value, t
 use Rattle.fixed_um.specs.Scan.{digits_front, is_short_number}
 use Rattle.std.proofs.Math.Seq.{drop-cons}
 
--- digits behind a number make it no smaller
+-- digits after a number make it no smaller
 pub digits_value_after-ge : (n : ℕ) (ds : List ℕ) → n ≤ digits_value_after 10 n ds
 digits_value_after-ge n [] = omega arith
 digits_value_after-ge n (d ∷ ds) = omega (arith, digits_value_after-ge (n * 10 + digit_value d) ds)
@@ -71,7 +71,7 @@ AllDigits-to_test (d ∷ ds) h = and_from _ _ (digit-to_test d h.0) (AllDigits-t
 pub one_more : (n : ℕ) → 1 + n ≡ suc n
 one_more n = omega arith
 
--- the digits at the front of a text are digits
+-- the digits at the start of a text are digits
 front_step : (c : ℕ) (cs : List ℕ) (b : Bool) → is_ascii_digit c ≡ b → AllDigits 10 (digits_front cs)
     → AllDigits 10 (take (cond b (1 + prefix_len is_ascii_digit cs) 0) (c ∷ cs))
 front_step c cs true e all = rw (one_more (prefix_len is_ascii_digit cs)) (digit-from_test c e, all)
@@ -81,7 +81,7 @@ pub AllDigits-front : (text : List ℕ) → AllDigits 10 (digits_front text)
 AllDigits-front [] = tt
 AllDigits-front (c ∷ cs) = front_step c cs (is_ascii_digit c) refl (AllDigits-front cs)
 
--- so many digits write a number below that power of ten
+-- that many digits write a number below that power of ten
 pub digits_value-below : (k : ℕ) (ds : List ℕ) → AllDigits 10 ds → length ds ≤ k → digits_value 10 ds < 10 ^ k
 digits_value-below k ds all short = digits_value_short (numerals_by_value (AllDigits 10) tells_digits) ds k all short
 

@@ -1,4 +1,4 @@
--- A length at the front of a text.
+-- A length at the start of a text.
 use Rattle.std.proofs.Common.{◌≡◌, ℕ, ◌+◌, ◌-◌, ◌*◌, ◌^◌, ◌<◌, ◌≤◌, Bool, true, false, List, [], ◌∷◌, ◌++◌, length, get_or}
 use Rattle.std.proofs.Common.{take, drop, refl, ap, sym, ◌∙◌, arith, codes, append-nil, length-append, take-append-drop}
 use Rattle.std.specs.Char.{digit_value, is_ascii_digit}

@@ -16,7 +16,7 @@ use Rattle.fixed_um.proofs.DigitLemmas.{AllDigits-front, AllDigits-to_test, shor
 
 -- ---- from the steps to the grammar
 
--- a text is its sign and what stands behind it
+-- a text is its sign and what follows it
 record SignSplit (text : List ℕ) : Type 0 where
   sign : List ℕ
   whole : text ≡ sign ++ without_leading_sign text
@@ -34,7 +34,7 @@ sign_split (c ∷ cs) =
     let s = sign_step c cs (c == 45) (c == 43) refl refl in
     record { sign = s.0; whole = s.1; is = s.2 }
 
--- a text is its point with digits and what stands behind them
+-- a text is its point with digits and what follows them
 record FractionSplit (text : List ℕ) : Type 0 where
   point : List ℕ
   whole : text ≡ point ++ fraction_behind text

@@ -19,7 +19,7 @@ use Rattle.fixed_um.proofs.ReadLemmas.{stands}
 
 -- ---- slices
 
--- what stands behind so many elements, as a slice to the end
+-- what follows the first n elements, as a slice to the end
 pub rest_of : (xs : List ℕ) (i : ℕ) → take (length xs - i) (drop i xs) ≡ drop i xs
 rest_of xs i = take_all (length xs - i) (drop i xs) (omega (arith, length-drop i xs))
 
@@ -86,7 +86,7 @@ ended_here value front text i within h e b =
       rw (sym (at_place text i within)) at (rw (at_place text i within, behind-other c (drop (i + 1) text) h) at b),
     )
 
--- ---- the digits of a text and what stands behind them
+-- ---- the digits of a text and what follows them
 
 parts : (text : List ℕ) → length (digits_front text) + length (digits_behind text) ≡ length text
 parts text = sym (length-append (digits_front text) (digits_behind text))
@@ -139,7 +139,7 @@ whole_is_plain bytes p few some e negative digits places =
       not_lowered = refl;
     }
 
--- a text whose digits go on behind a point to its end
+-- a text whose digits continue after a point to its end
 pub fraction_is_plain : (bytes fraction : List ℕ) (p : Plain) → length (without_leading_sign bytes) ≤ 19
     → 1 < length (without_leading_sign bytes) → digits_behind (without_leading_sign bytes) ≡ 46 ∷ fraction → digits_behind fraction ≡ []
     → starts_with_minus bytes ≡ p.negative

@@ -21,7 +21,7 @@ use Rattle.std.proofs.Math.Nat.{one-le-pow}
 pub whole-short : (n : ℕ) → n < 10 ^ 7 → length (decimal n) ≤ 7
 whole-short n small = length-decimal-le 7 n (omega arith) small (omega arith)
 
--- three digits behind a 1
+-- three digits after a 1
 step : (n : ℕ) → 10 ≤ n → n < 2000 → decimal n ≡ decimal (n / 10) ++ ((48 + n % 10) ∷ [])
 step n low high = decimal_step n low (omega arith)
 
@@ -89,7 +89,7 @@ unfolding is_minus
 signed_is (pos n) = refl
 signed_is (negsuc n) = refl
 
--- a whole part and so many decimals, written with the sign of z, stand for z
+-- a whole part and that many decimals, written with the sign of z, stand for z
 written_stands : (scale : ℕ) (z : ℤ) (whole : ℕ) (decimals : List ℕ) → whole < 10 ^ 7 → AllDigits 10 decimals → length decimals ≡ scale
     → scale ≤ 6 → digits_value_after 10 whole decimals ≡ unsigned_abs z
     → StandsFor scale (minus_sign z ++ (decimal whole ++ (codes "." ++ decimals))) z

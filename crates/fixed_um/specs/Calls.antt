@@ -5,11 +5,11 @@ use Rattle.std.specs.Prelude.{◌≡◌, ◌≤◌, ◌+◌, ◌++◌, ℕ, List
 abbrev pub Leads : {A E S : Type 0} → Result A E → S → S → S → Type 0
 Leads result old new then = OnOk result (new ≡ then) × OnErr result (new ≡ old)
 
--- there is room for so many bytes more
+-- there is room for that many bytes more
 abbrev pub HasRoom : {X Z : Type 0} → Vec X Z → ℕ → Type 0
 HasRoom out count = vec_len out + count ≤ vec_capacity out
 
--- at most so many bytes were appended, and no room was given up
+-- at most that many bytes were appended, and no room was lost
 abbrev pub Grows : {X Z : Type 0} → Vec X Z → Vec X Z → ℕ → Type 0
 Grows old new most = (vec_len new ≤ vec_len old + most) × (vec_capacity old ≤ vec_capacity new)
 
@@ -17,7 +17,7 @@ Grows old new most = (vec_len new ≤ vec_len old + most) × (vec_capacity old �
 abbrev pub Writes : {A E X Z : Type 0} → Result A E → Vec X Z → Vec X Z → List X → Type 0
 Writes result old new text = OnOk result (new.items ≡ old.items ++ text) × OnErr result (new.items ≡ old.items)
 
--- what is found is such a thing; where nothing is found there is none
+-- what is found is such a thing; if nothing is found, no such thing exists
 abbrev pub Finds : {A : Type 0} → Option A → (A → Type 0) → Type 0
 Finds {A} found Is = MatchOption found ((a : A) → Is a → ⊥) Is
 

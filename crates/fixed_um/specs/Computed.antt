@@ -1,4 +1,4 @@
--- The reading of a numeral as a function that computes, beside the relation: equal to it, slower than the code, and at hand for examples
+-- The reading of a numeral as a function that computes, next to the relation: equal to it, slower than the code, and at hand for examples
 -- and models.
 use Rattle.std.specs.Prelude.{ℕ, ◌+◌, ◌*◌, ◌/◌, ◌^◌, Bool, false, ◌&&◌, length, List, Option, Some, None, Result, Ok, Err, ℤ}
 use Rattle.std.specs.Prelude.{nat_le, ◌==◌, if◌then◌else◌}

@@ -1,4 +1,4 @@
--- A length at the front of a text, with three decimals as it is written, and the parts by which it is taken off.
+-- A length at the start of a text, with three decimals as it is written, and the parts by which it is taken off.
 use Rattle.std.specs.Prelude.{◌≡◌, ℕ, ◌+◌, ◌*◌, ◌<◌, ◌≤◌, ◌&&◌, ◌^◌, Bool, true, List, [], ◌++◌, length, nat_le, ℤ, Ok, codes, if◌then◌else◌}
 use Rattle.std.specs.List.{list_all}
 use Rattle.std.specs.Str.Parse.{AllDigits, digits_value_after}

@@ -4,7 +4,7 @@ use Rattle.std.specs.List.{list_all, list_any}
 use Rattle.std.specs.Prelude.{◌==◌}
 use Rattle.std.specs.Char.{to_ascii_uppercase}
 
--- a byte that can stand in a name: from 33 to 126 except ( ) , ' " / = $
+-- a byte that can be in a name: from 33 to 126 except ( ) , ' " / = $
 abbrev pub is_name_byte : ℕ → Bool
 is_name_byte b = nat_le 33 b && (nat_le b 126 && not (list_any (λ x. x == b) (codes "(),'\"/=$")))
 
@@ -12,7 +12,7 @@ is_name_byte b = nat_le 33 b && (nat_le b 126 && not (list_any (λ x. x == b) (c
 abbrev pub folded : List ℕ → List ℕ
 folded text = map to_ascii_uppercase text
 
--- 1 to 64 bytes that can stand in a name
+-- 1 to 64 bytes that can be in a name
 abbrev pub is_name_text : List ℕ → Bool
 is_name_text text = nat_le 1 (length text) && (nat_le (length text) 64 && list_all is_name_byte text)
 

@@ -9,7 +9,7 @@ use Rattle.fixed_um.specs.Shapes.{Direction, IsDirection}
 use Rattle.fixed_um.specs.declared.numerals.NumeralFault.{NumeralFault}
 use Rattle.fixed_um.specs.declared.numerals.NumeralFault.TheVariants.{NotNumeral, TooManyDigits, TooLarge}
 
--- what a numeral says: a sign, digits of which the last `places` stand behind the point, and powers of ten up and down
+-- what a numeral says: a sign, digits of which the last `places` are after the point, and powers of ten up and down
 pub record Numeral : Type 0 where
   pub negative : Bool
   pub digits : List ℕ

@@ -6,14 +6,14 @@ use Rattle.std.specs.List.{prefix_len, list_all}
 use Rattle.std.specs.Str.Parse.{digits_value, starts_with_minus, without_leading_sign}
 use Rattle.fixed_um.specs.Numerals.{Numeral}
 
--- the digits at the front of a text, and what stands behind them
+-- the digits at the start of a text, and what follows them
 abbrev pub digits_front : List ℕ → List ℕ
 digits_front text = take (prefix_len is_ascii_digit text) text
 
 abbrev pub digits_behind : List ℕ → List ℕ
 digits_behind text = drop (prefix_len is_ascii_digit text) text
 
--- the digits behind a point at the front, and what stands behind those
+-- the digits after a point at the front, and what follows those
 abbrev pub fraction_front : List ℕ → List ℕ
 fraction_front text = if slice_index text 0 == 46 then digits_front (drop 1 text) else []
 

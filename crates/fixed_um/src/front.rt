@@ -1,4 +1,4 @@
-// A length at the front of a text, in the form in which lengths are written: taken off at once, where the readers of any numeral
+// A length at the start of a text, in the form in which lengths are written: taken off at once, where the readers of any numeral
 // would first look for its end.
 
 ghost use Rattle.std.specs.Prelude.{◌≡◌, ◌<◌, ◌++◌, ◌≤ℤ◌, pos, unsigned_abs, IfSome};
@@ -8,7 +8,7 @@ ghost use Rattle.fixed_um.specs.Fronts.{minus_if, BeginsWithDigits, BeginsWithDe
 use crate::lengths::Um;
 use crate::numerals::with_sign;
 
-/// Whether a minus stands in front, and what stands behind it.
+/// Whether a minus comes first, and what follows it.
 #[inline(always)]
 fn cut_minus(text: &[u8]) -> (bool, &[u8])
     ensures { text.now ≡ minus_if result.0 ++ result.1.now }
@@ -19,7 +19,7 @@ fn cut_minus(text: &[u8]) -> (bool, &[u8])
     }
 }
 
-/// The number of the digits in front, of which at most seven are taken, and what stands behind them.
+/// The number of the digits in front, of which at most seven are taken, and what follows them.
 #[inline(always)]
 fn cut_whole(text: &[u8]) -> (u64, &[u8])
     ensures { BeginsWithDigits text.now result.1.now result.0 }
@@ -36,7 +36,7 @@ fn cut_whole(text: &[u8]) -> (u64, &[u8])
     (value, &text[most..])
 }
 
-/// The number of the three digits behind a point in front, and what stands behind them.
+/// The number of the three digits after a point in front, and what follows them.
 #[inline(always)]
 fn cut_decimals(text: &[u8]) -> Option<(u64, &[u8])>
     ensures { IfSome result (λ p. BeginsWithDecimals text.now p.1.now p.0) }
@@ -51,11 +51,11 @@ fn cut_decimals(text: &[u8]) -> Option<(u64, &[u8])>
     Some((value, rest))
 }
 
-/// The micrometres of the length in millimetres that stands at the front of a text with exactly three decimals, as `-0.001`, and what
-/// stands behind it.
+/// The micrometres of the length in millimetres that is at the start of a text with exactly three decimals, as `-0.001`, and what
+/// follows it.
 /// `None` says nothing: the text may begin with a numeral of another form, with one past the limit, or with none.
 ///
-/// The caller owes a limit from 0 to the wire limit. Takes no memory.
+/// Requires a limit from 0 to the wire limit. Does not allocate.
 #[inline(always)]
 pub fn cut_um(text: &[u8], limit: Um) -> Option<(i64, &[u8])>
     requires { pos 0 ≤ℤ limit }

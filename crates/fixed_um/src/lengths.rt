@@ -25,7 +25,7 @@ impl Model for Um {
 }
 
 impl Um {
-    /// The length of so many micrometres; `None` past the wire limit.
+    /// The length of that many micrometres; `None` past the wire limit.
     pub fn new(micrometres: i64) -> Option<Um>
         ensures { SomeIff result (unsigned_abs micrometres ≤ wire_limit) micrometres }
     {
@@ -36,7 +36,7 @@ impl Um {
         }
     }
 
-    /// The length of so many micrometres, which are within the wire limit.
+    /// The length of that many micrometres, which are within the wire limit.
     pub(crate) fn within(micrometres: i64) -> Um
         requires { unsigned_abs micrometres ≤ wire_limit }
         ensures { result ≡ micrometres }

@@ -7,12 +7,12 @@
 //! - `frames`: `Frame`
 //! - `numerals`: `read_um`, `read_dir`, and why a text is refused
 //! - `scanning`: the steps by which a numeral is taken apart
-//! - `front`: `cut_um`, a written length at the front of a text
+//! - `front`: `cut_um`, a written length at the start of a text
 //! - `plain`: the numerals that one machine word takes, which nearly all are
 //! - `points`: sums and differences of points
 //! - `rounding`: the whole number nearest to a fraction
 //! - `display`: how lengths, points, directions and names are printed
-//! - `writing`: `write_um`, `write_dir`, and the same for a caller who has made room or puts a length in front of a text
+//! - `writing`: `write_um`, `write_dir`, and likewise for a caller who has made room or puts a length in front of a text
 #![tactic(auto)]
 
 pub mod directions;

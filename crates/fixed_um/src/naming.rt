@@ -35,7 +35,7 @@ fn is_name_byte(b: u8) -> bool
     b >= 33 && b <= 126 && !matches!(b, b'(' | b')' | b',' | b'\'' | b'"' | b'/' | b'=' | b'$')
 }
 
-/// The folded bytes of a text; `None` where one of them can stand in no name.
+/// The folded bytes of a text; `None` if one of them cannot be in a name.
 fn folded(alloc: Global, text: &[u8]) -> Result<Option<Vec<u8>>, AllocError>
     ensures named { IfOk result (λ found. IfSome found (λ bytes. (bytes.items ≡ folded text.now)
         × (list_all is_name_byte text.now ≡ true))) }
@@ -53,7 +53,7 @@ fn folded(alloc: Global, text: &[u8]) -> Result<Option<Vec<u8>>, AllocError>
 }
 
 impl Name {
-    /// The name that a text writes, folded; `None` where the text is no name. Only want of memory is an `Err`.
+    /// The name that a text writes, folded; `None` if the text is no name. Fails only if out of memory.
     pub fn new(alloc: Global, text: &[u8]) -> Result<Option<Name>, AllocError>
         ensures { IfOk result (λ name. name ≡ (if is_name_text text.now then Some (folded text.now)
             else None)) }

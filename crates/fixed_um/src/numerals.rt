@@ -23,7 +23,7 @@ pub enum NumeralFault {
     TooLarge,
 }
 
-/// The digits times ten to the power `up`, divided by ten to the power `down`, rounded, halves up; `None` where that does not fit 128 bits.
+/// The digits times ten to the power `up`, divided by ten to the power `down`, rounded, halves up; `None` if that does not fit 128 bits.
 fn quotient(digits: u128, up: u32, down: u32) -> Option<u128>
     requires { digits < 10 ^ 30 }
     ensures value { IfSome result (λ m. RoundsUp (digits * 10 ^ up) (10 ^ down) m) }
@@ -64,7 +64,7 @@ pub(crate) fn with_sign(negative: bool, magnitude: u64) -> i64
     }
 }
 
-/// The same of a plain numeral, in one machine word.
+/// Likewise for a plain numeral, in one machine word.
 fn plain_magnitude(digits: u64, up: usize, down: usize, limit: u64) -> Option<u64>
     requires up { up ≤ 6 }
     requires down { down ≤ 18 }
@@ -122,7 +122,7 @@ fn read_scaled(bytes: &[u8], scale: u32, limit: u64) -> Result<i64, NumeralFault
 
 /// The length that a numeral in millimetres stands for, rounded to whole micrometres, halves away from zero.
 ///
-/// The caller owes a limit from 0 to the wire limit. Takes no memory.
+/// Requires a limit from 0 to the wire limit. Does not allocate.
 pub fn read_um(bytes: &[u8], limit: Um) -> Result<Um, NumeralFault>
     requires { pos 0 ≤ℤ limit }
     ensures { Reads 3 (unsigned_abs limit) bytes.now result }
@@ -132,7 +132,7 @@ pub fn read_um(bytes: &[u8], limit: Um) -> Result<Um, NumeralFault>
 }
 
 /// The direction whose components three numerals write, each rounded to whole millionths, halves away from zero;
-/// `None` where all three round to zero. Of several faults the leftmost is answered. Takes no memory.
+/// `None` if all three round to zero. Of several faults the leftmost is answered. Does not allocate.
 pub fn read_dir(i: &[u8], j: &[u8], k: &[u8]) -> Result<Option<Dir>, NumeralFault>
     ensures { ReadsDirection i.now j.now k.now result }
 {
@@ -156,7 +156,7 @@ fn is_any_zero(bytes: &[u8]) -> bool
     }
 }
 
-/// Whether a text is a numeral of at most 30 digits whose digits before the exponent are all 0, as `0`, `-0.0` or `0E5`. Takes no memory.
+/// Whether a text is a numeral of at most 30 digits whose digits before the exponent are all 0, as `0`, `-0.0` or `0E5`. Does not allocate.
 pub fn is_zero(bytes: &[u8]) -> bool
     ensures { IsTrue result ↔ IsZero bytes.now }
 {

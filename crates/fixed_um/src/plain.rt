@@ -1,4 +1,4 @@
-// Numerals that one machine word takes: no exponent, and at most 19 bytes behind the sign. Nearly all that machines and programs write
+// Numerals that one machine word takes: no exponent, and at most 19 bytes after the sign. Nearly all that machines and programs write
 // are of this form.
 
 ghost use Rattle.std.specs.Prelude.{◌≡◌, ◌<◌, ◌^◌, IfSome};
@@ -8,7 +8,7 @@ ghost use Rattle.fixed_um.specs.Taken.{IsPlain};
 
 use crate::scanning::cut_sign;
 
-/// What such a numeral says: its sign, the number that its digits on both sides of the point write, and how many of them stand behind it.
+/// What such a numeral says: its sign, the number that its digits on both sides of the point write, and how many of them follow it.
 #[derive(Clone, Copy)]
 pub struct Plain {
     pub negative: bool,
@@ -16,7 +16,7 @@ pub struct Plain {
     pub places: usize,
 }
 
-/// The number that the digits at the front write after a number that is there already, and what stands behind them.
+/// The number that the digits at the front write after a number that is there already, and what follows them.
 fn read_digits(front: u64, text: &[u8]) -> (u64, &[u8])
     requires fits { digits_value_after 10 front (digits_front text.now) < 10 ^ 19 }
     ensures value { result.0 ≡ digits_value_after 10 front (digits_front text.now) }
@@ -33,7 +33,7 @@ fn read_digits(front: u64, text: &[u8]) -> (u64, &[u8])
     (value, &[])
 }
 
-/// What a text says; `None` also where it is a numeral of another form.
+/// What a text says; `None` also if it is a numeral of another form.
 pub fn read_plain(bytes: &[u8]) -> Option<Plain>
     ensures { IfSome result (λ plain. IsPlain bytes.now plain) }
 {

@@ -57,7 +57,7 @@ impl Point {
             && length_within(self.z.get()).is_some()
     }
 
-    /// The point moved by another; `None` where an axis leaves the machine's volume. Takes no memory.
+    /// The point moved by another; `None` if an axis leaves the machine's volume. Does not allocate.
     pub fn shifted(self, by: Point) -> Option<Point>
         ensures { SomeIff result (IsInVolume (point_sum self by)) (point_sum self by) }
     {
@@ -67,7 +67,7 @@ impl Point {
         Some(Point { x, y, z })
     }
 
-    /// The point as seen from another. The caller owes that both are in the machine's volume. Takes no memory.
+    /// The point as seen from another. The caller must ensure that both are in the machine's volume. Does not allocate.
     pub fn minus(self, by: Point) -> Point
         requires point { IsInVolume self }
         requires by { IsInVolume by }
@@ -81,7 +81,7 @@ impl Point {
     }
 
     /// The point with each sign turned: what a part's zero point is seen from the machine's, the machine's is seen from the part's.
-    /// Takes no memory.
+    /// Does not allocate.
     pub fn opposite(self) -> Point
         ensures { result ≡ point_opposite self }
     {

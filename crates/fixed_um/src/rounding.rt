@@ -33,7 +33,7 @@ fn power_of_ten(count: usize) -> u64
     }
 }
 
-/// The digits with so many zeros behind them; `None` where that is past the limit. Multiplied only where the product fits a word.
+/// The digits with that many zeros after them; `None` if that is past the limit. Multiplied only if the product fits a word.
 pub fn raised_within(digits: u64, zeros: usize, limit: u64) -> Option<u64>
     requires zeros { zeros ≤ 6 }
     requires limit { limit ≤ wire_limit }
@@ -64,7 +64,7 @@ pub fn word_scaled_down(digits: u64, places: usize) -> u64
     rounded_word(digits, power_of_ten(places))
 }
 
-/// The digits with so many zeros behind them; `None` where that does not fit 128 bits.
+/// The digits with that many zeros after them; `None` if that does not fit 128 bits.
 pub fn scaled_up(digits: u128, zeros: u32) -> Option<u128>
     ensures { SomeIff result (digits * 10 ^ zeros < 2 ^ 128) (digits * 10 ^ zeros) }
 {

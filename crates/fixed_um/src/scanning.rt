@@ -19,7 +19,7 @@ pub struct Parts<'a> {
     pub lowered: u32,
 }
 
-/// Whether a minus stands in front, and what stands behind a sign.
+/// Whether a minus comes first, and what follows a sign.
 pub fn cut_sign(bytes: &[u8]) -> (bool, &[u8])
     ensures sign { result.0 ≡ starts_with_minus bytes.now }
     ensures rest { result.1.now ≡ without_leading_sign bytes.now }
@@ -112,7 +112,7 @@ fn read_exponent(bytes: &[u8]) -> Option<(u32, u32)>
     }
 }
 
-/// The parts of a numeral; `None` where the text is none.
+/// The parts of a numeral; `None` if the text is not a numeral.
 #[tactic(auto, using(crate::proofs::DigitLemmas::numbers), unfolding(crate::specs::Scan::numeral_of))]
 pub fn read_parts(bytes: &[u8]) -> Option<Parts<'_>>
     ensures parts { option_map the_numeral result ≡ numeral_of bytes.now }

@@ -1,7 +1,7 @@
 // Writing lengths and directions.
 //
 // A writer whose name ends in `_reserved` needs room that its caller has made, and cannot fail. The others make the room first,
-// so that want of memory changes nothing.
+// so that running out of memory changes nothing.
 
 ghost use Rattle.std.specs.Prelude.{◌≡◌, ◌≤◌, ◌+◌, ◌*◌, ◌%◌, ◌^◌, ◌++◌, ◌∷◌, [], ℕ, length, vec_len, vec_capacity, IfSome, IfNone, OnOk, OnErr, Ok, Some, unsigned_abs, decimal, codes, ◌<◌, drop};
 ghost use Rattle.fixed_um.specs.Calls.{Grows, HasRoom, Writes};
@@ -15,18 +15,18 @@ use crate::lengths::Um;
 use itoa::write_digits;
 use std::alloc::AllocError;
 
-/// Puts the last three digits of a number in front of a place in a text. Answers where they begin.
+/// Puts the last three digits of a number in front of a place in a text. Returns where they begin.
 #[inline(always)]
 fn put_three_before(text: &mut [u8], end: usize, value: u64) -> usize
     requires { (4 ≤ end) × (end ≤ length text.old) }
     ensures written { drop result text.new ≡ three_digits value ++ drop end text.old }
     ensures place { result + 3 ≡ end }
 {
-    // The 1 in front keeps the zeros behind it; what comes in front is written over it.
+    // The 1 in front keeps the zeros after it; what comes in front is written over it.
     write_digits(1000 + value % 1000, text, end) + 1
 }
 
-/// Puts the sign of a value, a whole part and a point in front of a place in a text, at most nine bytes. Answers where they begin.
+/// Puts the sign of a value, a whole part and a point in front of a place in a text, at most nine bytes. Returns where they begin.
 #[tactic(auto, using(crate::proofs::WrittenLemmas::short))]
 #[inline(always)]
 fn put_whole_before(text: &mut [u8], end: usize, value: i64, whole: u64) -> usize
@@ -45,10 +45,10 @@ fn put_whole_before(text: &mut [u8], end: usize, value: i64, whole: u64) -> usiz
     start - 1
 }
 
-/// Puts a length in millimetres with three decimals, as `-0.001`, at most 12 bytes, in front of a place in a text: what stands behind
-/// that place stays. Answers where the length begins.
+/// Puts a length in millimetres with three decimals, as `-0.001`, at most 12 bytes, in front of a place in a text: what follows
+/// that place stays. Returns where the length begins.
 ///
-/// The caller owes a place with 12 bytes in front of it.
+/// Requires a place with 12 bytes in front of it.
 #[tactic(auto, unfolding(crate::specs::Written::written))]
 #[inline(always)]
 pub fn write_um_before(text: &mut [u8], end: usize, value: Um) -> usize
@@ -62,7 +62,7 @@ pub fn write_um_before(text: &mut [u8], end: usize, value: Um) -> usize
     put_whole_before(text, point, micrometres, magnitude / 1000)
 }
 
-/// Appends a length in millimetres with three decimals, as `-0.001`, at most 12 bytes, where the caller has made room for them.
+/// Appends a length in millimetres with three decimals, as `-0.001`, at most 12 bytes; the caller must have made room for them.
 pub fn write_um_reserved(out: &mut Vec<u8>, value: Um)
     requires { HasRoom out.old 12 }
     ensures text { out.new.items ≡ out.old.items ++ written value }
@@ -73,7 +73,7 @@ pub fn write_um_reserved(out: &mut Vec<u8>, value: Um)
     out.extend_from_slice(&text[start..]).unwrap();
 }
 
-/// Puts a component of a direction with six decimals in front of a place in a text. Answers where it begins.
+/// Puts a component of a direction with six decimals in front of a place in a text. Returns where it begins.
 #[tactic(auto, unfolding(crate::specs::Written::written_component))]
 fn write_component_before(text: &mut [u8], end: usize, value: i64) -> usize
     requires value { unsigned_abs value ≤ component_limit }
@@ -99,7 +99,7 @@ fn write_component_reserved(out: &mut Vec<u8>, value: i64)
 }
 
 /// Appends the three components of a direction with six decimals each, as `0.577350`, with a text between each two,
-/// at most 45 bytes beside those texts, where the caller has made room for them.
+/// at most 45 bytes besides those texts; the caller must have made room for them.
 pub fn write_dir_reserved(out: &mut Vec<u8>, direction: Dir, between: &[u8])
     requires { HasRoom out.old (45 + 2 * length between.now) }
     ensures text { out.new.items ≡ out.old.items ++ written_direction direction between.now }
@@ -112,7 +112,7 @@ pub fn write_dir_reserved(out: &mut Vec<u8>, direction: Dir, between: &[u8])
     write_component_reserved(out, direction.k);
 }
 
-/// Appends a length in millimetres with three decimals, as `-0.001`. Only want of memory is an `Err`, and then nothing is appended.
+/// Appends a length in millimetres with three decimals, as `-0.001`. Fails only if out of memory, and then appends nothing.
 pub fn write_um(out: &mut Vec<u8>, value: Um) -> Result<(), AllocError>
     ensures writes { Writes result out.old out.new (written value) }
     ensures reads_back { (limit : ℕ) → unsigned_abs value ≤ limit → limit ≤ wire_limit
@@ -123,7 +123,7 @@ pub fn write_um(out: &mut Vec<u8>, value: Um) -> Result<(), AllocError>
     Ok(())
 }
 
-/// The room that a direction needs with a text between each two of its components; none where no memory has so much.
+/// The room that a direction needs with a text between each two of its components; none if no memory has that much.
 fn room_with(between: &[u8]) -> Option<usize>
     ensures room { IfSome result (λ room. room ≡ 45 + 2 * length between.now) }
     ensures none { IfNone result (2 ^ 64 ≤ 45 + 2 * length between.now) }
@@ -132,7 +132,7 @@ fn room_with(between: &[u8]) -> Option<usize>
 }
 
 /// Appends the three components of a direction with six decimals each, with any text between each two.
-/// Only want of memory is an `Err`, and then nothing is appended; it is the answer too where no memory has room for such a text.
+/// Fails only if out of memory, and then appends nothing; that is also the answer if no memory has room for such a text.
 pub fn write_dir(out: &mut Vec<u8>, direction: Dir, between: &[u8]) -> Result<(), AllocError>
     ensures writes { Writes result out.old out.new (written_direction direction between.now) }
     ensures reads_back { IsDirection direction → ReadsDirection (written_component direction.i)

@@ -25,7 +25,7 @@ first_ends_content bytes k h =
     (λ j below. is_no_end (get_or bytes j 0) ∙ not_end _ (h.0.before j (omega arith) below))
     (λ short. is_no_end (get_or bytes k 0) ∙ ap not h.1))
 
--- and where there is none, all is content
+-- and if there is none, all is content
 pub none_ends_content : (bytes : List ℕ) → IsFirstByte (is_byte2 13 10) bytes None → length bytes ≡ content_len bytes
 none_ends_content bytes h =
     sym (prefix_len_is is_content bytes (length bytes) 0 (omega arith)

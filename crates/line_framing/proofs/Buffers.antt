@@ -1,4 +1,4 @@
--- How positions in a rest go with what stands at its front.
+-- How positions in a rest relate to what is at its front.
 use Rattle.std.proofs.Common.{◌≡◌, ℕ, ◌+◌, ◌≤◌, Bool, true, false, List, ◌∷◌, ◌++◌, length, take, drop, sym, ◌∙◌, ap, subst, arith}
 use Rattle.std.proofs.Common.{Some, Result, Ok, Err, length-drop}
 use Rattle.std.proofs.lemmas.List.{drop-drop, length-take, length-append}
@@ -10,7 +10,7 @@ use Rattle.line_framing.specs.declared.faults.FramingFault.{FramingFault}
 use Rattle.line_framing.proofs.Cuts.{prefix_len_from, prefix_len-le-append}
 use Rattle.line_framing.proofs.FirstLine.{found}
 
--- a search that goes on ends where one from the start would
+-- a search that continues ends where one from the start would
 pub search_goes_on : (rest : List ℕ) (searched : ℕ) → searched ≤ content_len rest
     → searched + content_len (drop searched rest) ≡ content_len rest
 search_goes_on rest searched known =
@@ -21,7 +21,7 @@ search_goes_on rest searched known =
 pub content_fits : (rest : List ℕ) → content_len rest ≤ length rest
 content_fits rest = prefix_len-le-length is_content rest
 
--- a line that stands at the front of a rest, by its length, has its end there
+-- a line that is at the start of a rest, by its length, has its end there
 pub line_fits : (rest : List ℕ) (n : ℕ) → next_of rest ≡ Ok (Some (take n rest, drop (n + 2) rest)) → n + 2 ≤ length rest
 line_fits rest n next =
     let f = found rest (take n rest) (drop (n + 2) rest) next in
@@ -37,7 +37,7 @@ whole rest end content behind ec left next =
     let f = found rest content (drop 2 behind) next in
     (here, subst IsLine ec f.is_line, line_fits rest end here)
 
--- what the two parts of the rest are is what stands at its front
+-- what the two parts of the rest are is what is at its front
 pub has_front : (rest : List ℕ) (end : ℕ) (content behind : List ℕ) (r : Result Bool FramingFault) → end ≡ content_len rest
     → content ≡ take end rest → behind ≡ drop end rest → HasVerdict content behind r → HasFront rest end r
 has_front rest end content behind r n ec eb h =

@@ -13,7 +13,7 @@ use Rattle.line_framing.proofs.Streams.{one_stream, stream_end}
 abbrev at : List ℕ → Option FramingFault → Framing
 at rest fault = record { rest = rest; fault = fault }
 
--- behind a fault nothing happens any more
+-- after a fault nothing happens any more
 stuck_by : (rest : List ℕ) (fault : FramingFault) (front : Front) → front ≡ Err fault
     → (left_by front (at rest (Some fault)) ≡ at rest (Some fault)) × (line_in front ≡ [])
 stuck_by rest fault (Ok found) h = absurd (cc)
@@ -78,7 +78,7 @@ accounted (Ask ∷ calls) rest = asked rest calls (next_of rest) refl (accounted
 pub nothing_is_lost : (calls : List Call) → IsAccounted (bytes_fed calls) (handed_out no_bytes calls) (after_calls no_bytes calls)
 nothing_is_lost calls = accounted calls []
 
--- what was refused behind a fault does not change what stands at the front
+-- what was refused after a fault does not change what is at the front
 same_front : (rest refused : List ℕ) (fault : Option FramingFault) → (fault ≡ None → refused ≡ [])
     → ((f : FramingFault) → fault ≡ Some f → next_of rest ≡ Err f) → next_of (rest ++ refused) ≡ next_of rest
 same_front rest refused None taken kept = ap (λ (l : List ℕ). next_of (rest ++ l)) (taken refl) ∙ ap next_of (append-nil rest)

@@ -1,4 +1,4 @@
--- How bytes are cut into their content and what stands behind it: there is one such cut, and more bytes move it only at its end.
+-- How bytes are cut into their content and what follows it: there is one such cut, and more bytes move it only at its end.
 use Rattle.std.proofs.Common.{◌≡◌, ℕ, ◌+◌, ◌≤◌, Bool, true, false, cond, List, [], ◌∷◌, ◌++◌, take, drop, refl, sym, ◌∙◌, ap, arith, zero}
 use Rattle.std.proofs.Common.{suc, append_assoc}
 use Rattle.std.specs.List.{list_all, prefix_len}
@@ -20,7 +20,7 @@ pub front_passes : (p : ℕ → Bool) (xs : List ℕ) → list_all p (take (pref
 front_passes p [] = refl
 front_passes p (x ∷ xs) = front_by p x xs (p x) refl (front_passes p xs)
 
--- what stands behind it begins with an element that does not pass
+-- what follows it begins with an element that does not pass
 stops_by : (p : ℕ → Bool) (x : ℕ) (xs : List ℕ) (b : Bool) → p x ≡ b
     → ((c : ℕ) (more : List ℕ) → drop (prefix_len p xs) xs ≡ c ∷ more → p c ≡ false) → (c : ℕ) (more : List ℕ)
     → drop (cond b (1 + prefix_len p xs) 0) (x ∷ xs) ≡ c ∷ more → p c ≡ false
@@ -55,7 +55,7 @@ same_cut (x ∷ c) a (y ∷ d) b ec ed sa sb e =
 pub one_cut : (bytes c a d b : List ℕ) → BeginsWith bytes c a → BeginsWith bytes d b → (c ≡ d) × (a ≡ b)
 one_cut bytes c a d b h g = same_cut c a d b h.free g.free h.stop g.stop (sym h.parts ∙ g.parts)
 
--- bytes behind a stop do not move the cut
+-- bytes after a stop do not move the cut
 pub cut_stays : (bytes c : List ℕ) (x : ℕ) (a more : List ℕ) → BeginsWith bytes c (x ∷ a) → BeginsWith (bytes ++ more) c (x ∷ (a ++ more))
 cut_stays bytes c x a more h = record {
   parts = ap (λ (l : List ℕ). l ++ more) h.parts ∙ append_assoc c (x ∷ a) more;
@@ -73,7 +73,7 @@ pub prefix_len-le-append : (p : ℕ → Bool) (xs ys : List ℕ) → prefix_len 
 prefix_len-le-append p [] ys = omega arith
 prefix_len-le-append p (x ∷ xs) ys = longer_by p x xs ys (p x) refl (prefix_len-le-append p xs ys)
 
--- a search may go on where it stopped
+-- a search may continue where it stopped
 gone_on_by : (p : ℕ → Bool) (x : ℕ) (xs : List ℕ) (b : Bool) (n : ℕ) → p x ≡ b → suc n ≤ cond b (1 + prefix_len p xs) 0
     → (n ≤ prefix_len p xs → prefix_len p xs ≡ n + prefix_len p (drop n xs))
     → cond b (1 + prefix_len p xs) 0 ≡ suc n + prefix_len p (drop n xs)

@@ -1,4 +1,4 @@
--- What stands at the front of bytes: one thing, and more bytes do not undo it.
+-- What is at the start of bytes: one thing, and more bytes do not undo it.
 use Rattle.std.proofs.Common.{◌≡◌, ℕ, ◌<◌, ◌≤◌, Bool, true, false, cond, ◌&&◌, List, [], ◌∷◌, ◌++◌, length, refl, sym, ◌∙◌, ap, subst}
 use Rattle.std.proofs.Common.{arith, append_assoc, eqb, ltb, Some, None, Ok, Err}
 use Rattle.std.proofs.lemmas.Bool.{and_parts, le-ltb, lt-ltb, ltb-true, ltb-false, eqb-true}
@@ -9,7 +9,7 @@ use Rattle.line_framing.specs.declared.faults.FramingFault.{FramingFault}
 use Rattle.line_framing.specs.declared.faults.FramingFault.TheVariants.{LineTooLong, BadByte}
 use Rattle.line_framing.proofs.Cuts.{begins, one_cut, cut_stays, prefix_len-le-append}
 
--- any cut of bytes says what stands at their front
+-- any cut of bytes says what is at their front
 pub next_is : (bytes c a : List ℕ) → BeginsWith bytes c a → next_of bytes ≡ verdict c a
 next_is bytes c a h =
     let same : (content_of bytes ≡ c) × (behind_content bytes ≡ a) = one_cut bytes _ _ _ _ (begins bytes) h in
@@ -23,7 +23,7 @@ next_holds bytes = record { content = content_of bytes; after = behind_content b
 pub next_from : (bytes : List ℕ) (r : Front) → Next bytes r → r ≡ next_of bytes
 next_from bytes r h = h.decides ∙ sym (next_is bytes h.content h.after h.begins)
 
--- one thing stands at the front of bytes
+-- one thing is at the start of bytes
 pub one_next : (bytes : List ℕ) (r s : Front) → Next bytes r → Next bytes s → r ≡ s
 one_next bytes r s h g = next_from bytes r h ∙ sym (next_from bytes s g)
 

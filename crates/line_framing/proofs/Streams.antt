@@ -19,7 +19,7 @@ pub AreLines-append : (xs ys : List (List ℕ)) → AreLines xs → AreLines ys 
 AreLines-append [] ys h g = g
 AreLines-append (x ∷ xs) ys h g = (h.0, AreLines-append xs ys h.1 g)
 
--- where bytes and what is to come are lines, no fault stands at their front
+-- where bytes and what is to come are lines, no fault is at their front
 pub no_fault : (bytes more : List ℕ) (xs : List (List ℕ)) (fault : FramingFault) → AreLines xs → bytes ++ more ≡ line_bytes xs
     → next_of bytes ≡ Err fault → ⊥
 no_fault bytes more [] fault h e next =
@@ -30,7 +30,7 @@ no_fault bytes more (x ∷ xs) fault h e next =
     let first = first_line_at x (line_bytes xs) h.0 in
     cc
 
--- and the line that stands there is the first of them, with the others behind it
+-- and the line that is there is the first of them, with the others after it
 pub takes_first : (bytes more : List ℕ) (xs : List (List ℕ)) (line left : List ℕ) → AreLines xs → bytes ++ more ≡ line_bytes xs
     → next_of bytes ≡ Ok (Some (line, left)) → TakesFirst xs line left more
 takes_first bytes more [] line left h e next =
@@ -41,7 +41,7 @@ takes_first bytes more (x ∷ xs) line left h e next =
     let same = same_found x (line_bytes xs) line (left ++ more) (sym (first_line_at x (line_bytes xs) h.0) ∙ stays) in
     record { others = xs; first = ap (λ (l : List ℕ). l ∷ xs) same.0; behind = sym same.1 }
 
--- where nothing is found in the bytes of lines, there is none
+-- if nothing is found in the bytes of lines, there are no lines
 pub none_left : (xs : List (List ℕ)) → AreLines xs → next_of (line_bytes xs) ≡ Ok None → xs ≡ []
 none_left [] h next = refl
 none_left (x ∷ xs) h next = let first = first_line_at x (line_bytes xs) h.0 in absurd (cc)
@@ -81,7 +81,7 @@ stream_more bytes line left rest lines fault next h =
       faulty = h.faulty;
     }
 
--- where no line stands at the front, the fault of the bytes is what stands there
+-- where no line is at the front, the fault of the bytes is what is there
 stop_is : (x : ℕ) → is_content x ≡ false → eqb x 13 ≡ false → eqb x 10 ≡ true
 stop_is x h e = not-false _ (sym (ap (λ (b : Bool). not b && not (eqb x 10)) e) ∙ h)
 

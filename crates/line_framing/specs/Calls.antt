@@ -41,7 +41,7 @@ bytes_fed [] = []
 bytes_fed (Feed piece ∷ calls) = piece ++ bytes_fed calls
 bytes_fed (Ask ∷ calls) = bytes_fed calls
 
--- bytes are lines that were handed out, each with CR LF, then the rest, and then what was fed behind a fault
+-- bytes are lines that were handed out, each with CR LF, then the rest, and then what was fed after a fault
 pub record IsAccounted (bytes : List ℕ) (lines : List (List ℕ)) (left : Framing) : Type 0 where
   pub refused : List ℕ
   pub parts : bytes ≡ line_bytes lines ++ (left.rest ++ refused)

@@ -14,11 +14,11 @@ pub record Framing : Type 0 where
 abbrev pub no_bytes : Framing
 no_bytes = record { rest = []; fault = None }
 
--- a fault that is kept is what stands at the front of the rest
+-- a fault that is kept is what is at the start of the rest
 pub record IsSound (f : Framing) : Type 0 where
   pub kept : (fault : FramingFault) → f.fault ≡ Some fault → next_of f.rest ≡ Err fault
 
--- a rest and a fault after a piece was fed: behind a fault nothing is taken any more (this profile)
+-- a rest and a fault after a piece was fed: after a fault nothing is taken any more (this profile)
 abbrev pub fed_behind : Option FramingFault → List ℕ → List ℕ → Framing
 fed_behind None rest piece = record { rest = rest ++ piece; fault = None }
 fed_behind (Some fault) rest piece = record { rest = rest; fault = Some fault }
@@ -37,21 +37,21 @@ left_by (Err fault) f = record f { fault = Some fault }
 abbrev pub after_next : Framing → Framing
 after_next f = left_by (next_of f.rest) f
 
--- a whole line stands at the front
+-- a whole line is at the front
 abbrev pub IsLineDue : Front → Type 0
 IsLineDue front = IsOkAnd front IsSome
 
--- why a piece is not taken: a fault was met before, or memory is wanting for the piece
+-- why a piece is not taken: a fault was met before, or there is no memory for the piece
 abbrev pub IsFeedRefused : Framing → LinesFault → Type 0
 IsFeedRefused f (lines_fault.Framing fault) = f.fault ≡ Some fault
 IsFeedRefused f lines_fault.Memory = f.fault ≡ None
 
--- why no line is handed out of a front: it is a fault, or memory is wanting for a whole line
+-- why no line is handed out of a front: it is a fault, or there is no memory for a whole line
 abbrev pub IsLineRefused : Front → LinesFault → Type 0
 IsLineRefused front (lines_fault.Framing fault) = front ≡ Err fault
 IsLineRefused front lines_fault.Memory = IsLineDue front
 
--- the buffer behind a line that was not handed out: a fault is kept, and want of memory changes nothing
+-- the buffer after a line that was not handed out: a fault is kept, and running out of memory changes nothing
 abbrev pub IsRefusedLeft : Framing → Framing → LinesFault → Type 0
 IsRefusedLeft old new (lines_fault.Framing fault) = new ≡ after_next old
 IsRefusedLeft old new lines_fault.Memory = new ≡ old

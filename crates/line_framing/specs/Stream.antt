@@ -6,7 +6,7 @@ use Rattle.line_framing.specs.Next.{Front, content_of, behind_content}
 use Rattle.line_framing.specs.declared.faults.FramingFault.{FramingFault}
 use Rattle.line_framing.specs.declared.faults.FramingFault.TheVariants.{LineTooLong, BadByte}
 
--- behind a content stand LF, or CR and a byte other than LF (this profile)
+-- a content is followed by LF, or CR and a byte other than LF (this profile)
 abbrev pub is_bad_end : List ℕ → Bool
 is_bad_end [] = false
 is_bad_end (c ∷ []) = c == 10
@@ -24,7 +24,7 @@ pub record IsStream (bytes : List ℕ) (lines : List (List ℕ)) (rest : List �
   pub no_more : (line more : List ℕ) → IsLine line → rest ≡ line ++ 13 ∷ 10 ∷ more → ⊥
   pub faulty : fault ≡ fault_of rest
 
--- the fault that stands at a front, if any
+-- the fault at a front, if any
 abbrev pub fault_in : Front → Option FramingFault
 fault_in (Ok found) = None
 fault_in (Err fault) = Some fault

@@ -10,7 +10,7 @@ use bytes::BytesMut;
 use std::alloc::{AllocError, Global};
 use std::marker::Model;
 
-/// Room is made for so many bytes at least, since pieces may be as short as a byte.
+/// Room is made for that many bytes at least, since pieces may be as short as a byte.
 const LEAST_ROOM: usize = 1_024;
 
 /// Bytes on their way to lines. Contracts see the bytes that were fed and not handed out (`rest`), and the
@@ -40,7 +40,7 @@ impl Model for Lines {
     ghost invariant = { λ l. IsKept l.buffer.items l.searched l.fault };
 }
 
-/// Makes room for so many bytes more. Only want of memory is an `Err`.
+/// Makes room for that many bytes more. Fails only if out of memory.
 #[inline]
 fn make_room(buffer: &mut BytesMut, count: usize) -> Result<(), AllocError>
     ensures items { buffer.new.items ≡ buffer.old.items }
@@ -53,7 +53,7 @@ fn make_room(buffer: &mut BytesMut, count: usize) -> Result<(), AllocError>
 }
 
 impl Lines {
-    /// An empty buffer, which takes no memory yet.
+    /// An empty buffer, which has allocated nothing yet.
     pub fn new(alloc: Global) -> Lines
         ensures { result ≡ no_bytes }
     {
@@ -72,7 +72,7 @@ impl Lines {
         self.buffer.as_slice()
     }
 
-    /// The fault that `first_line` or `next_line` has met, if any. It is what stands at the front of the rest.
+    /// The fault that `first_line` or `next_line` has met, if any. It is what is at the start of the rest.
     pub fn fault(&self) -> Option<FramingFault>
         ensures fault { result ≡ self.now.fault }
         ensures sound { IsSound self.now }
@@ -80,7 +80,7 @@ impl Lines {
         self.fault
     }
 
-    /// Gives up the rest and the fault, as at the end of a connection. It takes no memory and keeps what it has.
+    /// Discards the rest and the fault, as at the end of a connection. It does not allocate, and keeps the memory that it has.
     pub fn clear(&mut self)
         ensures { self.new ≡ no_bytes }
     {
@@ -115,13 +115,13 @@ impl Lines {
         Ok(())
     }
 
-    /// How many bytes the first line at the front of the rest has without its CR LF; `None` where no whole line
+    /// How many bytes the first line at the start of the rest has without its CR LF; `None` if no whole line
     /// is there yet. The line stays, so that it can be read in place before `drop_line` takes it.
     ///
-    /// It answers `LineTooLong` or `BadByte` where that stands at the front, and keeps it. It takes no memory.
+    /// It answers `LineTooLong` or `BadByte` where that is at the front, and keeps it. It does not allocate.
     #[inline]
     pub fn first_line(&mut self) -> Result<Option<usize>, FramingFault>
-        // The answer is what stands at the front of the rest, and from a fault on the same fault.
+        // The answer is what is at the start of the rest, and from a fault on the same fault.
         ensures found { IfOk result (λ found. MatchOption found (next_of self.old.rest ≡ Ok None)
             (λ n. next_of self.old.rest ≡ Ok (Some (
               take n self.old.rest,
@@ -152,8 +152,8 @@ impl Lines {
         }
     }
 
-    /// Whether a whole line stands at the front of the rest; what stands there otherwise, `first_line` says. It
-    /// takes no memory.
+    /// Whether a whole line is at the start of the rest; if not, `first_line` reports what is there. It
+    /// does not allocate.
     pub fn has_line(&self) -> bool
         ensures { IsTrue result ↔ IsLineDue (next_of self.now.rest) }
     {
@@ -162,8 +162,8 @@ impl Lines {
         matches!(has_line(rest, end), Ok(true))
     }
 
-    /// Takes the first line, of `length` bytes, and its CR LF off the front of the rest. The caller owes that
-    /// such a line stands there, as `first_line` answers. It takes no memory.
+    /// Takes the first line, of `length` bytes, and its CR LF off the start of the rest. The caller must ensure that
+    /// such a line is there, as `first_line` answers. It does not allocate.
     #[tactic(auto, using(crate::proofs::Buffers::line_fits))]
     #[inline]
     pub fn drop_line(&mut self, length: usize)
@@ -180,13 +180,13 @@ impl Lines {
         self.searched = 0;
     }
 
-    /// Takes the first line and its CR LF off the front of the rest; `None` where no whole line is there yet.
+    /// Takes the first line and its CR LF off the start of the rest; `None` if no whole line is there yet.
     ///
-    /// It answers `LineTooLong` or `BadByte` where that stands at the front, and keeps it. `Memory` comes where
+    /// It answers `LineTooLong` or `BadByte` where that is at the front, and keeps it. `Memory` comes where
     /// there was no room for the line; the buffer is then as before.
     pub fn next_line(&mut self) -> Result<Option<Line>, LinesFault>
-        // The answer is what stands at the front of the rest, and from a fault on the same fault. Memory is wanted
-        // for a whole line alone.
+        // The answer is what is at the start of the rest, and after a fault always that fault. Only taking
+        // a whole line allocates.
         ensures line { IfOk result (λ found. IfSome found
             (λ line. next_of self.old.rest ≡ Ok (Some (line, self.new.rest)))) }
         ensures nothing { IfOk result (λ found. IfNone found (next_of self.old.rest ≡ Ok None)) }

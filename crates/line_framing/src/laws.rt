@@ -7,21 +7,21 @@ ghost use Rattle.line_framing.specs.Stream.{IsStream, IsRead, AreSame, TakesFirs
 ghost use Rattle.line_framing.specs.Calls.{Call, after_calls, handed_out, bytes_fed, IsAccounted, NoLineLeft};
 ghost use Rattle.line_framing.specs.declared.faults.FramingFault.{FramingFault};
 
-/// One thing stands at the front of a list of bytes, and it is what `next_of` says.
+/// One thing is at the start of a list of bytes, and it is what `next_of` says.
 #[tactic(auto, using(crate::proofs::FirstLine::next_holds))]
 pub fn one_front()
     ensures some { (bytes : List ℕ) → Next bytes (next_of bytes) }
     ensures one { (bytes : List ℕ) (r s : Front) → Next bytes r → Next bytes s → r ≡ s }
 {}
 
-/// A line with CR LF behind it is the first line, whatever follows, and what follows stays.
+/// A line with CR LF after it is the first line, whatever follows, and what follows stays.
 #[tactic(auto, using(crate::proofs::FirstLine::first_line_at))]
 pub fn written_line_comes_first()
     ensures { (line more : List ℕ) → IsLine line
         → next_of (line ++ 13 ∷ 10 ∷ more) ≡ Ok (Some (line, more)) }
 {}
 
-/// What is found at the front is a line, and stood there with CR LF behind it.
+/// What is found at the front is a line, and was there with CR LF after it.
 pub fn found_line_stood_there()
     ensures { (bytes line rest : List ℕ) → next_of bytes ≡ Ok (Some (line, rest))
         → IsFound bytes line rest }
@@ -36,8 +36,8 @@ pub fn later_bytes_change_no_front()
         → next_of (bytes ++ more) ≡ Err fault }
 {}
 
-/// Where bytes and what is to come are lines, no fault stands at their front, and a line that does is
-/// the first of them, with the others behind it. Where nothing is to come, nothing stands there only if no
+/// Where bytes and what is to come are lines, no fault is at their front, and a line that is there is
+/// the first of them, with the others after it. Where nothing is to come, nothing is there only if no
 /// line is left.
 #[tactic(auto, using(crate::proofs::Streams::no_fault, crate::proofs::Streams::takes_first, crate::proofs::Streams::none_left))]
 pub fn written_lines_are_taken_in_order()
@@ -68,14 +68,14 @@ pub fn one_stream()
 {}
 
 /// The lines handed out, each with CR LF, followed by the rest, are the bytes fed, whatever the calls were
-/// and however the bytes were cut. Behind a fault nothing is taken any more.
+/// and however the bytes were cut. After a fault nothing is taken any more.
 #[tactic(auto, using(crate::proofs::CallLists::nothing_is_lost))]
 pub fn nothing_is_lost()
     ensures { (calls : List Call)
         → IsAccounted (bytes_fed calls) (handed_out no_bytes calls) (after_calls no_bytes calls) }
 {}
 
-/// Where no line is left, the lines handed out are those of the bytes fed, and what then stands at the
+/// Where no line is left, the lines handed out are those of the bytes fed, and what then is at the
 /// front is their fault.
 #[tactic(auto, using(crate::proofs::CallLists::handed_out_all))]
 pub fn all_lines_are_handed_out()

@@ -7,8 +7,8 @@
 //! - `framing`: `Lines`, the buffer
 //! - `owned`: `Line`, a line without its end
 //! - `queue`: `ByteQueue`, bytes that wait
-//! - `faults`: why bytes are refused, and what may stand at their front in place of a line
-//! - `search`: where a line ends, and what stands there
+//! - `faults`: why bytes are refused, and what may be at their front instead of a line
+//! - `search`: where a line ends, and what is there
 //! - `laws`: what follows from the definitions alone, as the pieces do not matter
 #![tactic(auto)]
 

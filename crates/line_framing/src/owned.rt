@@ -25,8 +25,8 @@ impl Model for Line {
 }
 
 impl Line {
-    /// Cuts the line of `count` bytes and its two bytes of CR LF off the front of a buffer. No byte is copied. The
-    /// buffer is as before where memory is wanting for the count of those that share it.
+    /// Cuts the line of `count` bytes and its two bytes of CR LF off the start of a buffer. No byte is copied. The
+    /// buffer is as before if there is no memory for the count of those that share it.
     pub(crate) fn cut(buffer: &mut BytesMut, count: usize) -> Result<Line, AllocError>
         requires fits { count + 2 ≤ length buffer.old.items }
         requires line { IsLine (take count buffer.old.items) }

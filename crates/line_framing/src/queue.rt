@@ -45,7 +45,7 @@ impl ByteQueue {
     ghost use Rattle.line_framing.specs.Lending.{bytes_row, queued_of};
     ghost use Rattle.line_framing.specs.contracts.queue.ByteQueue.{the_row};
 
-    /// No bytes, which take no memory yet.
+    /// No bytes, which have allocated nothing yet.
     pub fn new(alloc: Global) -> ByteQueue
         ensures { result.waiting ≡ [] }
     {
@@ -63,8 +63,8 @@ impl ByteQueue {
         waiting
     }
 
-    /// Makes room for so many bytes more. What waits moves to the front only where it is no longer than what was taken since the last move,
-    /// so all moves together cost no more than the bytes that were appended. Only want of memory is an `Err`.
+    /// Makes room for that many bytes more. What waits moves to the front only if it is no longer than what was taken since the last move,
+    /// so all moves together cost no more than the bytes that were appended. Fails only if out of memory.
     pub fn reserve(&mut self, count: usize) -> Result<(), AllocError>
         ensures waiting { self.new.waiting ≡ self.old.waiting }
         ensures room { OnOk result (count ≤ self.new.room) }
@@ -76,7 +76,7 @@ impl ByteQueue {
         self.bytes.reserve(count)
     }
 
-    /// Appends a piece. The caller owes that there is room for it. It takes no memory.
+    /// Appends a piece. The caller must ensure that there is room for it. It does not allocate.
     pub fn append(&mut self, piece: &[u8])
         requires { length piece.now ≤ self.old.room }
         ensures { self.new.waiting ≡ self.old.waiting ++ piece.now }
@@ -84,8 +84,8 @@ impl ByteQueue {
         self.bytes.extend_from_slice(piece).unwrap();
     }
 
-    /// Lends the bytes that wait as a vector, with the room behind them: what is appended to it joins them. What was taken makes way first.
-    /// It takes no memory.
+    /// Lends the bytes that wait as a vector, with the room after them: what is appended to it joins them. What was taken makes way first.
+    /// It does not allocate.
     pub fn as_mut_vec(&mut self) -> &mut Vec<u8>
         ensures* lends { sem 𝓛 (Lends the_row bytes_row self.entry result queued_of) }
         ensures bytes { result.now.items ≡ self.old.waiting }
@@ -96,7 +96,7 @@ impl ByteQueue {
         &mut self.bytes
     }
 
-    /// Takes the first `count` bytes. The caller owes that so many wait. It takes no memory.
+    /// Takes the first `count` bytes. The caller must ensure that at least `count` bytes wait. It does not allocate.
     pub fn take(&mut self, count: usize)
         requires { count ≤ length self.old.waiting }
         ensures { self.new.waiting ≡ drop count self.old.waiting }

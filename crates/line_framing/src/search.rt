@@ -7,12 +7,12 @@ use memchr::memchr2;
 
 /// Stands before LF at a line's end.
 const CR: u8 = 13;
-/// Stands behind CR at a line's end.
+/// Follows CR at a line's end.
 const LF: u8 = 10;
 /// The greatest length of a line without its end, in bytes (this profile).
 const LONGEST_LINE: usize = 65_536;
 
-/// From so many bytes on they are searched in blocks, which costs more to begin than a few bytes do.
+/// From that many bytes on they are searched in blocks, which costs more to begin than a few bytes do.
 const BLOCK: usize = 32;
 
 /// How many bytes stand before the first CR or LF, or before the end, by blocks.
@@ -43,7 +43,7 @@ fn count_content(bytes: &[u8]) -> usize
         .count()
 }
 
-/// Where the content ends that goes on at `searched`. The bytes before are not looked at again.
+/// Where the content ends, searched from `searched` on. The bytes before are not examined again.
 #[tactic(auto, using(crate::proofs::Buffers::search_goes_on, crate::proofs::Buffers::content_fits))]
 #[inline]
 pub(crate) fn content_end(bytes: &[u8], searched: usize) -> usize
@@ -54,7 +54,7 @@ pub(crate) fn content_end(bytes: &[u8], searched: usize) -> usize
     searched + count_content(unsearched)
 }
 
-/// Whether CR LF stands behind a content of `count` bytes; false where it may still come.
+/// Whether CR LF follows a content of `count` bytes; false if it may still come.
 #[inline]
 fn ends_line(count: usize, behind: &[u8]) -> Result<bool, FramingFault>
     ensures { (content : List ℕ) → length content ≡ count → HasVerdict content behind.now result }
@@ -69,7 +69,7 @@ fn ends_line(count: usize, behind: &[u8]) -> Result<bool, FramingFault>
     }
 }
 
-/// Whether a line stands at the front, where the content there ends at `end`.
+/// Whether a line is at the front, where the content there ends at `end`.
 #[tactic(auto, using(crate::proofs::Buffers::content_fits, crate::proofs::Buffers::has_front))]
 #[inline]
 pub(crate) fn has_line(bytes: &[u8], end: usize) -> Result<bool, FramingFault>

@@ -16,7 +16,7 @@ use Rattle.link_world.proofs.EventLists.{not_done}
 use Rattle.link_world.proofs.Linking.{links_get}
 use Rattle.link_world.proofs.Reached.{made}
 
--- ---- one event, where there is one
+-- ---- one event, if there is one
 
 possible_by : (e : Event) (b c : Bool) → b ≡ c → cond {A = Option Event} b (Some e) None ≡ cond c (Some e) None
 possible_by e b c is = ap (λ (x : Bool). cond {A = Option Event} x (Some e) None) is

@@ -15,7 +15,7 @@ use Rattle.link_world.proofs.Reached.{made}
 use Rattle.link_world.proofs.ClientWriting.{awake}
 use Rattle.link_world.proofs.ClientReading.{faulted_same}
 
--- where it is on a connection it reads
+-- if it is on a connection it reads
 pub reads_on : (client : ClientEnd) (server : ServerValue) (cs : List Connection) (written : List ℕ)
     → IsReached (seen client server cs written)
     → client.client.on ≡ true → may_read client.client ≡ true

@@ -78,7 +78,7 @@ fits (x ∷ xs) (y ∷ ys) front = omega (arith, fits xs ys (ap (drop 1) front))
 
 -- ---- one event
 
--- the client stands on a connection that was made, with nothing to send
+-- the client is on a connection that was made, with nothing to send
 record IsOn (w : World) : Type 0 where
   pub out : w.client.out ≡ []
   pub from : 1 ≤ w.client.client.last
@@ -111,7 +111,7 @@ sends_on w e h last is =
       written = append_assoc w.written e.out more i;
     })
 
--- the connection behind what was written
+-- the connection after what was written
 there : (w : World) (e : ClientEnd) (text : List ℕ) → IsOn w → e.client.last ≡ w.client.client.last
     → client_link (client_joined w e text 0) ≡ record { up = (client_link w).up ++ text; down = (client_link w).down }
 there w e text h last =
@@ -164,7 +164,7 @@ reads_on w e text k may is =
 
 -- ---- the turn
 
--- besides: until bytes come in the client stands on its connection, and from then on it has nothing to send; it sends until nothing is due
+-- in addition: until bytes come in the client is on its connection, and from then on it has nothing to send; it sends until nothing is due
 record Sends (w : World) (e : ClientEnd) : Type 0 where
   pub so_far : SoFar event.ClientSends w (client_joined w e e.out 0)
   pub last : e.client.last ≡ w.client.client.last
@@ -305,7 +305,7 @@ turn_written least w read written e out from to front t =
     let p : Hears w read written e =
     plays least w Reading read written e (record { out = out; from = from; to = to }) front t in p.out
 
--- where a client reads, as many bytes have come in as were asked for
+-- if a client reads, as many bytes have come in as were asked for
 abbrev Enough : Stage → ℕ → List ℕ → Type 0
 Enough Reading least read = least ≤ length read
 Enough _ least read = Unit {0}
@@ -323,7 +323,7 @@ pub turn_enough : (least : ℕ) (s : ClientEnd) (read written : List ℕ) (e : C
     → ClientTurn least s Reading read written e → least ≤ length read
 turn_enough least s read written e t = enough_came least s Reading read written e t
 
--- ---- behind a turn from a world to which events have led
+-- ---- after a turn from a world to which events have led
 
 at_end : (w x : World) (events more : List Event) (v : World) → w ≡ run_of events v
     → run_of more w ≡ x → run_of (events ++ more) v ≡ x
@@ -353,7 +353,7 @@ turn_told least w stage read written e program rack window events is few reached
     (at_end w (client_joined w e (written ++ e.out) (length read)) events j.events (start program rack window) reached j.leads)
     (always_told program rack window (events ++ j.events) is few)
 
--- the client leaves its connection behind events that have led so far
+-- the client leaves its connection after events that have led so far
 pub turn_leaves : (w : World) (events : List Event) (e : ClientEnd) (text : List ℕ) (count : ℕ)
     → run_of events w ≡ client_joined w e text count → e.client.on ≡ true
     → run_of (events ++ event.ClientLeaves ∷ []) w ≡ record (client_joined w e text count) { client = end_left e }

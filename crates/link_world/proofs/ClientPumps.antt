@@ -38,7 +38,7 @@ not_there b There is never there = false≢true (sym never ∙ is.1 there)
 
 -- ---- sending
 
--- a client beside a server that was never there
+-- a client together with a server that was never there
 abbrev pub alone : ClientEnd → World
 alone e = record { client = e; server = new_server_end []; links = []; written = [] }
 
@@ -111,7 +111,7 @@ unread_within bound calls calls_now least old new left left_now taken taken_now 
   within = let none = none_read least old s.stage s.read s.written s.last (s.turn) is in omega (arith, most, none);
 }
 
--- the calls of a port beside those that were counted
+-- the calls of a port in addition to those that were counted
 pub stopped_beside : (more bound calls calls_now least : ℕ) (old new : ClientEnd) (left left_now taken taken_now : Option (List ℕ))
     (f : PumpFault ClientFault) → ClientStoppedWithin bound calls calls_now least old new left left_now taken taken_now f
     → ClientStoppedWithin bound (more + calls) (more + calls_now) least old new left left_now taken taken_now f
@@ -491,7 +491,7 @@ read_why least bound mid late read written held now left_now e fault.TurnsSpent 
 read_why least bound mid late read written held now left_now e (fault.Core why) out come few r = r
 read_why least bound mid late read written held now left_now e fault.Memory out come few r = tt
 
--- so many bytes have come as were asked for, and it reads
+-- as many bytes have come as were asked for, and it reads
 has_come : (a b c d : ClientEnd) (least bound mid late count come : ℕ) (left left_now taken taken_now : Option (List ℕ))
     (h : AllOut a b taken taken_now bound mid count) → may_read b.client ≡ true → c ≡ end_fed [] b
     → (s : Came c d left left_now mid late come) → least ≤ come → (t : ClientTurn least a Reading s.read h.written d) × (lines_read t ≡ 0)
@@ -505,7 +505,7 @@ has_come a b c d least bound mid late count come left left_now taken taken_now h
     (t, none_read least a Taking s.read h.written (end_fed s.read b) t refl) in
     (has d s.read h.written u.0 (omega (arith, many, enough)), u.1)
 
--- it has read on from there
+-- it has continued to read from there
 reads_from : (a b c d e : ClientEnd) (least bound mid late now count come : ℕ) (left left_now taken taken_now : Option (List ℕ))
     (h : AllOut a b taken taken_now bound mid count) → may_read b.client ≡ true → c ≡ end_fed [] b
     → (s : Came c d left left_now mid late come) → least ≤ come → ReadsOn late now d e → (t : ClientTurn least a Reading s.read h.written e) × (lines_read t ≤ late)

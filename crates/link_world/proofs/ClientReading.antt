@@ -48,7 +48,7 @@ any_line (Err why) due = refl
 pub reads_can : (e : ClientEnd) → may_read e.client ≡ true → IsLineDue (next_of e.input.rest) → reads_any e ≡ true
 reads_can e may due = let parts = may_is e may in and_from _ _ parts.0 (and_from _ _ parts.1 (any_line (next_of e.input.rest) due))
 
--- it never meets what is no line
+-- it never meets bytes that are not a line
 no_fault_read : (client : ClientEnd) (server : ServerValue) (cs : List Connection) (written : List ℕ)
     → IsReached (seen client server cs written)
     → client.client.on ≡ true → (why : FramingFault) → next_of client.input.rest ≡ Err why → ⊥
@@ -155,7 +155,7 @@ line_can client server cs written h on due =
     and_from _ _ on (and_from _ _ (subst (λ (b : Bool). not b ≡ true) (faulted_same client.client.state)
     (ap not (awake client server cs written h))) (any_line (next_of client.input.rest) due))
 
--- memory is wanting only for a line that is there
+-- memory runs out only for a line that is there
 pub wanted_for : (fault : ClientFault) → refused_by fault ≡ world_fault.Memory → fault ≡ client_fault.Memory
 wanted_for client_fault.NotNow e = absurd (cc)
 wanted_for (client_fault.Faulted cause) e = absurd (cc)

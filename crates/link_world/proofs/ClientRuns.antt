@@ -1,4 +1,4 @@
--- A client's turns one behind another: what comes in and goes out in all of them.
+-- A client's turns one after another: what comes in and goes out in all of them.
 use Rattle.std.proofs.Common.{◌≡◌, ℕ, ◌+◌, ◌<◌, ◌≤◌, false, List, [], ◌++◌, length, refl, sym, subst, arith}
 use Rattle.std.proofs.Common.{append_assoc, append-nil, length-append, Option, Some, None, Ok, Err}
 use Rattle.std.specs.Io.KnownBytes.{Appends, Consumes}
@@ -18,7 +18,7 @@ use Rattle.link_world.proofs.ClientPumps.{longer, two_less}
 
 -- ---- a client's turn
 
--- a front leaves no more than there was
+-- a prefix leaves no more than there was
 pub left_fewer : (input : Framing) (f : Front) → next_of input.rest ≡ f → length (left_by f input).rest ≤ length input.rest
 left_fewer input (Ok None) is = omega arith
 left_fewer input (Ok (Some found)) is = let less = two_less input (Ok (Some found)) is refl in omega (arith, less)

@@ -114,7 +114,7 @@ connect_may l client server cs written number b view h n is =
     (ap (λ (x : Bool). is_apart client.client.state && x) (sym (next_number_fits client.client.last connection_most))
     ∙ (ap (λ (k : ℕ). is_apart client.client.state && nat_le k connection_most) (sym next) ∙ is))
 
--- it is refused where the client is not apart, or each number is taken
+-- it is refused if the client is not apart, or each number is taken
 pub connect_refused : (l : WorldValue) (client : ClientEnd) (server : ServerValue) (cs : List Connection) (written : List ℕ) (number : ℕ)
     → l ≡ seen client server cs written → IsReached (seen client server cs written) → number ≡ length cs + 1
     → may_connect number client.client ≡ false

@@ -15,7 +15,7 @@ use Rattle.link_world.specs.Links.{WorldValue, link_of_connection, links_of, qui
 use Rattle.link_world.proofs.Linking.{links_same, link_put}
 use Rattle.link_world.proofs.Reached.{carried, made, headline, never_faulted_behind}
 
--- ---- where it may write it is on a connection
+-- ---- if it may write it is on a connection
 
 pub some_made : (client : ClientEnd) (server : ServerValue) (cs : List Connection) (written : List ℕ)
     → IsReached (seen client server cs written) → client.client.on ≡ true → 0 < length cs
@@ -42,7 +42,7 @@ none_aborts client server cs written h none =
     false_by (may_abort client.client.state) (λ e. none (some_made client server cs written h
     (abort_on (lined (seen client server cs written).world c.up c.down) c.inv e)))
 
--- ---- no tag is wanting
+-- ---- no tag is missing
 
 awake_state : (s : State) → s ≢ State.Faulted → is_faulted s ≡ false
 awake_state State.Apart n = refl

@@ -90,7 +90,7 @@ pub same_turned : (are : Bool → World → List Event → Type 0) (cut : Bool) 
     → Makes are cut told k m → IsSameKind l m
 same_turned are cut told l k m joined h = same_then l k m (same_joined l k joined) (same_made are cut told k m h)
 
--- what is said of each answer is what is said of all
+-- what holds of each answer holds of all
 pub finish_is : (answer : Job → ℕ → Outcome) (l m : WorldValue) (r : Result ℕ WorldFault) → OnOk r (CanFinish l.world)
     → (IsErrOf r fault.NotNow ↔ ¬ (CanFinish l.world)) → (IsErrOf r fault.NotNow → m ≡ l)
     → IfOk r (λ turns. Finishes answer turns l.world m.world) → IfOk r (λ turns. turns ≤ length (plan_left l.world))

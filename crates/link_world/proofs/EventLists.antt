@@ -1,4 +1,4 @@
--- Lists of events one behind another, and an event that is repeated.
+-- Lists of events one after another, and an event that is repeated.
 use Rattle.std.proofs.Common.{◌≡◌, Bool, true, false, ◌||◌, cond, List, [], ◌∷◌, ◌++◌, refl, sym, ◌∙◌, ap, subst}
 use Rattle.std.proofs.Common.{Some}
 use Rattle.std.proofs.lemmas.Bool.{false≢true}
@@ -28,7 +28,7 @@ pub none_there : (es : List Event) → false ≡ is_any es → es ≡ []
 none_there [] is = refl
 none_there (e ∷ es) is = absurd (cc)
 
--- the world behind more events
+-- the world after more events
 pub leads_more : (l k m : WorldValue) (es fs : List Event) → k ≡ with_world l (run_of es l.world)
     → m ≡ with_world k (run_of fs k.world) → m ≡ with_world l (run_of (es ++ fs) l.world)
 leads_more l k m es fs first then =
@@ -51,7 +51,7 @@ not_done e w never = not_done_by e w (can e w) never
 abbrev pub Going : Event → Bool → World → List Event → Type 0
 Going e cut w es = AreWhile e true w es
 
--- the world behind the first of them
+-- the world after the first of them
 first : (e f : Event) (w : World) → f ≡ e → can e w ≡ true → after f w ≡ happens e w
 first e f w is may = ap (λ (x : Event). after x w) is ∙ done_now e w may
 

@@ -67,17 +67,17 @@ pub refused_iff : (r : Result (Unit {0}) WorldFault) (f : WorldFault) (b : Bool)
 refused_iff (Ok u) f b is now never = absurd is
 refused_iff (Err g) f b is now never = (tt, never, is ∙ now)
 
--- where nothing has changed
+-- if nothing has changed
 pub unchanged : {S : Type 0} (r : Result (Unit {0}) WorldFault) (f : WorldFault) (old new : S) (then : S)
     → IsErrAnd r (λ given. given ≡ f) → new ≡ old → Leads r old new then
 unchanged (Ok u) f old new then is same = absurd is
 unchanged (Err g) f old new then is same = (tt, same)
 
--- where it can happen is said of what is the same
+-- whether an event may happen, under an equal condition
 pub happens_same : (r : Result (Unit {0}) WorldFault) (a b : Bool) → a ≡ b → HappensIf r a → HappensIf r b
 happens_same r a b same h = subst (HappensIf r) same h
 
--- a world behind an event: a list of events leads to it, and it is as the event makes it
+-- a world after an event: a list of events leads to it, and it is as the event makes it
 pub record Tried (l m : WorldValue) (r : Result (Unit {0}) WorldFault) (makes : World → World) : Type 0 where
   pub reached : IsReached m
   pub leads : Leads r l m (with_world l (makes l.world))

@@ -137,7 +137,7 @@ less event.Resume w is may = absurd (false≢true is)
 less (event.ClientRestart n) w is may = absurd (false≢true is)
 less event.ServerRestart w is may = absurd (false≢true is)
 
--- behind an event that happened for all readers
+-- after an event that happened for all readers
 pub less_after : (e : Event) (l m : WorldValue) → repeats e ≡ true → can e l.world ≡ true
     → (m ≡ with_world l (after e l.world)) → left_of e m.world < left_of e l.world
 less_after e l m is may leads =

@@ -1,4 +1,4 @@
--- A server behind a list of its calls, off a connection: it is as it left that, and no act of it is on a later one.
+-- A server after a list of its calls, off a connection: it is as it left that, and no act of it is on a later one.
 use Rattle.std.proofs.Common.{◌≡◌, ℕ, ◌<◌, ◌≤◌, Bool, true, false, cond, List, [], ◌∷◌, ◌++◌, length, refl, sym, subst, arith}
 use Rattle.std.proofs.Common.{Some, None, Ok, Err}
 use Rattle.std.proofs.lemmas.Bool.{and_parts, ltb-true}
@@ -80,12 +80,12 @@ left_is e on off = sym (λ i. record {
   out = off.out i;
 })
 
--- behind its calls a server that is on no connection is as it left its last
+-- after its calls a server that is on no connection is as it left its last
 pub off_is_left : (rack : List (List ℕ)) (calls : List Call) → (reached rack calls).server.on ≡ false
     → serving_left (reached rack calls) ≡ reached rack calls
 off_is_left rack calls off = left_is (reached rack calls) off ((reached_steady rack calls).off off)
 
--- and where its machine is homed, it is not told to home it again
+-- and if its machine is homed, it is not asked to home it again
 pub homed_off_lines : (rack : List (List ℕ)) (calls : List Call)
     → (reached rack calls).server.homed ≡ true → (program : Meaning) (window : ℕ) (links : List Link) (events : List Event)
     → length links ≡ (reached rack calls).server.last → IsProgram program → window ≤ 16 → AreUndisturbed events

@@ -1,4 +1,4 @@
--- The events of instructions, one behind another.
+-- The events of instructions, one after another.
 use Rattle.std.proofs.Common.{◌≡◌, ◌⊎◌, inl, inr, ℕ, zero, suc, ◌+◌, ◌<◌, ◌≤◌, Bool, true, false, List, [], ◌∷◌, ◌++◌, length, take, drop}
 use Rattle.std.proofs.Common.{slice_index_or, refl, sym, ◌∙◌, ap, subst, arith, rules, append_assoc, Option, Some, None, Result, Ok, Err}
 use Rattle.std.specs.Prelude.{OnErr}
@@ -81,7 +81,7 @@ played_append answer (x ∷ xs) ys cut w es fs h then =
     }
     go later (inr never) = absurd (false≢true never.0)
 
--- one instruction behind others
+-- one instruction after others
 one_whole : (answer : Job → ℕ → Outcome) (i : Instruction) (w : World) (fs : List Event)
     → AreMade answer i false w fs → ArePlayed answer (i ∷ []) false w fs
 one_whole answer i w fs h = record { front = fs; back = []; whole = search rules; parts = inl (h, refl) }
@@ -140,7 +140,7 @@ pub made_as : (now first : Job → ℕ → Outcome) (i : Instruction) (cut : Boo
     → Makes (AreMade now i) cut None k m → Makes (AreMade first i) cut None k m
 made_as now first i cut k m same h = subst (λ (a : Job → ℕ → Outcome). Makes (AreMade a i) cut None k m) same h
 
--- ---- where memory is wanting before all
+-- ---- if memory runs out before all
 
 no_round : (answer : Job → ℕ → Outcome) (w : World) → IsRound answer true w []
 no_round answer w = record { front = []; back = []; whole = refl; parts = inr (refl, tt, refl) }
@@ -179,7 +179,7 @@ nothing_played : (answer : Job → ℕ → Outcome) (is : List Instruction) (w :
 nothing_played answer [] w = refl
 nothing_played answer (i ∷ is) w = one_ends answer i is w [] (nothing_made answer i w)
 
--- ---- the world behind what was played
+-- ---- the world after what was played
 
 run_reached : (l : WorldValue) (are : Bool → World → List Event → Type 0) (cut : Bool) (m : WorldValue) → IsReached l
     → Makes are cut None l m → IsReached m
@@ -195,7 +195,7 @@ run_reached l are cut m h made =
           ∙ sym (run_append h.events t.events (start h.program l.setup.tools h.window));
     })
 
--- what was played leads on, and what always holds, holds behind it
+-- what was played continues the run, and what always holds, holds after it
 pub record IsBehind (l m : WorldValue) : Type 0 where
   pub kind : IsSameKind l m
   pub always : Headline m.world
@@ -222,7 +222,7 @@ pub played_behind : {E : Type 0} (r : Result (Unit {0}) E) (are : Bool → World
 played_behind (Ok u) are l m h made = made_behind l are false m h made
 played_behind (Err f) are l m h made = made_behind l are true m h made
 
--- where memory is wanting before all
+-- if memory runs out before all
 pub none_plays : {E : Type 0} (r : Result (Unit {0}) E) (answer : Job → ℕ → Outcome) (is : List Instruction) (w : World)
     → OnErr r (Plays answer is true w w)
 none_plays (Ok u) answer is w = tt

@@ -1,4 +1,4 @@
--- What is left of a program is measured, where the rack and the machine give what that takes.
+-- What is left of a program is measured, if the rack and the machine give what that takes.
 use Rattle.std.proofs.Common.{◌≡◌, ◌⊎◌, inl, inr, ℕ, ◌≤◌, true, false, List, [], ◌++◌, length, sym, ◌∙◌, ap, subst, append-nil}
 use Rattle.std.proofs.lemmas.Bool.{false≢true}
 use Rattle.dmis_program.specs.Meaning.{Meaning}

@@ -28,7 +28,7 @@ counted : (acts : List (ℕ × Act)) → length (contacts acts) ≡ contact_coun
 counted acts =
     is_count_by (λ (acts : List (ℕ × Act)). length (contacts acts)) (λ (entry : ℕ × Act). is_contact entry.1) refl counted_more acts
 
--- the numbers go on behind other contacts
+-- the numbers continue after other contacts
 numbered_more : (n : ℕ) (front more : List MadeContact)
     → numbered_from n (front ++ more) ≡ numbered_from n front ++ numbered_from (n + length front) more
 numbered_more n [] more = ap (λ (k : ℕ). numbered_from k more) (omega arith)
@@ -36,7 +36,7 @@ numbered_more n (made ∷ front) more =
     ap (λ (rest : List Reported). shown n made ∷ rest) (numbered_more (suc n) front more
     ∙ ap (λ (k : ℕ). numbered_from (suc n) front ++ numbered_from k more) (omega arith))
 
--- a contact more stands behind the others
+-- one more contact follows the others
 pub contact_more : (front : List (ℕ × Act)) (connection : ℕ) (target : Point) (dir : Option Direction) (tool : List ℕ) (frame : Frame)
     (point : Point) → reported (front ++ (connection, act.Contact target dir tool frame point) ∷ [])
     ≡ reported front ++ contact (contact_count front) connection point ∷ []
@@ -47,7 +47,7 @@ contact_more front connection target dir tool frame point =
     ∙ numbered_more 0 (contacts front) (contacts ((connection, act.Contact target dir tool frame point) ∷ []))
     ∙ ap (λ (k : ℕ). reported front ++ contact k connection point ∷ []) number
 
--- another act more is no contact
+-- another act is not a contact
 none_alone : (connection : ℕ) (other : Act) → is_contact other ≡ false → contacts ((connection, other) ∷ []) ≡ []
 none_alone connection (act.Contact t d o f p) not = absurd (true≢false not)
 none_alone connection (act.HomedIs h) not = refl

@@ -11,7 +11,7 @@ use Rattle.client_core.proofs.Runs.{features_are_ours}
 use Rattle.link_world.specs.Pumps.{Stage, Sending, Writing, Taking, Reading, ClientTurn, begins, sends, writes, takes, has, reads}
 use Rattle.link_world.specs.Joined.{ClientCalls, not_called, moves, stops, called, AreOwnCalls}
 
--- ---- one call more
+-- ---- one more call
 
 calls_append : (calls : List Call) (call : Call) (e : ClientEnd)
     → behind_calls (calls ++ call ∷ []) e ≡ behind_call call (behind_calls calls e)

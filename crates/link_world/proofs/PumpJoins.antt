@@ -291,7 +291,7 @@ source_front left more read (Some now) h =
 
 -- ---- one call
 
--- besides: both stand on one connection, or have left it
+-- in addition: both are on one connection, or have left it
 record Stands (w : World) (p : EndPair) : Type 0 where
   pub is : IsWorldOf w p
   pub from : 1 ≤ w.client.client.last
@@ -349,7 +349,7 @@ server_rests p e read written same read_none written_none = λ i. record {
   down = (ap (λ (x : List ℕ). p.down ++ x) written_none ∙ append-nil p.down) i;
 }
 
--- the client's turn, from a connection on which it stands
+-- the client's turn, from its connection
 record ClientSteps (v : World) (p : EndPair) (stage : Stage) (read written : List ℕ) (e : ClientEnd) : Type 0 where
   pub joined : TurnLeads (IsClientTurn (length read)) true v (client_joined v e (written ++ e.out) (length read))
   pub stays : Stays p.client.client.on e.client.on p.client.client.last e.client.last
@@ -375,7 +375,7 @@ client_goes v p c s least stage read written e front t =
           (subst (λ (x : Stage). ClientTurn least v.client x read written e) is turn) all;
     }
 
--- the way up behind a turn of the client
+-- the way up after a turn of the client
 up_more : (v : World) (p : EndPair) (written out : List ℕ) → Stands v p → p.client.client.on ≡ true
     → (client_link v).up ++ (written ++ out) ≡ (p.up ++ written) ++ out
 up_more v p written out s on =

@@ -29,7 +29,7 @@ pub carried : (l : WorldValue) → IsReached l → IsCarried l.world
 carried l h = subst IsCarried (sym h.reached) (run_carried h.events (start h.program l.setup.tools h.window)
     (start_carried h.program l.setup.tools h.window h.is_program h.few))
 
--- ---- one event more
+-- ---- one more event
 
 run_more : (es : List Event) (e : Event) (w : World)
     → run_of (es ++ e ∷ []) w ≡ after e (run_of es w)
@@ -76,7 +76,7 @@ headline l h = let c : IsCarried l.world = carried l h in record {
   server = c.server_fault;
 }
 
--- the same of what is seen as another
+-- likewise for a world that is seen as an equal one
 pub headline_seen : (l m : WorldValue) → l ≡ m → IsReached l → Headline m.world
 headline_seen l m same h = subst (λ (k : WorldValue). Headline k.world) same (headline l h)
 
@@ -102,7 +102,7 @@ pub server_number : (client : ClientEnd) (server : ServerValue) (cs : List Conne
     → IsReached (seen client server cs written) → server.end.server.on ≡ true → 1 ≤ server.end.server.last
 server_number client server cs written h on = (carried (seen client server cs written) h).wired.taken on
 
--- the number of the connection on which a server stands
+-- the number of the server's connection
 abbrev pub number_on : ServerValue → Option ℕ
 number_on server = if server.end.server.on then Some server.end.server.last else None
 
@@ -150,7 +150,7 @@ pub server_quiet : (client : ClientEnd) (server : ServerValue) (cs : List Connec
     → IsReached (seen client server cs written) → server.end.out ≡ []
 server_quiet client server cs written h = (carried (seen client server cs written) h).server_out
 
--- ---- no side meets what is no line
+-- ---- no side meets bytes that are not a line
 
 pub server_reads_lines : (client : ClientEnd) (server : ServerValue) (cs : List Connection) (written : List ℕ)
     → IsReached (seen client server cs written)

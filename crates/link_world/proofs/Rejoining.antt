@@ -1,4 +1,4 @@
--- When what is left can be brought to its end, and where both ends stand behind coming to the next connection.
+-- When what is left can be brought to its end, and the state of both ends after coming to the next connection.
 use Rattle.std.proofs.Common.{◌≡◌, ◌≢◌, ℕ, zero, suc, ◌+◌, ◌*◌, ◌≤◌, ◌<◌, nat_lt, Bool, true, false, not, cond, ◌&&◌, List, [], ◌∷◌, ◌++◌}
 use Rattle.std.proofs.Common.{length, length-append, refl, sym, ◌∙◌, ap, subst, arith, rules, Option, Some, None, is_some, IsTrue}
 use Rattle.std.proofs.lemmas.Bool.{false≢true, ltb-true}
@@ -68,7 +68,7 @@ joins_all l a b c m n is first second third fourth =
     (joins_one event.Connect l b c (event.ClientLeaves ∷ event.ServerLeaves ∷ [])
     (joins_one event.ServerLeaves l a b (event.ClientLeaves ∷ []) first second) third) fourth)
 
--- the first of them happened, and the next wanted memory
+-- the first of them happened, and the next ran out of memory
 pub joins_cut : (l k m : WorldValue) (es more : List Event) → k ≡ with_world l (run_of es l.world) → m ≡ k
     → es ++ more ≡ rejoining l.world → Makes AreFirstOfJoining true None l m
 joins_cut l k m es more leads same parts = record {
@@ -107,7 +107,7 @@ next_at l client server cs written n view h long =
     ∙ ap (λ (k : WorldValue). k.world.client.client.last) view) in
     omega (arith, count)
 
--- ---- the client behind them
+-- ---- the client after them
 
 -- a client that may come to a connection, with what it kept
 record IsFree (c d : Client) : Type 0 where
@@ -279,6 +279,6 @@ plan_few p k short =
 pub left_few : (l : WorldValue) → IsReached l → length (plan_left l.world) ≤ commands_most
 left_few l h = plan_few l.world.client.client.program (length l.world.client.client.table.tally.features) (program_is l h).short
 
--- a call told that what is left can be brought to its end
+-- a call reported that what is left can be brought to its end
 pub may_by : (w : World) (told : Bool) → told ≡ true → (IsTrue told → CanFinish w) × (CanFinish w → IsTrue told) → CanFinish w
 may_by w told is h = h.0 (search rules)

@@ -40,7 +40,7 @@ then_whole A B w es h = go h.parts
 pub first_is : (e f : Event) (w : World) → f ≡ e → can e w ≡ true → after f w ≡ happens e w
 first_is e f w is may = ap (λ (x : Event). after x w) is ∙ done_now e w may
 
--- an event is not possible behind its repetition
+-- an event is not possible after its repetition
 while_over : (e : Event) (w : World) (es : List Event) → AreWhile e false w es
     → can e (run_of es w) ≡ false
 while_over e w [] h = h
@@ -48,7 +48,7 @@ while_over e w (f ∷ fs) h =
     subst (λ (v : World). can e (run_of fs v) ≡ false) (sym (first_is e f w h.0 h.1))
     (while_over e (happens e w) fs h.2)
 
--- what an event keeps where it happens, its repetition keeps
+-- what an event keeps when it happens, its repetition keeps
 while_keeps : (e : Event) (P : World → Type 0)
     → ((v : World) → can e v ≡ true → P v → P (happens e v)) → (w : World) (es : List Event) → AreWhile e false w es
     → P w → P (run_of es w)
@@ -57,7 +57,7 @@ while_keeps e P keeps w (f ∷ fs) h p =
     subst (λ (v : World). P (run_of fs v)) (sym (first_is e f w h.0 h.1))
     (while_keeps e P keeps (happens e w) fs h.2 (keeps w h.1 p))
 
--- what an event keeps where it happens, it keeps
+-- what an event keeps when it happens, it keeps whether it can happen or not
 after_keeps : (e : Event) (P : World → Type 0) → ((v : World) → P v → P (happens e v)) → (w : World) → P w
     → P (after e w)
 after_keeps e P keeps w p = go (can e w)
@@ -102,7 +102,7 @@ work_keeps answer P turns ends w (e ∷ es) h p =
         (after_keeps (event.Machine (answer job (contact_count w.server.server.ledger))) P
         (ends (answer job (contact_count w.server.server.ledger))) w p)
 
--- nothing is left to do behind work
+-- nothing is left to do after work
 work_over : (answer : Job → ℕ → Outcome) (w : World) (es : List Event) → AreWork answer false w es
     → working (ending answer (run_of es w)) (run_of es w) ≡ None
 work_over answer w [] h = h
@@ -165,7 +165,7 @@ no_bytes_down w none =
     ap (λ (bytes : List ℕ). w.client.client.on && (not (is_faulted w.client.client.state) && has_some (length bytes) bytes)) none
     ∙ nothing w.client.client.on (not (is_faulted w.client.client.state))
 
--- behind all that moves up, nothing can
+-- after all bytes that can move up have moved, no more can
 up_over : (w : World) (es : List Event) → IsOne (all_up w) false es → CannotUp (run_of es w)
 up_over w es one = go (can (event.Up (length (server_link w).up)) w) refl
   where
@@ -186,7 +186,7 @@ up_over w es one = go (can (event.Up (length (server_link w).up)) w) refl
         subst (λ (x : List Event). CannotUp (run_of x w))
         (sym (subst (λ (o : Option Event). IsOne o false es) (not_possible moves w never) one)) never
 
--- behind all that moves down, nothing can
+-- after all bytes that can move down have moved, no more can
 down_over : (w : World) (es : List Event) → IsOne (all_down w) false es → CannotDown (run_of es w)
 down_over w es one = go (can (event.Down (length (client_link w).down)) w) refl
   where
@@ -286,7 +286,7 @@ heard_keeps_down w may h =
     blocked false b c on awake is = absurd (false≢true on)
     blocked true false c on awake is = absurd (false≢true awake)
 
--- what is to be done hangs on the server alone
+-- what is to be done depends on the server alone
 idle_by : (o : Option Event) (w v : World) → v.server ≡ w.server → working o w ≡ None → working o v ≡ None
 idle_by None w v same is =
     ap (λ (s : ServerEnd). cond {A = Option Event} (is_none s.server.running && not (is_empty s.server.waiting)) (Some event.ServerTurn) None)
@@ -385,7 +385,7 @@ rests answer w es h =
     behind_both answer (AreWhile event.ClientSends) (Raises answer) w es h
     (rests_raised answer (run_of h.front w) h.back both.1)
 
--- where nothing is due behind a round, the next does nothing
+-- if nothing is due after a round, the next does nothing
 pub round_still : (answer : Job → ℕ → Outcome) (w : World) (es : List Event) → IsRound answer false w es
     → due (run_of es w).client.client ≡ None → IsRound answer false (run_of es w) []
 round_still answer w es h none = go (run_of es w) (rests answer w es h) none
@@ -495,7 +495,7 @@ cons_there e es is = cc
 
 -- ---- what a round begins with
 
--- a round that begins where something is due begins with its being sent, and leaves less to be sent
+-- a round that begins with a command that is due begins by sending it, and leaves less to be sent
 pub round_fewer : (answer : Job → ℕ → Outcome) (w : World) (es : List Event) → IsRound answer false w es
     → is_some (due w.client.client) ≡ true → (happens event.ClientSends w).client.client.state ≢ State.Faulted
     → (es ≢ []) × (unsent (run_of es w) < unsent w)

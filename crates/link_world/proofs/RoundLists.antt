@@ -1,4 +1,4 @@
--- Quiet rounds, one behind another.
+-- Quiet rounds, one after another.
 use Rattle.std.proofs.Common.{◌≡◌, ◌≢◌, inl, inr, ℕ, ◌+◌, ◌<◌, Bool, true, false, List, [], ◌∷◌, ◌++◌, length, refl, sym, ◌∙◌, ap}
 use Rattle.std.proofs.Common.{subst, arith, append-nil, length-append, Option, Some, None, rules}
 use Rattle.std.specs.List.{All}
@@ -16,7 +16,7 @@ use Rattle.link_world.specs.Finishing.{AreTurns}
 use Rattle.link_world.specs.Parts.{is_any, Makes}
 use Rattle.link_world.proofs.EventLists.{run_append, leads_more, none_there}
 
--- so many whole rounds; each of them did something where that must be
+-- n whole rounds; each of them did something if that is required
 pub record SoMany (answer : Job → ℕ → Outcome) (must : Bool) (n : ℕ) (cut : Bool) (w : World) (events : List Event)
     : Type 0
   where
@@ -42,7 +42,7 @@ are_more answer w (x ∷ rounds) r h one = (
 any_is : (es : List Event) → true ≡ is_any es → es ≢ []
 any_is es is none = false≢true (sym (is ∙ ap is_any none))
 
--- the world behind the rounds so far
+-- the world after the rounds so far
 abbrev Behind : (Job → ℕ → Outcome) → Bool → World → List (List Event) → List Event → Type 0
 Behind answer cut w rounds r = IsRound answer cut (run_of (all_of rounds) w) r
 
@@ -79,7 +79,7 @@ round_more answer must n b l k m h one busy = record {
   told_is = tt;
 }
 
--- ---- so many
+-- ---- a number of rounds
 
 pub counted_whole : (answer : Job → ℕ → Outcome) (n : ℕ) (l k : WorldValue)
     → Makes (SoMany answer false n) false None l k → Makes (AreCounted answer n) false None l k

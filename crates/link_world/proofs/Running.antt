@@ -84,7 +84,7 @@ ran_wanting w u v events i e done not_now memory short is h takes may so =
     (subst (λ (n : ℕ). HasRun w (take (i + 1) events) v (done + 0) n (memory + 1)) (nothing_more not_now)
     (more w u v events i e Wanting done not_now memory short is h (takes, may, so)))
 
--- behind the last event
+-- after the last event
 pub ran_all : (w v : World) (events : List Event) (i done not_now memory : ℕ) → length events ≤ i
     → HasRun w (take i events) v done not_now memory → HasRun w events v done not_now memory
 ran_all w v events i done not_now memory all h = subst (λ (es : List Event). HasRun w es v done not_now memory)

@@ -55,7 +55,7 @@ same_behind l m e (Err fault) may leads = record {
   window = ap (λ (k : WorldValue). k.world.client.client.window) leads.1;
 }
 
--- behind any list of events
+-- after any list of events
 pub same_run : (es : List Event) (l m : WorldValue) → m ≡ with_world l (run_of es l.world) → IsSameKind l m
 same_run es l m is = record {
   setup = ap (λ (k : WorldValue). k.setup) is;

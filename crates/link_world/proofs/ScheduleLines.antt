@@ -15,13 +15,13 @@ abbrev below : List Instruction → Option ℕ → List (List ℕ) → Result (L
 below above None lines = Ok (above ++ instructions_on lines)
 below above (Some n) lines = Err (BadLine n)
 
--- where a line is dropped
+-- if a line is dropped
 below_dropped : (above : List Instruction) (line : List ℕ) (lines : List (List ℕ)) (p : Option ℕ) → is_dropped line ≡ true
     → below above p lines ≡ below above p (line ∷ lines)
 below_dropped above line lines None d = rw d refl
 below_dropped above line lines (Some n) d = refl
 
--- where a line asks for something
+-- if a line asks for something
 below_asked : (above : List Instruction) (line : List ℕ) (lines : List (List ℕ)) (i : Instruction) (p : Option ℕ) → is_dropped line ≡ false
     → instruction_on line ≡ Some i → below (above ++ i ∷ []) p lines ≡ below above p (line ∷ lines)
 below_asked above line lines i None d e = rw (d, e) (ap Ok (append_assoc above (i ∷ []) (instructions_on lines)))

@@ -1,4 +1,4 @@
--- What only proofs speak of.
+-- Definitions that only proofs use.
 use Rattle.std.specs.Prelude.{ℕ, ◌+◌, List, [], ◌∷◌, Result, Ok, Err}
 use Rattle.link_world.specs.declared.texts.schedules.Instruction.{Instruction}
 use Rattle.link_world.specs.declared.texts.schedule_faults.ScheduleFault.{ScheduleFault}
@@ -10,7 +10,7 @@ abbrev pub and_behind : Result (List Instruction) ScheduleFault → (List Instru
 and_behind (Ok instructions) f = f instructions
 and_behind (Err fault) f = Err fault
 
--- the instructions behind more lines, of which the first has number n
+-- the instructions followed by those of more lines, of which the first has number n
 abbrev pub read_behind : ℕ → List Instruction → List (List ℕ) → Result (List Instruction) ScheduleFault
 read_behind n above [] = Ok above
 read_behind n above (line ∷ lines) = and_behind (read_line n above line) (λ more. read_behind (n + 1) more lines)

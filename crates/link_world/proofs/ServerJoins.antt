@@ -141,7 +141,7 @@ fed_fine (Some why) rest xs = refl
 
 -- ---- one event
 
--- the server stands on a connection that was made, with nothing to send, and has met no fault
+-- the server is on a connection that was made, with nothing to send, and has met no fault
 pub record IsServing (w : World) : Type 0 where
   pub out : w.server.out ≡ []
   pub fine : w.server.input.fault ≡ None
@@ -246,7 +246,7 @@ next_none answer w idle none =
 
 -- ---- the turn
 
--- besides: the server stays on its connection and meets no fault
+-- in addition: the server stays on its connection and meets no fault
 record Hears (w : World) (read written : List ℕ) (e : ServerEnd) : Type 0 where
   pub fed : World
   pub came : after (event.Up (length read)) w ≡ fed
@@ -265,7 +265,7 @@ record Works (answer : Job → ℕ → Outcome) (w : World) (read written : List
   pub so_far : Worked answer (server_joined w first first.out (length read)) (server_joined w e (written ++ e.out) (length read))
   pub last : e.server.last ≡ w.server.server.last
 
--- and where it writes it has done all
+-- and if it writes it has done all
 record Whole (answer : Job → ℕ → Outcome) (w : World) (read written : List ℕ) (e : ServerEnd) : Type 0 where
   pub works : Works answer w read written e
   pub done : working (ending answer (server_joined w e (written ++ e.out) (length read)))
@@ -413,7 +413,7 @@ serving_whole answer fit least w read written e out fine from to front t =
     (all_worked answer (server_joined w p.works.first p.works.first.out (length read))
     (server_joined w e (written ++ e.out) (length read)) p.works.so_far p.done)
 
--- the server leaves its connection behind events that have led so far
+-- the server leaves its connection after events that have led so far
 pub serving_leaves : (w : World) (events : List Event) (e : ServerEnd) (text : List ℕ) (count : ℕ)
     → run_of events w ≡ server_joined w e text count → e.server.on ≡ true
     → run_of (events ++ event.ServerLeaves ∷ []) w ≡ record (server_joined w e text count) { server = serving_left e }
@@ -421,7 +421,7 @@ serving_leaves w events e text count leads on =
     run_append events (event.ServerLeaves ∷ []) w
     ∙ (ap (after event.ServerLeaves) leads ∙ done_now event.ServerLeaves (server_joined w e text count) on)
 
--- where a server reads, and from then on, as many bytes have come in as were asked for
+-- if a server reads, and from then on, as many bytes have come in as were asked for
 abbrev Enough : Stage → ℕ → List ℕ → Type 0
 Enough Taking least read = Unit {0}
 Enough _ least read = least ≤ length read
@@ -442,7 +442,7 @@ pub serving_enough : (answer : Job → ℕ → Outcome) (least : ℕ) (s : Serve
     → ServerTurn answer least s Writing read written e → least ≤ length read
 serving_enough answer least s read written e t = enough_came answer least s Writing read written e t
 
--- ---- behind a turn from a world to which events have led
+-- ---- after a turn from a world to which events have led
 
 pub reached_serving : (w : World) → IsCarried w → w.server.server.on ≡ true → IsServing w
 reached_serving w c on =
@@ -454,7 +454,7 @@ reached_serving w c on =
       to = omega (arith, made, numbers);
     }
 
--- the events of the whole, and the world behind them
+-- the events of the whole, and the world after them
 record Reaches (v w : World) : Type 0 where
   pub events : List Event
   pub leads : run_of events v ≡ w

@@ -285,7 +285,7 @@ has_come a c answer least come read may same many enough =
     (takes read may, refl) in
     (has c.end read t.0 (omega (arith, many, enough)), t.1)
 
--- bytes have come, and it has gone on from there
+-- bytes have come, and it has continued from there
 comes_on : (a b c d : ServerValue) (answer : Job → ℕ → Outcome) (least bound mid late come : ℕ) (left left_now : Option (List ℕ))
     → may_feed a.end ≡ true → b ≡ with_end a (serving_fed [] a.end) → (s : ServerCame b c left left_now bound mid come) → least ≤ come
     → ServerGoesOn answer Reading mid late c d → (t : ServerTurn answer least a.end Reading s.read [] d.end) × (late + steps_made t ≤ mid)
@@ -355,7 +355,7 @@ reads_in a b c d least bound calls calls_now mid late come left left_now may sam
 
 -- ---- the server works
 
--- a server beside a client that was never there
+-- a server together with a client that was never there
 abbrev pub beside : ServerEnd → World
 beside e = record { client = new_client_end (record { features = []; steps = [] }) [] 1; server = e; links = []; written = [] }
 
@@ -403,7 +403,7 @@ fewer None (Some line) m n h = h
 fewer (Some line) None m n h = h
 fewer (Some line) (Some other) m n h = h
 
--- what is to be done where nothing runs is a turn
+-- what is to be done if nothing runs is a turn
 pub has_turn : (answer : Job → ℕ → Outcome) (s : Server) → has_work s ≡ true
     → None ≡ option_map (λ j. answer j (contact_count s.ledger)) (running_job s) → may_turn s ≡ true
 has_turn answer s work none = go (running_job s) (may_turn s) work none
@@ -435,7 +435,7 @@ most_steps s few = steps_most s.end.server.running (length s.end.server.waiting)
 
 -- ---- the whole turn
 
--- the calls of a port beside those that were counted
+-- the calls of a port in addition to those that were counted
 pub serving_stopped_beside : (more : ℕ) (answer : Job → ℕ → Outcome) (bound calls calls_now least : ℕ) (old new : ServerEnd)
     (left left_now taken taken_now : Option (List ℕ)) (f : PumpFault ServerFault)
     → ServerStoppedWithin answer bound calls calls_now least old new left left_now taken taken_now f
@@ -454,7 +454,7 @@ work_why least bound mid read held left_now e fault.TurnsSpent most r = omega (a
 work_why least bound mid read held left_now e (fault.Core why) most r = absurd r
 work_why least bound mid read held left_now e fault.Memory most r = tt
 
--- it has read, and has worked on from there
+-- it has read, and has continued to work from there
 works_from : (a b c : ServerValue) (answer : Job → ℕ → Outcome) (least bound calls calls_now mid late come : ℕ)
     (left left_now : Option (List ℕ)) (h : ReadIn least calls calls_now a b left left_now bound mid come)
     → ServerGoesOn answer Working mid late b c → (t : ServerTurn answer least a.end Working h.read [] c.end) × (calls_now + late + steps_made t ≤ calls + bound)
@@ -590,7 +590,7 @@ has_served a b c d answer least bound calls calls_now pushes pushes_now mid late
         × (calls_now + late + steps_made t ≤ calls + bound)) (whole gone c.end.out is)
         (writes c.end h.read gone t.0 (idle_turn c.end.server idle) (idle_job c.end.server idle) (omega (arith, is)), t.1))
 
--- what the check needs where the server does one thing
+-- what the check needs if the server does one thing
 pub ruleset working = (works_same, works_turn, works_end, turn_fewer, end_fewer)
 
 pub ruleset worked = (works_none, works_on, most_steps)

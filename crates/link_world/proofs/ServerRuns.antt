@@ -1,4 +1,4 @@
--- A server's turns one behind another: what comes in and goes out in all of them.
+-- A server's turns one after another: what comes in and goes out in all of them.
 use Rattle.std.proofs.Common.{◌≡◌, ℕ, ◌+◌, ◌<◌, ◌≤◌, List, [], ◌++◌, length, refl, sym, subst, arith}
 use Rattle.std.proofs.Common.{rules, ◌↔◌, IsOk, OnOk, IfErr, Result}
 use Rattle.std.proofs.Common.{append_assoc, append-nil, length-append, Option, Some, None, Ok, Err}

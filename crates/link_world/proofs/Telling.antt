@@ -1,4 +1,4 @@
--- What a client has counted and holds only grows in its turns, and its watcher is told of the features by which it grew.
+-- What a client has counted and holds only grows in its turns, and the features by which it grew are reported to its watcher.
 use Rattle.std.proofs.Common.{◌≡◌, ℕ, ◌+◌, ◌<◌, ◌≤◌, List, [], ◌∷◌, ◌++◌, length, drop, refl, sym, ◌∙◌, ap, subst, arith}
 use Rattle.std.proofs.Common.{append_assoc, append-nil, length-append, Option, Some, None, Result, Ok, Err, IfOk, get_or}
 use Rattle.std.specs.Prelude.{IfErr}
@@ -25,7 +25,7 @@ use Rattle.link_world.specs.Watching.{Note, Completed, notes_from, Hears, TellsR
 
 -- ---- a client's turn
 
--- what a client holds behind a turn began with what it held
+-- what a client holds after a turn began with what it held
 abbrev pub ClientGrows : ClientEnd → ClientEnd → Type 0
 ClientGrows old new = Grows old.client.table.tally new.client.table.tally
 
@@ -80,7 +80,7 @@ stopped_grows least bound old new left left_now taken taken_now fault h =
     (grows_trans old.client.table.tally h.last.client.table.tally (end_left h.last).client.table.tally
     (turn_grows least old h.stage h.read h.written h.last h.turn) (left_grows h.last))
 
--- be it whole or stopped
+-- whether whole or stopped
 pub turned_grows : (bound calls calls_now least : ℕ) (old new : ClientEnd) (left left_now taken taken_now : Option (List ℕ))
     (r : Result Moved (PumpFault ClientFault))
     → IfOk r (λ moved. ClientMovedWithin bound calls calls_now least old new left left_now taken taken_now moved)
@@ -91,7 +91,7 @@ turned_grows bound calls calls_now least old new left left_now taken taken_now (
 turned_grows bound calls calls_now least old new left left_now taken taken_now (Err fault) m s =
     stopped_grows least bound old new left left_now taken taken_now fault s.front
 
--- ---- what is told
+-- ---- what is reported
 
 pub hears_none : (told : Option (List Note)) → Hears told told []
 hears_none None = tt
@@ -105,7 +105,7 @@ hears_more None (Some mid) (Some now) first then h g = absurd h
 hears_more (Some before) (Some mid) (Some now) first then h g =
     g ∙ ap (λ (l : List Note). l ++ then) h ∙ append_assoc before first then
 
--- the features up to one of them are told
+-- the features up to one of them are reported
 pub record ToldSoFar (fs : List Feature) (first at : ℕ) (told told_now : Option (List Note)) : Type 0 where
   pub notes : List Note
   pub heard : Hears told told_now notes
@@ -195,7 +195,7 @@ tells_left old mid new told now left h =
       heard = hears_none now;
     }))
 
--- a watcher that says what it was told was told these notes and no others
+-- a watcher that says what it received has received these notes and no others
 pub only_these : (old new : ClientEnd) (more : List Feature) (told now : List Note)
     → new.client.table.tally.features ≡ old.client.table.tally.features ++ more → TellsRun old new (Some told) (Some now)
     → now ≡ told ++ notes_from (length old.client.table.tally.features + 1) more

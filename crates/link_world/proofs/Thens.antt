@@ -1,4 +1,4 @@
--- One part of a schedule behind another.
+-- One part of a schedule after another.
 use Rattle.std.proofs.Common.{◌≡◌, inl, inr, Bool, true, false, ◌||◌, List, [], ◌++◌, refl, sym, ◌∙◌, ap, subst, Option, Some, None, Result}
 use Rattle.std.proofs.Common.{Ok, Err, IfSome, IsErr, rules}
 use Rattle.std.proofs.lemmas.Bool.{false≢true}

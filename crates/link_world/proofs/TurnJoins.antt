@@ -1,4 +1,4 @@
--- Turns as events: the parts of a turn, one behind another.
+-- Turns as events: the parts of a turn, one after another.
 use Rattle.std.proofs.Common.{◌≡◌, inl, inr, ℕ, zero, suc, Bool, true, false, cond, List, [], ◌∷◌, ◌++◌, refl, sym, ◌∙◌, ap, subst}
 use Rattle.std.proofs.Common.{append-nil}
 use Rattle.std.proofs.Common.{Some, None}
@@ -11,7 +11,7 @@ use Rattle.protocol_model.specs.Rounds.{Then, AreWhile, IsOne, possible, AreWork
 use Rattle.link_world.specs.Joined.{IsClientTurn, IsServerTurn, TurnLeads}
 use Rattle.link_world.proofs.EventLists.{run_append, done_now, not_done}
 
--- one event, so many times
+-- one event, repeated n times
 abbrev pub times : ℕ → Event → List Event
 times zero e = []
 times (suc n) e = times n e ++ e ∷ []
@@ -40,7 +40,7 @@ while_ends e w (f ∷ fs) h never = (
       never),
 )
 
--- so many times so far, and a world behind that
+-- n times so far, and a world after that
 pub record SoFar (e : Event) (w v : World) : Type 0 where
   pub count : ℕ
   pub while : AreWhile e true w (times count e)
@@ -95,7 +95,7 @@ pub all_worked : (answer : Job → ℕ → Outcome) (w v : World) → (h : Worke
 all_worked answer w v h is =
     work_ends answer w h.events h.are (subst (λ (u : World). working (ending answer u) u ≡ None) (sym h.leads) is)
 
--- ---- an event where it can happen
+-- ---- an event if it can happen
 
 abbrev one : Event → World → List Event
 one e w = cond (can e w) (e ∷ []) []
@@ -112,7 +112,7 @@ run_one_by e w false is = sym (not_done e w is)
 run_one : (e : Event) (w : World) → run_of (one e w) w ≡ after e w
 run_one e w = run_one_by e w (can e w) refl
 
--- ---- one part behind another
+-- ---- one part after another
 
 both : (A B : Bool → World → List Event → Type 0) (cut : Bool) (w v : World) (front back : List Event)
     → A false w front → run_of front w ≡ v → B cut v back → Then A B cut w (front ++ back)

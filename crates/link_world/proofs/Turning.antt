@@ -1,4 +1,4 @@
--- A quiet round that begins with a command that is due, and such rounds one behind another.
+-- A quiet round that begins with a command that is due, and such rounds one after another.
 use Rattle.std.proofs.Common.{◌≡◌, ◌≢◌, ◌<◌, ℕ, Bool, true, false, List, [], ◌∷◌, refl, sym, ◌∙◌, ap, subst, Option, Some, None, is_some, Result, Ok, Err, OnErr}
 use Rattle.std.proofs.lemmas.Bool.{false≢true}
 use Rattle.protocol_model.specs.Client.{due}
@@ -18,7 +18,7 @@ any_there : (es : List Event) → es ≢ [] → true ≡ is_any es
 any_there [] some = absurd (some refl)
 any_there (e ∷ es) some = refl
 
--- a round that was made where something was due did something
+-- a round that was made when something was due did something
 pub turn_made : (answer : Job → ℕ → Outcome) (told : Option Bool) (l m : WorldValue) → IsReached l
     → is_some (due l.world.client.client) ≡ true → Makes (IsRound answer) false told l m
     → Makes (IsRound answer) false (Some true) l m
@@ -41,7 +41,7 @@ turn_fewer answer told l m reached some made =
     (round_fewer answer l.world h.events h.made some
     (never_faulted_behind l event.ClientSends reached some)).1
 
--- where nothing is due behind it, the next does nothing
+-- if nothing is due after it, the next does nothing
 pub turn_still : (answer : Job → ℕ → Outcome) (told : Option Bool) (l m : WorldValue)
     → Makes (IsRound answer) false told l m → due m.world.client.client ≡ None → IsRound answer false m.world []
 turn_still answer told l m h none =
@@ -49,7 +49,7 @@ turn_still answer told l m h none =
     subst (λ (w : World). IsRound answer false w []) (sym same)
     (round_still answer l.world h.events h.made (subst (λ (w : World). due w.client.client ≡ None) same none))
 
--- ---- one behind another
+-- ---- one after another
 
 pub none_due : {A : Type 0} (o : Option A) → is_some o ≡ false → o ≡ None
 none_due None is = refl
@@ -63,7 +63,7 @@ pub still_as : (now first : Job → ℕ → Outcome) (w : World) → now ≡ fir
     → IsRound first false w []
 still_as now first w same h = subst (λ (a : Job → ℕ → Outcome). IsRound a false w []) same h
 
--- what holds is told of an error
+-- what holds is stated of an error
 pub on_err : {A E : Type 0} (r : Result A E) (P : Type 0) → P → OnErr r P
 on_err (Ok a) P p = tt
 on_err (Err fault) P p = p

@@ -44,7 +44,7 @@ quietly w v (e ∷ es) (Happened ∷ xs) q h =
 quietly w v (e ∷ es) (Refused ∷ xs) q h = quietly w v es xs q.1 h.1
 quietly w v (e ∷ es) (Wanting ∷ xs) q h = quietly w v es xs q.1 h.2
 
--- where memory sufficed, all events lead there
+-- if memory sufficed, all events lead there
 all_lead : (w v : World) (events : List Event) (xs : List Answer) → wanting xs ≡ 0 → Follows w events xs v
     → v ≡ run_of events w
 all_lead w v [] [] none h = h

@@ -88,7 +88,7 @@ tallied_few ws (Effect.Count k given) y = counted_few ws k given y.todo y
 
 -- ---- reading
 
--- a table that a reply leaves has no more of them, where it leaves one
+-- a table that a reply leaves has no more of them, if it leaves one
 abbrev FewIn : Table → Result Table Cause → Type 0
 FewIn b (Ok d) = length d.tally.unsent ≤ length b.tally.unsent
 FewIn b (Err cause) = Unit {0}

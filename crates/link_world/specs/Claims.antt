@@ -29,12 +29,12 @@ pub record Headline (w : World) : Type 0 where
   -- the server has met no framing fault
   pub server : w.server.input.fault ≡ None
 
--- a program and a setup are handed back for the window's sake
+-- a program and a setup are handed back because of the window
 abbrev pub HandsBack : Meaning → SetupValue → NewFault → Type 0
 HandsBack program setup (fault.BadWindow given_program given_setup) = (given_program ≡ program) × (given_setup ≡ setup)
 HandsBack program setup fault.Memory = ⊥
 
--- it is for want of memory that there is no world
+-- there is no world if memory ran out
 abbrev pub IsWant : NewFault → Type 0
 IsWant (fault.BadWindow given_program given_setup) = ⊥
 IsWant fault.Memory = Unit {0}
@@ -47,7 +47,7 @@ IsNew w = w ≡ start w.client.client.program w.server.server.rack w.client.clie
 abbrev pub first_plan : World → List Planned
 first_plan w = plan w.client.client.program 0 Start.NewConnection
 
--- the events that may want memory: all but to take a connection, to leave one, and to begin again
+-- the events that may need memory: all except taking a connection, leaving one, and beginning again
 abbrev pub takes_memory : Event → Bool
 takes_memory (Event.Accept n) = false
 takes_memory Event.ClientLeaves = false
@@ -56,19 +56,20 @@ takes_memory (Event.ClientRestart k) = false
 takes_memory Event.ServerRestart = false
 takes_memory _ = true
 
--- the answer to an event: it happens only if it can, is refused exactly if it cannot, and memory is missing only if it can and takes some
+-- the answer to an event: it happens only if it can, is refused exactly if it cannot, and memory runs out only if it can happen and needs
+-- some
 abbrev pub IsAnswer : Event → World → Result (Unit {0}) WorldFault → Type 0
 IsAnswer e w (Ok u) = can e w ≡ true
 IsAnswer e w (Err world_fault.NotNow) = can e w ≡ false
 IsAnswer e w (Err world_fault.Memory) = (can e w ≡ true) × (takes_memory e ≡ true)
 
--- why an event of the client does not happen, by why its call is refused
+-- why an event of the client does not happen, from the reason its call is refused
 abbrev pub refused_by : ClientFault → WorldFault
 refused_by client_fault.NotNow = world_fault.NotNow
 refused_by (client_fault.Faulted cause) = world_fault.NotNow
 refused_by client_fault.Memory = world_fault.Memory
 
--- the same of the server
+-- likewise for the server
 abbrev pub refused_by_server : ServerFault → WorldFault
 refused_by_server server_fault.Memory = world_fault.Memory
 refused_by_server _ = world_fault.NotNow

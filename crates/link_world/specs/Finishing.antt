@@ -20,11 +20,11 @@ pub record IsSameKind (old new : WorldValue) : Type 0 where
   pub program : new.world.client.client.program ≡ old.world.client.client.program
   pub window : new.world.client.client.window ≡ old.world.client.client.window
 
--- no plan has more commands
+-- no plan has more commands than this
 abbrev pub commands_most : ℕ
 commands_most = 30000
 
--- so many quiet rounds that do something, behind which a round does nothing; where they are cut, what there was of the next
+-- n quiet rounds that each do something, followed by a round that does nothing; if they are cut, the part of the next round that happened
 pub record AreTurns (answer : Job → ℕ → Outcome) (turns : ℕ) (cut : Bool) (w : World) (events : List Event) : Type 0
   where
     pub rounds : List (List Event)
@@ -33,18 +33,18 @@ pub record AreTurns (answer : Job → ℕ → Outcome) (turns : ℕ) (cut : Bool
     pub end : (AreAllBusy answer w rounds × (length rounds ≡ turns) × (rest ≡ []))
         ⊎ ((cut ≡ true) × AreBusy answer w rounds × IsRound answer true (run_of (all_of rounds) w) rest)
 
--- both ends came to the next connection, and so many turns led from one world to another
+-- both ends came to the next connection, and n turns led from one world to another
 pub record Finishes (answer : Job → ℕ → Outcome) (turns : ℕ) (w v : World) : Type 0 where
   pub events : List Event
   pub made : AreTurns answer turns false (rejoined w) events
   pub leads : v ≡ run_of (rejoining w ++ events) w
 
--- events are the first of those by which both ends come to the next connection
+-- the events are a prefix of those by which both ends come to the next connection
 pub record AreFirstOfJoining (cut : Bool) (w : World) (events : List Event) : Type 0 where
   pub more : List Event
   pub parts : events ++ more ≡ rejoining w
 
--- the first of such events led from one world to another, and there they ended
+-- a prefix of such events led from one world to another, and there they ended
 pub record Stops (answer : Job → ℕ → Outcome) (w v : World) : Type 0 where
   pub joins : List Event
   pub events : List Event
@@ -52,23 +52,23 @@ pub record Stops (answer : Job → ℕ → Outcome) (w v : World) : Type 0 where
       ⊎ ((joins ≡ rejoining w) × AreTurns answer 0 true (rejoined w) events)
   pub leads : v ≡ run_of (joins ++ events) w
 
--- what is left of a program was brought to its end, in so many turns, at most as many as commands are left; where the rack has the tools, the
--- targets lie in the volume and the machine does what it is asked, all of it was measured
+-- the rest of a program was brought to its end in n turns, at most as many as commands are left; if the rack has the tools, the targets lie
+-- in the volume and the machine does what it is asked, all of it was measured
 pub record IsEnd (answer : Job → ℕ → Outcome) (turns : ℕ) (w v : World) : Type 0 where
   pub finishes : Finishes answer turns w v
   pub few : turns ≤ length (plan_left w)
   pub done : CanMeasure answer w → v.client.client.state ≡ State.Done
   pub measured : CanMeasure answer w → HasMeasured answer w v
 
--- the answer to a call that brings what is left to its end, and what it leaves: it is refused exactly if nothing can be finished, and changes
--- nothing then; where memory is missing, the first of its events have happened
+-- the answer to a call that brings the rest to its end, and what it leaves: it is refused exactly if nothing can be finished, and then
+-- changes nothing; if memory runs out, a prefix of its events has happened
 abbrev pub IsFinish : (Job → ℕ → Outcome) → WorldValue → Result ℕ WorldFault → WorldValue → Type 0
 IsFinish answer l (Ok turns) m = CanFinish l.world × IsEnd answer turns l.world m.world
 IsFinish answer l (Err fault.NotNow) m = ¬ (CanFinish l.world) × (m ≡ l)
 IsFinish answer l (Err fault.Memory) m = CanFinish l.world × Stops answer l.world m.world
 
--- a run of a program on a server with this rack, neither of which was ever on a connection: the world that it ends in, what is told of it,
--- and what holds of it
+-- a run of a program on a server with this rack, neither of which was ever on a connection: the world that it ends in, what is reported of
+-- it, and what holds of it
 pub record IsQuietRun (answer : Job → ℕ → Outcome) (p : Meaning) (rack : List (List ℕ)) (window : ℕ) (quiet : Quiet)
     : Type 0
   where

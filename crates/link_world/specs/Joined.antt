@@ -16,15 +16,15 @@ use Rattle.link_world.specs.declared.connections.pumps.PumpFault.{PumpFault}
 use Rattle.link_world.specs.Pumps.{ClientMoved, ClientStopped}
 use Rattle.link_world.specs.ServerPumps.{ServerMoved, ServerStopped}
 
--- a client's turn as events: it sends while it can, so many bytes come down, where any do, and it reads while it can; one that is cut is a
--- front of that
+-- a client's turn as events: it sends while it can, n bytes come down (if n is not 0), and it reads while it can; a turn that is cut is a
+-- prefix of that
 abbrev pub IsClientTurn : ℕ → Bool → World → List Event → Type 0
 IsClientTurn count =
     Then (AreWhile event.ClientSends) (
     Then (λ cut w. IsOne (possible (event.Down count) w) cut) (AreWhile event.ClientReads))
 
--- a server's turn as events: so many bytes come up, where any do, it reads while it can, and it does all that it has to do, as its machine
--- answers; one that is cut is a front of that
+-- a server's turn as events: n bytes come up (if n is not 0), it reads while it can, and it does all that it has to do, as its machine
+-- answers; a turn that is cut is a prefix of that
 abbrev pub IsServerTurn : (Job → ℕ → Outcome) → ℕ → Bool → World → List Event → Type 0
 IsServerTurn answer count =
     Then (λ cut w. IsOne (possible (event.Up count) w) cut) (
@@ -36,8 +36,7 @@ pub record TurnLeads (is : Bool → World → List Event → Type 0) (cut : Bool
   pub made : is cut w events
   pub leads : run_of events w ≡ v
 
--- a world whose client is as this end, but that it has nothing to send: this text has joined its connection, and so many bytes have come
--- down
+-- a world whose client is this end, except that it has nothing to send: this text has joined its connection, and n bytes have come down
 abbrev pub client_joined : World → ClientEnd → List ℕ → ℕ → World
 client_joined w e text count = record {
   client = record e { out = [] };
@@ -47,11 +46,11 @@ client_joined w e text count = record {
   written = w.written ++ text;
 }
 
--- a machine's answers fit the jobs, as every machine owes them
+-- a machine's answers fit the jobs, as every machine must ensure
 abbrev pub AreFit : (Job → ℕ → Outcome) → Type 0
 AreFit answer = (job : Job) (n : ℕ) → fits_job job (answer job n) ≡ true
 
--- a world whose server is as this end, but that it has nothing to send: this text has joined its connection, and so many bytes have come up
+-- a world whose server is this end, except that it has nothing to send: this text has joined its connection, and n bytes have come up
 abbrev pub server_joined : World → ServerEnd → List ℕ → ℕ → World
 server_joined w e text count = record {
   client = w.client;
@@ -74,16 +73,16 @@ pub record EndPair : Type 0 where
 abbrev pub pumped_of : World → EndPair
 pumped_of w = record { client = w.client; server = w.server; up = (client_link w).up; down = (client_link w).down }
 
--- behind a call of the client's pump: the bytes that it took are gone from the way down, and those that it wrote have joined the way up
+-- after a call of the client's pump: the bytes that it took are gone from the way down, and those that it wrote have joined the way up
 abbrev pub with_client : EndPair → ClientEnd → (read written : List ℕ) → EndPair
 with_client p e read written = record { client = e; server = p.server; up = p.up ++ written; down = drop (length read) p.down }
 
--- the same of the server's pump
+-- likewise for the server's pump
 abbrev pub with_server : EndPair → ServerEnd → (read written : List ℕ) → EndPair
 with_server p e read written = record { client = p.client; server = e; up = drop (length read) p.up; down = p.down ++ written }
 
--- calls of both pumps, one after another in any order, each whole or stopped, with whatever bounds and over whatever ports, where the bytes
--- that a call took are the first of those on their way to its side
+-- calls of both pumps, one after another in any order, each whole or stopped, with any bounds and over any ports, where the bytes that a
+-- call took are the first of those on their way to its side
 pub data PumpCalls (answer : Job → ℕ → Outcome) (start : EndPair) : EndPair → Type 0 where
   no_calls : PumpCalls answer start start
   client_moves : (p : EndPair) (e : ClientEnd) (least : ℕ) (left left_now taken taken_now : Option (List ℕ)) (moved : Moved)
@@ -103,7 +102,7 @@ pub data PumpCalls (answer : Job → ℕ → Outcome) (start : EndPair) : EndPai
       → (h : ServerStopped answer least bound p.server e left left_now taken taken_now fault) → take (length h.read) p.up ≡ h.read
       → PumpCalls answer start (with_server p e h.read h.written)
 
--- the bytes on their way from a side are those that wait on the connection; where that side has left, they are the first of these
+-- the bytes on their way from a side are those that wait on the connection; if that side has left, they are a prefix of these
 abbrev pub AreOnWay : (on : Bool) → (bytes waiting : List ℕ) → Type 0
 AreOnWay true bytes waiting = waiting ≡ bytes
 AreOnWay false bytes waiting = (more : List ℕ) × (waiting ≡ bytes ++ more)
@@ -115,7 +114,7 @@ pub record IsWorldOf (w : World) (p : EndPair) : Type 0 where
   pub up : AreOnWay p.client.client.on p.up (client_link w).up
   pub down : AreOnWay p.server.server.on p.down (client_link w).down
 
--- a call as events: the whole turn of a side, or a front of one and its leaving; a call of a side that has left is none
+-- a call as events: the whole turn of a side, or a prefix of one and its leaving; a call of a side that has left is no event
 pub data IsCall (answer : Job → ℕ → Outcome) (w : World) : List Event → Type 0 where
   no_event : IsCall answer w []
   client_turn : (count : ℕ) (events : List Event) → IsClientTurn count false w events → IsCall answer w events
@@ -125,7 +124,7 @@ pub data IsCall (answer : Job → ℕ → Outcome) (w : World) : List Event → 
   server_left : (count : ℕ) (events : List Event) → IsServerTurn answer count true w events
       → IsCall answer w (events ++ event.ServerLeaves ∷ [])
 
--- calls as events, one behind another
+-- calls as events, one after another
 pub data AreCalls (answer : Job → ℕ → Outcome) (w : World) : List Event → Type 0 where
   no_call : AreCalls answer w []
   one_more : (events more : List Event) → AreCalls answer w events → IsCall answer (run_of events w) more
@@ -139,8 +138,8 @@ pub record IsOneWorld (answer : Job → ℕ → Outcome) (w : World) (p : EndPai
 
 -- ---- against any peer
 
--- calls of a client, one after another: those of its pump, each whole or stopped, with whatever bounds and over whatever ports, and between
--- them its own, as one that comes to the next connection
+-- calls of a client, one after another: those of its pump, each whole or stopped, with any bounds and over any ports, and between them its
+-- own calls, such as the one that comes to the next connection
 pub data ClientCalls (start : ClientEnd) : ClientEnd → Type 0 where
   not_called : ClientCalls start start
   moves : (e f : ClientEnd) (least : ℕ) (left left_now taken taken_now : Option (List ℕ)) (moved : Moved) → ClientCalls start e

@@ -15,27 +15,27 @@ use Rattle.link_world.specs.declared.connections.links.LoopFault.TheVariants as 
 use Rattle.link_world.specs.Pumps.{ClientMoved, ClientStopped, HasRefused, IsLost}
 use Rattle.link_world.specs.ServerPumps.{ServerMoved, ServerStopped, IsServerRefusal}
 
--- how many turns a run may have, and how many steps each of them
+-- how many turns a run may have, and how many steps each of them may make
 abbrev pub turns_most : ℕ
 turns_most = 1000000
 
 abbrev pub steps_most : ℕ
 steps_most = 1000000
 
--- how many calls of ports that is together
+-- how many calls of ports that makes in total
 abbrev pub calls_most : ℕ
 calls_most = turns_most * steps_most
 
 -- ---- the client's side
 
--- a client whose run is over: its plan is counted, or nothing is open behind a failure or an abort
+-- a client whose run is over: its plan is counted, or nothing is open after a failure or an abort
 abbrev pub is_over : State → Bool
 is_over State.Done = true
 is_over State.Halted = true
 is_over _ = false
 
--- so many turns of a client, one behind another over the same ports, each made while its run was not over and asking for one byte or more;
--- with all the bytes that came in and all that went out, in order
+-- n turns of a client, one after another over the same ports, each made while its run was not over and asking for at least one byte; with
+-- all the bytes that came in and all that went out, in order
 pub data ClientRun (old : ClientEnd) (left taken : Option (List ℕ))
     : ℕ → List ℕ → List ℕ → ClientEnd → Option (List ℕ) → Option (List ℕ) → Type 0 where
   starts : ClientRun old left taken 0 [] [] old left taken
@@ -44,7 +44,7 @@ pub data ClientRun (old : ClientEnd) (left taken : Option (List ℕ))
       → (turn : ClientMoved 1 mid new left_mid left_now taken_mid taken_now moved)
       → ClientRun old left taken (turns + 1) (read ++ turn.read) (written ++ turn.written) new left_now taken_now
 
--- turns of a client, as many as may be at most: the source has lost the bytes that came in and no others, and the sink has taken those that
+-- at most the allowed number of turns of a client: the source has lost exactly the bytes that came in, and the sink has taken those that
 -- went out
 pub record ClientRan (old new : ClientEnd) (left left_now taken taken_now : Option (List ℕ)) : Type 0 where
   pub turns : ℕ
@@ -55,8 +55,8 @@ pub record ClientRan (old new : ClientEnd) (left left_now taken taken_now : Opti
   pub consumed : Consumes left left_now read
   pub appended : Appends taken taken_now written
 
--- how turns of a client end in a fault: one more turn stops, or as many were made as may be and the client leaves; with all bytes that came
--- in and went out, those that were given up, and the client's end before it left
+-- how turns of a client end in a fault: one more turn stops, or the allowed number were made and the client leaves; with all bytes that
+-- came in and went out, those that were discarded, and the client's end before it left
 pub data ClientEnds (old new : ClientEnd) (left left_now taken taken_now : Option (List ℕ))
     : PumpFault ClientFault → List ℕ → List ℕ → List ℕ → ClientEnd → Type 0 where
   stops : (turns : ℕ) (read written : List ℕ) (mid : ClientEnd) (left_mid taken_mid : Option (List ℕ)) (fault : PumpFault ClientFault)
@@ -67,8 +67,8 @@ pub data ClientEnds (old new : ClientEnd) (left left_now taken taken_now : Optio
       → is_over last.client.state ≡ false → new ≡ end_left last
       → ClientEnds old new left left_now taken taken_now fault.TurnsSpent read written [] last
 
--- why a client's run has stopped, by the counts of all bytes that came in, that went out and that it held unread at first, by what the
--- source has left, and by the client's end before it left
+-- why a client's run has stopped, from the counts of all bytes that came in, that went out and that it held unread at first, from what the
+-- source has left, and from the client's end before it left
 abbrev pub ClientRunWhy : (read written held : ℕ) → Option (List ℕ) → ClientEnd → PumpFault ClientFault → Type 0
 ClientRunWhy read written held left_now last fault.ReadFailed = ⊤
 ClientRunWhy read written held left_now last fault.WriteFailed = ⊤
@@ -77,7 +77,7 @@ ClientRunWhy read written held left_now last fault.TurnsSpent = 1000000 ≤ writ
 ClientRunWhy read written held left_now last (fault.Core why) = HasRefused last (fault.Core why)
 ClientRunWhy read written held left_now last fault.Memory = ⊤
 
--- a client's run that has stopped in a fault: the client has left its connection, and all bytes are told as of one turn
+-- a client's run that has stopped in a fault: the client has left its connection, and all bytes are reported as those of one turn
 pub record ClientRunStopped (old new : ClientEnd) (left left_now taken taken_now : Option (List ℕ)) (fault : PumpFault ClientFault) : Type 0
   where
     pub read : List ℕ
@@ -93,7 +93,7 @@ pub record ClientRunStopped (old new : ClientEnd) (left left_now taken taken_now
 
 -- ---- the server's side
 
--- the same of a server and its machine: so many turns, each asking for one byte or more
+-- likewise for a server and its machine: n turns, each asking for at least one byte
 pub data ServerRun (answer : Job → ℕ → Outcome) (old : ServerEnd) (left taken : Option (List ℕ))
     : ℕ → List ℕ → List ℕ → ServerEnd → Option (List ℕ) → Option (List ℕ) → Type 0 where
   starts : ServerRun answer old left taken 0 [] [] old left taken
@@ -102,7 +102,7 @@ pub data ServerRun (answer : Job → ℕ → Outcome) (old : ServerEnd) (left ta
       → (turn : ServerMoved answer 1 mid new left_mid left_now taken_mid taken_now moved)
       → ServerRun answer old left taken (turns + 1) (read ++ turn.read) (written ++ turn.written) new left_now taken_now
 
--- how they end: one more turn stops, or as many were made as may be and the server leaves
+-- how they end: one more turn stops, or the allowed number were made and the server leaves
 pub data ServerEnds (answer : Job → ℕ → Outcome) (old new : ServerEnd) (left left_now taken taken_now : Option (List ℕ))
     : PumpFault ServerFault → List ℕ → List ℕ → List ℕ → ServerEnd → Type 0 where
   stops : (turns : ℕ) (read written : List ℕ) (mid : ServerEnd) (left_mid taken_mid : Option (List ℕ)) (fault : PumpFault ServerFault)
@@ -121,7 +121,7 @@ ServerRunWhy read written held left_now last fault.TurnsSpent = 1000000 ≤ writ
 ServerRunWhy read written held left_now last (fault.Core why) = IsServerRefusal last why
 ServerRunWhy read written held left_now last fault.Memory = ⊤
 
--- a server's run that has stopped: the server has left its connection, and all bytes are told as of one turn
+-- a server's run that has stopped: the server has left its connection, and all bytes are reported as those of one turn
 pub record ServerRunStopped (answer : Job → ℕ → Outcome) (old new : ServerEnd) (left left_now taken taken_now : Option (List ℕ))
     (fault : PumpFault ServerFault) : Type 0
   where
@@ -138,7 +138,7 @@ pub record ServerRunStopped (answer : Job → ℕ → Outcome) (old new : Server
 
 -- ---- both sides in turn
 
--- an end, and what its two ports tell: the bytes that are left in its source, and those that its sink has taken
+-- an end, and what its two ports show: the bytes that are left in its source, and those that its sink has taken
 pub record ClientSide : Type 0 where
   pub end : ClientEnd
   pub left : Option (List ℕ)
@@ -159,15 +159,15 @@ server_side e left taken = record { end = e; left = left; taken = taken }
 abbrev pub are_still : Moved → Moved → Bool
 are_still c s = (c.read == 0 && c.written == 0) && (s.read == 0 && s.written == 0)
 
--- a turn of the client and then one of the server: the client asks for so many bytes, the server for those that the client has just written
+-- a turn of the client and then one of the server: the client asks for n bytes, the server for those that the client has just written
 pub record PairMoved (answer : Job → ℕ → Outcome) (down : ℕ) (c c_now : ClientSide) (s s_now : ServerSide) (by_client by_server : Moved)
     : Type 0
   where
     pub client : ClientMoved down c.end c_now.end c.left c_now.left c.taken c_now.taken by_client
     pub server : ServerMoved answer by_client.written s.end s_now.end s.left s_now.left s.taken s_now.taken by_server
 
--- so many such pairs, in each of which a byte came in or went out; the client asks each time for what the server wrote in its last turn, at
--- first for nothing
+-- n such pairs, in each of which a byte came in or went out; the client asks each time for what the server wrote in its last turn, at first
+-- for nothing
 pub data LoopRun (answer : Job → ℕ → Outcome) (c : ClientSide) (s : ServerSide) : ℕ → ℕ → ClientSide → ServerSide → Type 0 where
   starts : LoopRun answer c s 0 0 c s
   goes : (pairs down : ℕ) (c_mid c_now : ClientSide) (s_mid s_now : ServerSide) (by_client by_server : Moved)
@@ -204,7 +204,7 @@ pub data PairStopped (answer : Job → ℕ → Outcome) (down : ℕ) (c c_now : 
       → ServerStopped answer moved.written steps_most s.end s_now.end s.left s_now.left s.taken s_now.taken fault
       → c_now ≡ client_leaves c_then → PairStopped answer down c c_now s s_now (loop_fault.Server fault)
 
--- pairs that end in a fault: one more pair stops, or as many were made as may be and both sides leave
+-- pairs that end in a fault: one more pair stops, or the allowed number were made and both sides leave
 pub data LoopStopped (answer : Job → ℕ → Outcome) (c c_now : ClientSide) (s s_now : ServerSide) : LoopFault → Type 0 where
   stops : (pairs down : ℕ) (c_mid : ClientSide) (s_mid : ServerSide) (fault : LoopFault) → LoopRun answer c s pairs down c_mid s_mid
       → pairs < turns_most → PairStopped answer down c_mid c_now s_mid s_now fault → LoopStopped answer c c_now s s_now fault

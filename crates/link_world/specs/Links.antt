@@ -14,34 +14,34 @@ use Rattle.link_world.specs.declared.worlds.connection.Connection.{Connection}
 abbrev pub link_of_connection : Connection → Link
 link_of_connection c = record { up = c.up.waiting; down = c.down.waiting }
 
--- a server that stands on a connection stands on one of these
+-- a server that is on a connection is on one of these
 abbrev pub StandsOn : ServerEnd → List Connection → Type 0
 StandsOn e cs = (e.server.on ≡ true → 1 ≤ e.server.last) × (e.server.last ≤ length cs)
 
--- the bytes of a connection, and what a side wrote behind them
+-- the bytes of a connection, followed by what a side wrote
 abbrev pub with_up : Connection → List ℕ → Link
 with_up c text = record { up = c.up.waiting ++ text; down = c.down.waiting }
 
 abbrev pub with_down : Connection → List ℕ → Link
 with_down c text = record { up = c.up.waiting; down = c.down.waiting ++ text }
 
--- the same without the first bytes of one way
+-- the same connection without the first bytes of one way
 abbrev pub fewer_up : ℕ → Connection → Link
 fewer_up count c = record { up = drop count c.up.waiting; down = c.down.waiting }
 
 abbrev pub fewer_down : ℕ → Connection → Link
 fewer_down count c = record { up = c.up.waiting; down = drop count c.down.waiting }
 
--- the same of all connections, in order
+-- likewise for all connections, in order
 abbrev pub links_of : List Connection → List Link
 links_of [] = []
 links_of (c ∷ cs) = link_of_connection c ∷ links_of cs
 
--- a client's end with no bytes that are to be sent
+-- a client's end with no bytes to send
 abbrev pub quiet_client : ClientEnd → ClientEnd
 quiet_client e = record e { out = [] }
 
--- a server's end with no bytes that are to be sent
+-- a server's end with no bytes to send
 abbrev pub quiet_server : ServerEnd → ServerEnd
 quiet_server e = record e { out = [] }
 

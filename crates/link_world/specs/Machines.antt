@@ -9,7 +9,7 @@ use Rattle.protocol_model.specs.declared.machine.Job.TheVariants as job
 use Rattle.protocol_model.specs.declared.machine.Outcome.{Outcome}
 use Rattle.protocol_model.specs.declared.machine.Outcome.TheVariants as outcome
 
--- an outcome fits a job: a touch is touched within the machine's volume, or missed; all else is done; each may end in a fault
+-- an outcome fits a job: a touch is touched within the machine's volume, or missed; everything else is done; each may end in a fault
 abbrev pub fits_job : Job → Outcome → Bool
 fits_job job outcome.Fault = true
 fits_job (job.Touch p d) (outcome.Touched at) = in_volume at
@@ -18,11 +18,11 @@ fits_job (job.Touch p d) outcome.Done = false
 fits_job job outcome.Done = true
 fits_job job o = false
 
--- a touch within the volume meets a surface, another meets none
+-- a touch within the volume meets a surface; any other meets none
 abbrev pub met : Point → Outcome
 met p = if in_volume p then outcome.Touched p else outcome.Missed
 
--- how the simulated machine ends a job: a touch meets a surface beside the point, shifted by the shift of its number
+-- how the simulated machine ends a job: a touch meets a surface next to the point, shifted by the shift of its number
 abbrev pub simulated : List Point → Job → ℕ → Outcome
 simulated shifts (job.Touch p d) n = met (point_sum p (shift_at shifts n))
 simulated shifts j n = outcome.Done

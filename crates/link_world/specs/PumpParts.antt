@@ -1,4 +1,4 @@
--- What calls say of the parts of a turn (this profile). A budget is how many steps may still be made.
+-- What calls state of the parts of a turn (this profile). A budget is how many steps may still be made.
 use Rattle.std.specs.Prelude.{◌≡◌, ℕ, ◌+◌, ◌*◌, ◌<◌, ◌≤◌, ⊤, Option, List, [], ◌++◌, length, take}
 use Rattle.std.specs.Io.KnownBytes.{Appends, Consumes, IsAtEnd}
 use Rattle.protocol_model.specs.Ends.{ClientEnd, end_fed}
@@ -7,13 +7,13 @@ use Rattle.link_world.specs.declared.connections.pumps.PumpFault.{PumpFault}
 use Rattle.link_world.specs.declared.connections.pumps.PumpFault.TheVariants as fault
 use Rattle.link_world.specs.Pumps.{Stage, Writing, Reading, ClientTurn, lines_read, HasRefused, IsLost}
 
--- why no more was pushed than so many bytes: the budget is spent, of which each took a step at most
+-- why no more than n bytes were pushed: the budget is spent, and each byte took at most one step of it
 abbrev pub IsPushFault : {F : Type 0} → (budget count : ℕ) → PumpFault F → Type 0
 IsPushFault budget count fault.WriteFailed = ⊤
 IsPushFault budget count fault.TurnsSpent = budget ≤ count
 IsPushFault budget count _ = ⊥
 
--- a front of bytes was pushed, and then no more
+-- a prefix of the bytes was pushed, and then no more
 pub record Pushed {F : Type 0} (bytes : List ℕ) (taken taken_now : Option (List ℕ)) (budget : ℕ) (fault : PumpFault F) : Type 0 where
   pub count : ℕ
   pub within : count ≤ length bytes
@@ -27,18 +27,18 @@ IsPullFault budget left_now fault.TurnsSpent = budget ≡ 0
 IsPullFault budget left_now fault.Ended = IsAtEnd left_now
 IsPullFault budget left_now _ = ⊥
 
--- a stage of a client's turn goes on from one end to another, whatever the turn was before
+-- a stage of a client's turn continues from one end to another, whatever the turn was before
 abbrev pub GoesOn : Stage → List ℕ → List ℕ → ClientEnd → ClientEnd → Type 0
 GoesOn stage read written old new = (least : ℕ) (start : ClientEnd)
     → ClientTurn least start stage read written old → ClientTurn least start stage read written new
 
--- a client's turn that reads goes on, and each line has taken a step of the budget
+-- a client's turn that reads continues, and each line has taken a step of the budget
 abbrev pub ReadsOn : (budget budget_now : ℕ) → ClientEnd → ClientEnd → Type 0
 ReadsOn budget budget_now old new = (least : ℕ) (start : ClientEnd) (read written : List ℕ)
     → (turn : ClientTurn least start Reading read written old)
     → (further : ClientTurn least start Reading read written new) × (budget_now + lines_read further ≤ budget + lines_read turn)
 
--- a client has sent all that was due, and all that it had written went out, each step one byte or more
+-- a client has sent all that was due, and all that it had written went out, at least one byte a step
 pub record AllOut (old new : ClientEnd) (taken taken_now : Option (List ℕ)) (budget budget_now count : ℕ) : Type 0 where
   pub written : List ℕ
   pub turn : (least : ℕ) → ClientTurn least old Writing [] written new
@@ -48,7 +48,7 @@ pub record AllOut (old new : ClientEnd) (taken taken_now : Option (List ℕ)) (b
   pub counted : budget ≤ budget_now + length written
   pub count_is : count ≡ length written
 
--- a client was fed what was pulled, each step gave one byte or more
+-- a client was fed what was pulled; each step gave at least one byte
 pub record Came (old new : ClientEnd) (left left_now : Option (List ℕ)) (budget budget_now count : ℕ) : Type 0 where
   pub read : List ℕ
   pub fed : new ≡ end_fed read old
@@ -56,7 +56,7 @@ pub record Came (old new : ClientEnd) (left left_now : Option (List ℕ)) (budge
   pub counted : budget ≤ budget_now + length read
   pub count_is : count ≡ length read
 
--- why no more than so many bytes have come
+-- why no more than n bytes have come
 abbrev pub IsTakeFault : {F : Type 0} → (least budget count : ℕ) → Option (List ℕ) → PumpFault F → Type 0
 IsTakeFault least budget count left_now fault.ReadFailed = ⊤
 IsTakeFault least budget count left_now fault.Ended = (count < least) × IsAtEnd left_now
@@ -64,7 +64,7 @@ IsTakeFault least budget count left_now fault.TurnsSpent = budget ≤ count
 IsTakeFault least budget count left_now fault.Memory = ⊤
 IsTakeFault least budget count left_now _ = ⊥
 
--- the same, short of so many bytes
+-- the same, when fewer than n bytes have come
 pub record CameShort (least : ℕ) (old new : ClientEnd) (left left_now : Option (List ℕ)) (budget : ℕ) (fault : PumpFault ClientFault) : Type 0
   where
     pub read : List ℕ
@@ -74,7 +74,7 @@ pub record CameShort (least : ℕ) (old new : ClientEnd) (left left_now : Option
     pub is_lost : IsLost fault lost
     pub why : IsTakeFault least budget (length read) left_now fault
 
--- why no more lines are read, by how many bytes were held at first: each line has two or more
+-- why no more lines are read, from the number of bytes held at first: each line has at least two
 abbrev pub IsReadFault : (budget held : ℕ) → ClientEnd → PumpFault ClientFault → Type 0
 IsReadFault budget held e fault.TurnsSpent = 2 * budget ≤ held
 IsReadFault budget held e (fault.Core why) = HasRefused e (fault.Core why)

@@ -1,4 +1,4 @@
--- Worked rows of reports: ledgers and reports that are written out (this profile). Lengths are in micrometres.
+-- Examples of reports: ledgers and reports that are written out (this profile). Lengths are in micrometres.
 -- No theorem cites these definitions: they show what is reported, and how it reads.
 use Rattle.std.specs.Prelude.{ℕ, pos, true, false, List, [], ◌∷◌, ◌++◌, codes}
 use Rattle.std.specs.List.{flat_map}
@@ -41,7 +41,7 @@ one_point_report = record {
   contacts = reported one_point_ledger;
 }
 
--- what a server did before it was left behind the first of three touches
+-- what a server did before it was left after the first of three touches
 abbrev pub left_ledger : List (ℕ × Act)
 left_ledger =
     (1, act.HomedIs false) ∷ (1, act.Homed) ∷ (1, act.Framed frame.Machine) ∷ (1, act.Changed tool)

@@ -14,7 +14,7 @@ use Rattle.link_world.specs.declared.texts.reports.Reported.{Reported}
 abbrev pub shown : ℕ → MadeContact → Reported
 shown number made = record { number = number; connection = made.connection; point = made.point }
 
--- contacts whose numbers begin with this one, each beside its number
+-- contacts numbered from this number on, each with its number
 abbrev pub numbered_from : ℕ → List MadeContact → List Reported
 numbered_from number [] = []
 numbered_from number (made ∷ more) = shown number made ∷ numbered_from (suc number) more
@@ -37,7 +37,7 @@ state_name State.Halted = codes "Halted"
 state_name State.Done = codes "Done"
 state_name State.Faulted = codes "Faulted"
 
--- the line of a contact: its number, its connection, and the point that was reported
+-- the line of a contact: its number, its connection, and the reported point
 abbrev pub contact_row : Reported → List ℕ
 contact_row c =
     line (codes "CONTACT " ++ (decimal c.number ++ (codes " " ++ (decimal c.connection ++ (codes " " ++ printed_point c.point)))))

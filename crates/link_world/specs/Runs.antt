@@ -7,7 +7,7 @@ use Rattle.protocol_model.specs.declared.plans.Planned.{Planned}
 use Rattle.link_world.specs.declared.worlds.world.RunCount.{RunCount}
 use Rattle.link_world.specs.Claims.{takes_memory}
 
--- an event happened, could not happen, or wanted memory
+-- an event happened, could not happen, or ran out of memory
 pub data Answer : Type 0 where
   Happened : Answer
   Refused : Answer
@@ -35,14 +35,14 @@ refused (Happened ∷ xs) = refused xs
 refused (Refused ∷ xs) = suc (refused xs)
 refused (Wanting ∷ xs) = refused xs
 
--- how many wanted memory
+-- how many ran out of memory
 abbrev pub wanting : List Answer → ℕ
 wanting [] = 0
 wanting (Happened ∷ xs) = wanting xs
 wanting (Refused ∷ xs) = wanting xs
 wanting (Wanting ∷ xs) = suc (wanting xs)
 
--- a list of events led from one world to another; so many of them happened, could not happen, and wanted memory
+-- a list of events led from one world to another; with the counts of those that happened, could not happen, and ran out of memory
 pub record HasRun (w : World) (events : List Event) (v : World) (done not_now memory : ℕ) : Type 0 where
   pub answers : List Answer
   pub leads : Follows w events answers v
@@ -50,7 +50,7 @@ pub record HasRun (w : World) (events : List Event) (v : World) (done not_now me
   pub not_now_are : refused answers ≡ not_now
   pub memory_are : wanting answers ≡ memory
 
--- what is reported of a run: each event has its answer, the counts are of all events, and where memory sufficed it led where the events lead
+-- what is reported of a run: each event has its answer, the counts are of all events, and if memory sufficed it led where the events lead
 pub record IsRun (w : World) (events : List Event) (v : World) (count : RunCount) : Type 0 where
   pub led : HasRun w events v count.done count.not_now count.memory
   pub all : count.done + count.not_now + count.memory ≡ length events

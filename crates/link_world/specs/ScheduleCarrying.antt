@@ -6,7 +6,7 @@ use Rattle.link_world.specs.declared.texts.schedules.Instruction.{Instruction}
 use Rattle.link_world.specs.declared.texts.schedule_faults.ScheduleFault.{ScheduleFault}
 use Rattle.link_world.specs.declared.texts.schedule_faults.ScheduleFault.TheVariants.{BadLine}
 
--- the instructions above, and what line n asks for; its refusal where it asks for nothing that there is
+-- the instructions above, and what line n asks for; its refusal if it asks for nothing that exists
 abbrev pub read_more : ℕ → List Instruction → Option Instruction → Result (List Instruction) ScheduleFault
 read_more n above None = Err (BadLine n)
 read_more n above (Some instruction) = Ok (above ++ instruction ∷ [])

@@ -1,4 +1,4 @@
--- What worked rows say of the texts of schedules. LF is 10.
+-- What the examples state of the texts of schedules. LF is 10.
 use Rattle.std.specs.Prelude.{◌≡◌, ℕ, List, [], ◌∷◌, ◌++◌, Ok, Err}
 use Rattle.std.specs.List.{flat_map}
 use Rattle.link_world.specs.ScheduleTexts.{schedule_of}
@@ -13,6 +13,6 @@ Asks text instruction = schedule_of text ≡ Ok (instruction ∷ [])
 abbrev pub IsRefusedAt : List ℕ → ℕ → Type 0
 IsRefusedAt text number = schedule_of text ≡ Err (BadLine number)
 
--- lines, each with LF behind it
+-- lines, each followed by LF
 abbrev pub lined : List (List ℕ) → List ℕ
 lined texts = flat_map (λ text. text ++ 10 ∷ []) texts

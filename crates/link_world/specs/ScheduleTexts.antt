@@ -1,4 +1,4 @@
--- What the text of a schedule says (this profile): the instructions of its lines, or the first line that is refused. Lines, fields and
+-- What the text of a schedule means (this profile): the instructions of its lines, or the first line that is refused. Lines, fields and
 -- numerals are those of a setup.
 use Rattle.std.specs.Prelude.{◌≡◌, ℕ, Bool, not, ◌&&◌, List, [], ◌∷◌, ◌++◌, length, codes, decimal, nat_le}
 use Rattle.std.specs.Prelude.{Option, Some, None, is_none, Result, Ok, Err, if◌then◌else◌}
@@ -18,20 +18,20 @@ use Rattle.link_world.specs.declared.texts.schedules.Instruction.TheVariants.{Cl
 use Rattle.link_world.specs.declared.texts.schedule_faults.ScheduleFault.{ScheduleFault}
 use Rattle.link_world.specs.declared.texts.schedule_faults.ScheduleFault.TheVariants.{BadLine, Memory}
 
--- a whole number is written by one to ten digits, zeros in front counted
+-- a whole number is written with one to ten digits, leading zeros included
 abbrev pub is_number : List ℕ → Bool
 is_number text = list_all is_ascii_digit text && (nat_le 1 (length text) && nat_le (length text) 10)
 
--- the number that a text writes; none where it writes none
+-- the number that a text writes; none if it does not write one
 abbrev pub number_of : List ℕ → Option ℕ
 number_of text = if is_number text then Some (digits_value 10 text) else None
 
--- what stands beside a word in a table, the word in any case
+-- the entry for a word in a table, the word in any case
 abbrev pub beside : List (List ℕ × Instruction) → List ℕ → Option Instruction
 beside [] field = None
 beside (row ∷ rows) field = if is_word row.0 field then Some row.1 else beside rows field
 
--- words that stand alone on their line
+-- words that are alone on their line
 abbrev pub alone : List (List ℕ × Instruction)
 alone = (codes "connect", Once event.Connect)
     ∷ (codes "clientsends", Once event.ClientSends)
@@ -62,7 +62,7 @@ before_all = (codes "up", UpAll)
     ∷ (codes "clientreads", ClientReadsAll)
     ∷ []
 
--- words behind `machine`
+-- words after `machine`
 abbrev pub of_machine : List (List ℕ × Instruction)
 of_machine = (codes "done", Once (event.Machine outcome.Done))
     ∷ (codes "missed", Once (event.Machine outcome.Missed))
@@ -70,31 +70,31 @@ of_machine = (codes "done", Once (event.Machine outcome.Done))
     ∷ (codes "auto", Auto)
     ∷ []
 
--- a number of quiet rounds, at most so many
+-- a number of quiet rounds, at most the limit
 abbrev pub rounds : ℕ → Option Instruction
 rounds n = if nat_le n rounds_most then Some (Rounds n) else None
 
--- what a word asks for with the number behind it; none where there is no number
+-- what a word asks for with the number after it; none if there is no number
 abbrev pub with_number : List ℕ → Option ℕ → Option Instruction
 with_number word None = None
 with_number word (Some n) = if is_word (codes "quiet") word then rounds n else beside (numbered n) word
 
--- two fields: a word and what stands behind it
+-- two fields: a word and what follows it
 unfoldable pub of_two : List ℕ → List ℕ → Option Instruction
 of_two word value = if is_word (codes "machine") word then beside of_machine value else
     (if is_word (codes "all") value then beside before_all word else with_number word (number_of value))
 
--- the touch at a point; none where there is no point
+-- the touch at a point; none if there is no point
 abbrev pub touched_at : Option Point → Option Instruction
 touched_at None = None
 touched_at (Some point) = Some (Once (event.Machine (outcome.Touched point)))
 
--- a touch: three numerals in millimetres behind `machine touched`
+-- a touch: three numerals in millimetres after `machine touched`
 abbrev pub touch : List (List ℕ) → Option Instruction
 touch (x ∷ y ∷ z ∷ []) = touched_at (point_of x y z)
 touch _ = None
 
--- what the fields of a line ask for; none where they ask for nothing that there is
+-- what the fields of a line ask for; none if they ask for nothing that exists
 unfoldable pub instruction_of : List (List ℕ) → Option Instruction
 instruction_of [] = None
 instruction_of (word ∷ []) = beside alone word
@@ -106,15 +106,15 @@ instruction_of (word ∷ value ∷ x ∷ more) = if is_word (codes "machine") wo
 unfoldable pub instruction_on : List ℕ → Option Instruction
 instruction_on line = if has_outer_space line then None else instruction_of (fields_of line)
 
--- a line is refused where it is not dropped and asks for nothing that there is
+-- a line is refused if it is not dropped and asks for nothing that exists
 abbrev pub is_refused : List ℕ → Bool
 is_refused line = not (is_dropped line) && is_none (instruction_on line)
 
--- the instructions of lines, where none is refused
+-- the instructions of lines, if none is refused
 abbrev pub instructions_on : List (List ℕ) → List Instruction
 instructions_on lines = filter_map instruction_on (filter (λ line. not (is_dropped line)) lines)
 
--- the instructions of lines, or the refusal of the line of this number
+-- the instructions of lines, or the refusal of the line with this number
 abbrev pub schedule_on : Option ℕ → List (List ℕ) → Result (List Instruction) ScheduleFault
 schedule_on None lines = Ok (instructions_on lines)
 schedule_on (Some n) lines = Err (BadLine n)
@@ -124,12 +124,12 @@ schedule_on (Some n) lines = Err (BadLine n)
 unfoldable pub schedule_of : List ℕ → Result (List Instruction) ScheduleFault
 schedule_of text = schedule_on (position_from is_refused 1 (lines text)) (lines text)
 
--- this refusal is due; want of memory says nothing of the text
+-- this refusal is due; running out of memory implies nothing about the text
 abbrev pub IsRefusal : Result (List Instruction) ScheduleFault → ScheduleFault → Type 0
 IsRefusal due (BadLine n) = due ≡ Err (BadLine n)
 IsRefusal due Memory = Unit {0}
 
--- what reading a schedule gives is what is due, unless memory ran out
+-- the result of reading a schedule is what is due, unless memory ran out
 abbrev pub GivesSchedule : Result (List Instruction) ScheduleFault → Result (List Instruction) ScheduleFault → Type 0
 GivesSchedule (Ok instructions) due = due ≡ Ok instructions
 GivesSchedule (Err fault) due = IsRefusal due fault

@@ -1,5 +1,5 @@
--- What the instructions of a schedule make of a world: the events, in order (this profile). A list of events that is cut has ended early, for
--- want of memory; of a list that is not cut it is said where it ends.
+-- What the instructions of a schedule do to a world: the events, in order (this profile). A list of events that is cut has ended early,
+-- because memory ran out; for a list that is not cut, the definition says where it ends.
 use Rattle.std.specs.Prelude.{◌≡◌, ◌≢◌, ◌⊎◌, ℕ, ◌≤◌, ◌<◌, Bool, true, false, Some, List, [], ◌∷◌, ◌++◌, length, All}
 use Rattle.protocol_model.specs.Rounds.{IsOne, AreWhile, Then, all_up, all_down, ending, IsRound, AreRounds, all_of}
 use Rattle.protocol_model.specs.World.{World, run_of}
@@ -10,7 +10,7 @@ use Rattle.protocol_model.specs.declared.machine.Outcome.{Outcome}
 use Rattle.link_world.specs.declared.texts.schedules.Instruction.{Instruction}
 use Rattle.link_world.specs.declared.texts.schedules.Instruction.TheVariants as instruction
 
--- so many rounds; where they are cut, fewer, and what there was of the next
+-- n rounds; if they are cut, fewer, and the part of the next round that happened
 pub record AreCounted (answer : Job → ℕ → Outcome) (n : ℕ) (cut : Bool) (w : World) (events : List Event) : Type 0
   where
     pub rounds : List (List Event)
@@ -20,11 +20,11 @@ pub record AreCounted (answer : Job → ℕ → Outcome) (n : ℕ) (cut : Bool) 
     pub end : ((length rounds ≡ n) × (rest ≡ []))
         ⊎ ((cut ≡ true) × (length rounds < n) × IsRound answer true (run_of (all_of rounds) w) rest)
 
--- how many quiet rounds there are at most
+-- the maximum number of quiet rounds
 abbrev pub rounds_most : ℕ
 rounds_most = 1000000
 
--- rounds that do something, as many as may be or until one does nothing; where they are cut, what there was of the next
+-- rounds that do something, up to the maximum or until one does nothing; if they are cut, the part of the next round that happened
 pub record AreQuiet (answer : Job → ℕ → Outcome) (cut : Bool) (w : World) (events : List Event) : Type 0 where
   pub rounds : List (List Event)
   pub rest : List Event
@@ -46,7 +46,7 @@ AreMade answer instruction.ClientReadsAll = AreWhile event.ClientReads
 AreMade answer (instruction.Rounds n) = AreCounted answer n
 AreMade answer instruction.Quiet = AreQuiet answer
 
--- the events of instructions, one behind another
+-- the events of instructions, one after another
 abbrev pub ArePlayed : (Job → ℕ → Outcome) → List Instruction → Bool → World → List Event → Type 0
 ArePlayed answer [] = λ cut w events. events ≡ []
 ArePlayed answer (i ∷ is) = Then (AreMade answer i) (ArePlayed answer is)

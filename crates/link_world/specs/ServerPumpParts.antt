@@ -1,4 +1,4 @@
--- What calls say of the parts of a server's turn (this profile). A budget is how many steps may still be made.
+-- What calls state of the parts of a server's turn (this profile). A budget is how many steps may still be made.
 use Rattle.std.specs.Prelude.{◌≡◌, ℕ, ◌+◌, ◌*◌, ◌≤◌, Bool, ◌||◌, ⊤, Option, None, Some, is_some, List, [], ◌++◌, length}
 use Rattle.std.specs.Prelude.{Ok}
 use Rattle.std.specs.Io.KnownBytes.{Consumes}
@@ -16,8 +16,8 @@ use Rattle.link_world.specs.Pumps.{Stage, Reading, IsLost}
 use Rattle.link_world.specs.PumpParts.{IsTakeFault}
 use Rattle.link_world.specs.ServerPumps.{ServerTurn, steps_made, IsServerRefusal}
 
--- a stage of a server's turn goes on from one end to another, whatever the turn was before, and each step was one of the budget; its
--- setup stays
+-- a stage of a server's turn continues from one end to another, whatever the turn was before, and each step was one of the budget; its
+-- setup stays the same
 pub record ServerGoesOn (answer : Job → ℕ → Outcome) (stage : Stage) (budget budget_now : ℕ) (old new : ServerValue) : Type 0 where
   pub setup : new.setup ≡ old.setup
   pub turn : (least : ℕ) (start : ServerEnd) (read : List ℕ)
@@ -25,7 +25,7 @@ pub record ServerGoesOn (answer : Job → ℕ → Outcome) (stage : Stage) (budg
       → (further : ServerTurn answer least start stage read [] new.end)
       × (budget_now + steps_made further ≤ budget + steps_made turn)
 
--- a server was fed what was pulled, and each step gave one byte or more
+-- a server was fed what was pulled, and each step gave at least one byte
 pub record ServerCame (old new : ServerValue) (left left_now : Option (List ℕ)) (budget budget_now count : ℕ) : Type 0 where
   pub read : List ℕ
   pub fed : new ≡ with_end old (serving_fed read old.end)
@@ -33,7 +33,7 @@ pub record ServerCame (old new : ServerValue) (left left_now : Option (List ℕ)
   pub counted : budget ≤ budget_now + length read
   pub count_is : count ≡ length read
 
--- the same, short of so many bytes
+-- the same, when fewer than n bytes have come
 pub record ServerCameShort (least : ℕ) (old new : ServerValue) (left left_now : Option (List ℕ)) (budget : ℕ)
     (fault : PumpFault ServerFault)
     : Type 0
@@ -45,15 +45,15 @@ pub record ServerCameShort (least : ℕ) (old new : ServerValue) (left left_now 
     pub is_lost : IsLost fault lost
     pub why : IsTakeFault least budget (length read) left_now fault
 
--- why no more lines are read, by how many bytes were held at first: each line has two or more
+-- why no more lines are read, from the number of bytes held at first: each line has at least two
 abbrev pub IsServerReadFault : (budget held : ℕ) → ServerEnd → PumpFault ServerFault → Type 0
 IsServerReadFault budget held e fault.TurnsSpent = 2 * budget ≤ held
 IsServerReadFault budget held e (fault.Core why) = IsServerRefusal e why
 IsServerReadFault budget held e fault.Memory = ⊤
 IsServerReadFault budget held e _ = ⊥
 
--- lines were read up to one that is none, or that wants memory, or that may not be read any more; but for its framing fault the server is as
--- it was then
+-- lines were read up to bytes that are not a line, or to a line that runs out of memory or may not be read; apart from its framing fault
+-- the server is as it was then
 pub record ServerReadStops (old new : ServerValue) (budget : ℕ) (fault : PumpFault ServerFault) : Type 0 where
   pub last : ServerValue
   pub goes : (answer : Job → ℕ → Outcome) → ServerGoesOn answer Reading budget 0 old last
@@ -61,7 +61,7 @@ pub record ServerReadStops (old new : ServerValue) (budget : ℕ) (fault : PumpF
   pub same : serving_left new.end ≡ serving_left last.end
   pub why : IsServerReadFault budget (length old.end.input.rest) last.end fault
 
--- bytes have come, at least so many, and each whole line was read, so many bytes and lines a step
+-- bytes have come, at least n, and each whole line was read, within the steps that these bytes and lines take
 pub record ReadIn (least calls calls_now : ℕ) (old new : ServerValue) (left left_now : Option (List ℕ)) (budget budget_now count : ℕ)
     : Type 0
   where
@@ -75,11 +75,11 @@ pub record ReadIn (least calls calls_now : ℕ) (old new : ServerValue) (left le
     pub counted : 2 * budget ≤ 2 * budget_now + 3 * length read + length old.end.input.rest
     pub count_is : count ≡ length read
 
--- there is something to do: a job runs, or what waits may have its turn
+-- there is something to do: a job runs, or a waiting command may be processed
 abbrev pub has_work : Server → Bool
 has_work s = is_some (running_job s) || may_turn s
 
--- how many steps that can take at most
+-- the maximum number of steps for that
 abbrev pub steps_of_one : Option Line → ℕ
 steps_of_one None = 0
 steps_of_one (Some line) = 1
@@ -87,7 +87,7 @@ steps_of_one (Some line) = 1
 abbrev pub steps_of : Server → ℕ
 steps_of s = steps_of_one s.running + 2 * length s.waiting
 
--- why no more is done: the budget is spent, of which so much work took a step for each
+-- why no more is done: the budget is spent, at one step for each piece of work
 abbrev pub IsWorkFault : (budget : ℕ) → PumpFault ServerFault → Type 0
 IsWorkFault budget fault.TurnsSpent = budget ≤ 129
 IsWorkFault budget fault.Memory = ⊤

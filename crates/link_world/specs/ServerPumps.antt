@@ -16,9 +16,9 @@ use Rattle.link_world.specs.declared.connections.pumps.PumpFault.{PumpFault}
 use Rattle.link_world.specs.declared.connections.pumps.PumpFault.TheVariants as fault
 use Rattle.link_world.specs.Pumps.{Stage, Writing, Taking, Reading, Working, IsLost}
 
--- a server's turn that has come so far, with the bytes that came in and those that went out, in this order: bytes come in, at least so many;
--- the server reads each whole line; while it can, it ends what runs as its machine answers, and lets what waits have its turn; and all that
--- it has answered goes out
+-- a server's turn that has come this far, with the bytes that came in and those that went out, in this order: bytes come in, at least n;
+-- the server reads each whole line; while it can, it ends what runs as its machine answers, and processes what waits; and all that it has
+-- answered goes out
 pub data ServerTurn (answer : Job → ℕ → Outcome) (least : ℕ) (start : ServerEnd)
     : Stage → List ℕ → List ℕ → ServerEnd → Type 0 where
   begins : ServerTurn answer least start Taking [] [] start
@@ -38,8 +38,8 @@ pub data ServerTurn (answer : Job → ℕ → Outcome) (least : ℕ) (start : Se
       → may_turn e.server ≡ false → running_job e.server ≡ None → count ≤ length e.out
       → ServerTurn answer least start Writing read (take count e.out) (serving_taken count e)
 
--- how many lines a server's turn that has come so far has read, how often what waits had its turn, and how often what ran has ended,
--- together
+-- the number of lines that a server's turn that has come this far has read, of waiting commands that it has processed, and of running jobs
+-- that have ended, in total
 abbrev pub steps_made : {answer : Job → ℕ → Outcome} {least : ℕ} {start : ServerEnd} {stage : Stage}
     {read written : List ℕ} {e : ServerEnd} → ServerTurn answer least start stage read written e → ℕ
 steps_made begins = 0
@@ -51,8 +51,7 @@ steps_made (turns e read t may) = steps_made t + 1
 steps_made (ends e read job t runs) = steps_made t + 1
 steps_made (writes e read count t none idle within) = steps_made t
 
--- a server's whole turn: all has gone out, the source has lost the bytes that came in and no others, and the sink has taken those that
--- went out
+-- a server's whole turn: all has gone out, the source has lost exactly the bytes that came in, and the sink has taken those that went out
 pub record ServerMoved (answer : Job → ℕ → Outcome) (least : ℕ) (old new : ServerEnd) (left left_now taken taken_now : Option (List ℕ))
     (moved : Moved) : Type 0
   where
@@ -65,27 +64,27 @@ pub record ServerMoved (answer : Job → ℕ → Outcome) (least : ℕ) (old new
     pub read_is : moved.read ≡ length read
     pub written_is : moved.written ≡ length written
 
--- the same in at most so many steps: one for each call of a port, which are counted from one number to another, and one for each line, turn
--- of what waits and end of what ran
+-- the same in at most n steps: one for each call of a port, which are counted from one number to another, and one for each line, each
+-- command processed and each job that ends
 pub record ServerMovedWithin (answer : Job → ℕ → Outcome) (bound calls calls_now least : ℕ) (old new : ServerEnd)
     (left left_now taken taken_now : Option (List ℕ)) (moved : Moved) : Type 0
   where
     pub whole : ServerMoved answer least old new left left_now taken taken_now moved
     pub within : calls_now + steps_made (whole.turn) ≤ calls + bound
 
--- a server's refusal as the fault of a pump: want of memory is a fault of its own
+-- a server's refusal as the fault of a pump: out of memory is a fault of its own
 abbrev pub of_server : ServerFault → PumpFault ServerFault
 of_server server_fault.Memory = fault.Memory
 of_server why = fault.Core why
 
--- why a server refuses what its pump calls: it is on no connection, or what stands at the front is no line
+-- why a server refuses what its pump calls: it is on no connection, or the bytes at the start are not a line
 abbrev pub IsServerRefusal : ServerEnd → ServerFault → Type 0
 IsServerRefusal e server_fault.NotNow = e.server.on ≡ false
 IsServerRefusal e (server_fault.Framing why) = next_of e.input.rest ≡ Err why
 IsServerRefusal e _ = ⊥
 
--- why a server's turn has stopped, as `ClientWhy` says it of a client: while it works, it makes 129 steps at most, for one command that
--- runs and 64 that wait
+-- why a server's turn has stopped, as `ClientWhy` specifies it for a client: while it works, it makes at most 129 steps, for one command
+-- that runs and 64 that wait
 abbrev pub ServerWhy : (least bound : ℕ) → (read written held : ℕ) → Option (List ℕ) → ServerEnd → PumpFault ServerFault → Type 0
 ServerWhy least bound read written held left_now e fault.ReadFailed = ⊤
 ServerWhy least bound read written held left_now e fault.WriteFailed = ⊤
@@ -94,7 +93,7 @@ ServerWhy least bound read written held left_now e fault.TurnsSpent = bound ≤ 
 ServerWhy least bound read written held left_now e (fault.Core why) = IsServerRefusal e why
 ServerWhy least bound read written held left_now e fault.Memory = ⊤
 
--- a server's turn that has stopped: it came so far, then the server left its connection
+-- a server's turn that has stopped: it came this far, then the server left its connection
 pub record ServerStopped (answer : Job → ℕ → Outcome) (least bound : ℕ) (old new : ServerEnd)
     (left left_now taken taken_now : Option (List ℕ)) (fault : PumpFault ServerFault) : Type 0
   where
@@ -110,7 +109,7 @@ pub record ServerStopped (answer : Job → ℕ → Outcome) (least bound : ℕ) 
     pub appended : Appends taken taken_now written
     pub why : ServerWhy least bound (length read) (length written) (length old.input.rest) left_now last fault
 
--- the same, which has made at most so many steps
+-- the same, after at most n steps
 pub record ServerStoppedWithin (answer : Job → ℕ → Outcome) (bound calls calls_now least : ℕ) (old new : ServerEnd)
     (left left_now taken taken_now : Option (List ℕ)) (fault : PumpFault ServerFault) : Type 0
   where

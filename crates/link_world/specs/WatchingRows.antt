@@ -1,4 +1,4 @@
--- Worked rows of what a watcher is told: features by their labels (this profile). No theorem cites these definitions.
+-- Examples of what is reported to a watcher: features by their labels (this profile). No theorem cites these definitions.
 use Rattle.std.specs.Prelude.{[], codes}
 use Rattle.contact_ledger.specs.declared.features.Feature.{Feature}
 use Rattle.protocol_model.specs.Examples.{feature}

@@ -1,7 +1,7 @@
 //! One connection and its driver: a side with the ports over which its bytes come in and go out.
 //!
 //! - `pumps`: what the turns of both sides share; `client_pump`, `server_pump`: a turn of each
-//! - `links`: a whole connection of one side; `link_runs`: of both; `watching`: who is told of what it completes, with rows
+//! - `links`: a whole connection of one side; `link_runs`: of both; `watching`: who receives reports of what it completes, with examples
 //! - `machines`: who ends the jobs that a server asks for
 //! - `joined`: laws that make turns over ports events of a world
 

@@ -1,7 +1,7 @@
 //! Texts about worlds: schedules, which are read, and reports, which are written.
 //!
-//! - `schedules`, `schedule_rows`, `schedule_reading`, `schedule_faults`: instructions, their lines, and why a line is none
-//! - `reports`, `report_rows`, `report_text`: what a world has to show, and its lines
+//! - `schedules`, `schedule_rows`, `schedule_reading`, `schedule_faults`: instructions, their lines, and why a line is refused
+//! - `reports`, `report_rows`, `report_text`: what a world shows, and its lines
 
 pub mod report_rows;
 pub(crate) mod report_text;

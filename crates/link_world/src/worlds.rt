@@ -1,4 +1,4 @@
-//! A world: a client, a server and the connections between them, where one event happens after the other.
+//! A world: a client, a server and the connections between them, to which one event happens after another.
 //!
 //! - `world`: `World`, its events one by one, several, and its end
 //! - `client_events`, `server_events`: what each event does to its side

@@ -1,4 +1,4 @@
--- The programs of the worked rows are what their texts mean.
+-- The programs of the examples are what their texts mean.
 use Rattle.std.proofs.Common.{◌≡◌, [], ◌∷◌, ◌++◌, codes, Ok, refl}
 use Rattle.dmis_program.specs.Meaning.{meaning_of, program_of}
 use Rattle.dmis_program.specs.Judging.{judged}
@@ -63,7 +63,7 @@ unfolding meaning_of judged keyword_of name_within count_of length_of component_
     numeral_of
 same_twice_text = refl
 
--- moves and a tool behind a touch
+-- moves and a tool after a touch
 pub moved_between_text : program_of []
     (codes "DMISMN/'BETWEEN',05.2\nSNSLCT/S(P1)\nMEAS/POINT,F(A),1\nPTMEAS/CART,1,2,3,0,0,1\n"
     ++ codes "GOTO/1,2,10\nSNSLCT/S(P2)\nENDMES\nGOTO/4,5,10\nMEAS/POINT,F(B),1\n"

@@ -1,4 +1,4 @@
--- Worked rows of the question whether the machine is homed (this profile).
+-- Examples of the question whether the machine is homed (this profile).
 -- No theorem cites these definitions.
 use Rattle.std.specs.Prelude.{Bool, List, [], ◌∷◌, ◌++◌, Ok}
 use Rattle.dme_line.specs.declared.tags.Tag.TheVariants.{Std}
@@ -12,12 +12,12 @@ use Rattle.protocol_examples.specs.Scripts.{play}
 use Rattle.protocol_model.specs.Examples.{Call, call_answer}
 use Rattle.protocol_model.specs.declared.held.Datum.TheVariants as datum
 
--- a server behind calls, one after another
+-- a server after calls, one after another
 abbrev pub server_behind : List Call → Server → Server
 server_behind [] s = s
 server_behind (c ∷ cs) s = server_behind cs (call_answer c s).server
 
--- the question is read, and has its turn
+-- the question is read, and is processed
 abbrev pub asked_now : List Call
 asked_now = Call.Reads (Ok (line 3 command.IsHomed)) ∷ Call.Turns ∷ []
 
@@ -33,11 +33,11 @@ told_so homed = Reply.Ack (Std 3) ∷ Reply.Given (Std 3) (datum.Homed homed) �
 abbrev pub asking_client : Client
 asking_client = client_read (play one_point 1 (opened ++ quiet 2 ∷ client_sends ∷ [])).world.client (Std 3) Mark.Ack
 
--- the same when it has read this answer
+-- that client when it has read this answer
 abbrev pub answered_client : Bool → Client
 answered_client homed = client_read asking_client (Std 3) (Mark.Given (datum.Homed homed))
 
--- the same when it has read the end of the question, too
+-- that client when it has also read the end of the question
 abbrev pub told_client : Bool → Client
 told_client homed = client_read (answered_client homed) (Std 3) Mark.Done
 

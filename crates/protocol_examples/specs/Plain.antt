@@ -1,4 +1,4 @@
--- Worked rows of plain execution, and of what it asks of the rack and the machine (this profile).
+-- Examples of plain execution, and of what it asks of the rack and the machine (this profile).
 -- No theorem cites these definitions: they show what the others give on small programs.
 use Rattle.std.specs.Prelude.{ℕ, ◌==◌, if◌then◌else◌, pos, true, false, List, [], ◌∷◌}
 use Rattle.std.specs.List.{slice_index_or}
@@ -21,7 +21,7 @@ use Rattle.protocol_model.specs.declared.plans.Planned.{Planned}
 abbrev pub answering : Job → ℕ → Outcome
 answering j n = simulated n j
 
--- a machine that meets surfaces beside its targets by these deviations, each at its number
+-- a machine that meets surfaces next to its targets by these deviations, each at its number
 abbrev pub deviating : List Point → Job → ℕ → Outcome
 deviating ds (Job.Touch p d) n = Outcome.Touched (point_sum p (slice_index_or ds n zero_point))
 deviating ds j n = Outcome.Done
@@ -35,7 +35,7 @@ missing k j n = Outcome.Done
 abbrev pub always_done : Job → ℕ → Outcome
 always_done j n = Outcome.Done
 
--- a machine that goes home and changes its tool, and does no more
+-- a machine that homes and changes its tool, and does nothing else
 abbrev pub unmoved : Job → ℕ → Outcome
 unmoved (Job.Move p) n = Outcome.Fault
 unmoved (Job.Touch p d) n = Outcome.Touched p
@@ -49,7 +49,7 @@ measured_so label points = record { label = label; points = points }
 abbrev pub touch_there : Point → Touch
 touch_there offset = touch_with tool (frame.Part offset) (at (pos 30000) (pos 0) (pos 0)) from_above
 
--- two touches, one behind the other, and a move between them
+-- two touches, one after the other, and a move between them
 abbrev pub two_touches : Point → List Planned
 two_touches offset =
     planned (command.PtMeas (at (pos 30000) (pos 0) (pos 0)) from_above) (Does.Touches (touch_there offset) false)

@@ -1,4 +1,4 @@
--- Worked rows: scripts of events where lines are values, played with a simulated machine, and what they report (this profile).
+-- Examples: scripts of events where lines are values, played with a simulated machine, and what they report (this profile).
 -- No theorem cites these definitions: they show what the others give on small programs.
 use Rattle.std.specs.Prelude.{ℕ, zero, suc, pos, if◌then◌else◌, Option, Some, None, List, [], ◌∷◌, ◌++◌, length, drop, codes}
 use Rattle.fixed_um.specs.Points.{point_sum}
@@ -106,8 +106,8 @@ pub record Play : Type 0 where
   pub wrote : List Line
   pub said : List Reply
 
--- a line of a script: an event, the outcome of the simulated machine where something runs, the server or the client reads all that stands
--- there, or so many quiet rounds
+-- a line of a script: an event, the outcome of the simulated machine if something runs, the server or the client reads all that is there,
+-- or that many quiet rounds
 pub data Cue : Type 0 where
   On : Event → Cue
   Auto : Cue
@@ -123,7 +123,7 @@ noted p w = record { world = w; wrote = p.wrote ++ drop (length p.world.up) w.up
 abbrev pub happening : Event → Play → Play
 happening e p = noted p (after e p.world)
 
--- the same, so many times
+-- the same, that many times
 abbrev pub repeated : ℕ → (Play → Play) → Play → Play
 repeated zero does p = p
 repeated (suc n) does p = repeated n does (does p)
@@ -137,11 +137,11 @@ ended (Some job) p = happening (Event.Machine (simulated (length (contacts p.wor
 abbrev pub machine_ends : Play → Play
 machine_ends p = ended (running_job p.world.server) p
 
--- the server reads all lines that stand there
+-- the server reads all lines that are there
 abbrev pub the_server_reads_all : Play → Play
 the_server_reads_all p = repeated (length p.world.up) (happening Event.ServerReads) p
 
--- the client reads all replies that stand there
+-- the client reads all replies that are there
 abbrev pub the_client_reads_all : Play → Play
 the_client_reads_all p = repeated (length p.world.down) (happening Event.ClientReads) p
 
@@ -174,11 +174,11 @@ played (c ∷ cs) p = played cs (cued c p)
 abbrev pub play : Program → ℕ → List Cue → Play
 play p window script = played script (record { world = start p (codes "P1" ∷ codes "P2" ∷ []) window; wrote = []; said = [] })
 
--- the lines that are written, or answered, during a script behind another
+-- the lines that are written, or answered, during a script after another
 abbrev pub wrote_behind : Play → List Cue → List Line
 wrote_behind p script = drop (length p.wrote) (played script p).wrote
 
--- the lines that are answered during a script behind another
+-- the lines that are answered during a script after another
 abbrev pub said_behind : Play → List Cue → List Reply
 said_behind p script = drop (length p.said) (played script p).said
 
@@ -242,11 +242,11 @@ quiet_to_the_end = Cue.Quiet 20
 abbrev pub opened : List Cue
 opened = connect ∷ accept 1 ∷ []
 
--- so many quiet rounds on the first connection; then the next command is sent and read and has its turn
+-- that many quiet rounds on the first connection; then the next command is sent and read and is processed
 abbrev pub at_its_turn : ℕ → List Cue
 at_its_turn n = connect ∷ accept 1 ∷ quiet n ∷ client_sends ∷ server_reads ∷ server_turn ∷ []
 
--- with a window of three: a tool change runs, and two touches wait behind it
+-- with a window of three: a tool change runs, and two touches wait after it
 abbrev pub change_while_two_wait : List Cue
 change_while_two_wait = connect ∷ accept 1 ∷ quiet 3 ∷ client_sends ∷ client_sends ∷ client_sends ∷ server_reads_all ∷ server_turn ∷ []
 
@@ -288,7 +288,7 @@ report_of w = record {
 abbrev pub reported : Program → ℕ → List Cue → Report
 reported p window script = report_of (play p window script).world
 
--- reports, features and contacts as they are told
+-- reports, features and contacts as they are reported
 abbrev pub report : State → ℕ → List Feature → List Reported → Report
 report state counted features contacts = record { state = state; counted = counted; features = features; contacts = contacts }
 
@@ -296,12 +296,12 @@ report state counted features contacts = record { state = state; counted = count
 abbrev pub contact : ℕ → ℕ → Point → Reported
 contact number connection point = record { number = number; connection = connection; point = point }
 
--- commands under so many tags, from one on, are received, or fail for another's sake
+-- commands under that many tags, from one on, are received, or fail for another's sake
 abbrev pub acks_under : ℕ → ℕ → List Reply
 acks_under n zero = []
 acks_under n (suc more) = Reply.Ack (Std n) ∷ acks_under (suc n) more
 
--- commands of one kind under so many tags, from one on, fail for the sake of another
+-- commands of one kind under that many tags, from one on, fail for the sake of another
 abbrev pub failed_under : Kind → ℕ → ℕ → List Reply
 failed_under kind n zero = []
 failed_under kind n (suc more) = failed n 9007 kind ++ failed_under kind (suc n) more

@@ -1,4 +1,4 @@
-// Worked rows: whether the machine is homed is asked, and Home is sent only where it is not.
+// Examples: whether the machine is homed is asked, and Home is sent only if it is not.
 
 ghost use Rattle.std.specs.Prelude.{
   ◌≡◌,
@@ -70,7 +70,7 @@ ghost use Rattle.protocol_examples.specs.Homing.{
   opened_again,
 };
 
-/// A server tells whether its machine is homed when the question has its turn.
+/// A server says whether its machine is homed when the question is processed.
 pub fn asked_rows()
     ensures told_not_homed { called asked_now not_homed ≡ told_so false }
     ensures told_homed { called asked_now no_tool ≡ told_so true }
@@ -83,7 +83,7 @@ pub fn asked_rows()
         ∷ failed 3 9005 kind.IsHomed }
     ensures refused_without_an_act { server_behind asked_now no_session
         ≡ record no_session { error = true } }
-    // Behind a Home that is done; before one; behind one that fails.
+    // After a Home that is done; before one; after one that fails.
     ensures behind_home { called (homing_now ++ Call.Reads (Ok (line 3 command.IsHomed))
         ∷ Call.Ends Done ∷ Call.Turns ∷ []) not_homed
         ≡ Reply.Ack (Std 1) ∷ Reply.Ack (Std 3) ∷ Reply.Done (Std 1)
@@ -102,7 +102,7 @@ pub fn asked_rows()
         ∷ Call.Reads (Ok (line 2 command.ClearAllErrors)) ∷ Call.Turns ∷ asked_now) no_tool
         ≡ Reply.Ack (Std 1) ∷ failed 1 9015 kind.Home
         ++ Reply.Ack (Std 2) ∷ Reply.Done (Std 2) ∷ told_so false }
-    // Another connection finds it as it was; a restarted server knows nothing of it.
+    // Another connection leaves that unchanged; a restarted server knows nothing of it.
     ensures left_homed { called (Call.Reads (Ok (line 1 command.StartSession)) ∷ Call.Turns
         ∷ asked_now) (server_accepted 2 (server_left no_tool))
         ≡ Reply.Ack (Std 1) ∷ Reply.Done (Std 1) ∷ told_so true }
@@ -111,12 +111,12 @@ pub fn asked_rows()
         ≡ Reply.Ack (Std 1) ∷ Reply.Done (Std 1) ∷ told_so false }
 {}
 
-/// A client that asks: what it may read, what it counts, and what it owes behind the answer.
+/// A client that asks: what it may read, what it counts, and what is due after the answer.
 pub fn told_rows()
     ensures no_data { (client_read asking_client (Std 3) Mark.Done).cause ≡ Some Cause.NoData }
     ensures second_data { (client_read (answered_client true) (Std 3)
         (Mark.Given (datum.Homed true))).cause ≡ Some Cause.SecondData }
-    // A point is no answer to this question, nor is the answer the point of a touch.
+    // A point does not answer this question, nor is the answer the point of a touch.
     ensures point_is_no_answer { (client_read asking_client (Std 3)
         (Mark.Given (datum.Point (at (pos 0) (pos 0) (pos 0))))).cause ≡ Some Cause.OutOfOrder }
     ensures answer_is_no_point { (client_read (client_read
@@ -127,8 +127,8 @@ pub fn told_rows()
     ensures not_yet_due { due (answered_client true) ≡ None }
     ensures told_homed { (told_client true).table.tally.counted ≡ act.HomedIs true ∷ [] }
     ensures told_not_homed { (told_client false).table.tally.counted ≡ act.HomedIs false ∷ [] }
-    // Told that it is homed the client owes what stands behind Home, and what was not sent is not
-    // counted; else it owes Home.
+    // Answered that it is homed, what follows Home is due, and what was not sent is not
+    // counted; else Home is due.
     ensures home_is_passed_over { due (told_client true)
         ≡ Some (planned command.OnPtMeasReport Nothing) }
     ensures home_is_due { due (told_client false) ≡ Some (planned command.Home Homes) }
@@ -157,7 +157,7 @@ pub fn told_rows()
         ∷ client_reads ∷ [])).world ≡ true }
 {}
 
-/// Both ends: where the machine is homed, Home has no line and no tag, and the plan is whole
+/// Both ends: if the machine is homed, Home has no line and no tag, and the plan is whole
 /// without it.
 pub fn homing_rows()
     ensures first_connection { said_behind (play one_point 1 (opened ++ quiet 2 ∷ []))
@@ -184,7 +184,7 @@ pub fn homing_rows()
     ensures second_connection_completed { (play circle 1 (opened ++ quiet 8 ∷ opened_again
         ++ quiet_to_the_end ∷ [])).world.client.table.tally.completed ≡ 10 }
     ensures eleven_planned { length (plan circle 0 NewConnection) ≡ 11 }
-    // A client that was restarted and a server that was not: it is told that the machine is homed.
+    // A client that was restarted and a server that was not: it is reported that the machine is homed.
     ensures client_restarted { wrote_behind (play two_points 1
         (opened ++ quiet_to_the_end ∷ client_restart 1 ∷ opened_again)) (quiet 4 ∷ [])
         ≡ line 1 command.StartSession ∷ line 2 command.ClearAllErrors ∷ line 3 command.IsHomed
@@ -194,7 +194,7 @@ pub fn homing_rows()
         ∷ [])) (quiet 5 ∷ [])
         ≡ line 1 command.StartSession ∷ line 2 command.ClearAllErrors ∷ line 3 command.IsHomed
         ∷ line 4 command.Home ∷ line 5 command.OnPtMeasReport ∷ [] }
-    // Home fails: it is sent again behind the resumption, under a new tag.
+    // Home fails: it is sent again after the resumption, under a new tag.
     ensures failed_home_is_sent_again { wrote_behind (play one_point 1
         (at_its_turn 3 ++ machine Fault ∷ client_reads_all ∷ resume ∷ [])) (quiet 4 ∷ [])
         ≡ line 5 command.ClearAllErrors ∷ line 6 command.IsHomed ∷ line 7 command.Home
@@ -203,7 +203,7 @@ pub fn homing_rows()
         (at_its_turn 3 ++ machine Fault ∷ client_reads_all ∷ resume
         ∷ quiet 4 ∷ [])).world.client.table.tally.counted
         ≡ act.HomedIs false ∷ act.HomedIs false ∷ act.Homed ∷ [] }
-    // Behind a resumption the machine is still homed: both answers are counted, and one homing.
+    // After a resumption the machine is still homed: both answers are counted, and one homing.
     ensures resumed_homed { (play one_point 1
         (at_its_turn 5 ++ abort ∷ server_reads ∷ client_reads_all ∷ resume
         ∷ quiet 5 ∷ [])).world.client.table.tally.counted

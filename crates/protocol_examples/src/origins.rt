@@ -1,4 +1,4 @@
-// Worked rows: where features come from.
+// Examples: where features come from.
 
 ghost use Rattle.std.specs.Prelude.{◌≡◌, pos, [], ◌∷◌, ◌++◌, codes};
 ghost use Rattle.fixed_um.specs.declared.frames.Frame.TheVariants.{Machine, Part};
@@ -22,7 +22,7 @@ pub fn origin_rows()
         ≡ report State.Done 6
         (feature_on 3 Machine (codes "A") (at (pos 10002) (pos 20000) (pos 25000) ∷ []) ∷ [])
         (contact 0 3 (at (pos 10002) (pos 20000) (pos 25000)) ∷ []) }
-    // The first feature was counted before the connection was left, the second behind it; its last
+    // The first feature was counted before the connection was left, the second after it; its last
     // touch is in the part's frame.
     ensures two_connections { (play two_frames 1
         (opened ++ quiet 8 ∷ client_leaves ∷ server_leaves ∷ connect ∷ accept 2

@@ -1,4 +1,4 @@
-// Worked rows: what a program plainly measures, and what that asks of the rack and the machine.
+// Examples: what a program plainly measures, and what that asks of the rack and the machine.
 
 ghost use Rattle.std.specs.Prelude.{◌≡◌, pos, [], ◌∷◌, drop, codes};
 ghost use Rattle.fixed_um.specs.declared.frames.Frame.TheVariants as frame;
@@ -23,16 +23,16 @@ ghost use Rattle.protocol_model.specs.declared.plans.Start.TheVariants.{NewConne
 
 /// The points of a program's features, by what the machine answers to its touches.
 pub fn plain_rows()
-    // The third touch is in the part's frame: its point is told as seen from the part.
+    // The third touch is in the part's frame: its point is reported as seen from the part.
     ensures frames { plain_execution answering 0 two_frames.features
         ≡ measured_so (codes "A") (at (pos 10002) (pos 0) (pos 0) ∷ [])
         ∷ measured_so (codes "B") (at (pos 20000) (pos 0) (pos 4)
         ∷ at (pos 29999) (pos 1) (pos 0) ∷ []) ∷ [] }
-    // Where one feature is kept, the numbers go on behind its touch.
+    // Where one feature is kept, the numbers continue after its touch.
     ensures behind_the_first { plain_execution answering 1 (drop 1 two_frames.features)
         ≡ measured_so (codes "B") (at (pos 20000) (pos 0) (pos 4)
         ∷ at (pos 29999) (pos 1) (pos 0) ∷ []) ∷ [] }
-    // More contacts were made before: the numbers go on behind them.
+    // More contacts were made before: the numbers continue after them.
     ensures behind_others { plain_execution answering 3 (drop 1 two_frames.features)
         ≡ measured_so (codes "B") (at (pos 20002) (pos 0) (pos 0)
         ∷ at (pos 30000) (pos 0) (pos 4) ∷ []) ∷ [] }
@@ -45,7 +45,7 @@ pub fn plain_rows()
     // The machine is asked in its own axes, with the direction.
     ensures job { touch_job (touch_there part)
         ≡ job.Touch (at (pos 130000) (pos 0) (pos 0)) from_above }
-    // Where a feature comes from is no part of what was measured.
+    // Where a feature comes from is not part of what was measured.
     ensures without_origin { as_measured (feature_on 7 frame.Machine (codes "A")
         (at (pos 1) (pos 2) (pos 3) ∷ []) ∷ [])
         ≡ measured_so (codes "A") (at (pos 1) (pos 2) (pos 3) ∷ []) ∷ [] }
@@ -59,7 +59,7 @@ pub fn premise_rows()
     ensures out_of_reach { AreInReach (tool ∷ [])
         (two_touches (at (pos 1000000000) (pos 0) (pos 0))) → ⊥ }
     ensures obeyed { AreObeyed answering 0 (plan two_frames 0 NewConnection) }
-    // The second touch has the number behind the first; a move between them has none.
+    // The second touch has the number after the first; a move between them has none.
     ensures missed { AreObeyed (missing 1) 0 (two_touches part) → ⊥ }
     ensures others_missed { AreObeyed (missing 1) 2 (two_touches part) }
     ensures not_touched { AreObeyed always_done 0 (two_touches part) → ⊥ }

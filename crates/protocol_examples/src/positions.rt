@@ -1,4 +1,4 @@
-// Examples: where a plan goes on in the steps of a program.
+// Examples: where a plan continues in the steps of a program.
 
 ghost use Rattle.std.specs.Prelude.{◌≡◌, ◌++◌, ◌∷◌, [], Ok};
 ghost use Rattle.std.specs.Prelude.{codes, pos};
@@ -28,7 +28,7 @@ pub fn position_rows()
         ∷ command.GoTo (at (pos 4000) (pos 5000) (pos 10000))
         ∷ command.PtMeas (at (pos 4000) (pos 5000) (pos 6000)) from_above
         ∷ command.EndSession ∷ [] }
-    // Behind the first feature both moves are made; the tool is that of the touch, then the other.
+    // After the first feature both moves are made; the tool is that of the touch, then the other.
     ensures behind_the_first { commands_of (plan moved_between 1 SameConnection)
         ≡ command.ClearAllErrors ∷ command.IsHomed ∷ command.Home ∷ command.OnPtMeasReport
         ∷ command.ChangeTool (codes "P1") ∷ command.SetCoordSystem MachineCsy

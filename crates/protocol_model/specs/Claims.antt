@@ -68,7 +68,7 @@ pub record Sound (wanted : List Wanted) (features : List Feature) (ledger : List
   pub starts : List ℕ
   pub runs : AreRuns wanted features starts 0 (contacts ledger)
 
--- what a client has counted on a connection is the front of what the server did there
+-- what a client has counted on a connection is the prefix of what the server did there
 pub record Told (counted : List Act) (ledger : List (ℕ × Act)) (connection : ℕ) : Type 0 where
   pub more : List Act
   pub whole : counted ++ more ≡ acts_on connection ledger

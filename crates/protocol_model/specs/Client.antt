@@ -50,7 +50,7 @@ pub record Table : Type 0 where
   pub event : List OpenCommand
   pub tally : Tally
 
--- the act that a counted command stands for, with what its data line told: whether the machine is homed, or the point of a contact
+-- the act that a counted command means, with what its data line reported: whether the machine is homed, or the point of a contact
 abbrev pub act_of : Does → Option Datum → List Act
 act_of Does.Nothing given = []
 act_of Does.AsksHomed (Some (datum.Homed homed)) = act.HomedIs homed ∷ []
@@ -90,7 +90,7 @@ abbrev pub begins_session : Kind → Bool
 begins_session kind.StartSession = true
 begins_session _ = false
 
--- a counted command told that the machine is homed
+-- a counted command reported that the machine is homed
 abbrev pub tells_homed : Kind → Option Datum → Bool
 tells_homed kind.IsHomed (Some (datum.Homed true)) = true
 tells_homed _ _ = false
@@ -100,17 +100,17 @@ abbrev pub is_homing : Command → Bool
 is_homing command.Home = true
 is_homing _ = false
 
--- commands without the homing that is next
+-- commands without the homing, if that is next
 abbrev pub without_homing : List Planned → List Planned
 without_homing [] = []
 without_homing (p ∷ ps) = if is_homing p.command then ps else p ∷ ps
 
--- what is left of a plan: where the machine is told to be homed, the homing that is next is passed over
+-- what is left of a plan: if the machine is reported to be homed, the next homing is skipped
 abbrev pub passed_over : Bool → List Planned → List Planned
 passed_over true ps = without_homing ps
 passed_over false ps = ps
 
--- the next command of the plan is counted, and where it told that the machine is homed, the homing behind it is passed over
+-- the next command of the plan is counted; if it reported that the machine is homed, the homing after it is skipped
 abbrev pub counted_next : List Wanted → Kind → Option Datum → List Planned → Tally → Tally
 counted_next ws k given [] y = y
 counted_next ws k given (p ∷ todo) y =
@@ -187,7 +187,7 @@ new_client p fs window = record {
   abort = None;
 }
 
--- what was read has no place, or all tags are held: the client is Faulted, and knows why
+-- what was read is unexpected, or all tags are held: the client is Faulted, and knows why
 abbrev pub faulted : Cause → Client → Client
 faulted cause c = record c { state = State.Faulted; cause = Some cause }
 
@@ -213,7 +213,7 @@ client_connected n c =
       abort = None;
     }
 
--- the first number from here on that is not held, of so many
+-- the first number from here on that is not held, of that many
 abbrev pub first_free : (ℕ → Tag) → List OpenCommand → ℕ → ℕ → Option ℕ
 first_free sort hs n zero = None
 first_free sort hs n (suc left) = elim (is_held (sort n) hs) [ true ↦ first_free sort hs (suc n) left | false ↦ Some n ]
@@ -232,11 +232,11 @@ abbrev pub is_clearing : Command → Bool
 is_clearing command.ClearAllErrors = true
 is_clearing _ = false
 
--- a command may go where fewer than window are open, and ClearAllErrors only where none is
+-- a command may go if fewer than window are open, and ClearAllErrors only if none is open
 abbrev pub may_go : ℕ → ℕ → Command → Bool
 may_go window open_now c = nat_lt open_now window && (not (is_clearing c) || (open_now == 0))
 
--- the first command of a plan, if it may go with so many open
+-- the first command of a plan, if it may go with that many open
 abbrev pub first_due : ℕ → ℕ → List Planned → Option Planned
 first_due window open_now [] = None
 first_due window open_now (p ∷ ps) = if may_go window open_now p.command then Some p else None
@@ -261,7 +261,7 @@ pub record Sends : Type 0 where
 abbrev pub held_now : Tag → Kind → OpenCommand
 held_now t k = record { tag = t; kind = k; stage = Stage.Sent }
 
--- the first unsent command goes out under this number; without one the client is Faulted
+-- the first unsent command is sent under this number; without one the client is Faulted
 abbrev pub sends_next : Client → List Planned → Option ℕ → Sends
 sends_next c [] number = record { client = c; lines = [] }
 sends_next c (p ∷ ps) None = record { client = faulted Cause.TagsSpent c; lines = [] }
@@ -276,11 +276,11 @@ sends_next c (p ∷ ps) (Some n) = record {
   lines = record { tag = Std n; command = p.command } ∷ [];
 }
 
--- the command that is due goes out under a new tag
+-- the command that is due is sent under a new tag
 abbrev pub client_sent : Client → Sends
 client_sent c = sends_next c c.table.tally.unsent (next_number Std c.table.standard c.drawn)
 
--- an abort goes out under this number; without one the client is Faulted
+-- an abort is sent under this number; without one the client is Faulted
 abbrev pub sends_abort : Client → Option ℕ → Sends
 sends_abort c None = record { client = faulted Cause.TagsSpent c; lines = [] }
 sends_abort c (Some n) = record {
@@ -299,7 +299,7 @@ may_abort State.Running = true
 may_abort State.Failing = true
 may_abort _ = false
 
--- an abort goes out under a new event tag
+-- an abort is sent under a new event tag
 abbrev pub client_aborted : Client → Sends
 client_aborted c = sends_abort c (next_number Event c.table.event c.event_drawn)
 
@@ -327,7 +327,7 @@ first_state State.Halted ends failed = State.Halted
 first_state State.Done ends failed = State.Done
 first_state State.Faulted ends failed = State.Faulted
 
--- then the end of the plan, or of all that was open behind a failure
+-- then the end of the plan, or of all that was open after a failure
 abbrev pub last_state : State → Bool → ℕ → State
 last_state State.Running whole open_now = if whole then State.Done else State.Running
 last_state State.Failing whole open_now = if whole then State.Done else if open_now == 0 then State.Halted else State.Failing
@@ -355,7 +355,7 @@ abbrev pub may_resume : Client → State → Bool
 may_resume c State.Halted = c.table.tally.session
 may_resume c _ = false
 
--- measuring goes on behind the last completed feature, on the same connection
+-- measuring continues after the last completed feature, on the same connection
 abbrev pub client_resumed : Client → Client
 client_resumed c =
     let steps : List Planned = plan c.program (length c.table.tally.features) Start.SameConnection in
@@ -372,7 +372,7 @@ abbrev pub left_state : State → State
 left_state State.Done = State.Done
 left_state _ = State.Apart
 
--- the connection is left, and the points of the unfinished feature are given up
+-- the connection is left, and the points of the unfinished feature are discarded
 abbrev pub client_left : Client → Client
 client_left c = record c {
   on = false;

@@ -81,7 +81,7 @@ abbrev pub given_homed : Client → Tag → Result Bool NotHomedText → Client
 given_homed c t (Ok homed) = client_read c t (Mark.Given (datum.Homed homed))
 given_homed c t (Err why) = faulted Cause.NotResponse c
 
--- a data text for a command of this kind: it has no place where the command asks for no data
+-- a data text for a command of this kind: it is unexpected if the command asks for no data
 abbrev pub given_for : Client → Tag → List ℕ → Kind → Client
 given_for c t text kind.PtMeas = given_point c t (point_of text)
 given_for c t text kind.IsHomed = given_homed c t (homed_of text)
@@ -103,19 +103,19 @@ response_read c t (mark.Given text) = given c t text
 response_read c t mark.Done = client_read c t Mark.Done
 response_read c t (mark.Error text) = client_read c t Mark.Error
 
--- a line is read as a response, or is none
+-- a line is read as a response, or is not one
 abbrev pub line_read : Client → Result Response NotResponse → Client
 line_read c (Ok r) = response_read c r.tag r.mark
 line_read c (Err refused) = faulted Cause.NotResponse c
 
--- what stands at the front of the bytes: nothing whole, a line, or a fault, which ends the client's reading
+-- what is at the start of the bytes: nothing whole, a line, or a fault, which ends the client's reading
 abbrev pub front_read : Client → Front → Client
 front_read c (Ok None) = c
 front_read c (Ok (Some (line, rest))) = line_read c (response_of line)
 front_read c (Err framing.LineTooLong) = faulted Cause.LineTooLong c
 front_read c (Err framing.BadByte) = faulted Cause.BadByte c
 
--- what stands at the front is read
+-- what is at the front is read
 abbrev pub end_read : ClientEnd → ClientEnd
 end_read e = record {
   client = front_read e.client (next_of e.input.rest);
@@ -163,18 +163,18 @@ serving_fed bytes e = record e { input = fed e.input bytes }
 abbrev pub with_answer : ServerEnd → Framing → Answer → ServerEnd
 with_answer e input a = record { server = a.server; input = input; out = e.out ++ reply_bytes a.said }
 
--- what stands at the front of the bytes: nothing whole, a line, or a fault, behind which nothing is read until the connection is left
+-- what is at the start of the bytes: nothing whole, a line, or a fault, after which nothing is read until the connection is left
 abbrev pub front_served : ServerEnd → Front → ServerEnd
 front_served e (Ok None) = e
 front_served e (Ok (Some (line, rest))) = with_answer e (record (e.input) { rest = rest })
     (server_read e.server (reading_of (command_of line)))
 front_served e (Err why) = record e { input = record (e.input) { fault = Some why } }
 
--- what stands at the front is read
+-- what is at the front is read
 abbrev pub serving_read : ServerEnd → ServerEnd
 serving_read e = front_served e (next_of e.input.rest)
 
--- the first waiting command has its turn
+-- the first waiting command is processed
 abbrev pub serving_turned : ServerEnd → ServerEnd
 serving_turned e = with_answer e e.input (server_turned e.server)
 

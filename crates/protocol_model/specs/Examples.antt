@@ -1,5 +1,5 @@
 -- Values, claims and servers of the examples, written out (this profile). Lengths are in micrometres.
--- No theorem cites these definitions: the examples beside them show what the others give.
+-- No theorem cites these definitions: the examples next to them show what the others give.
 use Rattle.std.specs.Prelude.{ℕ, zero, suc, ℤ, pos, neg_ℤ, Option, Some, None, List, [], ◌∷◌, ◌++◌, codes, Ok}
 use Rattle.fixed_um.specs.Shapes.{Direction}
 use Rattle.fixed_um.specs.declared.lengths.Point.{Point}
@@ -113,7 +113,7 @@ abbrev pub called : List Call → Server → List Reply
 called [] s = []
 called (c ∷ cs) s = (call_answer c s).said ++ called cs (call_answer c s).server
 
--- the same command under so many tags, from one on, read one after another
+-- the same command under that many tags, from one on, read one after another
 abbrev pub read_under : Command → ℕ → ℕ → List Call
 read_under c n zero = []
 read_under c n (suc more) = Call.Reads (Ok (line n c)) ∷ read_under c (suc n) more
@@ -126,7 +126,7 @@ no_session = server_accepted 1 (new_server (codes "P1" ∷ codes "P2" ∷ []))
 abbrev pub not_homed : Server
 not_homed = record no_session { session = true }
 
--- the same where the machine is homed besides
+-- likewise if the machine is also homed
 abbrev pub no_tool : Server
 no_tool = record not_homed { homed = true }
 
@@ -138,7 +138,7 @@ ready = record no_tool { tool = Some tool }
 abbrev pub outside : Point
 outside = at (pos 1000000001) (pos 0) (pos 0)
 
--- what a server answers to a command that it reads and that has its turn
+-- what a server answers to a command that it reads and that is processed
 abbrev pub asked : Command → Server → List Reply
 asked c s = called (read_under c 8 1 ++ Call.Turns ∷ []) s
 

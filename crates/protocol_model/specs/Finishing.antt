@@ -1,5 +1,5 @@
 -- How a link is brought to its end, wherever it was broken: both ends leave, the client connects, the server takes that connection, and
--- quiet rounds follow; what the rack and the machine owe, and what is measured then (this profile).
+-- quiet rounds follow; what the rack and the machine must ensure, and what is measured then (this profile).
 use Rattle.std.specs.Prelude.{◌≡◌, ◌≢◌, ℕ, suc, ◌<◌, true, List, [], ◌∷◌, ◌++◌, length, drop, bytes_eq}
 use Rattle.std.specs.List.{list_any}
 use Rattle.fixed_um.specs.Points.{point_sum}
@@ -29,11 +29,11 @@ pub record CanFinish (w : World) : Type 0 where
   pub undone : w.client.client.state ≢ State.Done
   pub connections : w.client.client.last < connection_most
 
--- both ends leave, each where it is on a connection, the client makes the next one, and the server takes it
+-- both ends leave, each if it is on a connection, the client makes the next one, and the server takes it
 abbrev pub rejoining : World → List Event
 rejoining w = ClientLeaves ∷ ServerLeaves ∷ Connect ∷ Accept (suc w.client.client.last) ∷ []
 
--- the world behind that
+-- the world after that
 abbrev pub rejoined : World → World
 rejoined w = run_of (rejoining w) w
 
@@ -41,7 +41,7 @@ rejoined w = run_of (rejoining w) w
 abbrev pub plan_left : World → List Planned
 plan_left w = plan w.client.client.program (length w.client.client.table.tally.features) Start.NewConnection
 
--- ---- what the rack and the machine owe to a plan
+-- ---- what the rack and the machine must ensure for a plan
 
 -- a tool is in the rack; the target of a move or a touch, in machine axes, lies in the volume
 abbrev pub IsInReach : List (List ℕ) → Does → Type 0
@@ -58,7 +58,7 @@ abbrev pub AreInReach : List (List ℕ) → List Planned → Type 0
 AreInReach rack [] = Unit {0}
 AreInReach rack (p ∷ ps) = IsInReach rack p.does × AreInReach rack ps
 
--- the same of the steps of a program, the first of them in this frame: what an operator can check before anything runs
+-- likewise for the steps of a program, the first of them in this frame: what an operator can check before anything runs
 abbrev pub StepsInReach : List (List ℕ) → Frame → List Step → Type 0
 StepsInReach rack f [] = Unit {0}
 StepsInReach rack f (step.Goto p ∷ ss) = IsInReach rack (Does.Moves p f) × StepsInReach rack f ss
@@ -86,7 +86,7 @@ IsObeyed answer n Does.Nothing = Unit {0}
 IsObeyed answer n Does.AsksHomed = Unit {0}
 IsObeyed answer n (Does.Frames f) = Unit {0}
 
--- the number of the next contact behind a command that is done
+-- the number of the next contact after a command that is done
 abbrev pub number_behind : ℕ → Does → ℕ
 number_behind n (Does.Touches t last) = suc n
 number_behind n _ = n

@@ -15,7 +15,7 @@ abbrev pub marks_of : List Placed → List Mark
 marks_of [] = []
 marks_of ((front, m) ∷ ms) = m ∷ marks_of ms
 
--- the marks of a counted command: received and complete, with data in between where it asks for some; the second argument: those that it
+-- the marks of a counted command: received and complete, with data in between if it asks for any; the second argument: the data that it
 -- asks for
 abbrev pub IsCounted : Bool → (Datum → Bool) → List Mark → Type 0
 IsCounted false asked ms = ms ≡ Mark.Ack ∷ Mark.Done ∷ []
@@ -29,7 +29,7 @@ AreErrors (Mark.Ack ∷ ms) = ⊥
 AreErrors (Mark.Given d ∷ ms) = ⊥
 AreErrors (Mark.Done ∷ ms) = ⊥
 
--- the marks of a failed command: a proper front of those of a counted one, then one or more errors, then nothing or its end
+-- the marks of a failed command: a proper prefix of those of a counted one, then one or more errors, then nothing or its end
 pub record IsFailed (asks : Bool) (asked : Datum → Bool) (ms : List Mark) : Type 0 where
   pub before : List Mark
   pub missing : Mark
@@ -43,7 +43,7 @@ pub record IsFailed (asks : Bool) (asked : Datum → Bool) (ms : List Mark) : Ty
 abbrev pub IsReplies : Bool → (Datum → Bool) → List Mark → Type 0
 IsReplies asks asked ms = IsCounted asks asked ms ⊎ IsFailed asks asked ms
 
--- the marks that may have been read so far: a front of such
+-- the marks that may have been read so far: a prefix of such
 pub record IsRepliesFront (asks : Bool) (asked : Datum → Bool) (ms : List Mark) : Type 0 where
   pub more : List Mark
   pub whole : IsReplies asks asked (ms ++ more)

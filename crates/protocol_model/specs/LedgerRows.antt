@@ -1,4 +1,4 @@
--- Worked rows of what is claimed: features and counted acts beside ledgers that are written out
+-- Examples of what is claimed: features and counted acts next to ledgers that are written out
 -- (this profile).
 -- No theorem cites these definitions: they show what the claim allows, and what it refuses.
 use Rattle.std.specs.Prelude.{ℕ, pos, true, false, Option, List, [], ◌∷◌, codes}

@@ -47,7 +47,7 @@ reply_texts (r ∷ rs) = reply_text r ∷ reply_texts rs
 abbrev pub command_bytes : List Line → List ℕ
 command_bytes ls = line_bytes (command_texts ls)
 
--- the same of replies
+-- likewise for replies
 abbrev pub reply_bytes : List Reply → List ℕ
 reply_bytes rs = line_bytes (reply_texts rs)
 

@@ -87,7 +87,7 @@ judged front kind stage (Mark.Given d) = judged_given (front && fits kind d) sta
 judged front kind stage Mark.Error = judged_error stage
 judged front kind stage Mark.Done = judged_done front (asks_data kind) stage
 
--- what a reply has changed besides the open commands: nothing, a command failed, or one of this kind was counted, with its data
+-- what else a reply has changed than the open commands: nothing, a command failed, or one of this kind was counted, with its data
 pub data Effect : Type 0 where
   Quiet : Effect
   Failure : Effect

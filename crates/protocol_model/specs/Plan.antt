@@ -1,5 +1,5 @@
 -- The plan of a client: the commands of the I++ DME Interface version 1 that measure what is left of an ISO 22093 program, each with what
--- it stands for (this profile).
+-- it means (this profile).
 use Rattle.std.specs.Prelude.{ℕ, zero, suc, Bool, true, false, if◌then◌else◌, Option, Some, None, List, [], ◌∷◌, ◌++◌}
 use Rattle.fixed_um.specs.Points.{point_opposite}
 use Rattle.fixed_um.specs.declared.frames.Frame.{Frame}
@@ -21,7 +21,7 @@ abbrev pub is_empty : {A : Type 0} → List A → Bool
 is_empty [] = true
 is_empty (x ∷ xs) = false
 
--- the tool that is selected behind these steps: that of the last selection among them, or else the one before
+-- the tool that is selected after these steps: that of the last selection among them, or else the one before
 abbrev pub tool_behind : Option (List ℕ) → List Step → Option (List ℕ)
 tool_behind tool [] = tool
 tool_behind tool (step.Goto p ∷ ss) = tool_behind tool ss
@@ -31,7 +31,7 @@ tool_behind tool (step.Tool n ∷ ss) = tool_behind (Some n) ss
 tool_behind tool (step.Recall p ∷ ss) = tool_behind tool ss
 tool_behind tool (step.End ∷ ss) = tool_behind tool ss
 
--- the frame that is selected behind these steps
+-- the frame that is selected after these steps
 abbrev pub frame_behind : Frame → List Step → Frame
 frame_behind frame [] = frame
 frame_behind frame (step.Goto p ∷ ss) = frame_behind frame ss
@@ -41,7 +41,7 @@ frame_behind frame (step.Tool n ∷ ss) = frame_behind frame ss
 frame_behind frame (step.Recall p ∷ ss) = frame_behind (Part p) ss
 frame_behind frame (step.End ∷ ss) = frame_behind frame ss
 
--- the steps behind the last touch of so many features, and those up to it
+-- the steps after the last touch of that many features, and those up to it
 abbrev pub behind : ℕ → List Step → List Step
 behind zero ss = ss
 behind (suc k) [] = []
@@ -52,7 +52,7 @@ behind (suc k) (step.Tool n ∷ ss) = behind (suc k) ss
 behind (suc k) (step.Recall p ∷ ss) = behind (suc k) ss
 behind (suc k) (step.End ∷ ss) = behind (suc k) ss
 
--- the steps up to the last touch of so many features
+-- the steps up to the last touch of that many features
 abbrev pub up_to : ℕ → List Step → List Step
 up_to zero ss = []
 up_to (suc k) [] = []
@@ -63,7 +63,7 @@ up_to (suc k) (step.Tool n ∷ ss) = step.Tool n ∷ up_to (suc k) ss
 up_to (suc k) (step.Recall p ∷ ss) = step.Recall p ∷ up_to (suc k) ss
 up_to (suc k) (step.End ∷ ss) = step.End ∷ up_to (suc k) ss
 
--- a command, and what it stands for
+-- a command, and what it means
 abbrev pub planned : Command → Does → Planned
 planned c does = record { command = c; does = does }
 
@@ -97,12 +97,12 @@ abbrev pub clearing : List Planned → List Planned
 clearing ps = planned command.ClearAllErrors Nothing ∷ planned command.IsHomed AsksHomed ∷ planned command.Home Homes
     ∷ planned command.OnPtMeasReport Nothing ∷ ps
 
--- a session is begun on a new connection, and goes on on the same
+-- a session is begun on a new connection, and continues on the same
 abbrev pub starting : Start → List Planned → List Planned
 starting NewConnection ps = planned command.StartSession Nothing ∷ ps
 starting SameConnection ps = ps
 
--- the plan for a program of which so many features are completed
+-- the plan for a program of which that many features are completed
 abbrev pub plan : Program → ℕ → Start → List Planned
 plan p k start =
     starting start (clearing (measuring (tool_behind None (up_to k p.steps)) (frame_behind Machine (up_to k p.steps)) (behind k p.steps)))

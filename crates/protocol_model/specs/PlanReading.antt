@@ -1,4 +1,4 @@
--- What a plan measures, told by its commands alone, read one after another as a machine reads them (I++ DME Interface version 1; the order
+-- What a plan measures, according to its commands alone, read in order as a machine reads them (I++ DME Interface version 1; the order
 -- of a plan: this profile).
 use Rattle.std.specs.Prelude.{◌≡◌, ℕ, Bool, true, false, Option, Some, None, List, [], ◌∷◌, ◌++◌}
 use Rattle.std.specs.List.{list_all, flat_map}
@@ -24,12 +24,12 @@ use Rattle.protocol_model.specs.declared.plans.Planned.{Planned}
 
 -- ---- the touches of a plan
 
--- the touch that a command stands for, if it stands for one
+-- the touch that a command means, if it means one
 abbrev pub touch_of : Does → List Touch
 touch_of (Does.Touches t last) = t ∷ []
 touch_of _ = []
 
--- the touches that planned commands stand for, in order
+-- the touches that planned commands mean, in order
 abbrev pub touches_of : List Planned → List Touch
 touches_of [] = []
 touches_of (p ∷ ps) = touch_of p.does ++ touches_of ps
@@ -39,7 +39,7 @@ abbrev pub end_of : Does → List Bool
 end_of (Does.Touches t last) = last ∷ []
 end_of _ = []
 
--- the same of each planned touch, in order
+-- likewise for each planned touch, in order
 abbrev pub ends_of : List Planned → List Bool
 ends_of [] = []
 ends_of (p ∷ ps) = end_of p.does ++ ends_of ps
@@ -50,7 +50,7 @@ touch_ends [] = []
 touch_ends (t ∷ []) = true ∷ []
 touch_ends (t ∷ u ∷ ts) = false ∷ touch_ends (u ∷ ts)
 
--- the same of the touches of features, one feature after another
+-- likewise for the touches of features, one feature after another
 abbrev pub feature_ends : List Wanted → List Bool
 feature_ends features = flat_map (λ (w : Wanted). touch_ends w.touches) features
 
@@ -77,29 +77,29 @@ selected_frame MachineCsy stored = Some Machine
 selected_frame PartCsy None = None
 selected_frame PartCsy (Some offset) = Some (Part offset)
 
--- what is selected behind a command; the offset of a transformation is stored with its signs turned
+-- what is selected after a command; the offset of a transformation is stored with its signs turned
 abbrev pub selected_by : Selection → Command → Selection
 selected_by s (command.ChangeTool n) = record s { tool = Some n }
 selected_by s (command.SetCsyTransformation p) = record s { stored = Some (point_opposite p) }
 selected_by s (command.SetCoordSystem system) = record s { frame = selected_frame system s.stored }
 selected_by s _ = s
 
--- a touch under this tool and in this frame; none where one of them is not known
+-- a touch under this tool and in this frame; none if either is not known
 abbrev pub read_touch : Point → Option Direction → Bool → Option (List ℕ) → Option Frame → Option Does
 read_touch p d last (Some tool) (Some frame) = Some (Does.Touches (record { target = p; dir = d; tool = tool; frame = frame }) last)
 read_touch p d last _ _ = None
 
--- a move in this frame; none where it is not known
+-- a move in this frame; none if it is not known
 abbrev pub read_move : Point → Option Frame → Option Does
 read_move p (Some frame) = Some (Does.Moves p frame)
 read_move p None = None
 
--- the selection of this frame; none where it is not known
+-- the selection of this frame; none if it is not known
 abbrev pub read_frame : Option Frame → Option Does
 read_frame (Some frame) = Some (Does.Frames frame)
 read_frame None = None
 
--- what a command does where this is selected; that a touch is the last of its feature is no part of its command, and is given
+-- what a command does under this selection; whether a touch is the last of its feature is not part of its command, and is given
 abbrev pub read_as : Selection → Bool → Command → Option Does
 read_as s last command.StartSession = Some Does.Nothing
 read_as s last command.EndSession = Some Does.Nothing
@@ -119,18 +119,18 @@ abbrev pub is_last : Does → Bool
 is_last (Does.Touches t last) = last
 is_last _ = false
 
--- each command, read where it stands, does what it is planned for: a touch has its target, direction, tool and frame, a move its target and
+-- each command, read in its place, does what it is planned for: a touch has its target, direction, tool and frame, a move its target and
 -- frame
 abbrev pub ReadAsPlanned : Selection → List Planned → Type 0
 ReadAsPlanned s [] = Unit {0}
 ReadAsPlanned s (p ∷ ps) = (read_as s (is_last p.does) p.command ≡ Some p.does) × ReadAsPlanned (selected_by s p.command) ps
 
--- the touch that was read, where one was
+-- the touch that was read, if any
 abbrev pub touch_made : Option Does → Option Touch
 touch_made (Some (Does.Touches t last)) = Some t
 touch_made _ = None
 
--- the touch that a command makes where this is selected, if it makes one; None where its tool or its frame is not known
+-- the touch that a command makes where this is selected, if it makes one; None if its tool or its frame is not known
 abbrev pub touches_made_by : Selection → Command → List (Option Touch)
 touches_made_by s (command.PtMeas p d) = touch_made (read_as s false (command.PtMeas p d)) ∷ []
 touches_made_by s _ = []

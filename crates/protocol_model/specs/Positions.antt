@@ -1,4 +1,4 @@
--- Where a plan goes on in the steps of a program: behind the last touch of its last completed
+-- Where a plan continues in the steps of a program: after the last touch of its last completed
 -- feature (this profile).
 use Rattle.std.specs.Prelude.{◌≡◌, ℕ, Option, Some, None, List, [], ◌∷◌, ◌++◌}
 use Rattle.std.specs.List.{flat_map}
@@ -31,7 +31,7 @@ frame_commands frame.Machine = command.SetCoordSystem MachineCsy ∷ []
 frame_commands (frame.Part offset) = step_commands (step.Recall offset)
 
 -- the commands of a plan where these steps are passed and those are left: the opening, what is
--- selected behind the steps that are passed, the commands of those that are left, in order, and the
+-- selected after the steps that are passed, the commands of those that are left, in order, and the
 -- end of the session
 abbrev pub commands_from : Start → List Step → List Step → List Command
 commands_from start passed left =

@@ -19,15 +19,15 @@ use Rattle.dme_line.proofs.Readings.{command_reading, response_reading, point_re
 pub command_of : List ℕ → Result (Tag × Command) LineFault
 command_of line = (command_reading line).result
 
--- the response of a line, or that it is none
+-- the response that a line is, if it is one
 pub response_of : List ℕ → Result Response NotResponse
 response_of line = (response_reading line).result
 
--- the point of a data text, or that it is none
+-- the point that a data text is, if it is one
 pub point_of : List ℕ → Result Point NotPoint
 point_of text = (point_reading text).result
 
--- whether the machine is homed, by the data text that answers IsHomed, or that it is no such text
+-- whether the machine is homed, by the data text that answers IsHomed, or that it is not such a text
 pub homed_of : List ℕ → Result Bool NotHomedText
 homed_of text = (homed_reading text).result
 

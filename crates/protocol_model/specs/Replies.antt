@@ -11,14 +11,14 @@ use Rattle.protocol_model.specs.declared.lines.Line.{Line}
 abbrev pub Reading : Type 0
 Reading = Result Line LineFault
 
--- a line that a server answers: received, data, complete, or an error with its number and the command's name where it is known
+-- a line that a server answers: received, data, complete, or an error with its number and the command's name if it is known
 pub data Reply : Type 0 where
   Ack : Tag → Reply
   Given : Tag → Datum → Reply
   Done : Tag → Reply
   Error : Tag → ℕ → Option Kind → Reply
 
--- what a client hears of a reply; the text of an error is not looked at
+-- what a client hears of a reply; the text of an error is not examined
 pub data Mark : Type 0 where
   Ack : Mark
   Given : Datum → Mark

@@ -71,7 +71,7 @@ new_server rack = record {
   ledger = [];
 }
 
--- the name in an error text: that of the command, where it is known
+-- the name in an error text: that of the command, if it is known
 abbrev pub kind_in : Result Command Misread → Option Kind
 kind_in (Ok c) = Some (kind_of c)
 kind_in (Err misread.UnknownCommand) = None
@@ -104,11 +104,11 @@ acted a s = record s { ledger = s.ledger ++ (s.last, a) ∷ [] }
 abbrev pub server_accepted : ℕ → Server → Server
 server_accepted n s = record s { on = true; last = n }
 
--- all that belongs to the connection is given up
+-- all that belongs to the connection is discarded
 abbrev pub server_left : Server → Server
 server_left s = record s { on = false; session = false; frame = Machine; stored = zero_point; error = false; running = None; waiting = [] }
 
--- a restarted server besides forgets its homing and its tool
+-- a restarted server also forgets its homing and its tool
 abbrev pub server_restarted : Server → Server
 server_restarted s = record (server_left s) { homed = false; tool = None }
 
@@ -136,7 +136,7 @@ is_clear (Ok command.ClearAllErrors) = true
 is_clear (Ok _) = false
 is_clear (Err refused) = false
 
--- the number of the error for what was read under a tag and is no command
+-- the number of the error for what was read under a tag and is not a command
 abbrev pub fault_number : Misread → ℕ
 fault_number misread.UnknownCommand = 9003
 fault_number (misread.BadArguments k) = 9004
@@ -169,7 +169,7 @@ fresh s t (Err why) =
     if is_event_tag t then answers s (Reply.Ack t ∷ fails t (fault_number why) (kind_in (Err why)))
     else stands s t (Err why)
 
--- a line with a tag: refused where a command under it runs or waits
+-- a line with a tag: refused if a command under it runs or waits
 abbrev pub tagged : Server → Tag → Result Command Misread → Answer
 tagged s t reading =
     if runs_under t s.running || waits_under t s.waiting then answers s (Reply.Error (Event 0) 9002 None ∷ [])
@@ -182,7 +182,7 @@ server_read s (Err (fault.UnknownCommand t)) = tagged s t (Err misread.UnknownCo
 server_read s (Err (fault.BadArguments t k)) = tagged s t (Err (misread.BadArguments k))
 server_read s (Ok line) = tagged s line.tag (Ok line.command)
 
--- ---- the first waiting command has its turn
+-- ---- the first waiting command is processed
 
 -- where a frame has its zero point on the machine
 abbrev pub offset : Frame → Point
@@ -279,12 +279,12 @@ abbrev pub taken : Server → Waiting → List Waiting → Option ℕ → Answer
 taken s w ws (Some number) = answers (in_error s) (fails w.tag number (kind_in w.reading) ++ all_fail 9007 ws)
 taken s w ws None = carried (record s { waiting = ws }) w.tag w.reading
 
--- the first of what waits has its turn
+-- the first of what waits is processed
 abbrev pub turned_to : Server → List Waiting → Answer
 turned_to s [] = answers s []
 turned_to s (w ∷ ws) = taken s w ws (refusal s w.reading)
 
--- the first waiting command has its turn
+-- the first waiting command is processed
 abbrev pub server_turned : Server → Answer
 server_turned s = turned_to s s.waiting
 

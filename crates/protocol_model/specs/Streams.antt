@@ -14,7 +14,7 @@ pub record Sent : Type 0 where
   pub tag : Tag
   pub command : Command
 
--- how a kind of message stands on a line: which of them can be written, their text, and what a line says
+-- how a kind of message is on a line: which of them can be written, their text, and what a line says
 pub record Wording (X : Type 0) : Type 1 where
   pub May : X → Type 0
   pub text : X → List ℕ
@@ -50,7 +50,7 @@ pub record IsFirst {X : Type 0} (wording : Wording X) (sent : List X) (more line
   pub reads : wording.Reads line first
   pub behind : left ++ more ≡ stream_of wording others
 
--- what stands at the front of such a stream: nothing whole yet, or the line of the first; never a fault
+-- what is at the start of such a stream: nothing whole yet, or the line of the first; never a fault
 abbrev pub HandsFirst : {X : Type 0} → Wording X → List X → List ℕ → Front → Type 0
 HandsFirst wording sent more (Ok None) = Unit {0}
 HandsFirst wording sent more (Ok (Some (line, left))) = IsFirst wording sent more line left

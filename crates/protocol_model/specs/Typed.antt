@@ -25,7 +25,7 @@ pub data Event : Type 0 where
   Accept : ℕ → Event
   ClientSends : Event
   ServerReads : Event
-  -- on an older connection, whatever stands there
+  -- on an older connection, whatever is there
   ServerReadsOld : Reading → Event
   ServerTurn : Event
   Machine : Outcome → Event

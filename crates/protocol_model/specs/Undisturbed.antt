@@ -55,7 +55,7 @@ abbrev pub without_homings : List Planned → List Planned
 without_homings [] = []
 without_homings (p ∷ ps) = if is_homing p.command then without_homings ps else p ∷ without_homings ps
 
--- a plan as it is followed by a client that is told that the machine is homed, without its homing, or that it is not
+-- a plan as it is followed by a client that is reported that the machine is homed, without its homing, or that it is not
 abbrev pub followed : Bool → List Planned → List Planned
 followed true ps = without_homings ps
 followed false ps = ps
@@ -74,7 +74,7 @@ pub record AreFirstLines (written : List ℕ) (steps : List Planned) : Type 0 wh
 
 -- ---- acts
 
--- what a command is planned for, where it is an act
+-- what a command is planned for, if that is an act
 abbrev pub act_in : Does → List Does
 act_in Does.Nothing = []
 act_in Does.AsksHomed = Does.AsksHomed ∷ []

@@ -26,7 +26,7 @@ pub record Link : Type 0 where
 abbrev pub no_link : Link
 no_link = record { up = []; down = [] }
 
--- connections are numbered from 1 as the client makes them; besides, all that the client wrote on the one that it made last
+-- connections are numbered from 1 as the client makes them; also, all that the client wrote on the one that it made last
 pub record World : Type 0 where
   pub client : ClientEnd
   pub server : ServerEnd
@@ -45,11 +45,11 @@ with_link links n link = slice_set links (n - 1) link
 abbrev pub start : Meaning → List (List ℕ) → ℕ → World
 start p rack window = record { client = new_client_end p [] window; server = new_server_end rack; links = []; written = [] }
 
--- the connections on which the two sides stand
+-- the bytes of the connection that the client is on
 abbrev pub client_link : World → Link
 client_link w = link_of w.links w.client.client.last
 
--- the bytes of the connection on which the server stands
+-- the bytes of the connection that the server is on
 abbrev pub server_link : World → Link
 server_link w = link_of w.links w.server.server.last
 
@@ -80,7 +80,7 @@ connected w = record {
   written = [];
 }
 
--- bytes move from the front of a list to the side that reads them
+-- bytes move from the start of a list to the side that reads them
 abbrev pub moved_up : ℕ → World → World
 moved_up k w = record w {
   server = serving_fed (take k (server_link w).up) w.server;
@@ -94,13 +94,13 @@ moved_down k w = record w {
   links = with_link w.links w.client.client.last (record (client_link w) { down = drop k (client_link w).down });
 }
 
--- a whole line stands at the front; a line or a fault does
+-- a whole line is at the front; a line or a fault does
 abbrev pub is_line : Front → Bool
 is_line (Ok None) = false
 is_line (Ok (Some found)) = true
 is_line (Err why) = false
 
--- a line or a fault stands at the front
+-- a line or a fault is at the front
 abbrev pub is_any : Front → Bool
 is_any (Ok None) = false
 is_any (Ok (Some found)) = true

@@ -11,15 +11,15 @@ pub enum Event {
     Accept(u64),
     /// The client sends the command that is due.
     ClientSends,
-    /// So many bytes move up to the server.
+    /// That many bytes move up to the server.
     Up(usize),
     /// The server reads a line.
     ServerReads,
-    /// The first command that waits at the server has its turn.
+    /// The first command that waits at the server is processed.
     ServerTurn,
     /// The machine is done with what runs.
     Machine(Outcome),
-    /// So many bytes move down to the client.
+    /// That many bytes move down to the client.
     Down(usize),
     /// The client reads a line.
     ClientReads,
@@ -31,7 +31,7 @@ pub enum Event {
     Abort,
     /// The client begins its plan again on its connection.
     Resume,
-    /// The client is stopped, and begins again with so many features.
+    /// The client is stopped, and begins again with that many features.
     ClientRestart(usize),
     /// The server is switched off and on.
     ServerRestart,

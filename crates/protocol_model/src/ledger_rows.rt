@@ -1,4 +1,4 @@
-// Worked rows: what is claimed of features and of counted acts, beside ledgers that are written
+// Examples: what is claimed of features and of counted acts, next to ledgers that are written
 // out. Lengths are in micrometres.
 
 ghost use Rattle.std.specs.Prelude.{ℕ, pos, true, false, [], ◌∷◌, codes, None};
@@ -22,7 +22,7 @@ ghost use Rattle.protocol_model.specs.LedgerRows.{
 };
 
 /// A feature of two touches, and ledgers with two contacts: the right one, and those in which one
-/// thing is not as it was wanted.
+/// thing differs from what was wanted.
 pub fn feature_rows()
     ensures right { Sound one_wanted (measured_as (codes "A") ∷ []) right_ledger }
     // Nothing is claimed of where a feature comes from.
@@ -71,7 +71,7 @@ pub fn feature_rows()
     ensures first_left_out { Sound two_wanted (measured_as (codes "B") ∷ []) right_ledger → ⊥ }
 {}
 
-/// What was counted on a connection, beside what was done on two.
+/// What was counted on a connection, next to what was done on two.
 pub fn counted_rows()
     ensures first_connection { Told (act.Homed ∷ act.Changed tool ∷ []) two_connections 1 }
     ensures second_connection { Told (act.Homed ∷ act.Framed frame.Machine ∷ []) two_connections 2 }
@@ -86,7 +86,7 @@ pub fn counted_rows()
     // What was done on another connection counts for nothing.
     ensures other_connection { Told (act.Homed ∷ act.Changed tool ∷ []) two_connections 2 → ⊥ }
     ensures no_connection { Told (act.Homed ∷ []) two_connections 3 → ⊥ }
-    // The machine was told to be homed on the second connection, and did not go home there.
+    // The machine was reported to be homed on the second connection, and did not go home there.
     ensures asked_and_homed { Told (act.HomedIs false ∷ act.Homed ∷ []) asked_twice 1 }
     ensures asked_again { Told (act.HomedIs true ∷ act.Framed frame.Machine ∷ []) asked_twice 2 }
     ensures other_answer { Told (act.HomedIs false ∷ []) asked_twice 2 → ⊥ }

@@ -9,7 +9,7 @@
 //! - `typed`: the same where lines are carried as values
 //! - `replies`: the language of replies and the table of marks
 //! - `plan_laws`: what a plan measures, and in which order
-//! - `positions`: where a plan goes on in the steps of a program
+//! - `positions`: where a plan continues in the steps of a program
 //! - `tags`: the number of the tag that is drawn next
 //! - `streams`: what a stream of written lines hands out
 //! - `undisturbed`: what is written, done and counted in a run that nothing disturbs

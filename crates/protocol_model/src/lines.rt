@@ -9,16 +9,16 @@ pub struct Line {
     pub command: Command,
 }
 
-/// Why what was read under a tag is no command (this profile).
+/// Why what was read under a tag is not a command (this profile).
 #[derive(Clone, Copy, Debug, PartialEq, Eq)]
 pub enum Misread {
-    /// The name is none that is known.
+    /// The name is unknown.
     UnknownCommand,
     /// The arguments of this kind of command don't read, or the tag is not of the command's kind.
     BadArguments(Kind),
 }
 
-/// What waits at a server: what was read under a tag, a command or why it is none (this profile).
+/// What waits at a server: what was read under a tag, a command, or why it is not one (this profile).
 #[derive(Debug, Drop)]
 pub struct Waiting {
     pub tag: Tag,

@@ -9,7 +9,7 @@ pub enum Job {
     Home,
     /// The probe goes to a point.
     Move(Point),
-    /// The probe touches near a point, with the outward normal of the surface there where one is given.
+    /// The probe touches near a point, with the outward normal of the surface there if there is one given.
     Touch(Point, Option<Dir>),
     /// The tool in the probe head is changed.
     Change(Name),

@@ -15,13 +15,13 @@ ghost use Rattle.protocol_model.specs.PlanReading.{touches_of, ends_of, feature_
 /// - `touches`: its touches are, in order, those of the features that are left, each with its target, direction, tool and frame;
 /// - `ends`: the last touch of each such feature, and no other, is planned as the last of its feature;
 /// - `measures`: its commands alone, read one after another by a machine of which nothing is known, make these touches: each under the
-///   tool of the last change of tool and in the frame of the last coordinate system that was selected;
+/// tool of the last change of tool and in the frame of the last coordinate system that was selected;
 /// - `reached`: so read, each command does what it is planned for: each move reaches its target in its frame, too;
 /// - `order`: it is StartSession, on a new connection alone, then ClearAllErrors, IsHomed, Home and OnPtMeasReport, then commands that
-///   measure, none of them one of these, and EndSession;
-/// - `homed`, `homed_again`: where the machine is told to be homed, what is left behind the question is the plan without its Home, and
-///   nothing else is passed over;
-/// - `whole`: where no feature is completed, the commands that measure are the machine's frame and those of the program's steps, in order;
+/// measure, none of them one of these, and EndSession;
+/// - `homed`, `homed_again`: if the machine is reported to be homed, what is left after the question is the plan without its Home, and
+/// nothing else is skipped;
+/// - `whole`: if no feature is completed, the commands that measure are the machine's frame and those of the program's steps, in order;
 /// - `lines`: each of its commands can be written in a line, under each standard tag from 1 to 9,999.
 #[tactic(auto, using(crate::proofs::plan::PlanLaws::plan_touches_left, crate::proofs::plan::PlanLaws::plan_ends_left, crate::proofs::plan::PlanLaws::plan_makes, crate::proofs::plan::PlanLaws::plan_as_planned, crate::proofs::plan::PlanLaws::plan_in_order, crate::proofs::plan::PlanLaws::plan_whole, crate::proofs::plan::PlanLaws::plan_can_be_written))]
 pub fn plans_measure_what_is_left()

@@ -1,4 +1,4 @@
-// Where a plan goes on in the steps of a program.
+// Where a plan continues in the steps of a program.
 
 ghost use Rattle.std.specs.Prelude.{◌≡◌, ◌<◌, ◌≤◌, ◌++◌, ℕ, List};
 ghost use Rattle.std.specs.Prelude.{length, take};
@@ -10,14 +10,14 @@ ghost use Rattle.protocol_model.specs.PlanReading.{commands_of};
 ghost use Rattle.protocol_model.specs.Positions.{EndInTouch, commands_from};
 ghost use Rattle.protocol_model.specs.declared.plans.Start.{Start};
 
-/// A plan goes on behind the last touch of the last completed feature, and leaves out no step that
-/// stands there:
+/// A plan continues after the last touch of the last completed feature, and leaves out no step that
+/// is there:
 ///
-/// - `parts`: the steps up to there and those behind are all steps, none of them lost and none twice;
+/// - `parts`: the steps up to there and those after are all steps, none of them lost and none twice;
 /// - `front`: the touches up to there are those of the completed features, in order;
-/// - `ends`: where a feature is completed, the last step up to there is a touch;
-/// - `commands`: the plan is its opening, what is selected there, the commands of each step behind,
-///   and the end of the session.
+/// - `ends`: if a feature is completed, the last step up to there is a touch;
+/// - `commands`: the plan is its opening, what is selected there, the commands of each step after,
+/// and the end of the session.
 #[tactic(auto, using(crate::proofs::plan::Splitting::all_steps, crate::proofs::plan::Splitting::front_touches, crate::proofs::plan::Splitting::front_ends, crate::proofs::plan::Splitting::plan_commands))]
 pub fn plans_go_on_behind_the_last_touch()
     ensures parts { (completed : ℕ) (steps : List Step)

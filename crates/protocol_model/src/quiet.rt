@@ -18,7 +18,7 @@ ghost use Rattle.protocol_model.specs.declared.states.State.TheVariants as State
 /// left: let both ends leave, let the client connect and the server take that connection, and let quiet rounds follow.
 ///
 /// - `bounded`: of these rounds, however the machine ends what it is asked, at most as many do something as the plan for what is left has
-///   commands.
+/// commands.
 pub fn quiet_rounds_are_few()
     ensures bounded { (answer : OneJob → ℕ → OneOutcome) (program : Meaning) (rack : List (List ℕ))
         (window : ℕ) (events : List OneEvent) (rounds : List (List OneEvent))
@@ -29,11 +29,11 @@ pub fn quiet_rounds_are_few()
         → length rounds ≤ length (plan_left (run_of events (start program rack window))) }
 {}
 
-/// The same, where the window is at least 1, the rack has each tool, each target lies in the volume, and the machine does what it is asked:
+/// The same, if the window is at least 1, the rack has each tool, each target lies in the volume, and the machine does what it is asked:
 ///
-/// - `done`: behind the last round that does something the client is Done;
+/// - `done`: after the last round that does something the client is Done;
 /// - `features`: it holds the features that it held before, unchanged, and then those of the plain execution of what was left, its touches
-///   numbered from the server's count of contacts on. Nothing else depends on what went wrong before.
+/// numbered from the server's count of contacts on. Nothing else depends on what went wrong before.
 pub fn quiet_rounds_measure_what_is_left()
     ensures done { (answer : OneJob → ℕ → OneOutcome) (program : Meaning) (rack : List (List ℕ))
         (window : ℕ) (events : List OneEvent) (rounds : List (List OneEvent))

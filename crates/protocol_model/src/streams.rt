@@ -13,7 +13,7 @@ pub fn commands_come_in_order()
         → rest ++ more ≡ stream_of commands sent → HandsFirst commands sent more (next_of rest) }
 {}
 
-/// The same of responses.
+/// Likewise for responses.
 pub fn responses_come_in_order()
     ensures { (sent : List Response) (rest more : List ℕ) → AreWritable responses sent
         → rest ++ more ≡ stream_of responses sent → HandsFirst responses sent more (next_of rest) }

@@ -6,14 +6,14 @@ ghost use Rattle.protocol_model.specs.Client.{next_number};
 ghost use Rattle.protocol_model.specs.Open.{is_held};
 ghost use Rattle.protocol_model.specs.declared.held.OpenCommand.{OpenCommand};
 
-/// Behind the number that was drawn last comes the first that is not held, where 1 follows 9,999;
+/// After the number that was drawn last comes the first that is not held, where 1 follows 9,999;
 /// for standard and for event tags:
 ///
 /// - `free`, `within`: its tag is not held, and it is one of 1 to 9,999;
-/// - `passed`: where it is greater than the one drawn last, each number between them is held;
-/// - `passed_up`, `passed_again`: where it is not, each number above the one drawn last is held,
-///   and so is each one below it;
-/// - `spent`: there is none only where all are held.
+/// - `passed`: if it is greater than the one drawn last, each number between them is held;
+/// - `passed_up`, `passed_again`: if it is not, each number above the one drawn last is held,
+/// and so is each one below it;
+/// - `spent`: there is no tag only if all are held.
 pub fn numbers_that_are_held_are_passed_over()
     ensures free { (sort : ℕ → Tag) (held : List OpenCommand) (drawn next : ℕ)
         → next_number sort held drawn ≡ Some next → is_held (sort next) held ≡ false }

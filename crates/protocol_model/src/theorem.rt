@@ -11,9 +11,9 @@ ghost use Rattle.protocol_model.specs.declared.events.Event.{Event};
 /// After every list of events, from any program, any rack and any window up to 16:
 ///
 /// - the features that the client holds are the first features of the program, and their points are, in order, those of disjoint
-///   ascending runs of the server's contacts, one unbroken run on one connection for each feature, each contact made with its
-///   target, direction, tool and frame;
-/// - what the client has counted on its connection is a front of what the server did there;
+/// ascending runs of the server's contacts, one unbroken run on one connection for each feature, each contact made with its
+/// target, direction, tool and frame;
+/// - what the client has counted on its connection is a prefix of what the server did there;
 /// - the client is not Faulted, and the server has met no framing fault.
 ///
 /// Connections may be left by either side at any byte, commands may fail, be aborted and be begun again, tags come round, and both

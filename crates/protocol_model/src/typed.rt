@@ -8,8 +8,8 @@ ghost use Rattle.protocol_model.specs.Claims.{Sound, Told};
 ghost use Rattle.protocol_model.specs.Typed.{Event, start, run_of};
 
 /// After every list of events, the features that the client holds are the first of the program, their points those of disjoint, ascending,
-/// unbroken runs of the server's contacts, each made as the program wants it; what the client has counted on its connection is a front of
-/// what the server did there; and the client never meets a reply that has no place.
+/// unbroken runs of the server's contacts, each made as the program wants it; what the client has counted on its connection is a prefix of
+/// what the server did there; and the client never meets a reply that is unexpected.
 #[tactic(auto, using(crate::proofs::each_event::Whole::always_sound, crate::proofs::each_event::Whole::always_told, crate::proofs::each_event::Whole::never_disagree))]
 pub fn every_typed_run()
     ensures sound { (program : Meaning) (rack : List (List ℕ)) (window : ℕ) (events : List Event)

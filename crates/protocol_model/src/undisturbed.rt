@@ -17,9 +17,9 @@ ghost use Rattle.protocol_model.specs.declared.plans.Start.TheVariants as Start;
 /// was asked or touches a surface, from any program, any rack and any window up to 16:
 ///
 /// - `lines`: the bytes that the client wrote are the first lines of the plan of the whole program, each whole with its CR LF, under the tags
-///   from 1 on, after 9,999 again from 1 on;
+/// from 1 on, after 9,999 again from 1 on;
 /// - `acts`: the acts of the server are the first that the plan wants, one for one; a contact has the target, direction, tool and frame of
-///   the touch, and any point;
+/// the touch, and any point;
 /// - `counted`: what the client has counted are the first of these acts.
 ///
 /// A tool that is not in the rack, or a place outside the volume, may stop the run before the plan is done. Commands are read, as lines and
@@ -45,9 +45,9 @@ pub fn undisturbed_prefixes()
 /// and is homed, whatever its rack, its tool, its ledger and the connections that were left, for any program and any window up to 16:
 ///
 /// - `lines`: the bytes that the client wrote are the first lines of the plan of the whole program without its homing, each whole with
-///   its CR LF, under the tags from 1 on, after 9,999 again from 1 on;
+/// its CR LF, under the tags from 1 on, after 9,999 again from 1 on;
 /// - `no_homing`: no command of that plan homes the machine;
-/// - `whole`: where the machine is not homed, a plan is followed whole.
+/// - `whole`: if the machine is not homed, a plan is followed whole.
 pub fn homed_machines_are_not_homed_again()
     ensures lines { (program : Meaning) (window : ℕ) (server : ServerEnd) (links : List Link)
         (events : List Event) → IsProgram program → window ≤ 16 → IsHomedOff server links

@@ -44,7 +44,7 @@ either : {A : Type 0} (P : A → Type 0) (b : Bool) (xs ys : List A) → AllByRe
 either P true xs ys h g = h
 either P false xs ys h g = g
 
--- the steps up to a position, and those behind it
+-- the steps up to a position, and those after it
 are_up_to : (k : ℕ) (ss : List Step) → AllByRecursion IsStep ss → AllByRecursion IsStep (up_to k ss)
 are_up_to zero ss h = tt
 are_up_to (suc k) [] h = tt

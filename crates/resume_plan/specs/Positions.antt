@@ -1,1 +1,1 @@
--- Where the code stands on its way to the beginning of a plan. No clause of a public function cites this.
+-- Where the code is on its way to the beginning of a plan. No clause of a public function cites this.

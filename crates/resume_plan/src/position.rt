@@ -16,7 +16,7 @@ pub(crate) struct Position<'p> {
     pub steps: &'p [Step],
 }
 
-/// Whether a touch with these steps behind it is the last of its feature. It looks no further than the next touch, so that a plan's
+/// Whether a touch with these steps after it is the last of its feature. It looks no further than the next touch, so that a plan's
 /// touches together look at each step once.
 pub(crate) fn ends_feature(behind: &[Step]) -> bool
     ensures { result ≡ is_empty (block_touches behind.now) }
@@ -31,7 +31,7 @@ pub(crate) fn ends_feature(behind: &[Step]) -> bool
     true
 }
 
-/// The position behind the last touch of so many features. Takes no memory.
+/// The position after the last touch of that many features. Does not allocate.
 pub(crate) fn position_behind<'p>(steps: &'p [Step], completed: usize) -> Position<'p>
     ensures steps { result.steps.now ≡ behind completed steps.now }
     ensures tool { option_copied result.tool ≡ tool_behind None (up_to completed steps.now) }

@@ -191,7 +191,7 @@ call_homed Restart e = refl
 call_homed (Sent count) e = chosen (As (Sent count) e) (possible (Sent count) e) (serving_taken count e) e
     (λ may. refl) (λ may. refl)
 
--- ---- what is told
+-- ---- what is reported
 
 -- where a deed is an answer to IsHomed, it is this one
 abbrev Tells : Bool → Option Deed → Type 0

@@ -1,4 +1,4 @@
--- What holds of a server behind every list of calls from a new one.
+-- What holds of a server after every list of calls from a new one.
 use Rattle.std.proofs.Common.{◌≡◌, ℕ, ◌≤◌, nat_le, true, false, not, ◌&&◌, ◌||◌, is_some, List, [], ◌∷◌, ◌++◌, length, refl}
 use Rattle.std.proofs.Common.{sym, ◌∙◌, ap, subst, arith, append_assoc, append-nil, ◌⊎◌, inl, inr, Option, Some, None, Result, Ok, Err}
 use Rattle.std.proofs.lemmas.Bool.{false≢true, and_parts, leb-true}
@@ -221,7 +221,7 @@ machined_came line s (Outcome.Touched at) (Some l) = touched_came line s l.tag l
 machined_came line s Outcome.Missed (Some l) = λ error runs. absurd (none_some None line refl runs)
 machined_came line s Outcome.Fault (Some l) = λ error runs. absurd (none_some None line refl runs)
 
--- the same of a call: reading a line alone enters the error state while a command runs
+-- likewise for a call: reading a line alone enters the error state while a command runs
 abbrev BeforeCall : Call → Line → ServerEnd → Type 0
 BeforeCall call line e = RunsInError line e ⊎ ((call ≡ ReadOne) × IsFull line e)
 

@@ -42,7 +42,7 @@ restarted_holds e h = record { steady = restarted_steady e h.steady; standard = 
 pub taken_holds : (count : ℕ) (e : ServerEnd) → IsServing e → IsServing (serving_taken count e)
 taken_holds count e h = record { steady = taken_steady count e h.steady; standard = h.standard }
 
--- an answer, or want of memory, which changes nothing
+-- an answer, or running out of memory, which changes nothing
 answered_holds : {A B : Type 0} (r : Result A B) (b d : ControllerValue) (input : Framing) (out mid more : List ℕ) (a : Answer) → mid ≡ out
     → OnOk r (d ≡ with_answered b a) → OnOk r (more ≡ mid ++ reply_bytes a.said) → OnErr r (d ≡ b) → OnErr r (more ≡ mid)
     → Holds a.server input (out ++ reply_bytes a.said) → Holds b.server input out → Holds d.server input more
@@ -75,7 +75,7 @@ turned_holds r b d input out mid more is said same silent h room may =
       standard = turned_standard b.server h.standard;
     }) h
 
--- a line that was read, and taken off the front of the bytes
+-- a line that was read, and taken off the start of the bytes
 pub read_holds : {A B : Type 0} (r : Result A B) (b d : ControllerValue) (input now left : Framing) (out mid more line rest : List ℕ)
     → OnOk r (d ≡ with_answered b (server_read b.server (reading_of (command_of line))))
     → OnOk r (more ≡ mid

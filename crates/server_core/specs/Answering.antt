@@ -24,7 +24,7 @@ failure_most = 160
 abbrev pub answer_most : ℕ
 answer_most = 10560
 
--- a tag that can be written, and room for so many bytes under it
+-- a tag that can be written, and room for that many bytes under it
 abbrev pub HasRoomFor : {X Z : Type 0} → Tag → Vec X Z → ℕ → Type 0
 HasRoomFor tag out most = IsTag tag × HasRoom out most
 
@@ -40,7 +40,7 @@ MayHear c out = (c.server.on ≡ true) × HasAnswerRoom out
 abbrev pub MayTake : {X Z : Type 0} → ControllerValue → Vec X Z → Tag → Result Command Misread → Type 0
 MayTake c out tag reading = IsTag tag × IsReadingFit reading × MayHear c out
 
--- the first waiting command may have its turn, and has room for its answer
+-- the first waiting command may be processed, and has room for its answer
 abbrev pub MayTurn : {X Z : Type 0} → ControllerValue → Vec X Z → Type 0
 MayTurn c out = (may_turn c.server ≡ true) × HasAnswerRoom out
 
@@ -52,7 +52,7 @@ MayEnd c out ended = (may_end c.server.running ended ≡ true) × HasAnswerRoom 
 abbrev pub IsBounded : {X Z : Type 0} → Vec X Z → Vec X Z → Type 0
 IsBounded out sent = vec_len sent ≤ vec_len out + answer_most
 
--- these lines were written, and took at most so many bytes
+-- these lines were written, and took at most that many bytes
 abbrev pub Says : {Z : Type 0} → Vec ℕ Z → Vec ℕ Z → List Reply → ℕ → Type 0
 Says out sent lines most = (sent.items ≡ out.items ++ reply_bytes lines) × Grows out sent most
 

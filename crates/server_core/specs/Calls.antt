@@ -68,11 +68,11 @@ abbrev pub behind_calls : List Call → ServerEnd → ServerEnd
 behind_calls [] e = e
 behind_calls (call ∷ calls) e = behind_calls calls (behind_call call e)
 
--- a server with these tools behind these calls, the first of them made of a new one
+-- a server with these tools after these calls, the first of them made of a new one
 abbrev pub reached : List (List ℕ) → List Call → ServerEnd
 reached tools calls = behind_calls calls (new_server_end tools)
 
--- the two calls that give a connection up
+-- the two calls that leave a connection
 abbrev pub gives_up : Call → Bool
 gives_up Leave = true
 gives_up Restart = true
@@ -177,8 +177,8 @@ abbrev pub runs_home : Option Line → Bool
 runs_home None = false
 runs_home (Some line) = is_home (Some line.command)
 
--- whether the machine is homed behind a call: it is where it is done with a Home, it is not behind the turn of a Home that is not refused
--- nor behind a restart, and each other call leaves it as it was
+-- whether the machine is homed after a call: it is homed once a Home is done; it is not homed once a Home begins that is not refused
+-- nor after a restart, and each other call leaves it as it was
 abbrev pub homed_behind : Call → ServerEnd → Bool
 homed_behind Turn e = not (begins_homing e.server) && e.server.homed
 homed_behind (Machine outcome.Done) e = runs_home e.server.running || e.server.homed
@@ -192,7 +192,7 @@ pub record RunsInError (line : Line) (e : ServerEnd) : Type 0 where
   pub error : e.server.error ≡ true
   pub runs : e.server.running ≡ Some line
 
--- it is so now and behind each of the calls
+-- it is so now and after each of the calls
 abbrev pub StaysInError : Line → List Call → ServerEnd → Type 0
 StaysInError line [] e = RunsInError line e
 StaysInError line (call ∷ calls) e = RunsInError line e × StaysInError line calls (behind_call call e)
@@ -203,7 +203,7 @@ pub record IsFull (line : Line) (e : ServerEnd) : Type 0 where
   pub runs : e.server.running ≡ Some line
   pub full : length e.server.waiting ≡ 64
 
--- the command that runs behind these calls ran already when the error state was entered, by a line that was read while 64 waited, and has
+-- the command that runs after these calls ran already when the error state was entered, by a line that was read while 64 waited, and has
 -- run in it since
 pub record RanBefore (tools : List (List ℕ)) (calls : List Call) (line : Line) : Type 0 where
   pub before : List Call

@@ -39,7 +39,7 @@ may_accept n s = not s.on && (nat_lt s.last n && nat_le n connection_most)
 abbrev pub may_feed : ServerEnd → Bool
 may_feed e = e.server.on && is_none e.input.fault
 
--- a waiting command has its turn while nothing runs
+-- a waiting command is processed while nothing runs
 abbrev pub may_turn : Server → Bool
 may_turn s = is_none s.running && not (is_empty s.waiting)
 
@@ -113,7 +113,7 @@ with_server c s = record { setup = c.setup; server = s }
 abbrev pub with_answered : ControllerValue → Answer → ControllerValue
 with_answered c a = record { setup = c.setup; server = a.server }
 
--- why bytes are not taken: the server is on no connection, it keeps a framing fault, or memory is wanting where neither is so
+-- why bytes are not taken: the server is on no connection, it keeps a framing fault, or memory runs out where neither is so
 abbrev pub IsFeedFault : ServerEnd → ServerFault → Type 0
 IsFeedFault e server_fault.NotNow = e.server.on ≡ false
 IsFeedFault e (server_fault.Framing why) = e.input.fault ≡ Some why
@@ -124,15 +124,15 @@ IsFeedFault e _ = ⊥
 abbrev pub with_fault : ServerValue → FramingFault → ServerValue
 with_fault s why = with_end s (record (s.end) { input = record (s.end.input) { fault = Some why } })
 
--- why no line is read, and what the server is then: it is on no connection, what stands at the front is no line, which is kept, or memory
--- is wanting for a line
+-- why no line is read, and what the server is then: it is on no connection, what is at the front is no line, which is kept, or memory
+-- runs out for a line
 abbrev pub IsReadFault : ServerValue → ServerValue → ServerFault → Type 0
 IsReadFault old new server_fault.NotNow = new ≡ old
 IsReadFault old new (server_fault.Framing why) = (next_of old.end.input.rest ≡ Err why) × (new ≡ with_fault old why)
 IsReadFault old new server_fault.Memory = IsLineDue (next_of old.end.input.rest) × (new ≡ old)
 IsReadFault old new _ = ⊥
 
--- why an outcome is refused: nothing runs, what runs cannot end so, a touched point is outside the volume, or memory is wanting
+-- why an outcome is refused: nothing runs, what runs cannot end so, a touched point is outside the volume, or memory runs out
 abbrev pub IsMachineFault : Server → Outcome → ServerFault → Type 0
 IsMachineFault s o server_fault.NothingRuns = s.running ≡ None
 IsMachineFault s o server_fault.WrongOutcome = (s.running ≢ None) × (fits_running s.running o ≡ false)

@@ -61,7 +61,7 @@ pub(crate) fn write_homed(out: &mut Vec<u8>, tag: Tag, homed: bool)
     write_line_end_reserved(out);
 }
 
-/// An error, with the command's name where it is known.
+/// An error, with the command's name if it is known.
 pub(crate) fn write_error(out: &mut Vec<u8>, tag: Tag, error: ErrorNumber, kind: Option<Kind>)
     requires { HasRoomFor tag out.old answer_line_most }
     ensures { Says out.old out.new (Reply.Error tag (number_of error) kind ∷ []) answer_line_most }
@@ -79,7 +79,7 @@ pub(crate) fn write_failure(out: &mut Vec<u8>, tag: Tag, error: ErrorNumber, kin
     write_complete(out, tag);
 }
 
-/// The kind of a command that was misread, where it is known.
+/// The kind of a command that was misread, if it is known.
 pub(crate) fn kind_of_misread(why: Misread) -> Option<Kind>
     ensures { result ≡ kind_in (Err why) }
 {
@@ -89,7 +89,7 @@ pub(crate) fn kind_of_misread(why: Misread) -> Option<Kind>
     }
 }
 
-/// The kind of what was read, where it is known.
+/// The kind of what was read, if it is known.
 pub(crate) fn kind_in(reading: &Result<Command, Misread>) -> Option<Kind>
     ensures { result ≡ kind_in reading.now }
 {

@@ -1,4 +1,4 @@
-// What a server keeps besides the bytes of its connection.
+// What a server keeps other than the bytes of its connection.
 
 ghost use Rattle.std.specs.Prelude.{◌≡◌, IfOk, true, None, Some, MatchOption, if◌then◌else◌};
 ghost use Rattle.server_core.specs.Serving.{new_controlled, with_server, may_accept, may_turn};
@@ -82,7 +82,7 @@ impl Model for Controller {
 }
 
 impl Controller {
-    /// A server that was never on a connection. It fails where memory is wanting for the places of what waits.
+    /// A server that was never on a connection. It fails if memory runs out for the places of what waits.
     pub(crate) fn new(alloc: Global, setup: Setup) -> Result<Controller, AllocError>
         ensures { IfOk result (λ controller. controller ≡ new_controlled setup) }
     {
@@ -127,7 +127,7 @@ impl Controller {
         self.last = number;
     }
 
-    /// All that belongs to the connection is given up.
+    /// All that belongs to the connection is discarded.
     pub(crate) fn leave(&mut self)
         ensures { self.new ≡ with_server self.old (server_left self.old.server) }
     {
@@ -140,7 +140,7 @@ impl Controller {
         self.waiting.clear();
     }
 
-    /// The server begins again: homing and tool are given up too.
+    /// The server begins again: homing and tool are discarded too.
     pub(crate) fn restart(&mut self)
         ensures { self.new ≡ with_server self.old (server_restarted self.old.server) }
     {
@@ -149,7 +149,7 @@ impl Controller {
         self.tool = None;
     }
 
-    /// Whether the first waiting command may have its turn.
+    /// Whether the first waiting command may be processed.
     pub(crate) fn may_turn(&self) -> bool
         ensures { result ≡ may_turn self.now.server }
     {

@@ -16,7 +16,7 @@ pub enum ServerFault {
     WrongOutcome,
     /// M3: a touched point is outside the machine's volume.
     OutOfVolume,
-    /// Want of memory.
+    /// Running out of memory.
     Memory,
 }
 

@@ -22,7 +22,7 @@ use fixed_um::Point;
 use protocol_model::{Line, Outcome};
 use std::alloc::AllocError;
 
-/// Appends an act on a connection. Only want of memory is an `Err`.
+/// Appends an act on a connection. Fails only if out of memory.
 pub(crate) fn record(ledger: &mut ServerLedger, connection: u64, act: Act) -> Result<(), AllocError>
     requires { IsConnection connection }
     ensures { Leads result ledger.old ledger.new (ledger.old ++ (connection, act) ∷ []) }
@@ -96,7 +96,7 @@ impl Controller {
         self.error = true;
     }
 
-    /// What runs is done: the machine is homed, a tool is changed, or the probe stands at its target. Only want of memory is an `Err`.
+    /// What runs is done: the machine is homed, a tool is changed, or the probe is at its target. Fails only if out of memory.
     fn finish(&mut self, out: &mut Vec<u8>) -> Result<(), AllocError>
         requires may { MayEnd self.old out.old outcome.Done }
         ensures { AnswersIfOk result self.old self.new out.old out.new
@@ -132,7 +132,8 @@ impl Controller {
         Ok(())
     }
 
-    /// A touch met a surface: its contact is made, with the reported point as seen from the frame's zero point. Only want of memory is an `Err`.
+    /// A touch met a surface: its contact is made, with the reported point as seen from the frame's zero point. Fails only if out of
+    /// memory.
     fn touch(&mut self, out: &mut Vec<u8>, at: Point) -> Result<(), AllocError>
         requires at { IsInVolume at }
         requires may { MayEnd self.old out.old (outcome.Touched at) }
@@ -164,7 +165,7 @@ impl Controller {
         Ok(())
     }
 
-    /// The machine is done with what runs. Only want of memory is an `Err`.
+    /// The machine is done with what runs. Fails only if out of memory.
     pub(crate) fn end(&mut self, out: &mut Vec<u8>, outcome: Outcome) -> Result<(), AllocError>
         requires may { MayEnd self.old out.old outcome }
         ensures { AnswersIfOk result self.old self.new out.old out.new

@@ -159,7 +159,7 @@ impl Controller {
         self.read_tagged(out, tag, reading);
     }
 
-    /// Reads a line of the connection. Only want of memory is an `Err`.
+    /// Reads a line of the connection. Fails only if out of memory.
     #[tactic(auto, using(crate::proofs::LinesRead::read_is_fit, crate::proofs::LinesRead::one_reading))]
     pub(crate) fn read_line(&mut self, out: &mut Vec<u8>, line: &[u8]) -> Result<(), AllocError>
         requires may { MayHear self.old out.old }

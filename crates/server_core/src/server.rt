@@ -25,13 +25,13 @@ use std::alloc::{AllocError, Global};
 use std::marker::Model;
 use tool_rack::Setup;
 
-/// The server of a measuring machine (I++ DME Interface version 1; its cases are this profile's). It stands on at most one connection.
+/// The server of a measuring machine (I++ DME Interface version 1; its cases are this profile's). It is on at most one connection.
 /// Contracts see its setup and `protocol_model`'s end of a connection: the server, the bytes that it was fed and has not read, and those
 /// that are to be sent.
 ///
-/// `accept` comes to a connection; `feed` brings bytes, `read_one` reads a line, `turn` lets the first waiting command have its turn, and
-/// `machine` says how what runs has ended. What they answer stands in `out` until `sent`. `leave` and `restart` give the connection up.
-/// Each refusal leaves the server as it was, as does want of memory; a framing fault is kept until the connection is left.
+/// `accept` comes to a connection; `feed` brings bytes, `read_one` reads a line, `turn` processes the first waiting command, and
+/// `machine` says how what runs has ended. What they answer is in `out` until `sent`. `leave` and `restart` leave the connection.
+/// Each refusal leaves the server as it was, as does running out of memory; a framing fault is kept until the connection is left.
 #[derive(Drop)]
 pub struct Server {
     controller: Controller,
@@ -56,7 +56,7 @@ impl Model for Server {
 }
 
 impl Server {
-    /// A server that was never on a connection: not homed, without a tool, with an empty ledger. Only want of memory is an `Err`.
+    /// A server that was never on a connection: not homed, without a tool, with an empty ledger. Fails only if out of memory.
     #[tactic(auto, using(crate::proofs::Servings::new_holds))]
     pub fn new(alloc: Global, setup: Setup) -> Result<Server, AllocError>
         ensures { IfOk result (λ server. server ≡ new_serving setup) }
@@ -70,7 +70,7 @@ impl Server {
     }
 
     /// Comes to the connection of this number. `NotNow` while it is on one, and where the number is not above each earlier one or is above
-    /// 4,000,000,000. It takes no memory.
+    /// 4,000,000,000. It does not allocate.
     #[tactic(auto, using(crate::proofs::Servings::accepted_holds))]
     pub fn accept(&mut self, number: u64) -> Result<(), ServerFault>
         ensures can { IsOk result ↔ (may_accept number self.old.end.server ≡ true) }
@@ -86,7 +86,7 @@ impl Server {
         }
     }
 
-    /// Takes bytes of the connection, however they were cut. `NotNow` on no connection, `Framing` behind a framing fault, in this order;
+    /// Takes bytes of the connection, however they were cut. `NotNow` on no connection, `Framing` after a framing fault, in this order;
     /// `Memory` only where neither is due.
     #[tactic(auto, using(crate::proofs::Servings::fed_holds))]
     pub fn feed(&mut self, piece: &[u8]) -> Result<(), ServerFault>
@@ -108,8 +108,8 @@ impl Server {
         }
     }
 
-    /// Reads the first whole line and answers it: true where one stood at the front, false where nothing whole does. `NotNow` on no
-    /// connection; `Framing` where what stands at the front is no line, from then on until the connection is left; `Memory` for a line alone.
+    /// Reads the first whole line and answers it: true if there was one, false if nothing whole waits. `NotNow` on no
+    /// connection; `Framing` where what is at the front is no line, from then on until the connection is left; `Memory` for a line alone.
     #[tactic(auto, using(crate::proofs::Servings::fault_holds))]
     pub fn read_one(&mut self) -> Result<bool, ServerFault>
         ensures ok { OnOk result (self.new ≡ with_end self.old (serving_read self.old.end)) }
@@ -145,14 +145,14 @@ impl Server {
         Ok(true)
     }
 
-    /// Whether a whole line stands at the front of the bytes that were fed and not read. It takes no memory.
+    /// Whether a whole line is at the start of the bytes that were fed and not read. It does not allocate.
     pub fn has_line(&self) -> bool
         ensures { IsTrue result ↔ IsLineDue (next_of self.now.end.input.rest) }
     {
         self.input.has_line()
     }
 
-    /// Lets the first waiting command have its turn: it is refused, complete at once, or runs from now on. `NotNow` while something runs and
+    /// Processes the first waiting command: it is refused, complete at once, or runs from now on. `NotNow` while something runs and
     /// where nothing waits, `Memory`.
     pub fn turn(&mut self) -> Result<(), ServerFault>
         ensures leads { Leads result self.old self.new
@@ -171,7 +171,7 @@ impl Server {
         Ok(())
     }
 
-    /// Whether a waiting command may have its turn: one waits, and nothing runs. It takes no memory.
+    /// Whether a waiting command may be processed: one waits, and nothing runs. It does not allocate.
     pub fn may_turn(&self) -> bool
         ensures { result ≡ may_turn self.now.end.server }
     {
@@ -186,9 +186,9 @@ impl Server {
         self.controller.job()
     }
 
-    /// The machine is done with what runs. `NothingRuns`; `WrongOutcome` where what runs cannot end so: `Done` ends all but a touch, `Touched`
-    /// and `Missed` end a touch, `Fault` each; `OutOfVolume` where a touched point is past the volume limit; in this order. `Memory` only where
-    /// none of them is due.
+    /// The machine is done with what runs. `NothingRuns`; `WrongOutcome` where what runs cannot end so: `Done` ends all but a touch,
+    /// `Touched` and `Missed` end a touch, `Fault` each; `OutOfVolume` where a touched point is past the volume limit; in this order.
+    /// `Memory` only where none of them is due.
     pub fn machine(&mut self, outcome: Outcome) -> Result<(), ServerFault>
         ensures leads { Leads result self.old self.new
             (with_end self.old (serving_machined outcome self.old.end)) }
@@ -210,15 +210,16 @@ impl Server {
         Ok(())
     }
 
-    /// Whether what runs can end so: something runs, its outcome is of that kind, and a touched point is inside the volume. It takes no memory.
+    /// Whether what runs can end so: something runs, its outcome is of that kind, and a touched point is inside the volume. It does not
+    /// allocate.
     pub fn may_end(&self, outcome: &Outcome) -> bool
         ensures { result ≡ may_end self.now.end.server.running outcome.now }
     {
         self.controller.check(outcome).is_ok()
     }
 
-    /// Gives the connection up: what runs stops uncompleted, and nothing is answered. Homing, tool, ledger and the last number stay. On no
-    /// connection there is nothing to give up. It takes no memory.
+    /// Leaves the connection: what runs stops uncompleted, and nothing is answered. Homing, tool, ledger and the last number stay. On no
+    /// connection there is nothing to discard. It does not allocate.
     #[tactic(auto, using(crate::proofs::Servings::left_holds))]
     pub fn leave(&mut self)
         ensures { self.new ≡ with_end self.old (serving_left self.old.end) }
@@ -228,8 +229,8 @@ impl Server {
         self.out.clear();
     }
 
-    /// Begins again, as after the machine was switched off and on: as `leave`, and homing and tool are given up too. The ledger and the last
-    /// number stay. It takes no memory.
+    /// Begins again, as after the machine was switched off and on: as `leave`, and homing and tool are discarded too. The ledger and the
+    /// last number stay. It does not allocate.
     #[tactic(auto, using(crate::proofs::Servings::restarted_holds))]
     pub fn restart(&mut self)
         ensures { self.new ≡ with_end self.old (serving_restarted self.old.end) }
@@ -246,7 +247,7 @@ impl Server {
         self.out.waiting()
     }
 
-    /// The first bytes of `out` were sent. The caller owes that there are so many. It takes no memory.
+    /// The first bytes of `out` were sent. The caller must ensure that there are that many. It does not allocate.
     #[tactic(auto, using(crate::proofs::Servings::taken_holds))]
     pub fn sent(&mut self, count: usize)
         requires { count ≤ length self.old.end.out }

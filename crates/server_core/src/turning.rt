@@ -1,4 +1,4 @@
-// The first waiting command has its turn (this profile).
+// The first waiting command is processed (this profile).
 
 ghost use Rattle.std.specs.Prelude.{◌≡◌, ◌≤◌, ◌+◌, ◌++◌, ◌∷◌, [], true, false, None, length, vec_len, vec_capacity, option_map, IfOk, OnOk, OnErr, Some, Ok};
 ghost use Rattle.dme_line.specs.Tags.{IsTag};
@@ -67,7 +67,7 @@ impl Controller {
         self.error = true;
     }
 
-    /// The first waiting command runs on the machine from now on. Only want of memory is an `Err`.
+    /// The first waiting command runs on the machine from now on. Fails only if out of memory.
     fn start(&mut self) -> Result<(), AllocError>
         requires passed { first_refusal self.old.server ≡ None }
         requires runs { runs (first_command self.old.server) ≡ true }
@@ -109,7 +109,7 @@ impl Controller {
         Ok(())
     }
 
-    /// The first waiting command selects a coordinate system, and is complete. Only want of memory is an `Err`.
+    /// The first waiting command selects a coordinate system, and is complete. Fails only if out of memory.
     fn select_frame(&mut self, out: &mut Vec<u8>, system: Csy) -> Result<(), AllocError>
         requires passed { first_refusal self.old.server ≡ None }
         requires idle { self.old.server.running ≡ None }
@@ -127,7 +127,7 @@ impl Controller {
         Ok(())
     }
 
-    /// The first waiting command asks whether the machine is homed: it is answered, and is complete. Only want of memory is an `Err`.
+    /// The first waiting command asks whether the machine is homed: it is answered, and is complete. Fails only if out of memory.
     fn answer_homed(&mut self, out: &mut Vec<u8>) -> Result<(), AllocError>
         requires passed { first_refusal self.old.server ≡ None }
         requires asks { first_command self.old.server ≡ Some command.IsHomed }
@@ -170,7 +170,7 @@ impl Controller {
         write_complete(out, tag);
     }
 
-    /// The first waiting command is carried out: some are complete at once, the others run. Only want of memory is an `Err`.
+    /// The first waiting command is carried out: some are complete at once, the others run. Fails only if out of memory.
     fn carry_out(&mut self, out: &mut Vec<u8>) -> Result<(), AllocError>
         requires passed { first_refusal self.old.server ≡ None }
         requires may { MayTurn self.old out.old }
@@ -195,7 +195,7 @@ impl Controller {
         }
     }
 
-    /// The first waiting command has its turn. Only want of memory is an `Err`.
+    /// The first waiting command is processed. Fails only if out of memory.
     pub(crate) fn turn(&mut self, out: &mut Vec<u8>) -> Result<(), AllocError>
         requires { MayTurn self.old out.old }
         ensures { AnswersIfOk result self.old self.new out.old out.new

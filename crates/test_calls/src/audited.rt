@@ -1,4 +1,4 @@
-// What an audit says of what both ends keep.
+// What an audit reports about what both ends keep.
 
 use crate::client::Made;
 use crate::stop::Stop;

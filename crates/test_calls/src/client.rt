@@ -1,10 +1,10 @@
 // A client that is driven by words.
 //
-// An action is a line that is fed and read, or a word for another call; it shows the lines that are written, each with `;` for its end, and the
-// state, or why the call is refused; a reader's word shows what it answers. `ended` sends the command that is due and reads that it is received
-// and done, `touched` and `told` with the text of its data between them; `IsHomed(0)` is that of the question whether the machine is homed
-// where no other text stands there. `ended n` and `sends n` do so with more commands and show no line. `letters n` feeds so many letters A,
-// `bare` a line that ends with LF alone; `aborts n` sends so many aborts that fail.
+// An action is a line that is fed and read, or a word for another call; it shows the lines that are written, each with `;` for its end, and
+// the state, or why the call is refused; a reader's word shows what it answers. `ended` sends the command that is due and reads that it is
+// received and done, `touched` and `told` with the text of its data between them; without another text, a question whether the machine is
+// homed is answered by `IsHomed(0)`. `ended n` and `sends n` do so with n commands and show no line. `letters n` feeds n letters A, `bare`
+// a line that ends with LF alone; `aborts n` sends n aborts that fail.
 
 use crate::hostile;
 use crate::shown::{push_act, push_debug, push_display, push_features, push_lines, push_text};
@@ -16,7 +16,8 @@ use dmis_program::{Frames, Program};
 use link_world::{report_of, write_report};
 use std::alloc::{AllocError, Global};
 
-/// What a client is made of: the text of its program, the frames that it may recall, its window, and the text of the features that it holds.
+/// What a client is made of: the text of its program, the frames that it may recall, its window, and the text of the features that it
+/// holds.
 #[derive(Clone, Copy)]
 pub(crate) struct Made<'a> {
     pub(crate) held: &'a str,
@@ -25,7 +26,7 @@ pub(crate) struct Made<'a> {
     pub(crate) window: u8,
 }
 
-/// The features of a text; none where there is no text.
+/// The features of a text; none if there is no text.
 fn held(alloc: Global, text: &str) -> Result<FeatureLedger, Stop> {
     if text.is_empty() {
         return Ok(FeatureLedger::new(alloc));
@@ -104,7 +105,7 @@ impl Called<Call<'_>, ClientFault> for Client {
     }
 }
 
-/// Makes a call, once more where memory is short for it.
+/// Makes a call, and once more if memory is short for it.
 fn make(tries: &mut Tries, client: &mut Client, call: Call<'_>) -> Result<bool, ClientFault> {
     tries.call(client, ClientFault::Memory, &call)
 }
@@ -131,7 +132,8 @@ fn tag_of(line: &[u8]) -> [u8; 5] {
     }
 }
 
-/// The data that are given to what was written: this text, or, where it is empty, that the machine is not homed to who asks for that.
+/// The data for a written command: this text. If it is empty, a command that asks whether the machine is homed gets the answer that it is
+/// not.
 fn data_for<'a>(written: &[u8], text: &'a str) -> &'a str {
     if text.is_empty() && written.ends_with(b" IsHomed()\r\n") {
         "IsHomed(0)"
@@ -140,7 +142,7 @@ fn data_for<'a>(written: &[u8], text: &'a str) -> &'a str {
     }
 }
 
-/// What was sent under a tag is received, given its data where there are some, and done.
+/// What was sent under a tag is received, given its data if there are any, and done.
 fn end_tagged(
     tries: &mut Tries,
     client: &mut Client,
@@ -154,7 +156,7 @@ fn end_tagged(
     feed_line(tries, client, &[tag, b" %\r\n"])
 }
 
-/// The command that is due is sent, received, given its data where a text stands here or it asks whether the machine is homed, and done.
+/// The command that is due is sent, received, given its data if a text is given here or it asks whether the machine is homed, and done.
 fn end_one(tries: &mut Tries, client: &mut Client, text: &str) -> Result<bool, ClientFault> {
     make(tries, client, Call::Send)?;
     let tag = tag_of(client.out());
@@ -162,7 +164,7 @@ fn end_one(tries: &mut Tries, client: &mut Client, text: &str) -> Result<bool, C
     end_tagged(tries, client, &tag, data)
 }
 
-/// So many commands, one after another.
+/// That many commands, one after another.
 fn end_all(tries: &mut Tries, client: &mut Client, count: u32) -> Result<(), ClientFault> {
     for _ in 0..count {
         end_one(tries, client, "")?;
@@ -179,7 +181,7 @@ fn send_all(client: &mut Client, count: u32) -> Result<(), ClientFault> {
     Ok(())
 }
 
-/// So many aborts that fail.
+/// That many aborts that fail.
 fn abort_often(tries: &mut Tries, client: &mut Client, count: u32) -> Result<(), ClientFault> {
     for _ in 0..count {
         client.abort()?;
@@ -215,7 +217,7 @@ fn called_freely(client: &mut Client, word: &str, rest: &str) -> Result<(), Clie
     Ok(())
 }
 
-/// Calls that are made so often, by their word; none of them is made again.
+/// Calls that are made that many times, by their word; none of them is made again.
 fn called_often(
     alloc: Global,
     client: &mut Client,
@@ -293,7 +295,7 @@ fn push_due(alloc: Global, out: &mut Vec<u8>, client: &Client) -> Result<(), All
     }
 }
 
-/// The state behind a call, or why it is refused.
+/// The state after a call, or why it is refused.
 fn push_done(
     alloc: Global,
     out: &mut Vec<u8>,
@@ -388,7 +390,7 @@ pub(crate) fn answer(alloc: Global, client: &mut Client, action: &str) -> Result
     Ok(text)
 }
 
-// ---- behind actions
+// ---- after actions
 
 /// A new client is connected, and does actions that all succeed.
 pub(crate) fn call_all(alloc: Global, client: &mut Client, actions: &str) -> Result<(), Stop> {
@@ -410,7 +412,7 @@ fn push_count(alloc: Global, out: &mut Vec<u8>, client: &Client) -> Result<(), A
     push_display(alloc, out, &client.completed())
 }
 
-/// The state and how many commands are counted behind a line, or why the client is Faulted.
+/// The state and how many commands are counted after a line, or why the client is Faulted.
 fn push_read(
     alloc: Global,
     out: &mut Vec<u8>,
@@ -425,7 +427,7 @@ fn push_read(
     }
 }
 
-/// What a line of these parts does behind actions.
+/// What a line of these parts does after actions.
 #[derive(Drop)]
 struct Behind<'a> {
     actions: &'a str,
@@ -458,7 +460,7 @@ fn push_mark_answers<'a>(
     Ok(())
 }
 
-/// What a line does behind the actions before it.
+/// What a line does after the actions that precede it.
 pub(crate) fn push_text_row(
     alloc: Global,
     out: &mut Vec<u8>,
@@ -470,7 +472,7 @@ pub(crate) fn push_text_row(
     push_task(alloc, out, made, &Behind { actions, line })
 }
 
-/// What the four marks do to the command of a row's tag, `#` with a point where the row has no other text.
+/// What the four marks do to the command of a row's tag, `#` with a point if the row has no other text.
 pub(crate) fn push_marks_row(
     alloc: Global,
     out: &mut Vec<u8>,

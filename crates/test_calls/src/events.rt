@@ -1,8 +1,8 @@
 // A world through events, one a row.
 //
-// A row is an instruction that is one event; `run`, the first two events of a world at once; `play` and an instruction; `then` and instructions
-// whose events are not made again; `finish`, which brings the world to its end; `report`; or `files`, the texts of both files. It shows the
-// state, how many bytes the client has written on its last connection, and how many acts are done and counted.
+// A row is an instruction that is one event; `run`, the first two events of a world at once; `play` and an instruction; `then` and
+// instructions whose events are not made again; `finish`, which brings the world to its end; `report`; or `files`, the texts of both files.
+// It shows the state, how many bytes the client has written on its last connection, and how many acts are done and counted.
 
 use crate::client;
 use crate::shown::{lined, push_debug, push_features, push_text};
@@ -45,7 +45,7 @@ impl Called<Event, WorldFault> for World {
     }
 }
 
-/// The first two events of a world happen. Where memory is short for the first of them, the second cannot.
+/// The first two events of a world happen. If memory is short for the first of them, the second cannot.
 impl Called<(), WorldFault> for World {
     fn push_all(&self, alloc: Global, out: &mut Vec<u8>) -> Result<(), AllocError> {
         push_readers(alloc, out, self)
@@ -132,7 +132,7 @@ fn push_files(alloc: Global, out: &mut Vec<u8>, world: &World) -> Result<(), Sto
     push_appended(out, text.as_slice(), written)
 }
 
-/// A world that is brought to its end by a machine. Where memory is short while that is done, the first of its events have happened: what
+/// A world that is brought to its end by a machine. If memory is short during that, the first of its events have happened: what
 /// stays are the features that the client held.
 #[derive(Drop)]
 struct Finished<'a> {
@@ -166,7 +166,7 @@ fn push_finished(alloc: Global, out: &mut Vec<u8>, world: &mut World) -> Result<
     push_tried(alloc, out, &mut finished, WorldFault::Memory, &())
 }
 
-/// A call that changes a world, and where it then stands.
+/// A call that changes a world, and its state afterwards.
 fn push_changed(
     alloc: Global,
     out: &mut Vec<u8>,
@@ -182,7 +182,7 @@ fn push_changed(
     Ok(push_told(alloc, out, world)?)
 }
 
-/// The state, and the labels of the features. How many acts are done depends on how often the end was begun.
+/// The state, and the labels of the features. How many acts are done depends on how often the end was started.
 fn push_labels(alloc: Global, out: &mut Vec<u8>, world: &World) -> Result<(), AllocError> {
     push_debug(alloc, out, &world.state())?;
     for feature in world.features() {

@@ -16,7 +16,7 @@ pub(crate) struct Made<'a> {
 }
 
 impl<'a> Made<'a> {
-    /// The same of what a client is made of, and a setup.
+    /// Likewise for what a client is made of, and a setup.
     pub(crate) fn of(client: client::Made<'a>, setup: &'a str) -> Made<'a> {
         Made {
             program: client.program,
@@ -34,7 +34,7 @@ fn read_program(alloc: Global, made: Made<'_>, setup: &Setup) -> Result<Program,
     Ok(Program::read(alloc, made.program.as_bytes(), setup.frames())?)
 }
 
-/// A new world; where memory is short for it, there is none.
+/// A new world; `None` if memory is short for it.
 fn new_world(alloc: Global, program: Program, setup: Setup, window: u8) -> Result<World, Stop> {
     match World::new(alloc, program, setup, window) {
         Ok(world) => Ok(world),
@@ -62,7 +62,7 @@ pub(crate) trait WorldTask {
     fn done(&mut self, alloc: Global, world: &mut World) -> Result<(), Stop>;
 }
 
-/// A task of a new world is done. A world is owned here alone, since a function that owns one takes the prover as long as ten others.
+/// A task of a new world is done. Only this function owns a world: one that owns a world takes the prover as long as ten others.
 pub(crate) fn do_task<T: WorldTask>(
     alloc: Global,
     made: Made<'_>,

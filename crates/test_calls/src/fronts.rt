@@ -1,4 +1,4 @@
-// The worlds behind each front of a schedule.
+// The worlds after each prefix of a schedule.
 
 use crate::ended::{push_number, push_world};
 use crate::fresh::{Made, WorldTask, do_task, play, program_of};
@@ -11,7 +11,7 @@ use std::alloc::{AllocError, Global};
 /// More bytes than ever wait on a way.
 const BYTES_MOST: u64 = 1_000_000;
 
-/// How worlds are stopped behind a front, and what is done with each of them.
+/// How worlds are stopped after a prefix, and what is done with each of them.
 #[derive(Clone, Copy)]
 pub(crate) struct Stops<'a> {
     pub(crate) ways: &'a str,
@@ -23,7 +23,7 @@ fn byte_moves(is_up: bool) -> Event {
     if is_up { Event::Up(1) } else { Event::Down(1) }
 }
 
-/// How many bytes wait on a way. They are moved for it.
+/// How many bytes wait on a way. Counting moves them.
 fn bytes_moved(world: &mut World, is_up: bool) -> Result<u64, Stop> {
     for count in 0..BYTES_MOST {
         match world.step(byte_moves(is_up)) {
@@ -35,7 +35,7 @@ fn bytes_moved(world: &mut World, is_up: bool) -> Result<u64, Stop> {
     Err(Stop::Row)
 }
 
-/// The first and the last number of the worlds that a way has behind a front. The world is spent for it.
+/// The first and the last number of the worlds that a way has after a prefix. Uses up the world.
 fn numbers(world: &mut World, word: &str) -> Result<(u64, u64), Stop> {
     match word {
         "once" => Ok((0, 0)),
@@ -46,7 +46,7 @@ fn numbers(world: &mut World, word: &str) -> Result<(u64, u64), Stop> {
     }
 }
 
-/// The same of the world behind a front.
+/// Likewise for the world after a prefix.
 #[derive(Drop)]
 struct NumbersBehind<'a> {
     front: &'a [u8],
@@ -62,7 +62,7 @@ impl WorldTask for NumbersBehind<'_> {
     }
 }
 
-/// The first and the last number of the worlds that a way has behind this front.
+/// The first and the last number of the worlds that a way has after this prefix.
 fn numbers_behind(
     alloc: Global,
     made: Made<'_>,
@@ -78,7 +78,7 @@ fn numbers_behind(
     Ok(task.found)
 }
 
-/// Instructions with `;` behind each, as lines; each `*` is this number.
+/// Instructions, each followed by `;`, as lines; each `*` is this number.
 fn push_lined(alloc: Global, text: &mut Vec<u8>, row: &str, number: u64) -> Result<(), AllocError> {
     for byte in row.as_bytes() {
         match *byte {
@@ -90,7 +90,7 @@ fn push_lined(alloc: Global, text: &mut Vec<u8>, row: &str, number: u64) -> Resu
     Ok(())
 }
 
-/// A front, what is done behind it, and the ending.
+/// A prefix, what is done after it, and the ending.
 fn whole_text(
     alloc: Global,
     (front, ending): (&[u8], &str),
@@ -104,7 +104,7 @@ fn whole_text(
     Ok(text)
 }
 
-/// A world behind a text of instructions, with the numbers of its way and its own before it.
+/// A world after a text of instructions, preceded by the number of its way and its own number.
 fn push_end(
     alloc: Global,
     out: &mut Vec<u8>,
@@ -119,7 +119,7 @@ fn push_end(
     push_behind(alloc, out, (made, program), text)
 }
 
-/// A world behind a text of instructions is written.
+/// Writes a world after a text of instructions.
 #[derive(Drop)]
 struct Behind<'a> {
     out: &'a mut Vec<u8>,
@@ -134,7 +134,7 @@ impl WorldTask for Behind<'_> {
     }
 }
 
-/// The same of a new world.
+/// Likewise for a new world.
 fn push_behind(
     alloc: Global,
     out: &mut Vec<u8>,
@@ -145,7 +145,7 @@ fn push_behind(
     do_task(alloc, made, &mut task)
 }
 
-/// A world that is stopped behind a front, at its end.
+/// A world that is stopped after a prefix, at its end.
 fn push_stopped(
     alloc: Global,
     out: &mut Vec<u8>,
@@ -157,7 +157,7 @@ fn push_stopped(
     push_end(alloc, out, (made, program), text.as_slice(), (way, number))
 }
 
-/// The worlds of a way behind a front.
+/// The worlds of a way after a prefix.
 fn push_way(
     alloc: Global,
     out: &mut Vec<u8>,
@@ -179,7 +179,7 @@ fn push_way(
     Ok(())
 }
 
-/// The worlds of each way behind a front.
+/// The worlds of each way after a prefix.
 fn push_ways(
     alloc: Global,
     out: &mut Vec<u8>,
@@ -201,7 +201,7 @@ fn push_ways(
     Ok(())
 }
 
-/// The world behind a front as it is, and then the worlds of each way.
+/// The world after a prefix as it is, and then the worlds of each way.
 fn push_front(
     alloc: Global,
     out: &mut Vec<u8>,
@@ -214,7 +214,7 @@ fn push_front(
     push_ways(alloc, out, (made, program), stops, front)
 }
 
-/// The fronts of a schedule, from the empty one to the whole.
+/// The prefixes of a schedule, from the empty one to the whole.
 pub(crate) fn push_fronts(
     alloc: Global,
     out: &mut Vec<u8>,

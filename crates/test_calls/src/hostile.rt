@@ -1,9 +1,9 @@
-// Bytes that may be anything, given to either end in pieces of 1, of 7 and of 200 bytes.
+// Arbitrary bytes, given to either end in pieces of 1, 7 and 200 bytes.
 //
-// A row of `client_cuts NAME W` and `server_cuts` has the actions before, and behind ` | ` the bytes in hex. It shows where the three cuts
-// leave the end, if all leave it alike: how many lines it has read, why it reads no more, where it stands, what it has written, and what it
-// keeps. A row of `both_cuts NAME W` has the count of commands that both ends are through with, the client's bytes and the server's. Behind
-// those bytes the server works and the client hears what it has written; then both leave, and are driven to the end on another connection.
+// A row of `client_cuts NAME W` and `server_cuts` has the actions before, and after ` | ` the bytes in hex. It shows where the three cuts
+// leave the end, if all leave it alike: how many lines it has read, why it reads no more, its state, what it has written, and what it
+// keeps. A row of `both_cuts NAME W` has the count of commands that both ends have completed, the client's bytes and the server's. After
+// those bytes the server works and the client reads what it has written; then both leave, and are driven to the end on another connection.
 
 use crate::audited::has_runs;
 use crate::client::{self, ClientTask, Made};
@@ -17,7 +17,7 @@ use server_core::{Server, ServerFault};
 use std::alloc::{AllocError, Global};
 use std::fmt::Debug;
 
-/// What a row gives: what happens before, the bytes of one end, and where both are given some those of the server.
+/// What a row gives: what happens before, the bytes of one end, and if both get some, those of the server.
 #[derive(Drop)]
 struct Given<'a> {
     before: &'a str,
@@ -45,7 +45,7 @@ fn hear(client: &mut Client, piece: &[u8], lines: &mut u64) -> Result<(), Client
     Ok(())
 }
 
-/// The same of a server.
+/// Likewise for a server.
 fn read(server: &mut Server, piece: &[u8], lines: &mut u64) -> Result<(), ServerFault> {
     server.feed(piece)?;
     for _ in 0..piece.len() {
@@ -94,7 +94,7 @@ fn hear_all(
     push_read(alloc, out, lines, &answer)
 }
 
-/// The same of a server.
+/// Likewise for a server.
 fn read_all(
     alloc: Global,
     out: &mut Vec<u8>,
@@ -111,7 +111,7 @@ fn read_all(
     push_read(alloc, out, lines, &answer)
 }
 
-/// Where a client stands.
+/// The state of a client.
 fn push_state(alloc: Global, out: &mut Vec<u8>, client: &Client) -> Result<(), AllocError> {
     push_debug(alloc, out, &client.state())?;
     push_text(out, " ")?;
@@ -121,7 +121,7 @@ fn push_state(alloc: Global, out: &mut Vec<u8>, client: &Client) -> Result<(), A
     push_text(out, " completed: ")
 }
 
-/// Where a client stands, what it has written, and what it keeps.
+/// The state of a client, what it has written, and what it keeps.
 pub(crate) fn push_client(
     alloc: Global,
     out: &mut Vec<u8>,
@@ -133,7 +133,7 @@ pub(crate) fn push_client(
     push_features(alloc, out, client.features())
 }
 
-/// The same of a server.
+/// Likewise for a server.
 pub(crate) fn push_server(
     alloc: Global,
     out: &mut Vec<u8>,
@@ -148,7 +148,7 @@ pub(crate) fn push_server(
 
 // ---- both ends
 
-/// The machine ends what runs, or what waits has its turn.
+/// The machine ends what runs, or what waits is processed.
 fn work_once<M: Machine>(server: &mut Server, machine: &mut M) -> Result<(), Stop> {
     let number = server.ledger().contacts();
     if let Some(job) = server.running() {
@@ -208,7 +208,7 @@ fn push_both(
     push_server(alloc, out, server)
 }
 
-/// Both take their bytes, each apart.
+/// Both take their bytes, each separately.
 fn take_both(
     alloc: Global,
     out: &mut Vec<u8>,
@@ -220,7 +220,7 @@ fn take_both(
     read_all(alloc, out, server, (cut.given.others.as_slice(), cut.size))
 }
 
-/// The server works, and the client hears what it has written.
+/// The server works, and the client reads what it has written.
 fn work_and_hear<M: Machine>(
     alloc: Global,
     out: &mut Vec<u8>,
@@ -233,7 +233,7 @@ fn work_and_hear<M: Machine>(
     Ok(push_both(alloc, out, client, server)?)
 }
 
-/// Where both stand, and whether the audit of what they keep answers RUNS.
+/// The states of both, and whether the audit of what they keep answers RUNS.
 fn push_audited(
     alloc: Global,
     out: &mut Vec<u8>,
@@ -246,7 +246,7 @@ fn push_audited(
     Ok(push_text(out, if has_runs { "RUNS" } else { "NONE" })?)
 }
 
-/// The server works and the client hears it; then both are driven to the end.
+/// The server works and the client reads its answers; then both are driven to the end.
 fn go_on(
     alloc: Global,
     out: &mut Vec<u8>,
@@ -259,7 +259,7 @@ fn go_on(
     run_on(client, server, &mut machine)
 }
 
-/// Both behind a count of commands.
+/// Both ends after a count of commands.
 impl BothTask for Cut<'_> {
     fn push(
         &self,
@@ -277,7 +277,7 @@ impl BothTask for Cut<'_> {
 
 // ---- rows
 
-/// A client behind actions.
+/// A client after actions.
 impl ClientTask for Cut<'_> {
     fn push(&self, alloc: Global, out: &mut Vec<u8>, client: &mut Client) -> Result<(), Stop> {
         client::call_all(alloc, client, self.given.before)?;
@@ -286,7 +286,7 @@ impl ClientTask for Cut<'_> {
     }
 }
 
-/// A server behind actions.
+/// A server after actions.
 impl ServerTask for Cut<'_> {
     fn push(&self, alloc: Global, out: &mut Vec<u8>, server: &mut Server) -> Result<(), Stop> {
         server::call_all(alloc, server, self.given.before)?;
@@ -335,7 +335,7 @@ fn given_of(alloc: Global, row: &str) -> Result<Given<'_>, Stop> {
     })
 }
 
-/// The text with one more behind it, where that is another.
+/// The text, followed by another one if that differs.
 fn push_other(all: &mut Vec<u8>, other: &[u8]) -> Result<(), AllocError> {
     if other == all.as_slice() {
         return Ok(());

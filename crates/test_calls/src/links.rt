@@ -1,13 +1,13 @@
 // Turns and runs over ports in memory.
 //
-// A row says what it asks for, and behind ` < ` what comes in. It asks by words with numbers: `least` and `bound` of a turn, `read` and `write`
-// for the call that fails on either side's port, `takes` for the most bytes that go out at once; in a loop these are the client's ports. What
-// comes in is one piece, or `all` pieces that the program's part has: `replies NAME` for a client and `commands NAME` for a server. It shows
-// what the call answers, where the side then stands, the lines that went out, and the features.
+// A row says what it asks for, and after ` < ` what comes in. It asks by words with numbers: `least` and `bound` of a turn, `read` and
+// `write` for the call that fails on either side's port, `takes` for the most bytes that go out at once; in a loop these are the client's
+// ports. What comes in is one piece, or `all` pieces that the program's part has: `replies NAME` for a client and `commands NAME` for a
+// server. It shows what the call answers, the side's state after it, the lines that went out, and the features.
 //
-// Where a row asks for `again`, a call for which memory is short is made again. A side has then left its connection, and keeps what it holds: what
-// it has measured or done until then may stand behind that. So it comes to the next connection first, and goes on from there; where all was
-// measured, what comes in is that of `last replies NAME` and `last commands NAME`.
+// If a row asks for `again`, a call for which memory is short is made again. A side has then left its connection, and keeps what it holds:
+// this may lack some of what it measured or did until then. So it first comes to the next connection, and continues from there; if
+// everything was measured, what comes in is that of `last replies NAME` and `last commands NAME`.
 
 use crate::client::{self, ClientTask, Made, connect};
 use crate::hostile;
@@ -30,7 +30,7 @@ use std::alloc::{AllocError, Global};
 pub(crate) struct Script<'a> {
     pub(crate) replies: &'a str,
     pub(crate) commands: &'a str,
-    /// The same where all was measured.
+    /// Likewise if everything was measured.
     pub(crate) last_replies: &'a str,
     pub(crate) last_commands: &'a str,
 }
@@ -46,7 +46,7 @@ struct Asked {
     again: u32,
 }
 
-/// What a row asks for that has no words: all at once, and no call that fails.
+/// What a row without words asks for: all at once, and no call that fails.
 fn plain() -> Asked {
     Asked {
         least: 1,
@@ -102,7 +102,7 @@ fn sink(alloc: Global, asked: Asked) -> Takes {
     }
 }
 
-/// What a row asks for, and what comes in: `all`, or the text that stands there.
+/// What a row asks for, and what comes in: `all`, or the text that is given there.
 fn parted<'a>(row: &'a str, all: &'a str) -> Result<(Asked, &'a str), Stop> {
     let (words, text) = row.split_once(" < ").ok_or(Stop::Row)?;
     Ok((words_of(words)?, if text == "all" { all } else { text }))
@@ -126,7 +126,7 @@ fn new_ports(alloc: Global, asked: Asked, pieces: &str) -> Result<MemoryPorts, S
 
 // ---- what is shown
 
-/// Where a client stands.
+/// The state of a client.
 fn push_state(alloc: Global, out: &mut Vec<u8>, client: &Client) -> Result<(), AllocError> {
     let state = client.state();
     let connection = if client.is_on() { "on" } else { "off" };
@@ -136,7 +136,7 @@ fn push_state(alloc: Global, out: &mut Vec<u8>, client: &Client) -> Result<(), A
     )
 }
 
-/// Where a client stands, what went out, and its features.
+/// The state of a client, what went out, and its features.
 fn push_client(
     alloc: Global,
     out: &mut Vec<u8>,
@@ -148,7 +148,7 @@ fn push_client(
     push_features(alloc, out, client.features())
 }
 
-/// Where a server stands, and what went out.
+/// The state of a server, and what went out.
 fn push_server(out: &mut Vec<u8>, server: &mut Server, output: &Takes) -> Result<(), AllocError> {
     push_text(out, if is_on(server) { " on: " } else { " off: " })?;
     push_lines(out, output.taken())
@@ -180,7 +180,7 @@ impl Told {
         push_text(&mut self.text, ";")
     }
 
-    /// What it was told, where memory sufficed.
+    /// What was reported to it, if memory sufficed.
     fn push_to(&self, out: &mut Vec<u8>) -> Result<(), AllocError> {
         if self.is_short {
             return Err(AllocError);
@@ -231,7 +231,7 @@ fn push_ran(
     push_client(alloc, out, client, &ports.sink)
 }
 
-/// What the watcher of a whole run is told.
+/// What is reported to the watcher of a whole run.
 fn push_watched(
     alloc: Global,
     out: &mut Vec<u8>,
@@ -259,7 +259,7 @@ fn push_called(
     }
 }
 
-/// A call of this word of a client or a server over new ports, into which these pieces come, or the last ones where all was measured.
+/// A call of this word of a client or a server over new ports, into which these pieces come, or the last ones if everything was measured.
 #[derive(Drop)]
 struct Call<'a> {
     asked: Asked,
@@ -295,7 +295,7 @@ impl ClientTask for Call<'_> {
 
 // ---- calls that are made again
 
-/// What calls have shown that come to a connection of their own.
+/// What calls have shown, each on a connection of its own.
 pub(crate) trait Shows {
     fn shown(&self) -> &[u8];
 }
@@ -314,7 +314,7 @@ fn push_again<C, V: Called<C, Stop> + Shows>(
     Ok(out.extend_from_slice(value.shown())?)
 }
 
-/// An answer of either side begins so.
+/// What an answer of either side begins with.
 fn begins(shown: &[u8], answer: &[u8]) -> bool {
     let inner = match shown.split_at_checked(7) {
         Some((b"Client(" | b"Server(", inner)) => inner,
@@ -323,7 +323,7 @@ fn begins(shown: &[u8], answer: &[u8]) -> bool {
     inner.starts_with(answer)
 }
 
-/// Whether memory was short for a call that shows this. A port that fails has none for what goes out.
+/// Whether memory was short for a call that shows this. A port that fails has no memory for what goes out.
 fn judged(shown: &[u8]) -> Result<bool, Stop> {
     if begins(shown, b"Memory") {
         return Err(Stop::Refused);
@@ -367,7 +367,7 @@ struct Calling<'a> {
     held: usize,
     last: u64,
     shown: Vec<u8>,
-    /// What a watcher was told in all runs.
+    /// What was reported to a watcher in all runs.
     told: Told,
 }
 
@@ -539,7 +539,7 @@ fn push_looped(
     push_answer(alloc, out, &answer)
 }
 
-/// The same, and what it leaves on both sides.
+/// Likewise, and what it leaves on both sides.
 fn push_both(
     alloc: Global,
     out: &mut Vec<u8>,
@@ -552,7 +552,7 @@ fn push_both(
     push_server(out, server, &ports.server.sink)
 }
 
-/// A run of both sides over new ports, of which the server's take and give all at once.
+/// A run of both sides over new ports; those of the server take and give all at once.
 #[derive(Drop)]
 struct Loop<'a> {
     asked: Asked,
@@ -705,7 +705,7 @@ fn push_loop_row(
     push_both_task(alloc, out, ends, &task)
 }
 
-/// What a row of a client's ports shows: a loop, a turn, a run, or what a watcher is told.
+/// What a row of a client's ports shows: a loop, a turn, a run, or what is reported to a watcher.
 pub(crate) fn push_client_row(
     alloc: Global,
     out: &mut Vec<u8>,

@@ -14,7 +14,7 @@ use server_core::Server;
 use std::alloc::{AllocError, Global};
 use tool_rack::Setup;
 
-/// The text of the part with this head; none where there is no such part.
+/// The text of the part with this head; none if there is no such part.
 fn part<'a>(input: &'a str, head: &str) -> Option<&'a str> {
     for piece in input.split("[") {
         if let Some((title, text)) = piece.split_once("]\n")
@@ -26,7 +26,7 @@ fn part<'a>(input: &'a str, head: &str) -> Option<&'a str> {
     None
 }
 
-/// A line that no row is.
+/// A line that is not a row.
 fn is_comment(row: &str) -> bool {
     row.starts_with("-- ")
 }
@@ -43,7 +43,7 @@ fn push_row(out: &mut Vec<u8>, row: &str, answer: &[u8]) -> Result<(), AllocErro
     push_text(out, "\n")
 }
 
-/// The answer of a row, or the words for a call that was not as it has to be where memory was short for it.
+/// The answer of a row, or the words for a call that did not behave as required when memory was short for it.
 fn push_answer_of(out: &mut Vec<u8>, row: &str, answer: Result<Vec<u8>, Stop>) -> Result<(), Stop> {
     match answer {
         Ok(answer) => Ok(push_row(out, row, answer.as_slice())?),
@@ -53,7 +53,7 @@ fn push_answer_of(out: &mut Vec<u8>, row: &str, answer: Result<Vec<u8>, Stop>) -
     }
 }
 
-/// A row of a client, which goes on from the one before.
+/// A row of a client, which continues from the one before.
 fn push_client_row(
     alloc: Global,
     out: &mut Vec<u8>,
@@ -70,7 +70,7 @@ fn push_client_row(
     push_answer_of(out, row, answer)
 }
 
-/// The rows of a part, one call of one end behind another.
+/// The rows of a part, calls of one end in succession.
 #[derive(Drop)]
 struct Rows<'a> {
     text: &'a str,
@@ -85,7 +85,7 @@ impl ClientTask for Rows<'_> {
     }
 }
 
-/// What a row says of a client, or of both ends, of a program.
+/// What a row shows of a client, or of both ends, of a program.
 fn push_program_row(
     alloc: Global,
     out: &mut Vec<u8>,
@@ -104,7 +104,7 @@ fn push_program_row(
     }
 }
 
-/// What a row says of a text, or of a server of the setup.
+/// What a row shows of a text, or of a server of the setup.
 fn push_text_row(
     alloc: Global,
     out: &mut Vec<u8>,
@@ -142,7 +142,7 @@ fn push_row_answer(
     push_text_row(alloc, out, setup, row)
 }
 
-/// What a row of a part says that stands by itself.
+/// What an independent row of a part shows.
 fn row_answer(alloc: Global, ends: (Made<'_>, &str), row: (&str, &str)) -> Result<Vec<u8>, Stop> {
     let mut answer = Vec::new(alloc);
     push_row_answer(alloc, &mut answer, ends, row)?;
@@ -210,7 +210,7 @@ fn push_link_rows(
     Ok(())
 }
 
-/// A row of a server, which goes on from the one before.
+/// A row of a server, which continues from the one before.
 fn push_server_row(
     alloc: Global,
     out: &mut Vec<u8>,
@@ -236,7 +236,7 @@ impl ServerTask for Rows<'_> {
     }
 }
 
-/// A row of a world, which goes on from the one before.
+/// A row of a world, which continues from the one before.
 fn push_world_row(
     alloc: Global,
     out: &mut Vec<u8>,
@@ -265,7 +265,7 @@ fn push_world_rows(
     Ok(())
 }
 
-/// The rows of a part, one call of a world behind another.
+/// The rows of a part, calls of a world in succession.
 #[derive(Drop)]
 struct WorldRows<'a> {
     out: &'a mut Vec<u8>,
@@ -278,7 +278,7 @@ impl WorldTask for WorldRows<'_> {
     }
 }
 
-/// The text of the part of this word and name; an empty one where there is none.
+/// The text of the part of this word and name; empty if there is no such part.
 fn named<'a>(alloc: Global, input: &'a str, word: &str, name: &str) -> Result<&'a str, AllocError> {
     let head = format!(in alloc; "{word} {name}")?;
     Ok(part(input, head.as_str()).unwrap_or(""))
@@ -306,7 +306,7 @@ fn push_linked(
     push_link_rows(alloc, out, ends, (script, word), text)
 }
 
-/// What became of worlds that were stopped behind each front of a schedule, or what a list of events did.
+/// What became of worlds that were stopped after each prefix of a schedule, or what a list of events did.
 fn push_stopped(
     alloc: Global,
     out: &mut Vec<u8>,
@@ -349,7 +349,7 @@ fn push_made_rows(
     }
 }
 
-/// The rows of a part by its head: a word, and where it asks for one a program and a window.
+/// The rows of a part by its head: a word, and if it asks for them a program and a window.
 fn push_rows_of(
     alloc: Global,
     out: &mut Vec<u8>,
@@ -379,7 +379,7 @@ fn is_text(word: &str) -> bool {
     }
 }
 
-/// The rows of a part by its head; of a text that others are made of the text as it stands.
+/// The rows of a part by its head; for a text that others are made of, the text unchanged.
 fn push_answers(
     alloc: Global,
     out: &mut Vec<u8>,
@@ -397,7 +397,7 @@ fn push_answers(
     push_rows_of(alloc, out, (input, setup), (word, rest), text)
 }
 
-/// A part with its answers. Where the program is out of memory, or memory is short for what the part is made of, it is begun anew, once.
+/// A part with its answers. If the program is out of memory, or memory is short for what the part is made of, it is started again, once.
 fn push_part(alloc: Global, out: &mut Vec<u8>, input: &str, piece: &str) -> Result<(), Stop> {
     let count = out.len();
     match push_part_once(alloc, out, input, piece) {
@@ -419,7 +419,7 @@ fn push_part_once(alloc: Global, out: &mut Vec<u8>, input: &str, piece: &str) ->
     push_answers(alloc, out, input, words, text)
 }
 
-/// The input with the answer of each row behind it.
+/// The input, with each row followed by its answer.
 pub(crate) fn answered(alloc: Global, input: &str) -> Result<Vec<u8>, Stop> {
     let mut out = Vec::new(alloc);
     for piece in input.split("[") {

@@ -1,4 +1,4 @@
-// A new world through many events: each shows `1` where it happens, else `0`; `show` and `files` are no events.
+// A new world through many events: each shows `1` if it happens, else `0`; `show` and `files` are not events.
 
 use crate::ended::{push_files, push_world};
 use crate::fresh::{Made, WorldTask, do_task, program_of};
@@ -17,7 +17,7 @@ fn instruction_of(alloc: Global, row: &str) -> Result<Instruction, Stop> {
     }
 }
 
-/// The event that an instruction is, as the world stands; none where it is none.
+/// The event that an instruction is in the present world; none if it is not an event.
 fn event_of<M: Machine>(
     world: &World,
     machine: &mut M,
@@ -49,10 +49,10 @@ fn happens(world: &mut World, event: Option<Event>) -> Result<bool, Stop> {
     }
 }
 
-/// At most so many bytes are moved at once.
+/// At most this many bytes are moved at once.
 const PIECE_MOST: usize = 2_000;
 
-/// So many bytes move.
+/// This many bytes move.
 fn piece_moves(is_up: bool, count: usize) -> Event {
     if is_up {
         Event::Up(count)
@@ -61,7 +61,7 @@ fn piece_moves(is_up: bool, count: usize) -> Event {
     }
 }
 
-/// All bytes that wait on their way are moved by one event, at most so many; whether there were any.
+/// One event moves all bytes that wait on their way, up to the given number. Answers whether there were any.
 fn moves_all(world: &mut World, is_up: bool) -> Result<bool, Stop> {
     for less in 0..PIECE_MOST {
         if happens(world, Some(piece_moves(is_up, PIECE_MOST - less)))? {
@@ -71,7 +71,7 @@ fn moves_all(world: &mut World, is_up: bool) -> Result<bool, Stop> {
     Ok(false)
 }
 
-/// Whether the event of a row happens, where so many connections were made before.
+/// Whether the event of a row happens, if this many connections were made before.
 fn row_happens<M: Machine>(
     alloc: Global,
     world: &mut World,
@@ -90,7 +90,7 @@ fn row_happens<M: Machine>(
     }
 }
 
-/// The event of a row: `1` where it happens, else `0`; and how many connections are made behind it.
+/// The event of a row: `1` if it happens, else `0`; and how many connections have been made after it.
 fn push_event<M: Machine>(
     alloc: Global,
     out: &mut Vec<u8>,

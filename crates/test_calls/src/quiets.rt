@@ -1,4 +1,4 @@
-// Undisturbed runs, and worlds that are brought to their end behind each event of a schedule.
+// Undisturbed runs, and worlds that are brought to their end after each event of a schedule.
 
 use crate::client::Made;
 use crate::shown::{lined, push_debug, push_display, push_features, push_text};
@@ -33,7 +33,7 @@ fn read_program(alloc: Global, text: &str, setup: &Setup) -> Result<Program, Sto
     Ok(Program::read(alloc, text.as_bytes(), setup.frames())?)
 }
 
-/// What the undisturbed run leaves; none where there is no such window.
+/// What the undisturbed run leaves; none if there is no such window.
 fn ran(
     alloc: Global,
     made: Made<'_>,
@@ -68,7 +68,7 @@ pub(crate) fn push_quiet_row(
     Ok(push_ran(alloc, out, quiet)?)
 }
 
-/// How many worlds were brought to their end, how many could not be, since all was measured, and how many were not Done behind it.
+/// How many worlds were brought to their end, how many could not be because everything was measured, and how many were not Done after it.
 #[derive(Drop)]
 struct Ends {
     finished: u32,
@@ -85,7 +85,7 @@ impl Ends {
         }
     }
 
-    /// The world behind the front of a schedule is brought to its end.
+    /// Brings the world after a prefix of a schedule to its end.
     fn count_front(
         &mut self,
         alloc: Global,
@@ -98,7 +98,7 @@ impl Ends {
         Ok(())
     }
 
-    /// The worlds behind each front of a schedule are brought to their end.
+    /// Brings the worlds after each prefix of a schedule to their end.
     fn count_fronts(
         &mut self,
         alloc: Global,
@@ -120,7 +120,7 @@ impl Ends {
     }
 }
 
-/// The counts of the worlds behind each front of a schedule.
+/// The counts of the worlds after each prefix of a schedule.
 pub(crate) fn push_finish_row(
     alloc: Global,
     out: &mut Vec<u8>,

@@ -1,7 +1,7 @@
 // A server that is driven by words.
 //
-// An action is a line that is fed and read, or a word for another call; it shows the lines that are answered, each with `;` for its end, or why
-// the call is refused. `homes n` reads 65 commands `Home()` behind tag number n.
+// An action is a line that is fed and read, or a word for another call; it shows the lines that are answered, each with `;` for its end, or
+// why the call is refused. `homes n` reads 65 commands `Home()` with the tags that follow number n.
 
 use crate::client::{self, ClientTask, Made};
 use crate::hostile;
@@ -91,7 +91,7 @@ fn take_out(server: &mut Server) {
     server.sent(count);
 }
 
-/// Whether a server takes bytes: it stands on a connection.
+/// Whether a server takes bytes: it is on a connection.
 pub(crate) fn is_on(server: &mut Server) -> bool {
     server.feed(b"").is_ok()
 }
@@ -146,7 +146,7 @@ impl Called<Call<'_>, ServerFault> for Server {
     }
 }
 
-/// Makes a call, once more where memory is short for it.
+/// Makes a call, and once more if memory is short for it.
 fn make(tries: &mut Tries, server: &mut Server, call: Call<'_>) -> Result<bool, ServerFault> {
     tries.call(server, ServerFault::Memory, &call)
 }
@@ -181,7 +181,7 @@ fn tag(number: u32) -> [u8; 5] {
     tag
 }
 
-/// 65 commands `Home()` behind this number, with no turn between them.
+/// 65 commands `Home()` with the tags that follow this number, with no turn between them.
 fn feed_homes(tries: &mut Tries, server: &mut Server, number: u32) -> Result<bool, ServerFault> {
     for nth in 1..=65u32 {
         let tag = tag(number.saturating_add(nth));
@@ -271,7 +271,7 @@ fn push_connection(
     }
 }
 
-/// The tool in the head, with `;` behind it.
+/// The tool in the head, followed by `;`.
 fn push_tool(out: &mut Vec<u8>, tool: Option<&Name>) -> Result<(), AllocError> {
     match tool {
         Some(tool) => out.extend_from_slice(tool.as_bytes())?,
@@ -280,7 +280,7 @@ fn push_tool(out: &mut Vec<u8>, tool: Option<&Name>) -> Result<(), AllocError> {
     out.extend_from_slice(b";")
 }
 
-/// The frame that is selected and the place that is stored, each with `;` behind it.
+/// The frame that is selected and the place that is stored, each followed by `;`.
 fn push_frames(out: &mut Vec<u8>, frame: Frame, stored: Point) -> Result<(), AllocError> {
     push_frame(out, frame)?;
     out.extend_from_slice(b";")?;

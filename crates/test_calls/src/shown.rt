@@ -5,7 +5,7 @@ use fixed_um::{Dir, Frame, Point, write_dir, write_um};
 use std::alloc::{AllocError, Global};
 use std::fmt::{Debug, Display};
 
-/// The text of a row: `;` stands for LF, `|` for CR.
+/// The text of a row: `;` means LF, `|` CR.
 pub(crate) fn lined(alloc: Global, row: &str) -> Result<Vec<u8>, AllocError> {
     let mut text = Vec::new(alloc);
     for byte in row.as_bytes() {
@@ -109,7 +109,7 @@ fn push_asked(
     out.extend_from_slice(tool)
 }
 
-/// A word and a place, with its frame behind it.
+/// A word and a place, followed by its frame.
 fn push_placed(
     out: &mut Vec<u8>,
     word: &str,
@@ -175,7 +175,7 @@ pub(crate) fn push_act(out: &mut Vec<u8>, act: &Act) -> Result<(), AllocError> {
     push_text(out, ";")
 }
 
-/// The connection and the frame that a feature comes from; `-` where it is not known.
+/// The connection and the frame that a feature comes from; `-` if not known.
 fn push_origin(alloc: Global, out: &mut Vec<u8>, origin: Option<Origin>) -> Result<(), AllocError> {
     let Some(Origin { connection, frame }) = origin else {
         return push_text(out, " -");

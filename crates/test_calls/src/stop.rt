@@ -11,7 +11,7 @@ use tool_rack::SetupFault;
 /// Why the program ends before the last row, or a row shows no answer.
 #[derive(Clone, Copy, Debug, PartialEq, Eq)]
 pub(crate) enum Stop {
-    /// A row or the head of its part is none.
+    /// A line is not a row, or the head of its part is not one.
     Row,
     /// A port has failed.
     Port,
@@ -25,7 +25,7 @@ pub(crate) enum Stop {
     ForEver,
 }
 
-/// A call that is to succeed is refused: the program is out of memory, or the row is none.
+/// A call that must succeed is refused: the program is out of memory, or the line is not a row.
 fn memory_or_row(is_memory: bool) -> Stop {
     if is_memory { Stop::Memory } else { Stop::Row }
 }

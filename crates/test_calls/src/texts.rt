@@ -36,7 +36,7 @@ fn push_contacts(alloc: Global, out: &mut Vec<u8>, text: &[u8]) -> Result<(), Al
     }
 }
 
-/// The same of acts.
+/// Likewise for acts.
 pub(crate) fn push_contacts_row(
     alloc: Global,
     out: &mut Vec<u8>,

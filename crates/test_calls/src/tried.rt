@@ -1,8 +1,8 @@
-// Calls that are made again where memory is short for them.
+// Calls that are made again if memory is short for them.
 //
-// Where a call answers that it is out of memory, all readers of its value have to answer as before: then the words `refused, as before; ` stand
-// in front of what the row shows, and the call is made again. A row shows `changed` where a reader answers anything else, and
-// `refused for ever` where memory is short again.
+// If a call answers that it is out of memory, all readers of its value must answer as before: then the words `refused, as before; ` come
+// before what the row shows, and the call is made again. A row shows `changed` if a reader answers anything else, and
+// `refused for ever` if memory is short again.
 
 use crate::shown::{push_lines, push_text};
 use crate::stop::Stop;
@@ -13,7 +13,7 @@ pub(crate) trait Called<C, F> {
     /// Appends what all readers of the value answer.
     fn push_all(&self, alloc: Global, out: &mut Vec<u8>) -> Result<(), AllocError>;
 
-    /// Makes a call; false where it has found nothing to do.
+    /// Makes a call; false if there was nothing to do.
     fn make(&mut self, call: &C) -> Result<bool, F>;
 }
 
@@ -57,7 +57,7 @@ impl Tries {
         }
     }
 
-    /// Tells that memory was short and the value is as before.
+    /// Reports that memory was short and the value is as before.
     fn tell(&mut self, before: &[u8], now: &[u8]) -> Result<(), Stop> {
         if before != now {
             return Err(Stop::Changed);
@@ -65,7 +65,7 @@ impl Tries {
         Ok(push_text(&mut self.told, "refused, as before; ")?)
     }
 
-    /// What the call answers, once more where memory is short for it.
+    /// What the call answers; it is made once more if memory is short for it.
     fn again<C, F: PartialEq + Copy, V: Called<C, F>>(
         &mut self,
         value: &mut V,
@@ -85,7 +85,7 @@ impl Tries {
         }
     }
 
-    /// What a call of a value answers, which says by `memory` that memory is short. It is `memory` where the row ends (`push`).
+    /// What a call of a value answers; `memory` says that memory is short. It is `memory` where the row ends (`push`).
     pub(crate) fn call<C, F: PartialEq + Copy, V: Called<C, F>>(
         &mut self,
         value: &mut V,
@@ -104,7 +104,7 @@ impl Tries {
         }
     }
 
-    /// Appends what was told; an `Err` where a call was not as it has to be.
+    /// Appends what was reported; an `Err` if a call did not behave as required.
     pub(crate) fn push(&self, out: &mut Vec<u8>) -> Result<(), Stop> {
         out.extend_from_slice(self.told.as_slice())?;
         match self.stop {
@@ -114,7 +114,7 @@ impl Tries {
     }
 }
 
-/// Makes a call of a value that has to succeed.
+/// Makes a call of a value that must succeed.
 pub(crate) fn push_tried<C, F: PartialEq + Copy, V: Called<C, F>>(
     alloc: Global,
     out: &mut Vec<u8>,
@@ -128,7 +128,7 @@ pub(crate) fn push_tried<C, F: PartialEq + Copy, V: Called<C, F>>(
     if is_made { Ok(()) } else { Err(Stop::Row) }
 }
 
-/// What stands in a text that is appended to.
+/// The contents of a text that is appended to.
 const FRONT: &[u8] = b"at ";
 
 /// A text that is appended to.
@@ -136,7 +136,7 @@ pub(crate) fn front(alloc: Global) -> Result<Vec<u8>, AllocError> {
     Vec::from_slice(alloc, FRONT)
 }
 
-/// Appends the lines that a call has appended to such a text. Where memory was short for the call, the text has to be as before.
+/// Appends the lines that a call has appended to such a text. If memory was short for the call, the text must be as before.
 pub(crate) fn push_appended(
     out: &mut Vec<u8>,
     text: &[u8],

@@ -58,7 +58,7 @@ impl Called<(), TagFault> for Drawn {
     }
 }
 
-/// Behind four tags a fifth is drawn.
+/// A fifth tag is drawn after four.
 fn push_drawn(alloc: Global, out: &mut Vec<u8>) -> Result<(), Stop> {
     let mut open = Open::new(alloc);
     for _ in 0..4u32 {
@@ -142,7 +142,7 @@ impl Called<(), AllocError> for Points {
     }
 }
 
-/// Behind four points a fifth.
+/// A fifth point after four.
 fn push_points(alloc: Global, out: &mut Vec<u8>) -> Result<(), Stop> {
     let mut points = Points::new(alloc);
     for _ in 0..4u32 {
@@ -200,7 +200,7 @@ impl Called<(), AllocError> for Kept {
         }
     }
 
-    /// It is added; it is handed back where memory is short.
+    /// It is added, or handed back if memory is short.
     fn make(&mut self, _call: &()) -> Result<bool, AllocError> {
         let Some(mut next) = self.next.take() else {
             return Ok(false);
@@ -227,7 +227,7 @@ fn feature(alloc: Global, label: &[u8]) -> Result<Feature, Stop>
     })
 }
 
-/// Behind four features a fifth.
+/// A fifth feature after four.
 fn push_kept(alloc: Global, out: &mut Vec<u8>) -> Result<(), Stop> {
     let mut ledger = FeatureLedger::new(alloc);
     for _ in 0..4u32 {
@@ -253,7 +253,7 @@ impl Called<(), AllocError> for Done {
         push_debug(alloc, out, &self.next)
     }
 
-    /// It is added; it is handed back where memory is short.
+    /// It is added, or handed back if memory is short.
     fn make(&mut self, _call: &()) -> Result<bool, AllocError> {
         let Some(next) = self.next.take() else {
             return Ok(false);
@@ -279,7 +279,7 @@ fn contact(alloc: Global) -> Result<Act, Stop> {
     })
 }
 
-/// Behind four acts a contact.
+/// A contact after four acts.
 fn push_done(alloc: Global, out: &mut Vec<u8>) -> Result<(), Stop> {
     let mut ledger = ServerLedger::new(alloc);
     for _ in 0..4u32 {
@@ -319,7 +319,7 @@ fn push_audit(alloc: Global, out: &mut Vec<u8>, given: Made<'_>) -> Result<(), S
     }
 }
 
-/// Where a machine meets a surface beside the zero point.
+/// Where a machine meets a surface next to the zero point.
 fn push_met<M: Machine>(out: &mut Vec<u8>, machine: &mut M) -> Result<(), Stop> {
     match machine.answer(&Job::Touch(Point::zero(), None), 0) {
         Outcome::Touched(at) => Ok(push_point(out, at)?),

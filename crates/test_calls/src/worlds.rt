@@ -1,4 +1,4 @@
-// Worlds behind schedules, and both ends that are driven by hand.
+// Worlds after schedules, and both ends driven command by command.
 
 use crate::client::{Made, connect};
 use crate::fresh::{self, WorldTask, do_task, play};
@@ -27,7 +27,7 @@ fn push_homings(alloc: Global, out: &mut Vec<u8>, world: &World) -> Result<(), A
     push_display(alloc, out, &homings(world.written()))
 }
 
-/// A world is brought to its end: `finished`, `done` where it could not be, since all was measured, and `failed` where it is not Done behind it.
+/// Brings a world to its end: `finished`, `done` if everything was measured already, and `failed` if it is not Done afterwards.
 fn push_end(alloc: Global, out: &mut Vec<u8>, world: &mut World) -> Result<(), Stop> {
     let mut machine = Simulated::new(alloc, world.setup())?;
     let end = match world.finish(&mut machine) {
@@ -39,7 +39,7 @@ fn push_end(alloc: Global, out: &mut Vec<u8>, world: &mut World) -> Result<(), S
     Ok(push_text(out, end)?)
 }
 
-/// What is shown of a world behind a schedule.
+/// What is shown of a world after a schedule.
 #[derive(Clone, Copy)]
 pub(crate) enum Shown {
     Homings,
@@ -62,7 +62,7 @@ fn push_played(
     }
 }
 
-/// What is shown of a world behind a schedule is written.
+/// Writes what is shown of a world after a schedule.
 #[derive(Drop)]
 struct Played<'a> {
     out: &'a mut Vec<u8>,
@@ -76,7 +76,7 @@ impl WorldTask for Played<'_> {
     }
 }
 
-/// The same of a new world.
+/// Likewise for a new world.
 pub(crate) fn push_new_played(
     alloc: Global,
     out: &mut Vec<u8>,
@@ -92,7 +92,7 @@ pub(crate) fn push_new_played(
     do_task(alloc, fresh::Made::of(made, setup), &mut task)
 }
 
-/// The client's state and its homings behind the schedule of a row.
+/// The client's state and its homings after the schedule of a row.
 pub(crate) fn push_homings_row(
     alloc: Global,
     out: &mut Vec<u8>,
@@ -112,7 +112,7 @@ fn hear_command(client: &mut Client, server: &mut Server) -> Result<(), Stop> {
     Ok(())
 }
 
-/// What waits has its turn, and the machine ends what then runs.
+/// Processes what waits, and the machine ends what then runs.
 fn serve_one<M: Machine>(server: &mut Server, machine: &mut M) -> Result<(), Stop> {
     server.turn()?;
     let number = server.ledger().contacts();
@@ -145,7 +145,7 @@ fn hear_all(client: &mut Client, server: &mut Server) -> Result<(), Stop> {
     Ok(())
 }
 
-/// Both ends are through with the command that is due.
+/// Both ends complete the command that is due.
 pub(crate) fn end_next<M: Machine>(
     client: &mut Client,
     server: &mut Server,
@@ -155,7 +155,7 @@ pub(crate) fn end_next<M: Machine>(
     hear_all(client, server)
 }
 
-/// Both ends are through with so many commands; the server has done one more where the row says `more`.
+/// Both ends complete that many commands; the server has done one more if the row says `more`.
 fn end_all<M: Machine>(
     client: &mut Client,
     server: &mut Server,
@@ -171,7 +171,7 @@ fn end_all<M: Machine>(
     Ok(())
 }
 
-/// A new client and a new server on connection 1, behind the commands of a row.
+/// A new client and a new server on connection 1, after the commands of a row.
 pub(crate) fn drive(
     alloc: Global,
     client: &mut Client,
@@ -186,7 +186,7 @@ pub(crate) fn drive(
     end_all(client, server, &mut machine, (count, rest))
 }
 
-/// The report of a client, with a server's ledger where one is given, and `|` behind it.
+/// The report of a client, with a server's ledger if there is one, followed by `|`.
 fn push_report(
     alloc: Global,
     text: &mut Vec<u8>,
@@ -283,7 +283,7 @@ fn push_world_files(alloc: Global, out: &mut Vec<u8>, world: &World) -> Result<(
     out.extend_from_slice(files.as_slice())
 }
 
-/// The texts of the features and of the contacts behind a schedule.
+/// The texts of the features and of the contacts after a schedule.
 pub(crate) fn push_files(
     alloc: Global,
     out: &mut Vec<u8>,

@@ -4,7 +4,7 @@ ghost use Rattle.std.specs.Prelude.{◌<◌};
 
 use std::alloc::{AllocError, Global};
 
-/// The value of a hexadecimal digit; of anything else 0.
+/// The value of a hexadecimal digit; 0 for anything else.
 fn digit(byte: u8) -> u8
     ensures { result < 16 }
 {
@@ -15,7 +15,7 @@ fn digit(byte: u8) -> u8
     }
 }
 
-/// The bytes of a row: `;` stands for LF, `|` for CR, and `\` with two digits for a byte.
+/// The bytes of a row: `;` means LF, `|` CR, and `\` with two digits a byte.
 pub(crate) fn bytes_of(alloc: Global, row: &str) -> Result<Vec<u8>, AllocError> {
     let mut bytes = Vec::new(alloc);
     let mut left = row.as_bytes();
@@ -53,7 +53,7 @@ fn hex_digit(value: u8) -> u8
     }
 }
 
-/// Bytes of an answer: what cannot be printed as `\` with two digits.
+/// Bytes of an answer; what cannot be printed is shown as `\` with two digits.
 pub(crate) fn push_visible(out: &mut Vec<u8>, bytes: &[u8]) -> Result<(), AllocError> {
     for byte in bytes {
         match *byte {

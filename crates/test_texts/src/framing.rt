@@ -14,7 +14,7 @@ fn readers_of(alloc: Global, lines: &Lines) -> Result<Vec<u8>, AllocError> {
     Ok(text)
 }
 
-/// Feeds a piece, once more where memory is short for it.
+/// Feeds a piece, and once more if memory is short for it.
 fn feed(
     alloc: Global,
     out: &mut Vec<u8>,
@@ -31,7 +31,7 @@ fn feed(
     }
 }
 
-/// Takes a line, once more where memory is short for it.
+/// Takes a line, and once more if memory is short for it.
 fn next_line(
     alloc: Global,
     out: &mut Vec<u8>,
@@ -47,7 +47,7 @@ fn next_line(
     }
 }
 
-/// Takes lines until there is none or a fault is met, and counts them.
+/// Takes lines until there are no more or a fault occurs, and counts them.
 fn drain(
     alloc: Global,
     out: &mut Vec<u8>,
@@ -64,7 +64,7 @@ fn drain(
     Ok(Ok(()))
 }
 
-/// How many lines a piece gives; none behind a fault.
+/// How many lines a piece gives; none after a fault.
 fn fed(alloc: Global, out: &mut Vec<u8>, lines: &mut Lines, piece: &[u8]) -> Result<u64, Stop> {
     let mut count = 0u64;
     let answer = match feed(alloc, out, lines, piece)? {
@@ -103,7 +103,7 @@ fn push_fed(alloc: Global, out: &mut Vec<u8>, lines: &mut Lines, row: &str) -> R
     Ok(push_fault(alloc, out, lines.fault())?)
 }
 
-/// The same, and behind it for one more piece, and then of the buffer that is cleared.
+/// Likewise, followed by the same for one more piece, and then for the buffer once cleared.
 pub(crate) fn push_pieces(alloc: Global, out: &mut Vec<u8>, row: &str) -> Result<(), Stop> {
     let mut lines = Lines::new(alloc);
     push_fed(alloc, out, &mut lines, row)?;
@@ -114,7 +114,7 @@ pub(crate) fn push_pieces(alloc: Global, out: &mut Vec<u8>, row: &str) -> Result
     push_fed(alloc, out, &mut lines, "B|;")
 }
 
-/// Room is made for a piece, once more where memory is short for it, and it is appended; then the first byte that waits is taken.
+/// Makes room for a piece, once more if memory is short for it, and appends it; then takes the first byte that waits.
 fn append(
     alloc: Global,
     out: &mut Vec<u8>,
@@ -133,7 +133,7 @@ fn append(
     Ok(())
 }
 
-/// The bytes that wait behind all pieces of a row.
+/// The bytes that wait after all pieces of a row.
 pub(crate) fn push_queue(alloc: Global, out: &mut Vec<u8>, row: &str) -> Result<(), Stop> {
     let mut queue = ByteQueue::new(alloc);
     for piece in row.split("/") {

@@ -1,15 +1,17 @@
-//! Rows of texts: it reads rows from standard input, and writes each with what is read of it behind ` => `. What it is to write stands beside
-//! it, so that no clause says it: that the clauses mean the numerals, names, lines and programs that a programmer of a measuring machine
-//! writes, and that the calls succeed with memory. The rows are its input and not its text, since the prover reads all that is text.
+//! Rows of texts: it reads rows from standard input, and writes each followed by ` => ` and what is read of it. The expected output is next
+//! to the input. It shows what no clause says: that the clauses mean the numerals, names, lines and programs that a programmer of a
+//! measuring machine writes, and that the calls succeed with memory. The rows are its input and not its text, since the prover reads all
+//! that is text.
 //!
-//! The input has parts, each behind a head in brackets; a line that begins with `-- ` says what the rows below it show. In a row `;` stands
-//! for LF, `|` for CR, and `\` with two hexadecimal digits for any byte. `numerals`, `directions`, `zeros` and `names` are values,
-//! `commands`, `responses`, `points`, `homed`, `errors` and `writes` lines of the interface or parts of them, `pieces` what is fed to a framing
-//! buffer and `queues` what waits to be sent, with `/` between two pieces, `statements` and `programs` DMIS texts, and `long_lines` texts with a line of so many bytes.
+//! The input has parts, each after a head in brackets; a line that begins with `-- ` says what the rows below it show. In a row `;` means
+//! LF, `|` CR, and `\` with two hexadecimal digits any byte. `numerals`, `directions`, `zeros` and `names` are values, `commands`,
+//! `responses`, `points`, `homed`, `errors` and `writes` lines of the interface or parts of them, `pieces` what is fed to a framing buffer
+//! and `queues` what waits to be sent, with `/` between two pieces, `statements` and `programs` DMIS texts, and `long_lines` texts with a
+//! line of a given length.
 //!
 //! - `parts`: the parts of the input, and their rows
 //! - `values`, `wire`, `framing`, `statements`, `programs`: what a row shows
-//! - `tried`: what a row shows where memory is short for a call
+//! - `tried`: what a row shows if memory is short for a call
 //! - `escapes`: the bytes of a row
 //! - `stop`: why it ends early
 #![tactic(auto)]

@@ -37,8 +37,8 @@ fn push_answer(alloc: Global, out: &mut Vec<u8>, word: &str, row: &str) -> Resul
     }
 }
 
-/// Appends what a row shows in the end, or why it is to be begun anew. The first is `changed` where memory was short for a call and its value is
-/// not as before, and `refused for ever` where memory is short for it again.
+/// Appends what a row shows in the end, or why it must be started again. The first is `changed` if memory was short for a call and its
+/// value is not as before, and `refused for ever` if memory is short for it again.
 fn push_once(alloc: Global, told: &mut Vec<u8>, word: &str, row: &str) -> Result<(), Stop> {
     let mut out = Vec::new(alloc);
     match push_answer(alloc, &mut out, word, row) {
@@ -49,7 +49,7 @@ fn push_once(alloc: Global, told: &mut Vec<u8>, word: &str, row: &str) -> Result
     }
 }
 
-/// Appends what a row shows. Where memory was short for a call, or for the program itself, it is begun anew, once.
+/// Appends what a row shows. If memory was short for a call, or for the program itself, the row is started again, once.
 fn push_told(alloc: Global, told: &mut Vec<u8>, word: &str, row: &str) -> Result<(), Stop> {
     match push_once(alloc, told, word, row) {
         Err(Stop::Memory) => {}
@@ -62,7 +62,7 @@ fn push_told(alloc: Global, told: &mut Vec<u8>, word: &str, row: &str) -> Result
     }
 }
 
-/// A line of the input in a part of this word: what says something of the rows below it as it stands, a row with its answer.
+/// A line of the input in a part of this word: a comment on the rows below it is copied unchanged, a row is written with its answer.
 fn push_line(alloc: Global, out: &mut Vec<u8>, word: &str, line: &str) -> Result<(), Stop> {
     push_text(out, line)?;
     if !line.starts_with("-- ") {
@@ -82,7 +82,7 @@ fn push_part(alloc: Global, out: &mut Vec<u8>, piece: &str) -> Result<(), Stop> 
     Ok(())
 }
 
-/// The input with the answer of each row behind it. No row has a bracket.
+/// The input, with each row followed by its answer. No row has a bracket.
 pub(crate) fn answered(alloc: Global, input: &str) -> Result<Vec<u8>, Stop> {
     let mut out = Vec::new(alloc);
     for piece in input.split("[") {

@@ -81,7 +81,7 @@ fn part(alloc: Global) -> Result<Name, Stop> {
     Name::new(alloc, b"part")?.ok_or(Stop::Row)
 }
 
-/// Adds the frame PART, once more where memory is short for it.
+/// Adds the frame PART, and once more if memory is short for it.
 fn add(alloc: Global, out: &mut Vec<u8>, frames: &mut Frames, offset: Point) -> Result<bool, Stop> {
     let (name, again) = (part(alloc)?, part(alloc)?);
     if !offset.is_in_volume() {
@@ -97,7 +97,7 @@ fn add(alloc: Global, out: &mut Vec<u8>, frames: &mut Frames, offset: Point) -> 
     }
 }
 
-/// The frame PART, whose zero point stands at x = 100 mm.
+/// The frame PART, whose zero point is at x = 100 mm.
 fn stored(alloc: Global, out: &mut Vec<u8>) -> Result<Frames, Stop> {
     let mut frames = Frames::new(alloc);
     let offset = Point {
@@ -111,7 +111,7 @@ fn stored(alloc: Global, out: &mut Vec<u8>) -> Result<Frames, Stop> {
     Ok(frames)
 }
 
-/// What a text is read as.
+/// What a text is parsed as.
 fn push_reading(
     alloc: Global,
     out: &mut Vec<u8>,

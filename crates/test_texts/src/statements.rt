@@ -6,7 +6,7 @@ use crate::tried::push_refused;
 use dmis_text::{Statement, Statements, TextFault};
 use std::alloc::{AllocError, Global};
 
-/// Appends `line:[label]word|p1|p2;`, with a `?` where a text was left open.
+/// Appends `line:[label]word|p1|p2;`, with a `?` if a text was left open.
 fn push_statement(
     alloc: Global,
     out: &mut Vec<u8>,
@@ -27,7 +27,7 @@ fn push_statement(
     push_text(out, if statement.is_open() { "?;" } else { ";" })
 }
 
-/// Why no statement is given any more.
+/// Why there is no further statement.
 fn push_fault(alloc: Global, out: &mut Vec<u8>, fault: TextFault) -> Result<(), AllocError> {
     match fault {
         TextFault::LineTooLong(line) => {
@@ -38,7 +38,7 @@ fn push_fault(alloc: Global, out: &mut Vec<u8>, fault: TextFault) -> Result<(), 
     }
 }
 
-/// The next statement of a text, read once more where memory is short for it.
+/// The next statement of a text; it is read once more if memory is short for it.
 fn next<'a>(
     out: &mut Vec<u8>,
     statements: &mut Statements<'a>,
@@ -54,7 +54,7 @@ fn next<'a>(
     }
 }
 
-/// The next statement; at the end the count of lines, and behind a refusal why. Whether it is over.
+/// The next statement; at the end the count of lines, and after a refusal why. Answers whether it is over.
 fn push_next(alloc: Global, out: &mut Vec<u8>, statements: &mut Statements) -> Result<bool, Stop> {
     match next(out, statements)? {
         Ok(Some(statement)) => {
@@ -74,7 +74,7 @@ fn push_next(alloc: Global, out: &mut Vec<u8>, statements: &mut Statements) -> R
     }
 }
 
-/// The statements of a text, at most twenty, and what stands behind them, which is answered twice.
+/// The statements of a text, at most twenty, and what follows them, which is answered twice.
 fn push_statements(alloc: Global, out: &mut Vec<u8>, text: &[u8]) -> Result<(), Stop> {
     let mut statements = Statements::new(alloc, text);
     for _ in 0..20u32 {
@@ -93,7 +93,7 @@ pub(crate) fn push_text_row(alloc: Global, out: &mut Vec<u8>, row: &str) -> Resu
     push_statements(alloc, out, text.as_slice())
 }
 
-/// A text of the line `A`, a line that begins with these bytes and has so many with the others all `x`, and what stands behind it.
+/// A text of the line `A`, a line that begins with these bytes and is padded with `x` to this length, and what follows it.
 fn long_text(
     alloc: Global,
     front: &str,
@@ -110,7 +110,7 @@ fn long_text(
     Ok(text)
 }
 
-/// The statements of such a text: front, count and what stands behind are a row.
+/// The statements of such a text. A row gives its first bytes, the length and what follows.
 pub(crate) fn push_long_row(alloc: Global, out: &mut Vec<u8>, row: &str) -> Result<(), Stop> {
     let (front, rest) = row.split_once(" ").ok_or(Stop::Row)?;
     let (count, behind) = rest.split_once(" ").ok_or(Stop::Row)?;

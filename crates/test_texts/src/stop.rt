@@ -5,7 +5,7 @@ use std::alloc::{AllocError, AllocFailed};
 /// Why the program ends before the last row, or a row shows no answer.
 #[derive(Clone, Copy, Debug, PartialEq, Eq)]
 pub(crate) enum Stop {
-    /// A row or the head of its part is none.
+    /// A line is not a row, or the head of its part is not one.
     Row,
     /// A port has failed.
     Port,

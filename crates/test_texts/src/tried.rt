@@ -1,13 +1,13 @@
-// What a row shows where memory is short for a call.
+// What a row shows if memory is short for a call.
 //
-// A call that makes a value or appends to a text is made again by a row that is begun anew. A buffer, and what else has more in it than its
-// readers show, is kept, and the call of it is made again.
+// If a row is started again, it makes again each call that makes a value or appends to a text. A buffer, and whatever holds more than its
+// readers show, is kept, and its call is made again.
 
 use crate::escapes::push_text;
 use crate::stop::Stop;
 use std::alloc::{AllocError, Global};
 
-/// What stands in a text that is appended to.
+/// The contents of a text that is appended to.
 const FRONT: &[u8] = b"at ";
 
 /// A text that is appended to.
@@ -15,7 +15,7 @@ pub(crate) fn front(alloc: Global) -> Result<Vec<u8>, AllocError> {
     Vec::from_slice(alloc, FRONT)
 }
 
-/// Appends what a call has appended to such a text. Where memory was short for the call, the text has to be as before.
+/// Appends what a call has appended to such a text. If memory was short for the call, the text must be as before.
 pub(crate) fn push_appended(
     out: &mut Vec<u8>,
     text: &[u8],

@@ -6,7 +6,7 @@ use crate::tried::{front, push_appended};
 use fixed_um::{Dir, Name, Um, is_zero, read_dir, read_um, write_dir, write_um};
 use std::alloc::{AllocError, Global};
 
-/// The length of a numeral in millimetres within the volume limit, as it is written, or why it is none.
+/// The length of a numeral in millimetres within the volume limit, as it is written, or why it is not one.
 pub(crate) fn push_numeral(alloc: Global, out: &mut Vec<u8>, numeral: &[u8]) -> Result<(), Stop> {
     match read_um(numeral, Um::volume_limit()) {
         Ok(length) => push_length(alloc, out, length),
@@ -26,7 +26,7 @@ fn push_dir(alloc: Global, out: &mut Vec<u8>, direction: Dir) -> Result<(), Stop
     push_appended(out, text.as_slice(), written)
 }
 
-/// The direction of three numerals, as it is written; `none` where all are zero.
+/// The direction of three numerals, as it is written; `none` if all are zero.
 pub(crate) fn push_direction(alloc: Global, out: &mut Vec<u8>, numerals: &str) -> Result<(), Stop> {
     let (i, rest) = numerals.split_once(" ").unwrap_or((numerals, ""));
     let (j, k) = rest.split_once(" ").unwrap_or((rest, ""));

@@ -14,7 +14,7 @@ use dme_line::{
 use fixed_um::Point;
 use std::alloc::{AllocError, Global};
 
-/// The command of a line as it is written, or why it is none.
+/// The command of a line as it is written, or why it is not one.
 pub(crate) fn push_command(alloc: Global, out: &mut Vec<u8>, line: &[u8]) -> Result<(), Stop> {
     let mut text = front(alloc)?;
     let written = match read_command(alloc, line) {
@@ -40,7 +40,7 @@ fn push_mark(out: &mut Vec<u8>, mark: &Mark) -> Result<(), AllocError> {
     }
 }
 
-/// The tag, the mark and the text of the response of a line, or why it is none.
+/// The tag, the mark and the text of the response of a line, or why it is not one.
 pub(crate) fn push_response(alloc: Global, out: &mut Vec<u8>, line: &[u8]) -> Result<(), Stop> {
     match read_response(alloc, line) {
         Ok(Ok(response)) => {
@@ -53,7 +53,7 @@ pub(crate) fn push_response(alloc: Global, out: &mut Vec<u8>, line: &[u8]) -> Re
     }
 }
 
-/// The point of a text as it is written, or why it is none.
+/// The point of a text as it is written, or why it is not one.
 pub(crate) fn push_point(alloc: Global, out: &mut Vec<u8>, text: &[u8]) -> Result<(), Stop> {
     match read_point(text) {
         Ok(point) => push_read_point(alloc, out, point),
@@ -123,7 +123,8 @@ fn write_complete(text: &mut Vec<u8>) -> Result<(), AllocError> {
     write_response(text, &response)
 }
 
-/// Makes the call of a word: it writes a line under the eighth tag, or a part of one. It is an `Err` within where memory is short for it.
+/// Makes the call of a word: it writes a line under the eighth tag, or a part of one. The inner result is an `Err` if memory is short for
+/// it.
 fn write(text: &mut Vec<u8>, word: &str, rest: &str) -> Result<Result<(), AllocError>, Stop> {
     match word {
         "data" => {

@@ -1,4 +1,4 @@
-// Small audits, made by a fixed generator. A touch wants one of two targets and one of two tools, contacts are on two connections and
+// Small audits, made by a fixed generator. A touch asks for one of two targets and one of two tools; contacts are on two connections and
 // report one of two points.
 
 use crate::made::name;
@@ -7,7 +7,7 @@ use dmis_program::{Frames, Program};
 use fixed_um::{Dir, Frame, Point, Um};
 use std::alloc::{AllocError, Global};
 
-/// No case has more features than this, nor more acts than this.
+/// No case has more features or acts than this.
 pub(crate) const FEATURES: usize = 3;
 
 const ACTS: usize = 8;
@@ -37,7 +37,7 @@ pub(crate) struct Held {
     pub points: Vec<usize>,
 }
 
-/// What a program wants, what a client holds, and what was done: a move where there is no shot.
+/// What a program asks for, what a client holds, and what was done: a move where there is no shot.
 #[derive(Drop)]
 pub(crate) struct Case {
     pub blocks: Vec<Block>,
@@ -93,7 +93,7 @@ fn draw_acts(acts: &mut Vec<Option<Shot>>, numbers: &mut Numbers) -> Result<(), 
     Ok(())
 }
 
-/// Appends what acts have of shots.
+/// Appends the shots among acts.
 fn push_shots(shots: &mut Vec<Shot>, acts: &[Option<Shot>]) -> Result<(), AllocError> {
     for act in acts {
         if let Some(shot) = act {
@@ -174,7 +174,7 @@ fn draw_features(
     Ok(())
 }
 
-/// Takes something from some cases, behind which they have mostly no run.
+/// Removes something from some cases, which then mostly have no run.
 fn spoil(case: &mut Case, numbers: &mut Numbers) {
     match numbers.below(16) {
         0 => {
@@ -182,7 +182,7 @@ fn spoil(case: &mut Case, numbers: &mut Numbers) {
             let _ = case.blocks.pop();
         }
         1 => {
-            // Not the label of the program, or a point too few.
+            // A label other than the program's, or a point too few.
             if let Some(held) = case.held.last_mut() {
                 held.label = 7;
             }

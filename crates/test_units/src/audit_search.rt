@@ -1,4 +1,4 @@
-// The audit of small cases beside a plain one: it goes through every choice of starts, and takes the least that any choice has in each
+// The audit of small cases compared with a plain one, which tries every choice of starts, and takes the least that any choice has in each
 // place.
 
 use crate::audit_cases::{
@@ -36,7 +36,7 @@ fn is_run(block: &Block, held: &Held, shots: &[Shot], start: usize) -> bool {
     true
 }
 
-/// Whether the features have runs at these starts, none of which begins before the one before it has ended.
+/// Whether the features have runs at these starts, each of which begins after the previous one has ended.
 fn is_choice(case: &Case, count: usize, shots: &[Shot], starts: &[usize; FEATURES]) -> bool {
     let mut least = 0usize;
     for (index, held) in case.held.iter().take(count).enumerate() {
@@ -51,7 +51,7 @@ fn is_choice(case: &Case, count: usize, shots: &[Shot], starts: &[usize; FEATURE
     true
 }
 
-/// The least start that any choice has in each place, where there is a choice for so many features.
+/// The least start that any choice has in each place, if there is a choice for that many features.
 fn least_starts(case: &Case, count: usize, shots: &[Shot]) -> Option<[usize; FEATURES]> {
     let mut least: Option<[usize; FEATURES]> = None;
     for code in 0..729usize {
@@ -108,7 +108,7 @@ fn verdict(alloc: Global, case: &Case) -> Option<Verdict> {
     )
 }
 
-/// Draws a case; whether the verdict on it is that of the plain search, and whether it has runs.
+/// Draws a case. Answers whether the verdict on it is that of the plain search, and whether it has runs.
 fn drawn(
     alloc: Global,
     case: &mut Case,

@@ -1,7 +1,7 @@
 // What no clause says: that the audit succeeds with memory, and literal rows of it.
 //
-// In the rows a program stands with `;` for the end of a line. A contact is its connection, tool, frame (`M`, or `P` for the part at
-// 100, 0, 0), target, direction and point; `moved` stands for a move between contacts. A feature is its label and its points.
+// In the rows, `;` ends a line of a program. A contact is its connection, tool, frame (`M`, or `P` for the part at
+// 100, 0, 0), target, direction and point; `moved` is a move between contacts. A feature is its label and its points.
 
 use crate::made::{FRAMES, name, program};
 use contact_ledger::{Act, Feature, Origin, Points, ServerLedger};
@@ -23,12 +23,12 @@ const BREAK: &str = "\
 1 P1 M 1 0 0 -1 0 0 1.002 0 0;2 P1 M 1 0 0 -1 0 0 1 0 0.004;2 P1 M 0 1 0 0 -1 0 -0.001 1.001 0;\
 2 P1 M -1 0 0 1 0 0 -0.998 0 0";
 
-/// Contact 1 serves nobody: its touch was asked for again behind it.
+/// Contact 1 belongs to no feature: its touch was requested again after it.
 const ASKED_AGAIN: &str = "\
 1 P1 M 10 0 0 0 0 1 10.002 0 0;1 P1 M 20 0 0 0 0 1 20 0 0.004;1 moved;1 P1 M 20 0 0 0 0 1 19.999 0.001 0;\
 1 P1 P 30 0 0 0 0 1 30.002 0 0";
 
-/// A program, contacts, features and the verdict. Texts that several rows have stand under their names; behind `#` stands what the rows
+/// A program, contacts, features and the verdict. A text that several rows share is given by its name; a line after `#` says what the rows
 /// below show.
 const ROWS: &str = "\
 THREE|BREAK|C 1 0 0.004 -0.001 1.001 0 -0.998 0 0|RUNS 1
@@ -65,7 +65,7 @@ ALIKE|1 P1 M 10 0 0 0 0 1 10 0 0;1 P1 M 10 0 0 0 0 1 10 0 0|A 10 0 0 10 0 0;B 10
 # B's contact stands before A's.
 ALIKE|1 P1 M 10 0 0 0 0 1 12 0 0;1 P1 M 10 0 0 0 0 1 10 0 0;1 P1 M 10 0 0 0 0 1 11 0 0|A 10 0 0 11 0 0;B 12 0 0|NONE 2";
 
-// ---- what the words of a row stand for
+// ---- what the words of a row mean
 
 /// Millimetres.
 fn length(word: &str) -> Option<Um> {
@@ -84,7 +84,7 @@ fn point(words: &[&str]) -> Option<Point> {
     })
 }
 
-/// A direction by its three components; none is that of three zeros.
+/// A direction by its three components; none if all three are zero.
 fn direction(words: &[&str]) -> Option<Option<Dir>> {
     let [i, j, k] = words else {
         return None;
@@ -97,7 +97,7 @@ fn part() -> Option<Point> {
     point(&["100", "0", "0"])
 }
 
-/// The frame that `M` or `P` stands for.
+/// The frame that `M` or `P` means.
 fn frame(word: &str) -> Option<Frame> {
     if word == "M" {
         return Some(Frame::Machine);
@@ -112,7 +112,7 @@ fn places(words: &[&str]) -> Option<(Point, Option<Dir>, Point)> {
     Some((point(target)?, direction(dir)?, point(made)?))
 }
 
-/// A contact by its words behind the connection, or a move.
+/// A contact by the words that follow the connection, or a move.
 fn act(alloc: Global, words: &[&str]) -> Option<Act> {
     let [tool, frame_word, asked @ ..] = words else {
         return Some(Act::Moved(part()?, Frame::Machine));
@@ -159,7 +159,7 @@ impl Listed for Vec<Feature> {
         let mut feature = Feature {
             label: name(alloc, label)?,
             points: Points::new(alloc),
-            // The numbers of a client and of a server need not meet.
+            // The numbers of a client and of a server need not match.
             origin: Some(Origin {
                 connection: 7,
                 frame: Frame::Machine,
@@ -170,13 +170,13 @@ impl Listed for Vec<Feature> {
     }
 }
 
-/// Adds what a line stands for.
+/// Adds what a line means.
 fn push_line<L: Listed>(alloc: Global, list: &mut L, line: &str) -> Option<()> {
     let words: Vec<&str> = line.split(" ").collect(alloc).ok()?;
     list.push_words(alloc, words.as_slice())
 }
 
-/// Adds what each line of a text stands for.
+/// Adds what each line of a text means.
 fn push_all<L: Listed>(alloc: Global, list: &mut L, text: &str) -> Option<()> {
     for line in text.split(";") {
         if !line.is_empty() {
@@ -230,7 +230,7 @@ fn push_read(
     push_audit(alloc, out, program, features.as_slice(), ledger).ok()
 }
 
-/// The text that a name stands for; of other words they are the text.
+/// The text that a name refers to; other words are the text themselves.
 fn text_of(words: &str) -> &str {
     match words {
         "THREE" => THREE,
@@ -256,7 +256,7 @@ fn push_fields(
     push_read(alloc, out, &program, ledger, features)
 }
 
-/// Appends the verdict on a row, and hands up the one that it wants.
+/// Appends the verdict on a row, and returns the expected one.
 fn push_row<'a>(alloc: Global, out: &mut String, row: &'a str) -> Option<&'a str> {
     let (wanted, behind) = row.split_once("|")?;
     let (contacts, behind) = behind.split_once("|")?;
@@ -265,7 +265,7 @@ fn push_row<'a>(alloc: Global, out: &mut String, row: &'a str) -> Option<&'a str
     Some(verdict)
 }
 
-/// Whether the verdict on a row is the one that it wants.
+/// Whether the verdict on a row is the expected one.
 fn is_audited(alloc: Global, row: &str) -> Option<bool> {
     let mut out = String::new(alloc);
     let verdict = push_row(alloc, &mut out, row)?;

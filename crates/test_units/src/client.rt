@@ -1,4 +1,4 @@
-// What a client hands back where it is not made. The rows of its calls are those of `test_calls`.
+// What a client hands back if it is not made. The rows of its calls are those of `test_calls`.
 
 use crate::made::{TWO, name, program};
 use client_core::{Client, NewFault};
@@ -7,7 +7,7 @@ use dmis_program::Program;
 use fixed_um::Point;
 use std::alloc::{AllocError, Global};
 
-/// So many points.
+/// That many points.
 fn zeros(alloc: Global, count: u32) -> Result<Points, AllocError> {
     let mut points = Points::new(alloc);
     for _ in 0..count {
@@ -40,7 +40,7 @@ fn told(refused: &Option<(NewFault, Program, FeatureLedger)>) -> Option<(NewFaul
     Some((*fault, program.features().len(), features.list().len()))
 }
 
-/// The same of a client of two features, where one with these points is kept.
+/// Likewise for a client of two features, one of which is kept, with these points.
 fn refusal(
     alloc: Global,
     label: &str,

@@ -1,4 +1,4 @@
-// What no clause says of framing, beside the rows of test_texts.
+// What no clause says about framing, in addition to the rows of test_texts.
 
 use line_framing::{FramingFault, Line, Lines, LinesFault};
 use std::alloc::Global;
@@ -28,7 +28,7 @@ fn is_refused(answer: &Result<Option<Line>, LinesFault>, due: FramingFault) -> b
     matches!(answer, Err(LinesFault::Framing(fault)) if *fault == due)
 }
 
-/// Whether a byte of the replies, the one at this place, gives the line that ends with it, and else none.
+/// Whether a byte of the replies, the one at this place, gives the line that ends with it, and otherwise none.
 fn comes_with_its_last(lines: &mut Lines, index: usize, byte: u8) -> bool {
     let answer = fed(lines, &[byte]);
     match index {
@@ -38,7 +38,7 @@ fn comes_with_its_last(lines: &mut Lines, index: usize, byte: u8) -> bool {
     }
 }
 
-/// Whether the replies give both lines where they come at once, and no more.
+/// Whether the replies give both lines if they come at once, and no more.
 fn come_at_once(lines: &mut Lines) -> bool {
     is_line(
         &fed(lines, REPLIES),
@@ -110,7 +110,7 @@ type Two = (
     Result<Option<Line>, LinesFault>,
 );
 
-/// The two lines of the replies, from a buffer that is then filled, cleared, fed another line and gone; none where that line does not come.
+/// The two lines of the replies, from a buffer that is then filled, cleared, fed another line and dropped; none if that line does not come.
 fn outlived(alloc: Global, piece: &[u8]) -> Option<Two> {
     let mut lines = Lines::new(alloc);
     let answers = (fed(&mut lines, REPLIES), lines.next_line());

@@ -1,4 +1,4 @@
-// What no clause says: that the calls which want memory succeed with it.
+// What no clause says: that the calls which need memory succeed with it.
 
 ghost use Rattle.contact_ledger.specs.Ledgers.{IsOrigin};
 
@@ -96,7 +96,7 @@ fn push_feature(alloc: Global, features: &mut FeatureLedger) -> Result<(), Alloc
     push_copy(alloc, features, &mut feature)
 }
 
-/// Appends six of them; how many features have the two points then.
+/// Appends six of them. Answers how many features have the two points then.
 fn whole(alloc: Global, features: &mut FeatureLedger) -> Result<usize, AllocError> {
     for _ in 0..6 {
         push_feature(alloc, features)?;

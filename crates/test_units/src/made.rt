@@ -1,4 +1,4 @@
-// What several tests are made of. In the programs `;` stands for the end of a line.
+// What several tests are made of. In the programs `;` ends a line.
 
 use dmis_program::{Frames, Program};
 use fixed_um::{Name, Point, Um};
@@ -20,7 +20,7 @@ pub(crate) fn name(alloc: Global, text: &str) -> Option<Name> {
     Name::new(alloc, text.as_bytes()).ok()?
 }
 
-/// A text whose lines end where `;` stands.
+/// A text in which each `;` ends a line.
 fn lines(alloc: Global, text: &str) -> Result<Vec<u8>, AllocError> {
     let mut bytes = Vec::from_slice(alloc, text.as_bytes())?;
     for byte in bytes.iter_mut() {
@@ -37,7 +37,7 @@ pub(crate) fn program_with(alloc: Global, text: &str, frames: &Frames) -> Option
     Program::read(alloc, bytes.as_slice(), frames).ok()
 }
 
-/// Adds the frame PART, whose zero point stands at x = 100 mm.
+/// Adds the frame PART, whose zero point is at x = 100 mm.
 fn add_part(alloc: Global, frames: &mut Frames) -> Option<()> {
     let part = name(alloc, "PART")?;
     let offset = Point {

@@ -10,7 +10,7 @@ use fixed_um::Frame;
 use resume_plan::{Does, Planned, Start, plan};
 use std::alloc::{AllocError, Global};
 
-/// Nothing is completed: all is measured, and the tool is selected where the program selects it.
+/// Nothing is completed: everything is measured, and the tool is selected where the program selects it.
 const ONE_FROM_ITS_START: &str = "\
 00001 StartSession()
 00002 ClearAllErrors()
@@ -50,7 +50,7 @@ const FRAMES_RESUMED_BEHIND_A: &str = "\
 00023 EndSession()
 ";
 
-/// All is measured; the tool and the frame of the last touch are selected again.
+/// Everything is measured; the tool and the frame of the last touch are selected again.
 const FRAMES_BEHIND_B: &str = "\
 00001 StartSession()
 00002 ClearAllErrors()
@@ -73,7 +73,7 @@ fn push_frame(out: &mut Vec<u8>, frame: Frame) -> Result<(), AllocError> {
     }
 }
 
-/// Appends what a touch is, but for its being the last.
+/// Appends what a touch is, except whether it is the last.
 fn push_touch(out: &mut Vec<u8>, touch: &Touch) -> Result<(), AllocError> {
     out.extend_from_slice(b" touches ")?;
     out.extend_from_slice(touch.tool.as_bytes())?;
@@ -106,7 +106,7 @@ fn push_does(out: &mut Vec<u8>, does: &Does) -> Result<(), AllocError> {
     }
 }
 
-/// Appends the commands as lines under tags from one on, each with what it stands for.
+/// Appends the commands as lines under tags from one on, each with its meaning.
 fn push_commands(out: &mut Vec<u8>, commands: &[Planned], first: usize) -> Result<(), AllocError>
     requires { All IsSendable commands.now }
 {
@@ -119,7 +119,7 @@ fn push_commands(out: &mut Vec<u8>, commands: &[Planned], first: usize) -> Resul
     Ok(())
 }
 
-/// Appends the plan of a program that has so many features completed, under tags from one on.
+/// Appends the plan of a program that has that many features completed, under tags from one on.
 fn push_plan(
     alloc: Global,
     out: &mut Vec<u8>,
@@ -134,7 +134,7 @@ fn push_plan(
     push_commands(out, commands.as_slice(), first).ok()
 }
 
-/// The same of a program's text.
+/// Likewise for a program's text.
 fn push_planned(
     alloc: Global,
     out: &mut Vec<u8>,
@@ -161,7 +161,7 @@ fn is_planned(
 
 #[test]
 fn plans_begin_behind_what_is_completed(rt: HostRuntime) {
-    // On the same connection the session is begun already, and all else is as on a new one.
+    // On the same connection the session has already begun, and everything else is as on a new one.
     let (_, two_resumed) = TWO_BEHIND_A.split_once("\n").unwrap_or(("", ""));
     let (on_new, on_same) = (Start::NewConnection, Start::SameConnection);
     let cases = [

@@ -46,7 +46,7 @@ impl Write for Stumbles {
     }
 }
 
-// A source of three pieces, whose pull number `call` fails; none where it is 0.
+// A source of three pieces, whose pull number `call` fails; no pull fails if it is 0.
 fn pieces(alloc: Global, call: u64) -> Result<Pieces, AllocError> {
     let mut source = if call == 0 {
         Pieces::new(alloc)
@@ -59,7 +59,7 @@ fn pieces(alloc: Global, call: u64) -> Result<Pieces, AllocError> {
     Ok(source)
 }
 
-// Whether a source whose pull number `call` fails answers its pulls of at most two bytes so.
+// Whether a source whose pull number `call` fails gives these answers to pulls of at most two bytes.
 fn pulls(
     alloc: Global,
     call: u64,
@@ -82,7 +82,7 @@ fn pieces_come_one_a_pull_until_the_set_call(rt: HostRuntime) -> Result<(), Fail
     Ok(())
 }
 
-// Whether all bytes come of such a source in at most so many pulls, or this fault; and whether it fails then just behind a failure.
+// Whether all bytes come from such a source in at most that many pulls, or this fault; and whether it then fails only after a failure.
 fn comes_to(
     alloc: Global,
     (call, bound): (u64, u64),
@@ -129,7 +129,7 @@ fn the_end_of_a_text_takes_a_pull(rt: HostRuntime) -> Result<(), Fail> {
     Ok(())
 }
 
-// Whether a sink that takes at most so many bytes, and whose push number `call` fails, has taken these of five, and fails then for good.
+// Whether a sink that takes at most that many bytes, and whose push number `call` fails, has taken these of five, and then fails for good.
 fn takes(alloc: Global, (most, call): (usize, u64), taken: &[u8]) -> bool {
     if most == 0 {
         return false;
@@ -172,7 +172,7 @@ fn stumbles_for_good() -> bool {
     true
 }
 
-// Whether all bytes that are pushed stand in a text.
+// Whether all bytes that are pushed are in a text.
 fn is_written(alloc: Global) -> bool {
     let mut sink = Writing::new(Vec::new(alloc));
     let first = push_all(&mut sink, b"abc");
@@ -182,7 +182,7 @@ fn is_written(alloc: Global) -> bool {
     first.is_ok() && nothing == Ok(0) && second.is_ok() && text.as_slice() == b"abcde".as_slice()
 }
 
-// Whether a room takes what it has place for, and fails then.
+// Whether a room takes what fits, and then fails.
 fn is_full() -> bool {
     let mut room = [0; 3];
     let mut sink = Writing::new(room.as_mut_slice());

@@ -1,11 +1,11 @@
-// The limits of this profile, and frames that are stored. What programs are read as is shown by the rows of test_texts.
+// The limits of this profile, and frames that are stored. The rows of test_texts show what programs are parsed as.
 
 use dmis_program::{Frames, Program, ProgramFault, Refusal};
 use fixed_um::{Name, Point, Um};
 use std::alloc::{AllocError, Global};
 use std::test::Fail;
 
-/// `DMISMN`, so many moves, and an end.
+/// `DMISMN`, that many moves, and an end.
 fn long_program(alloc: Global, moves: u32, end: &[u8]) -> Result<Vec<u8>, AllocError> {
     let mut bytes = Vec::new(alloc);
     bytes.extend_from_slice(b"DMISMN/'LONG',05.2\n")?;
@@ -16,7 +16,7 @@ fn long_program(alloc: Global, moves: u32, end: &[u8]) -> Result<Vec<u8>, AllocE
     Ok(bytes)
 }
 
-/// Whether a text is read as a program of so many steps, or refused so.
+/// Whether a text is read as a program of that many steps, or refused with this fault.
 fn is_read(
     alloc: Global,
     frames: &Frames,
@@ -30,7 +30,7 @@ fn is_read(
     }
 }
 
-/// Whether `DMISMN`, so many moves, and an end are read so.
+/// Whether `DMISMN`, that many moves, and an end give this result.
 fn moves_are_read(
     alloc: Global,
     (moves, end): (u32, &[u8]),
@@ -41,7 +41,7 @@ fn moves_are_read(
     Ok(is_read(alloc, &frames, bytes.as_slice(), wanted))
 }
 
-/// A program whose second line is a comment of so many bytes.
+/// A program whose second line is a comment of that many bytes.
 fn long_comment(alloc: Global, length: u32) -> Result<Vec<u8>, AllocError> {
     let mut bytes = Vec::new(alloc);
     bytes.extend_from_slice(b"DMISMN\n$$")?;
@@ -52,7 +52,7 @@ fn long_comment(alloc: Global, length: u32) -> Result<Vec<u8>, AllocError> {
     Ok(bytes)
 }
 
-/// Whether a program with such a comment is read so.
+/// Whether a program with such a comment gives this result.
 fn comment_is_read(
     alloc: Global,
     length: u32,
@@ -84,7 +84,7 @@ fn limits_are_kept(rt: HostRuntime) -> Result<(), Fail> {
     Ok(())
 }
 
-/// A frame with its zero point in the machine's is added under this name; whether it is new.
+/// Adds a frame under this name, with its zero point in the machine's frame. Answers whether it is new.
 fn is_added(alloc: Global, frames: &mut Frames, name: &[u8]) -> Result<bool, Fail> {
     let zero = Point {
         x: Um::zero(),

@@ -1,4 +1,4 @@
-// What no clause says: that the calls which want memory succeed with it, and that the places are used again.
+// What no clause says: that the calls which need memory succeed with it, and that the places are reused.
 
 use command_queue::{Misread, Queue, Waiting};
 use dme_line::{Command, Tag};
@@ -40,7 +40,7 @@ fn is_handed_back(answer: &Result<(), Waiting>, number: u32) -> bool {
     }
 }
 
-/// Puts 64 commands, whose numbers are those behind another; false where one is handed back.
+/// Puts 64 commands, whose numbers follow another; false if one is handed back.
 fn put_64(queue: &mut Queue, before: u32) -> bool {
     for place in 1..=64u32 {
         if queue.put(home(before.saturating_add(place))).is_err() {
@@ -50,7 +50,7 @@ fn put_64(queue: &mut Queue, before: u32) -> bool {
     true
 }
 
-/// Takes 64 commands; false where one has not its number.
+/// Takes 64 commands; false if one does not have its number.
 fn take_64(queue: &mut Queue, before: u32) -> bool {
     for place in 1..=64u32 {
         if !is_home(&queue.take(), before.saturating_add(place)) {
@@ -75,7 +75,7 @@ fn forty_rounds_of_64_put_and_64_take_give_the_commands_in_order(
     Ok(())
 }
 
-/// Puts three commands; false where one is handed back.
+/// Puts three commands; false if one is handed back.
 fn put_three(queue: &mut Queue) -> bool {
     queue.put(home(7)).is_ok() && queue.put(unknown(8)).is_ok() && queue.put(home(9)).is_ok()
 }

@@ -1,4 +1,4 @@
-// What no clause says: that tags are drawn with memory, and worked rows.
+// What no clause says: that tags are drawn with memory, and examples.
 
 use dme_line::{Kind, Tag};
 use dme_tags::{Datum, Ended, Open, TagFault};
@@ -21,7 +21,7 @@ fn draw_all(open: &mut Open) -> Result<(), TagFault> {
     Ok(())
 }
 
-/// Gives data under a tag: whether the machine is homed where that is asked for, and a point to any other command.
+/// Gives data under a tag: whether the machine is homed if that is the question, and a point to any other command.
 fn give(open: &mut Open, tag: Tag, homed: bool) -> Result<(), TagFault> {
     match open.kind_of(tag) {
         Some(Kind::IsHomed) => open.data(tag, Datum::Homed(homed)),
@@ -37,7 +37,7 @@ fn touch(open: &mut Open) -> Result<Ended, TagFault> {
     open.complete(tag)
 }
 
-/// So many touches, one after another.
+/// That many touches, one after another.
 fn touch_often(open: &mut Open, count: u32) -> Result<(), TagFault> {
     for _ in 0..count {
         if let Err(fault) = touch(open) {
@@ -47,7 +47,7 @@ fn touch_often(open: &mut Open, count: u32) -> Result<(), TagFault> {
     Ok(())
 }
 
-/// How many commands are open behind 9,999 draws; what is drawn then for a touch and for an abort, and for a touch where all are cleared.
+/// How many commands are open after 9,999 draws; what is drawn then for a touch and for an abort, and for a touch once all are cleared.
 fn draw_on(open: &mut Open) -> Result<(usize, [Result<Tag, TagFault>; 3]), TagFault> {
     draw_all(open)?;
     let count = open.count();
@@ -57,23 +57,23 @@ fn draw_on(open: &mut Open) -> Result<(usize, [Result<Tag, TagFault>; 3]), TagFa
     Ok((count, [touch, abort, open.draw(Kind::PtMeas)]))
 }
 
-/// The same from no command on.
+/// Likewise, starting from no command.
 fn drawn_on(alloc: Global) -> Result<(usize, [Result<Tag, TagFault>; 3]), TagFault> {
     draw_on(&mut Open::new(alloc))
 }
 
-/// The next tag behind so many touches.
+/// The next tag after that many touches.
 fn draw_behind(open: &mut Open, count: u32) -> Result<Tag, TagFault> {
     touch_often(open, count)?;
     open.draw(Kind::PtMeas)
 }
 
-/// The next tag behind 9,999 touches.
+/// The next tag after 9,999 touches.
 fn drawn_behind_all(alloc: Global) -> Result<Tag, TagFault> {
     draw_behind(&mut Open::new(alloc), 9_999)
 }
 
-/// 00001 has failed, and its `%` is on the way; the next tag behind 9,998 touches of another plan.
+/// 00001 has failed, and its `%` is on the way; the next tag after 9,998 touches of another plan.
 fn draw_past_a_held_one(open: &mut Open) -> Result<Tag, TagFault> {
     let first = open.draw(Kind::PtMeas)?;
     open.failed(first)?;
@@ -83,7 +83,7 @@ fn draw_past_a_held_one(open: &mut Open) -> Result<Tag, TagFault> {
     draw_behind(open, 9_998)
 }
 
-/// The same from no command on.
+/// Likewise, starting from no command.
 fn drawn_past_a_held_one(alloc: Global) -> Result<Tag, TagFault> {
     draw_past_a_held_one(&mut Open::new(alloc))
 }
@@ -97,7 +97,7 @@ fn tags_come_round(rt: HostRuntime) {
     assert_eq!(rt; drawn_past_a_held_one(alloc), Ok(Tag::Std(2)));
 }
 
-/// Where a command stands.
+/// The place of a command among others.
 #[derive(Clone, Copy, Debug, PartialEq, Eq)]
 enum Place {
     Front,
@@ -116,7 +116,7 @@ enum Read {
     Failed,
 }
 
-/// A command of a kind at a place for which so much was read.
+/// A command of a kind at a place, and how much was read for it.
 #[derive(Clone, Copy)]
 struct Standing {
     kind: Kind,
@@ -124,7 +124,7 @@ struct Standing {
     read: Read,
 }
 
-/// So much is read for a command.
+/// Reads that much for a command.
 fn take_in(open: &mut Open, tag: Tag, read: Read) -> Result<(), TagFault> {
     match read {
         Read::Nothing => Ok(()),
@@ -137,13 +137,13 @@ fn take_in(open: &mut Open, tag: Tag, read: Read) -> Result<(), TagFault> {
     }
 }
 
-/// A command that is sent behind another fails.
+/// A command that is sent after another fails.
 fn fail_later(open: &mut Open) -> Result<(), TagFault> {
     let later = open.draw(Kind::GoTo)?;
     open.failed(later)
 }
 
-/// Draws the tag of a command that then stands so.
+/// Draws the tag of a command, which is then in this state.
 fn draw_standing(open: &mut Open, standing: Standing) -> Result<Tag, TagFault> {
     if standing.place == Place::BehindOpen {
         let _ = open.draw(Kind::GoTo)?;
@@ -166,7 +166,7 @@ fn refusal(fault: TagFault) -> u8 {
     }
 }
 
-/// A mark that is taken in is a dot.
+/// An accepted mark is a dot.
 fn taking(answer: Result<(), TagFault>) -> u8 {
     match answer {
         Ok(()) => b'.',
@@ -174,8 +174,8 @@ fn taking(answer: Result<(), TagFault>) -> u8 {
     }
 }
 
-/// A command that is closed is a dot too; one that counts is `m` for a move, `t` for a touch with its point, `h` for a question whose answer
-/// is that the machine is homed.
+/// A command that is closed is a dot too; one that counts is `m` for a move, `t` for a touch with its point, `h` for a question whose
+/// answer is that the machine is homed.
 fn ending(answer: Result<Ended, TagFault>) -> u8 {
     match answer {
         Ok(Ended::Closed) => b'.',
@@ -187,7 +187,7 @@ fn ending(answer: Result<Ended, TagFault>) -> u8 {
     }
 }
 
-/// What a mark is answered for a command that stands so.
+/// The answer to a mark for a command in this state.
 fn mark_answer(open: &mut Open, standing: Standing, mark: u8) -> Result<u8, TagFault> {
     let tag = draw_standing(open, standing)?;
     Ok(match mark {
@@ -198,7 +198,7 @@ fn mark_answer(open: &mut Open, standing: Standing, mark: u8) -> Result<u8, TagF
     })
 }
 
-/// What `&`, `#`, `!` and `%` are answered, each for a command that stands so.
+/// The answers to `&`, `#`, `!` and `%`, each for a command in this state.
 fn answers(alloc: Global, standing: Standing) -> Result<[u8; 4], TagFault> {
     let mut answers = *b"&#!%";
     for mark in answers.iter_mut() {
@@ -208,7 +208,7 @@ fn answers(alloc: Global, standing: Standing) -> Result<[u8; 4], TagFault> {
     Ok(answers)
 }
 
-/// Where a command stands, and its answers.
+/// The state of a command, and its answers.
 fn mark_rows() -> [(Kind, Place, Read, [u8; 4]); 29] {
     [
         (Kind::PtMeas, Place::Front, Read::Nothing, *b".2.2"),
@@ -255,15 +255,15 @@ fn marks_have_their_places(rt: HostRuntime) {
     }
 }
 
-/// How many commands are open, and whether it is asked if the machine is homed.
+/// How many commands are open, and whether one of them asks if the machine is homed.
 fn open_now(open: &Open) -> (usize, bool) {
     (open.count(), open.is_asking())
 }
 
-/// What is open before each mark and behind the last, and how the question ends.
+/// What is open before each mark and after the last, and how the question ends.
 type Asked = ([(usize, bool); 4], Ended);
 
-/// Asks whether the machine is homed and is told so.
+/// Asks whether the machine is homed, and the answer is that it is.
 fn ask(open: &mut Open, homed: bool) -> Result<Asked, TagFault> {
     let tag = open.draw(Kind::IsHomed)?;
     let sent = open_now(open);
@@ -275,19 +275,19 @@ fn ask(open: &mut Open, homed: bool) -> Result<Asked, TagFault> {
     Ok(([sent, received, given, open_now(open)], ended))
 }
 
-/// The same from no command on.
+/// Likewise, starting from no command.
 fn asked(alloc: Global, homed: bool) -> Result<Asked, TagFault> {
     ask(&mut Open::new(alloc), homed)
 }
 
-/// Whether it is asked if the machine is homed where that question has failed and its `%` is on the way.
+/// Whether the question whether the machine is homed counts as open after it has failed and while its `%` is on the way.
 fn asks_failed(open: &mut Open) -> Result<bool, TagFault> {
     let tag = open.draw(Kind::IsHomed)?;
     open.failed(tag)?;
     Ok(open.is_asking())
 }
 
-/// The same from no command on.
+/// Likewise, starting from no command.
 fn asks_behind_failure(alloc: Global) -> Result<bool, TagFault> {
     asks_failed(&mut Open::new(alloc))
 }

@@ -1,4 +1,4 @@
-// What no clause says of directions, names and lengths, beside the rows of test_texts.
+// What no clause says about directions, names and lengths, in addition to the rows of test_texts.
 
 use fixed_um::{Name, Um, read_dir, write_dir};
 use std::alloc::{AllocError, Global};

@@ -1,5 +1,5 @@
-// What no clause says: that commands and responses that are made by hand are written as the interface has them, and that the calls succeed
-// with memory. What lines are read as is shown by the rows of test_texts.
+// What no clause says: that commands and responses built in code are written as the interface specifies, and that the calls succeed
+// with memory. The rows of test_texts show what lines are parsed as.
 
 use dme_line::{
     Command, Csy, Kind, Mark, Response, Tag, read_command, write_command, write_data, write_homed,
@@ -117,7 +117,7 @@ fn write_rest(out: &mut Vec<u8>) -> Result<(), AllocError> {
     write_command(out, Tag::Event(67), &Command::AbortE)
 }
 
-/// A transformation; false where its lengths are not in the volume.
+/// A transformation; false if its lengths are not in the volume.
 fn write_transformation(out: &mut Vec<u8>, lengths: &Point) -> Result<bool, AllocError> {
     if !lengths.is_in_volume() {
         return Ok(false);
@@ -127,7 +127,7 @@ fn write_transformation(out: &mut Vec<u8>, lengths: &Point) -> Result<bool, Allo
     Ok(true)
 }
 
-/// All of them; false where the tool has no name.
+/// All of them; false if the tool has no name.
 fn write_all(alloc: Global, out: &mut Vec<u8>) -> Result<bool, AllocError> {
     let Some(tool) = Name::new(alloc, b"p1")? else {
         return Ok(false);

@@ -1,4 +1,4 @@
-// What no clause says: that a world is made and driven where memory is there.
+// What no clause says: that a world is made and driven if there is memory.
 
 use crate::made::{ONE, TWO, program_with};
 use dmis_program::Program;
@@ -69,7 +69,7 @@ fn run_told(world: &mut World) -> (RunCount, bool) {
     )
 }
 
-/// The same of a new world. It is handed to `drop`, since a function at whose end a world goes takes the prover as long as ten others.
+/// Likewise for a new world. It is passed to `drop`, since a function that drops a world at its end takes the prover as long as ten others.
 fn ran(alloc: Global) -> Option<(RunCount, bool)> {
     let mut world = new_world(alloc)?;
     let told = run_told(&mut world);
@@ -88,7 +88,7 @@ fn events_that_cannot_happen_are_counted(rt: HostRuntime) {
     assert_eq!(rt; ran(rt.alloc()), Some((wanted, true)));
 }
 
-/// How many features the program has that is handed back; none where it is not.
+/// How many features the returned program has; none if it is not returned.
 fn handed_back(fault: &NewFault) -> Option<usize> {
     match fault {
         NewFault::BadWindow(program, _) => Some(program.features().len()),
@@ -96,7 +96,7 @@ fn handed_back(fault: &NewFault) -> Option<usize> {
     }
 }
 
-/// The same of a world of two features, which is not made.
+/// Likewise for a world of two features, which is not made.
 fn refusal(alloc: Global, window: u8) -> Option<usize> {
     let (program, setup) = read(alloc, TWO)?;
     let fault = World::new(alloc, program, setup, window).err()?;

@@ -1,4 +1,4 @@
--- What a reply counts, next to the contacts that were told before it.
+-- What a reply counts, next to the contacts reported before it.
 use Rattle.std.proofs.Common.{◌≡◌, ℕ, suc, Bool, true, false, not, ◌||◌, List, [], ◌∷◌, ◌++◌, length, drop, refl, sym, ◌∙◌, ap, subst}
 use Rattle.std.proofs.Common.{append-nil, Option, Some, None}
 use Rattle.std.proofs.Math.Seq.{drop-append_seam}
@@ -65,13 +65,13 @@ measured_number ws (Does.Moves p f) given y = refl
 measured_number ws (Does.Changes n) given y = refl
 measured_number ws (Does.Frames f) given y = refl
 
--- acts are counted behind those that were, on the same connection
+-- acts are counted after those that were, on the same connection
 pub record Grows (y z : Tally) : Type 0 where
   pub more : List Act
   pub acts : z.counted ≡ y.counted ++ more
   pub number : z.connection ≡ y.connection
 
--- what is told then are these
+-- what is reported then are these
 pub grows_told : (y z : Tally) → (g : Grows y z) → numbered z.connection (drop (length y.counted) z.counted) ≡ numbered y.connection g.more
 grows_told y z g = ap (λ (n : ℕ). numbered n (drop (length y.counted) z.counted)) g.number
     ∙ ap (numbered y.connection) (ap (λ (l : List Act). drop (length y.counted) l) g.acts ∙ drop-append_seam y.counted g.more)
@@ -106,7 +106,7 @@ effect_grows ws (Effect.Count kind given) y = go y.todo
     go [] = stays y y refl refl
     go (q ∷ rest) = counted_grows ws kind given q rest y
 
--- so it is with each reply that has its place
+-- likewise for each expected reply
 pub heard_grows : (ws : List Wanted) (b c : Table) (t : Tag) (m : Mark) → heard ws b t m ≡ fine c → Grows b.tally c.tally
 heard_grows ws b c t m is =
     step_cases ws b t m c (Grows b.tally c.tally) is
@@ -116,7 +116,7 @@ heard_grows ws b c t m is =
 
 -- ---- the touches that are left
 
--- a client on a connection, and the contacts that were told: those of the held features, then those of the unfinished one, and what is left
+-- a client on a connection, and the contacts reported: those of the held features, then those of the unfinished one, and what is left
 -- of the features are the touches of the plan that are not counted
 pub record IsGoing (v : View) (ms : List MadeContact) : Type 0 where
   pub left : List Wanted
@@ -137,7 +137,7 @@ no_touch (Does.Moves p f) k is home = refl
 no_touch (Does.Changes n) k is home = refl
 no_touch (Does.Frames f) k is home = refl
 
--- so a plan whose homing is passed over has the same touches
+-- so a plan whose homing is skipped has the same touches
 passed_touches : (told : Bool) (ps : List Planned) → AreAsked ps → touches_in (passed_over told ps) ≡ touches_in ps
 passed_touches told ps h =
     (passes (λ (qs : List Planned). (touches_in qs ≡ touches_in ps) × AreAsked qs) (λ p qs e f. (
@@ -150,7 +150,7 @@ some_marks : (ts : List Touch) (l : List Marked) → (ts ≡ [] → ⊥) → mar
 some_marks [] l some e = some refl
 some_marks (t ∷ ts) l some e = cc
 
--- where no touch is left, no feature is
+-- if no touch is left, no feature is left
 none_left : (left : List Wanted) → HaveTouches left → marks_of left ≡ [] → left ≡ []
 none_left [] some e = refl
 none_left (w ∷ ws) some e = absurd (some_marks w.touches (marks_of ws) some.0 e)
@@ -159,7 +159,7 @@ not_empty : (ts : List Touch) → false ≡ is_empty ts → ts ≡ [] → ⊥
 not_empty [] e none = false≢true e
 not_empty (t ∷ ts) e none = cc
 
--- where no feature is left behind a counted command, none is unfinished
+-- if no feature is left after a counted command, none is unfinished
 measured_ends : (ws : List Wanted) (does : Does) (given : Option Datum) (y : Tally) (left later : List Wanted) (rest : List Marked)
     → HasDatum does given → HaveTouches left → touch_in does ++ rest ≡ marks_of left → rest ≡ marks_of later → (left ≡ [] → y.points ≡ [])
     → later ≡ [] → (measured ws does given y).points ≡ []
@@ -192,7 +192,7 @@ behind_asked : (xs : List Planned) (x : Planned) (ys : List Planned) → AreAske
 behind_asked [] x ys h = h.1
 behind_asked (w ∷ xs) x ys h = behind_asked xs x ys h.1
 
--- the first command of the plan is counted: it asks for what was given, and so do those behind it
+-- the first command of the plan is counted: it asks for what was given, and so do those after it
 record IsFirst (q : Planned) (rest : List Planned) (given : Option Datum) : Type 0 where
   has : HasDatum q.does given
   others : AreAsked rest
@@ -216,7 +216,7 @@ first_asked p program y hs gs kind given q rest plans f is calm live given_one =
       others = behind_asked f.finished q rest are;
     }
 
--- what is told then joins the contacts
+-- what is reported then joins the contacts
 counted_goes : (p : Meaning) (on : Bool) (last : ℕ) (y : Tally) (kind : Kind) (given : Option Datum) (q : Planned) (rest : List Planned)
     (ms : List MadeContact) → y.todo ≡ q ∷ rest → IsFirst q rest given → IsGoing (view_by p on last y) ms
     → IsGoing (view_by p on last (counted_next p.features kind given (q ∷ rest) y)) (ms
@@ -249,7 +249,7 @@ not_true : (b : Bool) → not b ≡ true → b ≡ false
 not_true true e = absurd (false≢true e)
 not_true false e = refl
 
--- where nothing is told the contacts are the same
+-- if nothing is reported, the contacts are the same
 still_goes : (v w : View) (ms : List MadeContact) → told_to v w ≡ [] → IsGoing w ms → IsGoing w (ms ++ contacts (told_to v w))
 still_goes v w ms none h = subst (λ (l : List MadeContact). IsGoing w l)
     (sym (ap (λ (l : List (ℕ × Act)). ms ++ contacts l) none ∙ append-nil ms)) h
@@ -271,11 +271,11 @@ effect_goes p on last program hs gs y plans (Effect.Count kind given) ms f h goi
     go (q ∷ rest) is = counted_goes p on last y kind given q rest ms is
         (first_asked p program y hs gs kind given q rest plans f is (f.calm (not_true y.failed h.0)) h.1 h.2) going
 
--- what holds of what is told between two tallies
+-- what holds of what is reported between two tallies
 abbrev GoesTo : Meaning → Bool → ℕ → List MadeContact → Tally → Tally → Type 0
 GoesTo p on last ms y z = IsGoing (view_by p on last z) (ms ++ contacts (told_to (view_by p on last y) (view_by p on last z)))
 
--- a reply that has its place
+-- an expected reply
 pub heard_goes : (p : Meaning) (on : Bool) (last : ℕ) → IsProgram p → (b c : Table) (t : Tag) (m : Mark) (plans : Plans)
     (ms : List MadeContact) → heard p.features b t m ≡ fine c → IsOnPlan p b.standard b.tally plans
     → IsGoing (view_by p on last b.tally) ms

@@ -1,4 +1,4 @@
--- What holds of the told acts behind every list of calls.
+-- What holds of the reported acts after every list of calls.
 use Rattle.std.proofs.Common.{◌≡◌, ℕ, zero, suc, ◌<◌, Bool, true, false, cond, List, [], ◌∷◌, ◌++◌, length, take, drop, refl, sym}
 use Rattle.std.proofs.Common.{◌∙◌, ap, subst, arith, append_assoc, append-nil, nat_lt}
 use Rattle.std.proofs.Math.Seq.{take-append_seam, drop-append_seam}
@@ -35,7 +35,7 @@ use Rattle.told_acts.proofs.Counts.{IsGoing, Grows, grows_told, heard_grows, hea
 
 -- ---- what was counted on the present connection
 
--- no act was told on a connection to come; on a connection, what is counted are the acts that were told there
+-- no act was reported on a connection to come; on a connection, what is counted are the acts reported there
 pub record IsHere (told : List (ℕ × Act)) (v : View) : Type 0 where
   pub up_to : AreUpTo v.last told
   pub number : v.on ≡ true → v.connection ≡ v.last
@@ -49,7 +49,7 @@ here_off told v up off = record {
   here = λ on. absurd (false≢true (sym off ∙ on));
 }
 
--- acts are counted behind those that were
+-- acts are counted after those that were
 grown_here : (p : Meaning) (last : ℕ) (told : List (ℕ × Act)) (b c : Table) → Grows b.tally c.tally
     → IsHere told (view_by p true last b.tally)
     → IsHere (told ++ told_to (view_by p true last b.tally) (view_by p true last c.tally)) (view_by p true last c.tally)
@@ -66,7 +66,7 @@ grown_here p last told b c g h =
           ∙ (ap (λ (l : List Act). l ++ g.more) (h.here refl) ∙ sym g.acts));
     })
 
--- what holds behind a change that tells these acts
+-- what holds after a change that says these acts
 abbrev HereTo : List (ℕ × Act) → View → View → Type 0
 HereTo told v w = IsHere (told ++ told_to v w) w
 
@@ -149,7 +149,7 @@ calls_here told (call ∷ calls) e h =
 new_here : (p : Meaning) (kept : List Feature) (window : ℕ) → IsHere [] (view (new_client_end p kept window).client)
 new_here p kept window = here_off [] (view (new_client_end p kept window).client) tt refl
 
--- behind every list of calls, from any program and any features
+-- after every list of calls, from any program and any features
 behind_here : (p : Meaning) (kept : List Feature) (window : ℕ) (calls : List Call)
     → IsHere (told_behind calls (new_client_end p kept window)) (view (client_behind calls p kept window))
 behind_here p kept window calls = calls_here [] calls (new_client_end p kept window) (new_here p kept window)
@@ -162,7 +162,7 @@ counted_were_told p kept window calls on = IsHere.here (behind_here p kept windo
 
 -- ---- what serves the features
 
--- the features that a client holds are served by the contacts of these acts; on a connection it goes on with the next one, and on none it
+-- the features that a client holds are served by the contacts of these acts; on a connection it continues with the next one, and on none it
 -- has no points
 pub record Tells (acts : List (ℕ × Act)) (v : View) : Type 0 where
   pub served : Served v.program.features v.features (contacts acts)
@@ -204,7 +204,7 @@ plan_goes p last n counted fs start ms program served = record {
   ended = λ none. refl;
 }
 
--- what holds behind a change that tells these acts
+-- what holds after a change that says these acts
 abbrev TellsTo : List (ℕ × Act) → View → View → Type 0
 TellsTo acts v w = Tells (acts ++ told_to v w) w
 
@@ -303,7 +303,7 @@ behind_tells p kept window program ours acts (call ∷ calls) e b h =
     (behind_tells p kept window program ours (acts ++ told_by call e) calls (behind_call call e)
     (behind_one_more p kept window call e b) (call_tells acts call e p (plans_begun before p kept window) holds h))
 
--- what was told behind calls, from features that are sound for earlier acts
+-- what was reported after calls, from features that are sound for earlier acts
 pub record IsTold (p : Meaning) (acts : List (ℕ × Act)) (c : Client) : Type 0 where
   pub same : c.program ≡ p
   pub tells : Tells acts (view c)
@@ -349,7 +349,7 @@ made_are_first front left made n k many long none =
     go [] empty = empty refl ∙ take_none (length made)
     go (w ∷ ws) empty = sym (take-append_seam made w.touches)
 
--- no touch was made where there is no point
+-- if there is no point, no touch was made
 none_made : (n : ℕ) (ts : List Touch) (ps : List Point) (ms : List MadeContact) → Serves n ts ps ms → ps ≡ [] → ts ≡ []
 none_made n [] ps ms h none = refl
 none_made n (t ∷ ts) [] ms h none = absurd h

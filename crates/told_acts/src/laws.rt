@@ -12,14 +12,14 @@ ghost use Rattle.told_acts.specs.Told.{told_behind, EndsUnfinished};
 
 /// After every list of calls of a client, from any program and any features that are sound for earlier acts, whatever bytes are fed:
 ///
-/// - `sound`: the features that the client holds are sound for the earlier acts followed by the acts that it was told. So each feature has
-///   the points of its own unbroken run of reported contacts on one connection, each contact with the target, direction, tool and frame of
-///   its touch, and the runs ascend;
+/// - `sound`: the features that the client holds are sound for the earlier acts followed by the acts reported to it. So each feature has
+/// the points of its own unbroken run of reported contacts on one connection, each contact with the target, direction, tool and frame of
+/// its touch, and the runs ascend;
 /// - `unfinished`: those acts end with the contacts of the unfinished feature: the points that the client holds for it are theirs, they are
-///   one unbroken run on the client's connection, and serve the first touches of the next feature that the program wants;
-/// - `counted`: what the client has counted on its connection are the acts that it was told there.
+/// one unbroken run on the client's connection, and serve the first touches of the next feature that the program wants;
+/// - `counted`: what the client has counted on its connection are the acts reported to it there.
 ///
-/// The server is not ours: an act is told where the client counts a command, and a contact's point is that of the data line.
+/// The server is not ours: an act is reported where the client counts a command, and a contact's point is that of the data line.
 pub fn held_features_are_true_of_what_was_told()
     ensures sound { (program : Meaning) (kept : List OneFeature) (window : ℕ) (calls : List Call)
         (earlier : List (ℕ × Act)) → IsProgram program → Sound program.features kept earlier

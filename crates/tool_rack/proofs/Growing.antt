@@ -43,7 +43,7 @@ distinct_more (m ∷ names) name once new =
     let h = not_first m name names (bytes_eq m name) refl new in
     (differs_more m name names (unequal m name h.0) once.0, distinct_more names name once.1 h.1)
 
--- stored frames behind a call that adds one
+-- stored frames after a call that adds one
 pub frames_added : (frames new : List (List ℕ × Point)) (name : List ℕ) (offset : Point) (r : Result Bool AllocError) → AreFrames frames
     → IsInVolume offset
     → IfOk r (λ added. IsTrue added ↔ (offset_of frames name ≡ None))
@@ -106,7 +106,7 @@ line_step : (above : List Entry) (lines : List (List ℕ)) (r : Result Entry Set
 line_step above lines (Err f) rest = refl
 line_step above lines (Ok e) rest = judged_step (length above + 1) above e lines (is_twice (setup_with above) e) refl rest refl
 
--- a setup that has grown so far, behind the other lines, is what all lines say
+-- a setup that has grown so far, after the other lines, is what all lines say
 pub grown : (lines : List (List ℕ)) (above : List Entry) → setup_behind (length above + 1) (setup_with above) lines
     ≡ all_together (entries_from above lines)
 grown [] above = refl

@@ -1,11 +1,11 @@
--- What stands behind lines does not matter to what they say.
+-- What follows lines does not matter to what they say.
 use Rattle.std.proofs.Common.{◌≡◌, ℕ, ◌+◌, List, [], ◌∷◌, ◌++◌, length, Result, Ok, Err, refl, sym, ◌∙◌, arith, length-append}
 use Rattle.tool_rack.specs.Entries.{entry_on}
 use Rattle.tool_rack.specs.Setups.{judged, and_then, entries_from}
 use Rattle.tool_rack.specs.declared.entries.Entry.{Entry}
 use Rattle.tool_rack.specs.declared.faults.SetupFault.{SetupFault}
 
--- one line and the lines behind it, whatever it says
+-- one line and the lines after it, whatever it says
 joined_line : (above : List Entry) (lines behind : List (List ℕ)) (r : Result Entry SetupFault)
     → ((more : List Entry) → entries_from more (lines ++ behind) ≡ and_then (entries_from more lines) (λ es. entries_from es behind))
     → and_then r (λ e. entries_from (above ++ e ∷ []) (lines ++ behind))

@@ -59,7 +59,7 @@ ends_free [] = false
 ends_free (x ∷ []) = not (is_space x)
 ends_free (x ∷ y ∷ ys) = ends_free (y ∷ ys)
 
--- fields and spaces from here on, or behind spaces
+-- fields and spaces from here on, or after spaces
 data Ending (xs : List ℕ) : Type 0 where
   here : (fields : List (List ℕ)) → IsSpaced xs fields → Ending xs
   behind : (spaces : ℕ) (rest : List ℕ) (fields : List (List ℕ)) → xs ≡ 32 ∷ (repeat spaces (32 ∷ []) ++ rest) → IsSpaced rest fields
@@ -68,7 +68,7 @@ data Ending (xs : List ℕ) : Type 0 where
 longer_field : (x : ℕ) (field : List ℕ) → is_space x ≡ false → IsField field → IsField (x ∷ field)
 longer_field x field e h = record { some = omega arith; free = rw e h.free }
 
--- one byte in front of the first field
+-- one byte before the first field
 longer : (x : ℕ) (xs : List ℕ) (fields : List (List ℕ)) → is_space x ≡ false → IsSpaced xs fields → (all : List (List ℕ))
     × IsSpaced (x ∷ xs) all
 longer x xs [] e h = absurd h
@@ -81,7 +81,7 @@ longer x xs (field ∷ next ∷ fields) e h = (
 one_byte : (x : ℕ) → is_space x ≡ false → IsField (x ∷ [])
 one_byte x e = record { some = omega arith; free = rw e refl }
 
--- one byte in front of spaces
+-- one byte before spaces
 before_spaces : (x : ℕ) (xs : List ℕ) (spaces : ℕ) (rest : List ℕ) (fields : List (List ℕ)) → is_space x ≡ false
     → xs ≡ 32 ∷ (repeat spaces (32 ∷ []) ++ rest) → IsSpaced rest fields → IsSpaced (x ∷ xs) ((x ∷ []) ∷ fields)
 before_spaces x xs spaces rest [] e f h = absurd h
@@ -103,7 +103,7 @@ ending x (y ∷ ys) h = by_front (is_space x) refl (ending y ys h)
     by_front true e r = space_front x (y ∷ ys) (eqb-true x 32 e) r
     by_front false e r = field_front x (y ∷ ys) e r
 
--- no space stands in front
+-- no space is in front
 from_front : (x : ℕ) (xs : List ℕ) → is_space x ≡ false → Ending (x ∷ xs) → IsSpaced (x ∷ xs) (fields_of (x ∷ xs))
 from_front x xs e (here fields h) = rw (spaced_fields (x ∷ xs) fields h) h
 from_front x xs e (behind spaces rest fields f h) = absurd cc

@@ -12,7 +12,7 @@ use Rattle.tool_rack.specs.declared.entries.Entry.TheVariants.{Nothing, Tool, Fr
 use Rattle.tool_rack.specs.declared.faults.SetupFault.{SetupFault}
 use Rattle.tool_rack.specs.declared.faults.SetupFault.TheVariants.{BadLine, BadNumeral}
 
--- the length in micrometres that a numeral in millimetres stands for, within the machine's volume
+-- the length in micrometres that a numeral in millimetres means, within the machine's volume
 unfoldable pub length_of : List ℕ → Result ℤ NumeralFault
 length_of text = value_of 3 volume_limit text
 
@@ -26,7 +26,7 @@ point_with (Err fault) y z = None
 abbrev pub point_of : List ℕ → List ℕ → List ℕ → Option Point
 point_of x y z = point_with (length_of x) (length_of y) (length_of z)
 
--- a tool: its name, and nothing behind it
+-- a tool: its name, and nothing after it
 abbrev pub tool_entry : ℕ → List (List ℕ) → Result Entry SetupFault
 tool_entry n (name ∷ []) = if is_name_text name then Ok (Tool (folded name)) else Err (BadLine n)
 tool_entry n _ = Err (BadLine n)
@@ -44,7 +44,7 @@ abbrev pub frame_with : ℕ → List ℕ → Option Point → Result Entry Setup
 frame_with n name None = Err (BadNumeral n)
 frame_with n name (Some offset) = Ok (Frame name offset)
 
--- a stored frame: its name, and three numerals for its zero point in machine axes. The name is looked at before the numerals
+-- a stored frame: its name, and three numerals for its zero point in machine axes. The name is examined before the numerals
 abbrev pub frame_entry : ℕ → List (List ℕ) → Result Entry SetupFault
 frame_entry n (name ∷ x ∷ y ∷ z ∷ []) = if is_name_text name then frame_with n (folded name) (point_of x y z) else Err (BadLine n)
 frame_entry n _ = Err (BadLine n)

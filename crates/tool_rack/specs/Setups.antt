@@ -51,7 +51,7 @@ is_twice setup (entry.Tool name) = has_name setup.tools name
 is_twice setup (entry.Frame name offset) = is_some (offset_of setup.frames name)
 is_twice setup _ = false
 
--- what line n says below the lines that said `above`: it is refused by itself, or for a name that stands above
+-- what line n says below the lines that said `above`: it is refused by itself, or for a name that is above
 abbrev pub judged : ℕ → List Entry → Result Entry SetupFault → Result Entry SetupFault
 judged n above (Err fault) = Err fault
 judged n above (Ok entry) = if is_twice (setup_with above) entry then Err (fault.Twice n) else Ok entry
@@ -71,7 +71,7 @@ entries_from above (line ∷ lines) = and_then (judged (length above + 1) above 
 unfoldable pub setup_of : List ℕ → Result SetupValue SetupFault
 setup_of text = and_then (entries_from [] (lines text)) (λ entries. Ok (setup_with entries))
 
--- this fault is due; want of memory says nothing of the text
+-- this fault is due; running out of memory says nothing of the text
 abbrev pub IsDue : {A : Type 0} → Result A SetupFault → SetupFault → Type 0
 IsDue due (fault.BadLine n) = due ≡ Err (fault.BadLine n)
 IsDue due (fault.Twice n) = due ≡ Err (fault.Twice n)
@@ -89,6 +89,6 @@ pub record IsSetup (setup : SetupValue) : Type 0 where
   pub frames : AreFrames setup.frames
   pub shifts_within : AllByRecursion IsInVolume setup.shifts
 
--- shift number k, counted from 0 and from the first again behind the last; none where there is no shift
+-- shift number k, counted from 0 and from the first again after the last; none where there is no shift
 abbrev pub shift_at : List Point → ℕ → Point
 shift_at shifts k = slice_index_or shifts (k % length shifts) zero_point

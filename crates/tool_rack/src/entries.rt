@@ -19,7 +19,7 @@ pub(crate) enum Entry {
     Shift(Point),
 }
 
-/// What the fields behind `TOOL` say.
+/// What the fields after `TOOL` say.
 fn tool_entry(alloc: Global, number: u64, values: &[u8]) -> Result<Entry, SetupFault>
     ensures value { GivesSetup result (tool_entry number (fields_of values.now)) }
     ensures within { IfOk result IsEntryInVolume }
@@ -33,7 +33,7 @@ fn tool_entry(alloc: Global, number: u64, values: &[u8]) -> Result<Entry, SetupF
     }
 }
 
-/// What the fields behind `FRAME` say.
+/// What the fields after `FRAME` say.
 fn frame_entry(alloc: Global, number: u64, values: &[u8]) -> Result<Entry, SetupFault>
     ensures value { GivesSetup result (frame_entry number (fields_of values.now)) }
     ensures within { IfOk result IsEntryInVolume }
@@ -53,7 +53,7 @@ fn frame_entry(alloc: Global, number: u64, values: &[u8]) -> Result<Entry, Setup
     }
 }
 
-/// What the fields behind `SHIFT` say.
+/// What the fields after `SHIFT` say.
 fn shift_entry(number: u64, values: &[u8]) -> Result<Entry, SetupFault>
     ensures value { GivesSetup result (shift_entry number (fields_of values.now)) }
     ensures within { IfOk result IsEntryInVolume }

@@ -2,14 +2,14 @@ use std::alloc::{AllocError, AllocFailed};
 use std::fmt;
 
 /// Why a text gives no setup (this profile). The first line that is refused is answered, with its number; lines are counted from 1,
-/// those that say nothing too. Of one line the form is looked at first, then its numerals, then whether its name is there already.
+/// those that say nothing too. Of one line the form is examined first, then its numerals, then whether its name is there already.
 #[derive(Clone, Copy, Debug, PartialEq, Eq)]
 pub enum SetupFault {
-    /// The line is none of `TOOL name`, `FRAME name x y z`, `SHIFT dx dy dz`.
+    /// The line is not one of `TOOL name`, `FRAME name x y z`, `SHIFT dx dy dz`.
     BadLine(u64),
     /// A tool or a frame has the name of an earlier one.
     Twice(u64),
-    /// A field that is to be a numeral is none, has too many digits, or is past the limit of the machine's volume.
+    /// A field that should be a numeral is not one, has too many digits, or is past the limit of the machine's volume.
     BadNumeral(u64),
     /// A growth was refused. The call may be made again.
     Memory,

@@ -7,7 +7,7 @@ ghost use Rattle.tool_rack.specs.Spacing.{IsSpaced};
 ghost use Rattle.tool_rack.specs.declared.entries.Entry.{Entry};
 ghost use Rattle.tool_rack.specs.declared.faults.SetupFault.{SetupFault};
 
-/// The first line that is refused decides, whatever stands behind it. A line that is not refused says its entry below those of the
+/// The first line that is refused decides, whatever follows it. A line that is not refused says its entry below those of the
 /// lines above it.
 pub fn first_refused_line_decides()
     ensures refused { (front : List (List ℕ)) (line : List ℕ) (behind : List (List ℕ))

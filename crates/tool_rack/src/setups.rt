@@ -29,7 +29,7 @@ impl Model for Rack {
 }
 
 impl Rack {
-    /// Whether the rack has the tool of this name. Takes no memory.
+    /// Whether the rack has the tool of this name. Does not allocate.
     pub fn has(&self, name: &Name) -> bool
         ensures value { result ≡ has_name self.now name.now }
         ensures among { IsTrue result ↔ Any (λ tool. tool ≡ name.now) self.now }
@@ -39,7 +39,7 @@ impl Rack {
             .any(|tool| tool.as_bytes() == name.as_bytes())
     }
 
-    /// Adds a tool behind the others. Only want of memory is an `Err`, and then nothing has changed.
+    /// Adds a tool after the others. Fails only if out of memory, and then nothing has changed.
     fn push(&mut self, name: Name) -> Result<(), AllocError>
         ensures { Leads result self.old self.new (self.old ++ name ∷ []) }
     {
@@ -72,7 +72,7 @@ impl Model for Setup {
 }
 
 impl Setup {
-    /// The setup that says nothing. It takes no memory yet.
+    /// The setup that says nothing. It does not allocate yet.
     fn empty(alloc: Global) -> Setup
         ensures { result ≡ record { tools = []; frames = []; shifts = [] } }
     {
@@ -85,8 +85,8 @@ impl Setup {
         }
     }
 
-    /// Adds what a line says; false where its name is there already, and then nothing has changed. The caller owes positions in the
-    /// machine's volume. Only want of memory is an `Err`, and then nothing has changed either.
+    /// Adds what a line says; false if its name is there already, and then nothing has changed. The caller must give positions in the
+    /// machine's volume. Fails only if out of memory, and then nothing has changed either.
     fn add(&mut self, entry: Entry) -> Result<bool, AllocError>
         requires { IsEntryInVolume entry }
         ensures is_new { IfOk result (λ added. added ≡ not (is_twice self.old entry)) }
@@ -127,8 +127,8 @@ impl Setup {
     /// say nothing; each other is `TOOL name`, `FRAME name x y z` or `SHIFT dx dy dz`, its fields separated by one or more spaces, its
     /// word in any case, its numerals in millimetres and within the machine's volume.
     ///
-    /// The first line that is refused is answered with its number. Of one line its form is looked at first, then its numerals, then
-    /// whether a tool or a frame of its name stands above.
+    /// The first line that is refused is answered with its number. Of one line its form is examined first, then its numerals, then
+    /// whether a tool or a frame of its name is above.
     pub fn read(alloc: Global, bytes: &[u8]) -> Result<Setup, SetupFault>
         ensures value { GivesSetup result (setup_of bytes.now) }
     {
@@ -143,7 +143,7 @@ impl Setup {
         Ok(setup)
     }
 
-    /// The tools of the rack. Takes no memory.
+    /// The tools of the rack. Does not allocate.
     pub fn rack(&self) -> &Rack
         ensures rack { result.now ≡ self.now.tools }
         ensures setup { IsSetup self.now }
@@ -151,7 +151,7 @@ impl Setup {
         &self.rack
     }
 
-    /// The frames that a program may recall, each with its zero point in machine axes. Takes no memory.
+    /// The frames that a program may recall, each with its zero point in machine axes. Does not allocate.
     pub fn frames(&self) -> &Frames
         ensures frames { result.now ≡ self.now.frames }
         ensures setup { IsSetup self.now }
@@ -159,7 +159,7 @@ impl Setup {
         &self.frames
     }
 
-    /// The shifts of a simulated machine, in the order of the text. Takes no memory.
+    /// The shifts of a simulated machine, in the order of the text. Does not allocate.
     pub fn shifts(&self) -> &[Point]
         ensures shifts { result.now ≡ self.now.shifts }
         ensures setup { IsSetup self.now }
@@ -167,8 +167,8 @@ impl Setup {
         self.shifts.as_slice()
     }
 
-    /// Shift number `k`, counted from 0, and from the first again behind the last; the zero point where there is no shift. Takes no
-    /// memory.
+    /// Shift number `k`, counted from 0, and from the first again after the last; the zero point if there is no shift. Does
+    /// not allocate.
     pub fn shift(&self, k: u64) -> Point
         ensures value { result ≡ shift_at self.now.shifts k }
         ensures within { IsInVolume result }

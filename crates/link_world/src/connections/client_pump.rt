@@ -26,7 +26,7 @@ fn send_due(client: &mut Client) -> Result<(), PumpFault<ClientFault>>
     Ok(())
 }
 
-/// The client sends each command that is due, and all that it has written goes out. A front of it may have gone where this stops.
+/// The client sends each command that is due, and all that it has written goes out. If this stops, a prefix of it may have gone.
 fn give_out<W: Sink>(
     client: &mut Client,
     sink: &mut W,
@@ -49,7 +49,7 @@ fn give_out<W: Sink>(
     Ok(count)
 }
 
-/// Bytes come in and are fed to the client, until there are so many.
+/// Bytes come in and are fed to the client, until there are as many as asked for.
 fn take_in<R: Source>(
     client: &mut Client,
     source: &mut R,
@@ -72,7 +72,7 @@ fn take_in<R: Source>(
     let mut piece = [0u8; PIECE];
     let mut read = 0;
     while read < at_least {
-        // So many bytes and no more, that their count fits.
+        // At most as many bytes as their count can hold.
         let room = PIECE.min(usize::MAX - read);
         let count = pull_counted(source, &mut piece[..room], budget)?;
         client.feed(&piece[..count])?;
@@ -129,13 +129,13 @@ fn turn<R: Source, W: Sink>(
 }
 
 /// One turn of a client over the ports of its connection (this profile): it sends each command that is due; all that it has written goes
-/// out; bytes come in, in pieces of at most `PIECE`, until there are `at_least`, and none where that is 0; and it reads each whole line.
-/// What comes behind the last whole line is kept.
+/// out; bytes come in, in pieces of at most `PIECE`, until there are `at_least`, and none if that is 0; and it reads each whole line. What
+/// follows the last whole line is kept.
 ///
 /// Each push, each pull and each line is a step, and there are at most `bound`, whatever the answer. A fault stops the turn, and the client
-/// has then left its connection: `ReadFailed` and `WriteFailed` where that port has failed; `Ended` where the input has ended before
-/// `at_least` bytes had come; `TurnsSpent`; `Core` where the client itself refuses, as one on no connection does (`NotNow`), and one that
-/// was or is now Faulted; `Memory`, and only then may bytes that had come be lost.
+/// has then left its connection: `ReadFailed` and `WriteFailed` if that port has failed; `Ended` if the input has ended before `at_least`
+/// bytes had come; `TurnsSpent`; `Core` if the client itself refuses, as one on no connection does (`NotNow`), and one that was or is now
+/// Faulted; `Memory`, and only then may bytes that had come be lost.
 pub fn client_turns<R: Source, W: Sink>(
     client: &mut Client,
     ports: &mut Ports<R, W>,

@@ -1,4 +1,4 @@
-// The turns of both sides over their ports, in the events of a world. Each function has laws for its contract and does nothing.
+// The turns of both sides over their ports, as events of a world. Each function has laws for its contract and does nothing.
 
 ghost use Rattle.std.specs.Prelude.{◌≡◌, ◌≢◌, ◌≤◌, ℕ, true, false, Option, None, Some, Ok, List, [], ◌∷◌, ◌++◌, length, take};
 ghost use Rattle.std.specs.Io.KnownBytes.{Consumes};
@@ -25,19 +25,19 @@ ghost use Rattle.link_world.specs.Joined.{AreFit, server_joined};
 ghost use Rattle.link_world.specs.Joined.{EndPair, pumped_of, PumpCalls, IsOneWorld};
 ghost use Rattle.link_world.specs.Joined.{ClientCalls, AreOwnCalls};
 
-/// A client's turn over its ports is a list of events of the world. For every world whose client has nothing to send and stands on a
+/// A client's turn over its ports is a list of events of the world. Take every world whose client has nothing to send and is on a
 /// connection that was made, and every turn of that client, as `client_turns` makes it, in which the bytes that came in are the first that
 /// wait for it on that connection:
 ///
-/// - `joined`: however far the turn has come, there is a list of events, a front of one in which the client sends while it can, bytes come
+/// - `joined`: however far the turn has come, there is a list of events, a prefix of one in which the client sends while it can, bytes come
 ///   down and it reads while it can, that leads the world to one with the client as the turn has left it, the server unchanged, and the
-///   connection without the bytes that came in; what the turn has written to its sink, and behind it what it has not yet, stands at the end
-///   of the connection's way up;
-/// - `whole`: where it has read all, there is such a list that is whole, and the connection has grown by what went to the sink;
-/// - `written`, `enough`: where it reads, nothing is left to be written, and as many bytes have come in as were asked for;
-/// - `leaves`: where the client, still on its connection, leaves it behind such events, so does the client of the world; what joined the
-///   connection stands there;
-/// - `sound`, `told`: where a list of events has led to the world, what `every_run` claims holds of the client behind its turn.
+///   connection without the bytes that came in; what the turn has written to its sink, followed by what it has not yet written, is at the
+///   end of the connection's way up;
+/// - `whole`: if it has read all, there is such a list that is whole, and the connection has grown by what went to the sink;
+/// - `written`, `enough`: if it reads, nothing is left to be written, and as many bytes have come in as were asked for;
+/// - `leaves`: if the client, still on its connection, leaves it after such events, so does the client of the world; what joined the
+///   connection stays there;
+/// - `sound`, `told`: if a list of events has led to the world, what `every_run` claims holds of the client after its turn.
 #[tactic(auto, using(crate::proofs::ClientJoins::turn_joins, crate::proofs::ClientJoins::turn_whole, crate::proofs::ClientJoins::turn_written, crate::proofs::ClientJoins::turn_enough, crate::proofs::ClientJoins::turn_leaves, crate::proofs::ClientJoins::turn_sound, crate::proofs::ClientJoins::turn_told))]
 pub fn turns_of_a_client_are_events()
     ensures joined { (least : ℕ) (w : World) (stage : Stage)
@@ -86,18 +86,18 @@ pub fn turns_of_a_client_are_events()
         → Told e.client.table.tally.counted w.server.server.ledger e.client.last }
 {}
 
-/// A server's turn over its ports is a list of events of the world. For every world whose server has nothing to send, has met no framing
-/// fault and stands on a connection that was made, every machine whose answers fit the jobs, and every turn of that server, as
-/// `serve_turns` makes it, in which the bytes that came in are the first that wait for it on that connection:
+/// A server's turn over its ports is a list of events of the world. Take every world whose server has nothing to send, has met no framing
+/// fault and is on a connection that was made, every machine whose answers fit the jobs, and every turn of that server, as `serve_turns`
+/// makes it, in which the bytes that came in are the first that wait for it on that connection:
 ///
-/// - `joined`: however far the turn has come, there is a list of events, a front of one in which bytes come up, the server reads while it
-///   can, and turns and ends of jobs come while there is one, each as the machine answers, that leads the world to one with the server as
-///   the turn has left it, the client unchanged, and the connection without the bytes that came in; what the turn has written to its sink,
-///   and behind it what it has not yet, stands at the end of the connection's way down;
-/// - `whole`, `enough`: where it writes, there is such a list that is whole, and as many bytes have come in as were asked for;
-/// - `leaves`: where the server, still on its connection, leaves it behind such events, so does the server of the world;
-/// - `sound`, `told`: where a list of events has led to the world, and its server stands on a connection, what `every_run` claims holds of
-///   the server behind its turn;
+/// - `joined`: however far the turn has come, there is a list of events, a prefix of one in which bytes come up, the server reads while it
+///   can, and commands are processed and jobs end while there are any, each as the machine answers, that leads the world to one with the
+///   server as the turn has left it, the client unchanged, and the connection without the bytes that came in; what the turn has written to
+///   its sink, followed by what it has not yet written, is at the end of the connection's way down;
+/// - `whole`, `enough`: if it writes, there is such a list that is whole, and as many bytes have come in as were asked for;
+/// - `leaves`: if the server, still on its connection, leaves it after such events, so does the server of the world;
+/// - `sound`, `told`: if a list of events has led to the world, and its server is on a connection, what `every_run` claims holds of the
+///   server after its turn;
 /// - `fit`: the answers of the simulated machine fit the jobs.
 #[tactic(auto, using(crate::proofs::ServerJoins::serving_joins, crate::proofs::ServerJoins::serving_whole, crate::proofs::ServerJoins::serving_enough, crate::proofs::ServerJoins::serving_leaves, crate::proofs::ServerJoins::serving_sound, crate::proofs::ServerJoins::serving_told, crate::proofs::ServerJoins::simulated_fits))]
 pub fn turns_of_a_server_are_events()
@@ -146,16 +146,16 @@ pub fn turns_of_a_server_are_events()
     ensures fit { (shifts : List OnePoint) → AreFit (simulated shifts) }
 {}
 
-/// Two pumps on one connection are a world. For every world to which a list of events has led and whose sides stand on one connection,
-/// every machine whose answers fit the jobs, and every list of calls of `client_turns` and `serve_turns` from there, in any order, each
-/// whole or stopped, with whatever bounds and ports, in which the bytes that a call took are the first of those on their way to its side
-/// (what waited there at first, and what the other side's calls have written since):
+/// Two pumps on one connection are a world. Take every world to which a list of events has led and whose sides are on one connection, every
+/// machine whose answers fit the jobs, and every list of calls of `client_turns` and `serve_turns` from there, in any order, each whole or
+/// stopped, with any bounds and ports, in which the bytes that a call took are the first of those on their way to its side (what waited
+/// there at first, and what the other side's calls have written since):
 ///
-/// - `world`: one list of events, call by call the whole turn of a side or a front of one and its leaving, leads the world to one with both
-///   sides as the calls have left them; what is on its way up and down waits on their connection, and where a side has left, what it had
-///   not yet written may stand behind that;
-/// - `sound`, `told`, `agree`: so what `every_run` claims holds of the client and the server behind the calls;
-/// - `front`: a source that holds a front of the bytes on their way gives the first of them.
+/// - `world`: one list of events, for each call the whole turn of a side or a prefix of one and its leaving, leads the world to one with
+///   both sides as the calls have left them; what is on its way up and down waits on their connection, and if a side has left, what it had
+///   not yet written may follow that;
+/// - `sound`, `told`, `agree`: so what `every_run` claims holds of the client and the server after the calls;
+/// - `front`: a source that holds a prefix of the bytes on their way gives the first of them.
 #[tactic(auto, using(crate::proofs::PumpJoins::pumps_join, crate::proofs::PumpJoins::pumps_sound, crate::proofs::PumpJoins::pumps_told, crate::proofs::PumpJoins::pumps_agree, crate::proofs::PumpJoins::source_front))]
 pub fn two_pumps_are_a_world()
     ensures world { (answer : OneJob → ℕ → OneOutcome) → AreFit answer → (w : World) (p : EndPair)
@@ -193,13 +193,13 @@ pub fn two_pumps_are_a_world()
         → Consumes (Some left) left_now read → take (length read) (left ++ more) ≡ read }
 {}
 
-/// A client under its pump holds the first features of its program, whatever its peer sends. Behind every list of calls of `client_turns`,
-/// each whole or stopped, with whatever bounds and over whatever ports, and of the client's own calls between them:
+/// A client under its pump holds the first features of its program, whatever its peer sends. After every list of calls of `client_turns`,
+/// each whole or stopped, with any bounds and over any ports, and of the client's own calls between them:
 ///
-/// - `calls`: the client is as a list of its own calls leaves it, so that all that `client_core::whatever_the_peer_sends` says of such
-///   lists holds of it;
-/// - `features`: where it began with a program and features of it that were kept, those that it holds are the first of the program, by
-///   their labels and their counts of points.
+/// - `calls`: the client is as a list of its own calls leaves it, so that all that `client_core::whatever_the_peer_sends` specifies for
+///   such lists holds of it;
+/// - `features`: if it began with a program and features of it that were kept, those that it holds are the first of the program, by their
+///   labels and their counts of points.
 #[tactic(auto, using(crate::proofs::PeerJoins::pumped_calls, crate::proofs::PeerJoins::pumped_features))]
 pub fn a_pumped_client_holds_first_features()
     ensures calls { (first e : ClientEnd)

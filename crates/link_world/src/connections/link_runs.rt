@@ -1,4 +1,4 @@
-// A client and a server over the ports of one connection, which have their turns by turns.
+// A client and a server over the ports of one connection, which take turns alternately.
 
 ghost use Rattle.std.specs.Prelude.{◌≡◌, ◌≤◌, ◌+◌, true, false, IfOk, OnOk, OnErr, IfErr};
 ghost use Rattle.link_world.specs.Pumps.{BlamesPorts};
@@ -28,8 +28,8 @@ fn are_still(by_client: Moved, by_server: Moved) -> bool
     by_client.read == 0 && by_client.written == 0 && by_server.read == 0 && by_server.written == 0
 }
 
-/// A turn of the client, which asks for so many bytes, and one of the server, which asks for those that the client has written. Where one
-/// stops, the other side leaves too.
+/// A turn of the client, which asks for this number of bytes, and one of the server, which asks for those that the client has written. If
+/// one stops, the other side leaves too.
 fn pair<M: Machine, CR: Source, CW: Sink, SR: Source, SW: Sink, N: Watcher>(
     client: &mut Client,
     server: &mut Server,
@@ -85,13 +85,14 @@ fn pair<M: Machine, CR: Source, CW: Sink, SR: Source, SW: Sink, N: Watcher>(
     }
 }
 
-/// A client and a server have their turns by turns, each over its own ports of one connection (this profile): in each pair of turns the
-/// client asks for as many bytes as the server wrote in its last turn, at first for none, and then the server for as many as the client has
-/// just written. It ends with Ok behind a pair in which no byte came in and none went out. The watcher is told of each feature that a turn
-/// has completed, once, in order, with its number and after that turn, be it one that stops; whatever it does, all else is the same.
+/// A client and a server take turns alternately, each over its own ports of one connection (this profile): in each pair of turns the client
+/// asks for as many bytes as the server wrote in its last turn, at first for none, and then the server for as many as the client has just
+/// written. It ends with Ok after a pair in which no byte came in and none went out. Each feature that a turn has completed is reported to
+/// the watcher, once, in order, with its number and after that turn, even if the turn stops; whatever the watcher does, all else is the
+/// same.
 ///
-/// Where one side's turn stops, its fault is the answer, and the other side leaves its connection too. A turn may make 1,000,000 steps, and
-/// there may be 1,000,000 pairs; behind them both sides leave, and the answer is that the client's turns are spent.
+/// If one side's turn stops, its fault is the answer, and the other side leaves its connection too. A turn may make 1,000,000 steps, and
+/// there may be 1,000,000 pairs; after them both sides leave, and the answer is that the client's turns are spent.
 pub fn loop_link<M: Machine, CR: Source, CW: Sink, SR: Source, SW: Sink, N: Watcher>(
     client: &mut Client,
     server: &mut Server,

@@ -1,4 +1,4 @@
-// Whole connections over their ports: the turns of one side, one behind another.
+// Whole connections over their ports: the turns of one side, one after another.
 
 ghost use Rattle.std.specs.Prelude.{◌≡◌, ◌↔◌, ◌<◌, ◌≤◌, ◌+◌, true, false, IsOk, IfOk, OnOk, OnErr, IfErr};
 ghost use Rattle.std.specs.Result.{IsErrOf};
@@ -21,23 +21,23 @@ pub(crate) const TURNS_MAX: u32 = 1_000_000;
 /// How many steps each of them may make (this profile): `steps_most` of the definitions.
 pub(crate) const STEPS_MAX: u64 = 1_000_000;
 
-/// Why a client and a server that have their turns by turns stop: the fault of one side's turn.
+/// Why a client and a server that take turns alternately stop: the fault of one side's turn.
 #[derive(Clone, Copy, Debug, PartialEq, Eq)]
 pub enum LoopFault {
-    /// A turn of the client has stopped, or as many turns were made as may be.
+    /// A turn of the client has stopped, or the maximum number of turns was made.
     Client(PumpFault<ClientFault>),
     /// A turn of the server has stopped.
     Server(PumpFault<ServerFault>),
 }
 
-/// Whether a run of a client is over: its plan is counted, or nothing is open behind a failure or an abort.
+/// Whether a run of a client is over: its plan is counted, or nothing is open after a failure or an abort.
 fn is_over(state: State) -> bool
     ensures { result ≡ is_over state }
 {
     matches!(state, State::Done | State::Halted)
 }
 
-/// One turn of a client, of whose features the watcher is told, whether it stops or not.
+/// One turn of a client, whose features are reported to the watcher, whether it stops or not.
 pub(crate) fn watched_turn<R: Source, W: Sink, N: Watcher>(
     client: &mut Client,
     ports: &mut Ports<R, W>,
@@ -67,12 +67,12 @@ pub(crate) fn watched_turn<R: Source, W: Sink, N: Watcher>(
 }
 
 /// A whole run of a client over the ports of its connection (this profile): turns in which at least one byte comes in, until it is Done or
-/// Halted. It makes none where it is so at first. The watcher is told of each feature that a turn has completed, once, in order, with its
-/// number and after that turn, be it one that stops; whatever it does, the run is the same.
+/// Halted. It makes no turn if it is so at first. Each feature that a turn has completed is reported to the watcher, once, in order, with
+/// its number and after that turn, even if the turn stops; whatever the watcher does, the run is the same.
 ///
 /// A fault of a turn is the answer, and the client has then left its connection. A turn may make 1,000,000 steps, and a run may have
-/// 1,000,000 turns; where the client is neither Done nor Halted behind them, it leaves, and the answer is `TurnsSpent`. That comes only
-/// where 1,000,000 is at most the count of the bytes that went out and of twice those that came in or were held unread at first.
+/// 1,000,000 turns; if the client is neither Done nor Halted after them, it leaves, and the answer is `TurnsSpent`. That comes only if
+/// 1,000,000 is at most the count of the bytes that went out and of twice those that came in or were held unread at first.
 pub fn watch_link<R: Source, W: Sink, N: Watcher>(
     client: &mut Client,
     ports: &mut Ports<R, W>,
@@ -103,7 +103,7 @@ pub fn watch_link<R: Source, W: Sink, N: Watcher>(
     Ok(())
 }
 
-/// A whole run of a client over the ports of its connection, as `watch_link`, with nobody to be told.
+/// A whole run of a client over the ports of its connection, as `watch_link`, with no watcher.
 pub fn run_link<R: Source, W: Sink>(
     client: &mut Client,
     ports: &mut Ports<R, W>,
@@ -123,7 +123,7 @@ pub fn run_link<R: Source, W: Sink>(
     watch_link(client, ports, &mut Silent)
 }
 
-/// How a run of a server ends by the fault of a turn: the end of the input is none of the run.
+/// How a run of a server ends by the fault of a turn: the end of the input is not a fault of the run.
 fn end_of(fault: PumpFault<ServerFault>) -> Result<(), PumpFault<ServerFault>>
     ensures ended { IsOk result ↔ (fault ≡ PumpFault.Ended) }
     ensures same { IfErr result (λ why. why ≡ fault) }
@@ -138,7 +138,7 @@ fn end_of(fault: PumpFault<ServerFault>) -> Result<(), PumpFault<ServerFault>>
 /// the input has ended. That end is the normal one of a connection: the answer is Ok, and the server has left.
 ///
 /// Any other fault of a turn is the answer, and the server has then left its connection. A turn may make 1,000,000 steps, and a run may
-/// have 1,000,000 turns; behind them the server leaves, and the answer is `TurnsSpent`. That comes only where 1,000,000 is at most 129 more
+/// have 1,000,000 turns; after them the server leaves, and the answer is `TurnsSpent`. That comes only if 1,000,000 is at most 129 more
 /// than the count of the bytes that went out and of four times those that came in or were held unread at first.
 pub fn serve_link<M: Machine, R: Source, W: Sink>(
     server: &mut Server,

@@ -30,11 +30,11 @@ pub enum PumpFault<F> {
     WriteFailed,
     /// U3: the input has ended before as many bytes had come as were asked for.
     Ended,
-    /// U4: as many steps were made as were allowed.
+    /// U4: the allowed number of steps was made.
     TurnsSpent,
     /// U5: the side itself has refused.
     Core(F),
-    /// U6: want of memory.
+    /// U6: out of memory.
     Memory,
 }
 
@@ -113,7 +113,7 @@ pub(crate) fn push_counted<W: Sink, F>(
     Ok(())
 }
 
-/// Pulls a piece, one byte or more, into the front of `piece`; the pull is counted.
+/// Pulls a piece, one byte or more, into the start of `piece`; the pull is counted.
 #[tactic(auto, using(crate::proofs::PumpPorts::pulled))]
 pub(crate) fn pull_counted<R: Source, F>(
     source: &mut R,

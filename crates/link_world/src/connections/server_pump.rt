@@ -21,7 +21,7 @@ use byte_ports::{Ports, Sink, Source};
 use protocol_model::Outcome;
 use server_core::{Server, ServerFault};
 
-/// Bytes come in and are fed to the server, until there are so many.
+/// Bytes come in and are fed to the server, until there are as many as asked for.
 fn take_in<R: Source>(
     server: &mut Server,
     source: &mut R,
@@ -44,7 +44,7 @@ fn take_in<R: Source>(
     let mut piece = [0u8; PIECE];
     let mut read = 0;
     while read < at_least {
-        // So many bytes and no more, that their count fits.
+        // At most as many bytes as their count can hold.
         let room = PIECE.min(usize::MAX - read);
         let count = pull_counted(source, &mut piece[..room], budget)?;
         server.feed(&piece[..count])?;
@@ -101,7 +101,7 @@ fn read_in<R: Source>(
     Ok(count)
 }
 
-/// How what runs ends, where something runs: as the machine answers its job, at the number of the next contact.
+/// How what runs ends, if something runs: as the machine answers its job, at the number of the next contact.
 fn ending<M: Machine>(server: &Server, machine: &mut M) -> Option<Outcome>
     ensures value { result ≡ option_map
         (λ job. M.answers machine.old job (contact_count server.now.end.server.ledger))
@@ -118,14 +118,14 @@ fn ending<M: Machine>(server: &Server, machine: &mut M) -> Option<Outcome>
     Some(machine.answer(job, number))
 }
 
-/// Whether the server has something to do: a job runs, or what waits may have its turn.
+/// Whether the server has something to do: a job runs, or a waiting command may be processed.
 fn has_work(server: &Server) -> bool
     ensures { result ≡ has_work server.now.end.server }
 {
     server.running().is_some() || server.may_turn()
 }
 
-/// The server does one thing: what runs ends, else what waits first has its turn.
+/// The server does one thing: what runs ends, otherwise the first waiting command is processed.
 #[tactic(auto, using(crate::proofs::ServerPumps::working))]
 fn work_once<M: Machine>(server: &mut Server, machine: &mut M) -> Result<(), PumpFault<ServerFault>>
     requires { has_work server.old.end.server ≡ true }
@@ -196,14 +196,14 @@ fn turn<M: Machine, R: Source, W: Sink>(
     Ok(Moved { read, written })
 }
 
-/// One turn of a server and its machine over the ports of its connection (this profile): bytes come in, in pieces of at most `PIECE`,
-/// until there are `at_least`, and none where that is 0; the server reads each whole line; while it can, what runs ends as the machine
-/// answers, and what waits has its turn; and all that it has answered goes out. What comes behind the last whole line is kept.
+/// One turn of a server and its machine over the ports of its connection (this profile): bytes come in, in pieces of at most `PIECE`, until
+/// there are `at_least`, and none if that is 0; the server reads each whole line; while it can, what runs ends as the machine answers, and
+/// what waits is processed; and all that it has answered goes out. What follows the last whole line is kept.
 ///
 /// Each pull, line, turn, outcome and push is a step, and there are at most `bound`, whatever the answer. A fault stops the turn, and the
-/// server has then left its connection: `ReadFailed` and `WriteFailed` where that port has failed; `Ended` where the input has ended before
-/// `at_least` bytes had come; `TurnsSpent`; `Core` where the server itself refuses, as one on no connection does (`NotNow`), and one that
-/// meets bytes that are no lines (`Framing`); `Memory`, and only then may bytes that had come be lost.
+/// server has then left its connection: `ReadFailed` and `WriteFailed` if that port has failed; `Ended` if the input has ended before
+/// `at_least` bytes had come; `TurnsSpent`; `Core` if the server itself refuses, as one on no connection does (`NotNow`), and one that
+/// meets bytes that are not lines (`Framing`); `Memory`, and only then may bytes that had come be lost.
 pub fn serve_turns<M: Machine, R: Source, W: Sink>(
     server: &mut Server,
     machine: &mut M,

@@ -1,4 +1,4 @@
-// Who is told of a run of a client while it lasts, and what.
+// Who receives reports of a run of a client while it lasts, and what they are.
 
 ghost use Rattle.std.specs.Prelude.{◌≡◌, Option, List, None, [], ◌∷◌, ◌+◌, drop};
 ghost use Rattle.link_world.specs.Watching.{Note, Completed, Hears, notes_from};
@@ -6,10 +6,10 @@ ghost use Rattle.link_world.specs.Watching.{Note, Completed, Hears, notes_from};
 use client_core::Client;
 use contact_ledger::Feature;
 
-/// Who is told of each feature that a run has completed.
+/// Receives a report of each feature that a run has completed.
 ///
-/// `told` is what it was told so far, where it says so; a watcher that cannot say so any more, as one whose memory is wanting, says nothing
-/// from then on.
+/// `told` is what it has received so far, if it says so; a watcher that can no longer say it, for example because memory ran out, says
+/// nothing from then on.
 pub trait Watcher {
     ghost told: { Self → Option (List Note) };
 
@@ -17,12 +17,12 @@ pub trait Watcher {
     fn completed(&mut self, number: usize, feature: &Feature)
         ensures { Hears (told self.old) (told self.new) (Completed number feature.now ∷ []) };
 
-    /// A turn of the client has ended, in which it may have counted acts. Nothing is told by this.
+    /// A turn of the client has ended, in which it may have counted acts. Nothing is reported by this.
     fn turned(&mut self, client: &Client)
         ensures { told self.new ≡ told self.old };
 }
 
-/// A watcher that nobody hears of.
+/// A watcher that reports to nobody.
 #[derive(Clone, Copy, Debug)]
 pub(crate) struct Silent;
 
@@ -34,7 +34,7 @@ impl Watcher for Silent {
     fn turned(&mut self, _client: &Client) {}
 }
 
-/// Tells of the features behind the first `held`, in order.
+/// Reports the features after the first `held`, in order.
 pub(crate) fn tell<N: Watcher>(features: &[Feature], held: usize, watcher: &mut N)
     ensures { Hears (N.told watcher.old) (N.told watcher.new)
         (notes_from (held + 1) (drop held features.now)) }

@@ -1,4 +1,4 @@
-// Worked rows and laws of reports. Each function has laws for its contract and does nothing.
+// Examples and laws of reports. Each function has laws for its contract and does nothing.
 
 ghost use Rattle.std.specs.Prelude.{◌≡◌, ℕ, Option, List, pos, false, [], ◌∷◌, ◌++◌, codes};
 ghost use Rattle.fixed_um.specs.Shapes.{Direction};
@@ -20,8 +20,8 @@ ghost use Rattle.link_world.specs.ReportRows.{
   featured_report,
 };
 
-/// What a report shows of a ledger, act by act: a contact stands there under the number of contacts before it, with its connection and its
-/// reported point; no other act stands there.
+/// What a report shows of a ledger, act by act: each contact appears under the number of contacts before it, with its connection and its
+/// reported point; no other act appears.
 #[tactic(auto, using(crate::proofs::Numbering::contact_more, crate::proofs::Numbering::other_more))]
 pub fn contacts_are_numbered_as_they_were_made()
     ensures none { reported [] ≡ [] }
@@ -49,7 +49,7 @@ pub fn contact_rows()
     ensures none { contact_rows [] ≡ [] }
 {}
 
-/// Texts of reports: of a client that is done, of one that has left, of one with two features and no ledger at hand.
+/// Texts of reports: of a client that is done, of one that has left, of one with two features and no available ledger.
 pub fn report_rows()
     ensures done { report_text one_point_report ≡ text_of
         (codes "STATE Done" ∷ codes "COUNTED 6"

@@ -24,7 +24,7 @@ fn state_name(state: State) -> &'static str
     }
 }
 
-/// Appends the lines of a feature. Only want of memory is an `Err`.
+/// Appends the lines of a feature. Fails only if out of memory.
 fn push_feature(text: &mut String, feature: &Feature) -> Result<(), AllocError>
     ensures { OnOk result (string_bytes text.new
         ≡ string_bytes text.old ++ feature_row feature.now) }
@@ -37,7 +37,7 @@ fn push_feature(text: &mut String, feature: &Feature) -> Result<(), AllocError>
     Ok(())
 }
 
-/// Appends the lines of features. Only want of memory is an `Err`.
+/// Appends the lines of features. Fails only if out of memory.
 fn push_features(text: &mut String, features: &[Feature]) -> Result<(), AllocError>
     ensures { OnOk result (string_bytes text.new
         ≡ string_bytes text.old ++ feature_rows features.now) }
@@ -48,7 +48,7 @@ fn push_features(text: &mut String, features: &[Feature]) -> Result<(), AllocErr
     Ok(())
 }
 
-/// Appends the line of a contact. Only want of memory is an `Err`.
+/// Appends the line of a contact. Fails only if out of memory.
 fn push_contact(text: &mut String, contact: Reported) -> Result<(), AllocError>
     ensures { OnOk result (string_bytes text.new
         ≡ string_bytes text.old ++ contact_row contact) }
@@ -59,7 +59,7 @@ fn push_contact(text: &mut String, contact: Reported) -> Result<(), AllocError>
     writeln!(text, "CONTACT {number} {connection} {point}")
 }
 
-/// Appends the lines of contacts. Only want of memory is an `Err`.
+/// Appends the lines of contacts. Fails only if out of memory.
 fn push_contacts(text: &mut String, contacts: &[Reported]) -> Result<(), AllocError>
     ensures { OnOk result (string_bytes text.new
         ≡ string_bytes text.old ++ contact_rows contacts.now) }
@@ -70,7 +70,7 @@ fn push_contacts(text: &mut String, contacts: &[Reported]) -> Result<(), AllocEr
     Ok(())
 }
 
-/// The text of a report. Only want of memory is an `Err`.
+/// The text of a report. Fails only if out of memory.
 fn report_text(alloc: Global, report: &Report) -> Result<String, AllocError>
     ensures { IfOk result (λ text. string_bytes text ≡ report_text report.now) }
 {
@@ -86,7 +86,7 @@ fn report_text(alloc: Global, report: &Report) -> Result<String, AllocError>
 
 /// Appends the text of a report: `STATE` and its name, `COUNTED` and how many acts are counted, for each feature `FEATURE` and its label
 /// and, each on a line, its points in millimetres, for each contact `CONTACT`, its number, its connection and its point. Each line ends
-/// with LF (this profile). Only want of memory is an `Err`, and then nothing is appended.
+/// with LF (this profile). Fails only if out of memory, and then nothing is appended.
 pub fn write_report(out: &mut Vec<u8>, report: &Report) -> Result<(), AllocError>
     ensures { Writes result out.old out.new (report_text report.now) }
 {
@@ -94,8 +94,7 @@ pub fn write_report(out: &mut Vec<u8>, report: &Report) -> Result<(), AllocError
     out.extend_from_slice(text.as_bytes())
 }
 
-/// Appends the `CONTACT` lines of a server's ledger, as they end its report. Only want of memory is an `Err`, and then nothing is
-/// appended.
+/// Appends the `CONTACT` lines of a server's ledger, as they end its report. Fails only if out of memory, and then nothing is appended.
 pub fn write_contact_rows(out: &mut Vec<u8>, ledger: &ServerLedger) -> Result<(), AllocError>
     ensures { Writes result out.old out.new (contact_rows (reported ledger.now)) }
 {

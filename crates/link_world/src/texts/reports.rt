@@ -41,7 +41,7 @@ impl Model for Contacts {
 }
 
 impl Contacts {
-    /// No contacts; it takes no memory.
+    /// No contacts; does not allocate.
     fn new(alloc: Global) -> Contacts
         ensures { result ≡ [] }
     {
@@ -50,7 +50,7 @@ impl Contacts {
         }
     }
 
-    /// The contacts of a ledger. Only want of memory is an `Err`.
+    /// The contacts of a ledger. Fails only if out of memory.
     pub(crate) fn of(alloc: Global, ledger: &ServerLedger) -> Result<Contacts, AllocError>
         ensures { IfOk result (λ contacts. contacts ≡ reported ledger.now) }
     {
@@ -75,20 +75,20 @@ impl Contacts {
     }
 }
 
-/// What is shown of a client and of the server that it drives: a copy, so that either can go on (this profile).
+/// What is shown of a client and of the server that it drives: a copy, so that either can continue (this profile).
 #[derive(Debug, Drop)]
 pub struct Report {
     /// The client's state.
     pub state: State,
-    /// How many acts the client has counted on its connection, or on the last one where it has left.
+    /// How many acts the client has counted on its connection, or on the last one if it has left.
     pub counted: usize,
     /// The features that the client holds, with their origins.
     pub features: FeatureLedger,
-    /// The contacts of the server's ledger; none where no ledger was at hand.
+    /// The contacts of the server's ledger; empty if no ledger was available.
     pub contacts: Contacts,
 }
 
-/// Equal features. Only want of memory is an `Err`.
+/// Equal features. Fails only if out of memory.
 fn copied_features(alloc: Global, features: &[Feature]) -> Result<FeatureLedger, AllocError>
     requires { HaveOrigins features.now }
     ensures { IfOk result (λ copy. copy ≡ features.now) }
@@ -100,8 +100,7 @@ fn copied_features(alloc: Global, features: &[Feature]) -> Result<FeatureLedger,
     Ok(copy)
 }
 
-/// The report of a client, and of a server's ledger where one is at hand; without it no contacts are reported. Only want of memory is an
-/// `Err`.
+/// The report of a client, and of a server's ledger if one is available; without it no contacts are reported. Fails only if out of memory.
 pub fn report_of(
     alloc: Global,
     client: &Client,
@@ -129,7 +128,7 @@ pub fn report_of(
 }
 
 impl World {
-    /// What the world shows. Its features are true of what the server did, and its state is never Faulted. Only want of memory is an `Err`.
+    /// What the world shows. Its features are true of what the server did, and its state is never Faulted. Fails only if out of memory.
     #[tactic(auto, using(crate::proofs::Reached::sound))]
     pub fn report(&self) -> Result<Report, AllocError>
         // What is shown.

@@ -1,15 +1,15 @@
-// Why a text is no schedule.
+// Why a text is not a schedule.
 
 use std::alloc::{AllocError, AllocFailed};
 use std::fmt;
 
-/// Why a text gives no schedule (this profile). The first line that is refused is answered, with its number; lines are counted from 1,
-/// those that say nothing too.
+/// Why a text gives no schedule (this profile). The first line that is refused is reported, with its number; lines are counted from 1,
+/// including those that say nothing.
 #[derive(Clone, Copy, Debug, PartialEq, Eq)]
 pub enum ScheduleFault {
-    /// The line has a space at its start or its end, or asks for nothing that a schedule can ask for: no such word, fields too many or
-    /// too few, no number of one to ten digits where one is wanted, more than 1,000,000 quiet rounds, or a point that is none in the
-    /// machine's volume.
+    /// The line has a space at its start or its end, or asks for nothing that a schedule can ask for: an unknown word, too many or too few
+    /// fields, no number of one to ten digits if one is required, more than 1,000,000 quiet rounds, or a point that is not in the machine's
+    /// volume.
     BadLine(u64),
     /// A growth was refused. The call may be made again.
     Memory,

@@ -61,7 +61,7 @@ fn digits_value(digits: &[u8]) -> u64
     value
 }
 
-/// The whole number that one to ten digits write; `None` where the text is none.
+/// The whole number that one to ten digits write; `None` if the text is not such a number.
 fn number_of(text: &[u8]) -> Option<u64>
     ensures value { result ≡ number_of text.now }
     ensures below { IfSome result (λ n. n < 10 ^ 10) }
@@ -73,7 +73,7 @@ fn number_of(text: &[u8]) -> Option<u64>
     }
 }
 
-/// What a word asks for that stands alone on its line.
+/// What a word that is alone on its line asks for.
 fn alone(word: &[u8]) -> Option<Instruction>
     ensures { result ≡ beside alone word.now }
 {
@@ -145,7 +145,7 @@ fn before_all(word: &[u8]) -> Option<Instruction>
     }
 }
 
-/// What a word asks for behind `machine`.
+/// What a word asks for after `machine`.
 fn of_machine(word: &[u8]) -> Option<Instruction>
     ensures { result ≡ beside of_machine word.now }
 {
@@ -231,16 +231,16 @@ impl Schedule {
         Ok(())
     }
 
-    /// Reads the text of a schedule. Its lines end with LF or CR LF, the last may lack its end. Empty lines and lines that begin with `#`
-    /// ask for nothing. Each other is one instruction: a word in any case and what belongs to it, its fields separated by one or more
-    /// spaces. Numbers have one to ten digits, coordinates are in millimetres and within the machine's volume:
+    /// Reads the text of a schedule. Its lines end with LF or CR LF; the last may lack its end. Empty lines and lines that begin with `#`
+    /// ask for nothing. Each other line is one instruction: a word in any case and its arguments, with one or more spaces between fields.
+    /// Numbers have one to ten digits, coordinates are in millimetres and within the machine's volume:
     ///
     /// `connect`, `accept n`, `clientsends`, `up k`, `up all`, `serverreads`, `serverreads all`, `serverturn`, `machine done`,
     /// `machine missed`, `machine fault`, `machine auto`, `machine touched x y z`, `down k`, `down all`, `clientreads`,
     /// `clientreads all`, `clientleaves`, `serverleaves`, `abort`, `resume`, `clientrestart k`, `serverrestart`, `quiet`, and `quiet n`
     /// up to 1,000,000.
     ///
-    /// The first line that is refused is answered with its number.
+    /// The first line that is refused is reported with its number.
     pub fn read(alloc: Global, text: &[u8]) -> Result<Schedule, ScheduleFault>
         ensures value { GivesSchedule result (schedule_of text.now) }
     {
@@ -257,7 +257,7 @@ impl Schedule {
         Ok(schedule)
     }
 
-    /// The instructions, in order. Takes no memory.
+    /// The instructions, in order. Does not allocate.
     pub fn instructions(&self) -> &[Instruction]
         ensures { result.now ≡ self.now }
     {

@@ -1,5 +1,5 @@
-// Worked rows: what the texts of schedules say, beside the instructions that they ask for and the lines that are refused. LF is 10, CR is
-// 13. Points are in micrometres.
+// Examples: what the texts of schedules say, with the instructions that they ask for and the lines that are refused. LF is 10, CR is 13.
+// Points are in micrometres.
 
 ghost use Rattle.std.specs.Prelude.{◌≡◌, [], ◌∷◌, ◌++◌, codes, Ok, pos, negsuc};
 ghost use Rattle.protocol_model.specs.Examples.{at};
@@ -18,7 +18,7 @@ ghost use Rattle.link_world.specs.declared.texts.schedules.Instruction.TheVarian
   Quiet,
 };
 
-/// Words that stand alone on their line.
+/// Words that are alone on their line.
 pub fn lone_word_rows()
     ensures connect { Asks (codes "connect") (Once event.Connect) }
     ensures client_sends { Asks (codes "clientsends") (Once event.ClientSends) }
@@ -39,7 +39,7 @@ pub fn lone_word_rows()
     ensures two_words { IsRefusedAt (codes "client sends") 1 }
 {}
 
-/// Words before a number, and the numbers that may stand there.
+/// Words before a number, and the numbers that may follow them.
 pub fn number_rows()
     ensures accept { Asks (codes "accept 1") (Once (event.Accept 1)) }
     ensures up { Asks (codes "up 47") (Once (event.Up 47)) }

@@ -1,4 +1,4 @@
-// Schedules: lists of instructions that events are made of.
+// Schedules: lists of instructions from which events are made.
 
 use protocol_model::Event;
 use std::marker::Model;
@@ -6,9 +6,9 @@ use std::marker::Model;
 /// What one line of a schedule asks for (this profile).
 #[derive(Clone, Copy, Debug, PartialEq, Eq)]
 pub enum Instruction {
-    /// This event, which does nothing where it cannot happen.
+    /// This event, which does nothing if it cannot happen.
     Once(Event),
-    /// What runs on the machine ends as a machine answers; nothing where nothing runs.
+    /// What runs on the machine ends as a machine answers; nothing if nothing runs.
     Auto,
     /// All bytes that wait for the server on its connection move up to it.
     UpAll,
@@ -18,7 +18,7 @@ pub enum Instruction {
     ServerReadsAll,
     /// The client reads while it can.
     ClientReadsAll,
-    /// So many quiet rounds.
+    /// This number of quiet rounds.
     Rounds(u32),
     /// Quiet rounds until one does nothing, at most 1,000,000.
     Quiet,

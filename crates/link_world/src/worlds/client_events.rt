@@ -147,7 +147,7 @@ impl World {
         abort(&mut self.client, connection, &mut self.written)
     }
 
-    /// So many bytes move down to the client.
+    /// This number of bytes moves down to the client.
     pub(crate) fn down(&mut self, count: usize) -> Result<(), WorldFault>
         ensures can { HappensIf result (can (event.Down count) self.old.world) }
         ensures world { Leads result self.old self.new
@@ -187,7 +187,7 @@ impl World {
         Ok(())
     }
 
-    /// The client is stopped, and begins again with so many features.
+    /// The client is stopped, and begins again with this number of features.
     #[tactic(auto, using(crate::proofs::ClientSteps::restart_reached, crate::proofs::ClientSteps::restart_can, crate::proofs::ClientSteps::restart_refused))]
     pub(crate) fn client_restart(&mut self, count: usize) -> Result<(), WorldFault>
         ensures can { HappensIff result (can (event.ClientRestart count) self.old.world) }

@@ -1,5 +1,5 @@
 // The bytes of one connection, and what joins them: what a side writes joins them in the same event. Room is made first, so that nothing
-// changes where memory is wanting.
+// changes if memory runs out.
 
 ghost use Rattle.std.specs.Prelude.{◌≡◌, ◌≤◌, ◌++◌, [], length, OnOk};
 ghost use Rattle.fixed_um.specs.Calls.{HasRoom};
@@ -30,7 +30,7 @@ impl Connection {
         }
     }
 
-    /// Makes room for a line of the client, here and among all that it wrote. Only want of memory is an `Err`.
+    /// Makes room for a line of the client, here and among all that it wrote. Fails only if out of memory.
     pub(crate) fn reserve_up(&mut self, written: &mut Vec<u8>) -> Result<(), AllocError>
         ensures link { link_of_connection self.new ≡ link_of_connection self.old }
         ensures written { written.new.items ≡ written.old.items }
@@ -55,7 +55,7 @@ impl Connection {
         client.sent(count);
     }
 
-    /// Makes room for what the server answers in one call. Only want of memory is an `Err`.
+    /// Makes room for what the server answers in one call. Fails only if out of memory.
     pub(crate) fn reserve_down(&mut self) -> Result<(), AllocError>
         ensures link { link_of_connection self.new ≡ link_of_connection self.old }
         ensures room { OnOk result (ANSWER_MAX ≤ self.new.down.room) }

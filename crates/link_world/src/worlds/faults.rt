@@ -15,7 +15,7 @@ use tool_rack::Setup;
 pub enum WorldFault {
     /// It cannot happen now.
     NotNow,
-    /// Memory is wanting.
+    /// Out of memory.
     Memory,
 }
 
@@ -24,7 +24,7 @@ pub enum WorldFault {
 pub enum NewFault {
     /// The window is not from 1 to 16; the program and the setup are handed back.
     BadWindow(Program, Setup),
-    /// Memory is wanting.
+    /// Out of memory.
     Memory,
 }
 
@@ -36,7 +36,7 @@ impl From<AllocError> for WorldFault {
     }
 }
 
-/// Why an event of the client did not happen, by why its call was refused.
+/// Why an event of the client did not happen, from the reason its call was refused.
 impl From<ClientFault> for WorldFault {
     ghost from_gives = { λ fault given. given ≡ refused_by fault };
 
@@ -48,7 +48,7 @@ impl From<ClientFault> for WorldFault {
     }
 }
 
-/// The same of the server.
+/// Likewise for the server.
 impl From<ServerFault> for WorldFault {
     ghost from_gives = { λ fault given. given ≡ refused_by_server fault };
 

@@ -1,4 +1,4 @@
-// What is left of a program, brought to its end; and the undisturbed run of a whole program.
+// Bringing the rest of a program to its end; and the undisturbed run of a whole program.
 
 ghost use Rattle.std.specs.Prelude.{◌≡◌, ◌↔◌, ◌⊎◌, ◌≤◌, ◌<◌, [], length, true, false, None, Some, is_some, IsTrue, IsOk, IsErrAnd, IfOk, IfErr, OnOk, OnErr};
 ghost use Rattle.std.specs.Result.{IsErrOf};
@@ -40,7 +40,7 @@ pub struct Quiet {
 }
 
 impl World {
-    /// Whether something is left to be measured, and a further connection can be made.
+    /// Whether something is left to be measured, and another connection can be made.
     fn can_finish(&self) -> bool
         ensures value { IsTrue result ↔ CanFinish self.now.world }
         ensures on { FitsState self.now.world.client.client.state
@@ -51,7 +51,7 @@ impl World {
         !is_done && (self.connections.len() as u64) < CONNECTION_MAX
     }
 
-    /// Both ends leave, each where it stands on a connection, and come to the next. Only want of memory is an `Err`.
+    /// Both ends leave, each if it is on a connection, and come to the next. Fails only if out of memory.
     fn rejoin(&mut self) -> Result<(), AllocError>
         ensures joined { OnOk result (self.new ≡ with_world self.old (rejoined self.old.world)) }
         ensures cut { OnErr result (Makes AreFirstOfJoining true None self.old self.new) }
@@ -71,7 +71,7 @@ impl World {
         self.client.due().is_some()
     }
 
-    /// A quiet round that begins with a command that is due. Only want of memory is an `Err`.
+    /// A quiet round that begins with a command that is due. Fails only if out of memory.
     fn turn<M: Machine>(&mut self, machine: &mut M) -> Result<(), AllocError>
         requires due { is_some (due self.old.world.client.client) ≡ true }
         ensures made { OnOk result (Makes (IsRound (M.answers machine.old)) false (Some true)
@@ -89,7 +89,7 @@ impl World {
         Ok(())
     }
 
-    /// Quiet rounds while a command is due; how many. Only want of memory is an `Err`.
+    /// Quiet rounds while a command is due; returns how many. Fails only if out of memory.
     fn turns<M: Machine>(&mut self, machine: &mut M) -> Result<usize, AllocError>
         requires due { is_some (due self.old.world.client.client) ≡ true }
         requires short { length self.old.world.client.client.table.tally.unsent ≤ commands_most }
@@ -109,7 +109,7 @@ impl World {
         Ok(turns)
     }
 
-    /// What `finish` does, but for what holds after any events.
+    /// What `finish` does, without what holds after any events.
     fn bring_to_end<M: Machine>(&mut self, machine: &mut M) -> Result<usize, WorldFault>
         ensures can { OnOk result (CanFinish self.old.world) }
         ensures not_now { IsErrOf result WorldFault.NotNow ↔ ¬ (CanFinish self.old.world) }
@@ -134,17 +134,17 @@ impl World {
         Ok(self.turns(machine)?)
     }
 
-    /// Brings what is left of the program to its end, whatever went before: both ends leave, each where it stands on a connection, and
-    /// come to the next; then quiet rounds, while they do something. What runs ends as the machine answers. It answers how many rounds did
-    /// something: at most as many as the plan for what is left has commands.
+    /// Brings the rest of the program to its end, whatever happened before: both ends leave, each if it is on a connection, and come to the
+    /// next; then quiet rounds follow, while they do something. What runs ends as the machine answers. Returns how many rounds did
+    /// something: at most as many as the plan for the rest has commands.
     ///
-    /// Where the rack has each tool that is still selected, each target that is left lies in the volume in its frame, and the machine does what
-    /// it is asked (`CanMeasure`), the client is Done then, and holds the features that it held before, unchanged, and behind them the plain
-    /// execution of the others: the machine's answers to their touches, numbered from the server's count of contacts on. Else the state is
-    /// that which is reached, within as many rounds.
+    /// If the rack has each tool that is still selected, each target that is left lies in the volume in its frame, and the machine does
+    /// what it is asked (`CanMeasure`), the client is then Done, and holds the features that it held before, unchanged, followed by the
+    /// plain execution of the others: the machine's answers to their touches, numbered from the server's count of contacts on. Otherwise
+    /// the state is the one that is reached, within as many rounds.
     ///
-    /// `NotNow` exactly where the client is Done or has made 4,000,000,000 connections, and then nothing has changed. On `Memory` the first
-    /// of these events have happened, and it may be called again.
+    /// `NotNow` exactly if the client is Done or has made 4,000,000,000 connections, and then nothing has changed. On `Memory` a prefix of
+    /// these events has happened, and it may be called again.
     pub fn finish<M: Machine>(&mut self, machine: &mut M) -> Result<usize, WorldFault>
         ensures always { Headline self.new.world }
         ensures ends { IsFinish (M.answers machine.old) self.old result self.new }
@@ -156,7 +156,7 @@ impl World {
         turns
     }
 
-    /// What is told of a run of so many turns. Only want of memory is an `Err`.
+    /// What is reported of a run of this number of turns. Fails only if out of memory.
     fn quiet_told(&self, turns: usize) -> Result<Quiet, AllocError>
         ensures state { IfOk result (λ quiet. quiet.state ≡ self.now.world.client.client.state) }
         ensures features { IfOk result (λ quiet.
@@ -171,7 +171,7 @@ impl World {
         })
     }
 
-    /// What `finish` does, where it can, and what is told of it. Only want of memory is an `Err`.
+    /// What `finish` does, if it can, and what is reported of it. Fails only if out of memory.
     fn finish_told<M: Machine>(&mut self, machine: &mut M) -> Result<Quiet, AllocError>
         requires { CanFinish self.old.world }
         ensures finishes { IfOk result (λ quiet.
@@ -201,10 +201,10 @@ impl World {
 }
 
 /// The undisturbed run of a program on a server with this setup, neither of which was ever on a connection: both come to connection 1, and
-/// quiet rounds follow while they do something. What runs ends as the machine answers. The window, from 1 to 16, is how many commands the
-/// client keeps open at most.
+/// quiet rounds follow while they do something. What runs ends as the machine answers. The window, from 1 to 16, is the maximum number of
+/// commands that the client keeps open.
 ///
-/// Where the rack has each tool that the program selects, each target lies in the volume in its frame, and the machine does what it is asked
+/// If the rack has each tool that the program selects, each target lies in the volume in its frame, and the machine does what it is asked
 /// (`CanMeasure`), the client is Done, and the features are the plain execution of the program: the machine's answers to its touches,
 /// numbered through all features from 0 on, less the offsets of their frames.
 ///

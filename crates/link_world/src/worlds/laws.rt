@@ -11,9 +11,9 @@ ghost use Rattle.protocol_model.specs.declared.events.Event.{Event as OneEvent};
 ghost use Rattle.protocol_model.specs.declared.plans.Start.TheVariants as Start;
 ghost use Rattle.server_core.specs.Calls.{Call, reached};
 
-/// A server whose machine is homed is not told to home it again. For every rack and every list of calls of a server from a new one, behind
-/// which it is on no connection and its machine is homed, every program and every window up to 16: let a new client come to it on the
-/// connection behind those that were made (`links`, with whatever bytes are left on them), and let nothing disturb that.
+/// A server whose machine is homed is not asked to home it again. Take every rack and every list of calls of a server, starting from a new
+/// one, after which it is on no connection and its machine is homed, every program and every window up to 16. Let a new client come to it
+/// on the connection after those that were made (`links`, with any bytes left on them), and let nothing disturb that.
 ///
 /// - `left`: this server is as it left its last connection, so the next one begins with it as it is;
 /// - `lines`: the bytes that the client writes there are the first lines of its plan without the homing, each whole with its CR LF, under

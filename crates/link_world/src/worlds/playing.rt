@@ -19,7 +19,7 @@ use protocol_model::Event;
 use std::alloc::AllocError;
 
 impl World {
-    /// An event happens, if it can, and it is told whether it did. Only want of memory is an `Err`, and then nothing has changed.
+    /// An event happens, if it can; returns whether it did. Fails only if out of memory, and then nothing has changed.
     pub(crate) fn attempt(&mut self, event: Event) -> Result<bool, AllocError>
         ensures told { IfOk result (λ happened. happened ≡ can event self.old.world) }
         ensures ok { OnOk result (self.new ≡ with_world self.old (after event self.old.world)) }
@@ -46,7 +46,7 @@ impl World {
         }
     }
 
-    /// How many bytes wait for the server on its connection; none where it stands on none.
+    /// How many bytes wait for the server on its connection; none if it is on no connection.
     fn waiting_up(&self) -> usize
         ensures { self.now.world.server.server.on ≡ true
             → result ≡ length (server_link self.now.world).up }
@@ -57,7 +57,7 @@ impl World {
         }
     }
 
-    /// How many bytes wait for the client on its connection; none where it has made none.
+    /// How many bytes wait for the client on its connection; none if it has made no connection.
     fn waiting_down(&self) -> usize
         ensures { result ≡ length (client_link self.now.world).down }
     {
@@ -85,7 +85,7 @@ impl World {
         self.attempt(Event::Down(count))
     }
 
-    /// How what runs ends, where something runs: as the machine answers its job, at the number of the next contact.
+    /// How what runs ends, if something runs: as the machine answers its job, at the number of the next contact.
     pub(crate) fn ending<M: Machine>(&self, machine: &mut M) -> Option<Event>
         ensures value { result ≡ ending (M.answers machine.old) self.now.world }
         ensures possible { IfSome result (λ event. can event self.now.world ≡ true) }
@@ -105,7 +105,7 @@ impl World {
         Ok(())
     }
 
-    /// What runs ends as the machine answers, where something runs.
+    /// What runs ends as the machine answers, if something runs.
     fn auto<M: Machine>(&mut self, machine: &mut M) -> Result<(), AllocError>
         ensures made { PlaysPart result (λ cut world.
             IsOne (ending (M.answers machine.old) world) cut) self.old self.new }
@@ -117,7 +117,7 @@ impl World {
         }
     }
 
-    /// One instruction is played. Only want of memory is an `Err`.
+    /// Plays one instruction. Fails only if out of memory.
     fn follow<M: Machine>(
         &mut self,
         instruction: Instruction,
@@ -139,7 +139,7 @@ impl World {
         }
     }
 
-    /// Instructions are played, one behind another; want of memory ends them, and is the only `Err`.
+    /// Plays instructions, one after another. Running out of memory ends the playing, and is the only `Err`.
     pub(crate) fn follow_all<M: Machine>(
         &mut self,
         instructions: &[Instruction],
@@ -156,7 +156,7 @@ impl World {
     }
 }
 
-/// What a call played, whatever it tells.
+/// What a call played, whatever it reports.
 fn untold(told: Result<bool, AllocError>) -> Result<(), AllocError>
     ensures { is_ok result ≡ is_ok told }
 {
@@ -167,9 +167,9 @@ fn untold(told: Result<bool, AllocError>) -> Result<(), AllocError>
 }
 
 impl Schedule {
-    /// Plays the instructions in order, as events of a world. What runs ends where an instruction says so as the simulated machine of the
-    /// world's own setup answers. An event that cannot happen changes nothing, and the next is played. Only want of memory is an `Err`: it
-    /// ends the playing with the world as the events before have left it.
+    /// Plays the instructions in order, as events of a world. If an instruction leaves the end of what runs to the machine, it ends as the
+    /// simulated machine of the world's own setup answers. An event that cannot happen changes nothing, and the next is played. Fails only
+    /// if out of memory: the playing then ends with the world as the events before have left it.
     #[tactic(auto, using(crate::proofs::Instructions::played_behind))]
     pub fn play(&self, world: &mut World) -> Result<(), AllocError>
         // What the instructions made of the world.

@@ -18,7 +18,7 @@ use std::alloc::AllocError;
 pub(crate) const ROUNDS_MAX: u32 = 1_000_000;
 
 impl World {
-    /// What the server has to do: what runs ends as the machine answers, else what waits first has its turn.
+    /// What the server has to do: what runs ends as the machine answers, otherwise the first waiting command is processed.
     fn next_work<M: Machine>(&self, machine: &mut M) -> Option<Event>
         ensures value { result
             ≡ working (ending (M.answers machine.old) self.now.world) self.now.world }
@@ -38,7 +38,7 @@ impl World {
         }
     }
 
-    /// The server does all that it has to do: turns and ends while there is one.
+    /// The server does all that it has to do: it processes commands and ends jobs while there are any.
     pub(crate) fn work<M: Machine>(&mut self, machine: &mut M) -> Result<bool, AllocError>
         ensures made { Tells result (AreWork (M.answers machine.old))
             self.old self.new }
@@ -53,7 +53,7 @@ impl World {
     }
 
     /// A quiet round: the client sends all that is due, all of it comes to the server, which reads it all and does it all, and all answers
-    /// come to the client, which reads them all. It is told whether anything was done.
+    /// come to the client, which reads them all. Returns whether anything was done.
     pub(crate) fn quiet_round<M: Machine>(&mut self, machine: &mut M) -> Result<bool, AllocError>
         ensures made { Tells result (IsRound (M.answers machine.old))
             self.old self.new }
@@ -68,7 +68,7 @@ impl World {
         Ok(sent | raised | read | worked | lowered | heard)
     }
 
-    /// So many quiet rounds. Only want of memory is an `Err`.
+    /// This number of quiet rounds. Fails only if out of memory.
     pub(crate) fn quiet_rounds<M: Machine>(
         &mut self,
         count: u32,
@@ -84,7 +84,7 @@ impl World {
         Ok(())
     }
 
-    /// Quiet rounds until one does nothing, at most `ROUNDS_MAX`. Only want of memory is an `Err`.
+    /// Quiet rounds until one does nothing, at most `ROUNDS_MAX`. Fails only if out of memory.
     pub(crate) fn quiet<M: Machine>(&mut self, machine: &mut M) -> Result<(), AllocError>
         ensures made { PlaysPart result (AreQuiet (M.answers machine.old))
             self.old self.new }

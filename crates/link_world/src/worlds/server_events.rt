@@ -18,7 +18,7 @@ use crate::worlds::world::World;
 use protocol_model::Outcome;
 use server_core::Server;
 
-/// The place of the connection on which a server stands, if it stands on one.
+/// The index of the server's connection, if it is on one.
 pub(crate) fn server_place(server: &Server, connections: &Vec<Connection>) -> Option<usize>
     requires { StandsOn server.now.end connections.now.items }
     ensures { MatchOption result (server.now.end.server.on ≡ false)
@@ -51,7 +51,7 @@ fn read_line(server: &mut Server, connection: &mut Connection) -> Result<(), Wor
     Ok(())
 }
 
-/// The first command that waits has its turn, and is answered.
+/// Processes and answers the first command that waits.
 fn take_turn(server: &mut Server, connection: &mut Connection) -> Result<(), WorldFault>
     requires quiet { server.old.end.out ≡ [] }
     ensures can { HappensIf result (may_turn server.old.end.server) }
@@ -70,7 +70,7 @@ fn take_turn(server: &mut Server, connection: &mut Connection) -> Result<(), Wor
     Ok(())
 }
 
-/// The machine is done with what runs, which is answered.
+/// The machine has finished what runs, which is answered.
 fn end_job(
     server: &mut Server,
     connection: &mut Connection,
@@ -130,7 +130,7 @@ impl World {
         Ok(())
     }
 
-    /// So many bytes move up to the server.
+    /// This number of bytes moves up to the server.
     pub(crate) fn up(&mut self, count: usize) -> Result<(), WorldFault>
         ensures can { HappensIf result (can (event.Up count) self.old.world) }
         ensures world { Leads result self.old self.new
@@ -142,7 +142,7 @@ impl World {
         bring_up(&mut self.server, &mut self.connections[at], count)
     }
 
-    /// The first command that waits has its turn.
+    /// The first command that waits is processed.
     pub(crate) fn server_turn(&mut self) -> Result<(), WorldFault>
         ensures can { HappensIf result (can event.ServerTurn self.old.world) }
         ensures world { Leads result self.old self.new (with_world self.old
@@ -167,7 +167,7 @@ impl World {
         read_line(&mut self.server, &mut self.connections[at])
     }
 
-    /// The machine is done with what runs.
+    /// The machine has finished what runs.
     pub(crate) fn machine(&mut self, outcome: Outcome) -> Result<(), WorldFault>
         ensures can { HappensIf result (can (event.Machine outcome) self.old.world) }
         ensures world { Leads result self.old self.new (with_world self.old

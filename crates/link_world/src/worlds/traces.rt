@@ -1,5 +1,5 @@
-// The lines that both sides of a world write, as text, where they are asked for. Contracts do not see them: no event depends on them, and
-// where memory is wanting for them the events happen all the same.
+// The lines that both sides of a world write, as text, if they are asked for. Contracts do not see them: no event depends on them, and if
+// memory runs out for them the events happen all the same.
 
 ghost use Rattle.std.specs.Prelude.{◌≡◌};
 
@@ -8,7 +8,7 @@ use crate::worlds::world::World;
 use protocol_model::Event;
 use std::alloc::{AllocError, Global};
 
-/// What marks bytes that their reader cannot take any more.
+/// Marks bytes that their reader can no longer take.
 const LOST: &str = "never delivered: ";
 
 /// The side that writes.
@@ -37,7 +37,7 @@ pub(crate) struct Trace {
     is_short: bool,
 }
 
-/// Where both sides stand before an event: how many bytes wait on the connections on which they write, and the places of the connections
+/// The state of both sides before an event: how many bytes wait on the connections on which they write, and the indices of the connections
 /// on which they are.
 #[derive(Clone, Copy)]
 pub(crate) struct Standing {
@@ -73,7 +73,7 @@ impl Trace {
         Ok(())
     }
 
-    /// The lines of these bytes, the last of which may lack its end. Where memory is wanting, the text is short from then on.
+    /// The lines of these bytes, the last of which may lack its end. If memory runs out, the text is short from then on.
     fn lines(&mut self, number: u64, side: Side, word: &str, bytes: &[u8]) {
         for piece in bytes.split(|byte| *byte == b'\n') {
             let line = match piece.split_last() {
@@ -87,7 +87,7 @@ impl Trace {
     }
 }
 
-/// The bytes behind the first ones.
+/// The bytes after the first ones.
 fn behind(bytes: &[u8], count: usize) -> &[u8] {
     if count > bytes.len() {
         return &[];
@@ -103,9 +103,9 @@ impl World {
         self.trace.is_on = true;
     }
 
-    /// The lines that both sides wrote since they are kept, one a line: the number of the connection, `>` for the client or `<` for the server,
-    /// and the line. What stands behind `never delivered: ` did not come to its reader before that one left the connection. Want of memory
-    /// for one of them is an `Err`.
+    /// The lines that both sides wrote since tracing began, one per line: the number of the connection, `>` for the client or `<` for the
+    /// server, and the line. What follows `never delivered: ` did not come to its reader before that reader left the connection. Fails if
+    /// memory ran out for one of them.
     pub fn traced(&self) -> Result<&[u8], AllocError> {
         if self.trace.is_short {
             return Err(AllocError);
@@ -113,7 +113,7 @@ impl World {
         Ok(self.trace.text.as_slice())
     }
 
-    /// The place of the connection on which the client is, if it is on one.
+    /// The index of the connection on which the client is, if it is on one.
     fn client_place(&self) -> Option<usize> {
         if !self.client.is_on() {
             return None;
@@ -129,7 +129,7 @@ impl World {
         }
     }
 
-    /// The place of the connection on which the server is, if it is on one, and how many bytes of its wait there.
+    /// The index of the connection on which the server is, if it is on one, and how many bytes of the server wait there.
     fn waiting_from_server(&self) -> (Option<usize>, usize) {
         match server_place(&self.server, &self.connections) {
             Some(at) => (Some(at), self.connections[at].down.waiting().len()),
@@ -137,7 +137,7 @@ impl World {
         }
     }
 
-    /// Where both sides stand.
+    /// The state of both sides.
     pub(crate) fn standing(&self) -> Standing {
         let (server, down) = self.waiting_from_server();
         Standing {
@@ -148,7 +148,7 @@ impl World {
         }
     }
 
-    /// Keeps what waits on a connection behind the first bytes of a side, and what there is to say of it.
+    /// Keeps what waits on a connection after the first bytes of a side, with its prefix.
     fn keep(&mut self, at: usize, side: Side, word: &str, from: usize)
         ensures { self.new ≡ self.old }
     {
@@ -181,7 +181,7 @@ impl World {
         self.keep(at, Side::Server, word, before.down);
     }
 
-    /// What the server never takes, since it takes a later connection.
+    /// What the server never takes, because it takes a later connection.
     fn keep_passed_over(&mut self, number: u64)
         ensures { self.new ≡ self.old }
     {
@@ -191,7 +191,7 @@ impl World {
         self.trace.accepted = number;
     }
 
-    /// What is never delivered of a side, since the other has left the connection.
+    /// What is never delivered of a side, because the other has left the connection.
     fn keep_rest(&mut self, at: Option<usize>, side: Side)
         ensures { self.new ≡ self.old }
     {
@@ -200,7 +200,7 @@ impl World {
         }
     }
 
-    /// Keeps what an event that has happened wrote, and what cannot be delivered behind it.
+    /// Keeps what an event that has happened wrote, and what cannot be delivered after it.
     pub(crate) fn note(&mut self, event: &Event, before: &Standing)
         ensures { self.new ≡ self.old }
     {
@@ -219,7 +219,7 @@ impl World {
         }
     }
 
-    /// Keeps what has not come to its reader when nothing happens any more.
+    /// Keeps what has not come to its reader when no more events happen.
     pub fn end_trace(&mut self)
         ensures { self.new ≡ self.old }
     {

@@ -29,10 +29,10 @@ use tool_rack::Setup;
 
 /// A client, a server and the connections between them. Contracts see `protocol_model`'s world, and the server's setup.
 ///
-/// Whatever events have come, the features that the client holds are the first of the program, and their points are, in order, those of
+/// Whatever events have happened, the features that the client holds are the first of the program, and their points are, in order, those of
 /// disjoint ascending runs of the server's contacts, one unbroken run on one connection for each feature, each contact made with its
-/// touch's target, direction, tool and frame; what the client has counted on its connection is a front of what the server did there; and
-/// neither end has met a line or a mark that has no place.
+/// touch's target, direction, tool and frame; what the client has counted on its connection is a prefix of what the server did there; and
+/// neither end has met an unexpected line or mark.
 #[derive(Drop)]
 pub struct World {
     pub(crate) alloc: Global,
@@ -43,7 +43,7 @@ pub struct World {
     pub(crate) trace: Trace,
 }
 
-/// How many events of a list happened, could not happen, and wanted memory.
+/// How many events of a list happened, could not happen, and ran out of memory.
 #[derive(Clone, Copy, Debug, PartialEq, Eq)]
 pub struct RunCount {
     pub done: usize,
@@ -62,12 +62,12 @@ impl Model for World {
 }
 
 impl World {
-    /// A client with a program and a server with a setup, neither ever on a connection. The window, from 1 to 16, is how many commands the
-    /// client keeps open at most.
+    /// A client with a program and a server with a setup, neither ever on a connection. The window, from 1 to 16, is the maximum number of
+    /// commands that the client keeps open.
     ///
     /// `BadWindow` hands both back; `Memory`.
     pub fn new(alloc: Global, program: Program, setup: Setup, window: u8) -> Result<World, NewFault>
-        // The world that is made, and when none is.
+        // The world that is made, and when it is not.
         ensures ok { IfOk result (λ world. world
             ≡ record { setup = setup; world = start program setup.tools window }) }
         ensures window { IsOk result → is_window window ≡ true }
@@ -96,7 +96,7 @@ impl World {
         }
     }
 
-    /// An event happens, if it can; which, the functions of each say.
+    /// An event happens, if it can; the functions of each event say which it is.
     fn happen(&mut self, event: Event) -> Result<(), WorldFault>
         ensures can { HappensIf result (can event self.old.world) }
         ensures takes { IsErrOf result WorldFault.Memory → takes_memory event ≡ true }
@@ -125,7 +125,7 @@ impl World {
         }
     }
 
-    /// An event happens, if it can, and what it wrote is kept, where that is asked for.
+    /// An event happens, if it can, and what it wrote is kept, if that is asked for.
     fn happen_traced(&mut self, event: Event) -> Result<(), WorldFault>
         ensures can { HappensIf result (can event self.old.world) }
         ensures takes { IsErrOf result WorldFault.Memory → takes_memory event ≡ true }
@@ -141,8 +141,8 @@ impl World {
         Ok(())
     }
 
-    /// An event happens, if it can. `NotNow` exactly if it cannot; `Memory` only if it can; neither changes anything. To take or to leave a
-    /// connection and to begin again takes no memory.
+    /// An event happens, if it can. `NotNow` exactly if it cannot; `Memory` only if it can; neither changes anything. Taking or leaving a
+    /// connection and beginning again do not allocate.
     ///
     /// - `always`: what is claimed of every world, whatever has happened to it;
     /// - `answer`: when the event happens, and when it is refused;
@@ -160,15 +160,15 @@ impl World {
         done
     }
 
-    /// Events happen, one after another; those that cannot, and those that find no memory, change nothing. It answers how many of them
-    /// happened, could not happen, and found no memory.
+    /// Events happen, one after another; those that cannot, and those that run out of memory, change nothing. Returns how many of them
+    /// happened, could not happen, and ran out of memory.
     ///
     /// - `always`: what is claimed of every world, whatever has happened to it;
     /// - `ran`: what became of each event;
     /// - `fixed`: the setup, the program and the window stay as they are;
-    /// - `undisturbed`: where nothing has happened yet and none of the events disturbs, what the client has written are the first lines of
-    ///   the plan, what the server did are the first of its acts, and what is counted is a prefix of them, whichever of the events were not
-    ///   possible or found no memory.
+    /// - `undisturbed`: if nothing has happened yet and none of the events disturbs, what the client has written are the first lines of the
+    ///   plan, what the server did are the first of its acts, and what is counted is a prefix of them, whichever of the events were not
+    ///   possible or ran out of memory.
     pub fn run(&mut self, events: &[Event]) -> RunCount
         ensures always { Headline self.new.world }
         ensures ran { IsRun self.old.world events.now self.new.world result }
@@ -200,14 +200,14 @@ impl World {
         self.server.running()
     }
 
-    /// All bytes that the client wrote on the connection that it made last.
+    /// All bytes that the client wrote on its last connection.
     pub fn written(&self) -> &[u8]
         ensures { result.now ≡ self.now.world.written }
     {
         self.written.as_slice()
     }
 
-    /// The server's setup, which no event changes. Takes no memory.
+    /// The server's setup, which no event changes. Does not allocate.
     pub fn setup(&self) -> &Setup
         ensures { result.now ≡ self.now.setup }
     {
@@ -215,7 +215,7 @@ impl World {
     }
 
     /// What the server did, with the numbers of the connections: the features that the client holds are true of it, what the client has
-    /// counted is a front of it on its connection, and neither side has met a line or a mark that has no place.
+    /// counted is a prefix of it on its connection, and neither side has met an unexpected line or mark.
     pub fn ledger(&self) -> &ServerLedger
         ensures value { result.now ≡ self.now.world.server.server.ledger }
         ensures always { Headline self.now.world }
@@ -235,7 +235,7 @@ impl World {
         self.client.features()
     }
 
-    /// The acts that the client has counted on its connection, or on the last one where it has left: a front of what the server did there.
+    /// The acts that the client has counted on its connection, or on the last one if it has left: a prefix of what the server did there.
     pub fn counted(&self) -> &[Act]
         ensures value { result.now ≡ self.now.world.client.client.table.tally.counted }
         ensures always { Headline self.now.world }

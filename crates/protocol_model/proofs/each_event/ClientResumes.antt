@@ -1,4 +1,4 @@
--- An abort, and a plan that goes on behind a failure, keep all that holds.
+-- An abort, and a plan that continues after a failure, keep all that holds.
 use Rattle.std.proofs.Common.{◌≡◌, ℕ, zero, suc, ◌-◌, ◌≤◌, ◌⊎◌, inl, inr, Bool, true, false, List, [], ◌∷◌, ◌++◌, length, drop, refl, sym}
 use Rattle.std.proofs.Common.{◌∙◌, ap, subst, arith, append_assoc, append-nil, Option, Some, None}
 use Rattle.std.proofs.lemmas.Bool.{false≢true}
@@ -167,7 +167,7 @@ abort_event w inv can = go inv.side
     go (inr live) = numbered live (next_number Event w.client.table.event w.client.event_drawn) refl
         (no_event_in w live w.client.state refl can)
 
--- ---- a plan goes on
+-- ---- a plan continues
 
 halted_by : (c : Client) (s : State) → may_resume c s ≡ true → s ≡ State.Halted
 halted_by c State.Apart e = absurd (false≢true e)

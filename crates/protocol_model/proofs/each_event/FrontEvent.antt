@@ -1,4 +1,4 @@
--- The command at the front of what a server has to do: it fails, or it is done.
+-- The command at the start of what a server has to do: it fails, or it is done.
 use Rattle.std.proofs.Common.{◌≡◌, ℕ, suc, Bool, true, false, ◌||◌, List, [], ◌∷◌, ◌++◌, refl, sym, ◌∙◌, ap, subst, append_assoc, Option}
 use Rattle.std.proofs.Common.{Some, None}
 use Rattle.std.proofs.lemmas.Bool.{false≢true}
@@ -57,7 +57,7 @@ pub record IsAtFront (w : World) (table : Table) (left : List Wanted) (x : Line)
     pub progress : IsProgress w.client.program.features w.client.last table.tally.features table.tally.points
         (contacts w.server.ledger) left
 
--- where nothing is in the error state, what runs or else waits first is such a command
+-- if nothing is in the error state, what runs or else waits first is such a command
 pub at_front : (w : World) (table : Table) (left : List Wanted) (x : Line) (now queued coming : List Line) (aborts : List ℕ)
     → IsNearBy table left w.up w.server.running w.server.waiting w.server.error (know_of w.server) now coming aborts
     → IsProgress w.client.program.features w.client.last table.tally.features table.tally.points (contacts w.server.ledger) left
@@ -104,7 +104,7 @@ at_front w table left x now queued coming aborts n progress first quiet =
     no_failure false e = e
     no_failure true e = absurd (false≢true (sym quiet ∙ n.stopped e))
 
--- it fails, and all that wait fail behind it
+-- it fails, and all that wait fail after it
 pub front_fails : (w : World) (table : Table) (left : List Wanted) (x : Line) (queued coming : List Line) (aborts : List ℕ) (s : Server)
     (code : ℕ)
     → IsAtFront w table left x queued coming aborts → Moves w.server s [] → s.running ≡ None → s.waiting ≡ [] → s.error ≡ true

@@ -69,7 +69,7 @@ event_events State.Aborting abort event hs t m e b h is n =
 
 -- ---- which error is pending
 
--- a reply on an event tag is no error, and none was pending
+-- a reply on an event tag is not an error, and none was pending
 pub record IsCalm (p : Option Tag) (r : Reply) (rs : List Reply) : Type 0 where
   pub mark : is_error (mark_of r) ≡ false
   pub rest : IsTidy p rs
@@ -84,7 +84,7 @@ calm_event (Some t) (Reply.Given u p) rs h e = absurd h
 calm_event (Some t) (Reply.Done u) rs h e = absurd (false≢true (sym h.1 ∙ (ap is_event_tag h.0 ∙ e)))
 calm_event (Some t) (Reply.Error u code name) rs h e = absurd h
 
--- behind a reply on a standard tag
+-- after a reply on a standard tag
 pub record IsPending (hs : List OpenCommand) (rs : List Reply) : Type 0 where
   pub pending : Option Tag
   pub is : failed_tags hs ≡ tags_of pending
@@ -116,7 +116,7 @@ pends (Some t) (Reply.Error u code name) rs front hs gs e h p d is = absurd h
 
 -- ---- the event
 
--- the client behind a reply
+-- the client after a reply
 heard_client : Client → Table → Tag → Mark → Client
 heard_client c b t m = record c { table = b; state = state_behind c.state (ends_abort c.abort t m) b }
 
@@ -228,7 +228,7 @@ passes w inv live r down e reads tidy = record {
     placed (inr (inl ahead)) = inr (inl (record { below = ahead.below; near = ahead.near }))
     placed (inr (inr gone_now)) = inr (inr (record { off = gone_now.off; same = gone_now.same }))
 
--- the facts behind a reply on another tag than the number 0
+-- the facts after a reply on another tag than the number 0
 is_heard : (w : World) (live : IsLive w) (r : Reply) (down : List Reply) (b : Table) → IsTidy live.pending (r ∷ down)
     → tag_is (tag_of r) (Event 0) ≡ false → heard w.client.program.features w.client.table (tag_of r) (mark_of r) ≡ fine b
     → IsHeard w.client b (tag_of r) (mark_of r) down

@@ -82,7 +82,7 @@ always_sound p rack window es program le =
     (served_sound w.client.program.features w.client.table.tally.features w.server.ledger
     (served_now w (from_start_holds p rack window es program le)))
 
--- what the client has counted is then the front of what the server did on the connection that the client made last
+-- what the client has counted is then the prefix of what the server did on the connection that the client made last
 pub always_told : (p : Program) (rack : List (List ℕ)) (window : ℕ) (es : List Event) → IsProgram p → window ≤ 16
     → Told (run_of es (start p rack window)).client.table.tally.counted (run_of es (start p rack window)).server.ledger
     (run_of es (start p rack window)).client.last

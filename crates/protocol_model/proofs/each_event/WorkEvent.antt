@@ -1,4 +1,4 @@
--- The first waiting command has its turn, and the machine is done with what runs.
+-- The first waiting command is processed, and the machine is done with what runs.
 use Rattle.std.proofs.Common.{◌≡◌, ℕ, Bool, true, false, List, [], ◌∷◌, ◌++◌, refl, sym, ◌∙◌, ap, subst, append-nil, Option, Some, None, Ok}
 use Rattle.std.proofs.lemmas.Bool.{false≢true}
 use Rattle.fixed_um.specs.Shapes.{Direction}
@@ -77,7 +77,7 @@ turn_runs w table left x queued coming aborts s f moves runs waiting error fits 
       };
     })
 
--- it is complete at once, and stands for no act
+-- it is complete at once, and means no act
 turn_quiet : (w : World) (table : Table) (left : List Wanted) (x : Line) (queued coming : List Line) (aborts : List ℕ) (s : Server)
     → (f : IsAtFront w table left x queued coming aborts) → f.does ≡ Does.Nothing → Moves w.server s [] → w.server.last ≡ w.client.last
     → s.running ≡ None → s.waiting ≡ all_wait queued → s.error ≡ false
@@ -106,7 +106,7 @@ knows_frame : (tool : Option (List ℕ)) (system : Csy) (stored : Point)
     (record { tool = tool; frame = Some (frame_of system stored); stored = Some stored })
 knows_frame tool system stored = record { tool = λ n e. e; frame = λ f e. sym (frame_known system stored) ∙ e; stored = λ p e. e }
 
--- what has its turn
+-- what is processed
 turns : (w : World) (table : Table) (left : List Wanted) (t : Tag) (c : Command) (queued coming : List Line) (aborts : List ℕ)
     → IsAtFront w table left (record { tag = t; command = c }) queued coming aborts → w.server.last ≡ w.client.last
     → w.server.running ≡ None → w.server.error ≡ false

@@ -107,12 +107,12 @@ abbrev pub AreNoClears : List Line → Type 0
 AreNoClears [] = Unit {0}
 AreNoClears (l ∷ ls) = (is_clearing l.command ≡ false) × AreNoClears ls
 
--- a ClearAllErrors is the first, and where it is, nothing has failed
+-- only the first line may be a ClearAllErrors; if it is, nothing has failed
 abbrev pub IsClearFirst : Bool → List Line → Type 0
 IsClearFirst failed [] = Unit {0}
 IsClearFirst failed (l ∷ ls) = (is_clearing l.command ≡ true → failed ≡ false) × AreNoClears ls
 
--- where a line asks whether the machine is homed, none stands behind it
+-- if a line asks whether the machine is homed, none follows it
 abbrev pub IsAskedLast : List Line → Type 0
 IsAskedLast [] = Unit {0}
 IsAskedLast (l ∷ ls) = (asks_homed (kind_of l.command) ≡ true → ls ≡ []) × IsAskedLast ls
@@ -121,9 +121,9 @@ IsAskedLast (l ∷ ls) = (asks_homed (kind_of l.command) ≡ true → ls ≡ [])
 abbrev pub know_of : Server → Know
 know_of s = record { tool = s.tool; frame = Some s.frame; stored = Some s.stored }
 
--- ---- where nothing has failed, what is not done is what is planned
+-- ---- if nothing has failed, what is not done is what is planned
 
--- to do are the commands of these lines, then what is unsent; its touches are those left, and where there is no error it fits
+-- to do are the commands of these lines, then what is unsent; its touches are those left, and if there is no error it fits
 pub record IsClean (tally : Tally) (left : List Wanted) (lines : List Line) (error : Bool) (know : Know) : Type 0 where
   pub steps : List Planned
   pub todo : tally.todo ≡ steps ++ tally.unsent
@@ -134,7 +134,7 @@ pub record IsClean (tally : Tally) (left : List Wanted) (lines : List Line) (err
 
 -- the table that is left when all is read, and a server that this connection meets: what runs, what waits, whether it is in the error
 -- state, and what is known of it;
--- with the lines that wait, those that the server has not read, and the aborts behind them
+-- with the lines that wait, those that the server has not read, and the aborts after them
 pub record IsNearBy (table : Table) (left : List Wanted) (up : List Line) (running : Option Line)
     (waiting : List Waiting) (error : Bool) (know : Know) (queued coming : List Line) (aborts : List ℕ) : Type 0 where
   pub waiting_is : waiting ≡ all_wait queued
@@ -148,7 +148,7 @@ pub record IsNearBy (table : Table) (left : List Wanted) (up : List Line) (runni
   pub asked_last : IsAskedLast (listed running ++ (queued ++ coming))
   pub clean : table.tally.failed ≡ false → IsClean table.tally left (listed running ++ (queued ++ coming)) error know
 
--- so it is for some lines that wait, some that the server has not read, and some aborts behind them
+-- this holds for some lines that wait, some that the server has not read, and some aborts after them
 pub record IsNear (table : Table) (left : List Wanted) (up : List Line) (running : Option Line)
     (waiting : List Waiting) (error : Bool) (know : Know) : Type 0 where
   pub queued : List Line
@@ -253,7 +253,7 @@ IsAtRest State.Halted = ⊥
 IsAtRest State.Done = Unit {0}
 IsAtRest State.Faulted = ⊥
 
--- a client on no connection: its features are served, and the acts it counted are the front of those that were done
+-- a client on no connection: its features are served, and the acts it counted are the prefix of those that were done
 pub record IsOff (w : World) : Type 0 where
   pub off : w.client.on ≡ false
   pub rest : IsAtRest w.client.state
@@ -262,7 +262,7 @@ pub record IsOff (w : World) : Type 0 where
 
 -- ---- all
 
--- a server where nothing runs, nothing waits, and that is in no error
+-- a server on which nothing runs and nothing waits, and which is not in the error state
 pub record IsIdle (s : Server) : Type 0 where
   pub running : s.running ≡ None
   pub waiting : s.waiting ≡ []

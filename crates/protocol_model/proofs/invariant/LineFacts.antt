@@ -22,7 +22,7 @@ use Rattle.protocol_model.specs.declared.held.OpenCommand.{OpenCommand}
 use Rattle.protocol_model.specs.declared.plans.Planned.{Planned}
 use Rattle.protocol_model.specs.declared.plans.Does.{Does}
 
--- where one tag is not another, the other is not the one
+-- if one tag differs from another, the other differs from the one
 pub tag_is_false : (t u : Tag) → tag_is t u ≡ false → tag_is u t ≡ false
 tag_is_false t u e = go (tag_is u t) refl
   where
@@ -49,7 +49,7 @@ not_held_before t [] ys e = refl
 not_held_before t (x ∷ xs) ys e = let parts = held_parts t x (xs ++ ys) e
     in if_false {A = Bool} (tag_is x.tag t) true (is_held t xs) parts.0 ∙ not_held_before t xs ys parts.1
 
--- where each tag is held once, the tag of a command is not held before it
+-- if each tag is held once, the tag of a command is not held before it
 pub apart_from : (xs : List OpenCommand) (y : OpenCommand) (ys : List OpenCommand) → AreDistinct (xs ++ y ∷ ys) → is_held y.tag xs ≡ false
 apart_from [] y ys d = refl
 apart_from (x ∷ xs) y ys d =
@@ -68,7 +68,7 @@ not_in_use t None queued e = waits_not t queued e
 not_in_use t (Some l) queued e = let parts = held_parts t (received l) (all_received queued) e
     in ap (λ (b : Bool). b || waits_under t (all_wait queued)) parts.0 ∙ waits_not t queued parts.1
 
--- an event tag is none of standard lines
+-- an event tag is not the tag of a standard line
 event_not_held : (t : Tag) (ls : List Line) → AreStandard ls → is_event_tag t ≡ true → is_held t (all_received ls) ≡ false
 event_not_held t [] sorts e = refl
 event_not_held t (l ∷ ls) sorts e = if_false {A = Bool} (tag_is l.tag t) true (is_held t (all_received ls)) (apart l.tag t sorts.0 e)
@@ -86,7 +86,7 @@ event_not_in_use t running queued sorts e = not_in_use t running queued (event_n
 
 -- ---- lists of lines
 
--- where two lists together are standard lines, so is the first
+-- if two lists together are standard lines, so is the first
 pub standard_before : (xs ys : List Line) → AreStandard (xs ++ ys) → AreStandard xs
 standard_before [] ys h = tt
 standard_before (x ∷ xs) ys h = (h.0, h.1, standard_before xs ys h.2)
@@ -101,7 +101,7 @@ pub asked_behind : (xs ys : List Line) → IsAskedLast (xs ++ ys) → IsAskedLas
 asked_behind [] ys h = h
 asked_behind (x ∷ xs) ys h = asked_behind xs ys h.1
 
--- behind lines of which none asks any line may stand
+-- if none of the lines asks, any line may follow them
 pub asked_more : (xs ys : List Line) (l : Line) → is_asking (all_received xs ++ all_sent ys) ≡ false → IsAskedLast ((xs ++ ys) ++ l ∷ [])
 asked_more [] [] l h = ((λ e. refl), tt)
 asked_more [] (y ∷ ys) l h = let a : AskNothing (sent_now y) (all_sent ys) = ask_nothing (sent_now y) (all_sent ys) h in (
@@ -157,12 +157,12 @@ pub wait_more : (xs ys : List Line) → all_wait (xs ++ ys) ≡ all_wait xs ++ a
 wait_more [] ys = refl
 wait_more (x ∷ xs) ys = ap (λ (l : List _). record { tag = x.tag; reading = Ok x.command } ∷ l) (wait_more xs ys)
 
--- one more behind what runs and waits: the same lines in all
+-- one more after what runs and waits: the same lines in all
 pub one_behind : (busy queued : List Line) (x : Line) (coming : List Line)
     → busy ++ (queued ++ x ∷ coming) ≡ busy ++ ((queued ++ x ∷ []) ++ coming)
 one_behind busy queued x coming = ap (λ (l : List Line). busy ++ l) (sym (append_assoc queued (x ∷ []) coming))
 
--- a command received behind what runs and waits is open like one more line that waits last
+-- a command received after what runs and waits is open like one more line that waits last
 pub received_behind : (busy queued : List Line) (x : Line) (coming : List Line)
     → all_received (busy ++ queued) ++ received x ∷ all_sent coming ≡ all_received (busy ++ (queued ++ x ∷ [])) ++ all_sent coming
 received_behind busy queued x coming =
@@ -212,7 +212,7 @@ pub steps_more : (xs ys : List Planned) → commands_of (xs ++ ys) ≡ commands_
 steps_more [] ys = refl
 steps_more (x ∷ xs) ys = ap (λ (l : List Command). x.command ∷ l) (steps_more xs ys)
 
--- steps that stand for no lines are none, and for a line and others a first one and others
+-- steps that mean no lines are the empty list; those that mean a line and others are a first step and others
 pub no_steps : (steps : List Planned) → commands_of steps ≡ [] → steps ≡ []
 no_steps [] e = refl
 no_steps (p ∷ ps) e = absurd (cc)

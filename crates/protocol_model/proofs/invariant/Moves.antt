@@ -1,4 +1,4 @@
--- What the calls of a server leave as it was, and what they add to its ledger.
+-- What the calls of a server leave unchanged, and what they add to its ledger.
 use Rattle.std.proofs.Common.{◌≡◌, ℕ, Bool, true, false, cond, not, ◌&&◌, ◌||◌, List, [], ◌∷◌, ◌++◌, length, refl, sym, ◌∙◌, ap, arith}
 use Rattle.std.proofs.Common.{append-nil, Option, Some, None, Result, Ok, Err, eq-eqb, ne_eqb, nat_le}
 use Rattle.fixed_um.specs.declared.lengths.Point.{Point}
@@ -22,7 +22,7 @@ use Rattle.protocol_model.specs.declared.lines.Misread.TheVariants as misread
 use Rattle.protocol_model.specs.declared.lines.Waiting.{Waiting}
 use Rattle.protocol_model.specs.declared.machine.Outcome.{Outcome}
 
--- these acts as a ledger has them, each beside the number of this connection
+-- these acts as a ledger has them, each next to the number of this connection
 abbrev pub done_on : ℕ → List Act → List (ℕ × Act)
 done_on n [] = []
 done_on n (a ∷ acts) = (n, a) ∷ done_on n acts
@@ -62,7 +62,7 @@ up_to_done n (a ∷ acts) = (omega arith, up_to_done n acts)
 
 -- ---- a server that is still on the same connection, with these acts more
 
--- the server has the connection it had, on or off as it was, and its ledger has these acts more, done on that connection
+-- the server has the connection it had, on or off as before, and its ledger has these further acts, done on that connection
 pub record Moves (s t : Server) (acts : List Act) : Type 0 where
   pub on : t.on ≡ s.on
   pub last : t.last ≡ s.last
@@ -131,7 +131,7 @@ turned_to_moves : (s : Server) (ws : List Waiting) → (acts : List Act) × Move
 turned_to_moves s [] = ([], stays s _ refl refl refl)
 turned_to_moves s (w ∷ ws) = taken_moves s w ws (refusal s w.reading)
 
--- where its first waiting command has its turn, it does some acts or none, on its connection
+-- where its first waiting command is processed, it does some acts or none, on its connection
 pub turned_moves : (s : Server) → (acts : List Act) × Moves s (server_turned s).server acts
 turned_moves s = turned_to_moves s s.waiting
 

@@ -53,7 +53,7 @@ pair ws x hs ev y code name sort = (
   ),
 )
 
--- the tally behind the failures of these commands
+-- the tally after the failures of these commands
 abbrev pub breaks : List Line → Tally → Tally
 breaks [] y = y
 breaks (x ∷ xs) y = broken y
@@ -92,7 +92,7 @@ pub running_pairs : (ws : List Wanted) (running : Option Line) (queued : List Li
 running_pairs ws None queued hs ev y sort = pairs ws queued hs ev y sort
 running_pairs ws (Some x) queued hs ev y sort = pair_and_pairs ws x queued hs ev y 9007 (Some (kind_of x.command)) sort.0 sort.2
 
--- the receipt of a command that stands behind others
+-- the receipt of a command that follows others
 ack_in : (front : Bool) (busy : List Line) (x : Line) (hs : List OpenCommand) → is_held x.tag (all_received busy) ≡ false
     → heard_in front (all_received busy ++ sent_now x ∷ hs) x.tag Mark.Ack ≡ two (all_received busy ++ received x ∷ hs) Effect.Quiet
 ack_in front [] x hs free = heard_at front (sent_now x) hs x.tag Mark.Ack (tag_is-refl x.tag)
@@ -104,14 +104,14 @@ ack_in front (l ∷ ls) x hs free =
     (λ other rest. heard_past front (received l) (all_received ls ++ sent_now x ∷ hs) x.tag Mark.Ack other
     ∙ ap (put_before (received l)) (ack_in (front && false) ls x hs rest))
 
--- the receipt of a command that was just sent, behind received ones under other tags, makes it a received one
+-- the receipt of a command that was just sent, after received ones under other tags, makes it a received one
 pub ack : (ws : List Wanted) (busy : List Line) (x : Line) (hs ev : List OpenCommand) (y : Tally) → is_event_tag x.tag ≡ false
     → is_held x.tag (all_received busy) ≡ false → heard ws (tabled (all_received busy ++ sent_now x ∷ hs) ev y) x.tag Mark.Ack
     ≡ fine (tabled (all_received busy ++ received x ∷ hs) ev y)
 ack ws busy x hs ev y sort free = standard_hears ws (tabled (all_received busy ++ sent_now x ∷ hs) ev y) x.tag Mark.Ack (all_received busy
     ++ received x ∷ hs) Effect.Quiet sort (ack_in (not y.failed) busy x hs free)
 
--- the end of the first command, where nothing has failed
+-- the end of the first command, if nothing has failed
 pub done_first : (ws : List Wanted) (x : Line) (hs ev : List OpenCommand) (y : Tally) → is_event_tag x.tag ≡ false → y.failed ≡ false
     → asks_data (kind_of x.command) ≡ false → Reads ws (tabled (received x ∷ hs) ev y) (Reply.Done x.tag ∷ [])
     (tabled hs ev (counted_next ws (kind_of x.command) None y.todo y))

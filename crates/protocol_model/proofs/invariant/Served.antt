@@ -48,17 +48,17 @@ pub acts_other : (n m : ℕ) (l : List (ℕ × Act)) (a : Act) → (m ≡ n → 
 acts_other n m [] a apart = if_false {A = List Act} _ (a ∷ []) [] (ne_eqb m n apart)
 acts_other n m ((k, b) ∷ l) a apart = acts_step _ b _ _ [] (acts_other n m l a apart ∙ sym (append-nil (acts_on n l))) ∙ append-nil _
 
--- where no act is above a connection, one act more that is not above it leaves it so
+-- if no act is above a connection, adding an act that is not above it keeps that true
 pub up_to_more : (n : ℕ) (l : List (ℕ × Act)) (m : ℕ) (a : Act) → AreUpTo n l → m ≤ n → AreUpTo n (l ++ (m, a) ∷ [])
 up_to_more n [] m a h le = (le, tt)
 up_to_more n ((k, b) ∷ l) m a h le = (h.0, up_to_more n l m a h.1 le)
 
--- where no act is above a connection, none is above a greater one
+-- if no act is above a connection, none is above a greater one
 pub up_to_above : (n m : ℕ) (l : List (ℕ × Act)) → n ≤ m → AreUpTo n l → AreUpTo m l
 up_to_above n m [] le h = tt
 up_to_above n m ((k, b) ∷ l) le h = (omega (arith, h.0), up_to_above n m l le h.1)
 
--- so the acts on a greater one are none
+-- so there are no acts on a greater one
 pub acts_none : (n m : ℕ) (l : List (ℕ × Act)) → AreUpTo n l → n < m → acts_on m l ≡ []
 acts_none n m [] h lt = refl
 acts_none n m ((k, b) ∷ l) h lt = if_false {A = List Act} _ (b ∷ acts_on m l) (acts_on m l) (ne_eqb k m (λ (e : k ≡ m). below e))
@@ -72,7 +72,7 @@ abbrev pub AreMadeUpTo : ℕ → List MadeContact → Type 0
 AreMadeUpTo n [] = Unit {0}
 AreMadeUpTo n (m ∷ ms) = (m.connection ≤ n) × AreMadeUpTo n ms
 
--- where no act of a ledger is above a connection, none of its contacts is
+-- if no act of a ledger is above a connection, none of its contacts is
 pub made_up_to : (n : ℕ) (l : List (ℕ × Act)) → AreUpTo n l → AreMadeUpTo n (contacts l)
 made_up_to n [] h = tt
 made_up_to n ((m, act.Contact target dir tool frame point) ∷ l) h = (h.0, made_up_to n l h.1)
@@ -82,14 +82,14 @@ made_up_to n ((m, act.Moved p f) ∷ l) h = made_up_to n l h.1
 made_up_to n ((m, act.Changed k) ∷ l) h = made_up_to n l h.1
 made_up_to n ((m, act.Framed f) ∷ l) h = made_up_to n l h.1
 
--- where no contact of two lists is above a connection, none of the second is
+-- if no contact of two lists is above a connection, none of the second is
 pub made_behind : (n : ℕ) (xs ys : List MadeContact) → AreMadeUpTo n (xs ++ ys) → AreMadeUpTo n ys
 made_behind n [] ys h = h
 made_behind n (x ∷ xs) ys h = made_behind n xs ys h.1
 
 -- ---- served features
 
--- contacts are some that serve nobody, then a run that serves this feature, then the rest
+-- contacts are some that serve no feature, then a run that serves this feature, then the rest
 pub record HasRun (wanted : Wanted) (feature : Feature) (made rest : List MadeContact) : Type 0 where
   pub gap : List MadeContact
   pub run : List MadeContact
@@ -98,7 +98,7 @@ pub record HasRun (wanted : Wanted) (feature : Feature) (made rest : List MadeCo
   pub label : feature.label ≡ wanted.label
   pub serves : Serves connection wanted.touches feature.points run
 
--- features are the first of the wanted ones, and each is served by a run of contacts, behind the run of the one before
+-- features are the first of the wanted ones, and each is served by a run of contacts, after the run of the one before
 abbrev pub Served : List Wanted → List Feature → List MadeContact → Type 0
 Served ws [] made = Unit {0}
 Served [] (f ∷ fs) made = ⊥
@@ -115,7 +115,7 @@ run_more w f made rest more h = record {
   serves = h.serves;
 }
 
--- features that are served are so with more contacts behind
+-- features that are served are so with more contacts after
 pub served_more : (ws : List Wanted) (fs : List Feature) (made more : List MadeContact) → Served ws fs made → Served ws fs (made ++ more)
 served_more ws [] made more h = tt
 served_more [] (f ∷ fs) made more h = absurd h
@@ -134,7 +134,7 @@ served_take (suc k) ws [] made h = tt
 served_take (suc k) [] (f ∷ fs) made h = absurd h
 served_take (suc k) (w ∷ ws) (f ∷ fs) made h = (h.0, h.1, served_take k ws fs h.0 h.2)
 
--- one feature more, served by the contacts behind
+-- one feature more, served by the contacts after
 pub served_push : (front : List Wanted) (w : Wanted) (later : List Wanted) (fs : List Feature) (f : Feature) (made run : List MadeContact)
     (n : ℕ)
     → length front ≡ length fs → Served (front ++ w ∷ later) fs made → f.label ≡ w.label → Serves n w.touches f.points run
@@ -156,7 +156,7 @@ served_push (v ∷ front) w later [] f made run n e h label serves = absurd (cc)
 served_push (v ∷ front) w later (g ∷ gs) f made run n e h label serves =
     (h.0 ++ run, run_more v g made h.0 run h.1, served_push front w later gs f h.0 run n (omega arith) h.2 label serves)
 
--- the next wanted feature, behind as many as are held, joins them last under its own label
+-- the next wanted feature, after as many as are held, joins them last under its own label
 pub joined_is : (front : List Wanted) (w : Wanted) (later : List Wanted) (fs : List Feature) (ps : List Point) (origin : Option Origin)
     → length front ≡ length fs
     → joined (front ++ w ∷ later) fs ps origin ≡ fs ++ record { label = w.label; points = ps; origin = origin } ∷ []
@@ -165,7 +165,7 @@ joined_is [] w later (g ∷ gs) ps origin e = absurd (cc)
 joined_is (v ∷ front) w later [] ps origin e = absurd (cc)
 joined_is (v ∷ front) w later (g ∷ gs) ps origin e = ap (λ (l : List Feature). g ∷ l) (joined_is front w later gs ps origin (omega arith))
 
--- behind contacts that serve touches, a contact that serves one touch more
+-- after contacts that serve touches, a contact that serves one touch more
 pub serves_more : (n : ℕ) (ts : List Touch) (ps : List Point) (ms : List MadeContact) (t : Touch) (p : Point) (m : MadeContact)
     → Serves n ts ps ms
     → IsServed n t p m → Serves n (ts ++ t ∷ []) (ps ++ p ∷ []) (ms ++ m ∷ [])
@@ -209,7 +209,7 @@ pub progress_served : (ws : List Wanted) (n : ℕ) (fs : List Feature) (points :
 progress_served ws n fs points ms left h = subst (λ (l : List MadeContact). Served ws fs l) (sym h.parts)
     (served_more ws fs h.before h.run h.served)
 
--- a front of so many wanted features
+-- a prefix of that many wanted features
 served_cut : (ws : List Wanted) (fs : List Feature) (ms : List MadeContact) → Served ws fs ms → (front : List Wanted)
     × (ws ≡ front ++ drop (length fs) ws) × (length front ≡ length fs)
 served_cut ws [] ms h = ([], refl, refl)
@@ -217,7 +217,7 @@ served_cut [] (f ∷ fs) ms h = absurd h
 served_cut (w ∷ ws) (f ∷ fs) ms h = let rest = served_cut ws fs h.0 h.2
     in (w ∷ rest.0, ap (λ (l : List Wanted). w ∷ l) rest.1, ap suc rest.2)
 
--- those behind the first k have
+-- those after the first k have
 pub have_drop : (k : ℕ) (ws : List Wanted) → HaveTouches ws → HaveTouches (drop k ws)
 have_drop zero ws h = h
 have_drop (suc k) [] h = tt
@@ -259,14 +259,14 @@ serves_up_to n b (t ∷ ts) (p ∷ ps) [] h u lt = absurd h
 serves_up_to n b (t ∷ ts) (p ∷ ps) (m ∷ ms) h u lt = let on : m.connection ≡ n = h.0.on in let le : m.connection ≤ b = u.0
     in absurd (omega arith)
 
--- where all contacts are on earlier connections, the unfinished feature has no points yet
+-- if all contacts are on earlier connections, the unfinished feature has no points yet
 pub no_points : (ws : List Wanted) (n b : ℕ) (fs : List Feature) (points : List Point) (ms : List MadeContact) (left : List Wanted)
     → IsProgress ws n fs points ms left → AreMadeUpTo b ms → b < n → points ≡ []
 no_points ws n b fs points ms left h u lt =
     serves_up_to n b h.made points h.run h.serves (made_behind b h.before h.run
     (subst (λ (l : List MadeContact). AreMadeUpTo b l) h.parts u)) lt
 
--- a contact that is none of the unfinished feature's, where nothing is unfinished
+-- a contact that is not of the unfinished feature, if nothing is unfinished
 pub progress_other : (ws : List Wanted) (n : ℕ) (fs : List Feature) (points : List Point) (ms more : List MadeContact) (left : List Wanted)
     → IsProgress ws n fs points ms left → points ≡ [] → IsProgress ws n fs points (ms ++ more) left
 progress_other ws n fs points ms more left h e =
@@ -287,14 +287,14 @@ progress_other ws n fs points ms more left h e =
       some = h.some;
     }
 
--- the points of the unfinished feature are given up
+-- the points of the unfinished feature are discarded
 pub progress_anew : (ws : List Wanted) (n m : ℕ) (fs : List Feature) (points : List Point) (ms : List MadeContact) (left : List Wanted)
     → HaveTouches ws → IsProgress ws n fs points ms left → IsProgress ws m fs [] ms (drop (length fs) ws)
 progress_anew ws n m fs points ms left some h = progress_new ws m fs ms (progress_served ws n fs points ms left h) some
 
 -- ---- a touch that was wanted
 
--- the next touch, whether it is the last of its feature, and what is left behind it
+-- the next touch, whether it is the last of its feature, and what is left after it
 pub record IsNext (t : Touch) (last : Bool) (rest : List Marked) (left : List Wanted) : Type 0 where
   pub wanted : Wanted
   pub ts : List Touch
@@ -319,7 +319,7 @@ next_by t last rest w later (u ∷ us) e some is =
       rest_is = cc;
     }
 
--- the first of the marked touches is the next one of what is left, and its mark tells whether it ends its feature
+-- the first of the marked touches is the next one of what is left, and its mark says whether it ends its feature
 pub next_touch : (t : Touch) (last : Bool) (rest : List Marked) (left : List Wanted) → HaveTouches left → (t, last) ∷ rest ≡ marks_of left
     → IsNext t last rest left
 next_touch t last rest [] some is = absurd (cc)
@@ -327,7 +327,7 @@ next_touch t last rest (w ∷ later) some is = next_by t last rest w later w.tou
 
 -- ---- programs
 
--- where the blocks of steps are well made, each of their features has a touch
+-- if the blocks of steps are well made, each of their features has a touch
 pub features_have : (inside : Bool) (ss : List Step) → AreBlocks inside ss → HaveTouches (features_of ss)
 features_have inside [] h = tt
 features_have inside (step.Goto p ∷ ss) h = features_have inside ss h

@@ -39,7 +39,7 @@ abbrev pub marks_of : List Wanted → List Marked
 marks_of [] = []
 marks_of (w ∷ ws) = marks w.touches ++ marks_of ws
 
--- the touch that a command stands for, so marked, if it is one
+-- the touch that a command means, so marked, if it is one
 abbrev pub touch_in : Does → List Marked
 touch_in Does.Nothing = []
 touch_in Does.AsksHomed = []
@@ -61,7 +61,7 @@ touches_more (p ∷ ps) qs = ap (λ (l : List Marked). touch_in p.does ++ l) (to
 
 -- ---- what is left from a position on
 
--- inside a block whose touches are not all passed, those that are left stand for a feature
+-- inside a block whose touches are not all passed, those that are left are a feature
 abbrev pub left_with : Bool → List Touch → List Wanted → List Wanted
 left_with false ts ws = ws
 left_with true [] ws = ws
@@ -96,7 +96,7 @@ touches_left inside frame (step.Tool n ∷ ss) h = touches_left inside frame ss 
 touches_left inside frame (step.Recall p ∷ ss) h = touches_left inside (Part p) ss h
 touches_left inside frame (step.End ∷ ss) h = touches_left false frame ss h.1 ∙ sym (ap marks_of (left_none inside (features_of ss)))
 
--- a position in steps, behind so many features
+-- a position in steps, after that many features
 pub record IsPlace (inside : Bool) (ss : List Step) (k : ℕ) (rest : List Step) : Type 0 where
   pub within : Bool
   pub blocks : AreBlocks within rest

@@ -113,7 +113,7 @@ pub plan_ends_left : (p : Program) (k : ℕ) (start : Start) → IsProgram p →
 plan_ends_left p k start h = ends_second (plan p k start) ∙ (ap seconds (plan_touches p k start (program_is_plain p h))
     ∙ features_second (drop k p.features))
 
--- ---- what commands do where they stand
+-- ---- what commands do in their places
 
 -- what is known is selected
 record IsSelected (k : Know) (s : Selection) : Type 0 where
@@ -205,7 +205,7 @@ made_same s p d last = go s.tool s.frame
     go (Some n) None = refl
     go (Some n) (Some f) = refl
 
--- what stands for a touch is planned as one
+-- what means a touch is planned as one
 is_touch : (p : Point) (d : Option Direction) (tool : Option (List ℕ)) (frame : Option Frame) (last : Bool) (does : Does)
     → read_touch p d last tool frame ≡ Some does → touch_made (Some does) ∷ [] ≡ all_known (touch_of does)
 is_touch p d (Some n) (Some f) last does e = go does e
@@ -264,7 +264,7 @@ plan_makes p k start h = all_makes (plan p k start) nothing_selected (plan_as_pl
 
 -- ---- the order
 
--- the commands of two plans, one behind the other
+-- the commands of two plans, one after the other
 pub commands_more : (ps qs : List Planned) → commands_of (ps ++ qs) ≡ commands_of ps ++ commands_of qs
 commands_more [] qs = refl
 commands_more (p ∷ ps) qs = ap (λ (l : List Command). p.command ∷ l) (commands_more ps qs)

@@ -1,4 +1,4 @@
--- A plan goes on behind the last touch of the last completed feature: the laws of its position.
+-- A plan continues after the last touch of the last completed feature: the laws of its position.
 use Rattle.std.proofs.Common.{◌≡◌, ℕ, zero, suc, ◌<◌, ◌≤◌, Bool, true, false, cond, List, [], ◌∷◌, ◌++◌, take, drop, length, refl, sym, ◌∙◌}
 use Rattle.std.proofs.Common.{ap, arith, Option, Some, None}
 use Rattle.std.proofs.lemmas.Bool.{false≢true}
@@ -36,7 +36,7 @@ touch_parts : (b : Bool) (t : Touch) (here there here_behind there_behind ss : L
 touch_parts true t here there a b ss e f = ap (λ (l : List Step). step.Touch t ∷ l) e
 touch_parts false t here there a b ss e f = ap (λ (l : List Step). step.Touch t ∷ l) f
 
--- the steps up to a position and those behind it are all of them
+-- the steps up to a position and those after it are all of them
 pub all_steps : (k : ℕ) (ss : List Step) → up_to k ss ++ behind k ss ≡ ss
 all_steps zero ss = refl
 all_steps (suc k) [] = refl
@@ -130,7 +130,7 @@ left_true : (t : Touch) (ts : List Touch) (ws : List Wanted) (inside : Bool) →
 left_true t ts ws true e = refl
 left_true t ts ws false e = absurd (false≢true e)
 
--- behind the last touch of a feature so many are left, and behind another as many as before
+-- after the last touch of a feature that many are left, and after another as many as before
 touch_ends_by : (b : Bool) (k : ℕ) (t : Touch) (ss : List Step) → is_empty (block_touches ss) ≡ b → suc k ≤ suc (length (features_of ss))
     → ((j : ℕ) → k ≡ suc j → suc j ≤ length (left_of true ss) → EndInTouch (up_to (suc j) ss))
     → (suc k ≤ length (left_of true ss) → EndInTouch (up_to (suc k) ss))
@@ -209,7 +209,7 @@ measuring_commands tool frame ss =
     (framing_commands frame _ ∙ ap (λ (l : List Command). frame_commands frame ++ l)
     (commands_more (stepping frame ss) finish ∙ ap (λ (l : List Command). l ++ command.EndSession ∷ []) (steps_commands frame ss)))
 
--- a plan is that of the steps behind its position
+-- a plan is that of the steps after its position
 pub plan_commands : (p : Program) (k : ℕ) (start : Start) → commands_of (plan p k start)
     ≡ commands_from start (up_to k p.steps) (behind k p.steps)
 plan_commands p k start = go start

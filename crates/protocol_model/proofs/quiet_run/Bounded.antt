@@ -101,7 +101,7 @@ send_less w h may =
         let long : length c.table.tally.unsent ≡ suc (length ps) = ap length e in
         omega (arith, ap length left, long)
 
--- the parts of a round behind the first
+-- the parts of a round after the first
 abbrev pub Behind : (Job → ℕ → Outcome) → Bool → World → List Event → Type 0
 Behind answer =
     Then (λ cut w. IsOne (all_up w) cut) (
@@ -147,7 +147,7 @@ round_less answer es w s round busy = go (can ClientSends w) refl
         let cut : Cut (AreWhile ClientSends) (Behind answer) w es = cut_of _ _ w es round in
         begins cut cut.front refl may cut.first
 
--- what rounds keep, and that behind them both ends are still
+-- what rounds keep, and that after them both ends are still
 pub rounds_leave : (answer : Job → ℕ → Outcome) (G : World → Type 0) → Keeps answer G
     → (rounds : List (List Event)) (w : World) → AreRounds answer w rounds → Leaves G w
     → Leaves G (run_of (all_of rounds) w)
@@ -170,7 +170,7 @@ rounds_few answer (r ∷ rounds) w h busy s =
     rounds_few answer rounds (run_of r w) h.1 (All-tail (λ x. x ≢ []) r rounds busy) left.still in
     omega (arith, less, rest)
 
--- behind every list of events
+-- after every list of events
 pub bounded : (answer : Job → ℕ → Outcome) (program : Meaning) (rack : List (List ℕ))
     (window : ℕ) (events : List Event) (rounds : List (List Event)) → IsProgram program → window ≤ 16
     → CanFinish (run_of events (start program rack window))

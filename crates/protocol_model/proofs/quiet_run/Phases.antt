@@ -1,4 +1,4 @@
--- A quiet round, part by part: behind it no byte and no command is on its way.
+-- A quiet round, part by part: after it no byte and no command is on its way.
 use Rattle.std.proofs.Common.{◌≡◌, ◌⊎◌, inl, inr, ℕ, suc, ◌≤◌, Bool, true, false, cond, not, ◌&&◌, List, [], ◌∷◌, ◌++◌, length, drop}
 use Rattle.std.proofs.Common.{refl, sym, ◌∙◌, ap, subst, arith, Option, Some, None, is_none, Ok, Err, nat_le, append-nil}
 use Rattle.std.proofs.lemmas.Bool.{false≢true, le-leb}
@@ -68,7 +68,7 @@ work_keeps answer P step [] w are h = (h, are)
 work_keeps answer P step (e ∷ es) w are h =
     work_keeps answer P step es (after e w) are.1 (step e w (work_is answer w e are.0) h)
 
--- one event where it can happen
+-- one event, if it can happen
 one_keeps : (e : Event) (P Q : World → Type 0) → ((w : World) → can e w ≡ true → P w → Q (after e w))
     → (es : List Event) (w : World) → ((can e w ≡ false) → P w → Q w) → IsOne (possible e w) false es → P w → Q (run_of es w)
 one_keeps e P Q step es w none is h = go (can e w) refl is
@@ -157,7 +157,7 @@ reads_up w may h up = subst UpEmpty (sym (after_is ServerReads w may))
     (writes_up w (front_served w.server (next_of w.server.input.rest)) h
     (front_last w.server (next_of w.server.input.rest)) up)
 
--- where no line is there and no byte is up, all was read
+-- if no line is there and no byte is on the way up, all was read
 no_line : (w : World) → IsJoined w → UpEmpty w → can ServerReads w ≡ false → w.server.input.rest ≡ []
 no_line w h up e = go (next_of w.server.input.rest) refl not_line
   where
@@ -199,7 +199,7 @@ work_read answer (Down k) w h j r = absurd h
 work_read answer ClientReads w h j r = absurd h
 work_read answer _ w h j r = absurd h
 
--- where the server has nothing to do, nothing runs and nothing waits
+-- if the server has nothing to do, nothing runs and nothing waits
 nothing_to_do : (answer : Job → ℕ → Outcome) (w : World) → IsJoined w → working (ending answer w) w ≡ None
     → (w.server.server.running ≡ None) × (w.server.server.waiting ≡ [])
 nothing_to_do answer w h e = go (running_job w.server.server) refl e
@@ -280,7 +280,7 @@ hears_down w may d h = subst DownEmpty (sym (after_is ClientReads w may)) (
       ∙ d.1,
 )
 
--- where no line is there and no byte is down, all was read
+-- if no line is there and no byte is on the way down, all was read
 no_reply : (w : World) → IsJoined w → DownEmpty w → can ClientReads w ≡ false → w.client.input.rest ≡ []
 no_reply w h d e = go (next_of w.client.input.rest) refl nothing
   where
@@ -300,7 +300,7 @@ no_reply w h d e = go (next_of w.client.input.rest) refl nothing
 
 -- ---- a whole round
 
--- two parts of a round, one behind the other
+-- two parts of a round, one after the other
 pub record Cut (A B : Bool → World → List Event → Type 0) (w : World) (events : List Event) : Type 0 where
   pub front : List Event
   pub back : List Event
@@ -317,7 +317,7 @@ cut_of A B w events h = go h.parts
     go (inl both) = record { front = h.front; back = h.back; whole = h.whole; first = both.0; second = both.1 }
     go (inr cut) = absurd (false≢true cut.0)
 
--- lists of events, one behind another
+-- lists of events, one after another
 pub run_more : (xs ys : List Event) (w : World) → run_of (xs ++ ys) w ≡ run_of ys (run_of xs w)
 run_more [] ys w = refl
 run_more (x ∷ xs) ys w = run_more xs ys (after x w)
@@ -339,7 +339,7 @@ part A B P Q R first second es w h p =
 abbrev Anything : World → Type 0
 Anything w = Unit {0}
 
--- behind a round both ends are still, and what each of its events keeps is kept
+-- after a round both ends are still, and what each of its events keeps is kept
 pub round_still : (answer : Job → ℕ → Outcome) (G : World → Type 0) → Keeps answer G
     → (es : List Event) (w : World) → IsRound answer false w es → IsJoined w → G w → Leaves G (run_of es w)
 round_still answer G keeps es w round joined kept =
@@ -439,7 +439,7 @@ never_one e w never es h = go (can e w) never h
     go true f h = absurd (false≢true (sym f))
     go false f h = h
 
--- where both ends are still and nothing is due, a round does nothing
+-- if both ends are still and nothing is due, a round does nothing
 pub round_none : (answer : Job → ℕ → Outcome) (w : World) → IsStill w → can ClientSends w ≡ false
     → (es : List Event) → IsRound answer false w es → es ≡ []
 round_none answer w s never =

@@ -18,7 +18,7 @@ abbrev HasTool : List (List ℕ) → Option (List ℕ) → Type 0
 HasTool rack None = Unit {0}
 HasTool rack (Some n) = IsInReach rack (Does.Changes n)
 
--- what is selected at a position, and the steps behind it, are in reach
+-- what is selected at a position, and the steps after it, are in reach
 record IsThere (rack : List (List ℕ)) (tool : Option (List ℕ)) (f : Frame) (ss : List Step) : Type 0 where
   has : HasTool rack tool
   steps : StepsInReach rack f ss
@@ -62,7 +62,7 @@ steps_reached rack f (step.Tool n ∷ ss) ps h g = (h.0, steps_reached rack f ss
 steps_reached rack f (step.Recall p ∷ ss) ps h g = (tt, (tt, steps_reached rack (Part p) ss ps h g))
 steps_reached rack f (step.End ∷ ss) ps h g = steps_reached rack f ss ps h g
 
--- a plan on a new connection is in reach, behind however many features
+-- a plan on a new connection is in reach, after however many features
 pub plan_reached : (p : Program) (rack : List (List ℕ)) (k : ℕ) → StepsInReach rack Machine p.steps
     → AreInReach rack (plan p k Start.NewConnection)
 plan_reached p rack k h =

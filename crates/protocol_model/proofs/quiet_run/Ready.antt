@@ -36,7 +36,7 @@ use Rattle.protocol_model.proofs.invariant.Served.{HaveTouches}
 
 -- ---- the session and the homing
 
--- whether a command may have its turn, by session and homing
+-- whether a command may be processed, by session and homing
 abbrev pub Allowed : Bool → Bool → Command → Type 0
 Allowed session homed command.StartSession = session ≡ false
 Allowed session homed command.EndSession = session ≡ true
@@ -51,7 +51,7 @@ Allowed session homed (command.SetCsyTransformation p) = session ≡ true
 Allowed session homed (command.SetCoordSystem system) = session ≡ true
 Allowed session homed command.AbortE = ⊥
 
--- the session behind a command, and the homing
+-- the session after a command, and the homing
 abbrev pub session_by : Bool → Command → Bool
 session_by session command.StartSession = true
 session_by session command.EndSession = false
@@ -85,7 +85,7 @@ abbrev pub Opened : Bool → Bool → List Planned → Type 0
 Opened session homed [] = Unit {0}
 Opened session homed (p ∷ ps) = Allowed session homed p.command × Opened (session_by session p.command) (homed_by homed p.command) ps
 
--- where the machine is homed, so they may without the homing that is next
+-- if the machine is homed, so they may without the next homing
 opened_homed : (session told : Bool) (ps : List Planned) → Opened session told ps → Opened session told (passed_over told ps)
 opened_homed session false ps h = h
 opened_homed session true ps h = passes (Opened session true) (λ p qs e f.
@@ -250,7 +250,7 @@ obeyed_passed answer n k told ps fits h = (passes (λ qs. AreObeyed answer n qs 
 reach_passed : (rack : List (List ℕ)) (told : Bool) (ps : List Planned) → AreInReach rack ps → AreInReach rack (passed_over told ps)
 reach_passed rack told ps h = passes (AreInReach rack) (λ p qs e f. f.1) told ps h
 
--- the tally behind the first command of what is to be done, before its point
+-- the tally after the first command of what is to be done, before its point
 abbrev pub counted_mid : Kind → Option Datum → Planned → List Planned → Tally → Tally
 counted_mid k given p todo y = record y {
   session = y.session || begins_session k;
@@ -260,7 +260,7 @@ counted_mid k given p todo y = record y {
   completed = suc y.completed;
 }
 
--- a command that is no touch is counted
+-- a command that is not a touch is counted
 pub counts_ready : (answer : Job → ℕ → Outcome) (goal : List MeasuredFeature) (kept : List Feature) (ws : List Wanted)
     (session homed later_session later_homed : Bool) (rack : List (List ℕ)) (n : ℕ) (y : Tally) (k : Kind) (given : Option Datum)
     (p : Planned) (whole : List Planned) (know : Know)
@@ -298,7 +298,7 @@ counts_ready answer goal kept ws session homed later_session later_homed rack n 
 
 -- ---- a touch
 
--- features as they were measured, one list behind another
+-- features as they were measured, one list after another
 pub measured_more : (fs gs : List Feature) → as_measured (fs ++ gs) ≡ as_measured fs ++ as_measured gs
 measured_more [] gs = refl
 measured_more (f ∷ fs) gs = ap (λ (l : List MeasuredFeature). record { label = f.label; points = f.points } ∷ l) (measured_more fs gs)

@@ -11,7 +11,7 @@ use Rattle.protocol_model.proofs.table.Basics.{if_cases, if_true, if_false, tag_
 use Rattle.protocol_model.proofs.table.Counts.{failed_tags}
 use Rattle.protocol_model.specs.declared.held.OpenCommand.{OpenCommand}
 
--- a number that is found is free, and none is found only where all are held
+-- a number that is found is free, and none is found only if all are held
 pub record IsFound (sort : ℕ → Tag) (hs : List OpenCommand) (n left m : ℕ) : Type 0 where
   pub free : is_held (sort m) hs ≡ false
   pub from : n ≤ m
@@ -41,7 +41,7 @@ none_by sort hs n left i true e is deeper from below = go (eqb n i) refl
     go false other = let apart : n ≡ i → ⊥ = eqb-false n i other in deeper is (omega arith) (omega arith)
 none_by sort hs n left i false e is deeper from below = absurd (cc)
 
--- where none is found, each of these numbers is held
+-- if none is found, each of these numbers is held
 pub none_free : (sort : ℕ → Tag) (hs : List OpenCommand) (n left i : ℕ) → first_free sort hs n left ≡ None → n ≤ i → i < n + left
     → is_held (sort i) hs ≡ true
 none_free sort hs n zero i is from below = absurd (go from below)
@@ -51,7 +51,7 @@ none_free sort hs n zero i is from below = absurd (go from below)
 none_free sort hs n (suc left) i is from below = none_by sort hs n left i (is_held (sort n) hs) refl is (none_free sort hs (suc n) left i)
     from below
 
--- ---- so many tags are held by so many commands
+-- ---- that many tags are held by that many commands
 
 -- without the first command of a tag
 abbrev removed : Tag → List OpenCommand → List OpenCommand
@@ -86,7 +86,7 @@ still_held t u (h ∷ hs) apart e = go (still_held t u hs apart) (tag_is h.tag t
     go deeper false same false other = if_false {A = Bool} (tag_is h.tag u) true (is_held u (removed t hs)) other
         ∙ deeper (sym (if_false {A = Bool} (tag_is h.tag u) true (is_held u hs) other) ∙ e)
 
--- where each of so many different tags is held, at least so many are held
+-- if each of that many different tags is held, at least that many are held
 abbrev pub AreApart : (ℕ → Tag) → Type 0
 AreApart sort = (i j : ℕ) → (i ≡ j → ⊥) → tag_is (sort i) (sort j) ≡ false
 
@@ -135,7 +135,7 @@ drawn sort hs last left all n e = or_cases _ _ n (IsDrawn sort hs n) e
     in record { free = f.free; from = omega (arith, f.from) })
     (λ other. let f : IsFound sort hs 1 all n = found sort hs 1 all n other in record { free = f.free; from = f.from })
 
--- where none is drawn, as many tags are held as there are
+-- if none is drawn, as many tags are held as there are
 pub none_drawn : (sort : ℕ → Tag) (hs : List OpenCommand) (last left all : ℕ) → AreApart sort
     → or_else (first_free sort hs (suc last) left) (first_free sort hs 1 all) ≡ None → all ≤ length hs
 none_drawn sort hs last left all apart e = many_held sort apart hs 1 all

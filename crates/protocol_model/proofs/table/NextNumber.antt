@@ -52,7 +52,7 @@ within_of sort hs last all n e = or_split _ _ n ((1 ≤ n) × (n ≤ all)) e
     (λ none other. let f : IsFound sort hs 1 all n = found sort hs 1 all n other in let from : 1 ≤ n = f.from
     in let below : n < 1 + all = f.below in (omega arith, omega arith))
 
--- the first search goes up to the last number: what the second finds stands before it
+-- the first search goes up to the last number: what the second finds is before it
 behind_of : (sort : ℕ → Tag) (hs : List OpenCommand) (last all n : ℕ) → first_free sort hs (suc last) (all - last) ≡ None
     → first_free sort hs 1 all ≡ Some n → last < n → ⊥
 behind_of sort hs last all n none other lt =
@@ -100,13 +100,13 @@ drawn_free sort hs drawn n e = free_of sort hs drawn (9999 - drawn) 9999 n e
 pub drawn_within : (sort : ℕ → Tag) (hs : List OpenCommand) (drawn n : ℕ) → next_number sort hs drawn ≡ Some n → (1 ≤ n) × (n ≤ 9999)
 drawn_within sort hs drawn n e = within_of sort hs drawn 9999 n e
 
--- where it is above the last one, those between are held
+-- if it is above the last one, those between are held
 pub drawn_passed : (sort : ℕ → Tag) (hs : List OpenCommand) (drawn n i : ℕ) → next_number sort hs drawn ≡ Some n → drawn < n → drawn < i
     → i < n
     → is_held (sort i) hs ≡ true
 drawn_passed sort hs drawn n i e lt from below = passed_of sort hs drawn 9999 n i e lt from below
 
--- where it is not, all above the last one are held
+-- if it is not, all above the last one are held
 pub drawn_up : (sort : ℕ → Tag) (hs : List OpenCommand) (drawn n i : ℕ) → next_number sort hs drawn ≡ Some n → n ≤ drawn → drawn < i
     → i ≤ 9999
     → is_held (sort i) hs ≡ true
@@ -117,7 +117,7 @@ pub drawn_again : (sort : ℕ → Tag) (hs : List OpenCommand) (drawn n i : ℕ)
     → is_held (sort i) hs ≡ true
 drawn_again sort hs drawn n i e le from below = again_of sort hs drawn 9999 n i e le from below
 
--- where none is drawn, all are held
+-- if none is drawn, all are held
 pub drawn_spent : (sort : ℕ → Tag) (hs : List OpenCommand) (drawn i : ℕ) → next_number sort hs drawn ≡ None → 1 ≤ i → i ≤ 9999
     → is_held (sort i) hs ≡ true
 drawn_spent sort hs drawn i e from to = spent_of sort hs drawn (9999 - drawn) 9999 i e from to

@@ -1,4 +1,4 @@
--- The table of marks against stages accepts exactly the fronts of the language of replies.
+-- The table of marks against stages accepts exactly the prefixes of the language of replies.
 use Rattle.std.proofs.Common.{◌≡◌, ◌⊎◌, inl, inr, Bool, true, false, ◌&&◌, List, [], ◌∷◌, ◌++◌, refl, sym, ◌∙◌, ap, subst, append-nil}
 use Rattle.std.proofs.lemmas.Bool.{false≢true, and_parts}
 use Rattle.fixed_um.specs.Points.{zero_point}
@@ -11,7 +11,7 @@ use Rattle.protocol_model.specs.declared.held.Datum.{Datum}
 use Rattle.protocol_model.specs.declared.held.Datum.TheVariants as datum
 use Rattle.protocol_model.specs.declared.held.Stage.{Stage}
 
--- how marks may go on behind a stage, wherever the front is
+-- how marks may continue after a stage, wherever the front is
 abbrev Goes_on : Bool → (Datum → Bool) → Stage → List Mark → Type 0
 Goes_on asks asked stage [] = Unit {0}
 Goes_on asks asked Stage.Sent (Mark.Ack ∷ ms) = Goes_on asks asked Stage.Received ms
@@ -66,7 +66,7 @@ some_fit kind.SetCsyTransformation e = absurd (false≢true e)
 some_fit kind.SetCoordSystem e = absurd (false≢true e)
 some_fit kind.AbortE e = absurd (false≢true e)
 
--- ---- the table against how marks go on
+-- ---- the table against how marks continue
 
 abbrev is_failed_now : Stage → Bool
 is_failed_now Stage.Sent = false
@@ -166,9 +166,9 @@ goes_accepts k Stage.Failed ((front, Mark.Given p) ∷ ms) h f = absurd h
 goes_accepts k Stage.Failed ((front, Mark.Error) ∷ ms) h f = goes_accepts k Stage.Failed ms h f
 goes_accepts k Stage.Failed ((front, Mark.Done) ∷ ms) h f = nothing_left ms h
 
--- ---- how marks go on against the language
+-- ---- how marks continue against the language
 
--- a front of marks that go on goes on
+-- a prefix of marks that continue continues
 none_before : (ms more : List Mark) → ms ++ more ≡ [] → ms ≡ []
 none_before [] more e = refl
 none_before (m ∷ ms) more e = absurd (cc)
@@ -193,7 +193,7 @@ goes_front asks asked Stage.Failed (Mark.Given p ∷ ms) more h = h
 goes_front asks asked Stage.Failed (Mark.Error ∷ ms) more h = goes_front asks asked Stage.Failed ms more h
 goes_front asks asked Stage.Failed (Mark.Done ∷ ms) more h = none_before ms more h
 
--- behind an error: errors, then nothing or the end
+-- after an error: errors, then nothing or the end
 failed_goes : (asks : Bool) (asked : Datum → Bool) (errors ending : List Mark) → AreErrors errors
     → (ending ≡ []) ⊎ (ending ≡ Mark.Done ∷ [])
     → Goes_on asks asked Stage.Failed (errors ++ ending)
@@ -257,7 +257,7 @@ replies_go asks asked ms (inr h) =
 
 -- ---- and back
 
--- marks behind an error
+-- marks after an error
 pub record IsTail (ms : List Mark) : Type 0 where
   pub errors : List Mark
   pub are_errors : AreErrors errors
@@ -351,7 +351,7 @@ pub accepts_only : (k : Kind) (ms : List Placed) → Accepts k Stage.Sent ms →
 accepts_only k ms h = let both = accepts_goes k Stage.Sent ms h
     in (sent_front (asks_data k) (fits k) (marks_of ms) (some_fit k) both.0, both.1)
 
--- the table accepts each front of the replies to a command
+-- the table accepts each prefix of the replies to a command
 pub accepts_all : (k : Kind) (ms : List Placed) → IsRepliesFront (asks_data k) (fits k) (marks_of ms) → AreAtFront false ms
     → Accepts k Stage.Sent ms
 accepts_all k ms h f = goes_accepts k Stage.Sent ms (goes_front (asks_data k) (fits k) Stage.Sent (marks_of ms) h.more

@@ -9,7 +9,7 @@ use Rattle.protocol_model.specs.declared.held.Datum.{Datum}
 use Rattle.protocol_model.specs.declared.held.Stage.{Stage}
 use Rattle.protocol_model.specs.declared.held.OpenCommand.{OpenCommand}
 
--- a reply with its place: what is held then, and the effect
+-- an expected reply: what is held then, and the effect
 abbrev pub two : List OpenCommand → Effect → Heard
 two hs e = Ok (hs, e)
 
@@ -25,7 +25,7 @@ effect_in (Err c) d = d
 pub same_two : (hs gs : List OpenCommand) (e f : Effect) → two hs e ≡ two gs f → (hs ≡ gs) × (e ≡ f)
 same_two hs gs e f h = (ap (λ (r : Heard). hs_in r gs) h, ap (λ (r : Heard). effect_in r f) h)
 
--- a mark at the first command, and behind it
+-- a mark at the first command, and after it
 pub heard_at : (front : Bool) (h : OpenCommand) (hs : List OpenCommand) (t : Tag) (m : Mark) → tag_is h.tag t ≡ true
     → heard_in front (h ∷ hs) t m ≡ settled h hs (judged front h.kind h.stage m)
 heard_at front h hs t m e = if_true {A = Heard} (tag_is h.tag t) _ _ e
@@ -79,7 +79,7 @@ heard_cases front h hs t m gs e P is becomes breaks closes counts past =
 
 -- ---- with one command more at the end
 
--- a reply that has its place has it beside one command more
+-- an expected reply is also expected with one more command
 pub heard_more : (front : Bool) (hs : List OpenCommand) (x : OpenCommand) (t : Tag) (m : Mark) (gs : List OpenCommand) (e : Effect)
     → heard_in front hs t m ≡ two gs e → heard_in front (hs ++ x ∷ []) t m ≡ two (gs ++ x ∷ []) e
 heard_more front [] x t m gs e is = absurd (cc)
@@ -92,9 +92,9 @@ heard_more front (h ∷ hs) x t m gs e is =
     (λ rest other later g. heard_past front h (hs ++ x ∷ []) t m other
     ∙ (ap (put_before h) (heard_more (front && is_failed h.stage) hs x t m rest e later) ∙ rw g refl))
 
--- ---- the tags that are held become no more
+-- ---- the number of held tags does not grow
 
--- a tag that is not held is not held behind a reply
+-- a tag that is not held is not held after a reply
 pub not_held_keeps : (u : Tag) (front : Bool) (hs : List OpenCommand) (t : Tag) (m : Mark) (gs : List OpenCommand) (e : Effect)
     → heard_in front hs t m ≡ two gs e → is_held u hs ≡ false → is_held u gs ≡ false
 not_held_keeps u front [] t m gs e is free = absurd (cc)
@@ -115,7 +115,7 @@ abbrev pub AreDistinct : List OpenCommand → Type 0
 AreDistinct [] = Unit {0}
 AreDistinct (h ∷ hs) = (is_held h.tag hs ≡ false) × AreDistinct hs
 
--- tags that differ differ behind a reply
+-- tags that differ differ after a reply
 pub distinct_keeps : (front : Bool) (hs : List OpenCommand) (t : Tag) (m : Mark) (gs : List OpenCommand) (e : Effect)
     → heard_in front hs t m ≡ two gs e
     → AreDistinct hs → AreDistinct gs

@@ -89,7 +89,7 @@ front_moved (h ∷ hs) t m gs e calm filled is =
 
 -- ---- a client's open commands and its tally follow a plan
 
--- where nothing has failed: none of the open commands has, their tags are those of their places, with the unsent ones they are what is to
+-- if nothing has failed: none of the open commands has, their tags are those of their places, with the unsent ones they are what is to
 -- be counted, with the counted ones they are as many as were sent, and the question whether the machine is homed is counted or not
 pub record IsCalm (told : Bool) (sent finished : List Planned) (hs : List OpenCommand) (y : Tally) : Type 0 where
   pub calm : AreCalm hs
@@ -129,7 +129,7 @@ kinds_long : (ps : List Planned) → length (kinds_of ps) ≡ length ps
 kinds_long [] = refl
 kinds_long (p ∷ ps) = ap suc (kinds_long ps)
 
--- what is left behind the first command that is counted: whether the machine is told to be homed, and where the question stands then
+-- what is left after the first command that is counted: whether the machine is reported to be homed, and the state of the question then
 record IsCounted (told : Bool) (h : OpenCommand) (gs : List OpenCommand) (given : Option Datum) (p : Planned) (todo unsent : List Planned)
     (acts : List Act) : Type 0 where
   told_so : tells_homed h.kind given ≡ true → told ≡ true
@@ -139,7 +139,7 @@ record IsCounted (told : Bool) (h : OpenCommand) (gs : List OpenCommand) (given 
   phase : (z : Tally) → z.todo ≡ passed_over (tells_homed h.kind given) todo → z.unsent ≡ passed_over (tells_homed h.kind given) unsent
       → z.counted ≡ acts ++ act_of p.does given → IsBefore gs z ⊎ IsBehind told z
 
--- a command that tells nothing: what is left is what was
+-- a command that says nothing: what is left is what was
 nothing_told : (told : Bool) (h : OpenCommand) (gs : List OpenCommand) (given : Option Datum) (p : Planned) (todo unsent : List Planned)
     (acts : List Act)
     → asks_homed h.kind ≡ false → (told ≡ true → is_homing p.command ≡ false) → kinds_held gs ++ kinds_of unsent ≡ kinds_of todo
@@ -269,7 +269,7 @@ counted_before told h gs given p todo unsent acts [] ask home rest question q_qu
     go (Unasked later are e) = absurd (too_long gs gs later rest ask home h.kind
         (ap (λ (l : List Planned). h.kind ∷ (kinds_held gs ++ kinds_of l)) (sym e) ∙ (kinds ∙ ap kinds_of is)))
 
--- and where it is
+-- and if it is
 counted_behind : (told : Bool) (h : OpenCommand) (gs : List OpenCommand) (given : Option Datum) (p : Planned) (todo unsent : List Planned)
     (acts : List Act) → HasNoQuestion (p ∷ todo) → (told ≡ true → HasNoHoming (p ∷ todo)) → (told ≡ true → HasNoHoming unsent)
     → kinds_held (h ∷ gs) ++ kinds_of unsent ≡ kinds_of (p ∷ todo) → IsCounted told h gs given p todo unsent acts
@@ -443,7 +443,7 @@ standard_follows ws told steps sent hs gs y t m e asked f false calm is tells =
 abbrev pub Follows : Bool → List Planned → List Planned → Table → Type 0
 Follows told steps sent b = IsFollowing told steps sent b.standard b.tally
 
--- behind a reply what is counted still follows the plan, where the first act that is counted tells what is told
+-- after a reply what is counted still follows the plan, where the first act that is counted says what is reported
 pub heard_follows : (ws : List Wanted) (told : Bool) (steps sent : List Planned) → AreAsked (followed told steps) → (b : Table) (t : Tag)
     (m : Mark) (c : Table)
     → heard ws b t m ≡ fine c → FirstTells told c.tally.counted → Follows told steps sent b → Follows told steps sent c
@@ -455,7 +455,7 @@ heard_follows ws told steps sent asked b t m c is tells f =
     (subst (λ (x : Table). FirstTells told x.tally.counted) after tells)))
     (λ n hs e tag other here after. subst (Follows told steps sent) (sym after) f)
 
--- so it does behind replies, one after another
+-- so it does after replies, one after another
 pub reads_follow : (ws : List Wanted) (told : Bool) (steps sent : List Planned) → AreAsked (followed told steps) → (rs : List Reply)
     (b c : Table) → Reads ws b rs c → FirstTells told c.tally.counted → Follows told steps sent b → Follows told steps sent c
 reads_follow ws told steps sent asked [] b c reads tells f = subst (Follows told steps sent) reads f

@@ -66,33 +66,33 @@ pub fits_asked : (ps : List Planned) (k : Know) → Fits k ps → AreAsked ps
 fits_asked [] k h = tt
 fits_asked (p ∷ ps) k h = (one_asked k p.command p.does h.0, fits_asked ps (known_by k p.command) h.1)
 
--- so does each that stands in such a plan
+-- so does each that is in such a plan
 pub asked_at : (xs : List Planned) (p : Planned) (ys : List Planned) → AreAsked (xs ++ p ∷ ys) → IsAsked p
 asked_at [] p ys h = h.0
 asked_at (x ∷ xs) p ys h = asked_at xs p ys h.1
 
 -- ---- acts for what is planned
 
--- acts that stand for commands, one list behind another
+-- acts that commands mean, one list after another
 pub acts_join : (xs ys : List Act) (ds es : List Does) → AreActs xs ds → AreActs ys es → AreActs (xs ++ ys) (ds ++ es)
 acts_join [] ys [] es h g = g
 acts_join [] ys (d ∷ ds) es h g = absurd h
 acts_join (a ∷ xs) ys [] es h g = absurd h
 acts_join (a ∷ xs) ys (d ∷ ds) es h g = (h.0, acts_join xs ys ds es h.1 g)
 
--- acts that stand for the front of commands
+-- acts that the prefix of commands means
 pub first_acts : (xs : List Act) (ds es : List Does) → AreActs xs ds → AreFirstActs xs (ds ++ es)
 first_acts [] ds es h = tt
 first_acts (a ∷ xs) [] es h = absurd h
 first_acts (a ∷ xs) (d ∷ ds) es h = (h.0, first_acts xs ds es h.1)
 
--- what two plans stand for, one behind the other
+-- what two plans mean, one after the other
 pub planned_more : (ps qs : List Planned) → acts_planned (ps ++ qs) ≡ acts_planned ps ++ acts_planned qs
 planned_more [] qs = refl
 planned_more (p ∷ ps) qs = ap (λ (l : List Does). act_in p.does ++ l) (planned_more ps qs)
     ∙ sym (append_assoc (act_in p.does) (acts_planned ps) (acts_planned qs))
 
--- what is counted stands for what was planned; a touch is counted with its point, an IsHomed with its answer
+-- what is counted means what was planned; a touch is counted with its point, an IsHomed with its answer
 pub act_stands : (d : Does) (given : Option Datum) → HasDatum d given → AreActs (act_of d given) (act_in d)
 act_stands Does.Nothing given h = tt
 act_stands Does.AsksHomed None h = absurd h
@@ -108,7 +108,7 @@ act_stands (Does.Touches t last) (Some (datum.Point p)) h = ((refl, refl, refl, 
 
 -- ---- data that fit
 
--- a command of this kind is counted with such data: those that it asks for, or none where it asks for none
+-- a command of this kind is counted with such data: those that it asks for, or none if it asks for none
 abbrev pub IsGiven : Kind → Option Datum → Type 0
 IsGiven k None = asks_data k ≡ false
 IsGiven k (Some d) = fits k d ≡ true
@@ -170,7 +170,7 @@ data_calm true (Stage.Given q) p s e = absurd (cc)
 data_calm true Stage.Failed p s e = absurd (cc)
 data_calm false stage p s e = absurd (cc)
 
--- where a command that has not failed goes to another stage, it still has not
+-- if a command that has not failed goes to another stage, it still has not
 pub becomes_calm : (front : Bool) (kind : Kind) (stage : Stage) (m : Mark) (s : Stage) → is_failed stage ≡ false
     → judged front kind stage m ≡ Becomes s → is_failed s ≡ false
 becomes_calm front kind stage (Mark.Given p) s calm e = data_calm (front && fits kind p) stage p s e
@@ -231,7 +231,7 @@ no_closes front kind stage Mark.Done calm e = go front (asks_data kind) stage ca
     go false a Stage.Received calm e = cc
     go false a (Stage.Given q) calm e = cc
 
--- behind the front nothing is counted
+-- after the front nothing is counted
 data_counts : (b : Bool) (stage : Stage) (p : Datum) (given : Option Datum) → judged_given b stage p ≡ Counts given → ⊥
 data_counts true Stage.Sent p given e = cc
 data_counts true Stage.Received p given e = cc
@@ -239,7 +239,7 @@ data_counts true (Stage.Given q) p given e = cc
 data_counts true Stage.Failed p given e = cc
 data_counts false stage p given e = cc
 
--- behind the front no command is counted
+-- after the front no command is counted
 pub no_counts : (kind : Kind) (stage : Stage) (m : Mark) (given : Option Datum) → judged false kind stage m ≡ Counts given → ⊥
 no_counts kind stage (Mark.Given p) given e = data_counts false stage p given e
 no_counts kind Stage.Sent Mark.Ack given e = cc

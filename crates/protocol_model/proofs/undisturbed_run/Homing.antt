@@ -1,4 +1,4 @@
--- Plans as they are followed on a machine that is homed or not, and where the question whether it is stands in them.
+-- Plans as they are followed on a machine that is homed or not, and where the question whether it is is in them.
 use Rattle.std.proofs.Common.{◌≡◌, ℕ, Bool, true, false, ◌&&◌, not, List, [], ◌∷◌, ◌++◌, refl, sym, ◌∙◌, ap, subst, Option, Some, None}
 use Rattle.std.proofs.lemmas.Bool.{false≢true}
 use Rattle.fixed_um.specs.Points.{point_opposite}
@@ -38,9 +38,9 @@ use Rattle.protocol_model.specs.declared.held.OpenCommand.{OpenCommand}
 use Rattle.protocol_model.specs.declared.plans.Does.{Does}
 use Rattle.protocol_model.specs.declared.plans.Planned.{Planned}
 
--- ---- what is told
+-- ---- what is reported
 
--- the first act, where it tells whether the machine is homed, tells this
+-- if the first act says whether the machine is homed, it says this
 abbrev pub FirstTells : Bool → List Act → Type 0
 FirstTells homed [] = Unit {0}
 FirstTells homed (act.HomedIs told ∷ acts) = told ≡ homed
@@ -94,7 +94,7 @@ without_passed (p ∷ ps) = go (is_homing p.command) refl
         ∙ sym (if_true {A = List Planned} (is_homing p.command) (without_homings ps) (p ∷ without_homings ps) e)
     go false e = ap without_homings (if_false {A = List Planned} (is_homing p.command) ps (p ∷ ps) e)
 
--- what is passed over because of what is told is not in it
+-- what is skipped because of what is reported is not in it
 pub followed_passed : (told t : Bool) (ps : List Planned) → (t ≡ true → told ≡ true) → followed told (passed_over t ps) ≡ followed told ps
 followed_passed told false ps h = refl
 followed_passed told true ps h = ap (λ (b : Bool). followed b (without_homing ps)) (h refl)
@@ -102,7 +102,7 @@ followed_passed told true ps h = ap (λ (b : Bool). followed b (without_homing p
 
 -- ---- the question
 
--- what a plan has before the question: commands that stand for nothing, and neither ask nor home
+-- what a plan has before the question: commands that mean no act, and neither ask nor home
 pub record IsQuiet (p : Planned) : Type 0 where
   pub nothing : p.does ≡ Does.Nothing
   pub asks : asks_homed (kind_of p.command) ≡ false
@@ -112,7 +112,7 @@ abbrev pub AreQuiet : List Planned → Type 0
 AreQuiet [] = Unit {0}
 AreQuiet (p ∷ ps) = IsQuiet p × AreQuiet ps
 
--- the question, the homing behind it, and what is left then
+-- the question, the homing after it, and what is left then
 pub record IsQuestion (ask home : Planned) (rest : List Planned) : Type 0 where
   pub asks : ask.command ≡ command.IsHomed
   pub does : ask.does ≡ Does.AsksHomed
@@ -126,7 +126,7 @@ pub data IsLeft (hs : List OpenCommand) (quiet : List Planned) (ask home : Plann
   Asked : unsent ≡ home ∷ rest → kinds_held hs ≡ kinds_of quiet ++ kind.IsHomed ∷ [] → IsLeft hs quiet ask home rest unsent
   Unasked : (later : List Planned) → AreQuiet later → unsent ≡ later ++ ask ∷ home ∷ rest → IsLeft hs quiet ask home rest unsent
 
--- the question is not counted, and so nothing that stands for an act
+-- the question is not counted, and so nothing that means an act
 pub record IsBefore (hs : List OpenCommand) (y : Tally) : Type 0 where
   pub quiet : List Planned
   pub are_quiet : AreQuiet quiet
@@ -138,7 +138,7 @@ pub record IsBefore (hs : List OpenCommand) (y : Tally) : Type 0 where
   pub counted : y.counted ≡ []
   pub left : IsLeft hs quiet ask home rest y.unsent
 
--- it is counted: nothing asks again, and where the machine was told to be homed, nothing homes it
+-- it is counted: nothing asks again, and if the machine was reported to be homed, nothing homes it
 pub record IsBehind (told : Bool) (y : Tally) : Type 0 where
   pub no_question : HasNoQuestion y.todo
   pub todo : told ≡ true → HasNoHoming y.todo
@@ -150,14 +150,14 @@ answer_of None h = absurd (false≢true (sym h))
 answer_of (Some (datum.Point p)) h = absurd (false≢true h)
 answer_of (Some (datum.Homed homed)) h = (homed, refl)
 
--- what it tells
+-- what it says
 pub tells_is : (homed : Bool) → tells_homed kind.IsHomed (Some (datum.Homed homed)) ≡ homed
 tells_is true = refl
 tells_is false = refl
 
 -- ---- commands that measure neither ask nor home
 
--- such are no commands that measure, and not the end of the session
+-- such commands do not measure, and are not the end of the session
 record IsOther (such : Command → Bool) : Type 0 where
   goes : (p : Point) → such (command.GoTo p) ≡ false
   touches : (p : Point) (d : Option Direction) → such (command.PtMeas p d) ≡ false

@@ -1,4 +1,4 @@
--- Where few commands are open, each next one goes out under the tag of its place in the plan.
+-- If few commands are open, each next one is sent under the tag of its place in the plan.
 use Rattle.std.proofs.Common.{◌≡◌, ℕ, zero, suc, ◌+◌, ◌-◌, ◌<◌, ◌≤◌, ◌%◌, ◌⊎◌, inl, inr, Bool, true, false, List, [], ◌∷◌, ◌++◌, length}
 use Rattle.std.proofs.Common.{refl, sym, ◌∙◌, ap, subst, arith, Option, Some, None, eqb, ne_eqb}
 use Rattle.std.proofs.lemmas.Bool.{eqb-true, eqb-false}
@@ -18,7 +18,7 @@ use Rattle.protocol_model.specs.declared.plans.Planned.{Planned}
 abbrev pub number_at : ℕ → ℕ
 number_at place = place % 9999 + 1
 
--- the number that was drawn last, behind so many commands
+-- the number that was drawn last, after that many commands
 abbrev pub drawn_at : ℕ → ℕ
 drawn_at zero = 0
 drawn_at (suc place) = number_at place
@@ -26,7 +26,7 @@ drawn_at (suc place) = number_at place
 far_apart : (i j : ℕ) → i < j → j ≤ i + 16 → number_at i ≡ number_at j → ⊥
 far_apart i j lt le e = omega (arith, e)
 
--- the tag of the next place is none of the few before it
+-- the tag of the next place is not one of the few before it
 pub next_is_free : (hs : List OpenCommand) (i j : ℕ) → HaveTags i hs → i + length hs ≡ j → length hs ≤ 16 → is_held (tag_at j) hs ≡ false
 next_is_free [] i j h e few = refl
 next_is_free (x ∷ hs) i j h e few =
@@ -37,7 +37,7 @@ next_is_free (x ∷ hs) i j h e few =
 first_is : (hs : List OpenCommand) (n left : ℕ) → is_held (Std n) hs ≡ false → first_free Std hs n (suc left) ≡ Some n
 first_is hs n left e = ap (λ (b : Bool). elim b as (λ x. Option ℕ) [ true ↦ first_free Std hs (suc n) left | false ↦ Some n ]) e
 
--- the number behind the one that was drawn last, where it is free
+-- the number after the one that was drawn last, if it is free
 next_by : (hs : List OpenCommand) (d m : ℕ) → is_held (Std m) hs ≡ false → ((d < 9999) × (m ≡ suc d)) ⊎ ((d ≡ 9999) × (m ≡ 1))
     → next_number Std hs d ≡ Some m
 next_by hs d m free (inl h) =
@@ -95,6 +95,6 @@ lines_more place [] qs = ap (λ (k : ℕ). lines_from k qs) (omega arith)
 lines_more place (p ∷ ps) qs = ap (λ (l : List Line). record { tag = tag_at place; command = p.command } ∷ l) (lines_more (suc place) ps qs
     ∙ ap (λ (k : ℕ). lines_from (suc place) ps ++ lines_from k qs) (omega arith))
 
--- the lines of two plans, one behind the other
+-- the lines of two plans, one after the other
 pub lines_start : (ps qs : List Planned) → lines_from 0 (ps ++ qs) ≡ lines_from 0 ps ++ lines_from (length ps) qs
 lines_start ps qs = lines_more 0 ps qs ∙ ap (λ (k : ℕ). lines_from 0 ps ++ lines_from k qs) (omega arith)

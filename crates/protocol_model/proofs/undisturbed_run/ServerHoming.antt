@@ -1,4 +1,4 @@
--- What a server tells of its homing: the homing at that moment, and while no act is done, what it was.
+-- The homing that a server answers: the homing at that moment, and while no act is done, what it was.
 use Rattle.std.proofs.Common.{◌≡◌, ℕ, Bool, true, false, cond, not, ◌&&◌, ◌||◌, List, [], ◌∷◌, ◌++◌, length, refl, sym, ◌∙◌}
 use Rattle.std.proofs.Common.{append-nil, nat_le, Option, Some, None, Result, Ok, Err}
 use Rattle.std.proofs.lemmas.Bool.{false≢true}
@@ -23,7 +23,7 @@ use Rattle.protocol_model.specs.declared.lines.Misread.TheVariants as misread
 use Rattle.protocol_model.specs.declared.lines.Waiting.{Waiting}
 use Rattle.protocol_model.specs.declared.machine.Outcome.{Outcome}
 
--- a call of a server does these acts; where it was homed so, its first answer tells that, and if it does no act, it still is
+-- a call of a server does these acts; where it was homed so, its first answer says that, and if it does no act, it still is
 pub record Tells (told : Bool) (s t : Server) : Type 0 where
   pub acts : List Act
   pub moves : Moves s t acts
@@ -39,7 +39,7 @@ keeps told s t on last ledger homed = record {
   still = λ none e. homed ∙ e;
 }
 
--- one act, which tells nothing of the homing but what it is
+-- one act, which says nothing of the homing but what it is
 does_one : (told : Bool) (s t : Server) (a : Act) → t.on ≡ s.on → t.last ≡ s.last → t.ledger ≡ s.ledger ++ (s.last, a) ∷ []
     → (s.homed ≡ told → FirstTells told (a ∷ [])) → Tells told s t
 does_one told s t a on last ledger tells = record {
@@ -79,7 +79,7 @@ read_same s (Err (fault.BadArguments t k)) = tagged_same s t (Err (misread.BadAr
 
 -- ---- a turn
 
--- where the server was homed, what is next does not home it
+-- if the server was homed, what is next does not home it
 abbrev pub HomesNot : Bool → List Waiting → Type 0
 HomesNot told [] = Unit {0}
 HomesNot told (w ∷ ws) = (c : Command) → w.reading ≡ Ok c → told ≡ true → is_homing c ≡ false
@@ -130,7 +130,7 @@ turned_by : (told : Bool) (s : Server) (ws : List Waiting) → HomesNot told ws 
 turned_by told s [] h = keeps told s _ refl refl refl refl
 turned_by told s (w ∷ ws) h = taken_tells told s w ws (refusal s w.reading) h
 
--- a turn tells the homing at that moment
+-- a turn says the homing at that moment
 pub turned_tells : (told : Bool) (s : Server) → HomesNot told s.waiting → Tells told s (server_turned s).server
 turned_tells told s h = turned_by told s s.waiting h
 
@@ -173,6 +173,6 @@ machined_by told s (Outcome.Touched at) (Some line) = touched_tells told s line.
 machined_by told s Outcome.Missed (Some line) = keeps told s _ refl refl refl refl
 machined_by told s Outcome.Fault (Some line) = keeps told s _ refl refl refl refl
 
--- the end of what runs tells nothing of it
+-- the end of what runs says nothing of it
 pub machined_tells : (told : Bool) (s : Server) (outcome : Outcome) → Tells told s (server_machined s outcome).server
 machined_tells told s outcome = machined_by told s outcome s.running

@@ -52,7 +52,7 @@ use Rattle.protocol_model.specs.declared.plans.Planned.{Planned}
 use Rattle.protocol_model.specs.declared.plans.Start.{Start}
 
 -- on the connection of this number it has sent these first commands of the plan as it is followed, under the tags of their places; where it
--- was told that the machine is homed, it has sent none that homes it
+-- was answered that the machine is homed, it has sent no command that homes it
 pub record IsOnPlan (n : ℕ) (told : Bool) (steps : List Planned) (c : Client) (written : List ℕ) : Type 0 where
   pub on : c.on ≡ true
   pub away : is_apart c.state ≡ false
@@ -63,7 +63,7 @@ pub record IsOnPlan (n : ℕ) (told : Bool) (steps : List Planned) (c : Client) 
   pub drawn : c.drawn ≡ drawn_at (length sent)
   pub written_is : written ≡ command_bytes (lines_from 0 sent)
 
--- the first act that a client has counted tells what is told
+-- the first act that a client has counted says what is reported
 abbrev pub HasTold : Bool → Client → Type 0
 HasTold told c = FirstTells told c.table.tally.counted
 
@@ -201,7 +201,7 @@ line_on : (n : ℕ) (told : Bool) (steps : List Planned) (c : Client) (written :
 line_on n told steps c written (Ok r) asked h tells = response_on n told steps c written r.tag r.mark asked h tells
 line_on n told steps c written (Err refused) asked h tells = stays_faulted n told steps c written Cause.NotResponse h
 
--- behind what is read a client is still on its plan, where the first act that it has counted tells what is told
+-- after what is read a client is still on its plan, where the first act that it has counted says what is reported
 pub front_on : (n : ℕ) (told : Bool) (steps : List Planned) (c : Client) (written : List ℕ) (f : Front)
     → AreAsked (followed told steps) → IsOnPlan n told steps c written → HasTold told (front_read c f)
     → IsOnPlan n told steps (front_read c f) written
@@ -285,7 +285,7 @@ filled_more : (hs : List OpenCommand) (x : OpenCommand) → AreFilled hs → IsF
 filled_more [] x h e = (e, tt)
 filled_more (y ∷ hs) x h e = (h.0, filled_more hs x h.1 e)
 
--- where the question is the last that is open, it is open
+-- if the question is the last that is open, it is open
 is_asked : (hs : List OpenCommand) (ks : List Kind) → AreCalm hs → kinds_held hs ≡ ks ++ kind.IsHomed ∷ [] → is_asking hs ≡ true
 is_asked [] [] calm e = absurd (cc)
 is_asked [] (k ∷ ks) calm e = absurd (cc)
@@ -308,7 +308,7 @@ is_asked (h ∷ hs) (k ∷ ks) calm e = or_true (asks_homed h.kind && not (is_fa
     or_true true b e = refl
     or_true false b e = e
 
--- what the phase says of the command that is sent: it does not home where the machine is told to be homed, and the phase behind it
+-- what the phase gives for the command that is sent: it does not home where the machine is reported to be homed, and the phase after it
 record IsSent (told : Bool) (hs : List OpenCommand) (y : Tally) (x : OpenCommand) (p : Planned) (others : List Planned) : Type 0 where
   no_homing : told ≡ true → is_homing p.command ≡ false
   phase : IsBefore (hs ++ x ∷ []) (record y { unsent = others }) ⊎ IsBehind told (record y { unsent = others })

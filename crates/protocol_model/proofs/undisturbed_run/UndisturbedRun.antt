@@ -95,8 +95,8 @@ record IsAtStart (n : ℕ) (told : Bool) (p : Meaning) (base : List (ℕ × Act)
   pub none : acts_on n base ≡ []
   pub homed : b.server.server.homed ≡ told
 
--- it is: the client follows its plan there, and the server has done further acts there; as long as there are none it is homed as it was,
--- and the first of them tells that
+-- it is: the client follows its plan there, and the server has done further acts there; until there are any it is homed as it was,
+-- and the first of them says that
 record IsUnderWay (n : ℕ) (told : Bool) (p : Meaning) (base : List (ℕ × Act)) (b : World) : Type 0 where
   pub client : IsOnPlan n told (steps_for p) b.client.client b.written
   pub serving : b.server.server.on ≡ true → b.server.server.last ≡ n
@@ -174,7 +174,7 @@ machine_on : (b : World) (outcome : Outcome) → IsCarried b → can (Machine ou
 machine_on b outcome h may = on_by (lined b h.up h.down) h.inv b.server.server.on refl
     (λ r e. let no_end : may_end None outcome ≡ true = subst (λ (o : Option Line). may_end o outcome ≡ true) r may in false≢true no_end)
 
--- where the machine was homed, what waits does not home it: the client has sent no command that does
+-- if the machine was homed, what waits does not home it: the client has sent no command that does
 not_below : (a b : ℕ) → a < b → a ≡ b → ⊥
 not_below a b lt e = omega (arith, lt, e)
 
@@ -255,7 +255,7 @@ acts_are_own : (n : ℕ) (told : Bool) (p : Meaning) (base : List (ℕ × Act)) 
 acts_are_own n told p base b h = ap (acts_on n) h.ledger ∙ (acts_more n base h.own
     ∙ (ap (λ (l : List Act). l ++ acts_on n h.own) h.none ∙ all_on n h.own h.own_on))
 
--- what a client has counted behind what it reads is the front of what the server did
+-- what a client has counted after what it reads is the prefix of what the server did
 has_told : (n : ℕ) (told : Bool) (p : Meaning) (base : List (ℕ × Act)) (b : World)
     → IsCarried b → can ClientReads b ≡ true → IsUnderWay n told p base b
     → HasTold told (front_read b.client.client (next_of b.client.input.rest))
@@ -516,7 +516,7 @@ undisturbed_lines p rack window es program le quiet =
     first_lines 1 false p [] (run_of es (start p rack window))
     (from_start p rack window es program le quiet).planned
 
--- the acts of the server are the first that the plan stands for
+-- the acts of the server are the first that the plan means
 pub undisturbed_acts : (p : Meaning) (rack : List (List ℕ)) (window : ℕ) (es : List Event)
     → IsProgram p → window ≤ 16 → AreUndisturbed es
     → AreFirstActs (acts_in (run_of es (start p rack window)).server.server.ledger) (acts_planned (plan p 0 Start.NewConnection))
@@ -524,7 +524,7 @@ undisturbed_acts p rack window es program le quiet =
     let h : IsRunning 1 false p [] (run_of es (start p rack window)) = from_start p rack window es program le quiet in
     done_acts p (run_of es (start p rack window)) (steps_asked p program) h.carried h.planned
 
--- what is counted is the front of these acts
+-- what is counted is the prefix of these acts
 pub undisturbed_counts : (p : Meaning) (rack : List (List ℕ)) (window : ℕ) (es : List Event)
     → IsProgram p → window ≤ 16 → AreUndisturbed es
     → AreFirstOf (run_of es (start p rack window)).client.client.table.tally.counted

@@ -148,7 +148,7 @@ serving_is e line rest l next text w =
     ap (front_served e) next ∙ ap (λ (r : Result _ _). with_answer e (record { rest = rest; fault = e.input.fault })
     (server_read e.server (reading_of r))) read
 
--- a server on a connection reads the line at the front of its bytes, and what both ends carry is kept
+-- a server on a connection reads the line at the start of its bytes, and what both ends carry is kept
 pub reads_carried : (b : World) (h : IsCarried b) → b.server.server.on ≡ true
     → is_line (next_of b.server.input.rest) ≡ true → IsCarried (server_writes b (serving_read b.server))
 reads_carried b h on due = go (next_of b.server.input.rest) refl due
@@ -197,7 +197,7 @@ reads_carried b h on due = go (next_of b.server.input.rest) refl due
     go (Ok (Some (line, rest))) e is = at_it line rest e (eqb b.server.server.last b.client.client.last) refl
     go (Err why) e is = absurd (false≢true is)
 
--- on its client's connection the first line up is gone behind that, and the answer to it has joined the replies down
+-- on its client's connection the first line up is gone after that, and the answer to it has joined the replies down
 pub record ReadsFirst (b : World) (h : IsCarried b) (v : World) : Type 0 where
   pub first : Line
   pub others : List Line
@@ -260,7 +260,7 @@ busy_on : (b : World) (h : IsCarried b) (t : Bool) → b.server.server.on ≡ t
 busy_on b h true e busy = e
 busy_on b h false e busy = let idle : IsIdle b.server.server = h.inv.idle e in absurd (busy idle.running idle.waiting)
 
--- the first command that waits has its turn, where none runs, and what both ends carry is kept
+-- the first command that waits is processed if none runs, and what both ends carry is kept
 abbrev pub turn_carried : (b : World) (h : IsCarried b) → b.server.server.on ≡ true
     → (is_none b.server.server.running && not (Rattle.protocol_model.specs.Plan.is_empty b.server.server.waiting)) ≡ true
     → IsCarried (server_writes b (serving_turned b.server))

@@ -280,7 +280,7 @@ read_stays c t m = go (tag_is t (Event 0))
     go true = record { on = refl; last = refl }
     go false = hears_stays c t m (heard_on c.program.features c.table t m)
 
--- the first reply on its way has its place
+-- the first reply on its way is expected
 first_has_place : (b : World) (h : IsCarried b) (r : Reply) (others : List Reply) → b.client.client.on ≡ true → h.down ≡ r ∷ others
     → HasPlace b.client.client (tag_of r) (mark_of r)
 first_has_place b h r others on down_is faulty =
@@ -333,7 +333,7 @@ heard_carried b h r others rest on down_is behind =
           others) (sym stays.last) wired);
     }
 
--- a client reads what stands at the front of its bytes, which is a reply and no fault, and what both ends carry is kept
+-- a client reads what is at the start of its bytes, which is a reply and no fault, and what both ends carry is kept
 pub hears_carried : (b : World) (h : IsCarried b) → b.client.client.on ≡ true
     → is_any (next_of b.client.input.rest) ≡ true → IsCarried (record b { client = end_read b.client })
 hears_carried b h on due_now = go (next_of b.client.input.rest) refl due_now
@@ -371,7 +371,7 @@ hears_carried b h on due_now = go (next_of b.client.input.rest) refl due_now
     go (Ok (Some (line, rest))) e is = line_case line rest e
     go (Err why) e is = absurd (no_reply_fault h.down b.client.input.rest (client_link b).down why h.wired.replies bytes e)
 
--- the first reply down is gone behind that, and the client has heard it
+-- the first reply down is gone after that, and the client has heard it
 pub record HearsFirst (b : World) (h : IsCarried b) (v : World) : Type 0 where
   pub first : Reply
   pub others : List Reply

@@ -110,7 +110,7 @@ always_sound p rack window es program le =
     (served_sound b.client.client.program.features b.client.client.table.tally.features b.server.server.ledger
     (served_now (lined b h.up h.down) h.inv))
 
--- what the client has counted is then the front of what the server did on the connection that the client made last
+-- what the client has counted is then the prefix of what the server did on the connection that the client made last
 pub always_told : (p : Meaning) (rack : List (List ℕ)) (window : ℕ) (es : List Event)
     → IsProgram p → window ≤ 16
     → Told (run_of es (start p rack window)).client.client.table.tally.counted

@@ -196,7 +196,7 @@ up_stays links m k l from to also same = go (eqb k m) refl
         ∙ (ap (λ (x : Link). x.up) (link_same links m l from to) ∙ (same ∙ ap (λ (i : ℕ). (link_of links i).up) (sym equal)))
     go false other = ap (λ (x : Link). x.up) (link_other links m k l from also (eqb-false k m other))
 
--- bytes of the server join those down: they add replies where it is on the client's last connection, and none elsewhere
+-- bytes of the server join those down: they add replies if it is on the client's last connection, and nothing elsewhere
 pub wired_answers : (links : List Link) (n : ℕ) (client_on : Bool) (heard : List ℕ) (m : ℕ) (read : List ℕ) (up : List Line)
     (down now : List Reply) (more : List ℕ)
     → IsWired links n client_on heard m true read up down → AreReplies now

@@ -1,4 +1,4 @@
--- What the claim allows and refuses beside ledgers that are written out.
+-- What the claim allows and refuses next to ledgers that are written out.
 use Rattle.std.proofs.Common.{◌≡◌, ℕ, zero, suc, pos, unsigned_abs, ◌+◌, Bool, true, false, List, [], ◌∷◌, codes, take, drop, refl, sym}
 use Rattle.std.proofs.Common.{◌∙◌, ap, arith, Option, Some, None}
 use Rattle.std.specs.Prelude.{bytes_eq}
@@ -69,7 +69,7 @@ both_are = record {
 
 -- ---- one run of two contacts
 
--- a feature of two points beside two contacts has both, one after another, on one connection
+-- a feature of two points next to two contacts has both, one after another, on one connection
 record HasBoth (touches : List Touch) (points : List Point) (one two : MadeContact) : Type 0 where
   pub connection : ℕ
   pub serves : Serves connection touches points (one ∷ two ∷ [])
@@ -274,7 +274,7 @@ first_connection_is = record { more = []; whole = refl }
 pub second_connection_is : Told (act.Homed ∷ act.Framed frame.Machine ∷ []) two_connections 2
 second_connection_is = record { more = []; whole = refl }
 
--- the front of what was done
+-- the prefix of what was done
 pub front_is : Told (act.Homed ∷ []) two_connections 1
 front_is = record { more = act.Changed tool ∷ []; whole = refl }
 
@@ -350,6 +350,6 @@ asked_again_is = record { more = []; whole = refl }
 pub other_answer_is_none : Told (act.HomedIs false ∷ []) asked_twice 2 → ⊥
 other_answer_is_none h = let e : ◌≡◌ {A = ℕ} 6 7 = ap first_sort h.whole in absurd (omega arith)
 
--- a homing that was passed over
+-- a homing that was skipped
 pub passed_over_is_none : Told (act.HomedIs true ∷ act.Homed ∷ []) asked_twice 2 → ⊥
 passed_over_is_none h = let e : ◌≡◌ {A = ℕ} 1 4 = ap next_sort h.whole in absurd (omega arith)

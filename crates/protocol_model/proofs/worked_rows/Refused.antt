@@ -5,12 +5,12 @@ use Rattle.dmis_program.specs.declared.features.Touch.{Touch}
 use Rattle.protocol_model.specs.Claims.{MadeContact, Serves, AreRuns}
 use Rattle.protocol_model.specs.Examples.{made, alike, alike_wanted, alike_features, twice_wanted, twice_features, at}
 
--- one contact has none behind it
+-- one contact has none after it
 none_behind : (n k : ℕ) (t : Touch) (p : Point) (m : MadeContact) → Serves n (t ∷ []) (p ∷ []) (take 1 (drop (suc k) (m ∷ []))) → ⊥
 none_behind n zero t p m h = h
 none_behind n (suc k) t p m h = h
 
--- nor does a run that begins behind it have any
+-- nor does a run that begins after it have any
 second_start : (s n t : ℕ) → s + 1 ≤ t → Serves n (alike ∷ []) (at (pos 10002) (pos 0) (pos 0) ∷ []) (take 1 (drop t (made 10002 ∷ []))) → ⊥
 second_start s n zero l h = absurd (omega arith)
 second_start s n (suc k) l h = none_behind n k alike (at (pos 10002) (pos 0) (pos 0)) (made 10002) h

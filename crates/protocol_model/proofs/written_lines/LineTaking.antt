@@ -1,4 +1,4 @@
--- A line that stands at the front of bytes is the first of the lines that they carry, and reads as what was written.
+-- A line that is at the start of bytes is the first of the lines that they carry, and reads as what was written.
 use Rattle.std.proofs.Common.{◌≡◌, ℕ, Bool, true, false, cond, not, ◌&&◌, List, [], ◌∷◌, ◌++◌, refl, sym, ◌∙◌, ap, Option, Some, None, Ok}
 use Rattle.std.proofs.Common.{Err}
 use Rattle.dme_line.specs.declared.tags.Tag.{Tag}
@@ -57,7 +57,7 @@ command_by (l ∷ ls) line rest more t = record {
   behind = t.behind ∙ ap (λ (x : List (List ℕ)). Rattle.line_framing.specs.Content.line_bytes x) (sym (ap tail_of t.first));
 }
 
--- such is each line that is found in a front of the bytes of commands that can be written
+-- such is each line that is found in a prefix of the bytes of commands that can be written
 pub next_command : (ls : List Line) (read more line rest : List ℕ) → AreWritable ls → read ++ more ≡ command_bytes ls
     → next_of read ≡ Ok (Some (line, rest)) → NextCommand ls line rest more
 next_command ls read more line rest w e next = command_by ls line rest more
@@ -81,13 +81,13 @@ reply_by (r ∷ rs) line rest more t = record {
   behind = t.behind ∙ ap (λ (x : List (List ℕ)). Rattle.line_framing.specs.Content.line_bytes x) (sym (ap tail_of t.first));
 }
 
--- such is each line that is found in a front of the bytes of replies that can be written
+-- such is each line that is found in a prefix of the bytes of replies that can be written
 pub next_reply : (rs : List Reply) (read more line rest : List ℕ) → AreReplies rs → read ++ more ≡ reply_bytes rs
     → next_of read ≡ Ok (Some (line, rest)) → NextReply rs line rest more
 next_reply rs read more line rest w e next = reply_by rs line rest more
     (takes_first read more (reply_texts rs) line rest (reply_lines rs w) e next)
 
--- in a front of the bytes of replies that can be written no framing fault is found
+-- in a prefix of the bytes of replies that can be written no framing fault is found
 pub no_reply_fault : (rs : List Reply) (read more : List ℕ) (why : FramingFault) → AreReplies rs → read ++ more ≡ reply_bytes rs
     → next_of read ≡ Err why → ⊥
 no_reply_fault rs read more why w e next = no_fault read more (reply_texts rs) why (reply_lines rs w) e next
@@ -137,7 +137,7 @@ out_of_order_on ws c (Event n) k d e misfit = ap (heard_event c.table) (out_of_o
 abbrev pub HasPlace : Client → Tag → Mark → Type 0
 HasPlace c t m = (client_read c t m).state ≡ State.Faulted → ⊥
 
--- data that have their place are heard as they were said, whatever is held under their tag
+-- expected data are heard as they were said, whatever is held under their tag
 pub given_is : (c : Client) (t : Tag) (d : Datum) → IsWritableDatum d
     → HasPlace c t (Mark.Given d) → given c t (written_datum d) ≡ client_read c t (Mark.Given d)
 given_is c t d w place = go (tag_is t (Event 0)) refl (held_under t c) refl
@@ -177,7 +177,7 @@ given_is c t d w place = go (tag_is t (Event 0)) refl (held_under t c) refl
     go false is (Some k) held = if_false {A = Client} _ _ _ is ∙ (ap (given_under c t (written_datum d)) held
         ∙ asked d w place k is held)
 
--- a reply that can be written and has its place is heard as it was said
+-- an expected reply that can be written is heard as it was said
 pub reply_heard : (c : Client) (r : Reply) → IsWritableReply r
     → HasPlace c (tag_of r) (mark_of r) → line_read c (response_of (reply_text r)) ≡ client_read c (tag_of r) (mark_of r)
 reply_heard c r w place = ap (line_read c) (reply_read r w) ∙ go r w place

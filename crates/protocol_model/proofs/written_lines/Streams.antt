@@ -11,7 +11,7 @@ use Rattle.dme_line.proofs.CommandBack.{command_reads_back}
 use Rattle.dme_line.proofs.ResponseBack.{response_reads_back, response-wire}
 use Rattle.protocol_model.specs.Streams.{Sent, Wording, commands, responses, AreWritable, stream_of, IsFirst, HandsFirst}
 
--- what can be written stands on a line, and reads back
+-- what can be written is on a line, and reads back
 pub record IsFaithful {X : Type 0} (wording : Wording X) : Type 0 where
   pub line : (x : X) → wording.May x → IsLine (wording.text x)
   pub back : (x : X) → wording.May x → wording.Reads (wording.text x) x
@@ -59,12 +59,12 @@ module _ {X : Type 0} (wording : Wording X) (are : IsFaithful wording) where
       first_of sent more line left h (takes_first rest more (map wording.text sent) line left (are_lines sent h) e f)
   hands sent rest more (Err fault) h e f = no_fault rest more (map wording.text sent) fault (are_lines sent h) e f
 
--- a buffer that holds a front of such a stream of commands hands out nothing yet, or the first of them
+-- a buffer that holds a prefix of such a stream of commands hands out nothing yet, or the first of them
 pub commands_in_order : (sent : List Sent) (rest more : List ℕ) → AreWritable commands sent → rest ++ more ≡ stream_of commands sent
     → HandsFirst commands sent more (next_of rest)
 commands_in_order sent rest more h e = hands commands commands_are sent rest more (next_of rest) h e refl
 
--- the same of responses
+-- likewise for responses
 pub responses_in_order : (sent : List Response) (rest more : List ℕ) → AreWritable responses sent
     → rest ++ more ≡ stream_of responses sent → HandsFirst responses sent more (next_of rest)
 responses_in_order sent rest more h e = hands responses responses_are sent rest more (next_of rest) h e refl

@@ -1,4 +1,4 @@
--- One thing alone is due for the texts, and the number says which.
+-- Exactly one outcome is due for the texts, and the number says which.
 use Rattle.std.proofs.Common.{◌∙◌, ap, Some, inl, inr}
 use Rattle.dme_c.proofs.Making.{made_features, made_others, one_client, no_client, refused_features, refused_window, refused_others}
 use Rattle.dme_c.proofs.client_making.dme_client_new.Goals as goal

@@ -1,4 +1,4 @@
--- What the core says of its call holds of what the handle holds.
+-- What the core's contract says about its call holds for the core in the handle.
 use Rattle.dme_c.specs.ServerCalls.{Feeds}
 use Rattle.dme_c.proofs.Calls.{called_lent}
 use Rattle.dme_c.proofs.server_calls.dme_server_feed.Goals as goal

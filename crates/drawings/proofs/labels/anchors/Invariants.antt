@@ -2,7 +2,7 @@ use Rattle.std.proofs.Common.{◌≡◌, ◌+◌, ◌++◌, length}
 use Rattle.drawings.specs.Labels.{anchors_from}
 use Rattle.drawings.proofs.labels.anchors.Given as goal
 
--- what is there, and the anchors of the marks that are left, are all
+-- the anchors so far, and those of the marks that are left, are all anchors
 abbrev pub invariant-loop-left : goal.invariant-loop-left
 invariant-loop-left l = record {
   all : l.anchors.items ++ anchors_from l.plan l.number l.left ≡ anchors_from l.plan 0 l.marks;

@@ -3,7 +3,7 @@ use Rattle.drawings.specs.Labels.{labels_at}
 use Rattle.drawings.proofs.Lines.{lines_for}
 use Rattle.drawings.proofs.labels.put_each_label.Given as goal
 
--- what is written, and the labels that are left, are all; there is room for these below the highest line that is free
+-- the text so far, and the labels that are left, are the whole text; these labels fit below the highest free line
 abbrev pub invariant-loop-left : goal.invariant-loop-left
 invariant-loop-left l = record {
   all : l.out.items ++ labels_at l.plan l.marks l.wanted l.left (lines_for l.highest l.left)

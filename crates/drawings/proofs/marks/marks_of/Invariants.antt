@@ -4,7 +4,7 @@ use Rattle.dmis_program.specs.Programs.{IsFeature}
 use Rattle.drawings.specs.Named.{marks_of}
 use Rattle.drawings.proofs.marks.marks_of.Given as goal
 
--- what is there, and the marks of the features that are left, are all
+-- the marks so far, and those of the features that are left, are all marks
 abbrev pub invariant-loop-wanted : goal.invariant-loop-wanted
 invariant-loop-wanted l = record {
   all : l.marks.items ++ marks_of l.wanted l.measured ≡ marks_of l.program.features l.features;

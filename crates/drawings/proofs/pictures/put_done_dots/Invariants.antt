@@ -3,7 +3,7 @@ use Rattle.std.specs.List.{flat_map}
 use Rattle.drawings.specs.Marks.{done_dot}
 use Rattle.drawings.proofs.pictures.put_done_dots.Given as goal
 
--- what is written, and what is written of the stops that are left, is all
+-- the text so far, and that of the stops that are left, is the whole text
 abbrev pub invariant-loop-done : goal.invariant-loop-done
 invariant-loop-done l = l.out.items ++ flat_map (done_dot l.view l.radius) (drop l.done-index l.stops)
     ≡ l.initial.out.items ++ flat_map (done_dot l.view l.radius) l.stops

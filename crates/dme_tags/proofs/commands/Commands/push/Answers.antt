@@ -6,7 +6,7 @@ use Rattle.dme_tags.specs.Kept.{Slots, is_open, is_open_question}
 use Rattle.dme_tags.proofs.Kept.{IsInserted, inserted_at, counted_pushed, one_more}
 use Rattle.dme_tags.proofs.commands.Commands.push.Goals as goal
 
--- the command stands behind the others
+-- the command follows the others
 behind : (c : goal.After-push_reserved) → IsInserted c.self.inside.slab c.insert_reserved-key.new.self c.self.inside.keys.items
     c.push_reserved.new.self.items (held_now c.args.tag c.args.kind)
 behind c =

@@ -5,7 +5,7 @@ use Rattle.dme_tags.specs.Opened.{OpenValue}
 use Rattle.dme_tags.proofs.Dues.{Agrees, agrees_standard, agrees_event, unknown_exactly, data_exactly, second_exactly, data_told}
 use Rattle.dme_tags.proofs.open_commands.Open.data.Goals as goal
 
--- what is known behind the call on the list of one sort of tags
+-- what is known after the call on the list of one sort of tags
 on_standard : (c : goal.After-give) → Agrees c.args.self.now c.args.tag (Mark.Given c.args.datum) c.give.result
 on_standard c =
     agrees_standard c.args.self.now _ _ _ c.args.tag c.in-Std.field-0 (Mark.Given c.args.datum) (λ _. Effect.Quiet) _ c.in-Std.is

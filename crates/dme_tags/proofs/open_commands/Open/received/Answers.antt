@@ -26,7 +26,7 @@ returns-in-Event-clause-refused c = (
   search rules,
 )
 
--- what is known behind the call on the list of one sort of tags
+-- what is known after the call on the list of one sort of tags
 on_standard : (c : goal.After-receive) → Agrees c.args.self.now c.args.tag Mark.Ack c.receive.result
 on_standard c =
     agrees_standard c.args.self.now _ _ _ c.args.tag c.in-Std.field-0 Mark.Ack (λ _. Effect.Quiet) _ c.in-Std.is

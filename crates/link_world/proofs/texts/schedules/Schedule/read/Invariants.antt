@@ -4,7 +4,7 @@ use Rattle.link_world.specs.ScheduleTexts.{schedule_of}
 use Rattle.link_world.proofs.ScheduleRuns.{read_behind}
 use Rattle.link_world.proofs.texts.schedules.Schedule.read.Given as goal
 
--- the instructions so far, behind the lines that are left, are those of the whole text
+-- the instructions so far, followed by those of the lines that are left, are those of the whole text
 abbrev pub invariant-loop-line : goal.invariant-loop-line
 invariant-loop-line l = (read_behind (l.number + 1) l.schedule (lines l.rest) ≡ schedule_of l.text)
     × (l.number + length l.rest ≤ length l.text)
