@@ -1,2 +1,5 @@
 pub mod HeadLines
+pub mod HeadSteps
+pub mod RecordFields
+pub mod StageRuns
 pub mod ToldLines
