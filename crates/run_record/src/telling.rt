@@ -43,7 +43,7 @@ impl Model for Telling {
     } };
 }
 
-fn is_contact(act: &Act) -> bool
+pub(crate) fn is_contact(act: &Act) -> bool
     ensures { result ≡ is_contact act.now }
 {
     matches!(act, Act::Contact { .. })
