@@ -6,3 +6,4 @@ pub mod Messages
 pub mod Tellings
 pub mod Unfinished
 pub mod Stages
+pub mod Strangers

@@ -1,10 +1,10 @@
 -- What the entries of a record leave, one after another (this profile), and which records exist.
-use Rattle.std.specs.Prelude.{◌≡◌, ℕ, ◌+◌, ◌-◌, ◌≤◌, List, [], ◌∷◌, ◌++◌, length, drop, map, slice_get, Option, Some, None}
+use Rattle.std.specs.Prelude.{◌≡◌, ℕ, ◌+◌, ◌-◌, ◌≤◌, List, [], ◌∷◌, ◌++◌, length, drop, map, slice_get, Option, Some}
 use Rattle.std.specs.List.{AllByRecursion}
 use Rattle.fixed_um.specs.declared.lengths.Point.{Point}
 use Rattle.fixed_um.specs.declared.frames.Frame.{Frame}
 use Rattle.fixed_um.specs.declared.frames.Frame.TheVariants.{Machine}
-use Rattle.contact_ledger.specs.Ledgers.{IsConnection, connection_most}
+use Rattle.contact_ledger.specs.Ledgers.{connection_most}
 use Rattle.contact_ledger.specs.FeatureTexts.{CanBeWritten}
 use Rattle.contact_ledger.specs.declared.acts.Act.{Act}
 use Rattle.contact_ledger.specs.declared.features.Feature.{Feature}

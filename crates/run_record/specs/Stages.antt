@@ -1,6 +1,5 @@
 -- The stages of reading a record, line by line, as the code keeps them. No public clause cites this.
-use Rattle.std.specs.Prelude.{◌≡◌, ◌⊎◌, ℕ, ◌+◌, ◌<◌, ◌≤◌, take, drop, List, [], ◌∷◌, ◌++◌, length, codes, Option, Some, None}
-use Rattle.std.specs.List.{AllByRecursion}
+use Rattle.std.specs.Prelude.{◌≡◌, ◌⊎◌, ℕ, ◌+◌, ◌<◌, ◌≤◌, take, drop, List, [], ◌∷◌, ◌++◌, length, codes, Option, Some, None, ◌-◌}
 use Rattle.fixed_um.specs.Names.{IsName}
 use Rattle.contact_ledger.specs.FeatureTexts.{IsPointCount}
 use Rattle.contact_ledger.specs.Lines.{whole_lines}
@@ -9,6 +8,7 @@ use Rattle.dmis_program.specs.declared.features.Wanted.{Wanted}
 use Rattle.run_record.specs.Heads.{IsPart, IsAskedTouch, header, part_line, feature_line, touch_line}
 use Rattle.run_record.specs.Entries.{entry_line}
 use Rattle.run_record.specs.Records.{Kept, nothing_kept, Follows}
+use Rattle.run_record.specs.Reading.{BeginsHeader, IsForeign}
 use Rattle.run_record.specs.Unfinished.{Unfinished, Asking}
 use Rattle.run_record.specs.declared.entries.Entry.{Entry}
 use Rattle.run_record.specs.declared.heads.Place.{Place}
@@ -112,3 +112,23 @@ pub record HasHead (bytes : List ℕ) (asking : Asking) (rest : List ℕ) (numbe
   pub left : drop number (whole_lines bytes) ≡ whole_lines rest
   pub read : Leads start (take number (whole_lines bytes)) (body asking.part asking.asked nothing_kept)
   pub count : number + length rest ≤ length bytes
+
+-- the lines of a text lead to a stage of the head, which continues; a text without any line begins the first one
+pub data HasTornHead (bytes : List ℕ) : Type 0 where
+  none : whole_lines bytes ≡ [] → BeginsHeader bytes → HasTornHead bytes
+  some : (asking : Asking) (place : Place) → IsOpen place → IsValid place → Leads start (whole_lines bytes) (stage_of asking place)
+      → HasTornHead bytes
+
+-- the lines before line n lead to a stage from which that line leads nowhere
+pub record LeadsNowhere (bytes : List ℕ) (n : ℕ) : Type 0 where
+  pub stage : Stage
+  pub line : List ℕ
+  pub more : List (List ℕ)
+  pub first : 1 ≤ n
+  pub above : Leads start (take (n - 1) (whole_lines bytes)) stage
+  pub here : drop (n - 1) (whole_lines bytes) ≡ line ∷ more
+  pub nowhere : (new : Stage) → Next stage line new → ⊥
+
+-- such a line, or a text of another file
+abbrev pub IsBadHead : List ℕ → ℕ → Type 0
+IsBadHead bytes n = LeadsNowhere bytes n ⊎ ((n ≡ 1) × IsForeign bytes)

@@ -39,6 +39,10 @@ pub record Telling : Type 0 where
   pub connection : ℕ
   pub counted : Counted
 
+-- what is counted on a connection after acts
+abbrev pub told_on : List Wanted → Telling → List Act → Telling
+told_on wanted t acts = record { connection = t.connection; counted = counted_after wanted t.connection t.counted acts }
+
 -- an act was counted, and the lines of what follows it were added to a text
 pub record Counts (wanted : List Wanted) (old : Telling) (act : Act) (new : Telling) (before after : List ℕ) : Type 0 where
   pub same : new.connection ≡ old.connection

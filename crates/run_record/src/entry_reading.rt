@@ -1,8 +1,10 @@
 // Reading the line of an entry.
 
-ghost use Rattle.std.specs.Prelude.{IfOk, IfSome};
+ghost use Rattle.std.specs.Prelude.{◌≡◌, ◌++◌, codes, MatchOption, IfOk, ℕ, List};
+ghost use Rattle.fixed_um.specs.Calls.{Finds};
+ghost use Rattle.fixed_um.specs.Names.{IsName};
 ghost use Rattle.contact_ledger.specs.Ledgers.{IsConnection};
-ghost use Rattle.run_record.specs.Entries.{IsOnConnection};
+ghost use Rattle.run_record.specs.Entries.{IsRefusal, IsWrittenEntry, refused_line, completed_line, entry_line};
 
 use crate::entries::{Entry, Refusal};
 use crate::parts::is_text;
@@ -15,25 +17,28 @@ use std::alloc::{AllocError, Global};
 /// The most bytes that are kept of an error that a server reported (this profile).
 const REFUSAL_MAX: usize = 400;
 
-/// What precedes the first space, and what follows it.
-fn cut_field(line: &[u8]) -> Option<(&[u8], &[u8])> {
-    let at = line.iter().position(|byte| *byte == b' ')?;
-    let (field, _) = line.split_at(at);
-    let (_, rest) = line.split_at(at + 1);
-    Some((field, rest))
+/// What follows a prefix.
+fn after_prefix<'a>(text: &'a [u8], prefix: &[u8]) -> Option<&'a [u8]>
+    ensures { MatchOption result ((rest : List ℕ) → text.now ≡ prefix.now ++ rest → ⊥)
+        (λ rest. text.now ≡ prefix.now ++ rest.now) }
+{
+    text.strip_prefix(prefix)
 }
 
 /// The error that a line reports, with the number of its connection. Fails only if out of memory.
+#[tactic(auto, using(crate::proofs::RecordFields::fields))]
 fn read_refused(alloc: Global, line: &[u8]) -> Result<Option<(u64, Refusal)>, AllocError>
-    ensures { IfOk result (λ found. IfSome found (λ r. IsConnection r.0)) }
+    ensures { IfOk result (λ found. Finds found (λ r. IsConnection r.0 × IsRefusal r.1
+        × (line.now ≡ refused_line r.0 r.1))) }
 {
-    let Some((number, rest)) = cut_field(line) else {
-        return Ok(None);
-    };
+    let (number, _) = first_field(line);
     let Some(connection) = read_number(number, CONNECTION_MAX) else {
         return Ok(None);
     };
-    let Some(text) = rest.strip_prefix(b"REFUSED ".as_slice()) else {
+    let Some(rest) = after_prefix(line, number) else {
+        return Ok(None);
+    };
+    let Some(text) = after_prefix(rest, b" REFUSED ".as_slice()) else {
         return Ok(None);
     };
     if !is_text(text, REFUSAL_MAX) {
@@ -44,8 +49,10 @@ fn read_refused(alloc: Global, line: &[u8]) -> Result<Option<(u64, Refusal)>, Al
 }
 
 /// The label of the feature that a line reports complete, with the number of its connection. Fails only if out of memory.
+#[tactic(auto, using(crate::proofs::RecordFields::fields))]
 fn read_completed(alloc: Global, line: &[u8]) -> Result<Option<(u64, Name)>, AllocError>
-    ensures { IfOk result (λ found. IfSome found (λ c. IsConnection c.0)) }
+    ensures { IfOk result (λ found. Finds found (λ c. IsConnection c.0 × IsName c.1
+        × (line.now ≡ completed_line c.0 c.1))) }
 {
     let (number, rest) = first_field(line);
     let Some((word, rest)) = next_field(rest) else {
@@ -75,7 +82,8 @@ pub(crate) fn read_line(
     forms: &mut Forms,
     line: &[u8],
 ) -> Result<Option<Entry>, AllocError>
-    ensures { IfOk result (λ found. IfSome found IsOnConnection) }
+    ensures { IfOk result (λ found. Finds found (λ e. IsWrittenEntry e
+        × (line.now ≡ entry_line e))) }
 {
     if let Some((connection, act)) = read_entry(alloc, forms, line)? {
         return Ok(Some(Entry::Told(connection, act)));

@@ -1,8 +1,13 @@
 // The head of a record, line by line.
 
-ghost use Rattle.std.specs.Prelude.{◌≡◌, IfOk};
+ghost use Rattle.std.specs.Prelude.{◌≡◌, ◌<◌, ◌∷◌, ℕ, length, IfOk, IfSome, IfNone, Err};
 ghost use Rattle.fixed_um.specs.Calls.{Finds};
-ghost use Rattle.run_record.specs.Heads.{IsPart, part_line};
+ghost use Rattle.contact_ledger.specs.Lines.{whole_lines};
+ghost use Rattle.run_record.specs.Heads.{IsPart, part_line, header};
+ghost use Rattle.run_record.specs.Stages.{Stage, Next, stage_of, IsValid, IsOpen};
+ghost use Rattle.run_record.specs.Stages.{HasHead, HasTornHead, IsBadHead};
+ghost use Rattle.run_record.specs.declared.faults.RecordFault.TheVariants.{Damaged};
+ghost use Rattle.run_record.specs.declared.heads.Place.TheVariants.{Between, Within};
 
 use crate::faults::RecordFault;
 use crate::heads::{Head, Place, Unfinished};
@@ -32,14 +37,20 @@ fn between_line(
     head: &mut Head,
     number: u64,
     line: &[u8],
-) -> Result<Place, RecordFault> {
+) -> Result<Place, RecordFault>
+    ensures next { IfOk result (λ place.
+        Next (stage_of head.old Between) line.now (stage_of head.new place)) }
+    ensures valid { IfOk result IsValid }
+    ensures damaged { (n : ℕ) → result ≡ Err (Damaged n) → (n ≡ number)
+        × ((new : Stage) → Next (stage_of head.old Between) line.now new → ⊥) }
+{
     if line == b"END".as_slice() {
         return Ok(Place::Done);
     }
     if let Some((label, count)) = read_opening(alloc, line)? {
         return Ok(Place::Within(Unfinished::new(alloc, label, count)));
     }
-    if head.part.is_some() || !head.asked.is_empty() {
+    if !head.is_empty() {
         return Err(RecordFault::Damaged(number));
     }
     let Some(part) = read_part(alloc, line)? else {
@@ -57,7 +68,14 @@ fn touch_line(
     mut unfinished: Unfinished,
     number: u64,
     line: &[u8],
-) -> Result<Place, RecordFault> {
+) -> Result<Place, RecordFault>
+    requires { IsValid (Within unfinished) }
+    ensures next { IfOk result (λ place.
+        Next (stage_of head.old (Within unfinished)) line.now (stage_of head.new place)) }
+    ensures valid { IfOk result IsValid }
+    ensures damaged { (n : ℕ) → result ≡ Err (Damaged n) → (n ≡ number)
+        × ((new : Stage) → Next (stage_of head.old (Within unfinished)) line.now new → ⊥) }
+{
     let Some(touch) = read_touch(alloc, forms, line)? else {
         return Err(RecordFault::Damaged(number));
     };
@@ -77,22 +95,41 @@ fn head_line(
     place: Place,
     number: u64,
     line: &[u8],
-) -> Result<Place, RecordFault> {
+) -> Result<Place, RecordFault>
+    requires continues { IsOpen place }
+    requires valid { IsValid place }
+    ensures next { IfOk result (λ after.
+        Next (stage_of head.old place) line.now (stage_of head.new after)) }
+    ensures valid { IfOk result IsValid }
+    ensures damaged { (n : ℕ) → result ≡ Err (Damaged n) → (n ≡ number)
+        × ((new : Stage) → Next (stage_of head.old place) line.now new → ⊥) }
+{
     match place {
         Place::Between => between_line(alloc, head, number, line),
         Place::Within(unfinished) => touch_line(alloc, forms, head, unfinished, number, line),
-        Place::Done => Err(RecordFault::Damaged(number)),
+        Place::Done => unreachable!(),
     }
 }
 
 /// What follows the first line of a record; `None` if there is no line yet.
-fn read_header(bytes: &[u8]) -> Result<Option<&[u8]>, RecordFault> {
-    let header = b"DME-RECORD 1".as_slice();
-    match cut_line(bytes) {
-        Some((first, after)) if first == header => Ok(Some(after)),
-        None if header.starts_with(bytes) => Ok(None),
-        _ => Err(RecordFault::Damaged(1)),
+fn read_header(bytes: &[u8]) -> Result<Option<&[u8]>, RecordFault>
+    ensures header { IfOk result (λ found. IfSome found
+        (λ after. (whole_lines bytes.now ≡ header ∷ whole_lines after.now)
+        × (length after.now < length bytes.now))) }
+    ensures torn { IfOk result (λ found. IfNone found (HasTornHead bytes.now)) }
+    ensures damaged { (n : ℕ) → result ≡ Err (Damaged n) → IsBadHead bytes.now n }
+{
+    let first_line = b"DME-RECORD 1".as_slice();
+    let Some((line, after)) = cut_line(bytes) else {
+        if !first_line.starts_with(bytes) {
+            return Err(RecordFault::Damaged(1));
+        }
+        return Ok(None);
+    };
+    if line != first_line {
+        return Err(RecordFault::Damaged(1));
     }
+    Ok(Some(after))
 }
 
 /// Reads the head of a record, and answers it with what follows it and the number of its lines; `None` if its end is not written yet.
@@ -100,18 +137,19 @@ pub(crate) fn read_head<'a>(
     alloc: Global,
     forms: &mut Forms,
     bytes: &'a [u8],
-) -> Result<Option<(Head, &'a [u8], u64)>, RecordFault> {
+) -> Result<Option<(Head, &'a [u8], u64)>, RecordFault>
+    ensures head { IfOk result (λ found. IfSome found (λ h. HasHead bytes.now h.0 h.1.now h.2)) }
+    ensures torn { IfOk result (λ found. IfNone found (HasTornHead bytes.now)) }
+    ensures damaged { (n : ℕ) → result ≡ Err (Damaged n) → IsBadHead bytes.now n }
+{
     let Some(mut rest) = read_header(bytes)? else {
         return Ok(None);
     };
     let mut number = 1u64;
     let mut head = Head::new(alloc);
     let mut place = Place::Between;
-    for _ in 0..bytes.len() {
-        let Some((line, after)) = cut_line(rest) else {
-            return Ok(None);
-        };
-        number = number.saturating_add(1);
+    while let Some((line, after)) = cut_line(rest) {
+        number += 1;
         place = head_line(alloc, forms, &mut head, place, number, line)?;
         rest = after;
         if let Place::Done = place {

@@ -1,6 +1,6 @@
 // What a reader holds of the head of a record.
 
-ghost use Rattle.std.specs.Prelude.{◌≡◌, ◌≤◌, ◌<◌, ◌+◌, ◌++◌, ◌∷◌, [], length, OnOk, OnErr, None};
+ghost use Rattle.std.specs.Prelude.{◌≡◌, ◌↔◌, IsTrue, ◌≤◌, ◌<◌, ◌+◌, ◌++◌, ◌∷◌, [], length, OnOk, OnErr, None};
 ghost use Rattle.run_record.specs.Stages.{with_touch, wanted_with};
 
 use crate::asked::Asked;
@@ -92,6 +92,13 @@ impl Head {
             part: None,
             asked: Vec::new(alloc),
         }
+    }
+
+    /// Whether nothing was read.
+    pub(crate) fn is_empty(&self) -> bool
+        ensures { IsTrue result ↔ ((self.now.part ≡ None) × (self.now.asked ≡ [])) }
+    {
+        self.part.is_none() && self.asked.is_empty()
     }
 }
 

@@ -1,15 +1,21 @@
 // The contacts that complete a feature.
 
-ghost use Rattle.std.specs.Prelude.{◌≡◌, ◌↔◌, IsTrue};
+ghost use Rattle.std.specs.Prelude.{◌≡◌, ◌↔◌, ◌≤◌, ◌∷◌, ℕ, List, drop, IsTrue};
+ghost use Rattle.contact_ledger.specs.declared.acts.Act.{Act};
+ghost use Rattle.protocol_model.specs.Claims.{contacts};
+ghost use Rattle.run_record.specs.Records.{last_frame};
 
 use crate::comparing::{same_dir, same_frame, same_name, same_point};
+use crate::telling::is_contact;
 use contact_ledger::{Act, Points};
 use dmis_program::Touch;
 use fixed_um::{Dir, Frame, Name, Point};
 use std::alloc::{AllocError, Global};
 
 /// The frame of the last touch.
-pub(crate) fn last_frame(touches: &[Touch]) -> Frame {
+pub(crate) fn last_frame(touches: &[Touch]) -> Frame
+    ensures { result ≡ last_frame touches.now }
+{
     let mut frame = Frame::Machine;
     for touch in touches {
         frame = touch.frame;
@@ -17,18 +23,33 @@ pub(crate) fn last_frame(touches: &[Touch]) -> Frame {
     frame
 }
 
+/// How many contacts are left of `left` after an act.
+fn left_after(act: &Act, left: u64) -> u64
+    requires { 1 ≤ left }
+    ensures { (n : ℕ) (acts : List (ℕ × Act)) → drop left (contacts ((n, act.now) ∷ acts))
+        ≡ drop result (contacts acts) }
+{
+    if !is_contact(act) {
+        return left;
+    }
+    left - 1
+}
+
 /// The acts that follow the first `count` contacts.
-pub(crate) fn behind_contacts(acts: &[(u64, Act)], count: u64) -> &[(u64, Act)] {
+pub(crate) fn behind_contacts(acts: &[(u64, Act)], count: u64) -> &[(u64, Act)]
+    ensures { contacts result.now ≡ drop count (contacts acts.now) }
+{
     let mut left = count;
     for at in 0..acts.len() {
         if left == 0 {
-            return &acts[at..];
+            let (_, after) = acts.split_at(at);
+            return after;
         }
-        if let (_, Act::Contact { .. }) = &acts[at] {
-            left -= 1;
-        }
+        let (_, act) = &acts[at];
+        left = left_after(act, left);
     }
-    &[]
+    let (_, none) = acts.split_at(acts.len());
+    none
 }
 
 /// Whether a contact was asked for by a touch: its target, direction, tool and frame.

@@ -1,6 +1,7 @@
 // Whether a record is that of a part and of a program.
 
-ghost use Rattle.std.specs.Prelude.{◌≡◌, ◌↔◌, IsTrue, MatchOption, option_map};
+ghost use Rattle.std.specs.Prelude.{◌≡◌, ◌↔◌, IsTrue, IsNone, IfSome, MatchOption, option_map};
+ghost use Rattle.run_record.specs.Strangers.{IsFirstOther};
 
 use crate::asked::Asked;
 use crate::comparing::{same_dir, same_frame, same_name, same_point};
@@ -28,7 +29,9 @@ fn same_touch(one: &Touch, other: &Touch) -> bool
         && same_frame(one.frame, other.frame)
 }
 
-fn same_touches(one: &[Touch], other: &[Touch]) -> bool {
+fn same_touches(one: &[Touch], other: &[Touch]) -> bool
+    ensures { IsTrue result ↔ (one.now ≡ other.now) }
+{
     if one.len() != other.len() {
         return false;
     }
@@ -40,18 +43,23 @@ fn same_touches(one: &[Touch], other: &[Touch]) -> bool {
     true
 }
 
-fn same_feature(one: &Asked, other: &Wanted) -> bool {
+fn same_feature(one: &Asked, other: &Wanted) -> bool
+    ensures { IsTrue result ↔ (one.now ≡ other.now) }
+{
     same_name(one.label(), &other.label) && same_touches(one.touches(), other.touches.as_slice())
 }
 
 /// The label of the first feature that differs: the program's, or the record's if the program has no feature there. `None` if all are
 /// the same.
-fn first_other<'a>(asked: &'a [Asked], wanted: &'a [Wanted]) -> Option<&'a Name> {
-    for (index, feature) in asked.iter().enumerate() {
+fn first_other<'a>(asked: &'a [Asked], wanted: &'a [Wanted]) -> Option<&'a Name>
+    ensures { MatchOption result (asked.now ≡ wanted.now)
+        (λ label. IsFirstOther asked.now wanted.now label.now) }
+{
+    for index in 0..asked.len() {
         let Some(other) = wanted.get(index) else {
-            return Some(feature.label());
+            return Some(asked[index].label());
         };
-        if !same_feature(feature, other) {
+        if !same_feature(&asked[index], other) {
             return Some(&other.label);
         }
     }
@@ -60,14 +68,20 @@ fn first_other<'a>(asked: &'a [Asked], wanted: &'a [Wanted]) -> Option<&'a Name>
 }
 
 /// Whether a record was written for this part, or for no part if none is given.
-pub fn is_of_part(record: &Record, part: Option<&[u8]>) -> bool
-    ensures { IsTrue result ↔ (record.now.part ≡ option_map (λ p. p.now) part.entry) }
+pub fn is_of_part(recorded: &Record, part: Option<&[u8]>) -> bool
+    ensures { IsTrue result ↔ (recorded.now.part ≡ option_map (λ p. p.now) part.entry) }
 {
-    same_part(record.part(), part)
+    same_part(recorded.part(), part)
 }
 
 /// The label of the first feature in which what a record asked is not what a program wants; `None` if it was written for that program.
+/// The label is the program's, or the record's if the program has no feature there.
+///
 /// Features are the same if their labels are, and their touches in order: target, direction, tool and frame.
-pub fn other_feature<'a>(record: &'a Record, program: &'a Program) -> Option<&'a Name> {
-    first_other(record.asked(), program.features())
+pub fn other_feature<'a>(recorded: &'a Record, program: &'a Program) -> Option<&'a Name>
+    ensures same { IsNone result ↔ (recorded.now.asked ≡ program.now.features) }
+    ensures first { IfSome result (λ label.
+        IsFirstOther recorded.now.asked program.now.features label.now) }
+{
+    first_other(recorded.asked(), program.features())
 }

@@ -7,7 +7,7 @@ ghost use Rattle.contact_ledger.specs.Lines.{text_of};
 ghost use Rattle.contact_ledger.specs.Ledgers.{is_contact};
 ghost use Rattle.contact_ledger.specs.ContactTexts.{IsWrittenAct};
 ghost use Rattle.run_record.specs.Entries.{entry_line, completed_line};
-ghost use Rattle.run_record.specs.Tellings.{Counts, counted_after, entries_of};
+ghost use Rattle.run_record.specs.Tellings.{Counts, entries_of, told_on};
 
 use contact_ledger::fields::add_name;
 use contact_ledger::{Act, add_entry};
@@ -43,7 +43,7 @@ impl Model for Telling {
     } };
 }
 
-fn is_contact(act: &Act) -> bool
+pub(crate) fn is_contact(act: &Act) -> bool
     ensures { result ≡ is_contact act.now }
 {
     matches!(act, Act::Contact { .. })
@@ -78,18 +78,16 @@ impl Telling {
     }
 
     /// Adds the line of the feature that an act completes, if it completes one.
-    fn count(
-        &mut self,
-        text: &mut Vec<u8>,
-        wanted: &[Wanted],
-        act: &Act,
-    ) -> Result<(), AllocError> {
-        let Some(next) = wanted.get(self.features) else {
-            return Ok(());
-        };
+    fn count(&mut self, text: &mut Vec<u8>, wanted: &[Wanted], act: &Act) -> Result<(), AllocError>
+        ensures { OnOk result (Counts wanted.now self.old act.now self.new text.old.items
+            text.new.items) }
+    {
         if !is_contact(act) {
             return Ok(());
         }
+        let Some(next) = wanted.get(self.features) else {
+            return Ok(());
+        };
         let count = next.touches.as_slice().len();
         if self.points < count && count - self.points > 1 {
             self.points += 1;
@@ -98,6 +96,20 @@ impl Telling {
         add_completed(text, self.connection, &next.label)?;
         self.features += 1;
         self.points = 0;
+        Ok(())
+    }
+
+    /// Adds the lines of acts, and of the features that they complete. An `Err` discards the text.
+    fn add(&mut self, text: &mut Vec<u8>, wanted: &[Wanted], acts: &[Act]) -> Result<(), AllocError>
+        ensures text { OnOk result (text.new.items ≡ text.old.items ++ text_of (map entry_line
+            (entries_of wanted.now self.old.connection self.old.counted acts.now))) }
+        ensures counts { OnOk result (self.new ≡ told_on wanted.now self.old acts.now) }
+        ensures acts { OnOk result (AllByRecursion IsWrittenAct acts.now) }
+    {
+        for act in acts {
+            add_entry(text, self.connection, act)?;
+            self.count(text, wanted, act)?;
+        }
         Ok(())
     }
 
@@ -111,14 +123,16 @@ impl Telling {
         program: &Program,
         acts: &[Act],
     ) -> Result<(), AllocError>
+        ensures writes { Writes result out.old out.new (text_of (map entry_line
+            (entries_of program.now.features self.old.connection self.old.counted acts.now))) }
+        ensures counts { OnOk result (self.new
+            ≡ told_on program.now.features self.old acts.now) }
+        ensures acts { OnOk result (AllByRecursion IsWrittenAct acts.now) }
         ensures err { OnErr result (self.new ≡ self.old) }
     {
         let mut text = Vec::new(*out.allocator());
         let mut telling = *self;
-        for act in acts {
-            add_entry(&mut text, telling.connection, act)?;
-            telling.count(&mut text, program.features(), act)?;
-        }
+        telling.add(&mut text, program.features(), acts)?;
         out.extend_from_slice(text.as_slice())?;
         *self = telling;
         Ok(())

@@ -1,5 +1,12 @@
 // The lines of a wanted feature.
 
+ghost use Rattle.std.specs.Prelude.{◌≡◌, ◌∷◌, [], codes, decimal, IfOk};
+ghost use Rattle.fixed_um.specs.Calls.{Finds};
+ghost use Rattle.fixed_um.specs.Names.{IsName};
+ghost use Rattle.contact_ledger.specs.Lines.{fields_behind};
+ghost use Rattle.contact_ledger.specs.FeatureTexts.{IsPointCount};
+ghost use Rattle.run_record.specs.Heads.{IsAskedTouch, touch_fields, touch_line, feature_line};
+
 use contact_ledger::forms::{Forms, read_name, read_number};
 use contact_ledger::lines::{first_field, next_field};
 use dmis_program::Touch;
@@ -10,7 +17,10 @@ use std::alloc::{AllocError, Global};
 const TOUCHES_MAX: u64 = 10_000;
 
 /// The touch that fields are, if nothing follows them. Fails only if out of memory.
-fn read_fields(alloc: Global, forms: &mut Forms, rest: &[u8]) -> Result<Option<Touch>, AllocError> {
+fn read_fields(alloc: Global, forms: &mut Forms, rest: &[u8]) -> Result<Option<Touch>, AllocError>
+    ensures { IfOk result (λ found. Finds found (λ t. IsAskedTouch t
+        × (fields_behind rest.now ≡ touch_fields t))) }
+{
     let Some((target, rest)) = forms.point(rest) else {
         return Ok(None);
     };
@@ -38,11 +48,14 @@ fn read_fields(alloc: Global, forms: &mut Forms, rest: &[u8]) -> Result<Option<T
 }
 
 /// The touch that a line is. Fails only if out of memory.
+#[tactic(auto, using(crate::proofs::RecordFields::fields))]
 pub(crate) fn read_touch(
     alloc: Global,
     forms: &mut Forms,
     line: &[u8],
-) -> Result<Option<Touch>, AllocError> {
+) -> Result<Option<Touch>, AllocError>
+    ensures { IfOk result (λ found. Finds found (λ t. IsAskedTouch t × (line.now ≡ touch_line t))) }
+{
     let (word, rest) = first_field(line);
     if word != b"TOUCH".as_slice() {
         return Ok(None);
@@ -51,7 +64,11 @@ pub(crate) fn read_touch(
 }
 
 /// The label and the count of touches that a line names. Fails only if out of memory.
-pub(crate) fn read_opening(alloc: Global, line: &[u8]) -> Result<Option<(Name, u64)>, AllocError> {
+#[tactic(auto, using(crate::proofs::RecordFields::fields))]
+pub(crate) fn read_opening(alloc: Global, line: &[u8]) -> Result<Option<(Name, u64)>, AllocError>
+    ensures { IfOk result (λ found. Finds found (λ o. IsName o.0 × IsPointCount o.1
+        × (line.now ≡ feature_line o.0 o.1))) }
+{
     let (word, rest) = first_field(line);
     if word != b"FEATURE".as_slice() {
         return Ok(None);

@@ -1,0 +1,14 @@
+use Rattle.std.proofs.Common.{◌≡◌, ◌++◌, drop}
+use Rattle.std.specs.List.{AllByRecursion}
+use Rattle.contact_ledger.specs.Lines.{text_of}
+use Rattle.dmis_program.specs.Programs.{IsFeature}
+use Rattle.run_record.specs.Heads.{AreAsked, asked_lines}
+use Rattle.run_record.proofs.head_writing.add_asked.Given as goal
+
+-- what is written, and the lines that are left
+abbrev pub invariant-loop-feature : goal.invariant-loop-feature
+invariant-loop-feature l = record {
+  text : l.text.items ++ text_of (asked_lines (drop l.feature-index l.wanted)) ≡ l.fn.text.items ++ text_of (asked_lines l.wanted);
+  asked : AllByRecursion IsFeature l.wanted
+      → AllByRecursion IsFeature (drop l.feature-index l.wanted) × (AreAsked (drop l.feature-index l.wanted) → AreAsked l.wanted);
+}

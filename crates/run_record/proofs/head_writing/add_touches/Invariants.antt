@@ -1,0 +1,12 @@
+use Rattle.std.proofs.Common.{◌≡◌, ◌++◌, drop, map}
+use Rattle.std.specs.List.{AllByRecursion}
+use Rattle.contact_ledger.specs.Lines.{text_of}
+use Rattle.run_record.specs.Heads.{IsAskedTouch, touch_line}
+use Rattle.run_record.proofs.head_writing.add_touches.Given as goal
+
+-- what is written, and the lines that are left
+abbrev pub invariant-loop-touch : goal.invariant-loop-touch
+invariant-loop-touch l = record {
+  text : l.text.items ++ text_of (map touch_line (drop l.touch-index l.touches)) ≡ l.fn.text.items ++ text_of (map touch_line l.touches);
+  touches : AllByRecursion IsAskedTouch (drop l.touch-index l.touches) → AllByRecursion IsAskedTouch l.touches;
+}
