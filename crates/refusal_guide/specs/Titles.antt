@@ -53,7 +53,7 @@ title_of topic.MachineFault = codes "9015 Machine fault"
 abbrev pub is_of_code : ℕ → Bool
 is_of_code byte = not (byte == 32)
 
--- the code of a title: all that stands before its first space
+-- the code of a title: all before its first space
 abbrev pub code_in : List ℕ → List ℕ
 code_in title = take (prefix_len is_of_code title) title
 

@@ -13,7 +13,7 @@ fn is_cart(param: &[u8]) -> bool {
     param == b"CART".as_slice()
 }
 
-/// How many parameters stand before the numerals: a first `CART`, or none.
+/// How many parameters precede the numerals: one if the first is `CART`, else none.
 pub(crate) fn count_before(params: &[Text]) -> usize
     ensures { result ≤ length params.now }
 {
@@ -23,7 +23,7 @@ pub(crate) fn count_before(params: &[Text]) -> usize
     }
 }
 
-/// What stands between these bytes and a `)` at the end.
+/// The bytes between this prefix and a `)` at the end.
 pub(crate) fn within<'a>(front: &[u8], text: &'a [u8]) -> Option<&'a [u8]> {
     match text.strip_prefix(front)? {
         [inner @ .., b')'] => Some(inner),
@@ -31,7 +31,7 @@ pub(crate) fn within<'a>(front: &[u8], text: &'a [u8]) -> Option<&'a [u8]> {
     }
 }
 
-/// How many parameters a statement has behind a first `CART`, and how many it takes.
+/// How many parameters a statement has after a first `CART`, and how many it takes.
 fn count_reason(alloc: Global, found: Found, wanted: &str) -> Result<Reason, AllocError> {
     let params: &[Text] = &found.statement.params;
     let before = count_before(params);
@@ -46,7 +46,7 @@ fn count_reason(alloc: Global, found: Found, wanted: &str) -> Result<Reason, All
     found.word().reason(alloc, "", &said)
 }
 
-/// Why a parameter is no name in parentheses behind these bytes, as this says behind it; none where it is one.
+/// Why a parameter is not a name in parentheses after this prefix, in the words of `behind`; none if it is one.
 fn parenthesis_reason(
     alloc: Global,
     found: Found,
@@ -122,7 +122,7 @@ fn recall_reason(alloc: Global, found: Found) -> Result<Option<Reason>, AllocErr
     parenthesis_reason(alloc, found, 0, b"D(", " is no D(name).")
 }
 
-/// Where the last apostrophe stands.
+/// The place of the last apostrophe.
 fn last_apostrophe(text: &[u8]) -> usize
     ensures { result ≤ length text.now }
 {
@@ -135,7 +135,7 @@ fn last_apostrophe(text: &[u8]) -> usize
     last
 }
 
-/// What stands from the last apostrophe of these bytes on.
+/// These bytes from their last apostrophe on.
 fn last_text(element: &[u8]) -> &[u8] {
     let (_, text) = element.split_at(last_apostrophe(element));
     text
@@ -170,7 +170,7 @@ fn is_definition(found: Found) -> bool {
     found.is(b"FEAT") || found.is(b"TOL") || found.is(b"SNSDEF")
 }
 
-/// That a statement may have no label, or that one of its texts is not closed; none where neither is so.
+/// That a statement may have no label, or that one of its texts is not closed; none if neither applies.
 fn head_reason(alloc: Global, found: Found) -> Result<Option<Reason>, AllocError> {
     match &found.statement.label {
         Some(label) if !is_definition(found) => {
@@ -184,7 +184,7 @@ fn head_reason(alloc: Global, found: Found) -> Result<Option<Reason>, AllocError
     }
 }
 
-/// How many parameters a statement takes whose parameters are only counted; none of another.
+/// How many parameters a statement takes, if its parameters are only counted; none otherwise.
 fn counted(found: Found) -> Option<&'static str> {
     if found.is(b"GOTO") {
         Some("3")
@@ -199,7 +199,7 @@ fn counted(found: Found) -> Option<&'static str> {
     }
 }
 
-/// Why the parameters of a statement that are more than counted do not fit; none of one that takes any.
+/// Why the parameters of a statement that are more than counted do not fit; none if it takes any parameters.
 fn formed_reason(alloc: Global, found: Found) -> Result<Option<Reason>, AllocError> {
     if found.is(b"MEAS") {
         Reason::given(meas_reason(alloc, found))
@@ -214,7 +214,7 @@ fn formed_reason(alloc: Global, found: Found) -> Result<Option<Reason>, AllocErr
     }
 }
 
-/// Why the parameters of a statement do not fit; none of one that takes any.
+/// Why the parameters of a statement do not fit; none if it takes any parameters.
 pub(crate) fn argument_reason(alloc: Global, found: Found) -> Result<Option<Reason>, AllocError> {
     if let Some(reason) = head_reason(alloc, found)? {
         return Ok(Some(reason));

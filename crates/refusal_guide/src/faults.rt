@@ -1,4 +1,4 @@
-// The topic of each fault that `dme` prints by a code. Want of memory has none.
+// The topic of each fault that `dme` prints by a code. Out of memory has none.
 
 ghost use Rattle.std.specs.Prelude.{◌≡◌, ◌++◌, ◌↔◌, IfSome, None, codes};
 ghost use Rattle.dmis_program.specs.Messages.{refusal_text, fault_text as program_text};
@@ -47,7 +47,7 @@ impl Topic {
         }
     }
 
-    /// The topic of a numeral's refusal, which stands behind that of its statement.
+    /// The topic of a numeral's refusal, which follows that of its statement.
     pub fn of_numeral(fault: NumeralFault) -> Topic
         ensures { refusal_text (BadNumeral fault)
             ≡ codes "P7 BadNumeral (" ++ (title_of result ++ codes ")") }
@@ -59,7 +59,7 @@ impl Topic {
         }
     }
 
-    /// The topic of a program's fault; none for want of memory.
+    /// The topic of a program's fault; none if out of memory.
     pub fn of_program(fault: ProgramFault) -> Option<Topic>
         ensures title { IfSome result (λ topic. IsTitleOf (title_of topic) (program_text fault)) }
         ensures none { result ≡ None ↔ fault ≡ program.Memory }
@@ -70,7 +70,7 @@ impl Topic {
         }
     }
 
-    /// The topic of a setup's fault; none for want of memory.
+    /// The topic of a setup's fault; none if out of memory.
     pub fn of_setup(fault: SetupFault) -> Option<Topic>
         ensures title { IfSome result (λ topic. IsTitleOf (title_of topic) (setup_text fault)) }
         ensures none { result ≡ None ↔ fault ≡ setup.Memory }
@@ -83,7 +83,7 @@ impl Topic {
         }
     }
 
-    /// The topic of a schedule's fault; none for want of memory.
+    /// The topic of a schedule's fault; none if out of memory.
     pub fn of_schedule(fault: ScheduleFault) -> Option<Topic>
         ensures title { IfSome result (λ topic. IsTitleOf (title_of topic) (schedule_text fault)) }
         ensures none { result ≡ None ↔ fault ≡ schedule.Memory }
@@ -94,7 +94,7 @@ impl Topic {
         }
     }
 
-    /// The topic of a fault of a file of features or of contacts; none for want of memory.
+    /// The topic of a fault of a features or contacts file; none if out of memory.
     pub fn of_text(fault: TextFault) -> Option<Topic>
         ensures title { IfSome result (λ topic. IsTitleOf (title_of topic) (ledger_text fault)) }
         ensures none { result ≡ None ↔ fault ≡ text.Memory }
@@ -105,7 +105,7 @@ impl Topic {
         }
     }
 
-    /// The topic of an error that a server answers.
+    /// The topic of an error that a server reports.
     pub fn of_error(error: ErrorNumber) -> Topic
         ensures { title_of result
             ≡ four_digits (number_of error) ++ (codes " " ++ text_of error) }

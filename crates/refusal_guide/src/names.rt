@@ -1,4 +1,4 @@
-// Why a text is no name.
+// Why a text is not a name.
 
 use crate::lines::visible;
 use crate::words::{Reason, Word};
@@ -13,7 +13,7 @@ fn is_name(alloc: Global, text: &[u8]) -> Result<bool, AllocError> {
     Ok(Name::new(alloc, text)?.is_some())
 }
 
-/// The leftmost byte that may stand in no name.
+/// The leftmost byte that is not allowed in a name.
 fn leftmost_byte(alloc: Global, text: &[u8]) -> Result<Option<u8>, AllocError> {
     for byte in text {
         if !is_name(alloc, &[*byte])? {
@@ -32,14 +32,14 @@ fn length_sentence(alloc: Global, name: Word) -> Result<String, AllocError> {
     name.between(alloc, "", &behind)
 }
 
-/// That a text has a byte that may stand in no name.
+/// That a text has a byte that is not allowed in a name.
 fn byte_sentence(alloc: Global, name: Word, byte: u8) -> Result<String, AllocError> {
     let byte = visible(alloc, &[byte])?;
     let behind = format!(in alloc; " is no name: {byte} may not stand in one.")?;
     name.between(alloc, "", &behind)
 }
 
-/// Why a text is no name, in a sentence that names it.
+/// Why a text is not a name, in a sentence that names it.
 fn name_sentence(alloc: Global, name: Word) -> Result<String, AllocError> {
     if name.bytes.is_empty() {
         return String::from_str(alloc, "No name stands between the parentheses.");
@@ -54,7 +54,7 @@ fn name_sentence(alloc: Global, name: Word) -> Result<String, AllocError> {
     }
 }
 
-/// Why a text that stands as this word is no name; none where it is one.
+/// Why a text, which is this word, is not a name; none if it is one.
 pub(crate) fn name_reason(
     alloc: Global,
     text: &[u8],

@@ -30,7 +30,7 @@ pub enum Refused {
     Contacts(TextFault),
 }
 
-/// The number of the line that is refused; none for want of memory.
+/// The number of the line that is refused; none if out of memory.
 fn line_number(refused: Refused) -> Option<u64>
     ensures { result ≡ number_of refused }
 {
@@ -50,7 +50,7 @@ fn line_number(refused: Refused) -> Option<u64>
     }
 }
 
-/// What is wrong with the line of this place; nothing for want of memory.
+/// What is wrong with the line of this place; nothing if out of memory.
 fn reason(alloc: Global, refused: Refused, place: Place) -> Result<Reason, AllocError> {
     match refused {
         Refused::Program(ProgramFault::Refused(refusal, _)) => {
@@ -102,7 +102,7 @@ fn numbered_place(
     place_text(alloc, name, number, &shown, &reason.said)
 }
 
-/// The place of the line that is refused; nothing for want of memory.
+/// The place of the line that is refused; nothing if out of memory.
 fn place(alloc: Global, refused: Refused, name: &str, text: &[u8]) -> Result<String, AllocError>
     ensures { IfOk result (λ shown.
         IsPlaceOf (number_of refused) name.now text.now (string_bytes shown)) }
@@ -113,10 +113,10 @@ fn place(alloc: Global, refused: Refused, name: &str, text: &[u8]) -> Result<Str
     }
 }
 
-/// Appends where a text is refused and why: `NAME:LINE: ` and the line as it stands in the text, and below it a sentence that names the
-/// word that is refused, of several the leftmost. Where the text has fewer lines it is its last one. Bytes that cannot be read are shown as
-/// `\xNN`, and of a line with more than 200 bytes the part around the word. Nothing is appended for want of memory in reading the text.
-/// Only want of memory is an `Err`, and then nothing is appended either.
+/// Appends where a text is refused and why: `NAME:LINE: ` and the line as it is in the text, and below it a sentence that names the word
+/// that is refused, of several the leftmost. If the text has fewer lines, its last one is shown. Unprintable bytes are shown as `\xNN`, and
+/// of a line with more than 200 bytes the part around the word. Nothing is appended if the text was refused because memory ran out. Fails
+/// only if out of memory, and then nothing is appended either.
 pub fn write_place(
     out: &mut Vec<u8>,
     refused: Refused,
