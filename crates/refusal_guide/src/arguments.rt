@@ -36,7 +36,7 @@ fn count_reason(alloc: Global, found: Found, wanted: &str) -> Result<Reason, All
     let params: &[Text] = &found.statement.params;
     let before = count_before(params);
     let count = params.len() - before;
-    let behind = if before > 0 { " behind CART" } else { "" };
+    let behind = if before > 0 { " after CART" } else { "" };
     let parameters = if count == 1 {
         "parameter"
     } else {
@@ -76,13 +76,13 @@ fn meas_reason(alloc: Global, found: Found) -> Result<Reason, AllocError> {
     };
     if !is_letters(kind) {
         let kind = found.in_param(0, kind);
-        return kind.reason(alloc, "", " is no kind, which is a word of letters.");
+        return kind.reason(alloc, "", " is not a kind: a kind is a word of letters.");
     }
-    match parenthesis_reason(alloc, found, 1, b"F(", " is no F(name).")? {
+    match parenthesis_reason(alloc, found, 1, b"F(", " is not F(name).")? {
         Some(reason) => Ok(reason),
         None => {
             let count = found.in_param(2, count);
-            count.reason(alloc, "", " is no count of touches from 1 to 10000.")
+            count.reason(alloc, "", " is not a count of touches from 1 to 10000.")
         }
     }
 }
@@ -92,7 +92,7 @@ fn ptmeas_reason(alloc: Global, found: Found) -> Result<Reason, AllocError> {
     match found.statement.params.split_first() {
         Some((first, _)) if !is_cart(first) => {
             let first = found.in_param(0, first);
-            first.reason(alloc, "", " is no CART, which stands first in PTMEAS.")
+            first.reason(alloc, "", " is not CART, which comes first in PTMEAS.")
         }
         Some(_) => count_reason(alloc, found, "3, or 6 with a direction"),
         None => count_reason(alloc, found, "CART and 3 or 6 numerals"),
@@ -110,16 +110,16 @@ fn snslct_reason(alloc: Global, found: Found) -> Result<Option<Reason>, AllocErr
     } else {
         b"S(".as_slice()
     };
-    parenthesis_reason(alloc, found, 0, front, " is no S(name) and no SA(name).")
+    parenthesis_reason(alloc, found, 0, front, " is not S(name) or SA(name).")
 }
 
 /// Why the one parameter of `RECALL/D(name)` does not fit.
 fn recall_reason(alloc: Global, found: Found) -> Result<Option<Reason>, AllocError> {
     let params: &[Text] = &found.statement.params;
     let [_] = params else {
-        return Reason::given(count_reason(alloc, found, "1, D(name), or more behind S( and SA("));
+        return Reason::given(count_reason(alloc, found, "1, D(name), or more after S( and SA("));
     };
-    parenthesis_reason(alloc, found, 0, b"D(", " is no D(name).")
+    parenthesis_reason(alloc, found, 0, b"D(", " is not D(name).")
 }
 
 /// The place of the last apostrophe.
@@ -159,8 +159,8 @@ fn open_text<'s>(found: Found<'s, '_>) -> Word<'s> {
 fn label_reason(alloc: Global, found: Found, label: Word) -> Result<Reason, AllocError> {
     let behind = found.word().between(
         alloc,
-        " stands before ",
-        ": of the statements that are read FEAT, TOL and SNSDEF have labels.",
+        " comes before ",
+        ": of the statements that are read, only FEAT, TOL and SNSDEF have labels.",
     )?;
     label.reason(alloc, "The label ", &behind)
 }

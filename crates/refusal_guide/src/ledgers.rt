@@ -32,18 +32,18 @@ fn goes_on(alloc: Global, above: &[u8], line: &[u8]) -> Result<bool, AllocError>
 /// What must follow these lines of features.
 fn wanted(alloc: Global, above: &[u8]) -> Result<&'static str, AllocError> {
     if goes_on(alloc, above, b"END\n")? {
-        return Ok("END stands here, since the feature above has all its points.");
+        return Ok("END is expected here: the feature above has all its points.");
     }
     if goes_on(alloc, above, b"FEATURE A 1 -\n")? {
         return Ok(
-            "A feature begins here, as FEATURE C 3 2 M or FEATURE C 3 -, with a count from 1 to 10000.",
+            "A feature is expected here, such as FEATURE C 3 2 M or FEATURE C 3 -, with a count from 1 to 10000.",
         );
     }
     if goes_on(alloc, above, b"FEATURE A 1\n")? {
-        return Ok("A feature begins here, as FEATURE C 3, with a count from 1 to 10000.");
+        return Ok("A feature is expected here, such as FEATURE C 3, with a count from 1 to 10000.");
     }
     Ok(
-        "A point of the feature above stands here, three lengths with three decimals, as 1.000 0.000 -0.004.",
+        "A point of the feature above is expected here, three lengths with three decimals, such as 1.000 0.000 -0.004.",
     )
 }
 
@@ -78,12 +78,12 @@ fn fields_reason(alloc: Global, act: Word) -> Result<Reason, AllocError> {
     let (before, behind) = if is_act_word(act.bytes) {
         (
             "The fields of ",
-            " do not stand in the one form in which they are written, with one space before each.",
+            " are not in the form in which they are written, with one space before each.",
         )
     } else {
         (
             "",
-            " is none of HOMEDIS, HOMED, MOVED, CHANGED, FRAMED and CONTACT.",
+            " is not HOMEDIS, HOMED, MOVED, CHANGED, FRAMED or CONTACT.",
         )
     };
     act.reason(alloc, before, behind)
@@ -96,7 +96,7 @@ fn act_reason(alloc: Global, line: &[u8]) -> Result<Reason, AllocError> {
     if !is_act(alloc, connection.bytes, b" HOMED\n")? {
         return connection.reason(
             alloc,
-            "An act begins with the number of its connection, from 1 to 4000000000 and without a zero in front, and not with ",
+            "An act begins with the number of its connection, from 1 to 4000000000 without leading zeros, not with ",
             ".",
         );
     }
@@ -130,7 +130,7 @@ pub(crate) fn ledger_reason(
     if has_return(place.rest) {
         return Reason::of_text(
             alloc,
-            "The line ends with CR LF, and the lines of this file end with LF alone.",
+            "The line ends with CR LF, and the lines of this file end with LF only.",
         );
     }
     match ledger {

@@ -27,7 +27,7 @@ fn leftmost_byte(alloc: Global, text: &[u8]) -> Result<Option<u8>, AllocError> {
 fn length_sentence(alloc: Global, name: Word) -> Result<String, AllocError> {
     let count = name.bytes.len();
     let behind = format!(in alloc;
-        " is no name: it has {count} bytes, and a name has at most 64."
+        " is not a name: it has {count} bytes, and a name has at most 64."
     )?;
     name.between(alloc, "", &behind)
 }
@@ -35,22 +35,22 @@ fn length_sentence(alloc: Global, name: Word) -> Result<String, AllocError> {
 /// That a text has a byte that is not allowed in a name.
 fn byte_sentence(alloc: Global, name: Word, byte: u8) -> Result<String, AllocError> {
     let byte = visible(alloc, &[byte])?;
-    let behind = format!(in alloc; " is no name: {byte} may not stand in one.")?;
+    let behind = format!(in alloc; " is not a name: {byte} is not allowed in one.")?;
     name.between(alloc, "", &behind)
 }
 
 /// Why a text is not a name, in a sentence that names it.
 fn name_sentence(alloc: Global, name: Word) -> Result<String, AllocError> {
     if name.bytes.is_empty() {
-        return String::from_str(alloc, "No name stands between the parentheses.");
+        return String::from_str(alloc, "There is no name between the parentheses.");
     }
     if name.bytes.len() > LONGEST_NAME {
         return length_sentence(alloc, name);
     }
     match leftmost_byte(alloc, name.bytes)? {
-        Some(b' ') => name.between(alloc, "", " is no name: a blank may not stand in one."),
+        Some(b' ') => name.between(alloc, "", " is not a name: a space is not allowed in one."),
         Some(byte) => byte_sentence(alloc, name, byte),
-        None => name.between(alloc, "", " does not stand where a name stands."),
+        None => name.between(alloc, "", " is not a name."),
     }
 }
 

@@ -108,18 +108,18 @@ fn numeral_sentence(
         (NumeralFault::NotNumeral, _) => numeral.between(
             alloc,
             "",
-            " is no numeral: a numeral has digits with at most one point, and if wanted a sign and an exponent of one to three digits.",
+            " is not a numeral: a numeral has digits with at most one point, and optionally a sign and an exponent of one to three digits.",
         ),
         (NumeralFault::TooManyDigits, _) => digits_sentence(alloc, numeral),
         (NumeralFault::TooLarge, Measure::Length) => numeral.between(
             alloc,
             "The numeral ",
-            ", rounded to micrometres, is past the limit of 1000000 millimetres.",
+            ", rounded to micrometres, is beyond the limit of 1000000 millimetres.",
         ),
         (NumeralFault::TooLarge, Measure::Component) => numeral.between(
             alloc,
             "The numeral ",
-            ", rounded to millionths, is past the limit of 1000 for a component of a direction.",
+            ", rounded to millionths, is beyond the limit of 1000 for a component of a direction.",
         ),
     }
 }

@@ -43,7 +43,7 @@ fn ended_reason(alloc: Global, last: &Statement) -> Result<Reason, AllocError> {
     let behind = format!(in alloc; " at line {line}.")?;
     word.reason(
         alloc,
-        "The file ends behind this line without ENDFIL: its last statement is ",
+        "The file ends after this line without ENDFIL: its last statement is ",
         &behind,
     )
 }
@@ -60,7 +60,7 @@ fn truncated(alloc: Global, place: Place) -> Result<Option<Reason>, AllocError> 
 fn too_long(alloc: Global, place: Place) -> Result<Reason, AllocError> {
     let count = first_line(place.rest).len();
     let said = format!(in alloc;
-        "The line has {count} bytes, and at most 4096 may stand before its end."
+        "The line has {count} bytes before its end, and at most 4096 are allowed."
     )?;
     Ok(Reason::of_line(said))
 }
@@ -69,9 +69,9 @@ fn too_long(alloc: Global, place: Place) -> Result<Reason, AllocError> {
 fn column_reason(alloc: Global, at: usize, byte: u8) -> Result<Reason, AllocError> {
     let column = at.saturating_add(1);
     let why = if byte >= 128 {
-        "may stand in texts and in comments alone."
+        "is allowed only in texts and in comments."
     } else {
-        "is a control character, of which a program may have tabs alone."
+        "is a control character, and only tabs are allowed."
     };
     let shown = visible(alloc, &[byte])?;
     let said = format!(in alloc; "The byte {shown} in column {column} {why}")?;
@@ -91,7 +91,7 @@ fn unsupported_minor(alloc: Global, found: Found, minor: &[u8]) -> Result<Reason
     let behind = if found.is(b"RECALL") {
         " is not carried out: RECALL/D(name) selects a stored frame."
     } else {
-        " is not carried out: of coordinates only CART is."
+        " is not carried out: only CART coordinates are."
     };
     let major = found.word().between(alloc, "", "/")?;
     found.in_param(0, minor).reason(alloc, &major, behind)
@@ -101,8 +101,8 @@ fn unsupported_minor(alloc: Global, found: Found, minor: &[u8]) -> Result<Reason
 fn unsupported_major(alloc: Global, found: Found) -> Result<Reason, AllocError> {
     let (before, behind) = if found.is(b"DMISMN") {
         (
-            "A second ",
-            " stands here, and a program has one, its first statement.",
+            "This is a second ",
+            ", and a program has one, its first statement.",
         )
     } else {
         ("", " is not carried out.")
@@ -151,7 +151,7 @@ fn empty_reason(
     let before = format!(in alloc; "Parameter {number} of ")?;
     let said = found
         .word()
-        .between(alloc, &before, " is empty, and a numeral stands there.")?;
+        .between(alloc, &before, " is empty, and a numeral is expected.")?;
     Ok(Reason::of_word(said, word))
 }
 
@@ -218,14 +218,14 @@ fn outside_block(alloc: Global, found: Found) -> Result<Reason, AllocError> {
     word.reason(
         alloc,
         "",
-        " stands outside of a measurement block: no MEAS above it is open.",
+        " is outside a measurement block: no MEAS above it is open.",
     )
 }
 
 /// That a statement may not be inside the block that begins at this line.
 fn inside_reason(alloc: Global, found: Found, line: u64) -> Result<Reason, AllocError> {
     let behind = format!(in alloc;
-        " stands inside of the measurement block that begins at line {line}: it has no ENDMES yet."
+        " is inside the measurement block that begins at line {line}: it has no ENDMES yet."
     )?;
     found.word().reason(alloc, "", &behind)
 }
@@ -264,7 +264,7 @@ fn too_few(alloc: Global, place: Place, found: Found) -> Result<Option<Reason>, 
 fn frame_reason(alloc: Global, name: Word) -> Result<Reason, AllocError> {
     let behind = name.between(
         alloc,
-        " is stored: --setup names no setup, or none with a line FRAME ",
+        " is stored: --setup is missing, or its file has no line FRAME ",
         ".",
     )?;
     name.reason(alloc, "No frame ", &behind)

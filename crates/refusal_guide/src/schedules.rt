@@ -48,9 +48,7 @@ fn takes(alloc: Global, word: &[u8]) -> Result<Option<&'static str>, AllocError>
 /// That a touch does not have three coordinates.
 fn count_reason(alloc: Global, values: &[u8]) -> Result<Reason, AllocError> {
     let count = count_fields(values);
-    let said = format!(in alloc;
-        "machine touched takes 3 numerals, x, y and z, and {count} fields stand behind it."
-    )?;
+    let said = format!(in alloc; "machine touched takes 3 numerals, x, y and z, and has {count}.")?;
     Ok(Reason::of_line(said))
 }
 
@@ -80,13 +78,13 @@ fn field_reason(
 ) -> Result<Reason, AllocError> {
     let field = Word::found(line, word.len(), field);
     let word = Word::found(line, 0, word);
-    let behind = which_takes(alloc, " asks for nothing behind ", word, taken)?;
+    let behind = which_takes(alloc, " is not valid after ", word, taken)?;
     field.reason(alloc, "", &behind)
 }
 
 /// That nothing follows a word that takes this.
 fn nothing_reason(alloc: Global, word: Word, taken: &str) -> Result<Reason, AllocError> {
-    let said = which_takes(alloc, "Nothing stands behind ", word, taken)?;
+    let said = which_takes(alloc, "Nothing follows ", word, taken)?;
     Ok(Reason::of_word(said, word))
 }
 
@@ -132,7 +130,7 @@ fn bad_line(alloc: Global, line: &[u8]) -> Result<Option<Reason>, AllocError> {
         return behind_word(alloc, line, field, rest, taken);
     }
     let word = Word::found(line, 0, field);
-    Reason::given(word.reason(alloc, "", " is no word of a schedule."))
+    Reason::given(word.reason(alloc, "", " is not a word of a schedule."))
 }
 
 /// Why a line of a schedule is not an instruction. If the text is not one that is refused for this, what the refusal means.

@@ -26,7 +26,7 @@ pub(crate) fn space_reason(alloc: Global, line: &[u8]) -> Result<Reason, AllocEr
         [b' ', ..] => ("start", 0),
         _ => ("end", line.len().saturating_sub(1)),
     };
-    let said = format!(in alloc; "A space stands at the {place} of the line.")?;
+    let said = format!(in alloc; "There is a space at the {place} of the line.")?;
     Ok(Reason { said, at, len: 1 })
 }
 
@@ -39,7 +39,7 @@ fn count_reason(
 ) -> Result<Reason, AllocError> {
     let count = count_fields(values);
     let fields = if count == 1 { "field" } else { "fields" };
-    let behind = format!(in alloc; " has {count} {fields} behind it, and takes {wanted}.")?;
+    let behind = format!(in alloc; " has {count} {fields} after it, and takes {wanted}.")?;
     word.reason(alloc, "", &behind)
 }
 
@@ -92,7 +92,7 @@ fn bad_line(alloc: Global, line: &[u8]) -> Result<Option<Reason>, AllocError> {
     Reason::given(word.reason(
         alloc,
         "",
-        " is none of TOOL, FRAME and SHIFT, of which one begins a line, with spaces behind it.",
+        " is not TOOL, FRAME or SHIFT: a line begins with one of these and a space.",
     ))
 }
 
@@ -122,7 +122,7 @@ fn first_named(text: &[u8], word: &[u8], name: &[u8]) -> Option<u64> {
 
 /// That a name is already defined at this line.
 fn twice_at(alloc: Global, before: &str, name: Word, number: u64) -> Result<Reason, AllocError> {
-    let behind = format!(in alloc; " is there already, at line {number}.")?;
+    let behind = format!(in alloc; " is already defined at line {number}.")?;
     name.reason(alloc, before, &behind)
 }
 
