@@ -1,10 +1,10 @@
 #!/usr/bin/env python3
-"""Holds the plain programs of bench/plain/ against ours: both run on the same input, and the first difference stops it.
+"""Compares the plain programs of bench/plain/ with ours: both run on the same input, and the first difference stops it.
 
-`check` is given each program and setup of examples/ and of the rows of tests/program, and some thousands of changed ones, made with a fixed
+`check` gets each program and setup of examples/ and of the rows of tests/program, and some thousands of changed ones, made with a fixed
 seed; standard output, standard error and status are compared. `wire`, `server` and `client` print counts and sums, which are compared
 for several sizes, pieces and windows. What the cores answer to calls in each state is compared by the rows of crates/test_calls, and by
-calls and lines made by chance. It needs the built programs (see counting.py), and builds the plain ones.
+random calls and lines. It needs the built programs (see counting.py), and builds the plain ones.
 
 usage: bench/compare.py [CHANGED_PROGRAMS]
 """
@@ -62,7 +62,7 @@ def given_programs():
 
 
 def whole_program(choose):
-    """Statements by chance around a frame that lets many of them be reached."""
+    """Random statements around a frame that lets many of them be reached."""
     lines = ["DMISMN/'M',05.2"] if choose.random() < 0.97 else []
     if choose.random() < 0.9:
         lines.append("SNSLCT/S(P1)")
@@ -81,7 +81,7 @@ def whole_program(choose):
 
 
 def with_numerals(choose, text):
-    """One number of the text has become another numeral."""
+    """Replaces one number of the text by another numeral."""
     places = list(re.finditer(rb"-?[\d.]+", text))
     if not places:
         return text
@@ -90,7 +90,7 @@ def with_numerals(choose, text):
 
 
 def with_bytes(choose, text):
-    """A few bytes are changed, taken or put in."""
+    """Changes, removes or inserts a few bytes."""
     text = bytearray(text)
     for _ in range(choose.randrange(1, 4)):
         at = choose.randrange(len(text) + 1)
@@ -106,7 +106,7 @@ def with_bytes(choose, text):
 
 
 def with_lines(choose, text):
-    """A line is cut, doubled, exchanged, made long, or another statement is put before it."""
+    """Cuts, doubles, exchanges or lengthens a line, or puts another statement before it."""
     lines = text.split(b"\n")
     at, other = choose.randrange(len(lines)), choose.randrange(len(lines))
     kind = choose.randrange(6)
@@ -142,7 +142,7 @@ def found(words, text=b""):
 
 
 def compare(ours, plain_words, text=b""):
-    """What both gave; the script stops where they differ."""
+    """The results of both; the script stops if they differ."""
     first, second = found(ours, text), found(plain_words, text)
     if first != second:
         with tempfile.NamedTemporaryFile(delete=False, suffix=".input") as file:
@@ -185,7 +185,7 @@ def compare_sums():
 
 
 def with_fields(choose, text):
-    """A field of a line of a setup has become another."""
+    """Replaces a field of a line of a setup by another."""
     lines = text.split(b"\n")
     at = choose.randrange(len(lines))
     fields = lines[at].split(b" ")
@@ -264,7 +264,7 @@ def command_line(choose):
 
 
 def server_rows(choose):
-    """Calls of a server by chance, most of them on an open session and a homed machine."""
+    """Random calls of a server, most of them in an open session and on a homed machine."""
     ready = ["00041 StartSession()", "turn", "00042 Home()", "turn", "done", '00043 ChangeTool("P1")', "turn", "done"]
     rows = ["accept 1"] + ready[:choose.choice([0, 2, 5, 8, 8, 8, 8, 8])]
     others = ["accept 2", "accept 99", "turn", "turn", "turn", "done", "missed", "fault", "touched 1.5 2 -3", "touched 1000000.001 0 0",
@@ -293,13 +293,13 @@ def response_line(choose):
     return tag + choose.choice([" &", " %", " &", " %", " %  ", " !", " ! Error(3, 9014)", data, data, " #", "&", " &x", "  &"])
 
 
-# What the plans of the programs of test_calls send behind their first six commands, or behind a feature: T a tool, G a move, p a touch and
-# P the last one of its feature, X and F a frame.
+# What the plans of the programs of test_calls send after their first six commands, or after a feature: T a tool, G a move, p a touch and P the
+# last one of its feature, X and F a frame.
 SENT = {"ONE": "TGP", "TWO": "TPP", "THREE": "TppP", "FRAMES": "TPpXFP", "MOVES": "G" * 14}
 
 
 def plan_of(name, kept, is_new):
-    """The plan behind so many features: S, C, I, H, O and E are the commands that each has."""
+    """The plan after that many features: S, C, I, H, O and E are the commands that every plan has."""
     begin, sent = "S" * is_new + "CIHO", SENT[name]
     if kept == 0:
         return begin + "F" + sent + "E"
@@ -339,7 +339,7 @@ class Played:
         self.plan = plan_of(self.name, self.kept, False)
 
     def fail(self):
-        """What is sent fails, and the plan begins again."""
+        """What is sent fails, and the plan starts again."""
         count = self.choose.randrange(1, self.window + 1)
         tags = [f"{self.tag + nth:05d}" for nth in range(1, count + 1)]
         self.tag += count
@@ -350,7 +350,7 @@ class Played:
         self.begin_again()
 
     def abort(self):
-        """An abort with a command open or none, and the plan begins again."""
+        """An abort, with or without an open command, and the plan starts again."""
         self.aborts += 1
         event = f"E{self.aborts:04d}"
         if self.choose.random() < 0.7:
@@ -387,7 +387,7 @@ class Played:
 
 
 def client_rows(choose):
-    """Calls of a client by chance: most of them play on, with what disturbs between them."""
+    """Random calls of a client: most of them advance the plan, with disturbances between them."""
     name, window = choose.choice(sorted(SENT)), choose.choice([1, 1, 2, 3, 4, 16])
     client = Played(choose, name, window)
     for _ in range(choose.randrange(5, 70)):
@@ -397,7 +397,7 @@ def client_rows(choose):
 
 
 def text_rows(choose):
-    """Lines that a client reads, each behind commands that were sent."""
+    """Lines that a client reads, each after commands that were sent."""
     rows = []
     for _ in range(40):
         ended = choose.choice([2, 7, 8])

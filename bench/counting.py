@@ -1,4 +1,4 @@
-"""What the scripts beside it share: where the built programs are, instructions and peak memory of one run.
+"""What the scripts next to it share: where the built programs are, instructions and peak memory of one run.
 
 The programs are made by `tests/run`, or by `rt run` in their crates.
 """
@@ -17,15 +17,15 @@ def built(crate):
 
 @functools.cache
 def plain(program="plain"):
-    """A program of bench/plain/, built anew where its sources have changed."""
+    """A program of bench/plain/, built again if its sources have changed."""
     folder = os.path.join(os.path.dirname(os.path.abspath(__file__)), "plain")
     subprocess.run(["cargo", "build", "--release", "--offline", "--quiet"], cwd=folder, check=True)
     return os.path.join(folder, "target", "release", program)
 
 
 def profiled(words, with_callees=False):
-    """The instructions of a run (valgrind --tool=callgrind), those in the body of each function of each file, or in all that it calls as
-    well, and what the run prints."""
+    """The instructions of a run (valgrind --tool=callgrind), those in the body of each function of each file, or also in everything that it calls,
+    and what the run prints."""
     with tempfile.TemporaryDirectory() as folder:
         run = subprocess.run(["valgrind", "--tool=callgrind", f"--callgrind-out-file={folder}/out"] + words,
                              stdout=subprocess.PIPE, stderr=subprocess.PIPE)
@@ -38,12 +38,12 @@ def profiled(words, with_callees=False):
 
 
 def function_of(place):
-    """The function of a place, without its file, its program and how deep it calls itself."""
+    """The function at a place, without its file, its program and its depth of recursion."""
     return place.partition(":")[2].partition(" [")[0].partition("'")[0]
 
 
 def by_function(words):
-    """The instructions of a run in the body of each function, whatever file they come from that was joined to it."""
+    """The instructions of a run in the body of each function, including those of other files that were inlined into it."""
     _, bodies, _ = profiled(words)
     counts = collections.Counter()
     for count, place in bodies:
@@ -52,7 +52,7 @@ def by_function(words):
 
 
 def counted(words, own):
-    """The instructions of a run (valgrind --tool=callgrind), those of them in the program `own`, and what it prints."""
+    """The instructions of a run (valgrind --tool=callgrind), those of them in the program `own`, and what the run prints."""
     everything, bodies, printed = profiled(words)
     return everything, sum(count for count, place in bodies if f"{own}]" in place), printed
 

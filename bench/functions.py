@@ -1,9 +1,9 @@
 #!/usr/bin/env python3
-"""Says in which functions the instructions are that measure.py counts, of ours and of the plain programs, without the fixed part (the same run
-with no work; of the client also what reads the program).
+"""Prints which functions contain the instructions that measure.py counts, of ours and of the plain programs, without the fixed part (the same
+run with no work; for the client also what reads the program).
 
-Each body is counted with what the compiler joined to it, so a function that was joined to its callers has no row. Of each program it prints
-the functions that together make up nineteen twentieths of what it costs, and each one's share of ours less plain.
+Each body is counted with what the compiler inlined into it, so a function that was inlined into its callers has no row. For each program it
+prints the functions that together make up nineteen twentieths of its cost, and each one's share of ours less plain.
 
 It needs the built programs (see counting.py), and builds the plain ones. It takes a few minutes.
 

@@ -1,13 +1,13 @@
 #!/usr/bin/env python3
-"""Measures a program of touches that `dme loop` runs over one TCP connection to itself, beside a bare exchange of the same bytes
+"""Measures a program of touches that `dme loop` runs over one TCP connection to itself, next to a bare exchange of the same bytes
 (plain/src/bin/ping_pong.rs), and prints the tables of RESULTS.md.
 
-What the two ends say to each other is computed from the lines of `dme check` and the answers of docs/PROTOCOL.md. The bare exchange is
-given it in a file, and nothing is compared or understood there. Both programs are first run under strace: each turn has to be one send of
-just the computed bytes, and what is received before the next has to be the same bytes; both have to set the same options of sockets, and
-`dme loop` has to print the points. Then both are run in turn, so many times, and the least time of each counts: that of the clock and that
-of the processor, kernel included. Last the instructions are counted (valgrind --tool=callgrind, which does not see the kernel's), as in
-measure.py: the same run with no touch is taken off, and growth is what the second half of the touches costs divided by what the first does.
+What the two ends send each other is computed from the lines of `dme check` and the answers of docs/PROTOCOL.md. The bare exchange gets it in
+a file, and compares and parses nothing. Both programs are first run under strace: each turn must be one send of exactly the computed bytes,
+and what is received before the next must be the same bytes; both must set the same socket options, and `dme loop` must print the points. Then
+both are run in turn, N times, and the least time of each counts: by the clock and of the processor, including the kernel. Last the
+instructions are counted (valgrind --tool=callgrind, which does not see the kernel's), as in measure.py: the same run with no touch is
+subtracted, and growth is the cost of the second half of the touches divided by that of the first.
 
 It needs strace, valgrind, cargo, and the built program (see counting.py). It takes a few minutes.
 
@@ -23,7 +23,7 @@ import time
 
 from counting import built, function_of, peak, plain, profiled
 
-SIZES = (1_000, 9_800)  # a program of 10,000 statements has no room for more touches in features of 100
+SIZES = (1_000, 9_800)  # a program of 10,000 statements cannot hold more touches in features of 100
 WINDOWS = (1, 16)
 RUNS = 5
 FEATURE = 100
@@ -51,7 +51,7 @@ def setup():
 
 
 def text(um):
-    """A length as it is written on the wire."""
+    """A length, as written on the wire."""
     return f"{'-' if um < 0 else ''}{abs(um) // 1000}.{abs(um) % 1000:03d}"
 
 
@@ -62,7 +62,7 @@ def touched(command, number):
 
 
 def batches(lines, window):
-    """The lines of a plan as the client sends them where all that it has sent is answered before its next turn."""
+    """The lines of a plan as the client sends them if everything that it has sent is answered before its next turn."""
     batch = []
     for line in lines:
         is_held = "ClearAllErrors" in line and batch or any("IsHomed" in sent for sent in batch)
@@ -74,7 +74,7 @@ def batches(lines, window):
 
 
 def said(lines, window):
-    """The turns of both ends, and the points that are told."""
+    """The turns of both ends, and the points that are reported."""
     turns, points = [], []
     for batch in batches(lines, window):
         answers = [f"{line[:5]} &\r\n" for line in batch]
@@ -91,7 +91,7 @@ def said(lines, window):
 
 
 class Exchange:
-    """So many touches with a window: the files of both programs, and the words that run them."""
+    """That many touches with a window: the files of both programs, and the words that run them."""
 
     def __init__(self, folder, ours, theirs, touches, window):
         self.touches, self.window = touches, window
@@ -111,14 +111,14 @@ class Exchange:
         return sum(map(len, self.turns))
 
     def must_print(self, printed):
-        """The report of ours has the points in their order."""
+        """The report of `dme` has the points in their order."""
         rows = printed.decode().splitlines()
         told = [row for row in rows if re.match(r"-?\d", row)]
         if rows[0] != "STATE Done" or told != [" ".join(map(text, point)) for point in self.points]:
             sys.exit(f"{self.name}: printed other points, or has not ended")
 
     def traffic(self, words):
-        """What a run sends and receives and which options it sets, by strace; it has to be the turns."""
+        """What a run sends and receives and which options it sets, by strace; this must be the turns."""
         with tempfile.NamedTemporaryFile("r") as file:
             run = subprocess.run(["strace", "-f", "-xx", "-s", "1000000", "-o", file.name, "-e", "trace=network"] + words,
                                  stdout=subprocess.PIPE, check=True)
@@ -141,7 +141,7 @@ class Exchange:
         return options, len(moved) - len(sends), run.stdout
 
     def must_agree(self):
-        """Both programs send and receive the turns, with the same options; how many bytes, sends and receives of each."""
+        """Both programs send and receive the turns, with the same options. Answers how many bytes, sends and receives each has."""
         options, receives, printed = self.traffic(self.ours)
         self.must_print(printed)
         if any("TCP_NODELAY" in option for option in options):
@@ -171,7 +171,7 @@ def least(runs):
 
 
 def times(exchange, count):
-    """The least times of both in so many runs, and of plain with the other setting of TCP_NODELAY."""
+    """The least times of both in that many runs, and of plain with the other setting of TCP_NODELAY."""
     other = [word for word in exchange.theirs if word != "nodelay"]
     if other == exchange.theirs:
         other = exchange.theirs + ["nodelay"]
@@ -180,7 +180,7 @@ def times(exchange, count):
 
 
 def counts(exchanges, words_of):
-    """The instructions of so many touches, and their growth."""
+    """The instructions of that many touches, and their growth."""
     none, half, whole = (profiled(words_of(exchange))[0] for exchange in exchanges)
     return whole - none, (whole - half) / (half - none)
 
@@ -216,7 +216,7 @@ def print_counts(make):
 
 
 def named(place):
-    """The name of a function that callgrind_annotate shows, without what it is made for."""
+    """The name of a function that callgrind_annotate shows, without its type arguments."""
     return re.sub(r"::<.*", "", function_of(place))
 
 
@@ -230,8 +230,8 @@ def told(bodies, touches, is_wanted):
 
 
 def print_bodies(make):
-    """Where ours has its instructions, for each touch: those of its parts with all that they call, and those in the bodies of the costliest
-    functions."""
+    """Where `dme` spends its instructions, for each touch: those of its parts with everything that they call, and those in the bodies of the
+    costliest functions."""
     for window in WINDOWS:
         exchange = make(SIZES[-1], window)
         print(f"\n{exchange.name}, instructions a touch")

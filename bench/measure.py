@@ -1,11 +1,11 @@
 #!/usr/bin/env python3
 """Measures ours and the plain programs of bench/plain/ in one run, and prints the table of RESULTS.md.
 
-`check` on three programs, `wire` (lines read from bytes in pieces), `server` (rounds of one move and one touch, its calls made by hand) and
-`client` (a program of touches, answered by a peer in memory whose machine is not homed). Of each it counts the instructions executed
-(valgrind --tool=callgrind) for half of the work and for all of it, takes the fixed part off (the same run with no work; of the client
-also what reads the program), and divides what the second half costs by what the first does: 1.00 where the cost does not grow. The peak
-of memory is that of the whole work. What is printed is compared with what is wanted; bench/compare.py compares more.
+`check` on three programs, `wire` (lines read from bytes in pieces), `server` (rounds of one move and one touch, its calls made directly) and
+`client` (a program of touches, answered by a peer in memory whose machine is not homed). For each it counts the instructions executed
+(valgrind --tool=callgrind) for half of the work and for all of it, subtracts the fixed part (the same run with no work; for the client also
+what reads the program), and divides the cost of the second half by that of the first: 1.00 if the cost does not grow. The peak of memory is
+that of the whole work. What is printed is compared with what is expected; bench/compare.py compares more.
 
 It needs the built programs (see counting.py), and builds the plain ones. It takes a few minutes.
 
@@ -27,7 +27,7 @@ TOUCHES = 9_900
 
 
 def statements_of(count):
-    """A program of so many statements: features of one move and one touch each."""
+    """A program of that many statements: features of one move and one touch each."""
     lines = ["DMISMN/'BENCH',05.2", "SNSLCT/S(P1)"]
     feature = 0
     while len(lines) + 5 <= count:
@@ -45,7 +45,7 @@ def statements_of(count):
 
 
 def commented(count):
-    """The same with a comment behind each statement and each GOTO continued."""
+    """Likewise, with a comment after each statement and each GOTO continued."""
     lines = []
     for line in statements_of(count):
         if line.startswith("GOTO/CART,"):
@@ -56,7 +56,7 @@ def commented(count):
 
 
 def wide(count):
-    """Lines of 4,096 bytes: a text that is passed over."""
+    """Lines of 4,096 bytes: a text that is skipped."""
     filler = "TEXT/OPER,'" + "x" * (4096 - 12) + "'"
     return ["DMISMN/'WIDE',05.2"] + [filler] * count + ["ENDFIL"]
 
@@ -85,7 +85,7 @@ def server_prints(rounds):
 
 
 def client_prints(touches):
-    """The count of points, and the sum over the lines of such a client and the points that it is told."""
+    """The count of points, and the sum over the lines of such a client and the points that are reported to it."""
     commands = ["StartSession()", "ClearAllErrors()", "IsHomed()", "Home()", "OnPtMeasReport(X(), Y(), Z())",
                 "SetCoordSystem(MachineCsy)", 'ChangeTool("P1")']
     commands += [f"PtMeas(X({number}.000), Y(1.000), Z(2.000), IJK(0.000000, 0.000000, 1.000000))"
@@ -98,14 +98,14 @@ def client_prints(touches):
 
 
 def quiet_turns(touches, window):
-    """Turns of a plan with so many touches: ClearAllErrors stands alone behind StartSession, and nothing is sent behind IsHomed in its turn."""
+    """Turns of a plan with that many touches: ClearAllErrors is alone in the turn after StartSession, and nothing follows IsHomed in its turn."""
     begun = 3 if window == 1 else 2
     behind = 4 + touches + 1
     return begun + -(-behind // window)
 
 
 def quiet_prints(touches, window):
-    """The count of points, the turns, and the sum over points that are off by 0.002 in x and by 0.004 in z in turn."""
+    """The count of points, the turns, and the sum over points that deviate by 0.002 in x and by 0.004 in z in turn."""
     numbers = []
     for number in range(touches):
         numbers += [number * 1_000 + 2 * (number % 2 == 0), 1_000, 2_000 + 4 * (number % 2)]
@@ -113,15 +113,15 @@ def quiet_prints(touches, window):
 
 
 class Row:
-    """What is measured: so much work of a unit, the words of a run of a part of it, what these print (None where that is not known
-    beforehand), and the words of the runs whose cost is no part of the work."""
+    """What is measured: an amount of work of a unit, the words of a run of a part of it, what these print (None if that is not known beforehand),
+    and the words of the runs whose cost is not part of the work."""
 
     def __init__(self, name, crate, work, unit, words, prints, aside):
         self.name, self.crate, self.work, self.unit = name, crate, work, unit
         self.words, self.prints, self.aside = words, prints, aside
 
     def cost(self, program, work):
-        """All instructions of so much work, and those outside the C library."""
+        """All instructions of that much work, and those outside the C library."""
         everything, own, printed = counted([program] + self.words(work), os.path.basename(program))
         wanted = self.prints(work)
         if wanted is not None and printed != wanted:
@@ -132,15 +132,15 @@ class Row:
         return everything, own
 
     def measure(self, program):
-        """The instructions of the whole work and what the second half costs beside the first, each of all and of those outside the C
-        library; the peak in KiB."""
+        """The instructions of the whole work and the cost of the second half relative to the first, both in total and outside the C library; the
+        peak in KiB."""
         none, half, whole = (self.cost(program, work) for work in (0, self.work // 2, self.work))
         memory, _ = peak([program] + self.words(self.work))
         return [(all_ - begin, (all_ - first) / (first - begin)) for begin, first, all_ in zip(none, half, whole)], memory
 
 
 def check_row(name, work, unit, lines_of, folder):
-    """A row of `check`, on the program of lines that a count of the unit gives."""
+    """A row of `check`, on the program made for a count of the unit."""
     def words(count):
         path = os.path.join(folder, f"{name}.{count}.dmis")
         if not os.path.exists(path):
@@ -166,7 +166,7 @@ def rows(folder):
     given.append(Row("server: rounds of a move and a touch", "bench_world", ROUNDS, "round",
                      lambda rounds: ["server", str(rounds)], server_prints, lambda _: []))
     for window in (1, 16):
-        # A client with window 0 is refused, once its program was read.
+        # A client with window 0 is refused, once its program has been read.
         given.append(Row(f"client: touches, window {window}", "bench_world", TOUCHES, "touch",
                          lambda touches, window=window: ["client", str(touches), str(window)], client_prints,
                          lambda touches: [["client", str(touches), "0"]]))
@@ -174,10 +174,10 @@ def rows(folder):
 
 
 def quiet_rows():
-    """The undisturbed run, on ours alone: what each touch costs at the beginning and at the end."""
+    """The undisturbed run, only of ours: what each touch costs at the beginning and at the end."""
     def prints(window):
         return lambda touches: quiet_prints(touches, window)
-    # A run with window 0 is refused, once its program was read.
+    # A run with window 0 is refused, once its program has been read.
     return [Row(f"undisturbed run: touches, window {window}", "bench_world", TOUCHES, "touch",
                 lambda touches, window=window: ["quiet", str(touches), str(window)], prints(window),
                 lambda touches: [["quiet", str(touches), "0"]])

@@ -1,7 +1,7 @@
 #!/usr/bin/env python3
-"""Which code has no clause: the functions with no `ensures` of their own and none from a trait, file by file, as docs/AUDITOR.md lists them.
+"""Which code has no clause: the functions with no `ensures` of their own or from a trait, file by file, as docs/AUDITOR.md lists them.
 
-A method of a trait of the repository has a clause where the trait's has one; of another trait, where the impl says something of it by a
+A method of a trait of the repository has a clause if the trait's method has one; a method of another trait, if the impl specifies it by a
 `ghost` item. `run` calls this; by itself: tests/clauses.py, and tests/clauses.py --write to write the list.
 """
 
@@ -18,7 +18,7 @@ ITEM = re.compile(r"^(?:pub(?:\(\w+\))? )?(?:unsafe )?(impl\b[^{]*|trait [^{]*)\
 
 
 def heads(text):
-    """Where each function begins, its name, and its head: all up to its body or its semicolon."""
+    """Where each function begins, its name, and its head: everything up to its body or its semicolon."""
     starts = [it.start() for it in FUNCTION.finditer(text)]
     for start, end in zip(starts, starts[1:] + [len(text)]):
         lines = []
@@ -37,7 +37,7 @@ def traits_of(texts):
 
 
 def said_by_traits(text, traits):
-    """Where the functions begin that have a clause from a trait."""
+    """Where each function begins that has a clause from a trait."""
     places = set()
     for item in ITEM.finditer(text):
         trait = re.search(r"([\w:]+)(?:<[^{]*>)? for ", item[1])
@@ -66,7 +66,7 @@ def table(texts):
 
 
 def check_clauses():
-    """Whether the list is the present one; and whether a clause that is taken out or put in changes it."""
+    """Whether the list is up to date, and whether removing or adding a clause changes it."""
     texts = {it.relative_to(ROOT): it.read_text() for it in sorted(ROOT.glob("crates/*/src/**/*.rt"))}
     faults = []
     if not is_present(PAGE, pathlib.Path(__file__).name, table(texts)):

@@ -1,4 +1,4 @@
-"""Sources docs/dme.bash in bash, and holds what it completes against what the program itself says: its commands, the options of each, the
+"""Sources docs/dme.bash in bash, and compares its completions with what the program itself reports: its commands, the options of each, the
 forms, and the codes that `dme explain` knows.
 
 `run` calls this; by itself: tests/completion.py
@@ -16,7 +16,7 @@ COMPLETE = 'source docs/dme.bash && COMP_WORDS=("$@") && COMP_CWORD=$(($# - 1)) 
 
 
 def completed(*words):
-    """What bash offers for the last of these words behind `dme`."""
+    """What bash offers for the last of these words after `dme`."""
     run = subprocess.run(["bash", "-c", COMPLETE, "bash", "dme", *words], cwd=ROOT, capture_output=True, text=True, timeout=SECONDS, check=True)
     return set(run.stdout.split())
 
@@ -35,7 +35,7 @@ def options(command):
 
 
 def is_whole(name):
-    """Whether this is completed as the program says."""
+    """Whether the completion of these words is what the program reports."""
     if name == "commands":
         return completed("") == commands() | {"--help"}
     if name == "codes":
@@ -50,7 +50,7 @@ def is_whole(name):
 
 
 def check_completion():
-    """How many lists are as the program says, and how many are not."""
+    """How many lists are as the program reports, and how many are not."""
     names = ["commands", "codes", "forms", "check", "simulate", "audit", "loop", "serve", "run", "explain", "export"]
     wrong = [it for it in names if not (PROGRAM.exists() and is_whole(it))]
     for name in wrong:

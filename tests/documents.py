@@ -1,10 +1,10 @@
 #!/usr/bin/env python3
-"""Runs each line of README and of the pages in docs/ that calls `dme`, as it stands there but for its port, in a folder with the files of
-examples/. Each has to end with status 0 and with nothing said of a fault; where what it prints stands below it, it prints just that.
+"""Runs each line of README and of the pages in docs/ that calls `dme`, unchanged except for its port, in a folder with the files of
+examples/. Each must end with status 0 and report no fault; if a block below it shows what it prints, it must print exactly that.
 
-A server in the lines of one block serves the client below it; to any other a client comes, and a client alone finds a server. What
-stands below is an indented block right behind it, or behind one paragraph that ends with a colon. `run` calls this; by itself:
-tests/documents.py
+A server in the lines of one block serves the client below it; any other server gets a client, and a client without a server gets one. The
+block that shows the output is indented, and comes directly after the call or after one paragraph that ends with a colon. `run` calls this;
+by itself: tests/documents.py
 """
 
 import contextlib
@@ -28,7 +28,7 @@ SERVER = "dme serve --setup machine.setup --port 4000"
 
 
 def call_of(line):
-    """The call of `dme` that a line is; none where it is another."""
+    """The call of `dme` in a line; none if it is another line."""
     inside = IN_CRATE.fullmatch(line)
     if inside:
         return "dme " + inside[1].replace("../../", "")
@@ -50,7 +50,7 @@ def parts_of(text):
 
 
 def printed_below(parts, at):
-    """What stands below a block of calls as what the last of them prints; none where nothing does."""
+    """The output that is shown below a block of calls, that of the last of them; none if no output is shown."""
     behind = parts[at + 1 : at + 3]
     if behind and not behind[0][0] and behind[0][1][-1].endswith(":"):
         behind = behind[1:]
@@ -60,7 +60,7 @@ def printed_below(parts, at):
 
 
 def blocks_of(document):
-    """The calls of each block that has some, and what the last of them prints."""
+    """The calls of each block that has any, and the output that is shown for the last of them."""
     parts = parts_of(document.read_text())
     for at, (is_block, lines) in enumerate(parts):
         calls = [call_of(it) for it in lines if call_of(it)] if is_block else []
@@ -86,7 +86,7 @@ class Room:
 
     @contextlib.contextmanager
     def serving(self, call, port):
-        """A server, until it has ended by itself."""
+        """A server, until it ends by itself."""
         server = self.started(call, port)
         wait_for_listener(port, lambda: server.poll() is not None, SECONDS)
         yield
@@ -118,7 +118,7 @@ def run_block(room, calls):
 
 
 def faults_of(room, document):
-    """How many blocks of a document have calls, and what is wrong with them."""
+    """How many blocks of a document have calls, and their faults."""
     faults, count = [], 0
     for calls, printed in blocks_of(document):
         count += 1
@@ -132,7 +132,7 @@ def faults_of(room, document):
 
 
 def check_documents():
-    """How many blocks of calls are true, and how many are not."""
+    """How many blocks of calls are correct, and how many are not."""
     passed = failed = 0
     for document in [ROOT / "README.md", *sorted((ROOT / "docs").glob("*.md"))]:
         with tempfile.TemporaryDirectory() as folder:

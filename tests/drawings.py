@@ -1,7 +1,7 @@
-"""Measures the drawings of `dme export --as svg` with Python's reader of XML, and holds them against the program and the features that they
-were made of: each nominal point lies where it has to lie beside the first one, in both views and in the scale that is named; each deviation
-has the length and the direction that its magnification gives it; each feature has its label, and no two of them lie on one another; the scale
-bar is as long as it says; nothing leaves the sheet. The drawings in docs/ are what is printed now.
+"""Measures the drawings of `dme export --as svg` with Python's reader of XML, and compares them with the program and the features that they
+were made of: each nominal point is at its place relative to the first one, in both views and in the scale that is named; each deviation has
+the length and the direction that its magnification gives it; each feature has its label, and no two labels overlap; the scale bar is as long
+as it says; nothing leaves the sheet. The drawings in docs/ are what is printed now.
 
 `run` calls this; by itself: tests/drawings.py
 """
@@ -59,7 +59,7 @@ def shapes_of(root):
 
 
 def places_of(shape):
-    """The places that a shape names."""
+    """The positions in a shape."""
     name, own, text = shape
     if name == "polyline":
         return [tuple(map(Decimal, it.split(","))) for it in own["points"].split()]
@@ -77,7 +77,7 @@ def is_near(a, b):
 
 
 def must_lie(places, expected, told):
-    """Places on paper, against what they have to be beside the first of them."""
+    """Compares positions on paper with what they must be relative to the first of them."""
     must(len(places) == len(expected), told, "count", len(places), "of", len(expected))
     for place, wanted in zip(places, expected):
         for k in (0, 1):
@@ -115,7 +115,7 @@ def must_be_labelled(shapes, labels):
 
 
 def must_have_bar(shapes, scale):
-    """The scale bar, which is the one thick black line, has the length that the text behind it says."""
+    """The scale bar, which is the one thick black line, has the length that the text after it says."""
     bar = next(at for at, it in enumerate(shapes) if it[0] == "line" and it[1].get("stroke-width") == "0.8")
     start, end = places_of(shapes[bar])
     told = re.fullmatch(r"([0-9.]+) mm", shapes[bar + 1][2])
@@ -146,7 +146,7 @@ def must_be_drawn(name, schedule, program):
 
 
 def check_drawings():
-    """How many drawings are as they have to be, and how many are not."""
+    """How many drawings are correct, and how many are not."""
     wrong = 0
     for name, (schedule, program) in DRAWINGS.items():
         try:

@@ -1,7 +1,7 @@
 """Compares tools/edits.txt, which says with which content the edits of each crate were last tried, with the present content.
 
-A line is of the present content where its checksum is that of the crate's files now, and its count that of the crate's edits. `tools/edits`
-writes the lines. `run` calls this; by itself: tools/edits --stale
+A line is up to date if its checksum is that of the crate's present files, and its count that of the crate's edits. `tools/edits` writes the
+lines. `run` calls this; by itself: tools/edits --stale
 """
 
 import hashlib
@@ -10,7 +10,7 @@ import pathlib
 ROOT = pathlib.Path(__file__).resolve().parent.parent
 RECORD = ROOT / "tools" / "edits.txt"
 PARTS = ("src", "specs", "proofs", "must-fail*")
-EACH_HAS_ITS_LINE = False  # Once it is true, a crate with edits and no line fails too.
+EACH_HAS_ITS_LINE = False  # If true, a crate with edits and no line fails too.
 HEAD = """\
 # With which content the edits of a crate were last tried, each of which a goal then refused. `tools/edits` writes this file.
 # A line: the crate, the SHA-256 of its files in src/, specs/, proofs/ and must-fail*/ (names and bytes), how many edits it has.
@@ -19,7 +19,7 @@ HEAD = """\
 
 
 def edits_of(crate):
-    """The edits of a crate, which is a folder."""
+    """The edits of a crate, given by its folder."""
     return sorted(crate.glob("must-fail*/*.edit"))
 
 
@@ -28,7 +28,7 @@ def crates_with_edits():
 
 
 def content_of(crate):
-    """What the line of a crate says of its content: the checksum and the count of edits."""
+    """What the line of a crate records of its content: the checksum and the count of edits."""
     files = {it.relative_to(crate).as_posix(): it for part in PARTS for it in crate.glob(f"{part}/**/*") if it.is_file()}
     whole = hashlib.sha256()
     for name in sorted(files):
@@ -38,7 +38,7 @@ def content_of(crate):
 
 
 def recorded():
-    """What the lines say, by crate."""
+    """What the lines record, by crate."""
     lines = RECORD.read_text().splitlines() if RECORD.exists() else []
     return dict(it.partition(" ")[::2] for it in lines if it and not it.startswith("#"))
 
@@ -50,14 +50,14 @@ def record(name, content):
 
 
 def stale():
-    """The crates whose line is of another content, and those that have edits and no line."""
+    """The crates whose line is out of date, and those that have edits and no line."""
     lines = recorded()
     changed = [it for it in sorted(lines) if lines[it] != content_of(ROOT / "crates" / it)]
     return changed, [it for it in crates_with_edits() if it not in lines]
 
 
 def check_edits():
-    """How many crates have edits that were tried with their present content, and how many have not."""
+    """How many crates have had their edits tried with the present content, and how many have not."""
     changed, untried = stale()
     for name in changed:
         print(f"edits of {name}: last tried with another content of it: tools/edits {name}")

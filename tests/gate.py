@@ -1,9 +1,9 @@
 #!/usr/bin/env python3
-"""Writes docs/GATE.md: how long the proof of each crate takes, from tools/times.txt, and how many edits it has, which were last tried with
-its present content or not (tools/edits.txt).
+"""Writes docs/GATE.md: how long the proof of each crate takes, from tools/times.txt, how many edits it has, and whether they were last tried
+with its present content (tools/edits.txt).
 
 tools/times.txt has lines of a crate and its seconds of processor time, as `tools/times` sampled them during a whole run of `tests/run` from
-nothing; its comments say of which run. `run` calls this; by itself: tests/gate.py, and tests/gate.py --write to write the page.
+nothing; its comments describe that run. `run` calls this; by itself: tests/gate.py, and tests/gate.py --write to write the page.
 """
 
 import sys
@@ -16,14 +16,14 @@ TIMES = ROOT / "tools" / "times.txt"
 
 
 def times():
-    """The seconds of each crate, and what is said of the run."""
+    """The seconds of each crate, and what is recorded about the run."""
     lines = TIMES.read_text().splitlines() if TIMES.exists() else []
     seconds = {name: int(value) for name, value in (it.split() for it in lines if it and not it.startswith("#"))}
     return seconds, [it.removeprefix("# ") for it in lines if it.startswith("# ")]
 
 
 def table():
-    """What is known of the run, and a row for each crate."""
+    """What is known about the run, and a row for each crate."""
     seconds, said = times()
     known = recorded()
     text = "".join(f"{it}\n" for it in said)
@@ -37,7 +37,7 @@ def table():
 
 
 def check_gate():
-    """Whether the page is the present one."""
+    """Whether the page is up to date."""
     is_right = is_present(PAGE, "gate.py", table())
     print(f"times and counts of the gate: {'as listed' if is_right else 'not as listed: tests/gate.py --write'}", flush=True)
     return (1, 0) if is_right else (0, 1)

@@ -1,4 +1,4 @@
-"""The parts of pages that scripts write, between two marks: holds each against what its script would write now."""
+"""The parts of pages that scripts write, between two marks: compares each with what its script would write now."""
 
 import pathlib
 import sys
@@ -8,7 +8,7 @@ END = "<!-- End of what it writes. -->\n"
 
 
 def written(page, script, part):
-    """A page with a part in its place."""
+    """A page with a part put in its place."""
     begin = f"<!-- Written by tests/{script} --write. -->\n"
     before, begun, rest = page.partition(begin)
     _, ended, after = rest.partition(END)

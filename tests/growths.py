@@ -1,10 +1,10 @@
 """Refuses each growth of a run in turn: the first, then the second, up to the last that it makes (refuse.c).
 
-Of an order, each run has to end with status 4 and `dme: out of memory`. `check`, `simulate`, `audit`, `export` and `explain` have then printed
-nothing; an order over a connection has printed nothing, or the report of what was done until then, and left its file as it was or put such a
-front in it. Of the calls behind it (`test_calls`), each growth of a pump or of a whole connection has to be answered as want of memory, the side
-has left, and a front of its lines has gone out. A run that asks for room beforehand and can do without it may be as if nothing was refused: one
-of a run.
+Each run of a command must end with status 4 and `dme: out of memory`. `check`, `simulate`, `audit`, `export` and `explain` have then printed
+nothing; a command over a connection has printed nothing, or the report of what was done until then, and has left its file as it was or put a
+prefix of it there. For the calls that these commands make (`test_calls`), each growth of a pump or of a whole connection must be answered as
+out of memory, the side has left, and a prefix of its lines has gone out. A run may ask for room in advance and manage without it; then it may
+be as if nothing was refused, in one case for each run.
 
 `run` calls this; by itself: tests/growths.py [NAME ..]
 """
@@ -26,7 +26,7 @@ CALLS = ROOT / "crates" / "test_calls" / "out" / "test_calls"
 WANT = (4, "dme: out of memory\n")
 SECONDS = 20
 
-# A call of pumps or of a whole connection, on what follows `replies ONE` or `commands ONE`, and what it answers with memory.
+# A call of pumps or of a whole connection, on what follows `replies ONE` or `commands ONE`, and what it answers if there is memory.
 CALL_ROWS = {
     "a_turn_of_a_client": ("turns ONE 1", "least 9, bound 100 < 00001 &|;", "Moved { read: 9, written: 22 } Running on: "),
     "a_run_of_a_client": ("runs ONE 1", "least 1 < all", "() Done on: "),
@@ -36,9 +36,8 @@ CALL_ROWS = {
     "a_run_of_a_server": ("connections", "least 1 < 00001 StartSession()|;00002 Home()|;", "() off: "),
 }
 
-# Rows of `test_calls` that stand by themselves, which it makes again where memory is wanting: what it prints has to be what it prints with all
-# memory, with or without the note that a call was refused and all is as before, or, where the refusal of a text has its own words, that memory
-# was wanting.
+# Independent rows of `test_calls`, which it makes again if it runs out of memory: it must print what it prints with all memory, with or without
+# the note that a call was refused and everything is as before, or, if the refusal of a text has its own words, that it was out of memory.
 RETRIED_ROWS = {
     "setup": ("setups", "TOOL P1;TOOL P2;FRAME PART 100 0 0;SHIFT 0.002 0 0;SHIFT 0 0 0.004;SHIFT -0.001 0.001 0;"),
     "schedule": ("schedules", "connect;accept 1;machine touched 1 2 3;up all;down 5;quiet 3;quiet"),
@@ -49,7 +48,7 @@ RETRIED_ROWS = {
     "schedule_played": ("homings THREE 3", "connect;accept 1;quiet;clientrestart 0;serverrestart;connect;accept 2;quiet"),
 }
 
-# An order of files, which prints all or nothing.
+# A command on files, which prints everything or nothing.
 FILE_ROWS = {
     "check": "check --setup two_clampings.setup two_clampings.dmis",
     "simulate": "simulate --setup machine.setup --schedule break_inside_a_feature.schedule circle.dmis",
@@ -71,7 +70,7 @@ def must(is_so, *told):
 
 
 class Refusing:
-    """Runs programs of which one growth is refused."""
+    """Runs programs with one growth refused."""
 
     def __init__(self, room):
         self.room = pathlib.Path(room)
@@ -79,7 +78,7 @@ class Refusing:
         subprocess.run(["cc", "-O1", "-shared", "-fPIC", "-o", self.library, TESTS / "refuse.c"], check=True)
 
     def started(self, words, number, folder=EXAMPLES, counts=None, text=None):
-        """A program of which the growth of this number is refused; the count of its growths goes to a file, where one is given."""
+        """A program with the growth of this number refused; the count of its growths goes to a file, if there is one."""
         told = dict(os.environ, LD_PRELOAD=str(self.library), REFUSE=str(number))
         if counts is not None:
             told["REFUSE_COUNT"] = str(counts.fileno())
@@ -88,7 +87,7 @@ class Refusing:
                                 stdout=subprocess.PIPE, stderr=subprocess.PIPE, text=True)
 
     def all_of(self, run):
-        """What a run gives with all memory, and with each of its growths refused in turn. `run` takes the number and a file of counts."""
+        """The results of a run with all memory, and with each of its growths refused in turn. `run` takes the number and a file of counts."""
         with tempfile.TemporaryFile("w+") as counts:
             whole = run(0, counts)
             counts.seek(0)
@@ -106,7 +105,7 @@ def is_front(rows, whole):
 
 
 def must_be_front_of_report(output, whole):
-    """Nothing, or the report of a client that has left: features and contacts are fronts of the whole run's."""
+    """Nothing, or the report of a client that has left: its features and contacts are prefixes of those of the whole run."""
     rows, all_rows = output.splitlines(), whole.splitlines()
     if not rows:
         return
@@ -114,11 +113,11 @@ def must_be_front_of_report(output, whole):
     must(rows[0] == "STATE Apart" or rows[0] == all_rows[0], "another state", output)
     must(int(rows[1].split()[1]) <= int(all_rows[1].split()[1]), "more is counted", output)
     for part in (is_contact, lambda row: not is_contact(row)):
-        must(is_front(list(filter(part, rows[2:])), list(filter(part, all_rows[2:]))), "is no front", output)
+        must(is_front(list(filter(part, rows[2:])), list(filter(part, all_rows[2:]))), "is not a prefix", output)
 
 
 def must_want_memory(whole, runs, and_so):
-    """All runs but one at most end for want of memory, and what they print is so."""
+    """All runs except at most one end out of memory, and their output has this property."""
     others = [it for it in runs if it != whole]
     must(len(others) >= len(runs) - 1, "done without", len(runs) - len(others), "of", len(runs))
     for run in others:
@@ -134,7 +133,7 @@ def file_row(refusing, words):
 
 
 def traced_row(refusing, words):
-    """An order that shows its lines on standard error: all of them or none, and behind them that memory was wanting."""
+    """A command that shows its lines on standard error: all of them or none, followed by the report that it was out of memory."""
     whole, runs = refusing.all_of(lambda number, counts: ended(refusing.started([PROGRAM, *words.split()], number, counts=counts)))
     must(whole[0] == 0 and whole[2].count(" > ") > 5, "with all memory", whole)
     others = [it for it in runs if it != whole]
@@ -145,7 +144,7 @@ def traced_row(refusing, words):
 
 
 def explained_row(refusing, words):
-    """An order that refuses a file and shows where: want of memory, or the refusal with where it is, or without it."""
+    """A command that refuses a file and shows where: out of memory, or the refusal with its place, or without it."""
     whole, runs = refusing.all_of(lambda number, counts: ended(refusing.started([PROGRAM, *words.split()], number, counts=counts)))
     refusal = whole[2].splitlines(keepends=True)
     must(whole[:2] == (1, "") and len(refusal) == 3, "with all memory", whole)
@@ -164,7 +163,7 @@ def loop_row(refusing, words):
 
 
 class Pair:
-    """`dme serve` and `dme run` over one connection, each with its file; a growth of the one of them that is looked at is refused."""
+    """`dme serve` and `dme run` over one connection, each with its file; a growth of the end under test is refused."""
 
     ENDS = {
         "serve": "serve --setup machine.setup --port PORT --contacts contacts",
@@ -182,7 +181,7 @@ class Pair:
         return self.refusing.started([PROGRAM, *words], number if is_own else 0, folder, counts if is_own else None)
 
     def run(self, number, counts):
-        """The end that is looked at, and the text of its file, or none."""
+        """The end under test, and the text of its file, or none."""
         with tempfile.TemporaryDirectory() as room:
             folder = pathlib.Path(room)
             for name in ("machine.setup", "circle.dmis"):
@@ -193,18 +192,18 @@ class Pair:
             client = self.started("run", port, number, counts, folder)
             given = {"run": ended(client)}
             if self.looked_at == "run" and given["run"][0] != 0:
-                # A server whose client never came would wait for ever.
+                # A server whose client never comes would wait forever.
                 server.kill()
             given["serve"] = ended(server)
             file = folder / self.FILES[self.looked_at]
-            must(not file.with_suffix(".new").exists(), "a file is left beside it")
+            must(not file.with_suffix(".new").exists(), "a file is left next to it")
             return given[self.looked_at], file.read_text() if file.exists() else None
 
 
 def must_be_front_of_file(text, whole, ends):
-    """None, or the whole lines up to one of these ends."""
+    """Nothing, or the whole lines up to one of these ends."""
     rows, all_rows = (text or "").splitlines(), whole.splitlines()
-    must(is_front(rows, all_rows) and (len(rows) <= 1 or rows[-1].startswith(ends)), "is no front of its file", text)
+    must(is_front(rows, all_rows) and (len(rows) <= 1 or rows[-1].startswith(ends)), "is not a prefix of its file", text)
 
 
 def run_row(refusing):
@@ -221,12 +220,12 @@ def serve_row(refusing):
     for _, text in runs:
         must_be_front_of_file(text, file, "1 ")
     rows = whole[1].splitlines()
-    return must_want_memory(whole, [it for it, _ in runs], lambda run: must(is_front(run[1].splitlines(), rows), "is no front", run))
+    return must_want_memory(whole, [it for it, _ in runs], lambda run: must(is_front(run[1].splitlines(), rows), "is not a prefix", run))
 
 
 def call_row(refusing, group, row, answer):
-    """The call is made on its own by `test_calls`, whose own growths end it with status 1 or 4. Its ports keep what went out in memory, so that a
-    growth of theirs is a port that fails."""
+    """`test_calls` makes the call alone; its own growths end it with status 1 or 4. Its ports keep what went out in memory, so a refused growth of
+    theirs is a port that fails."""
     parts = "".join(part for part in parts_of((ROOT / "crates" / "test_calls" / "stdin").read_text())
                     if part.split("]")[0] in ("[program ONE", "[setup", "[replies ONE", "[commands ONE"))
     text = f"{parts}[{group}]\n{row}\n"
@@ -250,7 +249,7 @@ def call_row(refusing, group, row, answer):
 
 
 def retried_row(refusing, head, row):
-    """Each growth is made up for, or the row says that memory was wanting, or the program itself ends for it."""
+    """The program recovers from each refused growth, or the row says that it was out of memory, or the program itself ends for it."""
     parts = "".join(part for part in parts_of((ROOT / "crates" / "test_calls" / "stdin").read_text()) if part.startswith(("[program ", "[setup]")))
     text = f"{parts}[{head}]\n{row}\n"
     whole, runs = refusing.all_of(lambda number, counts: ended(refusing.started([CALLS], number, counts=counts, text=text), text))
@@ -292,7 +291,7 @@ def growth_rows(refusing):
 
 
 def check_growths(names=()):
-    """How many rows are as they have to be, and how many are not."""
+    """How many rows are correct, and how many are not."""
     wrong = 0
     with tempfile.TemporaryDirectory() as room:
         rows = growth_rows(Refusing(room))

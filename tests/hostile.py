@@ -1,10 +1,10 @@
-"""Bytes that may be anything, given to either end and to both in pieces of 1, of 7 and of 200 bytes (`hostile` of test_calls).
+"""Arbitrary bytes, given to either end and to both in pieces of 1, 7 and 200 bytes (`hostile` of test_calls).
 
-256 fixed lists of 200 bytes that occur in lines and bytes that do not, and lists made of fragments of lines. Of each the three cuts have to
-leave an end alike; and what an end has read, why it stops and what it answers is compared with the tables of docs/PROTOCOL.md, written down
-here once more and for whole lists. Each kind of refusal and of answer has to come.
+256 fixed lists of 200 bytes that occur in lines and bytes that do not, and lists made of fragments of lines. The three ways of cutting a list
+must leave an end in the same state; and what an end has read, why it stops and what it answers is compared with the tables of
+docs/PROTOCOL.md, written here a second time and for whole lists. Each kind of refusal and of answer must occur.
 
-`run` calls this; by itself: tests/hostile.py [LISTS], with how many lists of fragments each of the three is given (10,000 where it is not said).
+`run` calls this; by itself: tests/hostile.py [LISTS], where LISTS is how many lists of fragments each of the three gets (10,000 by default).
 """
 
 import collections
@@ -21,7 +21,7 @@ SECONDS = 600
 
 
 class Fixed:
-    """The same numbers at every run: a linear congruence of 64 bits, of which the upper ones are taken."""
+    """The same numbers in every run: the upper bits of a linear congruence of 64 bits."""
 
     def __init__(self, seed):
         self.state = seed
@@ -40,7 +40,7 @@ IN_LINES = b"0123456789E &#%!.,()\"-+XYZIJKxyzHomePtMeasGoToAbortError\r\n"
 
 
 def plain_list(fixed):
-    """200 bytes: most of them occur in lines, and every sixth may be any; lines end more often than by chance."""
+    """200 bytes: most of them occur in lines, and every sixth is arbitrary; lines end more often than by chance."""
     given = bytearray()
     while len(given) < 200:
         which = fixed.below(24)
@@ -67,7 +67,7 @@ def point_text(fixed):
 
 
 def reply_text(fixed, held):
-    """A reply, mostly to one of these tags, or to none."""
+    """A reply, mostly to one of these tags, or to no tag."""
     tag = fixed.one_of(held + ["E0000"] if fixed.below(12) else TAGS)
     data = [point_text(fixed), "IsHomed(1)", "IsHomed(0)", "ishomed ( 1 )", "1", "0", "2", "IsHomed()", "X(1), Y(2)", "none", ""]
     good = [" &", " & ", " %", " %  ", " # " + data[0], " # " + data[0], " # " + fixed.one_of(data), " !",
@@ -87,7 +87,7 @@ def command_text(fixed):
 
 
 def damaged(fixed, text):
-    """A line, whole or cut at either end, or with a byte changed: to NUL, to one above 127, or to any."""
+    """A line, whole or cut at either end, or with a byte changed: to NUL, to one above 127, or to an arbitrary one."""
     given = bytearray(text.encode())
     which = fixed.below(30)
     at = fixed.below(len(given))
@@ -108,10 +108,10 @@ def fragment_list(fixed, line_of):
     return bytes(given[:200])
 
 
-# ---- what lists say: docs/PROTOCOL.md, of a whole list at once
+# ---- what lists mean: docs/PROTOCOL.md, for a whole list at once
 
 def stream_of(given):
-    """The lines at the front, and whether a CR or LF that is no end of a line stands behind them."""
+    """The lines at the beginning, and whether a CR or LF that does not end a line follows them."""
     lines, start = [], 0
     for at, byte in enumerate(given):
         if byte == 10 and (at == start or given[at - 1] != 13):
@@ -131,7 +131,7 @@ TEXTS = {9001: "No tag", 9002: "Tag in use", 9003: "Unknown command", 9004: "Bad
 
 
 class ServerReading:
-    """A server that reads lines, and has no turn between them: the cases of 'A line is read'."""
+    """A server that reads lines, with no turn between them: the cases of 'A line is read'."""
 
     def __init__(self, runs=None, waits=()):
         self.runs, self.waits, self.error, self.out = runs, list(waits), False, []
@@ -195,7 +195,7 @@ POINT = re.compile(r"X *\( *(N) *\) *, *Y *\( *(N) *\) *, *Z *\( *(N) *\) *".rep
 
 
 def is_coordinate(text):
-    """At most 30 digits before the exponent, and at most 4,000,000,000 micrometres when it is rounded."""
+    """At most 30 digits before the exponent, and at most 4,000,000,000 micrometres once rounded."""
     mantissa = re.split("[eE]", text)[0]
     return sum(it.isdigit() for it in mantissa) <= 30 and abs(Decimal(text)) < Decimal("4000000.0005")
 
@@ -279,7 +279,7 @@ class ClientReading:
         self.settle()
 
     def standard_open(self):
-        """Those that have not failed."""
+        """The commands that have not failed."""
         return [it for it in self.held if it[1] != "abort" and it[2] != "Failed"]
 
     def settle(self):
@@ -291,7 +291,7 @@ class ClientReading:
             self.state = "Failing" if self.standard_open() else "Halted"
 
 
-# ---- rows and what they have to show
+# ---- rows and what they must show
 
 CLIENTS = [
     ("ONE 1", "ended 8 / send", "Running", [("00009", "touch", "Sent")]),
@@ -314,7 +314,7 @@ SERVERS = [
 
 
 def answers_of(head, rows):
-    """What the rows of a part answer."""
+    """The answers to the rows of a part."""
     parts = "".join(part for part in parts_of(ROWS_OF_PROGRAMS.read_text()) if part.startswith(("[program ", "[setup]")))
     text = f"{parts}[{head}]\n" + "".join(row + "\n" for row in rows)
     done = subprocess.run([str(CALLS)], input=text, capture_output=True, text=True, timeout=SECONDS)
@@ -362,7 +362,7 @@ def must_be_server(context, given, answer, met):
 
 
 def must_be_both(down, up, answer, met):
-    """Both are driven to the end behind all bytes, and the files have runs unless the client was told a point by the bytes."""
+    """Both are driven to the end after all bytes, and the files have runs unless the bytes gave the client a point."""
     must("differs" not in answer, down, up, answer)
     states = re.findall(r"(\w+) \d+ open \d+ completed: ", answer)
     must(len(states) == 2 and states[1] == "Done", down, up, "ends", answer)
@@ -445,7 +445,7 @@ def fragment_rows_of_both(count):
 
 
 def check_hostile(lists=FRAGMENT_LISTS, names=False):
-    """How many groups of lists are as they have to be, and how many are not."""
+    """How many groups of lists are correct, and how many are not."""
     groups = {"fixed lists": plain_rows, "lists to a client": lambda: fragment_rows_of_a_client(lists),
               "lists to a server": lambda: fragment_rows_of_a_server(lists), "lists to both": lambda: fragment_rows_of_both(lists)}
     wrong = 0

@@ -1,15 +1,15 @@
-"""Runs that are killed at any moment and begun again over their record.
+"""Runs that are killed at any moment and started again from their record.
 
 A program of 40 features is run against `dme serve` with windows of 1, 4 and 16. The run is killed (SIGKILL) twice, at moments of a fixed
-sequence spread over the time that an undisturbed run takes, and is begun again over its record until it is Done. After each kill the
-record, as far as its lines are whole, is read here, in a second reading of docs/FILES.md; then:
+sequence spread over the time that an undisturbed run takes, and is started again from its record until it is Done. After each kill the whole
+lines of the record are read here, by a second implementation of docs/FILES.md; then:
 
-- no feature whose COMPLETED line was whole is lost, and none is measured twice;
+- no feature whose COMPLETED line was whole is lost or measured twice;
 - the features of the record are those of the program, each with the points of its last contacts;
 - the audit of the record's features over the record's contacts answers RUNS, and over the server's contacts too;
 - what the server reported is a prefix of what it did on that connection, for each connection.
 
-`run` calls this with a few moments; by itself: tests/killed.py [MOMENTS], which spreads so many over each window.
+`run` calls this with a few moments; by itself: tests/killed.py [MOMENTS], which spreads that many over each window.
 """
 
 import pathlib
@@ -53,7 +53,7 @@ def run_words(port, window):
 
 
 class Record:
-    """What the whole lines of a record say."""
+    """What the whole lines of a record mean."""
 
     def __init__(self, text):
         lines = text.split("\n")[:-1]
@@ -109,7 +109,7 @@ def audited(folder, contacts):
 
 
 def killed_run(folder, port, window, moment):
-    """A run that is killed after so many seconds, if it has not ended by then."""
+    """A run that is killed after that many seconds, unless it ends earlier."""
     process = dme(folder, *run_words(port, window))
     try:
         process.communicate(timeout=moment)
@@ -119,7 +119,7 @@ def killed_run(folder, port, window, moment):
 
 
 def ended_server(server, port):
-    """Until the server has had all its connections: a run may be killed before it makes one."""
+    """Connects until the server has had all its connections: a run may be killed before it makes one."""
     while server.poll() is None:
         try:
             socket.create_connection(("127.0.0.1", port), 1).close()
@@ -130,7 +130,7 @@ def ended_server(server, port):
 
 
 def must_be_prefix(folder):
-    """On each connection of the record, what was told is a prefix of what the server did on one of its connections."""
+    """On each connection of the record, what was reported is a prefix of what the server did on one of its connections."""
     server = {}
     for line in (folder / "server.contacts").read_text().splitlines()[1:]:
         number, rest = line.split(" ", 1)
@@ -170,7 +170,7 @@ def kill_twice(folder, window, moments):
 
 
 def whole_time(window):
-    """How long a run takes that nothing disturbs."""
+    """How long an undisturbed run takes."""
     begin = time.monotonic()
     with tempfile.TemporaryDirectory() as folder:
         kill_twice(pathlib.Path(folder), window, [])
@@ -178,7 +178,7 @@ def whole_time(window):
 
 
 def check_killed(moments=MOMENTS):
-    """How many windows were run whole at each moment, and how many were not."""
+    """How many windows pass at every moment, and how many do not."""
     chance, wrong, kept = Fixed(7), 0, 0
     for window in WINDOWS:
         try:

@@ -1,6 +1,6 @@
 #!/usr/bin/env python3
-"""The layers of the crates, what stands on what, and where a change begins: holds crates.txt against the rule of the layers, the table of
-docs/ARCHITECTURE.md against crates.txt, and the definitions and modules of its other table against the crates' files.
+"""The layers of the crates, their dependencies, and where a change begins: checks crates.txt by the rule of the layers, the table of
+docs/ARCHITECTURE.md by crates.txt, and the definitions and modules of its other table by the crates' files.
 
 `run` calls this; by itself: tests/layers.py, and tests/layers.py --write to write the table.
 """
@@ -13,7 +13,7 @@ from generated import ROOT, is_present
 
 PAGE = ROOT / "docs" / "ARCHITECTURE.md"
 
-# The lowest first. A crate uses crates of its own layer and of those before it here, and no crate uses one of USED_BY_NONE.
+# The lowest first. A crate uses crates of its own layer and of earlier layers, and no crate uses one of USED_BY_NONE.
 LAYERS = {
     "values and texts": "fixed_um dmis_text dmis_program dme_line line_framing byte_ports contact_ledger tool_rack",
     "the model": "protocol_model protocol_examples",
@@ -27,7 +27,7 @@ USED_BY_NONE = {"protocol_examples"} | {it for name in ("the edge", "tests and m
 
 
 def read(text):
-    """What each crate uses, by its name."""
+    """The crates that each crate uses, by its name."""
     lines = [it.partition("#")[0].partition(":") for it in text.splitlines()]
     return {name.split()[0]: below.split() for name, colon, below in lines if colon}
 
@@ -55,7 +55,7 @@ def row(name, crates):
 
 
 def table(crates):
-    """What stands on what, a layer after another."""
+    """What each crate uses, layer by layer."""
     text = "| Crate | Stands on | Of the toolchain | Used by |\n|---|---|---|---|\n"
     ordered = {it: crates[it] for names in LAYERS.values() for it in names.split() if it in crates}
     for layer, names in LAYERS.items():
@@ -64,7 +64,7 @@ def table(crates):
 
 
 def faults_of_directions(page):
-    """The files that the table of where a change begins names, and that their crate has not: `specs/` in one column, `src/` in the next."""
+    """The files that the table of where a change begins names, but that do not exist: `specs/` in one column, `src/` in the next."""
     faults = []
     for definitions, code in re.findall(r"^\| [^|`]* \| ([^|]*) \| ([^|]*) \|$", page, re.MULTILINE):
         for cell, glob in ((definitions, "specs/**/{}.antt"), (code, "src/**/{}.rt")):
@@ -78,7 +78,7 @@ def faults_of_directions(page):
 
 
 def check_layers():
-    """Whether the layers are kept and the table is the present one; and whether planted mistakes are found."""
+    """Whether the layers are kept and the table is up to date, and whether planted mistakes are found."""
     crates = read((ROOT / "crates.txt").read_text())
     faults = faults_of(crates) + faults_of_directions(PAGE.read_text())
     if not is_present(PAGE, pathlib.Path(__file__).name, table(crates)):

@@ -1,7 +1,7 @@
-"""The most that there may be of a thing, and one more: statements of a program, touches of a feature, bytes of a line.
+"""Each limit, and one more: statements of a program, touches of a feature, bytes of a line.
 
-What is expected is computed here. Other limits stand as rows: 64 waiting commands and one more (`homes` of test_calls), all tags held (`aborts
-9999` there, and the tests of `test_units` for standard tags), connection 4,000,000,000 and the number behind it (`connected`, `accept`).
+The expected results are computed here. Rows test other limits: 64 waiting commands and one more (`homes` of test_calls), all tags held (`aborts
+9999` there, and the tests of `test_units` for standard tags), connection 4,000,000,000 and the next number (`connected`, `accept`).
 
 `run` calls this; by itself: tests/limits.py [NAME ..]
 """
@@ -22,7 +22,7 @@ SETUP = "TOOL P1\nSHIFT 0.002 0 0\nSHIFT 0 0 0.004\nSHIFT -0.001 0.001 0\n"
 
 
 def lines_of(commands):
-    """Commands under the tags of a new connection, which come round behind 09999."""
+    """Commands under the tags of a new connection, which start again after 09999."""
     return "".join(f"{at % 9999 + 1:05} {it}\n" for at, it in enumerate(commands))
 
 
@@ -31,7 +31,7 @@ def moves(count):
 
 
 def touches(count, named):
-    """A program of one feature with so many touches, in so many statements and five."""
+    """A program of one feature with that many touches, in five statements more."""
     rows = "".join(f"PTMEAS/CART,{at},0,0,0,0,1\n" for at in range(count))
     return f"DMISMN/'E',05.2\nSNSLCT/S(P1)\nMEAS/POINT,F(A),{named}\n{rows}ENDMES\nENDFIL\n"
 
@@ -55,7 +55,7 @@ def ten_thousand_statements():
     text = lines_of(commands)
     must(text.count("\n") == 10_005 and text.endswith("\n00006 EndSession()\n"), "another text")
     must_be(ran("check p", p=moves(9_998) + "ENDFIL\n"), 0, text, "")
-    # The end may be missing only where the limit is not met before.
+    # The end may be missing only if the limit is not reached before it.
     must_be(ran("check p", p=moves(9_999)), 1, "", "dme: P2 Truncated at line 10000\n")
 
 
@@ -72,7 +72,7 @@ def most_points_of_a_block():
 
 
 def most_touches_of_a_feature():
-    """10,000 touches have no room beside the five statements around them: 9,995 have."""
+    """10,000 touches do not fit with the five statements around them; 9,995 do."""
     written = [f"PtMeas(X({at}.000), Y(0.000), Z(0.000), IJK(0.000000, 0.000000, 1.000000))" for at in range(9_995)]
     text = lines_of(FIRST + ['ChangeTool("P1")'] + written + ["EndSession()"])
     must_be(ran("check p", p=touches(9_995, 9_995)), 0, text, "")
@@ -85,7 +85,7 @@ def length(micrometres):
 
 
 def most_touches_measured():
-    """They are measured in one run, in which the tags come round."""
+    """They are measured in one run, in which the tags start again."""
     points = []
     for at in range(9_995):
         x, y, z = SHIFTS[at % 3]
@@ -98,13 +98,13 @@ def most_touches_measured():
         must_be(ran(f"simulate --setup s --schedule q --window {window} p", **files), 0, report, "")
 
 
-# ---- a line, fed byte by byte, in sevens and in two hundreds
+# ---- a line, fed in pieces of 1, 7 and 200 bytes
 
 IN_SESSION = "accept 1 / 00001 StartSession() / turn"
 
 
 def cuts(count, end):
-    """What both ends show of so many letters and an end."""
+    """What both ends show of that many letters and an end of a line."""
     given = (b"A" * count + end).hex()
     return answers_of("client_cuts ONE 1", [f"ended 8 / send | {given}"])[0], answers_of("server_cuts", [f"{IN_SESSION} | {given}"])[0]
 
@@ -124,7 +124,7 @@ def longest_line():
 
 
 def seconds_of(count):
-    """The processor time that 6,553,600 bytes take in the cuts of a server, as lines without an end of so many bytes each."""
+    """The processor time that 6,553,600 bytes take in the cuts of a server, as lines of this length without an end."""
     rows = [f"{IN_SESSION} | {(b'A' * count).hex()}"] * (6_553_600 // count)
     before = resource.getrusage(resource.RUSAGE_CHILDREN)
     answers_of("server_cuts", rows)
@@ -133,8 +133,8 @@ def seconds_of(count):
 
 
 def linear_work():
-    """The same bytes cost no more in lines sixteen times as long; where each byte led to a search from the front, they would cost sixteen times
-    as much. Of five runs of each, taken in turns, the cheapest counts, and six times is still taken for the same."""
+    """The same bytes cost no more in lines sixteen times as long; if each byte led to a search from the beginning, they would cost sixteen times
+    as much. The cheapest of five runs of each, taken in turns, counts, and a factor of up to six is accepted."""
     short, long = map(min, zip(*((seconds_of(4_096), seconds_of(65_536)) for _ in range(5))))
     must(long < 6 * short, "lines of 65,536 bytes took", long, "and the same bytes in lines of 4,096", short)
 
@@ -144,7 +144,7 @@ ROWS = (ten_thousand_statements, one_statement_more, most_points_of_a_block, mos
 
 
 def check_limits(names=()):
-    """How many rows are as they have to be, and how many are not."""
+    """How many rows are correct, and how many are not."""
     rows = [it for it in ROWS if not names or it.__name__ in names]
     wrong = 0
     for row in rows:

@@ -1,4 +1,4 @@
-"""Ports of 127.0.0.1: a free one, and one that somebody listens on."""
+"""Ports of 127.0.0.1: a free one, and one that a process listens on."""
 
 import pathlib
 import socket
@@ -16,7 +16,7 @@ def is_listened_on(port):
 
 
 def wait_for_listener(port, has_ended, seconds):
-    """Until somebody listens, or who should has ended."""
+    """Waits until a process listens, or the one that should has ended."""
     end = time.monotonic() + seconds
     while not is_listened_on(port) and not has_ended() and time.monotonic() < end:
         time.sleep(0.005)

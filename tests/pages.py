@@ -1,25 +1,31 @@
 #!/usr/bin/env python3
-"""Checks how the documents are written: their length, their links, the crates, files and names that they cite, and their language.
+"""Checks how the documents are written: their length, their links, the crates, files and names that they cite, and their language; and the
+language of the sources, in their comments and messages.
 
-Each check reads one document and answers what is wrong with it. Mistakes are planted in each run: a check that passes one of them fails.
+Each check reads one document and answers its faults. Mistakes are planted in each run: a check that passes one of them fails.
 `run` calls this; by itself: tests/pages.py
 """
 
+import ast
 import functools
+import io
 import os
 import pathlib
 import re
 import sys
+import tokenize
 
 ROOT = pathlib.Path(__file__).resolve().parent.parent
 DOCUMENTS = ("README.md", "docs/*.md", "crates/*/README.md")
-# Where PHRASES must not occur. In a source only comments and texts count, so sources can be added: "crates/*/src/**/*.rt".
-SPOKEN = (*DOCUMENTS, "docs/dme.1")
+# Where PHRASES must not occur: anywhere in a document, in the comments of a source, and in the texts of .rt files and of scripts, except in the
+# tables of phrases themselves.
+SPOKEN = (*DOCUMENTS, "docs/dme.1", "crates/*/src/**/*.rt", "crates/*/specs/**/*.antt", "crates/*/proofs/**/*.antt", "tests/*.py", "tests/run", "tools/*")
+TABLES = {"PHRASES", "ONCE", "PLANTED"}
 MOST_WORDS = {"README.md": 1500, "docs/PROOFS.md": 3000, "docs/DECISIONS.md": 4000, "crates/*/README.md": 450}
 TOGETHER = ("README.md", "docs/*.md")
 MOST_WORDS_TOGETHER = 24_000
 
-# What a document must not say, and what it may say instead.
+# Phrases that must not occur, and what to write instead.
 PHRASES = {
     r"behind": "after, following",
     r"wants? of memory": "out of memory",
@@ -30,7 +36,7 @@ PHRASES = {
     r"the same of": "likewise for",
     r"(?:is|are|was|were|be|been|being) told|tells": "is reported, reports",
     r"owes?|owed": "must ensure, requires",
-    r"(?:is|are|was|were) none": "is not a .., does not exist",
+    r"(?<!there )(?:is|are|was|were) none": "is not a .., does not exist",
     r"go(?:es)? on": "continues",
     r"ha(?:s|ve) (?:its|their) turn": "is processed",
     r"where (?:one|it) is(?! ?[.,;:)])": "if",
@@ -42,7 +48,7 @@ PHRASES = {
     r"co(?:mes?|me|ming) about": "fails (for: does not come about)",
     r"by hand": "manually",
 }
-ONCE = {r"this profile": "say it once a document"}
+ONCE = {r"this profile": "say it once a document"}  # only in documents: a comment names its source
 
 DEFINING = ("crates/*/src/**/*.rt", "crates/*/specs/**/*.antt", "crates/*/proofs/**/*.antt")
 OTHER_SOURCES = ("crates/*/must-fail*/*.edit", "crates/*/include/*", "crates/*/std*", "crates.txt", "tests/**/*.py", "tests/run", "tests/*.c", "tools/*", "bench/**/*.py", "bench/**/*.rs", "examples/**/*")
@@ -53,6 +59,9 @@ ANTT_DEFINES = re.compile(r"^\s*(?:abbrev |unfoldable |pub |record |data |mod )*
 PATH = re.compile(r"(?<![\w./-])((?:docs|crates|tests|tools|bench|examples|specs|src|proofs|include|must-fail[a-z-]*|\.ci)/[\w.*/-]*)")
 FILE = re.compile(r"^[\w*-]+\.(?:md|py|rt|antt|edit|dmis|schedule|bash)$")
 NAME = re.compile(r"^(?:[A-Za-z]\w*_\w+|[A-Z][a-z]+\w*)$")
+# A comment of a source, consecutive lines as one, or a text. Characters are matched too, since a quote in one does not begin a text.
+RT_SAYS = re.compile(r"""(?P<comment>//.*(?:\n[ \t]*//.*)*)|(?<!\w)b?'(?:[^'\\\n]|\\[^'\n]+|\\')'|\br(#*)"[\s\S]*?"\2|"(?P<text>(?:[^"\\]|\\[\s\S])*)\"""")
+ANTT_SAYS = re.compile(r"""(?P<comment>(?<!\S)--(?!\S).*(?:\n[ \t]*--(?!\S).*)*)|"(?:[^"\\]|\\.)*\"""")
 QUALIFIED = re.compile(r"^([A-Za-z]\w*)((?:::\w+)+)$")
 
 
@@ -63,14 +72,54 @@ def without_code(text):
     return re.sub(r"``.*?``|`[^`]*`", "``", text)
 
 
+def without_marks(comment):
+    return re.sub(r"^[ \t]*(?://[/!]?|--)", "", comment, flags=re.MULTILINE)
+
+
+def shown(text):
+    """A text of an .rt file as it is shown, without the names of what is inserted, and with a space for each escape."""
+    text = re.sub(r"\\\n\s*", "", text)
+    return re.sub(r"\{\w*(?::[^{}]*)?\}", "{}", re.sub(r"\\.", " ", text))
+
+
+def said_by(source, says):
+    """The comments of a source, and its texts if `says` has a group for them."""
+    for it in says.finditer(source):
+        parts = it.groupdict()
+        if parts["comment"]:
+            yield without_marks(parts["comment"])
+        elif parts.get("text"):
+            yield shown(parts["text"])
+
+
+def said_by_script(source):
+    """The comments and the texts of a script in Python, without its tables of phrases."""
+    tree = ast.parse(source)
+    tables = [it for it in tree.body if isinstance(it, ast.Assign) and ast.unparse(it.targets[0]) in TABLES]
+    hidden = {id(it) for table in tables for it in ast.walk(table)}
+    yield from (it.value for it in ast.walk(tree) if isinstance(it, ast.Constant) and isinstance(it.value, str) and id(it) not in hidden)
+    said, last = [], None
+    for it in tokenize.generate_tokens(io.StringIO(source).readline):
+        if it.type == tokenize.COMMENT:
+            if it.start[0] - 1 != last:
+                said.append("")
+            said[-1] += it.string.lstrip("#") + "\n"
+            last = it.start[0] if it.line.strip().startswith("#") else None
+    yield from said
+
+
 def spoken(name, text):
-    """What a file says in words, its line breaks as spaces."""
+    """The words of a file, its line breaks as spaces. Each comment and each text of a source is separate."""
     if name.endswith(".rt"):
-        said = [it[0] or it[1] for it in re.findall(r'//[/!]?(.*)|"((?:[^"\\]|\\.)*)"', text)]
-        text = without_code("\n".join(it.strip() for it in said))
-    elif name.endswith(".md"):
-        text = without_code(text)
-    return re.sub(r"\s+", " ", text)
+        said = said_by(text, RT_SAYS)
+    elif name.endswith(".antt"):
+        said = said_by(text, ANTT_SAYS)
+    elif name.endswith(".py") or text.startswith("#!/usr/bin/env python3"):
+        said = said_by_script(text)
+    else:
+        return re.sub(r"\s+", " ", without_code(text) if name.endswith(".md") else text)
+    said = (without_code("\n".join(line.strip() for line in it.splitlines())) for it in said)
+    return " / ".join(re.sub(r"\s+", " ", it).strip() for it in said)
 
 
 def faults_of_length(name, text):
@@ -81,9 +130,9 @@ def faults_of_length(name, text):
 
 
 def faults_of_language(name, text):
-    """No phrase of PHRASES occurs, and one of ONCE at most once."""
+    """No phrase of PHRASES occurs, and in a document each of ONCE at most once."""
     words, faults = spoken(name, text), []
-    for phrases, most in ((PHRASES, 0), (ONCE, 1)):
+    for phrases, most in ((PHRASES, 0), (ONCE if name.endswith((".md", ".1")) else {}, 1)):
         for phrase, instead in phrases.items():
             found = list(re.finditer(rf"\b(?:{phrase})\b", words, re.IGNORECASE))
             faults += [f"'..{words[max(it.start() - 30, 0) : it.end() + 15]}..': {instead}" for it in found[most:]]
@@ -101,7 +150,7 @@ def headings(path):
 
 
 def faults_of_links(name, text):
-    """Each link leads to a file or a folder, and to a heading of it where it names one."""
+    """Each link leads to a file or a folder, and to a heading in it if it names one."""
     faults = []
     for target in re.findall(r"\]\(([^)\s]+)\)", re.sub(r"`[^`]*`", "", text)):
         if re.match(r"\w+://", target):
@@ -117,7 +166,7 @@ def faults_of_links(name, text):
 
 @functools.cache
 def tree():
-    """The paths of the repository's files and folders, from its top, without what is built."""
+    """The paths of the repository's files and folders, from its top, without build products."""
     paths = set()
     for folder, names, files in os.walk(ROOT):
         names[:] = [it for it in names if it not in (".git", "out", "__pycache__")]
@@ -127,7 +176,7 @@ def tree():
 
 @functools.cache
 def pattern_of(glob):
-    """A glob as a pattern: `*` is any part of a name, and `**` any folders or none."""
+    """A glob as a pattern: `*` is any part of a name, and `**` any number of folders."""
     parts = {"**/": "(?:.*/)?", "*": "[^/]*"}
     return re.compile("".join(parts.get(it, re.escape(it)) for it in re.split(r"(\*\*/|\*)", glob)))
 
@@ -173,7 +222,7 @@ def known_words():
 
 @functools.cache
 def path_exists(cited, name):
-    """Whether a path is there: from the top, from the document's folder, or in a crate. `*` and a folder in capitals are any name."""
+    """Whether a path exists: from the top, from the document's folder, or in a crate. `*` and a folder in capitals match any name."""
     cited = re.sub(r"(?<![^/])[A-Z]+(?![^/])|NAME", "*", cited.rstrip("./"))
     if "out" in cited.split("/"):
         return True
@@ -207,13 +256,13 @@ def faults_of_citing(name, text):
 
 
 def faults_of_order(name, text):
-    """The words of the glossary are in the order of the alphabet."""
+    """The words of the glossary are in alphabetical order."""
     words = [it.replace("`", "").lower() for it in re.findall(r"^\| (?!Word )([^|-][^|]*?) \|", text, re.MULTILINE)]
     return [f"{later} after {word}" for word, later in zip(words, words[1:]) if later < word] if name == "docs/GLOSSARY.md" else []
 
 
 def is_refused(check, name, text):
-    """Whether a planted mistake is found, and nothing is where it is put right."""
+    """Whether a planted mistake is found, and the corrected text passes."""
     wrong, right = text
     return bool(check(name, wrong)) and not check(name, right)
 
@@ -226,6 +275,13 @@ PLANTED = [
     (faults_of_language, "docs/FILES.md", ("this profile, this profile", "this profile, once")),
     (faults_of_language, "crates/fixed_um/src/lib.rt", ("/// for want of memory\nfn behind()", "/// out of memory\nfn behind()")),
     (faults_of_language, "crates/fixed_um/src/lib.rt", ('"it goes on"', '"it continues"')),
+    (faults_of_language, "crates/fixed_um/src/lib.rt", ('"it goes \\\n    on"', '"{behind}\\nit goes"; f("on")')),
+    (faults_of_language, "crates/fixed_um/src/lib.rt", ("b'\"'; // it goes\n    // on", "b'\"'; behind() // \"it goes")),
+    (faults_of_language, "crates/fixed_um/src/lib.rt", ("/// where it goes\n/// on (this profile)", "/// it goes (this profile)\nfn f() {} // on (this profile)")),
+    (faults_of_language, "crates/fixed_um/specs/Lib.antt", ("-- it is\n-- told", '-- it is reported\nbehind : "it goes on --"\n')),
+    (faults_of_language, "tests/pages.py", ('"""It goes\n    on."""', '"""It goes."""\nbehind = "`on`"')),
+    (faults_of_language, "tests/pages.py", ("go = 1  # behind it", "behind = 1  # after it goes\nbehind = 2  # on it")),
+    (faults_of_language, "tests/run", ("#!/usr/bin/env python3\nPHRASE = 'behind'", "#!/usr/bin/env python3\nPHRASES = {'behind': 'after'}")),
     (faults_of_links, "docs/FILES.md", ("[a](../README.markdown)", "[a](../README.md)")),
     (faults_of_links, "docs/FILES.md", ("# One\n[a](#two)", "# Two\n[a](#two)")),
     (faults_of_language, "docs/FILES.md", ("A CR, where it is written, ends it.", "A CR is shown where it is.")),

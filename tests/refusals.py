@@ -1,16 +1,16 @@
-"""Refuses each growth of calls in turn (refuse.c): of every public call that can answer that memory was short, of the crates from fixed_um to
+"""Refuses each growth of calls in turn (refuse.c), for every public call that can answer that memory was short, in the crates from fixed_um to
 ledger_audit.
 
-The calls are made by rows of `test_texts` and of `test_calls`, which look at the value: where a call has said that memory was short they show
-`refused, as before; ` and make it again; they show `changed` where a reader of the value then answers anything else, and `refused for ever` where
-the call does not succeed. A text that is read says `out of memory` in its own words; its row is asked twice here.
+The calls are made by rows of `test_texts` and of `test_calls`, which examine the value: if a call says that memory was short, they show
+`refused, as before; ` and make it again; they show `changed` if a reader of the value then answers anything else, and `refused for ever` if the
+call does not succeed. A text that is read says `out of memory` in its own words; its row is asked twice here.
 
-`CALLS` says for each call in which row it is made. Of these rows, each of a part whose rows stand by themselves is run alone, and the other
-parts as a whole, once for each growth of the run: what stands beside the input has to be printed, with or without these words. A growth of reading
-the input, which comes first, or of printing, which comes last, ends the program with nothing printed. At least one growth of each call's row has to
-be met. All 1,600 rows would take hours, since a run of most of them has thousands of growths.
+`CALLS` gives for each call the row that makes it. If the rows of its part are independent, the row is run alone, otherwise the whole part, once
+for each growth of the run: it must print the expected output, with or without these words. A growth of reading the input, which comes first, or
+of printing, which comes last, ends the program with nothing printed. At least one growth of each call's row must be refused. All 1,600 rows would
+take hours, since a run of most of them has thousands of growths.
 
-By itself: tests/refusals.py [CALL ..], the calls that begin so.
+By itself: tests/refusals.py [CALL ..], the calls whose names begin with one of these words.
 """
 
 import pathlib
@@ -24,14 +24,14 @@ from growths import Refusing, Wrong, ended, must, parts_of
 ROOT = pathlib.Path(__file__).resolve().parent.parent
 WORDS = "refused, as before; "
 SHORT = "out of memory"
-# Parts whose rows go on from one another, and parts of texts that are read.
+# Parts whose rows continue from one another, and parts of texts that are read.
 WHOLE = ("client", "server", "world")
 READ = ("setups", "schedules", "features", "contacts")
-# Rows that bring a client or a server to where the next ones begin. They make their calls once.
+# Rows that bring a client or a server to the state in which the next ones begin. They make their calls once.
 READY = re.compile("(sends|ended|letters) [0-9]+|aborts")
 
-# A run over a link comes to its next connection after a refusal: the second feature is measured there, maybe by the next contact of the machine, or was
-# before.
+# A run over a link comes to its next connection after a refusal: the second feature is measured there, maybe by the next contact of the machine,
+# or was measured before.
 MEASURED = "00007 PtMeas(X(4.000), Y(5.000), Z(6.000), IJK(0.000000, 0.000000, 1.000000));00008 EndSession();"
 CONTACT = "00007 # X(4.002), Y(5.000), Z(6.000);"
 OTHER_LINKS = {
@@ -43,7 +43,7 @@ OTHER_LINKS = {
     ],
 }
 
-# The program, the head of the part (behind `#` which of those with this head, the first where it says nothing), and the row.
+# The program, the head of the part (followed by `#` and which of those with this head, by default the first), and the row.
 TEXT, CALL = "test_texts", "test_calls"
 ONE_PROGRAM = "DMISMN/'ONE',05.2;SNSLCT/S(P1);MEAS/POINT,F(A),1;GOTO/10,20,30;PTMEAS/CART,10,20,25,0,0,1;ENDMES;ENDFIL"
 CALLS = {
@@ -127,7 +127,7 @@ def crate_of(program):
 
 
 def numbered(program, name):
-    """The parts of a file of a program by their heads, with the number behind those that are not the first with their head."""
+    """The parts of a file of a program by their heads; a head that is not the first of its kind is followed by its number."""
     parts, counts = {}, {}
     for part in parts_of((crate_of(program) / name).read_text()):
         head = part.partition("]")[0].removeprefix("[")
@@ -137,7 +137,7 @@ def numbered(program, name):
 
 
 def texts_of(parts, head):
-    """The parts that one with this head is made of: the setup, and what bears the name of its program."""
+    """The parts that a part with this head is made of: the setup, and those with the name of its program."""
     name = head.partition("#")[0].split(" ")[1:2]
     of_its_name = lambda words: words[0] in ("program", "held", "replies", "commands", "last") and words[-1:] == name
     return "".join(part for it, part in parts.items() if it == "setup" or of_its_name(it.split(" ")))
@@ -170,7 +170,7 @@ def is_end(run):
 
 
 def between_ends(runs):
-    """The runs whose growth is none of reading the input or of printing."""
+    """The runs whose refused growth is not one of reading the input or of printing."""
     first, last = 0, len(runs)
     while first < last and is_end(runs[first]):
         first += 1
@@ -180,7 +180,7 @@ def between_ends(runs):
 
 
 def answers_of(head, as_ever):
-    """What the row may show without `WORDS`."""
+    """What the row may show apart from `WORDS`."""
     answers = [as_ever]
     for changes in OTHER_LINKS.get(head, ()):
         answer = as_ever
@@ -192,8 +192,8 @@ def answers_of(head, as_ever):
 
 
 def refused_row(head, output, whole):
-    """The row for whose call memory was short, and None where there is none, and where one of those that make others ready is the first. All other
-    rows are as with all memory."""
+    """The row for whose call memory was short; None if there is no such row, or if the first is one that prepares others. All other rows are as
+    with all memory."""
     found, lines, plain = [], output.splitlines(), whole.splitlines()
     for line, as_ever in zip(lines, plain):
         row = as_ever.partition(" => ")[0]
@@ -210,7 +210,7 @@ def refused_row(head, output, whole):
 
 
 def refusals_of(refusing, program, head, row):
-    """The rows of a case for whose calls a growth was refused, each as often."""
+    """The rows of a case for whose calls a growth was refused, one for each refusal."""
     given, expected = case_of(program, head, row)
     path = crate_of(program) / "out" / program
     whole, runs = refusing.all_of(lambda number, counts: ended(refusing.started([path], number, counts=counts, text=given), given))
@@ -223,9 +223,9 @@ def refusals_of(refusing, program, head, row):
 
 
 def check_refusals(names=()):
-    """How many calls are as they have to be, and how many are not."""
+    """How many calls are correct, and how many are not."""
     calls = {call: where for call, where in CALLS.items() if not names or call.startswith(tuple(names))}
-    # One case for each row that stands by itself, and one for each other part.
+    # One case for each independent row, and one for each other part.
     cases = {call: (program, head, row if is_alone(head) else "") for call, (program, head, row) in calls.items()}
     found, wrong, refusals = {}, 0, 0
     with tempfile.TemporaryDirectory() as room:

@@ -1,6 +1,6 @@
-/* Refuses one growth of a program: the one whose number REFUSE names, counted from 1, and none where it is 0. Where REFUSE_COUNT names an
-   open file by its number, the count of all growths is written to it at the end. It stands before the C library's own functions
-   (LD_PRELOAD), and so rests on glibc. */
+/* Refuses one growth of a program: the one whose number is in REFUSE, counted from 1; none if it is 0. If REFUSE_COUNT is the number of an
+   open file, the count of all growths is written to it at the end. It overrides the C library's own functions (LD_PRELOAD), and so
+   depends on glibc. */
 #include <errno.h>
 #include <stdio.h>
 #include <stdlib.h>

@@ -1,13 +1,13 @@
 #!/usr/bin/env python3
-"""What is too long for the gate, before a release. The last line is `N passed, M failed` over all parts.
+"""What takes too long for the gate, before a release. The last line is `N passed, M failed` over all parts.
 
-  edits    all edits, most of which the gate does not try (tools/edits): the prover has to refuse each
-  events   a world of nine million events, of which a million can happen when they are asked for (tests/stopped.py)
-  growths  every row of calls and every row of tests/program whose words stand alone, with each growth of its program refused in turn: the
-           program ends with its own words for want of memory, or gives what it gives with all memory, and never a third thing. It refuses
-           the first N growths of each, where N is given as growths=N.
+  edits    all edits, most of which the gate does not try (tools/edits): the prover must refuse each
+  events   a world of nine million events, of which a million can happen when they come (tests/stopped.py)
+  growths  every row of calls and every row of tests/program without another end, with each growth of its program refused in turn: the program
+           ends with its own words for out of memory, or gives what it gives with all memory, and never anything else. With growths=N it
+           refuses only the first N growths of each.
 
-usage: tests/releases.py [PART ..]     all parts where none is named; a part may have its portion: edits=CRATE, events=COUNT, growths=N
+usage: tests/releases.py [PART ..]     by default all parts; a part may be limited: edits=CRATE, events=COUNT, growths=N
 
 It needs the executables that `tests/run` has built.
 """
@@ -26,7 +26,7 @@ from growths import CALLS, PROGRAM, ROOT, WANT, Refusing, Wrong, ended, must, pa
 
 TESTS = ROOT / "tests"
 ROWS = TESTS / "program"
-ALONE = ("check", "simulate", "audit", "loop")  # the orders that need no other end
+ALONE = ("check", "simulate", "audit", "loop")  # the commands that need no other end
 ANY = 1_000_000
 EVENTS = 9_100_000
 
@@ -61,7 +61,7 @@ def is_alone(row):
 
 
 def program_run(refusing, row, number, counts):
-    """What a row of tests/program gives where this growth is refused."""
+    """What a row of tests/program gives if this growth is refused."""
     text = (row / "stdin").read_text(errors="surrogateescape") if (row / "stdin").exists() else None
     with tempfile.TemporaryDirectory() as folder:
         if (row / "files").exists():
@@ -71,7 +71,7 @@ def program_run(refusing, row, number, counts):
 
 
 def part_runs():
-    """Each part of the rows of calls, with the texts that it is made of."""
+    """Each part of the rows of calls, with the texts that it uses."""
     parts = parts_of((ROOT / "crates" / "test_calls" / "stdin").read_text())
     texts = "".join(it for it in parts if it.startswith(("[program ", "[setup]", "[replies ", "[commands ", "[ways ", "[ending ")))
     for at, it in enumerate(parts):
@@ -94,20 +94,20 @@ def growths_of(run, most):
 
 
 def wants(whole, run):
-    """An end for want of memory behind what was told by then, with nothing printed or the report of what was done."""
+    """An end out of memory after what was reported by then, with nothing printed or the report of what was done."""
     told = run[2].removesuffix(WANT[1])
     return (run[0] == WANT[0] and run[2].endswith(WANT[1]) and whole[2].startswith(told)
             and (run[1] == "" or "FEATURE" in run[1] or run[1].startswith("STATE ")))
 
 
 def is_unexplained(whole, run):
-    """The refusal by itself, where memory was wanting for what is shown of its file."""
+    """The refusal alone, if there was no memory for what is shown of its file."""
     told = whole[2].splitlines(keepends=True)
     return whole[0] != 0 and len(told) > 1 and run == (*whole[:2], told[0])
 
 
 def is_untraced(whole, run):
-    """The lines of one side end with the word that memory was wanting for them; all else is as with all memory."""
+    """The lines of one side end with the report that it was out of memory for them; everything else is as with all memory."""
     for mark in ("1 > ", "1 < "):
         own = [[it for it in told[2].splitlines() if it.startswith(mark)] for told in (whole, run)]
         others = [[it for it in told[2].splitlines() if not it.startswith(mark)] for told in (whole, run)]
@@ -117,15 +117,15 @@ def is_untraced(whole, run):
 
 
 def must_want(whole, runs):
-    """Each run ends as with all memory, or for want of memory, or tells less beside what it prints."""
+    """Each run ends as with all memory, or out of memory, or reports less in addition to what it prints."""
     for number, run in enumerate(runs, 1):
         must(run == whole or wants(whole, run) or is_unexplained(whole, run) or is_untraced(whole, run), "growth", number, "another end", run)
     return len(runs)
 
 
 def must_want_rows(whole, runs):
-    """The program of rows: as with all memory, or an end for want of memory, or a row that says so, behind which the end that the rows
-    are about stands elsewhere."""
+    """The program of rows: as with all memory, or an end out of memory, or a row that says so, after which the end that the rows test is in
+    another state."""
     must(whole[0] == 0, "with all memory", whole)
     rows = whole[1].splitlines()
     for number, (status, output, errors) in enumerate(runs, 1):

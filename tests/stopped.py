@@ -1,23 +1,23 @@
 """Worlds that are stopped anywhere, and worlds of many events, over the proved code of both ends (the program `test_calls`).
 
-Three schedules of single events, for windows of 1, 4 and 16, bring a program of five features to Done, through breaks, aborts and
-restarts. Behind each front of each, a world is stopped in every way: either side leaves, or is restarted, with each count of the
-features that are held; an abort is sent, and another connection is made or the plan begun again; and for each byte that lies on the way, only
-the bytes up to it move, are read and done or are not, and either side leaves. Then both leave, the client makes a connection, the server takes
-it, and nothing disturbs any more. Each such world has to end Done, the features that were held before have to be the first of those at the end,
-and the audit of both ends' files has to answer RUNS. Where nothing is done between the stop and the new connection, the whole end is computed
-here: labels, origins, points by the number of each contact, counted acts, contacts. Elsewhere each point is that of its touch and the shift of
-its contact's number. For each front one of these worlds is also played by `dme simulate`. Worlds of three worked rows (a broken connection, an
-abort of open commands, an abort between two frames) are stopped at each event as well, by restarts of both sides; the whole end is computed.
+Three schedules of single events, for windows of 1, 4 and 16, bring a program of five features to Done, through breaks, aborts and restarts.
+After each prefix of each, a world is stopped in every way: either side leaves, or is restarted, with each count of the features that are held;
+an abort is sent, and another connection is made or the plan is started again; and for each byte in transit, only the bytes up to it move, are
+read and processed or are not, and either side leaves. Then both leave, the client makes a connection, the server takes it, and nothing
+disturbs them any more. Each such world must end Done, the features that were held before must be the first of those at the end, and the audit
+of both ends' files must answer RUNS. If nothing is done between the stop and the new connection, the whole end is computed here: labels,
+origins, points by the number of each contact, counted acts, contacts. Otherwise each point is that of its touch and the shift of its contact's
+number. For some prefixes, `dme simulate` plays one of these worlds too. Worlds of three examples (a broken connection, an abort of open
+commands, an abort between two frames) are also stopped at each event, by restarts of both sides; the whole end is computed.
 
-A world of 100,000 events of a fixed linear congruence, of which about one of nine can happen when it is asked for, is audited behind each
-thousandth in the program, and at ten places by `dme audit`.
+A world of 100,000 events of a fixed linear congruence, about one in nine of which can happen when it comes, is audited after each thousandth in
+the program, and at ten places by `dme audit`.
 
-Wrong things that were tried on what `test_calls` wrote of a short schedule and of 3,000 events, and are refused: shifts in another order and a
-point of another shift (`other points`), an end that is not Done (`not Done`), a verdict with a run less (`another verdict`), and a restart of
+These wrong results were tried on what `test_calls` wrote of a short schedule and of 3,000 events, and are refused: shifts in another order and
+a point of another shift (`other points`), an end that is not Done (`not Done`), a verdict with a run less (`another verdict`), and a restart of
 the client that is expected to keep all features (`are not kept`).
 
-`run` calls this; by itself: tests/stopped.py [EVENTS], which then plays a world of so many events alone, audited behind each thousandth in the
+`run` calls this; by itself: tests/stopped.py [EVENTS], which then only plays a world of that many events, audited after each thousandth in the
 program and at ten places by `dme audit`, and prints how many of each event happened.
 """
 
@@ -35,9 +35,9 @@ from hostile import Fixed
 
 CALLS = ROOT / "crates" / "test_calls" / "out" / "test_calls"
 SECONDS = 600
-ALSO_PLAYED = 1  # of so many fronts one is also played by `dme`
+ALSO_PLAYED = 1  # `dme` also plays a world for one in this many prefixes
 EVENTS = 100_000
-DISTURBED, RESTARTED = 300, 400  # in a world of many events, one row of so many disturbs, and one restarts the client
+DISTURBED, RESTARTED = 300, 400  # in a world of many events, one row in this many disturbs, and one in this many restarts the client
 
 TEXT = """\
 DMISMN/'STOPPED',05.2
@@ -75,8 +75,8 @@ SHIFT 0.002 0 0
 SHIFT 0 0 0.004
 SHIFT -0.001 0.001 0
 """
-# The same, as it has to be understood: shifts and targets in micrometres, the frame of each feature's last touch, and how many acts its block
-# adds to what is counted: contacts, moves, and the tool and the frame that are selected before it, unless a plan begins there.
+# The meaning of both: shifts and targets in micrometres, the frame of each feature's last touch, and how many acts its block adds to the count:
+# contacts, moves, and the tool and the frame that are selected before it, unless a plan begins there.
 SHIFTS = [(2, 0, 0), (0, 0, 4), (-1, 1, 0)]
 MACHINE, PART = "M", "P 100.000 0.000 0.000"
 Block = collections.namedtuple("Block", "label frame targets moves changes")
@@ -90,7 +90,7 @@ BLOCKS = (
 FILE_HEAD = "DME-FEATURES 2"
 
 
-# ---- what features have to be
+# ---- what features must be
 
 def length(micrometres):
     return f"{'-' if micrometres < 0 else ''}{abs(micrometres) // 1000}.{abs(micrometres) % 1000:03}"
@@ -98,7 +98,7 @@ def length(micrometres):
 
 @functools.cache
 def points_of(block, phase):
-    """The points of a feature whose first contact has a number of this rest by three."""
+    """The points of a feature whose first contact has a number with this remainder modulo three."""
     return tuple(" ".join(length(1000 * at + by) for at, by in zip(target, SHIFTS[(phase + touch) % 3]))
                  for touch, target in enumerate(block.targets))
 
@@ -123,7 +123,7 @@ def features_of(text):
 
 @functools.cache
 def measured(kept, number, connection, blocks=BLOCKS):
-    """What is held where these were kept, and the others are measured in a run from this contact on, on this connection."""
+    """The features that are held if these were kept, and the others are measured in a run from this contact on, on this connection."""
     features = list(kept)
     for block in blocks[len(kept):]:
         features.append(Feature(block.label, len(block.targets), connection, block.frame, points_of(block, number % 3)))
@@ -132,7 +132,7 @@ def measured(kept, number, connection, blocks=BLOCKS):
 
 
 def counted_acts(kept):
-    """How many acts a plan behind so many features counts, where the machine is homed already: what it is told, the tool and the frame with
+    """How many acts a plan after that many features counts, if the machine is homed already: what is reported to it, the tool and the frame with
     which it begins, and what its statements do."""
     left = BLOCKS[kept:]
     acts = 1 + 1 + (kept > 0) + sum(len(it.targets) + it.moves + it.changes for it in left)
@@ -149,7 +149,7 @@ def row_of(text):
 
 @functools.cache
 def must_be_sound(row, blocks=BLOCKS):
-    """The features are the first of the program, from ascending runs of contacts that do not meet, and each point is that of its touch."""
+    """The features are the first of the program, from ascending runs of contacts that do not overlap, and each point is that of its touch."""
     word, *starts = row.verdict.split()
     must(word == "RUNS" and len(starts) == len(row.features) <= len(blocks), "another verdict", row)
     free = 0
@@ -165,17 +165,17 @@ def must_be_sound(row, blocks=BLOCKS):
 
 COMMON = (["clientsends"] * 3 + ["serverreads"] * 3 + ["serverturn"] * 2 + ["machine auto"] * 2 + ["clientreads"] * 4 + ["connect", "accept", "resume"]
           + ["up all"] * 3 + ["up 5", "up 30", "up 70"] + ["down all"] * 3 + ["down 1", "down 11", "down 25"])
-ENDS_BADLY = ["machine missed", "machine fault"]  # of what runs, if something does: mostly nothing
+ENDS_BADLY = ["machine missed", "machine fault"]  # outcomes of what runs, if anything runs; mostly nothing runs
 LEAVES = ["clientleaves", "serverleaves", "clientrestart", "serverrestart"]
 
 
 class Events:
-    """Rows of events. Behind a break, either side is likely to leave as well, so that they meet again."""
+    """Rows of events. After a break, either side is likely to leave as well, so that they connect again."""
 
     def __init__(self, seed, one_of, restarts=0):
         self.fixed = Fixed(seed)
-        self.one_of = one_of  # one row of so many disturbs
-        self.restarts = restarts  # and one of so many is a restart of the client, which begins anew what is Done
+        self.one_of = one_of  # one row in this many disturbs
+        self.restarts = restarts  # and one in this many is a restart of the client, which restarts what is Done
         self.unsettled = 0
 
     def restart(self):
@@ -202,7 +202,7 @@ class Events:
 
 
 def told_by_calls(parts):
-    """What the last of these parts writes. Its worlds are of the program, the ways and the ending of this name."""
+    """What the last of these parts writes. Its worlds use the program, the ways and the ending of this name."""
     whole = {"program STOPPED": TEXT, "setup": SETUP, **parts}
     text = "".join(f"[{head}]\n{part}" for head, part in whole.items())
     done = subprocess.run([str(CALLS)], input=text, capture_output=True, text=True, timeout=SECONDS)
@@ -220,7 +220,7 @@ LEAST = 200
 
 
 def events_of_rows(rows, window, text=TEXT):
-    """Those of these events that happen, up to Done where they lead there."""
+    """Those of these events that happen, up to Done if they lead there."""
     told = told_by_calls({"program STOPPED": text, f"plays STOPPED {window}": "".join(f"{it}\nshow\n" for it in rows)}).splitlines()
     events, connections = [], 0
     for row, line in zip(rows, told):
@@ -234,7 +234,7 @@ def events_of_rows(rows, window, text=TEXT):
 
 
 ON = "serverreads all;" + "serverturn;machine auto;" * 17 + "clientreads all;"
-# A way, whether the whole end is known, and how the way is named where worlds are counted.
+# A way, whether the whole end is known, and the name under which its worlds are counted.
 WAYS = [
     ("once serverrestart;", True, "restart of the server"),
     ("features clientrestart *;", True, "restart of the client"),
@@ -255,12 +255,12 @@ WAYS = [
 
 
 def ending(connections):
-    """Both leave and meet again. The last connection is the first of these that can be taken."""
+    """Both leave and connect again. The last connection is the first of these that can be taken."""
     return "clientleaves;serverleaves;connect;" + "".join(f"accept {it};" for it in range(connections + 1, 0, -1)) + "quiet;"
 
 
 def must_end(front, way, number, row, connection):
-    """A world that was stopped behind a front, and brought to its end on this connection, where the client was not Done."""
+    """A world that was stopped after a prefix, and brought to its end on this connection if the client was not Done."""
     kept = front.features[:number] if WAYS[way][0].startswith("features") else front.features
     must(row.state == "Done" and len(row.features) == len(BLOCKS), "not Done", row)
     must(row.features[:len(kept)] == kept, "features are not kept", front, row)
@@ -285,7 +285,7 @@ def dme(words, **files):
 
 
 def must_be_audited(row, files):
-    """The features of these files are those of the row, and `dme audit` says of them what was said in the program."""
+    """The features of these files are those of the row, and `dme audit` reports the same verdict on them as the program."""
     features, head, contacts = files.partition("DME-CONTACTS 1\n")
     must(features_of(features.replace("\n", ";")) == row.features, "other files", features)
     verdict = dme("audit --setup s --features f --contacts c p", s=SETUP, f=features, c=head + contacts, p=TEXT)
@@ -293,7 +293,7 @@ def must_be_audited(row, files):
 
 
 def must_be_played(window, events, way, number, row, ending):
-    """The same by `dme simulate`."""
+    """Likewise by `dme simulate`."""
     stop = WAYS[way][0].split(" ", 1)[1].replace("*", str(number))
     text = "".join(it + "\n" for it in events) + (stop + ending).replace(";", "\n")
     report = dme(f"simulate --setup s --schedule q --window {window} p", s=SETUP, q=text, p=TEXT)
@@ -318,7 +318,7 @@ def events_of(events, word):
 
 
 def stopped_worlds(window):
-    """The length of a schedule, its fronts, and how many worlds of each kind were stopped behind them; none of which is wrong."""
+    """The length of a schedule, and how many worlds of each kind were stopped after its prefixes. None of them is wrong."""
     events = events_of_rows(Events(*SEEDS[window]).rows(ROWS), window)
     must(len(events) >= LEAST, "few events", len(events))
     told = told_by_calls({"ways STOPPED": "".join(it + "\n" for it, _, _ in WAYS), "ending STOPPED": ending(events_of(events, "connect")),
@@ -344,7 +344,7 @@ def stopped_worlds(window):
     return len(events), counts
 
 
-# ---- worked rows
+# ---- examples
 
 THREE = """\
 DMISMN/'THREE',05.2
@@ -375,8 +375,8 @@ POINT_AND_LINE = (Block("A", MACHINE, ((10, 0, 0),), 0, 1), Block("B", PART, ((2
 READ_ALL, GIVE_ALL = ["serverreads"] * 9, ["down all"] + ["clientreads"] * 30
 QUIET = ["clientsends"] * 4 + ["up all"] + READ_ALL + ["serverturn", "machine auto"] * 9 + GIVE_ALL
 TURN = ["clientsends", "up all", "serverreads", "serverturn"]
-# A broken connection, an abort among several open commands, and one between two frames: the program and its blocks, the window, events of which
-# some happen, and where they lead, with how many acts are counted there.
+# A broken connection, an abort among several open commands, and one between two frames: the program and its blocks, the window, events, some of
+# which happen, the state that they lead to, and how many acts are counted there.
 Worked = collections.namedtuple("Worked", "name text blocks window rows state counted")
 WORKED = [
     Worked("a broken connection", THREE, CIRCLE, 1,
@@ -392,7 +392,7 @@ RESTARTS = "once clientrestart 0;serverrestart;"
 
 
 def stopped_row(worked):
-    """A world that is stopped at each event of a worked row by restarts of both sides, and runs on: all is measured anew, on a new connection."""
+    """A world stopped at each event of an example by restarts of both sides, which then continues: all is measured again, on a new connection."""
     events = events_of_rows(worked.rows, worked.window, worked.text)
     accepts = [f"accept {it};" for it in range(events_of(events, "connect") + 1, 0, -1)]
     told = told_by_calls({"program STOPPED": worked.text, "ways STOPPED": RESTARTS + "\n", "ending STOPPED": "".join(["connect;", *accepts, "quiet;"]),
@@ -412,13 +412,13 @@ def stopped_row(worked):
 # ---- a world of many events
 
 def must_be_kept(before, restarts, row):
-    """Features are given up only by a restart of the client."""
+    """Only a restart of the client drops features."""
     kept = before[:min([len(before), *restarts])]
     must(row.features[:len(kept)] == kept, "features are not kept", before, restarts, row)
 
 
 class Many:
-    """What came of a world of many events."""
+    """The results of a world of many events."""
 
     def __init__(self, count, window, seed):
         self.count, self.happened, self.wanted = count, collections.Counter(), collections.Counter()
@@ -457,7 +457,7 @@ class Many:
         must(line_at == len(lines), "more lines", lines[line_at:][:3])
 
     def count_events(self, rows, flags):
-        """Counts those that happened; with how many features the client was restarted."""
+        """Counts the events that happened. Answers with how many features each restart of the client began."""
         restarts = []
         for row, flag in zip(rows, flags):
             name = row.rstrip("0123456789 ")
@@ -473,10 +473,10 @@ class Many:
                 f"{self.features} features in them, {self.done} of them Done")
 
 
-# ---- all of it
+# ---- everything
 
 def tried(name, call):
-    """Whether it is as it has to be; what it told is printed."""
+    """Whether it is correct; prints what it reported."""
     begin = time.monotonic()
     try:
         told, is_right = call(), True
@@ -501,7 +501,7 @@ def many(count):
 
 
 def check_stopped():
-    """How many parts are as they have to be, and how many are not."""
+    """How many parts are correct, and how many are not."""
     if not CALLS.exists():
         print(f"no executable: {CALLS.relative_to(ROOT)}")
         return 0, len(SEEDS) + len(WORKED) + 1

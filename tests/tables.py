@@ -1,6 +1,6 @@
-"""Reads the tables of `dme export` back by Python's readers of CSV and of JSON, and holds each field against the program and the features that it was made of.
+"""Reads the tables of `dme export` back by Python's readers of CSV and of JSON, and compares each field with the program and the features.
 
-What is expected is computed here from the numerals of both files, in exact decimals. `run` calls this; by itself: tests/tables.py
+The expected values are computed here from the numerals of both files, in exact decimals. `run` calls this; by itself: tests/tables.py
 """
 
 import csv
@@ -16,7 +16,7 @@ EXAMPLES = ROOT / "examples"
 PROGRAM = ROOT / "crates" / "dme_program" / "out" / "dme_program"
 SECONDS = 20
 
-# The schedule of a features file, and the program that its features are of. Each touch of these programs has its direction.
+# The schedule of a features file, and the program of its features. Each touch of these programs has its direction.
 TABLES = {
     "break_inside_a_feature": "circle.dmis",
     "abort_between_two_frames": "two_frames.dmis",
@@ -44,7 +44,7 @@ def touches_of(text):
 
 
 def origins_of(text):
-    """The places of a setup's frames, in order."""
+    """The zero points of a setup's frames, in order."""
     return [[Decimal(it) for it in line.split()[2:]] for line in text.splitlines() if line.startswith("FRAME ")]
 
 
@@ -86,7 +86,7 @@ def csv_rows(text):
 
 
 def json_rows(text):
-    """The objects with each number as it stands there, and nothing for null."""
+    """The objects with each number as it is written there, and nothing for null."""
     rows = json.loads(text, parse_float=str, parse_int=str)
     return [{name: "" if it is None else it for name, it in row.items()} for row in rows]
 
@@ -98,7 +98,7 @@ def printed(form, features, program):
 
 
 def is_table(schedule, program):
-    """Whether the table of a schedule's features is what its files say, in each form and with the columns in the same order."""
+    """Whether the table of a schedule's features is what its files say, in both forms and with the columns in the same order."""
     features = f"{schedule}.features"
     touches = touches_of((EXAMPLES / program).read_text())
     points = points_of((EXAMPLES / features).read_text())
@@ -111,7 +111,7 @@ def is_table(schedule, program):
 
 
 def check_tables():
-    """How many tables are as they have to be, and how many are not."""
+    """How many tables are correct, and how many are not."""
     wrong = [it for it, program in TABLES.items() if not (PROGRAM.exists() and is_table(it, program))]
     for name in wrong:
         print(f"table of {name}: not as expected")

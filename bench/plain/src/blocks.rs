@@ -1,11 +1,11 @@
-//! Bytes searched in blocks: eight at once in a word, and where many go by, 128 at once, which the compiler turns into vectors.
+//! Bytes searched in blocks: eight at once in a word, and in long runs 128 at once, which the compiler turns into vectors.
 //!
 //! A search by words marks the high bit of each byte that it looks for. The lowest mark is exact; above it there may be false ones.
 
 /// How many bytes a wide block has.
 const WIDE: usize = 128;
 
-/// How many words are looked at before wide blocks are.
+/// How many words are examined before wide blocks are.
 const WORDS_FIRST: usize = 6;
 
 const LOW_BITS: u64 = 0x0101_0101_0101_0101;
@@ -31,12 +31,12 @@ const fn control(word: u64) -> u64 {
     (word.wrapping_sub(all(b' ')) | is_del) & !word & HIGH_BITS
 }
 
-/// The place of the lowest mark; 8 where there is none.
+/// The place of the lowest mark; 8 if there is no mark.
 const fn first(marks: u64) -> usize {
     (marks.trailing_zeros() / 8) as usize
 }
 
-/// The first eight bytes as a word, the first of them lowest; zeros where there are no more.
+/// The first eight bytes as a word, the first of them lowest; padded with zeros.
 #[inline]
 pub fn front_word(bytes: &[u8]) -> u64 {
     match (bytes.first_chunk(), bytes.first_chunk(), bytes.last_chunk()) {
@@ -56,13 +56,13 @@ pub fn front_word(bytes: &[u8]) -> u64 {
     }
 }
 
-/// How many bytes of a word stand before the first such one; 8 where there is none.
+/// How many bytes of a word precede the first such one; 8 if there is no such byte.
 #[inline]
 pub fn length_to(word: u64, byte: u8) -> usize {
     first(equal(word, byte))
 }
 
-/// Takes the digits at the front of a word and puts them behind those of a number; how many they are.
+/// Takes the digits at the beginning of a word and appends them to those of a number. Answers how many there are.
 #[inline(always)]
 pub fn take_digits(word: &mut u64, number: &mut u64) -> usize {
     let mut count = 0;
@@ -77,7 +77,7 @@ pub fn take_digits(word: &mut u64, number: &mut u64) -> usize {
     }
 }
 
-/// The first bytes of a word, zeros in place of the others; all of it where no fewer than eight are asked for.
+/// The first bytes of a word, zeros in place of the others; all of it if eight or more are requested.
 #[inline]
 pub fn first_bytes(word: u64, count: usize) -> u64 {
     match count {
@@ -100,7 +100,7 @@ fn before_mark(bytes: &[u8], mut at: usize, marks_of: impl Fn(u64) -> u64) -> us
     bytes.len().min(at + first(marks_of(front_word(tail))))
 }
 
-/// The same, where many bytes may go by: behind the first words, wide blocks of which none is marked are passed over.
+/// Likewise, for long runs: after the first words, wide blocks without a mark are skipped.
 #[inline(always)]
 fn before_rare_mark(
     bytes: &[u8],

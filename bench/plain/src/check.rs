@@ -5,7 +5,7 @@ use crate::plan::Plan;
 use crate::program::Program;
 use std::io::{self, Write};
 
-/// So many bytes are written at once, or a line more.
+/// This many bytes are written at once, or a line more.
 const PIECE: usize = 1 << 16;
 
 /// Writes the lines of all commands of a program.

@@ -51,7 +51,7 @@ pub struct Client<'p> {
     state: State,
     is_on: bool,
     last_connection: u32,
-    /// Whether a session was begun on this connection.
+    /// Whether a session has begun on this connection.
     has_begun: bool,
     plan: Plan,
     /// The first command of the plan that is not sent.
@@ -68,12 +68,12 @@ pub struct Client<'p> {
     points: Vec<Point>,
     features: Vec<Measured>,
     lines: Lines,
-    /// The lines that it has sent, each with its end; who passes them on clears it.
+    /// The lines that it has sent, each with its end; the caller that passes them on clears it.
     pub out: Vec<u8>,
 }
 
 impl<'p> Client<'p> {
-    /// A client apart; none where there is no such window.
+    /// A client apart; none if there is no such window.
     pub fn new(program: &'p Program, window: u64) -> Option<Client<'p>> {
         (1..=WINDOW_MOST).contains(&window).then(|| Client {
             program,
@@ -153,7 +153,7 @@ impl<'p> Client<'p> {
         Ok(())
     }
 
-    /// A plan behind the last completed feature.
+    /// A plan after the last completed feature.
     fn begin_plan(&mut self, is_new: bool) {
         self.state = State::Running;
         self.plan = Plan::new(self.program, self.features.len(), is_new);
@@ -164,7 +164,7 @@ impl<'p> Client<'p> {
         self.points.clear();
     }
 
-    /// Goes on behind a command that failed, or an abort.
+    /// Continues after a command that failed, or an abort.
     pub fn resume(&mut self) -> Result<(), Refusal> {
         self.refuse_fault()?;
         if self.state != State::Halted || !self.has_begun {
@@ -184,7 +184,7 @@ impl<'p> Client<'p> {
         self.out.clear();
     }
 
-    /// Begins anew with the first features.
+    /// Restarts with the first features.
     pub fn restart(&mut self, kept: usize) -> Result<(), Refusal> {
         if kept > self.features.len() {
             return Err(Refusal::NotNow);
@@ -198,7 +198,7 @@ impl<'p> Client<'p> {
         Ok(())
     }
 
-    /// The command that is to be sent next, where one is.
+    /// The command that is to be sent next, if there is one.
     #[inline]
     pub fn due(&self) -> Option<&Planned> {
         let due = self.unsent.as_ref()?;
@@ -255,7 +255,7 @@ impl<'p> Client<'p> {
         Ok(())
     }
 
-    /// Reads the first line; false where none is whole.
+    /// Reads the first line; false if it is not whole.
     pub fn read_one(&mut self) -> Result<bool, Refusal> {
         self.may_read()?;
         let line = match self.lines.first_line() {
@@ -279,7 +279,7 @@ impl<'p> Client<'p> {
         Ok(true)
     }
 
-    /// What was heard changes counts and state.
+    /// Updates counts and state by what was received.
     fn follow(&mut self, heard: Heard) {
         match heard {
             Heard::Nothing => {}

@@ -3,7 +3,7 @@
 /// The most bytes of a line without its end.
 pub const LINE_MOST: usize = 65_536;
 
-/// Why bytes are no lines.
+/// Why bytes are not lines.
 #[derive(Clone, Copy, PartialEq, Eq, Debug)]
 pub enum Fault {
     LineTooLong,
@@ -21,7 +21,7 @@ pub struct Lines {
 }
 
 impl Lines {
-    /// Bytes that come behind all others.
+    /// Appends bytes after all others.
     #[inline]
     pub fn feed(&mut self, piece: &[u8]) {
         if self.begin > self.bytes.len() / 2 {
@@ -33,7 +33,7 @@ impl Lines {
         }
     }
 
-    /// The bytes of the lines that were taken make way.
+    /// Removes the bytes of the lines that were taken.
     fn move_to_front(&mut self) {
         self.bytes.copy_within(self.begin.., 0);
         self.bytes.truncate(self.bytes.len() - self.begin);
@@ -41,7 +41,7 @@ impl Lines {
         self.begin = 0;
     }
 
-    /// The first line, where it is whole.
+    /// The first line, if it is whole.
     #[inline(always)]
     pub fn first_line(&mut self) -> Result<Option<&[u8]>, Fault> {
         self.searched += match &self.bytes[self.searched..] {
@@ -70,13 +70,13 @@ impl Lines {
 const LOW_BITS: u64 = 0x0101_0101_0101_0101;
 const HIGH_BITS: u64 = 0x8080_8080_8080_8080;
 
-/// How many bytes stand before the first CR or LF, or before the end.
+/// How many bytes precede the first CR or LF, or the end.
 #[inline(never)]
 fn content_length(bytes: &[u8]) -> usize {
     let (blocks, tail) = bytes.as_chunks::<8>();
     for (number, block) in blocks.iter().enumerate() {
         let word = u64::from_le_bytes(*block);
-        // Each byte up to CR is marked, and perhaps one behind it that is above CR.
+        // Each byte up to CR is marked, and perhaps one after it that is above CR.
         let mut marks = word.wrapping_sub(LOW_BITS * 14) & !word & HIGH_BITS;
         while marks != 0 {
             let place = marks.trailing_zeros() as usize / 8;

@@ -103,7 +103,7 @@ fn write_contact(out: &mut Vec<u8>, contact: &Contact) {
     write_place(out, contact.point);
 }
 
-/// Appends a feature in one row: its label, where it comes from, and its points.
+/// Appends a feature in one row: its label, its origin, and its points.
 pub fn write_measured(out: &mut Vec<u8>, label: &str, feature: &Measured) {
     out.extend_from_slice(label.as_bytes());
     out.push(b' ');

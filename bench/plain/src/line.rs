@@ -1,4 +1,4 @@
-//! Lines of commands and of responses (docs/PROTOCOL.md), read and written, and the texts that stand in them. A line is read without its end.
+//! Lines of commands and of responses (docs/PROTOCOL.md), read and written, and the texts in them. A line is read without its end.
 
 use crate::values::{
     DIRECTION_LIMIT, Dir, Name, Point, VOLUME_LIMIT, WIRE_LIMIT, is_zero, read_component, read_length, write_direction, write_length,
@@ -36,7 +36,7 @@ pub enum Csy {
     Part,
 }
 
-/// What a client asks for.
+/// What a client requests.
 #[derive(Clone, PartialEq, Eq, Debug)]
 pub enum Command {
     StartSession,
@@ -49,26 +49,26 @@ pub enum Command {
     GoTo(Point),
     PtMeas(Point, Option<Dir>),
     ChangeTool(Name),
-    /// The lengths as they stand on the wire: the machine's zero point in part coordinates.
+    /// The lengths as they are on the wire: the machine's zero point in part coordinates.
     SetCsyTransformation(Point),
     SetCoordSystem(Csy),
 }
 
-/// Why a line with a tag is no command.
+/// Why a line with a tag is not a command.
 #[derive(Clone, Copy, PartialEq, Eq, Debug)]
 pub enum Misread {
     UnknownCommand,
     BadArguments(Kind),
 }
 
-/// A line with a tag: the command, or why it is none.
+/// A line with a tag: the command, or why it is not one.
 #[derive(Debug)]
 pub struct Asked {
     pub tag: Tag,
     pub command: Result<Command, Misread>,
 }
 
-/// What a response says of its command.
+/// What a response says about its command.
 #[derive(Clone, Copy, PartialEq, Eq, Debug)]
 pub enum Mark<'l> {
     Received,
@@ -98,7 +98,7 @@ pub enum Failure {
 }
 
 impl Tag {
-    /// The tag of what a server says unasked.
+    /// The tag of what a server sends unasked.
     pub const UNASKED: Tag = Tag(*b"E0000");
 
     /// A standard tag; its number has at most five digits.
@@ -115,7 +115,7 @@ impl Tag {
         self.0[0] == b'E'
     }
 
-    /// The tag whose number is one more; none behind 9999.
+    /// The tag whose number is one more; none after 9999.
     #[inline]
     pub fn following(self) -> Option<Tag> {
         let Tag(mut text) = self;
@@ -133,7 +133,7 @@ impl Tag {
         self == Tag::UNASKED || self.0 == *b"00000"
     }
 
-    /// The tag that a line begins with, and what stands behind it.
+    /// The tag that a line begins with, and what follows it.
     #[inline]
     pub fn cut(line: &[u8]) -> Option<(Tag, &[u8])> {
         let (tag, rest) = line.split_first_chunk::<5>()?;
@@ -212,7 +212,7 @@ impl Command {
 }
 
 impl Asked {
-    /// The kind of the command, where its name was recognised.
+    /// The kind of the command, if its name was recognised.
     pub fn kind(&self) -> Option<Kind> {
         match &self.command {
             Ok(command) => Some(command.kind()),
@@ -222,7 +222,7 @@ impl Asked {
 }
 
 impl Misread {
-    /// The kind of the command, where its name was recognised.
+    /// The kind of the command, if its name was recognised.
     pub fn kind(self) -> Option<Kind> {
         match self {
             Misread::UnknownCommand => None,
@@ -260,7 +260,7 @@ impl Failure {
     }
 }
 
-/// What a line asks; nothing where it has no tag.
+/// What a line requests; nothing if it has no tag.
 pub fn read_command(line: &[u8]) -> Option<Asked> {
     let (tag, rest) = Tag::cut(line)?;
     let [b' ', call @ ..] = rest else { return None };
@@ -271,7 +271,7 @@ pub fn read_command(line: &[u8]) -> Option<Asked> {
     Some(Asked { tag, command: written.map_or_else(|| read_call(tag, call), Ok) })
 }
 
-/// A move or a touch without its tag, where it stands there as it is written.
+/// A move or a touch without its tag, if it has exactly the form in which it is written.
 #[inline]
 fn read_written(call: &[u8]) -> Option<Command> {
     let mut written = Written { rest: call };
@@ -295,8 +295,8 @@ fn read_call(tag: Tag, call: &[u8]) -> Result<Command, Misread> {
     command.ok_or(Misread::BadArguments(kind))
 }
 
-/// What is still to be read of a text that stands in the one form in which it is written. What stands there in another form is left to
-/// `Arguments`, and what is refused is refused there.
+/// What is still to be read of a text in the one form in which it is written. Text in another form is left to
+/// `Arguments`, which also makes all refusals.
 struct Written<'l> {
     rest: &'l [u8],
 }
@@ -312,7 +312,7 @@ impl Written<'_> {
         Some(())
     }
 
-    /// Whether a sign stands here.
+    /// Whether a sign is here.
     #[inline(always)]
     fn sign(&mut self) -> bool {
         match self.rest {
@@ -336,7 +336,7 @@ impl Written<'_> {
         number
     }
 
-    /// The number of three digits behind a point, or behind a digit.
+    /// The number of three digits after a point, or after a digit.
     #[inline(always)]
     fn three<const IS_POINT: bool>(&mut self) -> Option<i64> {
         let (block, _) = self.rest.split_first_chunk::<4>()?;
@@ -398,7 +398,7 @@ impl Written<'_> {
     }
 }
 
-/// What is still to be read of a command behind its name, or of a data text.
+/// What is still to be read of a command after its name, or of a data text.
 struct Arguments<'l> {
     rest: &'l [u8],
 }
@@ -442,7 +442,7 @@ impl<'l> Arguments<'l> {
         Some(())
     }
 
-    /// What stands up to the next space, parenthesis or comma, with spaces before it.
+    /// The text up to the next space, parenthesis or comma, with spaces before it.
     fn word(&mut self) -> &'l [u8] {
         self.skip_spaces();
         let end = self.rest.iter().position(|byte| is_behind_word(*byte)).unwrap_or(self.rest.len());
@@ -482,7 +482,7 @@ impl<'l> Arguments<'l> {
         Dir::new(i, j, k)
     }
 
-    /// The axes of a target, and its direction where one may stand there, each at most once and in any order.
+    /// The axes of a target, and its direction if one is allowed there, each at most once and in any order.
     fn target<const MAY_DIRECT: bool>(&mut self) -> Option<(Point, Option<Dir>)> {
         let (mut x, mut y, mut z, mut direction) = (None, None, None, None);
         loop {
@@ -607,7 +607,7 @@ fn write_other(out: &mut Vec<u8>, command: &Command) {
     }
 }
 
-/// The tag and the mark of a response; nothing where it is none.
+/// The tag and the mark of a response; nothing if the line is not a response.
 #[inline]
 pub fn read_response(line: &[u8]) -> Option<(Tag, Mark<'_>)> {
     let (tag, rest) = Tag::cut(line)?;
@@ -700,7 +700,7 @@ pub fn write_homed_data(out: &mut Vec<u8>, tag: Tag, is_homed: bool) {
     out.extend_from_slice(if is_homed { b" # IsHomed(1)\r\n" } else { b" # IsHomed(0)\r\n" });
 }
 
-/// Appends an error line with the name of its command, empty where there is none, and its end.
+/// Appends an error line with the name of its command, empty if it is not known, and its end.
 pub fn write_error(out: &mut Vec<u8>, tag: Tag, failure: Failure, kind: Option<Kind>) {
     out.extend_from_slice(&tag.0);
     out.extend_from_slice(b" ! Error(3, ");

@@ -34,7 +34,7 @@ const USAGE: &str = "usage: plain check [--setup FILE] [PROGRAM]
        plain rows
 ";
 
-/// Why the program ends without having done its work: what it tells on standard error, and its status.
+/// Why the program ends without having done its work: what it writes on standard error, and its status.
 struct Stop {
     told: Vec<u8>,
     status: u8,
@@ -56,14 +56,14 @@ impl Stop {
     }
 }
 
-/// Standard input, which is read once: where it is asked for again, it is empty.
+/// Standard input, which is read once: the next time it is empty.
 #[derive(Default)]
 struct Input {
     is_read: bool,
 }
 
 impl Input {
-    /// All bytes of a file, or of standard input where the name is `-`.
+    /// All bytes of a file, or of standard input if the name is `-`.
     fn read(&mut self, name: &OsStr) -> Result<Vec<u8>, Stop> {
         let mut text = Vec::new();
         let result = if name != "-" {
@@ -83,13 +83,13 @@ impl Input {
     }
 }
 
-/// The words behind `check`.
+/// The words after `check`.
 struct CheckWords<'w> {
     setup: Option<&'w OsStr>,
     program: &'w OsStr,
 }
 
-/// Keeps a word that may stand there once.
+/// Keeps a word that may occur once.
 fn keep<'w>(place: &mut Option<&'w OsStr>, word: &'w OsStr) -> Option<()> {
     place.replace(word).is_none().then_some(())
 }
@@ -127,7 +127,7 @@ fn check(words: &[OsString]) -> Result<(), Stop> {
     check::print(&program, &mut io::stdout().lock()).map_err(|_| Stop::of_file("write", OsStr::new("-")))
 }
 
-/// What a measured run prints; none where it is refused.
+/// What a measured run prints; none if it is refused.
 fn measured(words: &[&str]) -> Option<String> {
     match words {
         ["wire", side @ ("commands" | "responses"), lines, piece] => {

@@ -1,4 +1,4 @@
-//! The plan of a client (docs/PROTOCOL.md): the commands for what is left of a program, and what each stands for.
+//! The plan of a client (docs/PROTOCOL.md): the commands for what is left of a program, and what each means.
 
 use crate::line::{Command, Csy};
 use crate::program::{Program, Step};
@@ -70,13 +70,13 @@ enum Stage {
     Tool,
     /// The frame that is selected there.
     Frame,
-    /// `SetCoordSystem` behind a `SetCsyTransformation`.
+    /// `SetCoordSystem` after a `SetCsyTransformation`.
     PartFrame,
     Steps,
     Over,
 }
 
-/// Where a plan stands: it hands out its commands one after the other, without a list of them.
+/// The position in a plan: it hands out its commands one after the other, without a list of them.
 #[derive(Clone, Debug)]
 pub struct Plan {
     stage: Stage,
@@ -90,7 +90,7 @@ pub struct Plan {
 }
 
 impl Plan {
-    /// The plan behind the first `kept` features; with `StartSession()` on a new connection.
+    /// The plan after the first `kept` features; with `StartSession()` on a new connection.
     /// `kept` is at most the count of the program's features.
     pub fn new(program: &Program, kept: usize, is_new: bool) -> Plan {
         let step = match kept.checked_sub(1) {
@@ -110,7 +110,7 @@ impl Plan {
         Plan { stage, step, feature: kept, tool, frame: frame.unwrap_or_default() }
     }
 
-    /// The next command; none behind the last. It is always given the program that the plan was made of.
+    /// The next command; none after the last. The caller always passes the program that the plan was made of.
     #[inline]
     pub fn next(&mut self, program: &Program) -> Option<Planned> {
         match self.stage {
@@ -162,7 +162,7 @@ impl Plan {
         }
     }
 
-    /// A touch with what is selected where it stands; a program has none before a tool is selected.
+    /// A touch with what is selected at its place; a program has no touch before a tool is selected.
     #[inline(always)]
     fn touch(&mut self, program: &Program, at: usize, target: Point, direction: Option<Dir>) -> Planned {
         let tool = self.tool.clone().expect("a tool is selected before each touch");

@@ -1,4 +1,4 @@
-//! DMIS programs (docs/DMIS.md): what they make a machine do, and why a text is none.
+//! DMIS programs (docs/DMIS.md): what they make a machine do, and why a text is not one.
 
 use crate::blocks::{self, find};
 use crate::setup::Setup;
@@ -27,7 +27,7 @@ pub enum Step {
     Frame(Point),
 }
 
-/// What stands between `MEAS` and `ENDMES`.
+/// What is between `MEAS` and `ENDMES`.
 #[derive(Clone, Copy, PartialEq, Eq, Debug)]
 pub struct Feature {
     /// Where its label begins and ends among the labels.
@@ -43,11 +43,11 @@ pub struct Feature {
 pub struct Program {
     pub steps: Vec<Step>,
     pub features: Vec<Feature>,
-    /// All labels, one behind the other.
+    /// All labels, one after the other.
     labels: Vec<u8>,
 }
 
-/// Why a text is no program.
+/// Why a text is not a program.
 #[derive(Clone, Copy, PartialEq, Eq, Debug)]
 pub enum Refusal {
     NotDmis,
@@ -107,12 +107,12 @@ enum Word {
     Units,
     Mode,
     PassedOver,
-    /// Passed over, with a label or without.
+    /// Skipped, with a label or without.
     Definition,
     Unknown,
 }
 
-/// Clears the bit by which small letters differ from capitals. No byte but a letter becomes one by it; a space becomes a zero, as if the
+/// Clears the bit by which small letters differ from capitals. Only a letter becomes a letter by it; a space becomes a zero, as if the
 /// word ended before it.
 const CAPITALS: u64 = 0xDFDF_DFDF_DFDF_DFDF;
 
@@ -168,7 +168,7 @@ impl Word {
 #[derive(Clone, Copy)]
 struct Head<'t> {
     word: Word,
-    /// What stands behind the first `/` outside texts, where there is one.
+    /// What follows the first `/` outside texts, if there is one.
     parameters: Option<&'t [u8]>,
     has_texts: bool,
     /// Whether there is a label.
@@ -177,7 +177,7 @@ struct Head<'t> {
     is_open: bool,
 }
 
-/// The place of the first such byte outside texts; the first byte stands outside of any.
+/// The place of the first such byte outside texts; the first byte is outside of any text.
 fn find_outside_texts(text: &[u8], byte: u8) -> Option<usize> {
     let mut is_open = false;
     text.iter().position(|it| {
@@ -199,7 +199,7 @@ impl<'t> Head<'t> {
         Head { word, parameters: text.get(length + 1..), has_texts, is_labelled: false, is_open }
     }
 
-    /// The same where there is a label, or something beside the word.
+    /// Likewise if there is a label, or something next to the word.
     #[cold]
     fn of_any(statement: &Statement<'t>) -> Head<'t> {
         let Statement { text, has_texts, is_open } = *statement;
@@ -216,7 +216,7 @@ impl<'t> Head<'t> {
         Parameters { rest: self.parameters, has_texts: self.has_texts }
     }
 
-    /// The parameters, where there are not more than so many, and their count; else a count above it.
+    /// The parameters and their count, if it is within the limit; otherwise a count above the limit.
     fn all<const MOST: usize>(&self) -> ([&'t [u8]; MOST], usize) {
         let mut all: [&[u8]; MOST] = [b""; MOST];
         let mut count = 0;
@@ -264,7 +264,7 @@ fn check(is_right: bool, refusal: Refusal) -> Result<(), Refusal> {
     if is_right { Ok(()) } else { Err(refusal) }
 }
 
-/// What stands in parentheses behind a word, and nothing behind them.
+/// What is in parentheses after a word, with nothing after them.
 fn in_parentheses<'t>(text: &'t [u8], word: &[u8]) -> Option<&'t [u8]> {
     let (front, rest) = text.split_at_checked(word.len())?;
     if !front.eq_ignore_ascii_case(word) {
@@ -277,7 +277,7 @@ fn begins_with(text: &[u8], word: &[u8]) -> bool {
     text.get(..word.len()).is_some_and(|front| front.eq_ignore_ascii_case(word))
 }
 
-/// Numbers of as many decimals at the front of a text, each the plain numeral that it mostly is, and what stands behind them: nothing, or
+/// Numbers of that many decimals at the beginning of a text, each in the usual plain form, and what follows them: nothing, or
 /// a comma first.
 #[inline(always)]
 fn plain_numbers<const DECIMALS: usize>(mut text: &[u8], limit: i64) -> Option<([i64; 3], &[u8])> {
@@ -298,7 +298,7 @@ fn plain_numbers<const DECIMALS: usize>(mut text: &[u8], limit: i64) -> Option<(
 
 const CART: &[u8] = b"CART";
 
-/// What stands behind `CART,`, with blanks or without.
+/// What follows `CART,`, with blanks or without.
 fn behind_cart(text: &[u8]) -> Option<&[u8]> {
     let (word, rest) = text.split_first_chunk::<5>()?;
     word.eq_ignore_ascii_case(b"CART,").then_some(rest)
@@ -552,7 +552,7 @@ fn read_mode(head: &Head) -> Result<(), Refusal> {
 }
 
 impl Program {
-    /// The program of a text, whose stored frames are those of the setup, or why it is none and on which line, counted from 1.
+    /// The program of a text, whose stored frames are those of the setup, or why it is not one and on which line, counted from 1.
     pub fn read(text: &[u8], setup: &Setup) -> Result<Program, (Refusal, usize)> {
         let mut program = Program::default();
         program.steps.reserve(STATEMENTS.min(text.len() / STATEMENT_BYTES));

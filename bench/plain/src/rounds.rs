@@ -1,4 +1,4 @@
-//! A server that is driven by hand, round by round (bench/WORK.md).
+//! A server that is driven directly, round by round (bench/WORK.md).
 
 use crate::ledger::Act;
 use crate::line::{Command, LINE_END, Tag, write_command};
@@ -14,7 +14,7 @@ struct Driven<'s> {
     sum: u64,
 }
 
-/// How many contacts a server has after so many rounds, and the sum over what it answered.
+/// How many contacts a server has after that many rounds, and the sum over what it answered.
 pub fn rounds(rounds: u64) -> (u64, u64) {
     let mut setup = Setup::default();
     let tool = Name::read(b"P1");
@@ -54,7 +54,7 @@ impl Driven<'_> {
         Ok(())
     }
 
-    /// A command is written, fed, read, and has its turn.
+    /// A command is written, fed, read and processed.
     fn ask(&mut self, tag: Tag, command: &Command) -> Result<(), Refusal> {
         self.line.clear();
         write_command(&mut self.line, tag, command);

@@ -99,7 +99,7 @@ fn show_client(program: &Program, window: &str, part: &Part, out: &mut Vec<u8>) 
     }
 }
 
-/// What each mark does behind the actions of a row.
+/// What each mark does after the actions of a row.
 fn show_marks(program: &Program, window: &str, part: &Part, out: &mut Vec<u8>) {
     show_rows(part, out, |row, out| {
         let Some((line, script)) = row.split_once(" | ") else { return };
@@ -113,12 +113,12 @@ fn show_marks(program: &Program, window: &str, part: &Part, out: &mut Vec<u8>) {
     });
 }
 
-/// What a line does behind the actions before it.
+/// What a line does after the actions that precede it.
 fn show_texts(program: &Program, window: &str, part: &Part, out: &mut Vec<u8>) {
     show_rows(part, out, |row, out| show_last(program, window, row.split(" / "), out));
 }
 
-/// What the last of a list of actions comes to, on a first connection.
+/// The result of the last of a list of actions, on a first connection.
 fn show_last<'r>(program: &Program, window: &str, actions: impl Iterator<Item = &'r str>, out: &mut Vec<u8>) {
     let Some(mut rows) = ClientRows::new(program, window) else { return };
     let mut last = rows.client.connected(1);
@@ -141,7 +141,7 @@ struct ClientRows<'p> {
     client: Client<'p>,
 }
 
-/// What a row shows behind a call of a client that was carried out.
+/// What a row shows after a call of a client that was carried out.
 enum Shown {
     /// What it has sent, and its state.
     Sent,
@@ -210,7 +210,7 @@ impl<'p> ClientRows<'p> {
         }
     }
 
-    /// Carries out a row that is no question.
+    /// Carries out a row that is not a question.
     fn act(&mut self, row: &str) -> Result<Shown, Refusal> {
         let client = &mut self.client;
         let (word, rest) = row.split_once(' ').unwrap_or((row, ""));
@@ -344,7 +344,7 @@ impl ServerRows<'_> {
         }
     }
 
-    /// Carries out a row that is no question; false where a line was to be read and none is whole.
+    /// Carries out a row that is not a question; false if a line had to be read and none is whole.
     fn act(&mut self, row: &str) -> Result<bool, server::Refusal> {
         let server = &mut self.server;
         let (word, rest) = row.split_once(' ').unwrap_or((row, ""));

@@ -1,4 +1,4 @@
-//! The server (docs/PROTOCOL.md): it reads commands, lets them have their turns, and keeps a ledger of what they did.
+//! The server (docs/PROTOCOL.md): it reads commands, processes them in turn, and keeps a ledger of what they did.
 
 use crate::framing::{Fault, Lines};
 use crate::ledger::{Act, Contact};
@@ -15,7 +15,7 @@ const WAITING_MOST: usize = 64;
 /// The last number of a connection.
 pub const CONNECTION_MOST: u32 = 4_000_000_000;
 
-/// Why a call was refused; nothing has changed, but that a `Framing` is kept.
+/// Why a call was refused; nothing has changed, except that a `Framing` is kept.
 #[derive(Clone, Copy, PartialEq, Eq, Debug)]
 pub enum Refusal {
     NotNow,
@@ -42,7 +42,7 @@ pub struct Running {
     pub command: Command,
 }
 
-/// What is given up with a connection.
+/// What is dropped with a connection.
 #[derive(Debug, Default)]
 struct Visit {
     has_session: bool,
@@ -50,7 +50,7 @@ struct Visit {
     stored: Point,
     is_error: bool,
     running: Option<Running>,
-    /// What was read, and has not had its turn.
+    /// What was read, and is not processed yet.
     waiting: VecDeque<Asked>,
     lines: Lines,
     fault: Option<Fault>,
@@ -66,7 +66,7 @@ pub struct Server<'s> {
     tool: Option<Name>,
     ledger: Vec<(u32, Act)>,
     visit: Visit,
-    /// The lines that it has answered, each with its end; who passes them on clears it.
+    /// The lines that it has answered, each with its end; the caller that passes them on clears it.
     pub out: Vec<u8>,
 }
 
@@ -161,7 +161,7 @@ impl<'s> Server<'s> {
         Ok(())
     }
 
-    /// Reads the first line and answers it; false where none is whole.
+    /// Reads the first line and answers it; false if it is not whole.
     pub fn read_one(&mut self) -> Result<bool, Refusal> {
         self.may_read()?;
         let line = match self.visit.lines.first_line() {
@@ -238,7 +238,7 @@ impl<'s> Server<'s> {
         }
     }
 
-    /// Gives the first waiting command its turn.
+    /// Processes the first waiting command.
     pub fn turn(&mut self) -> Result<(), Refusal> {
         if self.visit.running.is_some() {
             return Err(Refusal::NotNow);
@@ -363,7 +363,7 @@ impl<'s> Server<'s> {
                 self.is_homed = true;
                 self.append(Act::Homed);
             }
-            // Nothing else runs, and no touch without a tool.
+            // Nothing else runs, and a touch always has a tool.
             _ => {}
         }
         write_complete(&mut self.out, tag);

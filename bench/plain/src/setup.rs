@@ -48,7 +48,7 @@ const WORDS: [(&[u8], Word); 3] = [
 /// The most fields of a line.
 const FIELDS: usize = 5;
 
-/// The fields of a line, where it has from one to so many and no space at either end.
+/// The fields of a line, if it has from one to that many and no space at either end.
 fn fields<'t>(line: &'t [u8], fields: &mut [&'t [u8]; FIELDS]) -> Option<usize> {
     if line.first() == Some(&b' ') || line.last() == Some(&b' ') {
         return None;
@@ -74,7 +74,7 @@ fn point(fields: &[&[u8]]) -> Result<Point, SetupRefusal> {
 }
 
 impl Setup {
-    /// The setup of a text, or why it is none and on which line, counted from 1.
+    /// The setup of a text, or why it is not one and on which line, counted from 1.
     pub fn read(text: &[u8]) -> Result<Setup, (SetupRefusal, usize)> {
         let mut setup = Setup::default();
         for (index, line) in text.split_inclusive(|byte| *byte == b'\n').enumerate() {

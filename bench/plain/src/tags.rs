@@ -30,7 +30,7 @@ pub enum Stage {
     Given(Datum),
 }
 
-/// A command that has neither ended nor failed, and what it stands for.
+/// A command that has neither ended nor failed, and what it means.
 #[derive(Debug)]
 pub struct Open<C> {
     pub tag: Tag,
@@ -56,7 +56,7 @@ impl<C> Held<C> {
         Held { first, next: first, open: VecDeque::new(), failed: BTreeMap::new() }
     }
 
-    /// The next tag that is not held; none where all are.
+    /// The next tag that is not held; none if all are.
     #[inline]
     pub fn draw(&mut self) -> Option<Tag> {
         if self.open.len() + self.failed.len() >= TAGS {
@@ -77,7 +77,7 @@ impl<C> Held<C> {
         self.open.push_back(Open { tag, stage: Stage::Sent, what });
     }
 
-    /// Where a command stands among those that are open.
+    /// The place of a command among those that are open.
     #[inline]
     pub fn place(&self, tag: Tag) -> Option<usize> {
         match self.open.front() {
@@ -99,7 +99,7 @@ impl<C> Held<C> {
         }
     }
 
-    /// The tag of a failed command is given back.
+    /// Releases the tag of a failed command.
     pub fn close(&mut self, tag: Tag) {
         self.failed.remove(&tag);
     }

@@ -95,7 +95,7 @@ impl<'t> Statements<'t> {
         Ok(None)
     }
 
-    /// The same where the line at the front has more than solid bytes, blanks and a comment: how many solid ones it begins with is known.
+    /// Likewise if the first line has more than solid bytes, blanks and a comment; how many solid bytes it begins with is known.
     fn next_of_any(&mut self, solid: usize) -> Result<Option<Statement<'_>>, Refusal> {
         let part = self.take_line(false, solid)?;
         self.begun = self.lines;
@@ -131,12 +131,12 @@ impl<'t> Statements<'t> {
         Ok((!text.is_empty()).then_some(Statement { text, has_texts, is_open }))
     }
 
-    /// Puts the blanks that end a part behind its front.
+    /// Puts the blanks that end a part after its beginning.
     fn push_blanks(&mut self, part: &[u8]) {
         self.joined.extend_from_slice(&part[trimmed_end(part).len()..]);
     }
 
-    /// Takes a line, and says what stands before its comment; in its first bytes, so many, there is nothing to be found. Where it is
+    /// Takes a line, and answers what precedes its comment; its first bytes, the given number, are known to be solid. If it is
     /// refused, its number is kept.
     #[inline(always)]
     fn take_line(&mut self, is_open: bool, at: usize) -> Result<Part<'t>, Refusal> {
@@ -155,7 +155,7 @@ impl<'t> Statements<'t> {
     }
 }
 
-/// What stands behind the line that ends at this place, where it does.
+/// What follows the line that ends at this place, if it does.
 #[inline]
 fn behind_line_end(text: &[u8], end: usize) -> Option<&[u8]> {
     match text.get(end..)? {
@@ -165,7 +165,7 @@ fn behind_line_end(text: &[u8], end: usize) -> Option<&[u8]> {
     }
 }
 
-/// The part of the line at the front of a text, and the place behind the line: its end, a bad byte or the end of the text.
+/// The part of the first line of a text, and the place after the line: its end, a bad byte or the end of the text.
 #[inline]
 fn read_part(text: &[u8], mut is_open: bool, mut at: usize) -> (Part<'_>, usize) {
     let mut has_texts = is_open;
@@ -189,7 +189,7 @@ fn read_part(text: &[u8], mut is_open: bool, mut at: usize) -> (Part<'_>, usize)
     }
 }
 
-/// The place behind the blanks at a place outside texts, and behind the comment that then begins, if one does.
+/// The place after the blanks at a place outside texts, and after the comment that then begins, if one does.
 #[inline]
 fn behind_blanks_and_comment(text: &[u8], mut at: usize) -> usize {
     while text.get(at).is_some_and(|byte| is_blank(*byte)) {
@@ -209,7 +209,7 @@ fn comment_end(text: &[u8], at: usize) -> usize {
     end
 }
 
-/// Why the line at the front of a text is refused, where there is a bad byte in it.
+/// Why the first line of a text is refused, if there is a bad byte in it.
 fn refusal_of_bad(text: &[u8]) -> Refusal {
     let line = match find(text, b'\n') {
         Some(end) => text[..end].strip_suffix(b"\r").unwrap_or(&text[..end]),

@@ -7,10 +7,10 @@ use crate::setup::Setup;
 use crate::sums::{place, summed, summed_bytes};
 use std::fmt::Write;
 
-/// The touches of a feature, but for the last.
+/// The touches of a feature, except for the last feature.
 const FEATURE: u64 = 330;
 
-/// How many points a client measures, and the sum over what it sent and measured; none where it is refused.
+/// How many points a client measures, and the sum over what it sent and measured; none if it is refused.
 pub fn touches(touches: u64, window: u64) -> Option<(u64, u64)> {
     let program = Program::read(text(touches).as_bytes(), &Setup::default()).ok()?;
     let mut client = Client::new(&program, window)?;
@@ -36,7 +36,7 @@ fn text(touches: u64) -> String {
     text
 }
 
-/// Drives a client to its end; the sum over all that it sent.
+/// Drives a client to its end. Answers the sum over all that it sent.
 fn drive(client: &mut Client) -> Result<u64, Refusal> {
     let mut peer = Peer::default();
     let mut sum = 0;
@@ -55,7 +55,7 @@ fn drive(client: &mut Client) -> Result<u64, Refusal> {
     Ok(sum)
 }
 
-/// Who answers all commands at once, and is not homed.
+/// A peer that answers all commands at once, and is not homed.
 #[derive(Default)]
 struct Peer {
     touched: u64,

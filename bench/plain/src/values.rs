@@ -41,7 +41,7 @@ pub struct Dir {
 pub enum Frame {
     #[default]
     Machine,
-    /// Those of a part whose zero point stands here in machine axes.
+    /// The axes of a part with this zero point, in machine axes.
     Part(Point),
 }
 
@@ -49,7 +49,7 @@ pub enum Frame {
 #[derive(Clone, PartialEq, Eq, PartialOrd, Ord, Debug)]
 pub struct Name(Rc<str>);
 
-/// Why a text is no numeral of its kind.
+/// Why a text is not a numeral of its kind.
 #[derive(Clone, Copy, PartialEq, Eq, Debug)]
 pub enum BadNumeral {
     NotNumeral,
@@ -93,7 +93,7 @@ impl Frame {
     }
 }
 
-/// Each byte of a name as it is kept, and 0 for a byte that no name has.
+/// Each byte of a name as it is stored, and 0 for a byte that no name has.
 const FOLDED: [u8; 256] = {
     let mut folded = [0; 256];
     let mut byte = 33;
@@ -106,7 +106,7 @@ const FOLDED: [u8; 256] = {
     folded
 };
 
-/// A name in the first bytes of a block, and how many they are; none where the text is no name.
+/// A name in the first bytes of a block, and how many there are; none if the text is not a name.
 fn folded(text: &[u8]) -> Option<([u8; NAME_BYTES], usize)> {
     let mut name = [0; NAME_BYTES];
     if text.is_empty() || text.len() > NAME_BYTES {
@@ -120,7 +120,7 @@ fn folded(text: &[u8]) -> Option<([u8; NAME_BYTES], usize)> {
     is_name.then_some((name, text.len()))
 }
 
-/// Puts the name of this text behind others; says whether it is one, and where it is none, puts nothing there.
+/// Appends the name of this text to others. Answers whether it is a name; if it is not, appends nothing.
 pub fn push_name(text: &[u8], names: &mut Vec<u8>) -> bool {
     let Some((name, length)) = folded(text) else {
         return false;
@@ -130,7 +130,7 @@ pub fn push_name(text: &[u8], names: &mut Vec<u8>) -> bool {
 }
 
 impl Name {
-    /// The name of this text with small letters as capitals; none where it has no byte, more than 64, or one that no name has.
+    /// The name of this text with small letters as capitals; none if it has no byte, more than 64, or one that no name has.
     pub fn read(text: &[u8]) -> Option<Name> {
         let (name, length) = folded(text)?;
         str::from_utf8(&name[..length]).ok().map(|name| Name(name.into()))
@@ -158,7 +158,7 @@ const TENS: [u64; 8] = {
     tens
 };
 
-/// What a numeral says: its digits as a whole number, how many of them stand behind the point, the exponent, and the sign.
+/// What a numeral says: its digits as a whole number, how many of them follow the point, the exponent, and the sign.
 struct Numeral {
     is_negative: bool,
     digits: u128,
@@ -166,7 +166,7 @@ struct Numeral {
     exponent: i32,
 }
 
-/// Whether a first byte is a sign, and which; and what stands behind it.
+/// Whether the first byte is a sign, and which; and what follows it.
 fn split_sign(text: &[u8]) -> (bool, &[u8]) {
     match text {
         [b'-', rest @ ..] => (true, rest),
@@ -175,7 +175,7 @@ fn split_sign(text: &[u8]) -> (bool, &[u8]) {
     }
 }
 
-/// The exponent of a numeral, behind its `E`.
+/// The exponent of a numeral, after its `E`.
 fn exponent(text: &[u8]) -> Option<i32> {
     let (is_negative, digits) = split_sign(text);
     if !(1..=3).contains(&digits.len()) || !digits.iter().all(u8::is_ascii_digit) {
@@ -216,7 +216,7 @@ impl Numeral {
         }
     }
 
-    /// The number in units of which ten to the power of `decimals` are one, rounded, halves away from zero.
+    /// The number in units of ten to the power of minus `decimals`, rounded, halves away from zero.
     fn rounded(&self, decimals: usize, limit: i64) -> Result<i64, BadNumeral> {
         let power = self.exponent - self.decimals + decimals as i32;
         let limit = limit as u128;
@@ -236,8 +236,8 @@ impl Numeral {
     }
 }
 
-/// The numeral at the front of a text, in units of which ten to the power of `DECIMALS` are one, and how many bytes it has. None where
-/// another byte than a comma stands behind it, and where it has more than eight bytes, an exponent or a plus, is too large or none.
+/// The numeral at the beginning of a text, in units of ten to the power of minus `DECIMALS`, and how many bytes it has. None if
+/// a byte other than a comma follows it, or if it has more than eight bytes, an exponent or a plus, is too large or not a numeral.
 #[inline(always)]
 pub fn read_plain<const DECIMALS: usize>(text: &[u8], limit: i64) -> Option<(i64, usize)> {
     let is_negative = text.first() == Some(&b'-');
@@ -270,7 +270,7 @@ fn rounded_quotient(number: u64, unit: u64) -> u64 {
     (number + unit / 2) / unit
 }
 
-/// A number of so many decimals of a numeral.
+/// The number of a numeral, with that many decimals.
 fn read_number<const DECIMALS: usize>(text: &[u8], limit: i64) -> Result<i64, BadNumeral> {
     match read_plain::<DECIMALS>(text, limit) {
         Some((number, length)) if length == text.len() => Ok(number),
@@ -278,7 +278,7 @@ fn read_number<const DECIMALS: usize>(text: &[u8], limit: i64) -> Result<i64, Ba
     }
 }
 
-/// A length in micrometres, of a numeral in millimetres, no further than the limit from zero. No blanks may stand around it.
+/// A length in micrometres, of a numeral in millimetres, no further than the limit from zero. No blanks may surround it.
 pub fn read_length(text: &[u8], limit: i64) -> Result<i64, BadNumeral> {
     read_number::<LENGTH_DECIMALS>(text, limit)
 }
@@ -309,14 +309,14 @@ fn three_digits(number: u64) -> u64 {
     u64::from(THREE_DIGITS[(number % 1_000) as usize])
 }
 
-/// A few numerals and what stands between them, put together in place.
+/// A few numerals and what is between them, put together in place.
 struct Short {
     bytes: [u8; Short::ROOM],
     length: u32,
 }
 
 impl Short {
-    /// Room for three numerals of any size, and a block that is put behind them.
+    /// Room for three numerals of any size, and a block that is put after them.
     const ROOM: usize = 96;
 
     #[inline]
@@ -324,7 +324,7 @@ impl Short {
         Short { bytes: [0; Short::ROOM], length: 0 }
     }
 
-    /// Puts the first bytes of a word behind the others.
+    /// Puts the first bytes of a word after the others.
     #[inline]
     fn put_word(&mut self, word: u64, count: usize) {
         let end = self.length as usize;
@@ -334,13 +334,13 @@ impl Short {
         self.length += count as u32;
     }
 
-    /// Puts a text of at most eight bytes behind the others.
+    /// Puts a text of at most eight bytes after the others.
     #[inline]
     fn put(&mut self, text: &[u8]) {
         self.put_word(front_word(text), text.len());
     }
 
-    /// A whole number without zeros in front.
+    /// A whole number without leading zeros.
     #[inline]
     fn put_whole(&mut self, number: u64) {
         if number >= 1_000 {
@@ -423,7 +423,7 @@ pub fn write_component(out: &mut Vec<u8>, component: i64) {
     short.push_to(out);
 }
 
-/// A whole number without zeros in front.
+/// A whole number without leading zeros.
 pub fn write_whole(out: &mut Vec<u8>, number: u64) {
     let mut short = Short::new();
     short.put_whole(number);

@@ -4,7 +4,7 @@ use crate::framing::Lines;
 use crate::line::{Command, LINE_END, read_command, read_response, write_command, write_complete, write_received};
 use crate::sums::{place, tag};
 
-/// How many commands or responses are read of so many that were written and came in such pieces; none where one is refused.
+/// How many commands or responses are read of that many that were written and came in such pieces; none if one is refused.
 pub fn count_lines(are_commands: bool, lines: u64, piece: usize) -> Option<u64> {
     if are_commands {
         read_pieces(&commands(lines), piece, |line| read_command(line).is_some_and(|asked| asked.command.is_ok()))

@@ -22,8 +22,8 @@ pub trait Source {
 
     /// Takes the next bytes into the start of `buf` and returns how many.
     ///
-    /// 0 into a buffer that is not empty is the end of the input. What stands
-    /// in `buf` after the count means nothing. `Failed` comes where the port
+    /// 0 into a buffer that is not empty is the end of the input. What is
+    /// in `buf` after the count means nothing. `Failed` comes if the port
     /// has failed, by this call or before, and from then on always; it takes
     /// nothing.
     fn pull(&mut self, buf: &mut [u8]) -> Result<usize, Failed>

@@ -12,7 +12,7 @@ pub const PIECE: usize = 65_536;
 /// Pushes all of `bytes`, in as many pushes as the sink takes them in; none
 /// if there are none.
 ///
-/// `Failed` comes only where the sink has failed; it has then taken a front
+/// `Failed` comes only where the sink has failed; it has then taken a prefix
 /// of the bytes, short of all.
 #[tactic(auto, using(crate::proofs::Moved::pushed))]
 pub fn push_all<W: Sink>(sink: &mut W, bytes: &[u8]) -> Result<(), Failed>

@@ -33,7 +33,7 @@ Fronted front ks ls Effect.Quiet = ls ≡ ks
 Fronted front ks ls Effect.Failure = Unit {0}
 Fronted front ks ls (Effect.Count k given) = (front ≡ true) × (ks ≡ k ∷ ls) × IsGiven k given
 
--- one more in prefix of them
+-- one more before them
 behind_one : (k : Kind) (ks ls : List Kind) (e : Effect) → Fronted false ks ls e → Fronted false (k ∷ ks) (k ∷ ls) e
 behind_one k ks ls Effect.Quiet h = ap (λ (l : List Kind). k ∷ l) h
 behind_one k ks ls Effect.Failure h = tt
@@ -162,7 +162,7 @@ none_asks (h ∷ hs) e =
         ∙ (ap (λ (b : Bool). b || ask (live_kinds hs)) (sym (and-true (asks_homed h.kind))
         ∙ (ap (λ (b : Bool). asks_homed h.kind && not b) (sym calm) ∙ first)) ∙ others)
 
--- after the question none stands
+-- no command follows the question
 abbrev pub IsAskedLast : List Kind → Type 0
 IsAskedLast [] = Unit {0}
 IsAskedLast (k ∷ ks) = (asks_homed k ≡ true → ks ≡ []) × IsAskedLast ks

@@ -368,7 +368,7 @@ one_act : (d : Does) (acts : List Act) (ds : List Does) → is_question d ≡ fa
 one_act d [] ds other h later = absurd h
 one_act d (a ∷ acts) ds other h later = ap (λ (b : Bool). b || told_homed acts) (not_told a d other h.0) ∙ later acts h.1
 
--- before the question it is not told
+-- before the question it is not reported
 pub untold : (acts : List Act) (ps : List Planned) → AreActs acts (acts_planned ps) → AreAsked ps → asked ps ≡ 0
     → told_homed acts ≡ false
 untold [] [] h are none = refl

@@ -80,7 +80,7 @@ pub record IsCalm (hs : List OpenCommand) (y : Tally) : Type 0 where
   pub kinds : live_kinds hs ++ kinds_of y.unsent ≡ kinds_of y.todo
   pub asked_last : IsAskedLast (live_kinds hs)
 
--- the present plan: its counted front, the acts and the features that it gave, and what is open of it
+-- the present plan: its counted prefix, the acts and the features that it gave, and what is open of it
 pub record IsOnPlan (p : Meaning) (hs : List OpenCommand) (y : Tally) (plans : Plans) : Type 0 where
   pub finished : List Planned
   pub first : List Act
@@ -849,7 +849,7 @@ resumed_holds p plans c halted h =
       };
     }) tt h.numbered
 
--- ---- the connection is discarded
+-- ---- the connection is left
 
 left_off : (s : State) → IsOff (left_state s)
 left_off State.Done = tt

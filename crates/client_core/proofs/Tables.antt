@@ -46,7 +46,7 @@ on_event ws o after y effect (Ok (hs, e)) is =
     subst (λ (a : OpenValue). client.heard_event (table_of o y) (Ok (hs, e)) ≡ Ok (table_of a y)) whole refl
 on_event ws o after y effect (Err cause) is = absurd (never _ _ (sym is))
 
--- a mark that has a place
+-- a mark that is expected
 pub on_table : (ws : List Wanted) (o after : OpenValue) (y : client.Tally) (t : Tag) (m : Mark) (effect : Effect)
     → heard o t m ≡ Ok (after, effect)
     → y.failed ≡ o.failed → client.heard_on ws (table_of o y) t m ≡ Ok (table_of after (tallied_on t ws effect y))
@@ -65,7 +65,7 @@ off_event : (o : OpenValue) (y : client.Tally) (cause : Cause) (h : Heard) → h
 off_event o y cause (Ok (hs, e)) is = absurd (never _ _ is)
 off_event o y cause (Err why) is = ap (λ (c : Result (OpenValue × Effect) Cause). elim c [ Ok p ↦ Err cause | Err w ↦ Err w ]) is
 
--- a mark that has none
+-- a mark that is not
 pub off_table : (ws : List Wanted) (o : OpenValue) (y : client.Tally) (t : Tag) (m : Mark) (cause : Cause) → heard o t m ≡ Err cause
     → y.failed ≡ o.failed → client.heard_on ws (table_of o y) t m ≡ Err cause
 off_table ws o y (Std n) m cause is same =

@@ -180,7 +180,7 @@ origins_ended n [] = []
 origins_ended n (p ∷ ps) = origin_ended n p.does ++ origins_ended n ps
 
 -- a client's tally is that of its plans: its acts are those for which the counted prefix of the present plan stands, after those of the
--- plans before it; and its features are those that it held when that was begun and one for each that ends in the front, with the number of
+-- plans before it; and its features are those that it held when that was begun and one for each that ends in the prefix, with the number of
 -- the connection and the frame of its last touch
 pub record AreCounted (p : Meaning) (plans : Plans) (tally : Tally) : Type 0 where
   pub acts : AreActs tally.counted (acts_of_fronts p (begun_now plans tally ∷ plans.earlier))

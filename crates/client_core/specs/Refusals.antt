@@ -12,8 +12,8 @@ IsRefused can e fault.NotNow = (is_faulted e.client.state ≡ false) × (can ≡
 IsRefused can e (fault.Faulted cause) = (is_faulted e.client.state ≡ true) × (e.client.cause ≡ Some cause)
 IsRefused can e fault.Memory = can ≡ true
 
--- a line is not read: the client is on no connection, it was Faulted before and nothing changed, it is Faulted by this call, or memory is
--- wanting
+-- a line is not read: the client is on no connection, it was Faulted before and nothing changed, it is Faulted by this call, or memory
+-- runs out
 abbrev pub IsReadRefused : ClientEnd → ClientEnd → ClientFault → Type 0
 IsReadRefused old new fault.NotNow = (new ≡ old) × (old.client.on ≡ false) × (is_faulted old.client.state ≡ false)
 IsReadRefused old new (fault.Faulted cause) = (is_faulted new.client.state ≡ true) × (new.client.cause ≡ Some cause)

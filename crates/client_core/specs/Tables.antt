@@ -33,7 +33,7 @@ opened_of c = record {
   event_drawn = c.event_drawn;
 }
 
--- the effect of a mark, if it has a place, counts a command of the plan
+-- the effect of a mark, if it is expected, counts a command of the plan
 abbrev pub counts_standard : Tag → Option Effect → Bool
 counts_standard (Std n) (Some effect) = is_count effect
 counts_standard (Std n) None = false

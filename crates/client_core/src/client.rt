@@ -32,10 +32,9 @@ use std::marker::Model;
 /// its states are this profile's). It is on at most one connection. Contracts see `protocol_model`'s end of a connection: the client,
 /// the bytes that it was fed and has not read, and those that are to be sent.
 ///
-/// `connected` comes to a connection; `send` writes the command that is `due`, `feed` brings bytes, `read_one` reads a line. What it
-/// writes is in `out` until `sent`. A feature joins `features` with its last counted point. `abort` stops the server, `resume` begins
-/// the plan again after the last completed feature; `leave` and `restart` give the connection up. Running out of memory leaves the client as it
-/// was.
+/// `connected` comes to a connection; `send` writes the command that is `due`, `feed` brings bytes, `read_one` reads a line. What it writes
+/// is in `out` until `sent`. A feature joins `features` with its last counted point. `abort` stops the server, `resume` begins the plan
+/// again after the last completed feature; `leave` and `restart` leave the connection. Running out of memory leaves the client as it was.
 #[derive(Drop)]
 pub struct Client {
     executor: Executor,
@@ -256,8 +255,8 @@ impl Client {
         Ok(())
     }
 
-    /// Gives the connection up: Done stays Done, all else is Apart; what was to be sent and the points of the unfinished feature are given
-    /// up; features and counted acts stay. Does not allocate.
+    /// Leaves the connection: Done stays Done, all else is Apart; what was to be sent and the points of the unfinished feature are
+    /// discarded; features and counted acts stay. Does not allocate.
     #[tactic(auto, using(crate::proofs::Reached::left_reached))]
     pub fn leave(&mut self)
         ensures { self.new ≡ end_left self.old }

@@ -130,7 +130,7 @@ impl Executor {
         self.cause = Some(cause);
     }
 
-    /// The command that is to be sent next, if one is due; none is while it is asked whether the machine is homed.
+    /// The command that is to be sent next, if one is due; none is due while it is asked whether the machine is homed.
     pub(crate) fn due(&self) -> Option<&Command>
         ensures { MatchOption result (due self.now ≡ None)
             (λ command. planned_command (due self.now) ≡ Some command.now) }

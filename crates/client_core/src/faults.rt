@@ -12,7 +12,7 @@ use std::alloc::AllocError;
 pub enum ClientFault {
     /// C1: the call is not possible now.
     NotNow,
-    /// C2: the client has given its connection up for this cause. All calls but those that leave, restart or read the state answer it.
+    /// C2: the client has left its connection for this cause. All calls but those that leave, restart or read the state answer it.
     Faulted(Cause),
     /// Running out of memory.
     Memory,

@@ -17,7 +17,7 @@ ghost use Rattle.client_core.specs.Clients.{are_ours};
 /// skipped if it was answered since it was begun that the machine is homed. The acts that are counted on the connection are those for
 /// which the counted prefix of the present plan stands, after those of the plans that were begun before it: a contact with the target,
 /// direction, tool and frame of its touch. And the features are those that were held when the present plan was begun, and one for each
-/// that ends in its counted front, with the number of the connection and the frame of its last touch for an origin;
+/// that ends in its counted prefix, with the number of the connection and the frame of its last touch for an origin;
 /// - `homed`: if it was answered since the present plan was begun that the machine is homed, no homing is unsent, so that none is ever due;
 /// - `numbered`: that number is the one that the client came to last;
 /// - `next`: a mark that counts a command counts one of the kind of the first command of the plan that is not counted.

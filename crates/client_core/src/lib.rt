@@ -1,5 +1,5 @@
-//! The client of a measuring machine: it sends the plan of a program, counts what the server's lines report, and holds the measured features
-//! (I++ DME Interface version 1; plan, states and tags are this profile's).
+//! The client of a measuring machine: it sends the plan of a program, counts what the server's lines report, and holds the measured
+//! features (I++ DME Interface version 1; plan, states and tags are this profile's).
 //!
 //! - `client`: `Client`, with the bytes of its connection
 //! - `executor`: what else it keeps, and its states

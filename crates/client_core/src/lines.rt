@@ -53,7 +53,7 @@ impl Executor {
         Ok(())
     }
 
-    /// A line is read, its text where it stands. Fails only if out of memory.
+    /// A line is read, its text in place. Fails only if out of memory.
     #[tactic(auto, using(crate::proofs::Readings::one_response))]
     pub(crate) fn hear_line(&mut self, line: &[u8]) -> Result<(), AllocError>
         requires connection { IsConnection self.old.last }

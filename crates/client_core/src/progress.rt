@@ -29,7 +29,7 @@ pub(crate) struct Progress {
     pub features: FeatureLedger,
 }
 
-/// The act that a counted command means, with what its data line told: whether the machine is homed, or the point of a contact.
+/// The act that a counted command means, with what its data line said: whether the machine is homed, or the point of a contact.
 fn act_of(alloc: Global, does: &Does, given: &Option<Datum>) -> Result<Option<Act>, AllocError>
     ensures { IfOk result (λ act. listed act ≡ act_of does.now given.now) }
 {
@@ -125,7 +125,7 @@ fn measure(
     }
 }
 
-/// Whether a counted command told that the machine is homed.
+/// Whether a counted command reported that the machine is homed.
 fn tells_homed(kind: Kind, given: &Option<Datum>) -> bool
     ensures { result ≡ tells_homed kind given.now }
 {
@@ -171,7 +171,7 @@ impl Progress {
         }
     }
 
-    /// The next command of the plan is counted, and where it told that the machine is homed, the homing after it is passed over; after
+    /// The next command of the plan is counted, and if it reported that the machine is homed, the homing after it is passed over; after
     /// the whole plan nothing is counted. Fails only if out of memory.
     #[tactic(auto, using(crate::proofs::Counting::counted_is, crate::proofs::Counting::none_counted))]
     pub(crate) fn count(

@@ -11,7 +11,7 @@ pub waits_under_any : (t : Tag) (ws : List Waiting) → waits_under t ws ≡ lis
 waits_under_any t [] = refl
 waits_under_any t (w ∷ ws) = ap (λ (b : Bool). tag_is w.tag t || b) (waits_under_any t ws)
 
--- the prefix of a list, and none where the list is empty
+-- the first element of a list, and none if the list is empty
 pub front_of : (r : Option (Bor Waiting)) (ws : List Waiting) → option_copied r ≡ slice_get ws 0
     → MatchOption r (ws ≡ []) (λ w. ws ≡ w.now ∷ drop 1 ws)
 front_of None [] e = refl

@@ -64,7 +64,7 @@ impl Queue {
         self.ring.try_push_back(command)
     }
 
-    /// The command that came first, which stays; none where none waits. Does not allocate.
+    /// The command that came first, which stays; `None` if no command waits. Does not allocate.
     pub fn first(&self) -> Option<&Waiting>
         ensures { MatchOption result (self.now ≡ [])
             (λ command. self.now ≡ command.now ∷ drop 1 self.now) }
@@ -72,7 +72,7 @@ impl Queue {
         self.ring.front()
     }
 
-    /// Takes the command that came first; none where none waits. Does not allocate.
+    /// Takes the command that came first; `None` if no command waits. Does not allocate.
     pub fn take(&mut self) -> Option<Waiting>
         ensures { MatchOption result
             ((self.old ≡ []) × (self.new ≡ []))
@@ -93,7 +93,7 @@ impl Queue {
         Ok(commands)
     }
 
-    /// Gives up all commands. Does not allocate.
+    /// Discards all commands. Does not allocate.
     pub fn clear(&mut self)
         ensures { self.new ≡ [] }
     {
@@ -116,7 +116,7 @@ impl Queue {
         self.ring.len()
     }
 
-    /// Whether none waits.
+    /// Whether no command waits.
     pub fn is_empty(&self) -> bool
         ensures { IsTrue result ↔ (self.now ≡ []) }
     {

@@ -50,7 +50,7 @@ pub line_none : (bs : List ℕ) → None ≡ position (λ b. eqb b 10) bs → wh
 unfolding whole_lines
 line_none bs e = rw (one_part (λ b. eqb b 10) bs e) refl
 
--- what is in prefix of a space, and the fields from it on
+-- what precedes a space, and the fields after it
 pub field_at : (bs : List ℕ) (at : ℕ) → Some at ≡ position (λ b. eqb b 32) bs → fields_of bs ≡ take at bs ∷ fields_of (drop (at + 1) bs)
 unfolding fields_of
 field_at bs at e = (first_part (λ b. eqb b 32) bs at e).1

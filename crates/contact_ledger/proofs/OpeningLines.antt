@@ -79,7 +79,7 @@ pub second_refused : (fields behind : List (List ℕ)) (first : List ℕ) (o : O
     → (first ≡ codes "-" → ⊥) → IsWrittenOrigin o → fields ≡ origin_fields o → ⊥
 second_refused fields behind first o none p other h e = second_none fields behind first o none p other h e
 
--- after a dash stands nothing
+-- nothing follows a dash
 pub dash_alone : (fields more : List (List ℕ)) (first next : List ℕ) (o : Option Origin) → fields ≡ first ∷ next ∷ more
     → first ≡ codes "-" → IsWrittenOrigin o → fields ≡ origin_fields o → ⊥
 dash_alone fields more first next None p s h e =

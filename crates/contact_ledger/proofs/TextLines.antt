@@ -18,7 +18,7 @@ use Rattle.contact_ledger.proofs.PlainFields.{is_plain, ArePlain, point_plain}
 use Rattle.contact_ledger.proofs.OpeningLines.{opening_plain}
 use Rattle.contact_ledger.proofs.FeatureShapes.{opening_good}
 
--- a byte that is no line end
+-- a byte that is not a line end
 abbrev pub is_text : ℕ → Bool
 is_text c = nat_le 32 c
 

@@ -26,7 +26,7 @@ connection_most = 4000000000
 abbrev pub IsConnection : ℕ → Type 0
 IsConnection n = (1 ≤ n) × (n ≤ connection_most)
 
--- each act of a ledger stands next to such a number
+-- each act of a ledger is next to such a number
 abbrev pub AreOnConnections : List (ℕ × Act) → Type 0
 AreOnConnections acts = All (λ entry. IsConnection entry.0) acts
 

@@ -13,7 +13,7 @@ but_last [] = []
 but_last (part ∷ []) = []
 but_last (part ∷ next ∷ parts) = part ∷ but_last (next ∷ parts)
 
--- the lines of a text that have their LF; what follows the last LF is no line
+-- the lines of a text that have their LF; what follows the last LF is not a line
 unfoldable pub whole_lines : List ℕ → List (List ℕ)
 whole_lines bytes = but_last (slice_split (λ b. b == 10) bytes)
 
@@ -21,7 +21,7 @@ whole_lines bytes = but_last (slice_split (λ b. b == 10) bytes)
 abbrev pub line_of : List (List ℕ) → List ℕ
 line_of fields = join_with_byte 32 fields
 
--- what stands between the spaces of a line
+-- what is between the spaces of a line
 unfoldable pub fields_of : List ℕ → List (List ℕ)
 fields_of line = slice_split (λ b. b == 32) line
 

@@ -30,7 +30,7 @@ pub record AddsPoint (features : List Feature) (version : Version) (o : Opening)
   pub same : new ≡ features
   pub next : place ≡ Within version o (points ++ point ∷ [])
 
--- END, if there is none missing
+-- END, if no point is missing
 pub record EndsFeature (features : List Feature) (version : Version) (o : Opening) (points : List Point) (line : List ℕ)
     (new : List Feature) (place : Place) : Type 0 where
   pub whole : length points ≡ o.count

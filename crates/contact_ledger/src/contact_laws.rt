@@ -11,7 +11,7 @@ pub fn written_acts_are_read()
         → IsContacts (contacts_text entries) entries }
 {}
 
-/// A text is read as one list of acts at most, and none that is read has a damaged line (this profile).
+/// A text is read as at most one list of acts, and no text that is read has a damaged line (this profile).
 pub fn acts_are_read_in_one_way()
     ensures one { (bytes : List ℕ) (first second : List (ℕ × Act)) → IsContacts bytes first
         → IsContacts bytes second → first ≡ second }
@@ -19,7 +19,7 @@ pub fn acts_are_read_in_one_way()
         → IsDamagedContacts bytes n → ⊥ }
 {}
 
-/// Each prefix of a written text is read as the acts whose lines have their LF in it (this profile): none where the first line is torn.
+/// Each prefix of a written text is read as the acts whose lines have their LF in it (this profile): none if the first line is torn.
 pub fn fronts_are_read()
     ensures header { (entries : List (ℕ × Act)) (count : ℕ) → AreEntries entries
         → count < length (contacts_text [])

@@ -36,8 +36,8 @@ impl FeatureLedger {
         }
     }
 
-    /// Appends a feature. Where its origin is known, the caller must give a connection number from 1 to 4,000,000,000. Fails only if out of memory
-    /// : it hands the feature back, and the list is as before. The room doubles when it is full.
+    /// Appends a feature. Where its origin is known, the caller must give a connection number from 1 to 4,000,000,000. Fails only if out of
+    /// memory: it hands the feature back, and the list is as before. The room doubles when it is full.
     pub fn push(&mut self, feature: Feature) -> Result<(), AllocFailed<Feature>>
         requires { IsOrigin feature.origin }
         ensures appended { Leads result self.old self.new (self.old ++ feature ∷ []) }

@@ -49,7 +49,7 @@ impl Points {
         self.items.truncate(count);
     }
 
-    /// Gives up all points, and keeps their room.
+    /// Discards all points, and keeps their room.
     pub fn clear(&mut self)
         ensures { self.new ≡ [] }
     {

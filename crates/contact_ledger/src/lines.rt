@@ -4,7 +4,7 @@ ghost use Rattle.std.specs.Prelude.{◌≡◌, ◌<◌, ◌∷◌, ◌==◌, [],
 ghost use Rattle.std.specs.List.{position};
 ghost use Rattle.contact_ledger.specs.Lines.{whole_lines, fields_of, fields_behind};
 
-/// Where a byte first stands.
+/// Where a byte first occurs.
 fn place_of(bytes: &[u8], mark: u8) -> Option<usize>
     ensures place { result ≡ position (λ b. b == mark) bytes.now }
     ensures within { IfSome result (λ at. at < length bytes.now) }
@@ -12,7 +12,7 @@ fn place_of(bytes: &[u8], mark: u8) -> Option<usize>
     bytes.iter().position(|byte| *byte == mark)
 }
 
-/// The first line without its LF, and the bytes after that LF; none where there is no LF.
+/// The first line without its LF, and the bytes after that LF; `None` if there is no LF.
 #[tactic(auto, using(crate::proofs::LineCuts::line_cuts))]
 pub fn cut_line(bytes: &[u8]) -> Option<(&[u8], &[u8])>
     ensures cut { MatchOption result (whole_lines bytes.now ≡ [])
@@ -36,7 +36,7 @@ pub fn first_field(bytes: &[u8]) -> (&[u8], &[u8])
     }
 }
 
-/// The field after the first space, and what follows it; none where there is no space.
+/// The field after the first space, and what follows it; `None` if there is no space.
 #[tactic(auto, using(crate::proofs::LineCuts::field_cuts))]
 pub fn next_field(rest: &[u8]) -> Option<(&[u8], &[u8])>
     ensures { MatchOption result (fields_behind rest.now ≡ [])

@@ -17,7 +17,7 @@ use crate::forms::Forms;
 use crate::openings::{Opening, Version, read_header, read_opening};
 use std::alloc::Global;
 
-/// Where a reader stands between two lines.
+/// Where a reader is between two lines.
 #[derive(Drop)]
 pub(crate) enum Place {
     /// Before the first line.

@@ -11,7 +11,7 @@ use std::marker::Model;
 pub const CONNECTION_MAX: u64 = 4_000_000_000;
 
 /// What a server has done, in order: each act next to the number of its connection (this profile). Contracts see
-/// this list. An act is appended when it is completed, and none is ever taken away.
+/// this list. An act is appended when it is completed, and no act is ever removed.
 #[derive(Debug, Drop)]
 pub struct ServerLedger {
     acts: Vec<(u64, Act)>,

@@ -124,8 +124,8 @@ fn on_side_of(number: i128, magnitude: u128) -> i128
 }
 
 /// The deviation along a direction, in micrometres: the scalar product of both, divided by the direction's own length, which need not be
-/// one, to the nearest micrometre; of two equally near, the one farther from zero. It is decided in whole numbers, on squares. Takes no
-/// memory.
+/// one, to the nearest micrometre; of two equally near, the one farther from zero. It is decided in whole numbers, on squares. Does not
+/// allocate.
 pub fn along_normal(deviation: Deviation, direction: Dir) -> i128
     requires { IsDeviation deviation }
     ensures along { IsAlong deviation direction result }

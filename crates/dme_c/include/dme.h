@@ -4,8 +4,8 @@
  * What a caller must ensure; the library tests none of it:
  *
  * - A handle is a variable of the caller's, at one address from `.._new` to `.._free`; the caller neither reads nor writes its contents.
- *   `.._new` fills a handle that holds nothing: one that is all zero and was never filled, or that `.._free` has emptied. If `.._new` answers
- *   a number other than DME_DONE, the handle holds nothing. Every other call requires a handle that holds a core.
+ *   `.._new` fills a handle that holds nothing: one that is all zero and was never filled, or that `.._free` has emptied. If `.._new`
+ *   answers a number other than DME_DONE, the handle holds nothing. Every other call requires a handle that holds a core.
  *   `.._free` releases all memory of the core. A core that is never freed leaks memory, and has no other effect.
  * - A handle is used by one call at a time, from the thread that filled it.
  * - Bytes are a pointer and a length. The pointer is never null, even if the length is 0, and the length is below 2^63. Bytes that are
@@ -70,7 +70,7 @@ extern "C" {
 typedef struct { uint8_t *at; } dme_client;
 typedef struct { uint8_t *at; } dme_server;
 
-/* A job, its place in whole micrometres and in machine axes, and the outward normal of a touch, in whole millionths; zeros if it has none. */
+/* A job, its place in whole micrometres in machine axes, and the outward normal of a touch, in whole millionths; zeros if it has none. */
 typedef struct { uint32_t number; int64_t x, y, z; int64_t i, j, k; } dme_job;
 
 /* The number of the answer, and how many bytes the text has. */
@@ -139,7 +139,7 @@ uint32_t dme_server_read(dme_server *server);
 uint32_t dme_server_turn(dme_server *server);
 /* What the machine must do now. */
 dme_job dme_server_job(dme_server *server);
-/* Copies the name of the tool to change to, of at most 64 bytes, if it fits into the room. Answers its length, 0 if no tool change runs. */
+/* Copies the name of the tool to change to, of at most 64 bytes, if it fits the room. Answers its length, 0 if no tool change runs. */
 size_t dme_server_tool(dme_server *server, uint8_t *room, size_t room_length);
 /* How what runs has ended: done, a touch with or without a surface, the machine stopped. Each of x, y and z within 4000000000. */
 uint32_t dme_server_done(dme_server *server);

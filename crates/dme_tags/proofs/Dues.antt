@@ -136,7 +136,7 @@ fits_ok T o n t m e x h = sym (refusal_due o t m) ∙ ap refusal_heard h
 
 -- ---- data
 
--- what a command that is given data at the front, and what any other is reported
+-- the answer to data for a command at the front, and for any other
 data_none : (d : Bool) (s : Stage) (p : Datum) → refusal_of (judged_given d s p) ≡ None → (d ≡ true) × (s ≡ Stage.Received)
 data_none true Stage.Sent p e = absurd (cc)
 data_none true Stage.Received p e = (refl, refl)
@@ -152,7 +152,7 @@ data_second true (Stage.Given q) p e = (refl, (q, refl))
 data_second true Stage.Failed p e = absurd (cc)
 data_second false s p e = absurd (cc)
 
--- ---- each answer exactly where it is due
+-- ---- each answer exactly when it is due
 
 pub none_some : (c : Cause) (due : Option Cause) → due ≡ Some c → due ≡ None → ⊥
 none_some c due a b = cc
@@ -203,7 +203,7 @@ err_exactly {T} (Err g) due why f is h = (
     same : ◌≡◌ {A = Result T TagFault} (Err g) (Err f) → g ≡ f
     same e = cc
 
--- a call that is reported no more than these faults
+-- a call that is refused answers one of these faults
 pub named_by : {T : Type 0} (r : Result T TagFault) (due : Option Cause) (P : TagFault → Type 0) → Fits r due
     → ((why : Cause) → due ≡ Some why → P (fault_for (Some why))) → IfErr r P
 named_by (Ok x) due P h each = tt
@@ -242,7 +242,7 @@ nothing_stands : (s : Standing) → kind_part s ≡ None → s ≡ None
 nothing_stands None e = refl
 nothing_stands (Some (k, s)) e = absurd (cc)
 
--- why a mark is refused under whose tag a command is held: it is never that none is
+-- why a mark is refused under whose tag a command is held: the cause is never that no command is held
 pub ack_causes : (s : Stage) (why : Cause) → refusal_of (judged_ack s) ≡ Some why → why ≡ cause.OutOfOrder
 ack_causes Stage.Sent why e = absurd (cc)
 ack_causes Stage.Received why e = cc
@@ -278,7 +278,7 @@ done_causes false a Stage.Received why e = inl (cc)
 done_causes false a (Stage.Given q) why e = inl (cc)
 done_causes false a Stage.Failed why e = absurd (cc)
 
--- the faults for one of two causes, next to that none is held
+-- the faults for one of two causes, or that no command is held
 pub named_two : (why a b : Cause) → (why ≡ a) ⊎ (why ≡ b) → (fault_for (Some why) ≡ fault.UnknownTag)
     ⊎ (fault_for (Some why) ≡ fault_for (Some a)) ⊎ (fault_for (Some why) ≡ fault_for (Some b))
 named_two why a b (inl e) = inr (inl (ap (λ (w : Cause). fault_for (Some w)) e))
@@ -312,7 +312,7 @@ unknown_kind : (o : OpenValue) (t : Tag) (m : Mark) → (refusal_under (standing
 unknown_kind o t m = compose (unknown_due (standing t o) (is_next t o) m)
     (λ e. kind_under_is t o ∙ ap kind_part e, λ e. nothing_stands (standing t o) (sym (kind_under_is t o) ∙ e))
 
--- what stands under a tag, in its parts
+-- what is held under a tag, in its parts
 abbrev kind_or : Standing → Kind → Kind
 kind_or None d = d
 kind_or (Some (k, s)) d = k

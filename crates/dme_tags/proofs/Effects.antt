@@ -1,4 +1,4 @@
--- What a mark does next to the open commands is the same on both sorts of tags.
+-- The effect of a mark, apart from the open commands, is the same on both sorts of tags.
 use Rattle.std.proofs.Common.{◌≡◌, ℕ, Option, Ok, Err, refl, not, true, ◌∙◌}
 use Rattle.dme_line.specs.declared.tags.Tag.TheVariants.{Std, Event}
 use Rattle.protocol_model.specs.Replies.{Mark}

@@ -29,7 +29,7 @@ use Rattle.dme_tags.proofs.Dues.{Standing, and_assoc, and_true, kinds_same, stag
 
 -- ---- what becomes of a command
 
--- what stands under its tag after a verdict
+-- what is held under its tag after a verdict
 abbrev Stays : Verdict → Kind → Standing → Type 0
 Stays (Becomes stage) k st = st ≡ Some (k, stage)
 Stays Breaks k st = st ≡ Some (k, Stage.Failed)
@@ -74,7 +74,7 @@ moved front (h ∷ hs) gs t m e k s is st =
     at same stage = if_true {A = Standing} (tag_is h.tag t) (Some (h.kind, stage)) (standing_in t hs) same
         ∙ ap (λ (x : Kind). Some (x, stage)) (kinds_same _ _ _ _ (its same))
 
--- what stands under another tag stays
+-- what is held under another tag stays
 apart_from : (h : OpenCommand) (u t : Tag) → tag_is u t ≡ false → tag_is h.tag u ≡ true → tag_is h.tag t ≡ false
 apart_from h u t apart same = ap (λ (x : Tag). tag_is x t) (tag_is-true h.tag u same) ∙ apart
 

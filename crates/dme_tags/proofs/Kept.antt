@@ -13,7 +13,7 @@ use Rattle.protocol_model.specs.declared.held.OpenCommand.{OpenCommand}
 use Rattle.protocol_model.specs.declared.held.Stage.{Stage}
 use Rattle.dme_tags.specs.Kept.{Slots, slot, command_at, listed, IsApart, AreKeys}
 
--- ---- a slot that is no listed one
+-- ---- a slot that is not a listed one
 
 -- what is at a listed key is its command
 filled : (slots : Slots) (k : ℕ) (h : OpenCommand) → slot slots k ≡ Some h → command_at slots k ≡ h
@@ -234,7 +234,7 @@ inserted_at s m r ks ls js key h same kept items none u are =
 
 -- ---- counts
 
--- one of the commands is such where their count is not 0
+-- one of the commands is such if their count is not 0
 positive : (n : ℕ) → true ≡ not ((1 + n) == 0)
 positive n = grind arith
 

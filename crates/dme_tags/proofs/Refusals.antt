@@ -1,4 +1,4 @@
--- A mark that is unexpected in the list of its sort of tags has none.
+-- A mark that is refused in the list of its sort of tags is refused by the open commands.
 use Rattle.std.proofs.Common.{◌≡◌, ℕ, true, not, List, Option, Some, None, sym, ◌∙◌, ap}
 use Rattle.dme_line.specs.declared.tags.Tag.{Tag}
 use Rattle.dme_line.specs.declared.tags.Tag.TheVariants.{Std, Event}

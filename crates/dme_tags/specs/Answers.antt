@@ -34,7 +34,7 @@ abbrev pub effect_of : Ended → Effect
 effect_of (ended.Counted kind given) = Effect.Count kind given
 effect_of ended.Closed = Effect.Quiet
 
--- the effect of a mark, if it has a place
+-- the effect of a mark, if it is expected
 abbrev pub effect_heard : {A : Type 0} → Result (A × Effect) Cause → Option Effect
 effect_heard (Ok (behind, effect)) = Some effect
 effect_heard (Err cause) = None

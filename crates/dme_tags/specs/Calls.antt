@@ -7,7 +7,7 @@ use Rattle.protocol_model.specs.Language.{Placed}
 use Rattle.protocol_model.specs.declared.held.Datum.{Datum}
 use Rattle.dme_tags.specs.Opened.{OpenValue, Answer, heard, is_next, next_tag, with_drawn}
 
--- a call that did not want for memory: a tag is drawn for a command of this kind; `&`, data, `!` or `%` is read under a tag; a plan
+-- a call that did not run out of memory: a tag is drawn for a command of this kind; `&`, data, `!` or `%` is read under a tag; a plan
 -- begins
 pub data Call : Type 0 where
   Draw : Kind → Call
@@ -22,7 +22,7 @@ abbrev pub behind_draw : OpenValue → Kind → Option Tag → OpenValue
 behind_draw o kind None = o
 behind_draw o kind (Some tag) = with_drawn o tag kind
 
--- a mark that has a place changes what is open, a refused one does not
+-- an expected mark changes what is open, a refused one does not
 abbrev pub behind_answer : OpenValue → Answer → OpenValue
 behind_answer o (Ok (next, effect)) = next
 behind_answer o (Err cause) = o
@@ -43,7 +43,7 @@ until_end (Mark.Given datum) later = later
 until_end Mark.Error later = later
 until_end Mark.Done later = []
 
--- a mark by its answer: one that was taken in comes in prefix of those that were taken in later
+-- a mark by its answer: one that was taken in comes before those that were taken in later
 abbrev pub answered : Bool → Mark → Answer → List Placed → List Placed
 answered front m (Ok next) later = (front, m) ∷ until_end m later
 answered front m (Err cause) later = later

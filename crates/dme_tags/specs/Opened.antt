@@ -15,7 +15,7 @@ use Rattle.dme_tags.specs.Limits.{last_number}
 use Rattle.dme_tags.specs.Places.{ahead_of, all_failed}
 
 -- the commands that are held under standard tags and under event tags, each in sending order; whether a standard command has failed
--- since the plan began; the numbers of the tags of both sorts that were drawn last, 0 where none was
+-- since the plan began; the numbers of the tags of both sorts that were drawn last, 0 if none was
 pub record OpenValue : Type 0 where
   pub standard : List OpenCommand
   pub event : List OpenCommand

@@ -1,4 +1,4 @@
--- Where a command stands among those of its sort of tags.
+-- Where a command is among those of its sort of tags.
 use Rattle.std.specs.Prelude.{◌≡◌, ℕ, suc, ◌<◌, Bool, true, false, if◌then◌else◌, List, [], ◌∷◌, ◌++◌, length, get_or, take, drop}
 use Rattle.std.specs.List.{list_all}
 use Rattle.dme_line.specs.declared.tags.Tag.{Tag}

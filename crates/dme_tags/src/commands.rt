@@ -76,7 +76,7 @@ impl Commands {
         }
     }
 
-    /// Gives all up. Does not allocate.
+    /// Discards all commands. Does not allocate.
     pub(crate) fn clear(&mut self)
         ensures { self.new ≡ [] }
     {

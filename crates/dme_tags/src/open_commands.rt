@@ -71,7 +71,7 @@ impl Open {
         }
     }
 
-    /// Gives all open commands up for a new connection, on which the tags begin at number 1 again. Does not allocate.
+    /// Discards all open commands for a new connection, on which the tags begin at number 1 again. Does not allocate.
     pub fn clear(&mut self)
         ensures { self.new ≡ none_open }
     {
@@ -82,7 +82,7 @@ impl Open {
         self.event_drawn = 0;
     }
 
-    /// The tag that `draw` would give to a command of this kind; nothing is drawn, and no memory is taken.
+    /// The tag that `draw` would give to a command of this kind. Draws nothing and does not allocate.
     ///
     /// The only refusal is `TagsSpent` (G5).
     pub fn next_tag(&self, kind: Kind) -> Result<Tag, TagFault>
@@ -104,8 +104,8 @@ impl Open {
     /// other. Tags are drawn with the numbers 1 to 9999 one after the other, again from 1 on after the last, and those that are held
     /// are passed over (this profile).
     ///
-    /// `TagsSpent` (G5) where all of them are held. `Memory` where a growth was refused; nothing is drawn then. Nothing but this
-    /// growth can fail where `next_tag` has answered a tag.
+    /// `TagsSpent` (G5) if all of them are held. `Memory` if a growth was refused; nothing is drawn then. Only this
+    /// growth can fail if `next_tag` has answered a tag.
     pub fn draw(&mut self, kind: Kind) -> Result<Tag, TagFault>
         ensures next { IfOk result (λ tag. next_tag self.old kind ≡ Some tag) }
         ensures drawn { Draws result self.old self.new kind }
@@ -131,7 +131,7 @@ impl Open {
         Ok(tag)
     }
 
-    /// The kind of the command that is held under a tag; `None` if there is none. Does not allocate.
+    /// The kind of the command that is held under a tag; `None` if no command is. Does not allocate.
     pub fn kind_of(&self, tag: Tag) -> Option<Kind>
         ensures { result ≡ kind_under tag self.now }
     {
@@ -158,11 +158,11 @@ impl Open {
         }
     }
 
-    /// Takes in that these data were read under a tag. Where a `PtMeas` is held under it the caller must give a point, and where an `IsHomed`
-    /// is, whether the machine is homed. Does not allocate.
+    /// Takes in that these data were read under a tag. Where a `PtMeas` is held under it the caller must give a point, and where an
+    /// `IsHomed` is, whether the machine is homed. Does not allocate.
     ///
-    /// `UnknownTag` (G1) if no command is held under it; `SecondData` (G4) where the command, a `PtMeas` or `IsHomed` at the front, has data
-    /// already; `OutOfOrder` (G2) where it asks for no data, is not at the front, not yet received, or failed.
+    /// `UnknownTag` (G1) if no command is held under it; `SecondData` (G4) where the command, a `PtMeas` or `IsHomed` at the front, has
+    /// data already; `OutOfOrder` (G2) where it asks for no data, is not at the front, not yet received, or failed.
     pub fn data(&mut self, tag: Tag, datum: Datum) -> Result<(), TagFault>
         requires { may_be_given (kind_under tag self.old) datum ≡ true }
         ensures due { IsOk result ↔ AwaitsData tag self.old }
@@ -204,7 +204,7 @@ impl Open {
         Ok(())
     }
 
-    /// How `complete` would answer. Nothing changes, and no memory is taken.
+    /// How `complete` would answer. Changes nothing and does not allocate.
     #[tactic(auto, using(crate::proofs::Effects::standard_effect, crate::proofs::Effects::event_effect))]
     pub fn end_of(&self, tag: Tag) -> Result<Ended, TagFault>
         ensures ending { IsEnding tag self.now result }

@@ -1,4 +1,4 @@
--- A name stands between its mark and a `)`.
+-- A name is between its mark and a `)`.
 use Rattle.std.proofs.Common.{◌≡◌, ℕ, ◌+◌, ◌-◌, ◌<◌, Bool, true, false, cond, List, [], ◌∷◌, ◌++◌, length, take, drop, get_or, Option, Some}
 use Rattle.std.proofs.Common.{None, refl, ap, sym, ◌∙◌, arith, length-append, codes}
 use Rattle.std.specs.Prelude.{option_and_then, ◌==◌}
@@ -21,7 +21,7 @@ begins_front front rest = (starts_is byte_test (front ++ rest) front (begins fro
 begins_parts : (front text : List ℕ) → begins front text ≡ true → text ≡ front ++ drop (length front) text
 begins_parts front text h = (starts_is byte_test text front (begins front text) refl).0 h
 
--- what stands before a `)` at the end
+-- what precedes a `)` at the end
 closed_at : (inner : List ℕ) → before_close (inner ++ 41 ∷ []) ≡ Some inner
 closed_at inner =
     let e : length (inner ++ 41 ∷ []) - 1 ≡ length inner = omega (arith, length-append inner (41 ∷ [])) in

@@ -15,7 +15,7 @@ is_letters text = nat_lt 0 (length text) && list_all is_ascii_alphabetic text
 abbrev pub begins : List ℕ → List ℕ → Bool
 begins front text = starts_with nat_eq text front
 
--- what stands before a `)` at the end
+-- what precedes a `)` at the end
 abbrev pub before_close : List ℕ → Option (List ℕ)
 before_close text = if slice_index text (length text - 1) == 41 then Some (take (length text - 1) text) else None
 

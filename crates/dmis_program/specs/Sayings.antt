@@ -79,7 +79,7 @@ abbrev pub mode : List (List ℕ) → Result StatementMeaning Refusal
 mode [] = Err BadArguments
 mode (first ∷ rest) = if list_any (λ p. bytes_eq p (codes "PROG")) (first ∷ rest) then Ok Passes else Err NoProgMode
 
--- by keyword. An unknown word never comes so far
+-- by keyword. An unknown word never gets this far
 unfoldable pub said_by : Keyword → List (List ℕ) → Result StatementMeaning Refusal
 said_by word.Dmismn params = Ok Passes
 said_by word.Goto params = goes (without_cart params)
@@ -100,7 +100,7 @@ abbrev pub may_have_label : Keyword → Bool
 may_have_label word.Definition = true
 may_have_label _ = false
 
--- a label before a word that is no definition, or a text that is not closed
+-- a label before a word that is not a definition, or a text that is not closed
 abbrev pub is_badly_formed : Keyword → Statement → Bool
 is_badly_formed keyword s = (is_some s.label && not (may_have_label keyword)) || has_open_text s
 

@@ -18,11 +18,11 @@ pub enum Refusal {
     BadByte,
     /// This profile does not read the statement.
     Unsupported,
-    /// Wrong number or form of parameters, a label before a word that is no definition, or a text that is not closed.
+    /// Wrong number or form of parameters, a label before a word that is not a definition, or a text that is not closed.
     BadArguments,
     /// A numeral is refused; of several the leftmost.
     BadNumeral(NumeralFault),
-    /// The statement belongs into a measurement block, and none is open.
+    /// The statement belongs in a measurement block, and none is open.
     OutsideBlock,
     /// The statement cannot be in a measurement block, and one is open.
     InsideBlock,

@@ -19,8 +19,8 @@ ghost use Rattle.dmis_program.specs.declared.steps.Step.{Step};
 ghost use Rattle.dmis_program.specs.declared.steps.Step.TheVariants as step;
 ghost use Rattle.dmis_program.specs.declared.features.Touch.{Touch};
 
-/// Of a program's refusals that of the first statement that is refused decides, with its line. Where none is, and no statement is
-/// the end, the refusal of the text's end does. After the end nothing is read.
+/// Of a program's refusals that of the first statement that is refused decides, with its line. If none is refused and none
+/// is the end, the refusal of the text's end does. After the end nothing is read.
 pub fn first_refusal_decides()
     ensures refused { (frames : List (List ℕ × Point)) (fault : Option TextFault) (lines : ℕ)
         (above front : List Statement) (s : Statement) (behind : List Statement) (refusal : Refusal)
@@ -79,7 +79,7 @@ pub fn stored_frames_are_found()
         → name ≢ other → offset_of (frames ++ (name, offset) ∷ []) other ≡ offset_of frames other }
 {}
 
-/// A name stands between its mark and a `)` and nowhere else.
+/// A name is between its mark and a `)` and nowhere else.
 pub fn names_stand_in_parentheses()
     ensures written { (front inner : List ℕ) → is_name_text inner ≡ true
         → name_within front (front ++ (inner ++ codes ")")) ≡ Some (folded inner) }

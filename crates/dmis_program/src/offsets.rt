@@ -47,7 +47,7 @@ impl Frames {
         Some(entry.1)
     }
 
-    /// Adds a frame after the others; false where one of this name is there, and then nothing has changed.
+    /// Adds a frame after the others; false if one of this name is there, and then nothing has changed.
     /// The caller must give a zero point in the machine's volume. Fails only if out of memory, and then nothing has changed either.
     pub fn add(&mut self, name: Name, point: Point) -> Result<bool, AllocError>
         requires { IsInVolume point }

@@ -43,7 +43,7 @@ pub(crate) fn begins(text: &[u8], front: &[u8]) -> bool
     text.starts_with(front)
 }
 
-/// What stands before a `)` at the end.
+/// What precedes a `)` at the end.
 fn before_close(text: &[u8]) -> Option<&[u8]>
     ensures { option_map (λ t. t.now) result ≡ before_close text.now }
 {

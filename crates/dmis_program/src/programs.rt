@@ -67,7 +67,7 @@ impl Program {
     /// Reads the text of a program up to its `ENDFIL`; `frames` are those that it may recall. What is after is not read.
     ///
     /// Statements are read in order, and the first refusal in the text is answered with its line. Of several refusals of one
-    /// statement the first in this order decides: more than 10,000 statements; no `DMISMN` in front; a statement that this profile
+    /// statement the first in this order decides: more than 10,000 statements; no `DMISMN` at the start; a statement that this profile
     /// does not read; one that is outside or inside a block where it may not be; its arguments; its numerals, from the left; what
     /// its values mean (no direction, an unknown frame, too few points, another unit or mode); no tool. A line that cannot be read
     /// is refused before the statement that reaches it. Without an `ENDFIL` the text is truncated, at its last line.

@@ -226,7 +226,7 @@ impl Reader {
         }
     }
 
-    /// Takes one statement more. True at the end of the program. After an `Err` the reader is of no further use.
+    /// Takes one more statement. True at the end of the program. After an `Err` the reader is of no further use.
     #[tactic(auto, unfolding(crate::specs::Judging::judged))]
     pub(crate) fn read(
         &mut self,

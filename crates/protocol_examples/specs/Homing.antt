@@ -33,11 +33,11 @@ told_so homed = Reply.Ack (Std 3) ∷ Reply.Given (Std 3) (datum.Homed homed) �
 abbrev pub asking_client : Client
 asking_client = client_read (play one_point 1 (opened ++ quiet 2 ∷ client_sends ∷ [])).world.client (Std 3) Mark.Ack
 
--- the same when it has read this answer
+-- that client when it has read this answer
 abbrev pub answered_client : Bool → Client
 answered_client homed = client_read asking_client (Std 3) (Mark.Given (datum.Homed homed))
 
--- the same when it has read the end of the question, too
+-- that client when it has also read the end of the question
 abbrev pub told_client : Bool → Client
 told_client homed = client_read (answered_client homed) (Std 3) Mark.Done
 

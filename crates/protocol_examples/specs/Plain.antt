@@ -35,7 +35,7 @@ missing k j n = Outcome.Done
 abbrev pub always_done : Job → ℕ → Outcome
 always_done j n = Outcome.Done
 
--- a machine that goes home and changes its tool, and does no more
+-- a machine that homes and changes its tool, and does nothing else
 abbrev pub unmoved : Job → ℕ → Outcome
 unmoved (Job.Move p) n = Outcome.Fault
 unmoved (Job.Touch p d) n = Outcome.Touched p

@@ -106,8 +106,8 @@ pub record Play : Type 0 where
   pub wrote : List Line
   pub said : List Reply
 
--- a line of a script: an event, the outcome of the simulated machine where something runs, the server or the client reads all that stands
--- there, or that many quiet rounds
+-- a line of a script: an event, the outcome of the simulated machine if something runs, the server or the client reads all that is there,
+-- or that many quiet rounds
 pub data Cue : Type 0 where
   On : Event → Cue
   Auto : Cue

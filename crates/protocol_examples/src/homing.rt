@@ -102,7 +102,7 @@ pub fn asked_rows()
         ∷ Call.Reads (Ok (line 2 command.ClearAllErrors)) ∷ Call.Turns ∷ asked_now) no_tool
         ≡ Reply.Ack (Std 1) ∷ failed 1 9015 kind.Home
         ++ Reply.Ack (Std 2) ∷ Reply.Done (Std 2) ∷ told_so false }
-    // Another connection finds it as it was; a restarted server knows nothing of it.
+    // Another connection leaves that unchanged; a restarted server knows nothing of it.
     ensures left_homed { called (Call.Reads (Ok (line 1 command.StartSession)) ∷ Call.Turns
         ∷ asked_now) (server_accepted 2 (server_left no_tool))
         ≡ Reply.Ack (Std 1) ∷ Reply.Done (Std 1) ∷ told_so true }
@@ -116,7 +116,7 @@ pub fn told_rows()
     ensures no_data { (client_read asking_client (Std 3) Mark.Done).cause ≡ Some Cause.NoData }
     ensures second_data { (client_read (answered_client true) (Std 3)
         (Mark.Given (datum.Homed true))).cause ≡ Some Cause.SecondData }
-    // A point is no answer to this question, nor is the answer the point of a touch.
+    // A point does not answer this question, nor is the answer the point of a touch.
     ensures point_is_no_answer { (client_read asking_client (Std 3)
         (Mark.Given (datum.Point (at (pos 0) (pos 0) (pos 0))))).cause ≡ Some Cause.OutOfOrder }
     ensures answer_is_no_point { (client_read (client_read
@@ -157,7 +157,7 @@ pub fn told_rows()
         ∷ client_reads ∷ [])).world ≡ true }
 {}
 
-/// Both ends: where the machine is homed, Home has no line and no tag, and the plan is whole
+/// Both ends: if the machine is homed, Home has no line and no tag, and the plan is whole
 /// without it.
 pub fn homing_rows()
     ensures first_connection { said_behind (play one_point 1 (opened ++ quiet 2 ∷ []))

@@ -1,7 +1,7 @@
 //! Examples of the protocol of `protocol_model`: short programs, scripts of events and calls, and what the definitions compute of them. No
 //! code, and no crate is on it.
 //!
-//! - `scripts`: scripts where lines are values, played with a simulated machine, and what they report; a server and a client by themselves
+//! - `scripts`: scripts where lines are values, played with a simulated machine, and what they report; a server and a client on their own
 //! - `origins`: where features come from
 //! - `homing`: the question whether the machine is homed
 //! - `turns`: when a client is done

@@ -45,7 +45,7 @@ pub fn plain_rows()
     // The machine is asked in its own axes, with the direction.
     ensures job { touch_job (touch_there part)
         ≡ job.Touch (at (pos 130000) (pos 0) (pos 0)) from_above }
-    // Where a feature comes from is no part of what was measured.
+    // Where a feature comes from is not part of what was measured.
     ensures without_origin { as_measured (feature_on 7 frame.Machine (codes "A")
         (at (pos 1) (pos 2) (pos 3) ∷ []) ∷ [])
         ≡ measured_so (codes "A") (at (pos 1) (pos 2) (pos 3) ∷ []) ∷ [] }

@@ -160,7 +160,7 @@ pub fn undisturbed_rows()
         ∷ []) }
 {}
 
-/// Connections that break, and ends that start anew.
+/// Connections that break, and ends that restart.
 pub fn broken_rows()
     // The client leaves while its first line is on its way.
     ensures left_at_once { reported one_point 1
@@ -217,7 +217,7 @@ pub fn broken_rows()
         ∷ contact 2 2 (at (pos 3999) (pos 5001) (pos 6000)) ∷ []) }
 {}
 
-/// Aborts, and what is begun again after them.
+/// Aborts, and what is restarted after them.
 pub fn aborted_rows()
     // A tool change is running.
     ensures change_answered { said_behind (play circle 1 (at_its_turn 6 ++ abort ∷ []))
@@ -242,14 +242,14 @@ pub fn aborted_rows()
         ++ abort ∷ server_reads ∷ client_reads_all ∷ []) ≡ report State.Halted 3 [] [] }
     ensures waiting_without_tool { (play circle 3 (change_while_two_wait
         ++ abort ∷ server_reads ∷ [])).world.server.tool ≡ None }
-    // The machine is homed: the client is reported so, and Home has no line and no tag.
+    // The machine is homed: this is reported to the client, and Home has no line and no tag.
     ensures waiting_resumed { wrote_behind (play circle 3 (change_while_two_wait
         ++ abort ∷ server_reads ∷ client_reads_all ∷ resume ∷ [])) (quiet 2 ∷ [])
         ≡ line 10 command.ClearAllErrors ∷ line 11 command.IsHomed
         ∷ line 12 command.OnPtMeasReport
         ∷ line 13 (command.SetCoordSystem MachineCsy)
         ∷ line 14 (command.ChangeTool (codes "P1")) ∷ [] }
-    // The last touch runs, in the part's frame: its feature is measured again, and the contact that was made for it before serves nobody.
+    // The last touch runs, in the part's frame: its feature is measured again, and the contact that was made for it before is not used.
     ensures frame_resumed { wrote_behind
         (play two_frames 1 (at_its_turn 11 ++ abort ∷ server_reads ∷ client_reads_all ∷ resume
         ∷ [])) (quiet_to_the_end ∷ [])
@@ -324,7 +324,7 @@ pub fn failed_rows()
         ≡ false }
 {}
 
-/// A server by itself.
+/// A server on its own.
 pub fn server_rows()
     ensures not_homed { called
         (Call.Reads (Ok (line 1 command.StartSession)) ∷ Call.Turns
@@ -382,7 +382,7 @@ pub fn server_rows()
         ≡ Reply.Error (OnEvent 0) 9001 None ∷ [] }
 {}
 
-/// A client by itself.
+/// A client on its own.
 pub fn client_rows()
     ensures unknown_tag { (client_read (play circle 1 (opened ++ client_sends ∷ [])).world.client
         (Std 8) Mark.Done).cause ≡ Some Cause.UnknownTag }

@@ -53,7 +53,7 @@ pub fn done_rows()
     ensures event_command_has_failed { (client_read (with_abort stage.Failed
         (play one_point 1 (at_its_turn 9 ++ client_reads ∷ [])).world.client)
         (Std 10) Mark.Done).state ≡ State.Done }
-    // Where all is counted an abort continues to its end; a failed client is done, or halted.
+    // If all is counted, an abort continues to its end; a failed client is done, or halted.
     ensures aborting_stays { last_state State.Aborting true 0 ≡ State.Aborting }
     ensures failing_is_done { last_state State.Failing true 0 ≡ State.Done }
     ensures failing_halts { last_state State.Failing false 0 ≡ State.Halted }

@@ -1,4 +1,4 @@
--- What only proofs speak of.
+-- Definitions that only proofs use.
 use Rattle.std.specs.Prelude.{◌-◌, if◌then◌else◌, List}
 use Rattle.std.specs.Prelude.{Result, Ok}
 use Rattle.dme_line.specs.declared.tags.Tag.{Tag}

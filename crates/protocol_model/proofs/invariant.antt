@@ -1,4 +1,4 @@
--- What always holds of a client and a server that lines join, and the facts on which the events stand.
+-- What always holds of a client and a server that lines join, and the facts that the events rely on.
 pub mod Served
 pub mod Holding
 pub mod Pairs

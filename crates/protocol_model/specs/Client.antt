@@ -50,7 +50,7 @@ pub record Table : Type 0 where
   pub event : List OpenCommand
   pub tally : Tally
 
--- the act that a counted command means, with what its data line told: whether the machine is homed, or the point of a contact
+-- the act that a counted command means, with what its data line reported: whether the machine is homed, or the point of a contact
 abbrev pub act_of : Does → Option Datum → List Act
 act_of Does.Nothing given = []
 act_of Does.AsksHomed (Some (datum.Homed homed)) = act.HomedIs homed ∷ []
@@ -90,7 +90,7 @@ abbrev pub begins_session : Kind → Bool
 begins_session kind.StartSession = true
 begins_session _ = false
 
--- a counted command told that the machine is homed
+-- a counted command reported that the machine is homed
 abbrev pub tells_homed : Kind → Option Datum → Bool
 tells_homed kind.IsHomed (Some (datum.Homed true)) = true
 tells_homed _ _ = false
@@ -100,17 +100,17 @@ abbrev pub is_homing : Command → Bool
 is_homing command.Home = true
 is_homing _ = false
 
--- commands without the homing that is next
+-- commands without the homing, if that is next
 abbrev pub without_homing : List Planned → List Planned
 without_homing [] = []
 without_homing (p ∷ ps) = if is_homing p.command then ps else p ∷ ps
 
--- what is left of a plan: where the machine is reported to be homed, the homing that is next is passed over
+-- what is left of a plan: if the machine is reported to be homed, the next homing is skipped
 abbrev pub passed_over : Bool → List Planned → List Planned
 passed_over true ps = without_homing ps
 passed_over false ps = ps
 
--- the next command of the plan is counted, and where it told that the machine is homed, the homing after it is passed over
+-- the next command of the plan is counted; if it reported that the machine is homed, the homing after it is skipped
 abbrev pub counted_next : List Wanted → Kind → Option Datum → List Planned → Tally → Tally
 counted_next ws k given [] y = y
 counted_next ws k given (p ∷ todo) y =
@@ -261,7 +261,7 @@ pub record Sends : Type 0 where
 abbrev pub held_now : Tag → Kind → OpenCommand
 held_now t k = record { tag = t; kind = k; stage = Stage.Sent }
 
--- the first unsent command goes out under this number; without one the client is Faulted
+-- the first unsent command is sent under this number; without one the client is Faulted
 abbrev pub sends_next : Client → List Planned → Option ℕ → Sends
 sends_next c [] number = record { client = c; lines = [] }
 sends_next c (p ∷ ps) None = record { client = faulted Cause.TagsSpent c; lines = [] }
@@ -276,11 +276,11 @@ sends_next c (p ∷ ps) (Some n) = record {
   lines = record { tag = Std n; command = p.command } ∷ [];
 }
 
--- the command that is due goes out under a new tag
+-- the command that is due is sent under a new tag
 abbrev pub client_sent : Client → Sends
 client_sent c = sends_next c c.table.tally.unsent (next_number Std c.table.standard c.drawn)
 
--- an abort goes out under this number; without one the client is Faulted
+-- an abort is sent under this number; without one the client is Faulted
 abbrev pub sends_abort : Client → Option ℕ → Sends
 sends_abort c None = record { client = faulted Cause.TagsSpent c; lines = [] }
 sends_abort c (Some n) = record {
@@ -299,7 +299,7 @@ may_abort State.Running = true
 may_abort State.Failing = true
 may_abort _ = false
 
--- an abort goes out under a new event tag
+-- an abort is sent under a new event tag
 abbrev pub client_aborted : Client → Sends
 client_aborted c = sends_abort c (next_number Event c.table.event c.event_drawn)
 

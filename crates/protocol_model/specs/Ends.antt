@@ -81,7 +81,7 @@ abbrev pub given_homed : Client → Tag → Result Bool NotHomedText → Client
 given_homed c t (Ok homed) = client_read c t (Mark.Given (datum.Homed homed))
 given_homed c t (Err why) = faulted Cause.NotResponse c
 
--- a data text for a command of this kind: it is unexpected where the command asks for no data
+-- a data text for a command of this kind: it is unexpected if the command asks for no data
 abbrev pub given_for : Client → Tag → List ℕ → Kind → Client
 given_for c t text kind.PtMeas = given_point c t (point_of text)
 given_for c t text kind.IsHomed = given_homed c t (homed_of text)

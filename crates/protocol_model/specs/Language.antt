@@ -15,7 +15,7 @@ abbrev pub marks_of : List Placed → List Mark
 marks_of [] = []
 marks_of ((front, m) ∷ ms) = m ∷ marks_of ms
 
--- the marks of a counted command: received and complete, with data in between where it asks for some; the second argument: those that it
+-- the marks of a counted command: received and complete, with data in between if it asks for any; the second argument: the data that it
 -- asks for
 abbrev pub IsCounted : Bool → (Datum → Bool) → List Mark → Type 0
 IsCounted false asked ms = ms ≡ Mark.Ack ∷ Mark.Done ∷ []

@@ -21,7 +21,7 @@ pub record MeasuredFeature : Type 0 where
 abbrev pub touch_job : Touch → Job
 touch_job t = job.Touch (point_sum t.target (offset t.frame)) t.dir
 
--- where a surface was met; the zero point, where none was
+-- where a surface was met; the zero point if none was met
 abbrev pub met_at : Outcome → Point
 met_at (outcome.Touched at) = at
 met_at _ = zero_point

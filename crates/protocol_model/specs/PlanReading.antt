@@ -84,7 +84,7 @@ selected_by s (command.SetCsyTransformation p) = record s { stored = Some (point
 selected_by s (command.SetCoordSystem system) = record s { frame = selected_frame system s.stored }
 selected_by s _ = s
 
--- a touch under this tool and in this frame; none where one of them is not known
+-- a touch under this tool and in this frame; none if either is not known
 abbrev pub read_touch : Point → Option Direction → Bool → Option (List ℕ) → Option Frame → Option Does
 read_touch p d last (Some tool) (Some frame) = Some (Does.Touches (record { target = p; dir = d; tool = tool; frame = frame }) last)
 read_touch p d last _ _ = None
@@ -99,7 +99,7 @@ abbrev pub read_frame : Option Frame → Option Does
 read_frame (Some frame) = Some (Does.Frames frame)
 read_frame None = None
 
--- what a command does where this is selected; that a touch is the last of its feature is no part of its command, and is given
+-- what a command does under this selection; whether a touch is the last of its feature is not part of its command, and is given
 abbrev pub read_as : Selection → Bool → Command → Option Does
 read_as s last command.StartSession = Some Does.Nothing
 read_as s last command.EndSession = Some Does.Nothing
@@ -119,18 +119,18 @@ abbrev pub is_last : Does → Bool
 is_last (Does.Touches t last) = last
 is_last _ = false
 
--- each command, read where it stands, does what it is planned for: a touch has its target, direction, tool and frame, a move its target and
+-- each command, read in its place, does what it is planned for: a touch has its target, direction, tool and frame, a move its target and
 -- frame
 abbrev pub ReadAsPlanned : Selection → List Planned → Type 0
 ReadAsPlanned s [] = Unit {0}
 ReadAsPlanned s (p ∷ ps) = (read_as s (is_last p.does) p.command ≡ Some p.does) × ReadAsPlanned (selected_by s p.command) ps
 
--- the touch that was read, where one was
+-- the touch that was read, if any
 abbrev pub touch_made : Option Does → Option Touch
 touch_made (Some (Does.Touches t last)) = Some t
 touch_made _ = None
 
--- the touch that a command makes where this is selected, if it makes one; None where its tool or its frame is not known
+-- the touch that a command makes where this is selected, if it makes one; None if its tool or its frame is not known
 abbrev pub touches_made_by : Selection → Command → List (Option Touch)
 touches_made_by s (command.PtMeas p d) = touch_made (read_as s false (command.PtMeas p d)) ∷ []
 touches_made_by s _ = []

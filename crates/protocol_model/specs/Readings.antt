@@ -27,7 +27,7 @@ response_of line = (response_reading line).result
 pub point_of : List ℕ → Result Point NotPoint
 point_of text = (point_reading text).result
 
--- whether the machine is homed, by the data text that answers IsHomed, or that it is no such text
+-- whether the machine is homed, by the data text that answers IsHomed, or that it is not such a text
 pub homed_of : List ℕ → Result Bool NotHomedText
 homed_of text = (homed_reading text).result
 

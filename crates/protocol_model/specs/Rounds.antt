@@ -1,5 +1,5 @@
 -- Quiet rounds, in which the client, the server and its machine do all that they can, as lists of events from a world (this profile). A
--- list that is cut has ended early, because memory ran out; of a list that is not cut it is said where it ends.
+-- list that is cut has ended early, because memory ran out; for a list that is not cut, the definition says where it ends.
 use Rattle.std.specs.Prelude.{◌≡◌, ◌≢◌, ◌⊎◌, ℕ, Bool, true, false, if◌then◌else◌, Option, Some, None, List, [], ◌∷◌, ◌++◌, length, All}
 use Rattle.std.specs.List.{flat_map}
 use Rattle.contact_ledger.specs.Ledgers.{contact_count}
@@ -10,12 +10,12 @@ use Rattle.protocol_model.specs.declared.events.Event.TheVariants as event
 use Rattle.protocol_model.specs.declared.machine.Job.{Job}
 use Rattle.protocol_model.specs.declared.machine.Outcome.{Outcome}
 
--- a list ends where this holds; one that is cut ends anywhere
+-- a list ends where this holds; a cut list ends anywhere
 abbrev pub MayEnd : Bool → Type 0 → Type 0
 MayEnd true P = Unit {0}
 MayEnd false P = P
 
--- this event where there is one, and no other
+-- this event if there is one, and no other
 abbrev pub IsOne : Option Event → Bool → List Event → Type 0
 IsOne None cut events = events ≡ []
 IsOne (Some e) cut events = (events ≡ e ∷ []) ⊎ ((cut ≡ true) × (events ≡ []))
@@ -25,7 +25,7 @@ abbrev pub AreWhile : Event → Bool → World → List Event → Type 0
 AreWhile e cut w [] = MayEnd cut (can e w ≡ false)
 AreWhile e cut w (f ∷ fs) = (f ≡ e) × (can e w ≡ true) × AreWhile e cut (happens e w) fs
 
--- one list after another: the second in the world that the first leaves; where the first is cut, there is no second
+-- one list after another: the second in the world that the first leaves; if the first is cut, there is no second
 pub record Then (A B : Bool → World → List Event → Type 0) (cut : Bool) (w : World) (events : List Event) : Type 0
   where
     pub front : List Event
@@ -33,7 +33,7 @@ pub record Then (A B : Bool → World → List Event → Type 0) (cut : Bool) (w
     pub whole : events ≡ front ++ back
     pub parts : (A false w front × B cut (run_of front w) back) ⊎ ((cut ≡ true) × A true w front × (back ≡ []))
 
--- an event where it can happen
+-- an event, if it can happen
 abbrev pub possible : Event → World → Option Event
 possible e w = if can e w then Some e else None
 

@@ -136,7 +136,7 @@ is_clear (Ok command.ClearAllErrors) = true
 is_clear (Ok _) = false
 is_clear (Err refused) = false
 
--- the number of the error for what was read under a tag and is no command
+-- the number of the error for what was read under a tag and is not a command
 abbrev pub fault_number : Misread → ℕ
 fault_number misread.UnknownCommand = 9003
 fault_number (misread.BadArguments k) = 9004
@@ -169,7 +169,7 @@ fresh s t (Err why) =
     if is_event_tag t then answers s (Reply.Ack t ∷ fails t (fault_number why) (kind_in (Err why)))
     else stands s t (Err why)
 
--- a line with a tag: refused where a command under it runs or waits
+-- a line with a tag: refused if a command under it runs or waits
 abbrev pub tagged : Server → Tag → Result Command Misread → Answer
 tagged s t reading =
     if runs_under t s.running || waits_under t s.waiting then answers s (Reply.Error (Event 0) 9002 None ∷ [])

@@ -45,11 +45,11 @@ with_link links n link = slice_set links (n - 1) link
 abbrev pub start : Meaning → List (List ℕ) → ℕ → World
 start p rack window = record { client = new_client_end p [] window; server = new_server_end rack; links = []; written = [] }
 
--- the connections on which the two sides stand
+-- the bytes of the connection that the client is on
 abbrev pub client_link : World → Link
 client_link w = link_of w.links w.client.client.last
 
--- the bytes of the connection on which the server stands
+-- the bytes of the connection that the server is on
 abbrev pub server_link : World → Link
 server_link w = link_of w.links w.server.server.last
 

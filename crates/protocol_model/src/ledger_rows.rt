@@ -22,7 +22,7 @@ ghost use Rattle.protocol_model.specs.LedgerRows.{
 };
 
 /// A feature of two touches, and ledgers with two contacts: the right one, and those in which one
-/// thing is not as it was wanted.
+/// thing differs from what was wanted.
 pub fn feature_rows()
     ensures right { Sound one_wanted (measured_as (codes "A") ∷ []) right_ledger }
     // Nothing is claimed of where a feature comes from.

@@ -9,7 +9,7 @@ pub struct Line {
     pub command: Command,
 }
 
-/// Why what was read under a tag is no command (this profile).
+/// Why what was read under a tag is not a command (this profile).
 #[derive(Clone, Copy, Debug, PartialEq, Eq)]
 pub enum Misread {
     /// The name is unknown.

@@ -19,9 +19,9 @@ ghost use Rattle.protocol_model.specs.PlanReading.{touches_of, ends_of, feature_
 /// - `reached`: so read, each command does what it is planned for: each move reaches its target in its frame, too;
 /// - `order`: it is StartSession, on a new connection alone, then ClearAllErrors, IsHomed, Home and OnPtMeasReport, then commands that
 /// measure, none of them one of these, and EndSession;
-/// - `homed`, `homed_again`: where the machine is reported to be homed, what is left after the question is the plan without its Home, and
-/// nothing else is passed over;
-/// - `whole`: where no feature is completed, the commands that measure are the machine's frame and those of the program's steps, in order;
+/// - `homed`, `homed_again`: if the machine is reported to be homed, what is left after the question is the plan without its Home, and
+/// nothing else is skipped;
+/// - `whole`: if no feature is completed, the commands that measure are the machine's frame and those of the program's steps, in order;
 /// - `lines`: each of its commands can be written in a line, under each standard tag from 1 to 9,999.
 #[tactic(auto, using(crate::proofs::plan::PlanLaws::plan_touches_left, crate::proofs::plan::PlanLaws::plan_ends_left, crate::proofs::plan::PlanLaws::plan_makes, crate::proofs::plan::PlanLaws::plan_as_planned, crate::proofs::plan::PlanLaws::plan_in_order, crate::proofs::plan::PlanLaws::plan_whole, crate::proofs::plan::PlanLaws::plan_can_be_written))]
 pub fn plans_measure_what_is_left()

@@ -15,7 +15,7 @@ ghost use Rattle.protocol_model.specs.declared.plans.Start.{Start};
 ///
 /// - `parts`: the steps up to there and those after are all steps, none of them lost and none twice;
 /// - `front`: the touches up to there are those of the completed features, in order;
-/// - `ends`: where a feature is completed, the last step up to there is a touch;
+/// - `ends`: if a feature is completed, the last step up to there is a touch;
 /// - `commands`: the plan is its opening, what is selected there, the commands of each step after,
 /// and the end of the session.
 #[tactic(auto, using(crate::proofs::plan::Splitting::all_steps, crate::proofs::plan::Splitting::front_touches, crate::proofs::plan::Splitting::front_ends, crate::proofs::plan::Splitting::plan_commands))]

@@ -29,7 +29,7 @@ pub fn quiet_rounds_are_few()
         → length rounds ≤ length (plan_left (run_of events (start program rack window))) }
 {}
 
-/// The same, where the window is at least 1, the rack has each tool, each target lies in the volume, and the machine does what it is asked:
+/// The same, if the window is at least 1, the rack has each tool, each target lies in the volume, and the machine does what it is asked:
 ///
 /// - `done`: after the last round that does something the client is Done;
 /// - `features`: it holds the features that it held before, unchanged, and then those of the plain execution of what was left, its touches

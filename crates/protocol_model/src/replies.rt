@@ -7,7 +7,7 @@ ghost use Rattle.protocol_model.specs.Open.{asks_data, fits};
 ghost use Rattle.protocol_model.specs.Language.{Placed, marks_of, IsRepliesFront, AreAtFront, Accepts};
 
 /// The table of marks against stages accepts exactly the prefixes of the language of replies: a counted command is received and
-/// complete, with its data in between where it asks for some; a failed one has a proper prefix of that, then one or more errors, then
+/// complete, with its data in between if it asks for any; a failed one has a proper prefix of that, then one or more errors, then
 /// nothing or its end. Data, and the end of a command that has not failed, come at the front only.
 #[tactic(auto, using(crate::proofs::table::Speaking::accepts_only, crate::proofs::table::Speaking::accepts_all))]
 pub fn table_accepts_the_language()

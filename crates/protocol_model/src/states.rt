@@ -1,6 +1,6 @@
 // The states of a client.
 
-/// Where a client stands (this profile).
+/// The state of a client (this profile).
 #[derive(Clone, Copy, Debug, PartialEq, Eq)]
 pub enum State {
     /// On no connection, with commands of the program still to be counted, as far as it knows.
@@ -19,20 +19,20 @@ pub enum State {
     Faulted,
 }
 
-/// Why a client gives a connection up (this profile).
+/// Why a client closes a connection (this profile).
 #[derive(Clone, Copy, Debug, PartialEq, Eq)]
 pub enum Cause {
     /// A line is not a response, or a data text is not what the command asks for.
     NotResponse,
     /// A line is longer than 65,536 bytes.
     LineTooLong,
-    /// A CR or LF stands where none may.
+    /// A CR or LF is in a place where neither is allowed.
     BadByte,
     /// No command is open under the tag of a response.
     UnknownTag,
-    /// A mark came where none of its kind may.
+    /// A mark of this kind is not allowed here.
     OutOfOrder,
-    /// A command that asks for data was complete without them.
+    /// A command that asks for data completed without any.
     NoData,
     /// A command was given data for the second time.
     SecondData,

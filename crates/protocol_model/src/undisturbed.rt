@@ -47,7 +47,7 @@ pub fn undisturbed_prefixes()
 /// - `lines`: the bytes that the client wrote are the first lines of the plan of the whole program without its homing, each whole with
 /// its CR LF, under the tags from 1 on, after 9,999 again from 1 on;
 /// - `no_homing`: no command of that plan homes the machine;
-/// - `whole`: where the machine is not homed, a plan is followed whole.
+/// - `whole`: if the machine is not homed, a plan is followed whole.
 pub fn homed_machines_are_not_homed_again()
     ensures lines { (program : Meaning) (window : ℕ) (server : ServerEnd) (links : List Link)
         (events : List Event) → IsProgram program → window ≤ 16 → IsHomedOff server links

@@ -4,11 +4,11 @@ ghost use Rattle.std.specs.Prelude.{◌≡◌, ◌++◌, List, ℕ, Option, Bool
 
 use byte_ports::Failed;
 
-/// A file to whose end lines are added. `kept` is its text, where it tells it.
+/// A file to whose end lines are added.
 pub trait GrowingFile {
     ghost has_failed: { Self → Bool };
 
-    /// Adds bytes to the end. Where they are `settled`, they are on the device when this returns. If it fails, the file has a prefix of them.
+    /// Adds bytes to the end. If `settled`, they are on the device when this returns. If it fails, the file has a prefix of them.
     fn append(&mut self, bytes: &[u8], settled: bool) -> Result<(), Failed>
         ensures works { OnOk result (has_failed self.new ≡ has_failed self.old) }
         ensures fails { OnErr result (has_failed self.new ≡ true) };

@@ -1,5 +1,5 @@
-//! The record of a run, kept while the run goes on (this profile): what a file holds of it is understood before the run, and what the server
-//! reports is appended as the client counts it.
+//! The record of a run, kept during the run (this profile). What a file holds of it is read before the run, and what the server reports is
+//! appended as the client counts it.
 //!
 //! - `opening`: what a record's text gives a run to continue from, or why the run may not continue it
 //! - `growing`: files that grow

@@ -54,7 +54,7 @@ pub struct Beginning {
     pub held: usize,
 }
 
-/// The number of bytes up to the last line feed, with it.
+/// The number of bytes up to and including the last line feed.
 fn whole_length(bytes: &[u8]) -> usize
     ensures { result ≤ length bytes.now }
 {
@@ -64,7 +64,7 @@ fn whole_length(bytes: &[u8]) -> usize
     }
 }
 
-/// Whether the record is one of this program and part.
+/// Whether the record is of this program and part.
 fn is_same(
     alloc: Global,
     record: &Record,
@@ -94,7 +94,7 @@ fn is_sound(
     Ok(matches!(verdict, Verdict::Starts(_)))
 }
 
-/// What a run begins with where the file holds no record yet.
+/// What a run begins with if the file holds no record yet.
 fn begin_new(
     alloc: Global,
     program: &Program,
@@ -128,10 +128,10 @@ fn continued(alloc: Global, bytes: &[u8], record: Record) -> Result<Beginning, R
     })
 }
 
-/// What a run of a program on a part continues from, where its record's file holds these bytes: a new record where they hold none yet. The
-/// features are sound for the reported acts, whatever the bytes are: they are audited before they are given back.
+/// What a run of a program on a part continues from, if its record's file holds these bytes: a new record if they hold none yet. The
+/// features are sound for the reported acts, whatever the bytes are: they are audited before they are returned.
 ///
-/// `Damaged`, `OtherPart`, `OtherProgram`: then the file is left as it is. A part that is given must be one (`is_part`).
+/// `Damaged`, `OtherPart`, `OtherProgram`: the file must then be left as it is. A part that is given must be one (`is_part`).
 pub fn begin_record(
     alloc: Global,
     bytes: &[u8],

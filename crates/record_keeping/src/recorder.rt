@@ -7,11 +7,11 @@ use std::alloc::{AllocError, Global};
 
 /// Appends to a record, after each turn of a client, what the turn has counted: each act, and each feature that is completed.
 ///
-/// A file that fails stops nothing: the whole text is kept, and can be put in the file's place at the end.
+/// A file that fails does not stop the run: the whole text is kept, and can replace the file at the end.
 #[derive(Drop)]
 pub struct Recorder<F> {
     telling: Telling,
-    /// How many of the acts that the client has counted on its connection are told.
+    /// How many of the acts that the client has counted on its connection are in the text.
     told: usize,
     /// The whole record.
     text: Vec<u8>,
@@ -21,12 +21,12 @@ pub struct Recorder<F> {
     has_failed: bool,
     /// How many features the client held when it was followed last.
     held: usize,
-    /// Whether all that it had counted then is told.
+    /// Whether all that it had counted then is in the text.
     is_whole: bool,
 }
 
 impl<F: GrowingFile> Recorder<F> {
-    /// The record of a run on the connection of this number, which begins with so many features, in a file that has this text.
+    /// The record of a run on the connection of this number, which begins with this many features, in a file that has this text.
     pub fn new(connection: u64, features: usize, text: Vec<u8>, file: F) -> Recorder<F> {
         let filed = text.len();
         Recorder {
@@ -53,7 +53,7 @@ impl<F: GrowingFile> Recorder<F> {
         Ok(())
     }
 
-    /// Appends to the file what it lacks. A file that has failed is not written any more.
+    /// Appends to the file what it lacks. A file that has failed is not written again.
     fn file(&mut self, settled: bool) {
         if self.has_failed || self.filed >= self.text.len() {
             return;
@@ -67,7 +67,7 @@ impl<F: GrowingFile> Recorder<F> {
         }
     }
 
-    /// Follows a client after a turn, and forces what is new to the device where a feature is completed.
+    /// Follows a client after a turn, and forces what is new to the device if a feature is completed.
     pub fn follow(&mut self, client: &Client) {
         self.is_whole = self.tell(client).is_ok();
         let held = client.features().len();
@@ -75,7 +75,7 @@ impl<F: GrowingFile> Recorder<F> {
         self.held = held;
     }
 
-    /// Whether all that the client had counted when it was followed last is in the text; it is not where memory was short.
+    /// Whether all that the client had counted when it was followed last is in the text. It is not if memory ran out.
     pub fn is_whole(&self) -> bool {
         self.is_whole
     }

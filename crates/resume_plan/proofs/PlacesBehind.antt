@@ -1,4 +1,4 @@
--- What only proofs speak of.
+-- Definitions that only proofs use.
 use Rattle.std.specs.Prelude.{◌≡◌, ℕ, List, Option, None}
 use Rattle.fixed_um.specs.declared.frames.Frame.{Frame}
 use Rattle.fixed_um.specs.declared.frames.Frame.TheVariants.{Machine}

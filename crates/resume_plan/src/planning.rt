@@ -144,13 +144,13 @@ impl Commands {
     }
 }
 
-/// The commands that measure what is left of a program of which the first `completed` features are measured, each with what it stands
-/// for once it is counted (this profile).
+/// The commands that measure what is left of a program of which the first `completed` features are measured, each with what it means
+/// once it is counted (this profile).
 ///
 /// The plan begins a session on a new connection, clears errors, asks whether the machine is homed, homes it and asks for the points of
 /// touches. It selects the tool and the frame again that are selected after the last touch of the last completed feature, continues with
 /// the steps from there, and ends the session. A frame is selected by the machine's zero point in its axes: its offset with each sign
-/// turned. Who follows the plan passes the homing over where the question is answered with yes.
+/// turned. Whoever follows the plan skips the homing if the answer to the question is yes.
 ///
 /// The caller must ensure that the program has that many features. Fails only if out of memory.
 pub fn plan(

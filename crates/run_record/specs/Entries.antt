@@ -31,7 +31,7 @@ entry_line (Told n act) = act_line (n, act)
 entry_line (Refused n text) = refused_line n text
 entry_line (Completed n label) = completed_line n label
 
--- an entry is on a connection with a number that a connection may have
+-- an entry has the number of a connection that may exist
 abbrev pub IsOnConnection : Entry → Type 0
 IsOnConnection (Told n act) = IsConnection n
 IsOnConnection (Refused n text) = IsConnection n

@@ -1,5 +1,5 @@
--- How the record of a run begins (this profile): the part, where one was given, and what was asked, so that a record of another part or
--- of another program is known as such.
+-- How the record of a run begins (this profile): the part, if one was given, and what was asked. So a record of another part or of
+-- another program is recognised.
 use Rattle.std.specs.Prelude.{◌≡◌, ℕ, ◌≤◌, Bool, ◌&&◌, true, nat_le, List, [], ◌∷◌, ◌++◌, length, map, codes, decimal, Option, Some, None}
 use Rattle.std.specs.List.{AllByRecursion, list_all}
 use Rattle.fixed_um.specs.Names.{IsName}
@@ -35,7 +35,7 @@ pub record IsAskedTouch (t : Touch) : Type 0 where
   pub tool : IsName t.tool
   pub frame : IsFrame t.frame
 
--- a wanted feature that can be written: a name, and 1 to 10,000 such touches
+-- a wanted feature that can be written: it has a name, and 1 to 10,000 such touches
 pub record IsAsked (w : Wanted) : Type 0 where
   pub label : IsName w.label
   pub counted : IsPointCount (length w.touches)
@@ -75,6 +75,6 @@ abbrev pub asked_lines : List Wanted → List (List ℕ)
 asked_lines [] = []
 asked_lines (w ∷ asked) = wanted_lines w ++ asked_lines asked
 
--- the lines down to END
+-- the lines up to END
 abbrev pub head_lines : Option (List ℕ) → List Wanted → List (List ℕ)
 head_lines part asked = header ∷ (part_lines part ++ (asked_lines asked ++ codes "END" ∷ []))

@@ -1,4 +1,4 @@
--- What reading a record answers (this profile). What stands behind the last LF is not looked at.
+-- What reading a record answers (this profile). What follows the last LF is not read.
 use Rattle.std.specs.Prelude.{◌≡◌, ◌⊎◌, ℕ, ◌<◌, List, [], ◌++◌, length, Option, Some, None, Result, Ok, Err}
 use Rattle.dmis_program.specs.declared.features.Wanted.{Wanted}
 use Rattle.contact_ledger.specs.Lines.{whole_lines}
@@ -26,7 +26,7 @@ pub record AreTornHead (lines : List (List ℕ)) : Type 0 where
 abbrev pub BeginsHeader : List ℕ → Type 0
 BeginsHeader bytes = (behind : List ℕ) × (header ≡ bytes ++ behind)
 
--- a text is not yet a record: its lines begin a head, and one without any line begins the first line
+-- a text is not yet a record: its lines begin a head; if it has no line, it begins the first line
 pub record IsUnbegun (bytes : List ℕ) : Type 0 where
   pub torn : AreTornHead (whole_lines bytes)
   pub ours : whole_lines bytes ≡ [] → BeginsHeader bytes
@@ -36,16 +36,16 @@ pub record IsForeign (bytes : List ℕ) : Type 0 where
   pub none : whole_lines bytes ≡ []
   pub other : BeginsHeader bytes → ⊥
 
--- line n of a text is the first that cannot stand in its place
+-- line n of a text is the first that cannot be where it is
 abbrev pub IsDamagedRecord : List ℕ → ℕ → Type 0
 IsDamagedRecord bytes n = IsDamaged Begins (whole_lines bytes) n ⊎ ((n ≡ 1) × IsForeign bytes)
 
--- this line is damaged; a lack of memory says nothing of the text
+-- this line is damaged; out of memory says nothing about the text
 abbrev pub RefusesRecord : List ℕ → RecordFault → Type 0
 RefusesRecord bytes (Damaged n) = IsDamagedRecord bytes n
 RefusesRecord bytes Memory = Unit {0}
 
--- the record that the text is, or that it is none yet, or its first damaged line
+-- the record that the text is, or that it is not a record yet, or its first damaged line
 abbrev pub ReadsRecord : List ℕ → Result (Option Recorded) RecordFault → Type 0
 ReadsRecord bytes (Ok (Some r)) = IsRecord bytes r
 ReadsRecord bytes (Ok None) = IsUnbegun bytes

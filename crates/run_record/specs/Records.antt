@@ -1,4 +1,4 @@
--- What the entries of a record leave, one after another (this profile), and the records that there are.
+-- What the entries of a record leave, one after another (this profile), and which records exist.
 use Rattle.std.specs.Prelude.{◌≡◌, ℕ, ◌+◌, ◌-◌, ◌≤◌, List, [], ◌∷◌, ◌++◌, length, drop, map, slice_get, Option, Some, None}
 use Rattle.std.specs.List.{AllByRecursion}
 use Rattle.fixed_um.specs.declared.lengths.Point.{Point}
@@ -18,8 +18,8 @@ use Rattle.run_record.specs.Entries.{IsWrittenEntry, entry_line}
 use Rattle.run_record.specs.declared.entries.Entry.{Entry}
 use Rattle.run_record.specs.declared.entries.Entry.TheVariants.{Told, Refused, Completed}
 
--- what entries leave: the features completed, the acts told, how many contacts are used up (they stand before the last COMPLETED), and
--- the connection of the last line, which is 0 where there is none
+-- what entries leave: the features completed, the acts reported, how many contacts are used up (those before the last COMPLETED), and
+-- the connection of the last line, which is 0 if there is no line
 pub record Kept : Type 0 where
   pub features : List Feature
   pub told : List (ℕ × Act)
@@ -39,7 +39,7 @@ last_frame (t ∷ next ∷ touches) = last_frame (next ∷ touches)
 abbrev pub completed_feature : ℕ → Wanted → List Point → Feature
 completed_feature n w points = record { label = w.label; points = points; origin = origin_of n (last_frame w.touches) }
 
--- the last contacts told, as many as a feature has touches, are not used up, were made on this connection, serve these touches and
+-- the last contacts reported, as many as a feature has touches, are not used up, were made on this connection, serve these touches and
 -- reported these points
 pub record IsLastRun (kept : Kept) (wanted : Wanted) (n : ℕ) (points : List Point) : Type 0 where
   pub unused : kept.used + length wanted.touches ≤ length (contacts kept.told)
@@ -61,7 +61,7 @@ pub record Completes (asked : List Wanted) (old : Kept) (n : ℕ) (label : List 
     last = n;
   }
 
--- an entry follows what is kept, and leaves this: numbers of connections never fall
+-- an entry follows what is kept, and leaves this; numbers of connections never decrease
 abbrev pub Follows : List Wanted → Kept → Entry → Kept → Type 0
 Follows asked old (Told n act) new = IsWrittenEntry (Told n act) × (old.last ≤ n)
     × (new ≡ record { features = old.features; told = old.told ++ (n, act) ∷ []; used = old.used; last = n })
@@ -78,7 +78,7 @@ Follow asked old (entry ∷ entries) new = (mid : Kept) × Follows asked old ent
 abbrev pub record_lines : Option (List ℕ) → List Wanted → List Entry → List (List ℕ)
 record_lines part asked entries = head_lines part asked ++ map entry_line entries
 
--- what a record says: the part, what was asked, the features completed, the acts told, and the last connection
+-- what a record says: the part, what was asked, the features completed, the acts reported, and the last connection
 pub record Recorded : Type 0 where
   pub part : Option (List ℕ)
   pub asked : List Wanted
@@ -86,13 +86,13 @@ pub record Recorded : Type 0 where
   pub told : List (ℕ × Act)
   pub last : ℕ
 
--- what is said under a head by what its entries leave
+-- what a head and what its entries leave say together
 abbrev pub recorded : Option (List ℕ) → List Wanted → Kept → Recorded
 recorded part asked kept =
     record { part = part; asked = asked; features = kept.features; told = kept.told; last = kept.last }
 
--- what holds of each record that is read: what it claims is sound, its features can be written to a
--- features file, and no act was told on a greater connection than the last
+-- what holds of each record that is read: its claim is sound, its features can be written to a features
+-- file, and no act was reported on a connection after the last
 pub record IsRecorded (r : Recorded) : Type 0 where
   pub part : IsPartGiven r.part
   pub asked : AreAsked r.asked

@@ -1,4 +1,4 @@
--- The stages of reading a record, line by line, as the code keeps them: no public clause cites this.
+-- The stages of reading a record, line by line, as the code keeps them. No public clause cites this.
 use Rattle.std.specs.Prelude.{◌≡◌, ◌⊎◌, ℕ, ◌+◌, ◌<◌, ◌≤◌, take, drop, List, [], ◌∷◌, ◌++◌, length, codes, Option, Some, None}
 use Rattle.std.specs.List.{AllByRecursion}
 use Rattle.fixed_um.specs.Names.{IsName}
@@ -14,7 +14,7 @@ use Rattle.run_record.specs.declared.entries.Entry.{Entry}
 use Rattle.run_record.specs.declared.heads.Place.{Place}
 use Rattle.run_record.specs.declared.heads.Place.TheVariants.{Between, Within, Done}
 
--- where a reader stands between two lines: before the first; between wanted features; within one; behind END
+-- where a reader is between two lines: before the first; between wanted features; within one; after END
 pub data Stage : Type 0 where
   start : Stage
   head : Option (List ℕ) → List Wanted → Stage
@@ -44,14 +44,14 @@ pub record EndsHead (part : Option (List ℕ)) (asked : List Wanted) (line : Lis
   pub line_is : line ≡ codes "END"
   pub next : new ≡ body part asked nothing_kept
 
--- the unfinished feature with a touch more, and the wanted feature that it is with its last
+-- the unfinished feature with one more touch; the wanted feature that it is with its last touch
 abbrev pub with_touch : Unfinished → Touch → Unfinished
 with_touch u t = record { label = u.label; count = u.count; touches = u.touches ++ t ∷ [] }
 
 abbrev pub wanted_with : Unfinished → Touch → Wanted
 wanted_with u t = record { label = u.label; touches = u.touches ++ t ∷ [] }
 
--- a TOUCH line that is not the last of its feature, or is
+-- a TOUCH line that is not the last of its feature, and one that is
 pub record AddsTouch (part : Option (List ℕ)) (asked : List Wanted) (u : Unfinished) (line : List ℕ) (new : Stage) : Type 0 where
   pub touch : Touch
   pub is_touch : IsAskedTouch touch
@@ -95,19 +95,19 @@ stage_of asking Between = head asking.part asking.asked
 stage_of asking (Within u) = within asking.part asking.asked u
 stage_of asking Done = body asking.part asking.asked nothing_kept
 
--- within a feature a touch is missing
+-- a feature that is not finished lacks a touch
 abbrev pub IsValid : Place → Type 0
 IsValid Between = Unit {0}
 IsValid (Within u) = length u.touches < u.count
 IsValid Done = Unit {0}
 
--- the head goes on
+-- the head continues
 abbrev pub IsOpen : Place → Type 0
 IsOpen Between = Unit {0}
 IsOpen (Within u) = Unit {0}
 IsOpen Done = ⊥
 
--- what is known of a text whose head was read down to END: the lines so far, and those that are left
+-- what is known of a text whose head was read up to END: the lines read, and those that are left
 pub record HasHead (bytes : List ℕ) (asking : Asking) (rest : List ℕ) (number : ℕ) : Type 0 where
   pub left : drop number (whole_lines bytes) ≡ whole_lines rest
   pub read : Leads start (take number (whole_lines bytes)) (body asking.part asking.asked nothing_kept)

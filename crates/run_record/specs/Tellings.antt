@@ -8,12 +8,12 @@ use Rattle.run_record.specs.Entries.{entry_line}
 use Rattle.run_record.specs.declared.entries.Entry.{Entry}
 use Rattle.run_record.specs.declared.entries.Entry.TheVariants.{Told, Completed}
 
--- how many features were completed, and how many points of the next one were counted
+-- how many features are complete, and how many points of the next one are counted
 pub record Counted : Type 0 where
   pub features : ℕ
   pub points : ℕ
 
--- one more point of the next wanted feature: it may be its last
+-- one more point of the next wanted feature, which may be its last
 abbrev pub one_point : ℕ → Option Wanted → Counted → Counted × List Entry
 one_point n None c = (c, [])
 one_point n (Some w) c = if nat_le (length w.touches) (c.points + 1)

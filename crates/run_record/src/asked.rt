@@ -6,8 +6,7 @@ use dmis_program::Touch;
 use fixed_um::Name;
 use std::marker::Model;
 
-/// A wanted feature of the program for which a record was written: its label, and its touches in order. Contracts see the `Wanted` that
-/// it is.
+/// A wanted feature of the program for which a record was written: its label, and its touches in order. Contracts see it as a `Wanted`.
 #[derive(Debug, Drop)]
 pub struct Asked {
     label: Name,

@@ -12,8 +12,8 @@ use contact_ledger::{Act, Feature, FeatureLedger, Origin, Points, ServerLedger};
 use fixed_um::Name;
 use std::alloc::{AllocError, Global};
 
-/// What the entries that were read leave. The contacts from the act numbered `from` on are those that are not used up, so that no act is
-/// looked at for two features.
+/// What the entries that were read leave. The contacts from the act numbered `from` on are not used up, so no act is considered for two
+/// features.
 #[derive(Drop)]
 pub(crate) struct Body {
     pub(crate) features: FeatureLedger,
@@ -35,7 +35,7 @@ impl Body {
         }
     }
 
-    /// The points of the last contacts, where they complete this feature on this connection. Fails only if out of memory.
+    /// The points of the last contacts, if they complete this feature on this connection. Fails only if out of memory.
     fn last_points(
         &self,
         alloc: Global,
@@ -62,7 +62,7 @@ impl Body {
         Ok(())
     }
 
-    /// Appends the next wanted feature, where the last contacts complete it.
+    /// Appends the next wanted feature, if the last contacts complete it.
     fn complete(
         &mut self,
         alloc: Global,

@@ -1,4 +1,4 @@
-// Equality of values, reported as such.
+// Equality of values, as contracts see it.
 
 ghost use Rattle.std.specs.Prelude.{◌≡◌, ◌↔◌, IsTrue};
 

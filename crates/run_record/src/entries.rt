@@ -7,7 +7,7 @@ use fixed_um::Name;
 use std::alloc::{AllocError, Global};
 use std::marker::Model;
 
-/// What is kept of an error that a server reported: 1 to 400 bytes from 32 to 126, as they were read. Contracts see these bytes.
+/// What is kept of an error that a server reported: 1 to 400 bytes from 32 to 126, as they were read. Contracts see the bytes.
 #[derive(Debug, Drop)]
 pub struct Refusal {
     bytes: Vec<u8>,
@@ -38,13 +38,13 @@ impl Refusal {
     }
 }
 
-/// What a line of a record says below its head (this profile), with the number of its connection.
+/// What a line of a record after its head says (this profile), with the number of its connection.
 #[derive(Debug, Drop)]
 pub enum Entry {
     /// An act that the server reported, as it was counted.
     Told(u64, Act),
     /// An error that the server reported, from its tag on.
     Refused(u64, Refusal),
-    /// The wanted feature of this label is complete: its points are those of the last contacts above.
+    /// The wanted feature of this label is complete: its points are those of the last contacts before this line.
     Completed(u64, Name),
 }

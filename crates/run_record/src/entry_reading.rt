@@ -15,7 +15,7 @@ use std::alloc::{AllocError, Global};
 /// The most bytes that are kept of an error that a server reported (this profile).
 const REFUSAL_MAX: usize = 400;
 
-/// What stands before the first space, and what follows it.
+/// What precedes the first space, and what follows it.
 fn cut_field(line: &[u8]) -> Option<(&[u8], &[u8])> {
     let at = line.iter().position(|byte| *byte == b' ')?;
     let (field, _) = line.split_at(at);
@@ -23,7 +23,7 @@ fn cut_field(line: &[u8]) -> Option<(&[u8], &[u8])> {
     Some((field, rest))
 }
 
-/// The error that a line says, with the number of its connection. Fails only if out of memory.
+/// The error that a line reports, with the number of its connection. Fails only if out of memory.
 fn read_refused(alloc: Global, line: &[u8]) -> Result<Option<(u64, Refusal)>, AllocError>
     ensures { IfOk result (λ found. IfSome found (λ r. IsConnection r.0)) }
 {
@@ -43,7 +43,7 @@ fn read_refused(alloc: Global, line: &[u8]) -> Result<Option<(u64, Refusal)>, Al
     Ok(Some((connection, refusal)))
 }
 
-/// The label that a line says to be completed, with the number of its connection. Fails only if out of memory.
+/// The label of the feature that a line reports complete, with the number of its connection. Fails only if out of memory.
 fn read_completed(alloc: Global, line: &[u8]) -> Result<Option<(u64, Name)>, AllocError>
     ensures { IfOk result (λ found. IfSome found (λ c. IsConnection c.0)) }
 {

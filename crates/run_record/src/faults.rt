@@ -4,7 +4,7 @@ use std::fmt;
 /// Why a text gives no record (this profile).
 #[derive(Clone, Copy, Debug, PartialEq, Eq)]
 pub enum RecordFault {
-    /// The line of this number, counted from 1, is the first that cannot stand in its place.
+    /// The line of this number, counted from 1, is the first that cannot be where it is.
     Damaged(u64),
     /// Out of memory. The call may be made again.
     Memory,

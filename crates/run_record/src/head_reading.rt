@@ -49,7 +49,7 @@ fn between_line(
     Ok(Place::Between)
 }
 
-/// Reads a line within a wanted feature, which joins the others with its last touch.
+/// Reads a line within a wanted feature. With its last touch, the feature joins the others.
 fn touch_line(
     alloc: Global,
     forms: &mut Forms,
@@ -85,7 +85,7 @@ fn head_line(
     }
 }
 
-/// What follows the first line of a record; none where there is no line yet.
+/// What follows the first line of a record; `None` if there is no line yet.
 fn read_header(bytes: &[u8]) -> Result<Option<&[u8]>, RecordFault> {
     let header = b"DME-RECORD 1".as_slice();
     match cut_line(bytes) {
@@ -95,7 +95,7 @@ fn read_header(bytes: &[u8]) -> Result<Option<&[u8]>, RecordFault> {
     }
 }
 
-/// Reads the head of a record: what follows it, and how many lines it has. None where its end is not written yet.
+/// Reads the head of a record, and answers it with what follows it and the number of its lines; `None` if its end is not written yet.
 pub(crate) fn read_head<'a>(
     alloc: Global,
     forms: &mut Forms,

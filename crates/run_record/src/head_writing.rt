@@ -64,7 +64,7 @@ fn add_asked(text: &mut Vec<u8>, wanted: &[Wanted]) -> Result<(), AllocError> {
 }
 
 /// Appends the head of a record (this profile): `DME-RECORD 1`; `PART` and its name, if one is given; for each wanted feature of the program
-/// `FEATURE label n`, and its touches as a contact stands in a contacts file, without a point; `END`.
+/// `FEATURE label n`, and its touches in the form of a contact of a contacts file, without a point; `END`.
 ///
 /// The caller must ensure that the name is one (`is_part`). Fails only if out of memory, and then nothing is appended.
 pub fn write_head(

@@ -27,7 +27,7 @@ impl Model for Unfinished {
 }
 
 impl Unfinished {
-    /// A feature of so many touches, none of which was read.
+    /// A feature of `count` touches, none of which was read.
     pub(crate) fn new(alloc: Global, label: Name, count: u64) -> Unfinished
         ensures { result ≡ record { label = label; count = count; touches = [] } }
     {
@@ -95,7 +95,7 @@ impl Head {
     }
 }
 
-/// Where a reader stands in the head of a record, between two lines.
+/// Where a reader is in the head of a record, between two lines.
 #[derive(Drop)]
 pub(crate) enum Place {
     /// Between wanted features, where the head may end.

@@ -1,7 +1,7 @@
-//! The record of a run: what was asked, what the server told, and which features were completed, as one text that only grows. It is
-//! written line by line while a run goes, and read back by the next run, which takes nothing of it on trust.
+//! The record of a run: what was asked, what the server reported, and which features were completed, as one text that only grows. It is
+//! written line by line during a run, and read back by the next run, which trusts nothing in it.
 //!
-//! - `entries`: `Entry`, what a line below the head says, and `Refusal`
+//! - `entries`: `Entry`, what a line after the head says, and `Refusal`
 //! - `parts`, `asked`: the part and the wanted features of a head
 //! - `heads`, `head_reading`, `touch_reading`: the head, line by line
 //! - `entry_reading`, `bodies`, `runs`: the entries, line by line, and what they leave
@@ -9,7 +9,6 @@
 //! - `strangers`: whether a record is that of a part and a program
 //! - `head_writing`, `telling`: writing
 //! - `faults`: why a record is refused
-//! - `laws`, `rows`: what follows from the definitions, and worked rows of them
 #![tactic(auto)]
 
 pub mod asked;
@@ -21,11 +20,9 @@ mod faults;
 mod head_reading;
 mod head_writing;
 mod heads;
-pub mod laws;
 mod parts;
 mod record_reading;
 mod records;
-pub mod rows;
 mod runs;
 mod strangers;
 pub mod telling;

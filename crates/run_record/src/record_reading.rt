@@ -48,12 +48,12 @@ fn read_entries(
     Ok(body)
 }
 
-/// The record that a text is; none where its lines are a prefix of a head and its end is not written yet. What follows the last LF is
-/// not looked at, except that a text without any LF has to be a prefix of the first line.
+/// The record that a text is; `None` if its lines are a prefix of a head whose end is not written yet. What follows the last LF is not
+/// read, except that a text without any LF must be a prefix of the first line.
 ///
-/// The number of the first line that is unexpected is answered otherwise, counted from 1: a line of no known form, a number of
-/// a connection that falls, or a `COMPLETED` whose label is not that of the next wanted feature, or before which the last contacts do not
-/// serve that feature's touches, all on the connection of the line before it and none of them used up.
+/// Otherwise it answers the number of the first line that is unexpected, counted from 1: a line of no known form, a connection with a
+/// lower number than the line before, or a `COMPLETED` that cannot be there. Its label must be that of the next wanted feature, and the
+/// last contacts must serve that feature's touches, all on the connection of the line before it and none of them used up.
 pub fn read_record(alloc: Global, bytes: &[u8]) -> Result<Option<Record>, RecordFault> {
     let mut forms = Forms::new(alloc)?;
     let Some((head, rest, number)) = read_head(alloc, &mut forms, bytes)? else {

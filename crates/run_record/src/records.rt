@@ -9,8 +9,8 @@ use crate::parts::Part;
 use contact_ledger::{FeatureLedger, ServerLedger};
 use std::marker::Model;
 
-/// A record of a run (this profile): the part, what was asked, the features completed, the acts told, and the greatest connection of
-/// a line. Contracts see the `Recorded` that it is.
+/// A record of a run (this profile): the part, what was asked, the features completed, the acts reported, and the greatest connection of
+/// a line. Contracts see it as a `Recorded`.
 #[derive(Debug, Drop)]
 pub struct Record {
     part: Option<Part>,
@@ -63,21 +63,21 @@ impl Record {
         self.asked.as_slice()
     }
 
-    /// The features completed, in order, which are the first ones of those asked.
+    /// The features completed, in order: the first ones of those asked.
     pub fn features(&self) -> &[contact_ledger::Feature]
         ensures features { result.now ≡ self.now.features }
     {
         self.features.list()
     }
 
-    /// The acts told, in order, each with the number of its connection.
+    /// The acts reported, in order, each with the number of its connection.
     pub fn told(&self) -> &ServerLedger
         ensures told { result.now ≡ self.now.told }
     {
         &self.told
     }
 
-    /// The connection of the last line, which is the greatest; 0 where there is none.
+    /// The connection of the last line, which is the greatest; 0 if there is no line.
     pub fn last(&self) -> u64
         ensures last { result ≡ self.now.last }
     {

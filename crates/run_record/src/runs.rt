@@ -8,7 +8,7 @@ use dmis_program::Touch;
 use fixed_um::{Dir, Frame, Name, Point};
 use std::alloc::{AllocError, Global};
 
-/// The frame of the last of touches.
+/// The frame of the last touch.
 pub(crate) fn last_frame(touches: &[Touch]) -> Frame {
     let mut frame = Frame::Machine;
     for touch in touches {
@@ -17,7 +17,7 @@ pub(crate) fn last_frame(touches: &[Touch]) -> Frame {
     frame
 }
 
-/// The acts that follow so many contacts.
+/// The acts that follow the first `count` contacts.
 pub(crate) fn behind_contacts(acts: &[(u64, Act)], count: u64) -> &[(u64, Act)] {
     let mut left = count;
     for at in 0..acts.len() {
@@ -42,8 +42,8 @@ fn is_asked(touch: &Touch, target: Point, dir: Option<Dir>, tool: &Name, frame: 
         && same_frame(frame, touch.frame)
 }
 
-/// The points that the contacts of acts reported, where these serve touches, each its own, all on this connection. Fails only if out of
-/// memory.
+/// The points that the contacts among these acts reported, if each serves its own touch, in order, all on this connection. Fails only if
+/// out of memory.
 pub(crate) fn served_points(
     alloc: Global,
     connection: u64,

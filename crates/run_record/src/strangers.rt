@@ -44,7 +44,8 @@ fn same_feature(one: &Asked, other: &Wanted) -> bool {
     same_name(one.label(), &other.label) && same_touches(one.touches(), other.touches.as_slice())
 }
 
-/// The label of the first feature that differs, of the program where it has one at that place; none where all are the same.
+/// The label of the first feature that differs: the program's, or the record's if the program has no feature there. `None` if all are
+/// the same.
 fn first_other<'a>(asked: &'a [Asked], wanted: &'a [Wanted]) -> Option<&'a Name> {
     for (index, feature) in asked.iter().enumerate() {
         let Some(other) = wanted.get(index) else {
@@ -58,14 +59,14 @@ fn first_other<'a>(asked: &'a [Asked], wanted: &'a [Wanted]) -> Option<&'a Name>
     Some(&next.label)
 }
 
-/// Whether a record was written for this part, or for none where none is given.
+/// Whether a record was written for this part, or for no part if none is given.
 pub fn is_of_part(record: &Record, part: Option<&[u8]>) -> bool
     ensures { IsTrue result ↔ (record.now.part ≡ option_map (λ p. p.now) part.entry) }
 {
     same_part(record.part(), part)
 }
 
-/// The label of the first feature in which what a record asked is not what a program wants; none where it was written for that program.
+/// The label of the first feature in which what a record asked is not what a program wants; `None` if it was written for that program.
 /// Features are the same if their labels are, and their touches in order: target, direction, tool and frame.
 pub fn other_feature<'a>(record: &'a Record, program: &'a Program) -> Option<&'a Name> {
     first_other(record.asked(), program.features())

@@ -18,7 +18,7 @@ use std::alloc::AllocError;
 use std::marker::Model;
 
 /// What a client counts on a connection while it adds to a record: how many of the wanted features are complete, and how many points of
-/// the next one were told. Contracts see the connection and these two.
+/// the next one were reported. Contracts see the connection and these two.
 #[derive(Clone, Copy, Debug)]
 pub struct Telling {
     connection: u64,
@@ -63,7 +63,7 @@ fn add_completed(text: &mut Vec<u8>, connection: u64, label: &Name) -> Result<()
 }
 
 impl Telling {
-    /// The beginning of a connection, with so many features complete and no point told.
+    /// The beginning of a connection, with this many features complete and no point reported.
     pub fn new(connection: u64, features: usize) -> Telling
         ensures { result ≡ record {
           connection = connection;
@@ -77,7 +77,7 @@ impl Telling {
         }
     }
 
-    /// Adds what follows an act: the line of the feature that it completes, if it does.
+    /// Adds the line of the feature that an act completes, if it completes one.
     fn count(
         &mut self,
         text: &mut Vec<u8>,
@@ -101,8 +101,8 @@ impl Telling {
         Ok(())
     }
 
-    /// Appends the lines of acts that were counted on the connection, in order. After the contact that is the last of the next wanted
-    /// feature follows the line that says that it is complete.
+    /// Appends the lines of acts that were counted on the connection, in order. After the last contact of the next wanted feature comes the
+    /// line that says that the feature is complete.
     ///
     /// Fails only if out of memory, and then nothing is appended or counted.
     pub fn tell(

@@ -9,7 +9,7 @@ use std::alloc::{AllocError, Global};
 /// The most touches that a feature has (this profile).
 const TOUCHES_MAX: u64 = 10_000;
 
-/// The touch that fields are, where nothing follows them. Fails only if out of memory.
+/// The touch that fields are, if nothing follows them. Fails only if out of memory.
 fn read_fields(alloc: Global, forms: &mut Forms, rest: &[u8]) -> Result<Option<Touch>, AllocError> {
     let Some((target, rest)) = forms.point(rest) else {
         return Ok(None);

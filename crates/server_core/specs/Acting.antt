@@ -25,10 +25,8 @@ pub record IsOneMore (n : ℕ) (old new : List (ℕ × Act)) : Type 0 where
   pub whole : new ≡ with_act n act old
 
 -- a contact was made as the running command asked: it is a touch with the contact's target and direction, the machine touched, the contact
--- is on the
--- present connection, with the tool in the probe head and the selected frame, its point is the touched one as seen from the frame's zero
--- point, and the call
--- answers the data line with this point and the touch's end, and nothing else
+-- is on the present connection, with the tool in the probe head and the selected frame, its point is the touched one as seen from the
+-- frame's zero point, and the call answers the data line with this point and the touch's end, and nothing else
 pub record IsCommanded (e : ServerEnd) (ended : Outcome) (made : MadeContact) : Type 0 where
   pub tag : Tag
   pub at : Point

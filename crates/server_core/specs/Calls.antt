@@ -72,7 +72,7 @@ behind_calls (call ∷ calls) e = behind_calls calls (behind_call call e)
 abbrev pub reached : List (List ℕ) → List Call → ServerEnd
 reached tools calls = behind_calls calls (new_server_end tools)
 
--- the two calls that give a connection up
+-- the two calls that leave a connection
 abbrev pub gives_up : Call → Bool
 gives_up Leave = true
 gives_up Restart = true

@@ -43,8 +43,7 @@ IsJob None kept job = kept ≡ None
 IsJob (Some line) kept job = (kept ≡ job) × IsSome kept
 
 -- what a controller keeps: tags that can be written, zero points in the volume, a connection's number while it is on one, nothing that runs
--- or waits while it is on none,
--- nothing that waits in the error state, and the job of what runs
+-- or waits while it is on none, nothing that waits in the error state, and the job of what runs
 pub record IsKept (s : Server) (job : Option Job) : Type 0 where
   pub waiting : AllByRecursion IsFit s.waiting
   pub running : IsRunningFit s.running

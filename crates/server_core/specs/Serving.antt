@@ -125,7 +125,7 @@ abbrev pub with_fault : ServerValue → FramingFault → ServerValue
 with_fault s why = with_end s (record (s.end) { input = record (s.end.input) { fault = Some why } })
 
 -- why no line is read, and what the server is then: it is on no connection, what is at the front is no line, which is kept, or memory
--- is wanting for a line
+-- runs out for a line
 abbrev pub IsReadFault : ServerValue → ServerValue → ServerFault → Type 0
 IsReadFault old new server_fault.NotNow = new ≡ old
 IsReadFault old new (server_fault.Framing why) = (next_of old.end.input.rest ≡ Err why) × (new ≡ with_fault old why)

@@ -36,8 +36,7 @@ pub record IsOrderly (s : Server) : Type 0 where
   pub running : (line : Line) → s.running ≡ Some line → IsRunnable s line
 
 -- what holds at any time, whatever functions read the lines: a connection has a number, on none nothing is left of one, and a framing fault
--- that is kept
--- is what is at the start of the bytes
+-- that is kept is what is at the start of the bytes
 pub record IsSteady (e : ServerEnd) : Type 0 where
   pub last : e.server.last ≤ connection_most
   pub on : e.server.on ≡ true → IsConnection e.server.last

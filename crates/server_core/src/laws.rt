@@ -35,8 +35,8 @@ pub fn ledger_only_grows()
         → (serving_taken count e).server.ledger ≡ e.server.ledger }
 {}
 
-/// A contact is made only when the machine touched for a running touch, and is as that command asked; its line with the point and the end of
-/// the touch are answered in the same call. No turn makes a contact, and where nothing runs the machine makes no act (this profile).
+/// A contact is made only when the machine touched for a running touch, and is as that command asked; its line with the point and the end
+/// of the touch are answered in the same call. No turn makes a contact, and where nothing runs the machine makes no act (this profile).
 #[tactic(auto, using(crate::proofs::Contacts::machined_as_commanded, crate::proofs::Contacts::turned_no_contact, crate::proofs::Ledgers::idle_keeps))]
 pub fn contacts_are_as_commanded()
     ensures made { (ended : OneOutcome) (e : ServerEnd) (made : MadeContact)
@@ -58,9 +58,10 @@ pub fn one_call_answers_at_most()
 /// further call (a call that is not possible changes nothing):
 ///
 /// - `acts`: a call that completes an act appends just this act, on the present connection, and answers the lines of its command and its
-/// completion, nothing else; for a touch and for `IsHomed` the data line stands before it. After it nothing runs. No other call changes the ledger;
-/// - `due`: the calls that complete an act are those at which the machine is done or has touched and what runs can end so, and the turn of a
-/// choice of frame or of an `IsHomed` that is not refused. So a touch that runs has a tool;
+/// completion, nothing else; for a touch and for `IsHomed` the data line comes before it. After it nothing runs. No other call changes the
+/// ledger;
+/// - `due`: the calls that complete an act are those at which the machine is done or has touched and what runs can end so, and the turn of
+/// a choice of frame or of an `IsHomed` that is not refused. So a touch that runs has a tool;
 /// - `contacts`: each contact is made by a call of the machine, as the running command asked;
 /// - `error`: in the error state an act is only the end of a command that ran already when the state was entered, by a line that was read
 /// while 64 commands waited, and that has run since. No turn makes one there;
@@ -90,7 +91,7 @@ pub fn one_act_at_its_completing_call()
 
 /// The machine is homed once a `Home` is done, and by nothing else. It stays so until the turn of a `Home` that is not refused, or
 /// until a restart: a connection that is left, an error and an abort leave it homed. A new server's machine is not homed. Each
-/// `IsHomed` that is answered is reported just this, at its turn (this profile).
+/// `IsHomed` that is answered reports just this, at its turn (this profile).
 #[tactic(auto, using(crate::proofs::Homings::call_homed, crate::proofs::Homings::homed_is_told))]
 pub fn homed_by_home_alone()
     ensures new { (tools : List (List ℕ)) → (new_server_end tools).server.homed ≡ false }
@@ -107,7 +108,7 @@ pub fn what_holds_behind_every_list_of_calls()
 {}
 
 /// A framing fault that a server has met is kept by each call but `leave` and `restart`, and is at the start of the bytes: so each later
-/// `feed` and `read_one` answers it, until the connection is discarded (this profile).
+/// `feed` and `read_one` answers it, until the connection is left (this profile).
 #[tactic(auto, using(crate::proofs::Reached::kept_fault_stands, crate::proofs::Reached::fault_is_kept))]
 pub fn framing_fault_is_kept()
     ensures stands { (tools : List (List ℕ)) (calls : List Call)

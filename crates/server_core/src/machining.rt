@@ -132,7 +132,8 @@ impl Controller {
         Ok(())
     }
 
-    /// A touch met a surface: its contact is made, with the reported point as seen from the frame's zero point. Fails only if out of memory.
+    /// A touch met a surface: its contact is made, with the reported point as seen from the frame's zero point. Fails only if out of
+    /// memory.
     fn touch(&mut self, out: &mut Vec<u8>, at: Point) -> Result<(), AllocError>
         requires at { IsInVolume at }
         requires may { MayEnd self.old out.old (outcome.Touched at) }

@@ -30,7 +30,7 @@ use tool_rack::Setup;
 /// that are to be sent.
 ///
 /// `accept` comes to a connection; `feed` brings bytes, `read_one` reads a line, `turn` processes the first waiting command, and
-/// `machine` says how what runs has ended. What they answer is in `out` until `sent`. `leave` and `restart` give the connection up.
+/// `machine` says how what runs has ended. What they answer is in `out` until `sent`. `leave` and `restart` leave the connection.
 /// Each refusal leaves the server as it was, as does running out of memory; a framing fault is kept until the connection is left.
 #[derive(Drop)]
 pub struct Server {
@@ -186,9 +186,9 @@ impl Server {
         self.controller.job()
     }
 
-    /// The machine is done with what runs. `NothingRuns`; `WrongOutcome` where what runs cannot end so: `Done` ends all but a touch, `Touched`
-    /// and `Missed` end a touch, `Fault` each; `OutOfVolume` where a touched point is past the volume limit; in this order. `Memory` only where
-    /// none of them is due.
+    /// The machine is done with what runs. `NothingRuns`; `WrongOutcome` where what runs cannot end so: `Done` ends all but a touch,
+    /// `Touched` and `Missed` end a touch, `Fault` each; `OutOfVolume` where a touched point is past the volume limit; in this order.
+    /// `Memory` only where none of them is due.
     pub fn machine(&mut self, outcome: Outcome) -> Result<(), ServerFault>
         ensures leads { Leads result self.old self.new
             (with_end self.old (serving_machined outcome self.old.end)) }
@@ -210,7 +210,8 @@ impl Server {
         Ok(())
     }
 
-    /// Whether what runs can end so: something runs, its outcome is of that kind, and a touched point is inside the volume. It does not allocate.
+    /// Whether what runs can end so: something runs, its outcome is of that kind, and a touched point is inside the volume. It does not
+    /// allocate.
     pub fn may_end(&self, outcome: &Outcome) -> bool
         ensures { result ≡ may_end self.now.end.server.running outcome.now }
     {
@@ -228,8 +229,8 @@ impl Server {
         self.out.clear();
     }
 
-    /// Begins again, as after the machine was switched off and on: as `leave`, and homing and tool are discarded too. The ledger and the last
-    /// number stay. It does not allocate.
+    /// Begins again, as after the machine was switched off and on: as `leave`, and homing and tool are discarded too. The ledger and the
+    /// last number stay. It does not allocate.
     #[tactic(auto, using(crate::proofs::Servings::restarted_holds))]
     pub fn restart(&mut self)
         ensures { self.new ≡ with_end self.old (serving_restarted self.old.end) }

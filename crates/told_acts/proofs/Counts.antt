@@ -106,7 +106,7 @@ effect_grows ws (Effect.Count kind given) y = go y.todo
     go [] = stays y y refl refl
     go (q ∷ rest) = counted_grows ws kind given q rest y
 
--- so it is with each reply that has its place
+-- likewise for each expected reply
 pub heard_grows : (ws : List Wanted) (b c : Table) (t : Tag) (m : Mark) → heard ws b t m ≡ fine c → Grows b.tally c.tally
 heard_grows ws b c t m is =
     step_cases ws b t m c (Grows b.tally c.tally) is
@@ -137,7 +137,7 @@ no_touch (Does.Moves p f) k is home = refl
 no_touch (Does.Changes n) k is home = refl
 no_touch (Does.Frames f) k is home = refl
 
--- so a plan whose homing is passed over has the same touches
+-- so a plan whose homing is skipped has the same touches
 passed_touches : (told : Bool) (ps : List Planned) → AreAsked ps → touches_in (passed_over told ps) ≡ touches_in ps
 passed_touches told ps h =
     (passes (λ (qs : List Planned). (touches_in qs ≡ touches_in ps) × AreAsked qs) (λ p qs e f. (
@@ -150,7 +150,7 @@ some_marks : (ts : List Touch) (l : List Marked) → (ts ≡ [] → ⊥) → mar
 some_marks [] l some e = some refl
 some_marks (t ∷ ts) l some e = cc
 
--- where no touch is left, no feature is
+-- if no touch is left, no feature is left
 none_left : (left : List Wanted) → HaveTouches left → marks_of left ≡ [] → left ≡ []
 none_left [] some e = refl
 none_left (w ∷ ws) some e = absurd (some_marks w.touches (marks_of ws) some.0 e)
@@ -159,7 +159,7 @@ not_empty : (ts : List Touch) → false ≡ is_empty ts → ts ≡ [] → ⊥
 not_empty [] e none = false≢true e
 not_empty (t ∷ ts) e none = cc
 
--- where no feature is left after a counted command, none is unfinished
+-- if no feature is left after a counted command, none is unfinished
 measured_ends : (ws : List Wanted) (does : Does) (given : Option Datum) (y : Tally) (left later : List Wanted) (rest : List Marked)
     → HasDatum does given → HaveTouches left → touch_in does ++ rest ≡ marks_of left → rest ≡ marks_of later → (left ≡ [] → y.points ≡ [])
     → later ≡ [] → (measured ws does given y).points ≡ []
@@ -249,7 +249,7 @@ not_true : (b : Bool) → not b ≡ true → b ≡ false
 not_true true e = absurd (false≢true e)
 not_true false e = refl
 
--- where nothing is reported the contacts are the same
+-- if nothing is reported, the contacts are the same
 still_goes : (v w : View) (ms : List MadeContact) → told_to v w ≡ [] → IsGoing w ms → IsGoing w (ms ++ contacts (told_to v w))
 still_goes v w ms none h = subst (λ (l : List MadeContact). IsGoing w l)
     (sym (ap (λ (l : List (ℕ × Act)). ms ++ contacts l) none ∙ append-nil ms)) h
@@ -275,7 +275,7 @@ effect_goes p on last program hs gs y plans (Effect.Count kind given) ms f h goi
 abbrev GoesTo : Meaning → Bool → ℕ → List MadeContact → Tally → Tally → Type 0
 GoesTo p on last ms y z = IsGoing (view_by p on last z) (ms ++ contacts (told_to (view_by p on last y) (view_by p on last z)))
 
--- a reply that has its place
+-- an expected reply
 pub heard_goes : (p : Meaning) (on : Bool) (last : ℕ) → IsProgram p → (b c : Table) (t : Tag) (m : Mark) (plans : Plans)
     (ms : List MadeContact) → heard p.features b t m ≡ fine c → IsOnPlan p b.standard b.tally plans
     → IsGoing (view_by p on last b.tally) ms

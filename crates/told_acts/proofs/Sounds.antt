@@ -91,7 +91,7 @@ pub record IsCut (l : List (ℕ × Act)) (xs ys : List MadeContact) : Type 0 whe
   pub first : contacts before ≡ xs
   pub then : contacts after ≡ ys
 
--- an act that is no contact, in front
+-- an act that is not a contact, at the start
 calm_cut : (x : ℕ × Act) (l : List (ℕ × Act)) (xs ys : List MadeContact)
     → ((k : List (ℕ × Act)) → contacts (x ∷ k) ≡ contacts k) → IsCut l xs ys → IsCut (x ∷ l) xs ys
 calm_cut x l xs ys calm c = record {

@@ -1,4 +1,4 @@
--- What holds of the told acts after every list of calls.
+-- What holds of the reported acts after every list of calls.
 use Rattle.std.proofs.Common.{◌≡◌, ℕ, zero, suc, ◌<◌, Bool, true, false, cond, List, [], ◌∷◌, ◌++◌, length, take, drop, refl, sym}
 use Rattle.std.proofs.Common.{◌∙◌, ap, subst, arith, append_assoc, append-nil, nat_lt}
 use Rattle.std.proofs.Math.Seq.{take-append_seam, drop-append_seam}
@@ -349,7 +349,7 @@ made_are_first front left made n k many long none =
     go [] empty = empty refl ∙ take_none (length made)
     go (w ∷ ws) empty = sym (take-append_seam made w.touches)
 
--- no touch was made where there is no point
+-- if there is no point, no touch was made
 none_made : (n : ℕ) (ts : List Touch) (ps : List Point) (ms : List MadeContact) → Serves n ts ps ms → ps ≡ [] → ts ≡ []
 none_made n [] ps ms h none = refl
 none_made n (t ∷ ts) [] ms h none = absurd h

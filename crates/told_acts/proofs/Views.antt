@@ -1,4 +1,4 @@
--- What the told acts of a client depend on, and the acts that are reported between two such.
+-- What the reported acts of a client depend on, and the acts that are reported between two such views.
 use Rattle.std.proofs.Common.{◌≡◌, ℕ, Bool, true, false, cond, List, [], ◌∷◌, ◌++◌, length, drop, refl, sym, ◌∙◌, ap, subst, append-nil, Option}
 use Rattle.std.proofs.Common.{Some, None, Result, Ok, Err}
 use Rattle.std.proofs.Math.Seq.{drop-length, drop-nil}
@@ -62,15 +62,15 @@ view c = view_by c.program c.on c.last c.table.tally
 abbrev pub told_to : View → View → List (ℕ × Act)
 told_to v w = numbered w.connection (drop (length v.counted) w.counted)
 
--- where nothing is counted more, none
+-- if nothing more is counted, none
 pub none_told : (n : ℕ) (acts : List Act) → numbered n (drop (length acts) acts) ≡ []
 none_told n acts = ap (numbered n) (drop-length acts)
 
--- nor where the list of counted acts begins anew
+-- nor if the list of counted acts begins again
 pub none_anew : (n : ℕ) (acts : List Act) → numbered n (drop (length acts) []) ≡ []
 none_anew n acts = ap (numbered n) (drop-nil (length acts))
 
--- what holds of the told acts holds with no act more
+-- what holds of the reported acts holds with no further act
 pub with_none : (P : List (ℕ × Act) → Type 0) (told more : List (ℕ × Act)) → more ≡ [] → P told → P (told ++ more)
 with_none P told more none h = subst P (sym (ap (λ (l : List (ℕ × Act)). told ++ l) none ∙ append-nil told)) h
 
@@ -85,9 +85,9 @@ pub aborts_view : (c : Client) (number : Option ℕ) → view (sends_abort c num
 aborts_view c None = refl
 aborts_view c (Some n) = refl
 
--- ---- what is read: nothing, a fault, or a reply that has its place
+-- ---- what is read: nothing, a fault, or an expected reply
 
--- what holds of a client, of the same when Faulted, and after each reply that has its place
+-- what holds of a client, of the client when Faulted, and of the client after each expected reply
 pub record Throughout (c : Client) (P : Client → Type 0) : Type 0 where
   pub same : P c
   pub fault : (cause : Cause) → P (faulted cause c)

@@ -1,4 +1,4 @@
--- Examples of told acts: clients that are written out, and what calls report to them (this profile). No law cites these definitions.
+-- Examples of reported acts: clients that are written out, and what calls report to them (this profile). No law cites these definitions.
 use Rattle.std.specs.Prelude.{ℕ, true, List, [], ◌∷◌, ◌++◌, codes, None}
 use Rattle.contact_ledger.specs.declared.acts.Act.{Act}
 use Rattle.contact_ledger.specs.declared.acts.Act.TheVariants as act

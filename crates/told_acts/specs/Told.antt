@@ -14,8 +14,8 @@ abbrev pub numbered : ℕ → List Act → List (ℕ × Act)
 numbered n [] = []
 numbered n (a ∷ acts) = (n, a) ∷ numbered n acts
 
--- the acts that a client has counted when it is this one, and had not counted when it was that one; a connection and a restart begin an
--- empty list of counted acts, so that they tell none
+-- the acts that a client has counted in the second state, and had not counted in the first; a connection and a restart begin an empty
+-- list of counted acts, so that they report none
 abbrev pub told_between : ClientEnd → ClientEnd → List (ℕ × Act)
 told_between before after = numbered after.client.table.tally.connection
     (drop (length before.client.table.tally.counted) after.client.table.tally.counted)

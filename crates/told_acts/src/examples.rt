@@ -6,8 +6,8 @@ ghost use Rattle.client_core.specs.Calls.{ReadOne, Leave, Connected, Restart};
 ghost use Rattle.told_acts.specs.Told.{told_behind};
 ghost use Rattle.told_acts.specs.Examples.{changing};
 
-/// A completed command says its act once, under the number of the connection. Acts that were counted before are not reported again, and
-/// neither a new connection nor a restart says any.
+/// A completed command reports its act once, under the number of the connection. Acts that were counted before are not reported again, and
+/// neither a new connection nor a restart reports any.
 pub fn told_rows()
     ensures completed { told_behind (ReadOne ∷ Leave ∷ Connected 4 ∷ []) (changing 3 (act.Homed ∷ []))
         ≡ (3, act.Changed (codes "P1")) ∷ [] }

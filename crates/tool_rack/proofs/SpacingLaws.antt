@@ -68,7 +68,7 @@ data Ending (xs : List ℕ) : Type 0 where
 longer_field : (x : ℕ) (field : List ℕ) → is_space x ≡ false → IsField field → IsField (x ∷ field)
 longer_field x field e h = record { some = omega arith; free = rw e h.free }
 
--- one byte in prefix of the first field
+-- one byte before the first field
 longer : (x : ℕ) (xs : List ℕ) (fields : List (List ℕ)) → is_space x ≡ false → IsSpaced xs fields → (all : List (List ℕ))
     × IsSpaced (x ∷ xs) all
 longer x xs [] e h = absurd h
@@ -81,7 +81,7 @@ longer x xs (field ∷ next ∷ fields) e h = (
 one_byte : (x : ℕ) → is_space x ≡ false → IsField (x ∷ [])
 one_byte x e = record { some = omega arith; free = rw e refl }
 
--- one byte in prefix of spaces
+-- one byte before spaces
 before_spaces : (x : ℕ) (xs : List ℕ) (spaces : ℕ) (rest : List ℕ) (fields : List (List ℕ)) → is_space x ≡ false
     → xs ≡ 32 ∷ (repeat spaces (32 ∷ []) ++ rest) → IsSpaced rest fields → IsSpaced (x ∷ xs) ((x ∷ []) ∷ fields)
 before_spaces x xs spaces rest [] e f h = absurd h

@@ -4,7 +4,7 @@ use Rattle.std.specs.List.{filter, slice_split}
 use Rattle.std.specs.Char.{to_ascii_lowercase}
 use Rattle.std.specs.Str.{bytes_eq}
 
--- what stands between spaces; where several spaces stand side by side, nothing stands between them
+-- what is between spaces; between adjacent spaces there is nothing
 unfoldable pub fields_of : List ℕ → List (List ℕ)
 fields_of line = filter (λ field. not (length field == 0)) (slice_split (λ b. b == 32) line)
 

@@ -1,4 +1,5 @@
--- How the refusals of a setup are printed (this profile): their code, their name, and the line. The reason of a bad numeral is not told.
+-- How the refusals of a setup are printed (this profile): their code, their name, and the line. The reason for a bad numeral is not
+-- printed.
 use Rattle.std.specs.Prelude.{ℕ, List, ◌++◌, codes, decimal}
 use Rattle.tool_rack.specs.declared.faults.SetupFault.{SetupFault}
 use Rattle.tool_rack.specs.declared.faults.SetupFault.TheVariants as fault

@@ -14,8 +14,8 @@ pub fn is_dropped(line: &[u8]) -> bool
     }
 }
 
-/// Whether a space is at the start of a line or at its end; such a line is refused by every text of lines with fields. Takes no
-/// memory.
+/// Whether a space is at the start of a line or at its end; such a line is refused by every text of lines with fields. Does
+/// not allocate.
 pub fn has_outer_space(line: &[u8]) -> bool
     ensures { result ≡ has_outer_space line.now }
 {
@@ -49,14 +49,14 @@ fn skip_spaces(bytes: &[u8]) -> &[u8]
     left
 }
 
-/// How many bytes stand before the first space.
+/// How many bytes precede the first space.
 fn field_len(bytes: &[u8]) -> usize
     ensures { (result ≡ prefix_len (λ b. not (b == 32)) bytes.now) × (result ≤ length bytes.now) }
 {
     bytes.iter().take_while(|byte| **byte != b' ').count()
 }
 
-/// The first field, and the bytes after it; `None` where there is no field. Fields are separated by one or more spaces. Does not allocate.
+/// The first field, and the bytes after it; `None` if there is no field. Fields are separated by one or more spaces. Does not allocate.
 #[tactic(auto, using(crate::proofs::FieldCuts::cuts))]
 pub fn cut_field(bytes: &[u8]) -> Option<(&[u8], &[u8])>
     ensures { MatchOption result (fields_of bytes.now ≡ [])
@@ -69,7 +69,7 @@ pub fn cut_field(bytes: &[u8]) -> Option<(&[u8], &[u8])>
     Some(text.split_at(field_len(text)))
 }
 
-/// The one field; `None` where there are more, or none at all. Does not allocate.
+/// The one field; `None` if there are more, or none at all. Does not allocate.
 pub fn one_field(bytes: &[u8]) -> Option<&[u8]>
     ensures one { IfSome result (λ x. fields_of bytes.now ≡ x.now ∷ []) }
     ensures other { result ≡ None → (x : List ℕ) → fields_of bytes.now ≢ x ∷ [] }
@@ -81,7 +81,7 @@ pub fn one_field(bytes: &[u8]) -> Option<&[u8]>
     }
 }
 
-/// The three fields; `None` where there are more or less. Does not allocate.
+/// The three fields; `None` if there are more or fewer. Does not allocate.
 pub fn three_fields(bytes: &[u8]) -> Option<(&[u8], &[u8], &[u8])>
     ensures three { IfSome result (λ p. fields_of bytes.now ≡ p.0.now ∷ p.1.now ∷ p.2.now ∷ []) }
     ensures other { result ≡ None → (x y z : List ℕ) → fields_of bytes.now ≢ x ∷ y ∷ z ∷ [] }

@@ -15,7 +15,7 @@ fn length(text: &[u8]) -> Result<Um, NumeralFault>
     read_um(text, Um::volume_limit())
 }
 
-/// The point that three numerals in millimetres write; `None` where one of them is no numeral, has too many digits, or is past the limit
+/// The point that three numerals in millimetres write; `None` if one of them is not a numeral, has too many digits, or is past the limit
 /// of the machine's volume. Does not allocate.
 pub fn point_in_volume(x: &[u8], y: &[u8], z: &[u8]) -> Option<Point>
     ensures value { result ≡ point_of x.now y.now z.now }

@@ -85,7 +85,7 @@ impl Setup {
         }
     }
 
-    /// Adds what a line says; false where its name is there already, and then nothing has changed. The caller must give positions in the
+    /// Adds what a line says; false if its name is there already, and then nothing has changed. The caller must give positions in the
     /// machine's volume. Fails only if out of memory, and then nothing has changed either.
     fn add(&mut self, entry: Entry) -> Result<bool, AllocError>
         requires { IsEntryInVolume entry }
@@ -167,8 +167,8 @@ impl Setup {
         self.shifts.as_slice()
     }
 
-    /// Shift number `k`, counted from 0, and from the first again after the last; the zero point where there is no shift. Takes no
-    /// memory.
+    /// Shift number `k`, counted from 0, and from the first again after the last; the zero point if there is no shift. Does
+    /// not allocate.
     pub fn shift(&self, k: u64) -> Point
         ensures value { result ≡ shift_at self.now.shifts k }
         ensures within { IsInVolume result }

@@ -1,18 +1,18 @@
-//! What two ends say to each other goes over one TCP connection of this process to itself, and nothing else is done with it.
+//! Sends what two ends say to each other over one TCP connection of this process to itself, and does nothing else with it.
 //!
-//! Its words are `TURNS [nodelay]`: a file that has, for each turn, the number of its bytes, LF, and the bytes. Turns go up and down in turn:
-//! one is written at the near end and as many bytes are read at the far one, the next is written there and read at the near end. With
-//! `nodelay` both ends are set so (TCP_NODELAY).
+//! Its words are `TURNS [nodelay]`: a file that has, for each turn, the number of its bytes, LF, and the bytes. Turns go up and down in
+//! turn: one is written at the near end and as many bytes are read at the far one, the next is written there and read at the near end. With
+//! `nodelay` both ends set TCP_NODELAY.
 #![forbid(unsafe_code)]
 
 use std::io::{self, ErrorKind, Read, Write};
 use std::net::{TcpListener, TcpStream};
 use std::process::ExitCode;
 
-/// The most bytes that are asked for at once.
+/// The most bytes that are requested at once.
 const PIECE: usize = 4_096;
 
-/// The turns of a text; none where it is no such text.
+/// The turns of a text; none if it is not such a text.
 fn turns(mut text: &[u8]) -> Option<Vec<&[u8]>> {
     let mut turns = Vec::new();
     while !text.is_empty() {
@@ -57,7 +57,7 @@ fn give(
     Ok(())
 }
 
-/// All turns go up and down; how many bytes these were.
+/// Sends all turns up and down. Answers how many bytes these were.
 fn exchange(turns: &[&[u8]], is_undelayed: bool) -> io::Result<usize> {
     let (near, far) = own_connection(is_undelayed)?;
     let mut piece = [0; PIECE];

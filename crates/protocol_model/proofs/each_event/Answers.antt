@@ -43,7 +43,7 @@ moved_acts n s t acts m = ap (acts_on n) m.ledger ∙ acts_more n s.ledger (done
 
 -- ---- a client on no connection
 
--- where the client is on no connection, an answer that only adds acts to the ledger of its connection keeps all that holds
+-- if the client is on no connection, an answer that only adds acts to the ledger of its connection keeps all that holds
 pub off_answers : (w : World) (up : List Line) (a : Answer) (acts : List Act) → Inv w → IsOff w → w.server.on ≡ true
     → Moves w.server a.server acts → Inv (answered w up a)
 off_answers w up a acts inv off on m = record {
@@ -116,7 +116,7 @@ old_answers w a acts inv live on below m =
 
 -- ---- the server on the client's connection
 
--- where each error is followed at once by its end in two lists of replies, it is so in the two as one list
+-- if each error is followed at once by its end in two lists of replies, it is so in the two as one list
 pub tidy_more : (p : Option Tag) (rs ss : List Reply) → IsTidy p rs → IsTidy None ss → IsTidy p (rs ++ ss)
 tidy_more None [] ss h g = g
 tidy_more (Some t) [] ss h g = absurd h

@@ -66,7 +66,7 @@ told_now w inv = go inv.side
 never_at_rest : (s : State) → IsAtRest s → s ≡ State.Faulted → ⊥
 never_at_rest s h e = subst IsAtRest e h
 
--- where all holds, the client is not Faulted
+-- if all holds, the client is not Faulted
 pub never_faulted : (w : World) → Inv w → w.client.state ≡ State.Faulted → ⊥
 never_faulted w inv e = go inv.side
   where
@@ -76,7 +76,7 @@ never_faulted w inv e = go inv.side
 
 -- ---- a new connection
 
--- the client makes its next connection, where nothing is on its way, and all that holds is kept
+-- the client makes its next connection, on which nothing is on its way, and all that holds is kept
 pub connect_event : (w : World) → Inv w → Inv (connected w)
 connect_event w inv =
     let c : Client = w.client in
@@ -204,7 +204,7 @@ one_more_tag u (h ∷ hs) x e apart = if_cases {A = Bool} (tag_is h.tag u) true 
     (λ same no_way. absurd (false≢true (sym no_way)))
     (λ other rest. if_false {A = Bool} (tag_is h.tag u) true (is_held u (hs ++ x ∷ [])) other ∙ one_more_tag u hs x rest apart)
 
--- where each tag is held once, it is so with a further command whose tag was not held
+-- if each tag is held once, it is so with a further command whose tag was not held
 pub distinct_more : (hs : List OpenCommand) (x : OpenCommand) → AreDistinct hs → is_held x.tag hs ≡ false → AreDistinct (hs ++ x ∷ [])
 distinct_more [] x d free = (refl, tt)
 distinct_more (h ∷ hs) x d free = if_cases {A = Bool} (tag_is h.tag x.tag) true (is_held x.tag hs) false (AreDistinct (h ∷ (hs ++ x ∷ [])))
@@ -212,7 +212,7 @@ distinct_more (h ∷ hs) x d free = if_cases {A = Bool} (tag_is h.tag x.tag) tru
     (λ same no_way. absurd (false≢true (sym no_way)))
     (λ other rest. (one_more_tag h.tag hs x d.0 (tag_is_false h.tag x.tag other), distinct_more hs x d.1 rest))
 
--- where the list of open aborts is empty, so is the list of their numbers
+-- if the list of open aborts is empty, so is the list of their numbers
 pub no_aborts : (ks : List ℕ) → abort_helds ks ≡ [] → ks ≡ []
 no_aborts [] e = refl
 no_aborts (k ∷ ks) e = absurd (cc)
@@ -227,7 +227,7 @@ clear_more failed (x ∷ xs) l h only = (h.0, no_clears_join xs (l ∷ []) h.1 (
     go false e = e
     go true e = let none : x ∷ xs ≡ [] = (only e).0 in absurd (cc)
 
--- where all have failed, nothing is received or sent
+-- if all have failed, nothing is received or sent
 pub none_received : (xs ys : List Line) → AreFailed (all_received xs ++ all_sent ys) → (xs ≡ []) × (ys ≡ [])
 none_received [] [] h = (refl, refl)
 none_received [] (y ∷ ys) h = absurd (go h.0)
@@ -239,7 +239,7 @@ none_received (x ∷ xs) ys h = absurd (go h.0)
     go : ◌≡◌ {A = Stage} Stage.Received Stage.Failed → ⊥
     go e = cc
 
--- the next command of the plan goes out while no abort is open, and the table that is left still fits the server
+-- the next command of the plan is sent while no abort is open, and the table that is left still fits the server
 pub near_sends : (table : Table) (p : Planned) (ps : List Planned) (left : List Wanted) (up : List Line) (running : Option Line)
     (waiting : List Waiting) (error : Bool) (know : Know) (n : ℕ)
     → IsNear table left up running waiting error know → table.tally.unsent ≡ p ∷ ps → is_asking table.standard ≡ false

@@ -57,7 +57,7 @@ not_so : (b : Bool) → not b ≡ true → b ≡ false
 not_so false e = refl
 not_so true e = absurd (false≢true e)
 
--- where a command is due, it is the first one that a client in Running has not sent
+-- if a command is due, it is the first one that a client in Running has not sent
 pub due_is : (c : Client) → is_some (due c) ≡ true → IsDue c
 due_is c is = go (is_running c.state && not (is_asking c.table.standard)) refl is
   where
@@ -67,7 +67,7 @@ due_is c is = go (is_running c.state && not (is_asking c.table.standard)) refl i
         (not_so _ parts.1) e
     go false r e = absurd (false≢true e)
 
--- a command goes out under a tag that is not held
+-- a command is sent under a tag that is not held
 sends_one : (w : World) (inv : Inv w) (live : IsLive w) (d : IsDue w.client) (n : ℕ) → is_held (Std n) w.client.table.standard ≡ false
     → Inv (sent w (sends_next w.client (d.planned ∷ d.others) (Some n)))
 sends_one w inv live d n free =
@@ -161,7 +161,7 @@ held_few w inv live =
 too_many : (n : ℕ) → 9999 ≤ n → n ≤ 17 → ⊥
 too_many n a b = omega arith
 
--- the command that is due goes out under a new standard tag, and all that holds is kept
+-- the command that is due is sent under a new standard tag, and all that holds is kept
 pub sends_event : (w : World) → Inv w → is_some (due w.client) ≡ true → Inv (sent w (client_sent w.client))
 sends_event w inv can = go inv.side
   where

@@ -11,13 +11,13 @@ use Rattle.protocol_model.specs.declared.lines.Line.{Line}
 use Rattle.protocol_model.specs.declared.plans.Planned.{Planned}
 use Rattle.protocol_model.specs.declared.states.Cause.{Cause}
 
--- the next command of a plan goes out, or finds no free tag: the client's program is the same
+-- the next command of a plan is sent, or finds no free tag: the client's program is the same
 pub sends_program : (c : Client) (ps : List Planned) (n : Option ℕ) → (sends_next c ps n).client.program ≡ c.program
 sends_program c [] n = refl
 sends_program c (p ∷ ps) None = refl
 sends_program c (p ∷ ps) (Some n) = refl
 
--- an abort goes out, or finds no free tag: the client's program is the same
+-- an abort is sent, or finds no free tag: the client's program is the same
 pub aborts_program : (c : Client) (n : Option ℕ) → (sends_abort c n).client.program ≡ c.program
 aborts_program c None = refl
 aborts_program c (Some n) = refl
@@ -26,7 +26,7 @@ hears_program : (c : Client) (t : Tag) (m : Mark) (r : Result Table Cause) → (
 hears_program c t m (Ok b) = refl
 hears_program c t m (Err cause) = refl
 
--- a reply is read, with its place or without one: the client's program is the same
+-- a reply is read, expected or not: the client's program is the same
 pub read_program : (c : Client) (t : Tag) (m : Mark) → (client_read c t m).program ≡ c.program
 read_program c t m = go (tag_is t (tag.Event 0))
   where

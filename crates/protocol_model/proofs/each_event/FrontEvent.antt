@@ -57,7 +57,7 @@ pub record IsAtFront (w : World) (table : Table) (left : List Wanted) (x : Line)
     pub progress : IsProgress w.client.program.features w.client.last table.tally.features table.tally.points
         (contacts w.server.ledger) left
 
--- where nothing is in the error state, what runs or else waits first is such a command
+-- if nothing is in the error state, what runs or else waits first is such a command
 pub at_front : (w : World) (table : Table) (left : List Wanted) (x : Line) (now queued coming : List Line) (aborts : List ℕ)
     → IsNearBy table left w.up w.server.running w.server.waiting w.server.error (know_of w.server) now coming aborts
     → IsProgress w.client.program.features w.client.last table.tally.features table.tally.points (contacts w.server.ledger) left

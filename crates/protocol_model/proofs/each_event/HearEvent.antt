@@ -42,7 +42,7 @@ running_state b calm = go (is_whole b)
     go true = tt
     go false = calm
 
--- the state after a reply fits the table after it, where the state before it fitted, and no more commands are open
+-- the state after a reply fits the table after it if the state before it fitted, and the number of open commands does not grow
 pub has_state : (state : State) (ends : Bool) (b c : Table) → HasState state b → count_open c.standard ≤ count_open b.standard
     → HasState (state_behind state ends c) c
 has_state State.Apart ends b c h le = tt
@@ -59,7 +59,7 @@ has_state State.Halted ends b c h le = let none : count_open b.standard ≡ 0 = 
 has_state State.Done ends b c h le = tt
 has_state State.Faulted ends b c h le = h
 
--- where no event command is held, each later state has none
+-- if no event command is held, each later state has none
 pub failing_events : (b : Table) (abort : Option Tag) (event : List OpenCommand) → event ≡ []
     → HasEvents (last_state State.Failing (is_whole b) (count_open b.standard)) abort event
 failing_events b abort event none = go (is_whole b) (eqb (count_open b.standard) 0)
@@ -181,7 +181,7 @@ pub record IsAbortReply (held : OpenCommand) (t : Tag) (m : Mark) (hs : List Ope
   pub same : tag_is held.tag t ≡ true
   pub left : AbortLeft held m hs
 
--- where one event command is open, a reply with its place that is no error is on its tag, and leaves it open or ends it
+-- if one event command is open, an expected reply that is not an error is on its tag, and leaves it open or ends it
 pub abort_reply : (held : OpenCommand) (t : Tag) (m : Mark) (hs : List OpenCommand) (e : Effect) → heard_in true (held ∷ []) t m ≡ two hs e
     → is_error m ≡ false → IsAbortReply held t m hs
 abort_reply held t m hs e is n =

@@ -69,7 +69,7 @@ event_events State.Aborting abort event hs t m e b h is n =
 
 -- ---- which error is pending
 
--- a reply on an event tag is no error, and none was pending
+-- a reply on an event tag is not an error, and none was pending
 pub record IsCalm (p : Option Tag) (r : Reply) (rs : List Reply) : Type 0 where
   pub mark : is_error (mark_of r) ≡ false
   pub rest : IsTidy p rs

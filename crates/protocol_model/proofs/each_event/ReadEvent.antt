@@ -66,7 +66,7 @@ quiet_answer w table left up a standard event flag moves progress reads tidy nea
 
 -- ---- a standard command
 
--- a command that is not in use and no abort stands like any other
+-- a command that is not in use and is not an abort is treated like any other
 stands_is : (s : Server) (x : Line) (waiting : List Line) → s.waiting ≡ all_wait waiting
     → is_held x.tag (all_received (listed s.running ++ waiting)) ≡ false → is_abort (Ok x.command) ≡ false
     → server_read s (Ok x) ≡ stands s x.tag (Ok x.command)
@@ -273,7 +273,7 @@ reads_standard w table left x waiting coming aborts r =
         (joins w table left x waiting coming aborts w.server r refl refl refl refl refl refl e
         (λ f. absurd (false≢true (sym e ∙ n.stopped f))) (λ f. (n.clean f).fits e) free)
 
--- where there is no error, a standard line joins what waits
+-- if there is no error, a standard line joins what waits
 pub reads_queued : (w : World) (table : Table) (left : List Wanted) (x : Line) (waiting coming : List Line) (aborts : List ℕ)
     → IsReading w table left x waiting coming aborts → w.server.error ≡ false
     → server_read w.server (Ok x) ≡ answers (queued x.tag (Ok x.command) w.server) (Reply.Ack x.tag ∷ [])
@@ -303,7 +303,7 @@ tidy_pairs : (ls : List Line) → AreStandard ls → IsTidy None (all_fail 9007 
 tidy_pairs [] h = tt
 tidy_pairs (l ∷ ls) h = (h.0, (refl, h.0, tidy_pairs ls h.2))
 
--- where a standard command fails, and those that wait fail after it, each error is followed at once by its end
+-- if a standard command fails, and those that wait fail after it, each error is followed at once by its end
 pub tidy_pair_and_pairs : (x : Line) (ls : List Line) (code : ℕ) (name : Option Kind) → is_event_tag x.tag ≡ false → AreStandard ls
     → IsTidy None (fails x.tag code name ++ all_fail 9007 (all_wait ls))
 tidy_pair_and_pairs x ls code name sort sorts = (sort, (refl, sort, tidy_pairs ls sorts))
@@ -326,7 +326,7 @@ no_flag : (ls : List Line) (f : Bool) → flag_of ls f ≡ false → (ls ≡ [])
 no_flag [] f e = (refl, e)
 no_flag (l ∷ ls) f e = absurd (false≢true (sym e))
 
--- the tally after an abort keeps what is planned, where nothing ran or waited
+-- the tally after an abort keeps what is planned if nothing ran or waited
 still_clean : (w : World) (table : Table) (left : List Wanted) (queued : List Line) (know : Know)
     → IsClean table.tally left (listed w.server.running ++ (queued ++ [])) w.server.error know
     → listed w.server.running ++ queued ≡ []

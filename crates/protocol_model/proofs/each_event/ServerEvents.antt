@@ -122,7 +122,7 @@ pub is_none_of : (o : Option Line) → is_none o ≡ true → o ≡ None
 is_none_of None e = refl
 is_none_of (Some x) e = absurd (false≢true e)
 
--- where the test finds that commands wait, their list is not empty
+-- if the test finds that commands wait, their list is not empty
 pub not_nothing : (l : List Waiting) → not (is_empty l) ≡ true → l ≡ [] → ⊥
 not_nothing [] e none = false≢true e
 not_nothing (x ∷ xs) e none = cc
@@ -132,7 +132,7 @@ pub on_by : (w : World) → Inv w → (b : Bool) → w.server.on ≡ b → (w.se
 on_by w inv true e busy = e
 on_by w inv false e busy = let idle : IsIdle w.server = inv.idle e in absurd (busy idle.running idle.waiting)
 
--- the first command that waits is processed, where none runs, and all that holds is kept
+-- the first command that waits is processed if none runs, and all that holds is kept
 pub turn_event : (w : World) → Inv w → (is_none w.server.running && not (is_empty w.server.waiting)) ≡ true
     → Inv (answered w w.up (server_turned w.server))
 turn_event w inv can =
@@ -254,7 +254,7 @@ accept_event w n inv can =
       place = placed live off above made (eqb n w.client.last) refl live.place;
     })
 
--- a server that is on no connection now, with its ledger as it was
+-- a server that is on no connection now, with its ledger unchanged
 abbrev gone_from : World → Bool → Option (List ℕ) → World
 gone_from w homed tool = record w { server = record (server_left w.server) { homed = homed; tool = tool } }
 

@@ -107,12 +107,12 @@ abbrev pub AreNoClears : List Line → Type 0
 AreNoClears [] = Unit {0}
 AreNoClears (l ∷ ls) = (is_clearing l.command ≡ false) × AreNoClears ls
 
--- a ClearAllErrors is the first, and where one is, nothing has failed
+-- only the first line may be a ClearAllErrors; if it is, nothing has failed
 abbrev pub IsClearFirst : Bool → List Line → Type 0
 IsClearFirst failed [] = Unit {0}
 IsClearFirst failed (l ∷ ls) = (is_clearing l.command ≡ true → failed ≡ false) × AreNoClears ls
 
--- where a line asks whether the machine is homed, none follows it
+-- if a line asks whether the machine is homed, none follows it
 abbrev pub IsAskedLast : List Line → Type 0
 IsAskedLast [] = Unit {0}
 IsAskedLast (l ∷ ls) = (asks_homed (kind_of l.command) ≡ true → ls ≡ []) × IsAskedLast ls
@@ -121,9 +121,9 @@ IsAskedLast (l ∷ ls) = (asks_homed (kind_of l.command) ≡ true → ls ≡ [])
 abbrev pub know_of : Server → Know
 know_of s = record { tool = s.tool; frame = Some s.frame; stored = Some s.stored }
 
--- ---- where nothing has failed, what is not done is what is planned
+-- ---- if nothing has failed, what is not done is what is planned
 
--- to do are the commands of these lines, then what is unsent; its touches are those left, and where there is no error it fits
+-- to do are the commands of these lines, then what is unsent; its touches are those left, and if there is no error it fits
 pub record IsClean (tally : Tally) (left : List Wanted) (lines : List Line) (error : Bool) (know : Know) : Type 0 where
   pub steps : List Planned
   pub todo : tally.todo ≡ steps ++ tally.unsent
@@ -148,7 +148,7 @@ pub record IsNearBy (table : Table) (left : List Wanted) (up : List Line) (runni
   pub asked_last : IsAskedLast (listed running ++ (queued ++ coming))
   pub clean : table.tally.failed ≡ false → IsClean table.tally left (listed running ++ (queued ++ coming)) error know
 
--- so it is for some lines that wait, some that the server has not read, and some aborts after them
+-- this holds for some lines that wait, some that the server has not read, and some aborts after them
 pub record IsNear (table : Table) (left : List Wanted) (up : List Line) (running : Option Line)
     (waiting : List Waiting) (error : Bool) (know : Know) : Type 0 where
   pub queued : List Line
@@ -262,7 +262,7 @@ pub record IsOff (w : World) : Type 0 where
 
 -- ---- all
 
--- a server where nothing runs, nothing waits, and that is in no error
+-- a server on which nothing runs and nothing waits, and which is not in the error state
 pub record IsIdle (s : Server) : Type 0 where
   pub running : s.running ≡ None
   pub waiting : s.waiting ≡ []

@@ -22,7 +22,7 @@ use Rattle.protocol_model.specs.declared.held.OpenCommand.{OpenCommand}
 use Rattle.protocol_model.specs.declared.plans.Planned.{Planned}
 use Rattle.protocol_model.specs.declared.plans.Does.{Does}
 
--- where one tag is not another, the other is not the one
+-- if one tag differs from another, the other differs from the one
 pub tag_is_false : (t u : Tag) → tag_is t u ≡ false → tag_is u t ≡ false
 tag_is_false t u e = go (tag_is u t) refl
   where
@@ -49,7 +49,7 @@ not_held_before t [] ys e = refl
 not_held_before t (x ∷ xs) ys e = let parts = held_parts t x (xs ++ ys) e
     in if_false {A = Bool} (tag_is x.tag t) true (is_held t xs) parts.0 ∙ not_held_before t xs ys parts.1
 
--- where each tag is held once, the tag of a command is not held before it
+-- if each tag is held once, the tag of a command is not held before it
 pub apart_from : (xs : List OpenCommand) (y : OpenCommand) (ys : List OpenCommand) → AreDistinct (xs ++ y ∷ ys) → is_held y.tag xs ≡ false
 apart_from [] y ys d = refl
 apart_from (x ∷ xs) y ys d =
@@ -86,7 +86,7 @@ event_not_in_use t running queued sorts e = not_in_use t running queued (event_n
 
 -- ---- lists of lines
 
--- where two lists together are standard lines, so is the first
+-- if two lists together are standard lines, so is the first
 pub standard_before : (xs ys : List Line) → AreStandard (xs ++ ys) → AreStandard xs
 standard_before [] ys h = tt
 standard_before (x ∷ xs) ys h = (h.0, h.1, standard_before xs ys h.2)
@@ -101,7 +101,7 @@ pub asked_behind : (xs ys : List Line) → IsAskedLast (xs ++ ys) → IsAskedLas
 asked_behind [] ys h = h
 asked_behind (x ∷ xs) ys h = asked_behind xs ys h.1
 
--- after lines of which none asks any line may stand
+-- if none of the lines asks, any line may follow them
 pub asked_more : (xs ys : List Line) (l : Line) → is_asking (all_received xs ++ all_sent ys) ≡ false → IsAskedLast ((xs ++ ys) ++ l ∷ [])
 asked_more [] [] l h = ((λ e. refl), tt)
 asked_more [] (y ∷ ys) l h = let a : AskNothing (sent_now y) (all_sent ys) = ask_nothing (sent_now y) (all_sent ys) h in (
@@ -212,7 +212,7 @@ pub steps_more : (xs ys : List Planned) → commands_of (xs ++ ys) ≡ commands_
 steps_more [] ys = refl
 steps_more (x ∷ xs) ys = ap (λ (l : List Command). x.command ∷ l) (steps_more xs ys)
 
--- steps that mean no lines are no steps; those that mean a line and others are a first one and others
+-- steps that mean no lines are the empty list; those that mean a line and others are a first step and others
 pub no_steps : (steps : List Planned) → commands_of steps ≡ [] → steps ≡ []
 no_steps [] e = refl
 no_steps (p ∷ ps) e = absurd (cc)

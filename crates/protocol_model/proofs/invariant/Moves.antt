@@ -1,4 +1,4 @@
--- What the calls of a server leave as it was, and what they add to its ledger.
+-- What the calls of a server leave unchanged, and what they add to its ledger.
 use Rattle.std.proofs.Common.{◌≡◌, ℕ, Bool, true, false, cond, not, ◌&&◌, ◌||◌, List, [], ◌∷◌, ◌++◌, length, refl, sym, ◌∙◌, ap, arith}
 use Rattle.std.proofs.Common.{append-nil, Option, Some, None, Result, Ok, Err, eq-eqb, ne_eqb, nat_le}
 use Rattle.fixed_um.specs.declared.lengths.Point.{Point}
@@ -62,7 +62,7 @@ up_to_done n (a ∷ acts) = (omega arith, up_to_done n acts)
 
 -- ---- a server that is still on the same connection, with these acts more
 
--- the server has the connection it had, on or off as it was, and its ledger has these acts more, done on that connection
+-- the server has the connection it had, on or off as before, and its ledger has these further acts, done on that connection
 pub record Moves (s t : Server) (acts : List Act) : Type 0 where
   pub on : t.on ≡ s.on
   pub last : t.last ≡ s.last

@@ -111,7 +111,7 @@ pub ack : (ws : List Wanted) (busy : List Line) (x : Line) (hs ev : List OpenCom
 ack ws busy x hs ev y sort free = standard_hears ws (tabled (all_received busy ++ sent_now x ∷ hs) ev y) x.tag Mark.Ack (all_received busy
     ++ received x ∷ hs) Effect.Quiet sort (ack_in (not y.failed) busy x hs free)
 
--- the end of the first command, where nothing has failed
+-- the end of the first command, if nothing has failed
 pub done_first : (ws : List Wanted) (x : Line) (hs ev : List OpenCommand) (y : Tally) → is_event_tag x.tag ≡ false → y.failed ≡ false
     → asks_data (kind_of x.command) ≡ false → Reads ws (tabled (received x ∷ hs) ev y) (Reply.Done x.tag ∷ [])
     (tabled hs ev (counted_next ws (kind_of x.command) None y.todo y))

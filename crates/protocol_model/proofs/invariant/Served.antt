@@ -48,12 +48,12 @@ pub acts_other : (n m : ℕ) (l : List (ℕ × Act)) (a : Act) → (m ≡ n → 
 acts_other n m [] a apart = if_false {A = List Act} _ (a ∷ []) [] (ne_eqb m n apart)
 acts_other n m ((k, b) ∷ l) a apart = acts_step _ b _ _ [] (acts_other n m l a apart ∙ sym (append-nil (acts_on n l))) ∙ append-nil _
 
--- where no act is above a connection, one act more that is not above it leaves it so
+-- if no act is above a connection, adding an act that is not above it keeps that true
 pub up_to_more : (n : ℕ) (l : List (ℕ × Act)) (m : ℕ) (a : Act) → AreUpTo n l → m ≤ n → AreUpTo n (l ++ (m, a) ∷ [])
 up_to_more n [] m a h le = (le, tt)
 up_to_more n ((k, b) ∷ l) m a h le = (h.0, up_to_more n l m a h.1 le)
 
--- where no act is above a connection, none is above a greater one
+-- if no act is above a connection, none is above a greater one
 pub up_to_above : (n m : ℕ) (l : List (ℕ × Act)) → n ≤ m → AreUpTo n l → AreUpTo m l
 up_to_above n m [] le h = tt
 up_to_above n m ((k, b) ∷ l) le h = (omega (arith, h.0), up_to_above n m l le h.1)
@@ -72,7 +72,7 @@ abbrev pub AreMadeUpTo : ℕ → List MadeContact → Type 0
 AreMadeUpTo n [] = Unit {0}
 AreMadeUpTo n (m ∷ ms) = (m.connection ≤ n) × AreMadeUpTo n ms
 
--- where no act of a ledger is above a connection, none of its contacts is
+-- if no act of a ledger is above a connection, none of its contacts is
 pub made_up_to : (n : ℕ) (l : List (ℕ × Act)) → AreUpTo n l → AreMadeUpTo n (contacts l)
 made_up_to n [] h = tt
 made_up_to n ((m, act.Contact target dir tool frame point) ∷ l) h = (h.0, made_up_to n l h.1)
@@ -82,14 +82,14 @@ made_up_to n ((m, act.Moved p f) ∷ l) h = made_up_to n l h.1
 made_up_to n ((m, act.Changed k) ∷ l) h = made_up_to n l h.1
 made_up_to n ((m, act.Framed f) ∷ l) h = made_up_to n l h.1
 
--- where no contact of two lists is above a connection, none of the second is
+-- if no contact of two lists is above a connection, none of the second is
 pub made_behind : (n : ℕ) (xs ys : List MadeContact) → AreMadeUpTo n (xs ++ ys) → AreMadeUpTo n ys
 made_behind n [] ys h = h
 made_behind n (x ∷ xs) ys h = made_behind n xs ys h.1
 
 -- ---- served features
 
--- contacts are some that serve nobody, then a run that serves this feature, then the rest
+-- contacts are some that serve no feature, then a run that serves this feature, then the rest
 pub record HasRun (wanted : Wanted) (feature : Feature) (made rest : List MadeContact) : Type 0 where
   pub gap : List MadeContact
   pub run : List MadeContact
@@ -259,7 +259,7 @@ serves_up_to n b (t ∷ ts) (p ∷ ps) [] h u lt = absurd h
 serves_up_to n b (t ∷ ts) (p ∷ ps) (m ∷ ms) h u lt = let on : m.connection ≡ n = h.0.on in let le : m.connection ≤ b = u.0
     in absurd (omega arith)
 
--- where all contacts are on earlier connections, the unfinished feature has no points yet
+-- if all contacts are on earlier connections, the unfinished feature has no points yet
 pub no_points : (ws : List Wanted) (n b : ℕ) (fs : List Feature) (points : List Point) (ms : List MadeContact) (left : List Wanted)
     → IsProgress ws n fs points ms left → AreMadeUpTo b ms → b < n → points ≡ []
 no_points ws n b fs points ms left h u lt =
@@ -327,7 +327,7 @@ next_touch t last rest (w ∷ later) some is = next_by t last rest w later w.tou
 
 -- ---- programs
 
--- where the blocks of steps are well made, each of their features has a touch
+-- if the blocks of steps are well made, each of their features has a touch
 pub features_have : (inside : Bool) (ss : List Step) → AreBlocks inside ss → HaveTouches (features_of ss)
 features_have inside [] h = tt
 features_have inside (step.Goto p ∷ ss) h = features_have inside ss h

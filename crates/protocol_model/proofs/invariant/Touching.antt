@@ -55,7 +55,7 @@ measured_keeps ws (Does.Moves p f) given y = keeps_all y
 measured_keeps ws (Does.Changes n) given y = keeps_all y
 measured_keeps ws (Does.Frames f) given y = keeps_all y
 
--- after a counted command: what is left, and the contacts cut anew
+-- after a counted command: what is left, and the contacts divided again
 pub record Goes (ws : List Wanted) (n : ℕ) (y : Tally) (ms : List MadeContact) (does : Does) (given : Option Datum)
     (rest : List Marked) : Type 0
   where

@@ -8,7 +8,7 @@ use Rattle.dmis_program.specs.Programs.{AreBlocks as AreCounted}
 use Rattle.dmis_program.specs.declared.steps.Step.{Step}
 use Rattle.dmis_program.specs.declared.steps.Step.TheVariants as step
 
--- blocks are not nested, touches stand inside them, each has a touch, and each ends
+-- blocks are not nested, touches are inside them, each has a touch, and each ends
 abbrev pub AreBlocks : Bool → List Step → Type 0
 AreBlocks inside [] = inside ≡ false
 AreBlocks inside (step.Goto p ∷ ss) = AreBlocks inside ss

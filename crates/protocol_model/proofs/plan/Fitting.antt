@@ -30,7 +30,7 @@ known_frame MachineCsy stored = Some Machine
 known_frame PartCsy None = None
 known_frame PartCsy (Some p) = Some (Part p)
 
--- what is known after a command; after ClearAllErrors nothing, so that what follows it stands by itself
+-- what is known after a command; after ClearAllErrors nothing, so that what follows it is independent
 abbrev pub known_by : Know → Command → Know
 known_by k command.StartSession = k
 known_by k command.EndSession = k

@@ -1,4 +1,4 @@
--- A plan whose homing is passed over: it fits as before, and has the same touches.
+-- A plan whose homing is skipped: it fits as before, and has the same touches.
 use Rattle.std.proofs.Common.{◌≡◌, Bool, true, false, List, [], ◌∷◌, ◌++◌, refl, sym, ◌∙◌, ap, subst}
 use Rattle.std.proofs.lemmas.Bool.{false≢true}
 use Rattle.dme_line.specs.declared.commands.Command.{Command}
@@ -25,7 +25,7 @@ homing_is (command.SetCsyTransformation p) e = absurd (false≢true e)
 homing_is (command.SetCoordSystem system) e = absurd (false≢true e)
 homing_is command.AbortE e = absurd (false≢true e)
 
--- what holds of each rest of a plan holds of it with the homing that is next passed over
+-- what holds of each suffix of a plan holds of it with the next homing skipped
 pub passes : (P : List Planned → Type 0) → ((p : Planned) (ps : List Planned) → is_homing p.command ≡ true → P (p ∷ ps) → P ps)
     → (told : Bool) (ps : List Planned) → P ps → P (passed_over told ps)
 passes P rest false ps h = h
@@ -60,7 +60,7 @@ passed_touches k told ps h =
     homes : (p : Planned) → is_homing p.command ≡ true → FitsOne k p.command p.does → p.does ≡ Does.Homes
     homes p e f = subst (λ (c : Command). FitsOne k c p.does) (homing_is p.command e) f
 
--- where no command stands before what is unsent when the homing is passed over, that is passed over in what is unsent
+-- if no command precedes what is unsent when the homing is skipped, the homing is skipped in what is unsent
 pub passed_behind : (steps unsent : List Planned) (told : Bool) → (told ≡ true → steps ≡ [])
     → passed_over told (steps ++ unsent) ≡ steps ++ passed_over told unsent
 passed_behind steps unsent false none = refl

@@ -113,7 +113,7 @@ pub plan_ends_left : (p : Program) (k : ℕ) (start : Start) → IsProgram p →
 plan_ends_left p k start h = ends_second (plan p k start) ∙ (ap seconds (plan_touches p k start (program_is_plain p h))
     ∙ features_second (drop k p.features))
 
--- ---- what commands do where they stand
+-- ---- what commands do in their places
 
 -- what is known is selected
 record IsSelected (k : Know) (s : Selection) : Type 0 where

@@ -1,4 +1,4 @@
--- Quiet rounds from both ends joined anew: the client is Done, and holds what the program plainly measures.
+-- Quiet rounds from both ends, connected again: the client is Done, and holds what the program plainly measures.
 use Rattle.std.proofs.Common.{◌≡◌, ◌⊎◌, inl, inr, ℕ, suc, ◌<◌, ◌≤◌, Bool, true, false, cond, not, ◌&&◌, ◌||◌, List, [], ◌∷◌, ◌++◌, length}
 use Rattle.std.proofs.Common.{drop, refl, sym, ◌∙◌, ap, subst, arith, append-nil, Option, Some, None, Ok, is_some, nat_lt, eqb}
 use Rattle.std.proofs.lemmas.Bool.{false≢true, le-leb}
@@ -102,7 +102,7 @@ run_closed (e ∷ es) b k h =
     next true may = (happens_carried e b k may, happens_closed e b k h may)
     next false may = (k, h)
 
--- ---- where no byte is on its way, no line is
+-- ---- if no byte is on its way, no line is
 
 no_texts : (rs : List Reply) → reply_texts rs ≡ [] → rs ≡ []
 no_texts [] e = refl
@@ -180,7 +180,7 @@ begins_good answer b w r closed can_measure = record {
 
 -- ---- the end
 
--- where both ends are still and nothing is due, the client has done all
+-- if both ends are still and nothing is due, the client has done all
 record IsAll (w : World) : Type 0 where
   done : w.client.client.state ≡ State.Done
   todo : w.client.client.table.tally.todo ≡ []
@@ -258,7 +258,7 @@ all_done answer goal kept w s g window never = go g.going
     go (inl running) = absurd (false≢true (sym never ∙ due_now c.table.tally.unsent refl (ap is_empty (sym left) ∙ running.1) running.0))
     go (inr done) = record { done = done.0; todo = done.1 }
 
--- where a round does nothing, nothing is due
+-- if a round does nothing, nothing is due
 never_due : (answer : Job → ℕ → Outcome) (w : World) → IsRound answer false w [] → can ClientSends w ≡ false
 never_due answer w round = go cut.front cut.back cut.whole cut.first
   where

@@ -75,7 +75,7 @@ reads_cut ws (r ∷ rs) ss b d h =
     let rest : Between ws h.0 rs ss d = reads_cut ws rs ss h.0 d h.2 in
     record { mid = rest.mid; first = (h.0, h.1, rest.first); second = rest.second }
 
--- where nothing has failed after a reply, nothing had before it
+-- if nothing has failed after a reply, nothing had failed before it
 counted_failed : (ws : List Wanted) (k : Kind) (given : Option Datum) (todo : List Planned) (y : Tally)
     → (counted_next ws k given todo y).failed ≡ false → y.failed ≡ false
 counted_failed ws k given [] y h = h
@@ -98,7 +98,7 @@ reads_failed ws [] b c h f = subst (λ (x : Table). x.tally.failed ≡ false) (s
 reads_failed ws (r ∷ rs) b c h f =
     step_failed ws b (tag_of r) (mark_of r) h.0 h.1 (reads_failed ws rs h.0 c h.2 f)
 
--- where nothing is to be done before a reply, nothing is after it
+-- if nothing is to be done before a reply, nothing is to be done after it
 tallied_todo : (ws : List Wanted) (e : Effect) (y : Tally) → y.todo ≡ [] → (tallied ws e y).todo ≡ []
 tallied_todo ws Effect.Quiet y h = h
 tallied_todo ws Effect.Failure y h = h

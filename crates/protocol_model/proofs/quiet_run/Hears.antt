@@ -28,7 +28,7 @@ use Rattle.protocol_model.specs.declared.held.Datum.TheVariants as datum
 use Rattle.protocol_model.specs.declared.plans.Planned.{Planned}
 use Rattle.protocol_model.specs.declared.states.Cause.{Cause}
 
--- what holds of a client, of it Faulted, and of it after each reply that has its place
+-- what holds of a client, of the client when Faulted, and of the client after each expected reply
 pub record Closed (c : Client) (P : Client → Type 0) : Type 0 where
   pub same : P c
   pub fault : (cause : Cause) → P (faulted cause c)
@@ -110,7 +110,7 @@ reads_unsent c f most h = front_cases c f (λ (d : Client). length d.table.tally
       (λ ps told le. passes (λ (qs : List Planned). length qs ≤ most) (λ p qs e le. omega (arith, le)) told ps le);
 })
 
--- a client that reads is on its connection as it was
+-- reading does not change whether a client is on its connection
 pub reads_on : (c : Client) (f : Front) → (front_read c f).on ≡ c.on
 reads_on c f = front_cases c f (λ (d : Client). d.on ≡ c.on)
     (record { same = refl; fault = λ cause. refl; hears = λ t m b is. refl })

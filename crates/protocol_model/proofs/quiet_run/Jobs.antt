@@ -39,7 +39,7 @@ abbrev pub RunsJob : Option Line → Type 0
 RunsJob None = Unit {0}
 RunsJob (Some line) = IsJob line.command
 
--- where the machine is asked for nothing, nothing runs
+-- if the machine is asked for nothing, nothing runs
 pub nothing_runs : (frame : Frame) (running : Option Line) → RunsJob running → job_run frame running ≡ None → running ≡ None
 nothing_runs frame None h e = refl
 nothing_runs frame (Some line) h e = absurd (go line.command h e)

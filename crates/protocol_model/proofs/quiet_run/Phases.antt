@@ -68,7 +68,7 @@ work_keeps answer P step [] w are h = (h, are)
 work_keeps answer P step (e ∷ es) w are h =
     work_keeps answer P step es (after e w) are.1 (step e w (work_is answer w e are.0) h)
 
--- one event where it can happen
+-- one event, if it can happen
 one_keeps : (e : Event) (P Q : World → Type 0) → ((w : World) → can e w ≡ true → P w → Q (after e w))
     → (es : List Event) (w : World) → ((can e w ≡ false) → P w → Q w) → IsOne (possible e w) false es → P w → Q (run_of es w)
 one_keeps e P Q step es w none is h = go (can e w) refl is
@@ -157,7 +157,7 @@ reads_up w may h up = subst UpEmpty (sym (after_is ServerReads w may))
     (writes_up w (front_served w.server (next_of w.server.input.rest)) h
     (front_last w.server (next_of w.server.input.rest)) up)
 
--- where no line is there and no byte is up, all was read
+-- if no line is there and no byte is on the way up, all was read
 no_line : (w : World) → IsJoined w → UpEmpty w → can ServerReads w ≡ false → w.server.input.rest ≡ []
 no_line w h up e = go (next_of w.server.input.rest) refl not_line
   where
@@ -199,7 +199,7 @@ work_read answer (Down k) w h j r = absurd h
 work_read answer ClientReads w h j r = absurd h
 work_read answer _ w h j r = absurd h
 
--- where the server has nothing to do, nothing runs and nothing waits
+-- if the server has nothing to do, nothing runs and nothing waits
 nothing_to_do : (answer : Job → ℕ → Outcome) (w : World) → IsJoined w → working (ending answer w) w ≡ None
     → (w.server.server.running ≡ None) × (w.server.server.waiting ≡ [])
 nothing_to_do answer w h e = go (running_job w.server.server) refl e
@@ -280,7 +280,7 @@ hears_down w may d h = subst DownEmpty (sym (after_is ClientReads w may)) (
       ∙ d.1,
 )
 
--- where no line is there and no byte is down, all was read
+-- if no line is there and no byte is on the way down, all was read
 no_reply : (w : World) → IsJoined w → DownEmpty w → can ClientReads w ≡ false → w.client.input.rest ≡ []
 no_reply w h d e = go (next_of w.client.input.rest) refl nothing
   where
@@ -439,7 +439,7 @@ never_one e w never es h = go (can e w) never h
     go true f h = absurd (false≢true (sym f))
     go false f h = h
 
--- where both ends are still and nothing is due, a round does nothing
+-- if both ends are still and nothing is due, a round does nothing
 pub round_none : (answer : Job → ℕ → Outcome) (w : World) → IsStill w → can ClientSends w ≡ false
     → (es : List Event) → IsRound answer false w es → es ≡ []
 round_none answer w s never =

@@ -85,7 +85,7 @@ abbrev pub Opened : Bool → Bool → List Planned → Type 0
 Opened session homed [] = Unit {0}
 Opened session homed (p ∷ ps) = Allowed session homed p.command × Opened (session_by session p.command) (homed_by homed p.command) ps
 
--- where the machine is homed, so they may without the homing that is next
+-- if the machine is homed, so they may without the next homing
 opened_homed : (session told : Bool) (ps : List Planned) → Opened session told ps → Opened session told (passed_over told ps)
 opened_homed session false ps h = h
 opened_homed session true ps h = passes (Opened session true) (λ p qs e f.
@@ -260,7 +260,7 @@ counted_mid k given p todo y = record y {
   completed = suc y.completed;
 }
 
--- a command that is no touch is counted
+-- a command that is not a touch is counted
 pub counts_ready : (answer : Job → ℕ → Outcome) (goal : List MeasuredFeature) (kept : List Feature) (ws : List Wanted)
     (session homed later_session later_homed : Bool) (rack : List (List ℕ)) (n : ℕ) (y : Tally) (k : Kind) (given : Option Datum)
     (p : Planned) (whole : List Planned) (know : Know)

@@ -25,7 +25,7 @@ use Rattle.protocol_model.proofs.quiet_run.Phases.{IsStill}
 
 -- ---- both ends have left
 
--- nothing is measured whole, and neither end is on a connection; what both keep is as it was
+-- nothing is measured whole, and neither end is on a connection; what both keep is unchanged
 record HasParted (b w : World) : Type 0 where
   carried : IsCarried w
   apart : w.client.client.state ≡ State.Apart
@@ -218,6 +218,6 @@ takes b w f p =
         ∙ (ap (λ (t : Bool). t && nat_le n (length (w.links ++ no_link ∷ []))) (le-leb (suc w.server.server.last) n above)
         ∙ le-leb n (length (w.links ++ no_link ∷ [])) there)
 
--- so it is where something is left to measure, and a connection
+-- this holds if something is left to measure, and there is a connection
 pub rejoins : (b : World) → IsCarried b → CanFinish b → IsRejoined b (rejoined b)
 rejoins b k f = takes b _ f (server_parts b _ (client_parts b k f) (server_as b))

@@ -135,7 +135,7 @@ count_more l k = sym (counted (l ++ k)) ∙ (ap (λ (ms : List MadeContact). len
     ∙ (length-append (contacts l) (contacts k)
     ∙ ap (λ (i : ℕ). i + length (contacts k)) (counted l)))
 
--- an act that is no contact adds none
+-- an act that is not a contact adds no contact
 pub count_other : (l : List (ℕ × Act)) (m : ℕ) (a : Act) → is_contact a ≡ false → contact_count (l ++ (m, a) ∷ []) ≡ contact_count l
 count_other l m a e =
     let more : contact_count (l ++ (m, a) ∷ []) ≡ contact_count l + length (contacts ((m, a) ∷ [])) = count_more l ((m, a) ∷ []) in

@@ -184,7 +184,7 @@ counted_leaves : (ws : List Wanted) (k : Kind) (given : Option Datum) (todo : Li
 counted_leaves ws k given [] y = inr refl
 counted_leaves ws k given (p ∷ todo) y = inl (measured_leaves ws p.does given _)
 
--- what a reply leaves unsent: what was, or that with the homing that is next passed over
+-- what a reply leaves unsent: what was unsent, or that with the next homing skipped
 pub tallied_leaves : (ws : List Wanted) (e : Effect) (y : Tally) (P : List Planned → Type 0) → P y.unsent
     → ((ps : List Planned) (told : Bool) → P ps → P (passed_over told ps)) → P (tallied ws e y).unsent
 tallied_leaves ws Effect.Quiet y P p keeps = p
@@ -211,7 +211,7 @@ step_leaves ws b t m c P is p keeps =
     (λ n hs e tag walk g. subst (λ (x : Table). P x.tally.unsent) (sym g) (tallied_leaves ws e b.tally P p keeps))
     (λ n hs e tag other walk g. subst (λ (x : Table). P x.tally.unsent) (sym g) p)
 
--- where nothing is asked, a reply asks nothing, and has its place whatever is unsent
+-- if nothing is asked, a reply asks nothing, and is expected whatever is unsent
 pub record IsUnasked (ws : List Wanted) (b c : Table) (t : Tag) (m : Mark) : Type 0 where
   pub asking : is_asking c.standard ≡ false
   pub unsent : c.tally.unsent ≡ b.tally.unsent
@@ -250,14 +250,14 @@ unasked_by ws b t m c is none =
           ∙ ap (λ (x : Table). fine (with_unsent ps x)) (sym g));
     })
 
--- a reply does so where nothing is asked
+-- a reply does so if nothing is asked
 pub step_unasked : (ws : List Wanted) (b : Table) (t : Tag) (m : Mark) (c : Table) → heard ws b t m ≡ fine c
     → is_asking b.standard ≡ false → IsUnasked ws b c t m
 step_unasked ws b t m c is none =
     let by : Unasked ws b c t m = unasked_by ws b t m c is none in
     record { asking = by.asking; unsent = same_unsent ws b t m c is (by.anyhow b.tally.unsent); anyhow = by.anyhow }
 
--- replies, one after another, ask nothing and leave what is unsent, and have their places whatever that is
+-- replies, one after another, ask nothing and leave what is unsent, and are expected whatever that is
 pub record AreUnasked (ws : List Wanted) (b c : Table) (rs : List Reply) : Type 0 where
   pub asking : is_asking c.standard ≡ false
   pub unsent : c.tally.unsent ≡ b.tally.unsent

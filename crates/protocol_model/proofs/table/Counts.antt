@@ -78,7 +78,7 @@ count_keeps front (h ∷ hs) t m gs e is =
     go true rest le = le
     go false rest le = omega arith
 
--- ---- where all have failed
+-- ---- if all have failed
 
 -- each of these commands has failed
 abbrev pub AreFailed : List OpenCommand → Type 0
@@ -123,7 +123,7 @@ never_counts b k (Mark.Given p) given e = let d : judged_given (b && fits k p) S
 never_counts b k Mark.Done given e = cc
 never_counts b k Mark.Error given e = cc
 
--- where each has failed, a reply counts nothing, and has its place at the front or not
+-- if each has failed, a reply counts nothing, and is expected at the front or not
 pub only_ends : (front : Bool) (hs : List OpenCommand) (t : Tag) (m : Mark) (gs : List OpenCommand) (e : Effect)
     → heard_in front hs t m ≡ two gs e
     → AreFailed hs → OnlyEnds hs gs t m e
@@ -244,7 +244,7 @@ no_break b k s (Mark.Given p) n e = data_no_break (b && fits k p) s p e
 no_break b k s Mark.Done n e = done_no_break b (asks_data k) s e
 no_break b k s Mark.Error n e = false≢true (sym n)
 
--- where none has failed, a mark other than an error leaves it so
+-- if none has failed, none has failed after a mark other than an error
 pub none_fails : (front : Bool) (hs : List OpenCommand) (t : Tag) (m : Mark) (gs : List OpenCommand) (e : Effect)
     → heard_in front hs t m ≡ two gs e
     → is_error m ≡ false → failed_tags hs ≡ [] → failed_tags gs ≡ []
@@ -278,7 +278,7 @@ error_no_close Stage.Received e = cc
 error_no_close (Stage.Given p) e = cc
 error_no_close Stage.Failed e = cc
 
--- where none has failed, an error makes its command the one that has, and is a failure
+-- if none has failed, an error makes its command the one that has failed, and is a failure
 pub one_fails : (front : Bool) (hs : List OpenCommand) (t : Tag) (gs : List OpenCommand) (e : Effect)
     → heard_in front hs t Mark.Error ≡ two gs e
     → failed_tags hs ≡ [] → (failed_tags gs ≡ t ∷ []) × (e ≡ Effect.Failure)

@@ -11,7 +11,7 @@ use Rattle.protocol_model.proofs.table.Basics.{if_cases, if_true, if_false, tag_
 use Rattle.protocol_model.proofs.table.Counts.{failed_tags}
 use Rattle.protocol_model.specs.declared.held.OpenCommand.{OpenCommand}
 
--- a number that is found is free, and none is found only where all are held
+-- a number that is found is free, and none is found only if all are held
 pub record IsFound (sort : ℕ → Tag) (hs : List OpenCommand) (n left m : ℕ) : Type 0 where
   pub free : is_held (sort m) hs ≡ false
   pub from : n ≤ m
@@ -86,7 +86,7 @@ still_held t u (h ∷ hs) apart e = go (still_held t u hs apart) (tag_is h.tag t
     go deeper false same false other = if_false {A = Bool} (tag_is h.tag u) true (is_held u (removed t hs)) other
         ∙ deeper (sym (if_false {A = Bool} (tag_is h.tag u) true (is_held u hs) other) ∙ e)
 
--- where each of that many different tags is held, at least that many are held
+-- if each of that many different tags is held, at least that many are held
 abbrev pub AreApart : (ℕ → Tag) → Type 0
 AreApart sort = (i j : ℕ) → (i ≡ j → ⊥) → tag_is (sort i) (sort j) ≡ false
 

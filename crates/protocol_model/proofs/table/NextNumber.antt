@@ -52,7 +52,7 @@ within_of sort hs last all n e = or_split _ _ n ((1 ≤ n) × (n ≤ all)) e
     (λ none other. let f : IsFound sort hs 1 all n = found sort hs 1 all n other in let from : 1 ≤ n = f.from
     in let below : n < 1 + all = f.below in (omega arith, omega arith))
 
--- the first search goes up to the last number: what the second finds stands before it
+-- the first search goes up to the last number: what the second finds is before it
 behind_of : (sort : ℕ → Tag) (hs : List OpenCommand) (last all n : ℕ) → first_free sort hs (suc last) (all - last) ≡ None
     → first_free sort hs 1 all ≡ Some n → last < n → ⊥
 behind_of sort hs last all n none other lt =

@@ -71,7 +71,7 @@ pub standard_step : (ws : List Wanted) (b : Table) (n : ℕ) (m : Mark) (hs : Li
     → heard_in (not b.tally.failed) b.standard (Std n) m ≡ two hs e → heard ws b (Std n) m ≡ fine (tabled hs b.event (tallied ws e b.tally))
 standard_step ws b n m hs e is = ap (heard_standard ws b) is
 
--- a reply on an event tag that has its place changes the event commands alone
+-- an expected reply on an event tag changes only the event commands
 pub event_step : (ws : List Wanted) (b : Table) (n : ℕ) (m : Mark) (hs : List OpenCommand) (e : Effect) → tag_is (Event n) (Event 0) ≡ false
     → heard_in true b.event (Event n) m ≡ two hs e → heard ws b (Event n) m ≡ fine (tabled b.standard hs b.tally)
 event_step ws b n m hs e other is = if_false {A = Result Table Cause} (tag_is (Event n) (Event 0)) (fine b)
@@ -145,13 +145,13 @@ reads_with_event ws x (r ∷ rs) b c reads = (
   reads_with_event ws x rs reads.0 c reads.2,
 )
 
--- ---- where all standard commands have failed: replies count nothing, whatever is to be counted
+-- ---- if all standard commands have failed: replies count nothing, whatever is to be counted
 
 -- a table with another tally
 abbrev pub with_tally : Tally → Table → Table
 with_tally y b = tabled b.standard b.event y
 
--- replies that count nothing, leave each standard command failed, and have their places whatever is counted
+-- replies that count nothing, leave each standard command failed, and are expected whatever is counted
 pub record OnlyCloses (ws : List Wanted) (b c : Table) (rs : List Reply) : Type 0 where
   pub same : c.tally ≡ b.tally
   pub left : AreFailed c.standard
@@ -191,7 +191,7 @@ step_closes ws b t m c is failed =
           ∙ ap (λ (x : Table). fine (with_tally y x)) (sym g));
     })
 
--- where each standard command has failed, replies do no more
+-- if each standard command has failed, replies do nothing else
 pub only_closes : (ws : List Wanted) (rs : List Reply) (b c : Table) → Reads ws b rs c → AreFailed b.standard → OnlyCloses ws b c rs
 only_closes ws [] b c reads failed = record {
   same = ap (λ (x : Table). x.tally) (sym reads);
@@ -294,7 +294,7 @@ pub reads_grows : (ws : List Wanted) (rs : List Reply) (b c : Table) → Reads w
 reads_grows ws rs b c reads = reads_keeps ws (λ (x : Table). Grows b.tally x.tally)
     (λ x t m y is h. grows_trans b.tally x.tally y.tally h (step_grows ws x t m y is)) rs b c reads (grows_refl b.tally)
 
--- no more standard commands are open, and each tag is held once
+-- the number of open standard commands does not grow, and each tag is held once
 pub step_counts : (ws : List Wanted) (b : Table) (t : Tag) (m : Mark) (c : Table) → heard ws b t m ≡ fine c
     → count_open c.standard ≤ count_open b.standard
 step_counts ws b t m c is =
@@ -332,7 +332,7 @@ step_not_held ws u b t m c is d =
     (not_held_keeps u (not b.tally.failed) b.standard (Std n) m hs e walk d))
     (λ n hs e tag other walk g. subst (λ (x : Table). is_held u x.standard ≡ false) (sym g) d)
 
--- where no event command is held, none will be
+-- if no event command is held, none will be
 pub step_no_event : (ws : List Wanted) (b : Table) (t : Tag) (m : Mark) (c : Table) → heard ws b t m ≡ fine c → b.event ≡ [] → c.event ≡ []
 step_no_event ws b t m c is none =
     step_cases ws b t m c (c.event ≡ []) is
@@ -341,6 +341,6 @@ step_no_event ws b t m c is none =
     (λ n hs e tag other walk g. let nowhere : heard_in true [] (Event n) m
     ≡ two hs e = ap (λ (l : List OpenCommand). heard_in true l (Event n) m) (sym none) ∙ walk in absurd (cc))
 
--- where no event command is held, none is after replies
+-- if no event command is held, none is held after replies
 pub reads_no_event : (ws : List Wanted) (rs : List Reply) (b c : Table) → Reads ws b rs c → b.event ≡ [] → c.event ≡ []
 reads_no_event ws rs b c reads none = reads_keeps ws (λ (x : Table). x.event ≡ []) (step_no_event ws) rs b c reads none

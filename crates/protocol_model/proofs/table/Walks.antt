@@ -9,7 +9,7 @@ use Rattle.protocol_model.specs.declared.held.Datum.{Datum}
 use Rattle.protocol_model.specs.declared.held.Stage.{Stage}
 use Rattle.protocol_model.specs.declared.held.OpenCommand.{OpenCommand}
 
--- a reply with its place: what is held then, and the effect
+-- an expected reply: what is held then, and the effect
 abbrev pub two : List OpenCommand → Effect → Heard
 two hs e = Ok (hs, e)
 
@@ -79,7 +79,7 @@ heard_cases front h hs t m gs e P is becomes breaks closes counts past =
 
 -- ---- with one command more at the end
 
--- a reply that has its place has it next to one command more
+-- an expected reply is also expected with one more command
 pub heard_more : (front : Bool) (hs : List OpenCommand) (x : OpenCommand) (t : Tag) (m : Mark) (gs : List OpenCommand) (e : Effect)
     → heard_in front hs t m ≡ two gs e → heard_in front (hs ++ x ∷ []) t m ≡ two (gs ++ x ∷ []) e
 heard_more front [] x t m gs e is = absurd (cc)
@@ -92,7 +92,7 @@ heard_more front (h ∷ hs) x t m gs e is =
     (λ rest other later g. heard_past front h (hs ++ x ∷ []) t m other
     ∙ (ap (put_before h) (heard_more (front && is_failed h.stage) hs x t m rest e later) ∙ rw g refl))
 
--- ---- the tags that are held become no more
+-- ---- the number of held tags does not grow
 
 -- a tag that is not held is not held after a reply
 pub not_held_keeps : (u : Tag) (front : Bool) (hs : List OpenCommand) (t : Tag) (m : Mark) (gs : List OpenCommand) (e : Effect)

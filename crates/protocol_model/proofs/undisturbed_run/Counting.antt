@@ -89,7 +89,7 @@ front_moved (h ∷ hs) t m gs e calm filled is =
 
 -- ---- a client's open commands and its tally follow a plan
 
--- where nothing has failed: none of the open commands has, their tags are those of their places, with the unsent ones they are what is to
+-- if nothing has failed: none of the open commands has, their tags are those of their places, with the unsent ones they are what is to
 -- be counted, with the counted ones they are as many as were sent, and the question whether the machine is homed is counted or not
 pub record IsCalm (told : Bool) (sent finished : List Planned) (hs : List OpenCommand) (y : Tally) : Type 0 where
   pub calm : AreCalm hs
@@ -129,7 +129,7 @@ kinds_long : (ps : List Planned) → length (kinds_of ps) ≡ length ps
 kinds_long [] = refl
 kinds_long (p ∷ ps) = ap suc (kinds_long ps)
 
--- what is left after the first command that is counted: whether the machine is reported to be homed, and where the question stands then
+-- what is left after the first command that is counted: whether the machine is reported to be homed, and the state of the question then
 record IsCounted (told : Bool) (h : OpenCommand) (gs : List OpenCommand) (given : Option Datum) (p : Planned) (todo unsent : List Planned)
     (acts : List Act) : Type 0 where
   told_so : tells_homed h.kind given ≡ true → told ≡ true

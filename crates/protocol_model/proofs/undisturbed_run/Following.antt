@@ -108,7 +108,7 @@ act_stands (Does.Touches t last) (Some (datum.Point p)) h = ((refl, refl, refl, 
 
 -- ---- data that fit
 
--- a command of this kind is counted with such data: those that it asks for, or none where it asks for none
+-- a command of this kind is counted with such data: those that it asks for, or none if it asks for none
 abbrev pub IsGiven : Kind → Option Datum → Type 0
 IsGiven k None = asks_data k ≡ false
 IsGiven k (Some d) = fits k d ≡ true
@@ -170,7 +170,7 @@ data_calm true (Stage.Given q) p s e = absurd (cc)
 data_calm true Stage.Failed p s e = absurd (cc)
 data_calm false stage p s e = absurd (cc)
 
--- where a command that has not failed goes to another stage, it still has not
+-- if a command that has not failed goes to another stage, it still has not
 pub becomes_calm : (front : Bool) (kind : Kind) (stage : Stage) (m : Mark) (s : Stage) → is_failed stage ≡ false
     → judged front kind stage m ≡ Becomes s → is_failed s ≡ false
 becomes_calm front kind stage (Mark.Given p) s calm e = data_calm (front && fits kind p) stage p s e

@@ -40,7 +40,7 @@ use Rattle.protocol_model.specs.declared.plans.Planned.{Planned}
 
 -- ---- what is reported
 
--- the first act, where it says whether the machine is homed, says this
+-- if the first act says whether the machine is homed, it says this
 abbrev pub FirstTells : Bool → List Act → Type 0
 FirstTells homed [] = Unit {0}
 FirstTells homed (act.HomedIs told ∷ acts) = told ≡ homed
@@ -94,7 +94,7 @@ without_passed (p ∷ ps) = go (is_homing p.command) refl
         ∙ sym (if_true {A = List Planned} (is_homing p.command) (without_homings ps) (p ∷ without_homings ps) e)
     go false e = ap without_homings (if_false {A = List Planned} (is_homing p.command) ps (p ∷ ps) e)
 
--- what is passed over because of what is reported is not in it
+-- what is skipped because of what is reported is not in it
 pub followed_passed : (told t : Bool) (ps : List Planned) → (t ≡ true → told ≡ true) → followed told (passed_over t ps) ≡ followed told ps
 followed_passed told false ps h = refl
 followed_passed told true ps h = ap (λ (b : Bool). followed b (without_homing ps)) (h refl)
@@ -157,7 +157,7 @@ tells_is false = refl
 
 -- ---- commands that measure neither ask nor home
 
--- such are no commands that measure, and not the end of the session
+-- such commands do not measure, and are not the end of the session
 record IsOther (such : Command → Bool) : Type 0 where
   goes : (p : Point) → such (command.GoTo p) ≡ false
   touches : (p : Point) (d : Option Direction) → such (command.PtMeas p d) ≡ false

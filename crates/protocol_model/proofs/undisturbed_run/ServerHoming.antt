@@ -79,7 +79,7 @@ read_same s (Err (fault.BadArguments t k)) = tagged_same s t (Err (misread.BadAr
 
 -- ---- a turn
 
--- where the server was homed, what is next does not home it
+-- if the server was homed, what is next does not home it
 abbrev pub HomesNot : Bool → List Waiting → Type 0
 HomesNot told [] = Unit {0}
 HomesNot told (w ∷ ws) = (c : Command) → w.reading ≡ Ok c → told ≡ true → is_homing c ≡ false

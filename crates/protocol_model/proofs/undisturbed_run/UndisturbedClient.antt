@@ -285,7 +285,7 @@ filled_more : (hs : List OpenCommand) (x : OpenCommand) → AreFilled hs → IsF
 filled_more [] x h e = (e, tt)
 filled_more (y ∷ hs) x h e = (h.0, filled_more hs x h.1 e)
 
--- where the question is the last that is open, it is open
+-- if the question is the last that is open, it is open
 is_asked : (hs : List OpenCommand) (ks : List Kind) → AreCalm hs → kinds_held hs ≡ ks ++ kind.IsHomed ∷ [] → is_asking hs ≡ true
 is_asked [] [] calm e = absurd (cc)
 is_asked [] (k ∷ ks) calm e = absurd (cc)

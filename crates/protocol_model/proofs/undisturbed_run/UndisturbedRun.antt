@@ -174,7 +174,7 @@ machine_on : (b : World) (outcome : Outcome) → IsCarried b → can (Machine ou
 machine_on b outcome h may = on_by (lined b h.up h.down) h.inv b.server.server.on refl
     (λ r e. let no_end : may_end None outcome ≡ true = subst (λ (o : Option Line). may_end o outcome ≡ true) r may in false≢true no_end)
 
--- where the machine was homed, what waits does not home it: the client has sent no command that does
+-- if the machine was homed, what waits does not home it: the client has sent no command that does
 not_below : (a b : ℕ) → a < b → a ≡ b → ⊥
 not_below a b lt e = omega (arith, lt, e)
 

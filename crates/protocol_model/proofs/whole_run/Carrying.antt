@@ -260,7 +260,7 @@ busy_on : (b : World) (h : IsCarried b) (t : Bool) → b.server.server.on ≡ t
 busy_on b h true e busy = e
 busy_on b h false e busy = let idle : IsIdle b.server.server = h.inv.idle e in absurd (busy idle.running idle.waiting)
 
--- the first command that waits is processed, where none runs, and what both ends carry is kept
+-- the first command that waits is processed if none runs, and what both ends carry is kept
 abbrev pub turn_carried : (b : World) (h : IsCarried b) → b.server.server.on ≡ true
     → (is_none b.server.server.running && not (Rattle.protocol_model.specs.Plan.is_empty b.server.server.waiting)) ≡ true
     → IsCarried (server_writes b (serving_turned b.server))

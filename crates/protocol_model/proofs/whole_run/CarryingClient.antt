@@ -280,7 +280,7 @@ read_stays c t m = go (tag_is t (Event 0))
     go true = record { on = refl; last = refl }
     go false = hears_stays c t m (heard_on c.program.features c.table t m)
 
--- the first reply on its way has its place
+-- the first reply on its way is expected
 first_has_place : (b : World) (h : IsCarried b) (r : Reply) (others : List Reply) → b.client.client.on ≡ true → h.down ≡ r ∷ others
     → HasPlace b.client.client (tag_of r) (mark_of r)
 first_has_place b h r others on down_is faulty =

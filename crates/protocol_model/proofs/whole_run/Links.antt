@@ -9,14 +9,14 @@ use Rattle.protocol_model.specs.World.{Link, no_link, link_of, with_link}
 pub link_same : (links : List Link) (n : ℕ) (l : Link) → 1 ≤ n → n ≤ length links → link_of (with_link links n l) n ≡ l
 link_same links n l from to = get_or-set_same links (n - 1) l no_link (omega arith)
 
--- where one connection is given other bytes, each other one has those that it had
+-- if one connection is given other bytes, each other connection keeps its bytes
 pub link_other : (links : List Link) (n m : ℕ) (l : Link) → 1 ≤ n → 1 ≤ m → (m ≡ n → ⊥) → link_of (with_link links n l) m ≡ link_of links m
 link_other links n m l from also apart = get_or-set_other links (n - 1) (m - 1) l no_link (λ (e : m - 1 ≡ n - 1). go e)
   where
     go : m - 1 ≡ n - 1 → ⊥
     go e = apart (omega arith)
 
--- where one connection is given other bytes, there are as many connections as before
+-- if one connection is given other bytes, the number of connections is unchanged
 pub link_long : (links : List Link) (n : ℕ) (l : Link) → length (with_link links n l) ≡ length links
 link_long links n l = length-set links (n - 1) l
 

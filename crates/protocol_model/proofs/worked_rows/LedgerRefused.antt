@@ -350,6 +350,6 @@ asked_again_is = record { more = []; whole = refl }
 pub other_answer_is_none : Told (act.HomedIs false ∷ []) asked_twice 2 → ⊥
 other_answer_is_none h = let e : ◌≡◌ {A = ℕ} 6 7 = ap first_sort h.whole in absurd (omega arith)
 
--- a homing that was passed over
+-- a homing that was skipped
 pub passed_over_is_none : Told (act.HomedIs true ∷ act.Homed ∷ []) asked_twice 2 → ⊥
 passed_over_is_none h = let e : ◌≡◌ {A = ℕ} 1 4 = ap next_sort h.whole in absurd (omega arith)

@@ -137,7 +137,7 @@ out_of_order_on ws c (Event n) k d e misfit = ap (heard_event c.table) (out_of_o
 abbrev pub HasPlace : Client → Tag → Mark → Type 0
 HasPlace c t m = (client_read c t m).state ≡ State.Faulted → ⊥
 
--- data that have their place are heard as they were said, whatever is held under their tag
+-- expected data are heard as they were said, whatever is held under their tag
 pub given_is : (c : Client) (t : Tag) (d : Datum) → IsWritableDatum d
     → HasPlace c t (Mark.Given d) → given c t (written_datum d) ≡ client_read c t (Mark.Given d)
 given_is c t d w place = go (tag_is t (Event 0)) refl (held_under t c) refl
@@ -177,7 +177,7 @@ given_is c t d w place = go (tag_is t (Event 0)) refl (held_under t c) refl
     go false is (Some k) held = if_false {A = Client} _ _ _ is ∙ (ap (given_under c t (written_datum d)) held
         ∙ asked d w place k is held)
 
--- a reply that can be written and has its place is heard as it was said
+-- an expected reply that can be written is heard as it was said
 pub reply_heard : (c : Client) (r : Reply) → IsWritableReply r
     → HasPlace c (tag_of r) (mark_of r) → line_read c (response_of (reply_text r)) ≡ client_read c (tag_of r) (mark_of r)
 reply_heard c r w place = ap (line_read c) (reply_read r w) ∙ go r w place

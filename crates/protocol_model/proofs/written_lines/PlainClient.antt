@@ -159,7 +159,7 @@ plan_arguments p k start h = go start
     go NewConnection = (tt, rest)
     go SameConnection = rest
 
--- so have those that are left where the homing that is next is passed over
+-- so have those that are left if the next homing is skipped
 passed_arguments : (told : Bool) (ps : List Planned) → HaveArguments ps → HaveArguments (passed_over told ps)
 passed_arguments told ps h = passes HaveArguments (λ p qs e f. f.1) told ps h
 
@@ -174,7 +174,7 @@ number_below sort hs last all n le e = or_cases _ _ n ((1 ≤ n) × (n ≤ all))
 
 -- ---- the client
 
--- a client with a well-made program, drawn numbers of at most 9,999, and unsent commands that can be written and are no aborts
+-- a client with a well-made program, drawn numbers of at most 9,999, and unsent commands that can be written and are not aborts
 pub record IsPlainClient (c : Client) : Type 0 where
   pub program : IsProgram c.program
   pub drawn : c.drawn ≤ 9999
@@ -187,7 +187,7 @@ pub record IsPlainSends (s : Sends) : Type 0 where
   pub client : IsPlainClient s.client
   pub lines : AreWritable s.lines
 
--- a command that is no abort goes out under a standard tag
+-- a command that is not an abort is sent under a standard tag
 pub standard_kind : (c : Command) → is_abort (Ok c) ≡ false → false ≡ is_event_kind (kind_of c)
 standard_kind command.StartSession h = refl
 standard_kind command.EndSession h = refl
@@ -262,16 +262,16 @@ aborts_by c (Some n) h within =
       lines = (record { tagged = record { numbered = (bounds.0, bounds.1); sort = refl }; arguments = tt }, tt);
     }
 
--- so it is with an abort that it sends
+-- likewise for an abort that it sends
 pub plain_aborted : (c : Client) → IsPlainClient c → IsPlainSends (client_aborted c)
 plain_aborted c h = aborts_by c (next_number Event c.table.event c.event_drawn) h
     (λ n e. number_below Event c.table.event c.event_drawn 9999 n h.event_drawn e)
 
--- commands that can be written and are no aborts
+-- commands that can be written and are not aborts
 abbrev AreSendable : List Planned → Type 0
 AreSendable ps = HaveArguments ps × HasNoAbort ps
 
--- where a reply has its place, what it leaves unsent are such
+-- what an expected reply leaves unsent are such commands
 abbrev LeavesSendable : Result Table Cause → Type 0
 LeavesSendable (Ok b) = AreSendable b.tally.unsent
 LeavesSendable (Err cause) = Unit {0}
@@ -329,6 +329,6 @@ plain_resumed c h = record {
 pub plain_left : (c : Client) → IsPlainClient c → IsPlainClient (client_left c)
 plain_left c h = record { program = h.program; drawn = h.drawn; event_drawn = h.event_drawn; unsent = h.unsent; no_abort = h.no_abort }
 
--- and if it is begun anew with its first k features
+-- and if it is restarted with its first k features
 pub plain_restarted : (k : ℕ) (c : Client) → IsPlainClient c → IsPlainClient (client_restarted k c)
 plain_restarted k c h = record { program = h.program; drawn = omega arith; event_drawn = omega arith; unsent = tt; no_abort = tt }

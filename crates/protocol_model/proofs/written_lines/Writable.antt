@@ -40,7 +40,7 @@ abbrev pub AreWritable : List Line → Type 0
 AreWritable [] = Unit {0}
 AreWritable (l ∷ ls) = IsWritable l.tag l.command × AreWritable ls
 
--- where each of two lists of commands can be written, both together can
+-- if each of two lists of commands can be written, both together can
 pub writable_join : (xs ys : List Line) → AreWritable xs → AreWritable ys → AreWritable (xs ++ ys)
 writable_join [] ys h g = g
 writable_join (x ∷ xs) ys h g = (h.0, writable_join xs ys h.1 g)
@@ -90,7 +90,7 @@ abbrev pub AreReplies : List Reply → Type 0
 AreReplies [] = Unit {0}
 AreReplies (r ∷ rs) = IsWritableReply r × AreReplies rs
 
--- where each of two lists of replies can be written, both together can
+-- if each of two lists of replies can be written, both together can
 pub replies_join : (xs ys : List Reply) → AreReplies xs → AreReplies ys → AreReplies (xs ++ ys)
 replies_join [] ys h g = g
 replies_join (x ∷ xs) ys h g = (h.0, replies_join xs ys h.1 g)

@@ -1,1 +1,0 @@
-// What follows from the definitions alone. Each function has laws for its contract and does nothing.
