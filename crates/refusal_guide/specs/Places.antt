@@ -7,8 +7,9 @@ use Rattle.dmis_program.specs.declared.faults.ProgramFault.TheVariants as progra
 use Rattle.tool_rack.specs.declared.faults.SetupFault.TheVariants as setup
 use Rattle.link_world.specs.declared.texts.schedule_faults.ScheduleFault.TheVariants as schedule
 use Rattle.contact_ledger.specs.declared.faults.TextFault.TheVariants as text
+use Rattle.run_record.specs.declared.faults.RecordFault.TheVariants as recorded
 use Rattle.refusal_guide.specs.declared.places.Refused.{Refused}
-use Rattle.refusal_guide.specs.declared.places.Refused.TheVariants.{Program, Setup, Schedule, Features, Contacts}
+use Rattle.refusal_guide.specs.declared.places.Refused.TheVariants.{Program, Setup, Schedule, Features, Contacts, Record}
 
 -- the number of the line that is refused; none if out of memory
 abbrev pub number_of : Refused → Option ℕ
@@ -24,6 +25,8 @@ number_of (Features (text.Damaged line)) = Some line
 number_of (Features text.Memory) = None
 number_of (Contacts (text.Damaged line)) = Some line
 number_of (Contacts text.Memory) = None
+number_of (Record (recorded.Damaged line)) = Some line
+number_of (Record recorded.Memory) = None
 
 -- the lines of a text from number n on, counted from 1; from the last one on if it has fewer
 abbrev pub lines_from : ℕ → List ℕ → List (List ℕ)

@@ -10,6 +10,8 @@ ghost use Rattle.link_world.specs.ScheduleTexts.{fault_text as schedule_text};
 ghost use Rattle.link_world.specs.declared.texts.schedule_faults.ScheduleFault.TheVariants as schedule;
 ghost use Rattle.contact_ledger.specs.Messages.{fault_text as ledger_text};
 ghost use Rattle.contact_ledger.specs.declared.faults.TextFault.TheVariants as text;
+ghost use Rattle.run_record.specs.Messages.{fault_text as record_text};
+ghost use Rattle.run_record.specs.declared.faults.RecordFault.TheVariants as recorded;
 ghost use Rattle.dme_line.specs.Tags.{four_digits};
 ghost use Rattle.dme_line.specs.Errors.{number_of, text_of};
 ghost use Rattle.refusal_guide.specs.Titles.{title_of, IsTitleOf};
@@ -20,6 +22,7 @@ use dme_line::ErrorNumber;
 use dmis_program::{ProgramFault, Refusal};
 use fixed_um::NumeralFault;
 use link_world::ScheduleFault;
+use run_record::RecordFault;
 use tool_rack::SetupFault;
 
 impl Topic {
@@ -102,6 +105,17 @@ impl Topic {
         match fault {
             TextFault::Damaged(_) => Some(Topic::Damaged),
             TextFault::Memory => None,
+        }
+    }
+
+    /// The topic of a record's fault; none if out of memory.
+    pub fn of_record(fault: RecordFault) -> Option<Topic>
+        ensures title { IfSome result (λ topic. IsTitleOf (title_of topic) (record_text fault)) }
+        ensures none { result ≡ None ↔ fault ≡ recorded.Memory }
+    {
+        match fault {
+            RecordFault::Damaged(_) => Some(Topic::RecordDamaged),
+            RecordFault::Memory => None,
         }
     }
 

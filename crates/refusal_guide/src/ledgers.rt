@@ -56,7 +56,7 @@ fn is_act(alloc: Global, front: &[u8], behind: &[u8]) -> Result<bool, AllocError
 }
 
 /// Whether a word is that of an act.
-fn is_act_word(word: &[u8]) -> bool {
+pub(crate) fn is_act_word(word: &[u8]) -> bool {
     word == b"HOMEDIS".as_slice()
         || word == b"HOMED".as_slice()
         || word == b"MOVED".as_slice()
@@ -105,7 +105,7 @@ fn act_reason(alloc: Global, line: &[u8]) -> Result<Reason, AllocError> {
 }
 
 /// Whether a line ends with CR LF.
-fn has_return(rest: &[u8]) -> bool {
+pub(crate) fn has_return(rest: &[u8]) -> bool {
     match rest.get(first_line(rest).len()) {
         Some(byte) => *byte == b'\r',
         None => false,

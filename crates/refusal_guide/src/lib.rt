@@ -9,7 +9,8 @@
 //! - `lines`, `words`: a line and a word as they are shown
 //! - `programs`: the sentences of programs; `statements`, `blocks`, `bad_bytes`: what they are about; `arguments`, `numerals`, `names`: why
 //!   a parameter does not fit
-//! - `setups`, `schedules`, `ledgers`: the sentences of the other texts
+//! - `setups`, `schedules`, `ledgers`, `records`: the sentences of the other texts
+//! - `strangers`: why a record is of another part or program; `touches`: in what two touches differ
 #![tactic(auto)]
 
 mod arguments;
@@ -23,13 +24,17 @@ mod numerals;
 mod pages;
 mod places;
 mod programs;
+mod records;
 mod schedules;
 mod setups;
 mod statements;
+mod strangers;
 mod topics;
+mod touches;
 mod words;
 mod written;
 
 pub use places::{Refused, write_place};
+pub use strangers::{write_other_part, write_other_program};
 pub use topics::Topic;
 pub use written::{Page, write_page};

@@ -69,6 +69,15 @@ impl Topic {
             Topic::NotOurs => {
                 "The features in the file are not the first features of the program, by label and count of points."
             }
+            Topic::RecordDamaged => {
+                "A line of a record is unexpected: the file is a different one, or was changed manually. What follows its last line end is cut off and is not damage."
+            }
+            Topic::OtherPart => {
+                "The record is of a part other than that of --part, or only one of the two names a part."
+            }
+            Topic::OtherProgram => {
+                "The record is of other wanted features than this program has under this setup: a label, the number of touches, a target, direction, tool or frame differs."
+            }
             Topic::NoTag => {
                 "The server received a line that does not begin with a tag (five digits, or E and four digits) and a space."
             }
@@ -163,6 +172,15 @@ impl Topic {
             Topic::NotOurs => {
                 "Name the program for which the file was written, or another features file."
             }
+            Topic::RecordDamaged => {
+                "Use the record as it was written. If it is lost, name another file with --record: everything is measured again."
+            }
+            Topic::OtherPart => {
+                "Name the part of the record with --part, or another file with --record."
+            }
+            Topic::OtherProgram => {
+                "Name the program and the setup of the record, or another file with --record."
+            }
             Topic::NoTag => { "The client must write a tag before each command." }
             Topic::TagInUse => {
                 "The client must use another tag until it has read the % of the first command."
@@ -225,6 +243,9 @@ impl Topic {
             Topic::ScheduleLine => "machine touched 1.002 0 0",
             Topic::Damaged => "FEATURE C 3 2 M",
             Topic::NotOurs => "DME-FEATURES 2",
+            Topic::RecordDamaged => "1 COMPLETED C",
+            Topic::OtherPart => "PART 0042/7",
+            Topic::OtherProgram => "FEATURE C 2",
             Topic::NoTag => "00001 Home()",
             Topic::TagInUse => "00002 IsHomed()",
             Topic::UnknownCommand => "00003 GoTo(X(1.000), Y(2.000), Z(3.000))",

@@ -6,12 +6,14 @@ ghost use Rattle.refusal_guide.specs.Places.{number_of, place_text, IsPlace, IsP
 use crate::ledgers::{Ledger, ledger_reason};
 use crate::lines::{Place, first_line, from_line, shown_line, shown_start};
 use crate::programs::program_reason;
+use crate::records::record_reason;
 use crate::schedules::schedule_reason;
 use crate::setups::{setup_line_reason, setup_numeral_reason, setup_twice_reason};
 use crate::words::Reason;
 use contact_ledger::TextFault;
 use dmis_program::ProgramFault;
 use link_world::ScheduleFault;
+use run_record::RecordFault;
 use std::alloc::{AllocError, Global};
 use tool_rack::SetupFault;
 
@@ -28,6 +30,8 @@ pub enum Refused {
     Features(TextFault),
     /// A file of contacts.
     Contacts(TextFault),
+    /// A record.
+    Record(RecordFault),
 }
 
 /// The number of the line that is refused; none if out of memory.
@@ -42,11 +46,13 @@ fn line_number(refused: Refused) -> Option<u64>
         Refused::Schedule(ScheduleFault::BadLine(line)) => Some(line),
         Refused::Features(TextFault::Damaged(line)) => Some(line),
         Refused::Contacts(TextFault::Damaged(line)) => Some(line),
+        Refused::Record(RecordFault::Damaged(line)) => Some(line),
         Refused::Program(ProgramFault::Memory) => None,
         Refused::Setup(SetupFault::Memory) => None,
         Refused::Schedule(ScheduleFault::Memory) => None,
         Refused::Features(TextFault::Memory) => None,
         Refused::Contacts(TextFault::Memory) => None,
+        Refused::Record(RecordFault::Memory) => None,
     }
 }
 
@@ -62,11 +68,13 @@ fn reason(alloc: Global, refused: Refused, place: Place) -> Result<Reason, Alloc
         Refused::Schedule(ScheduleFault::BadLine(_)) => schedule_reason(alloc, place),
         Refused::Features(TextFault::Damaged(_)) => ledger_reason(alloc, Ledger::Features, place),
         Refused::Contacts(TextFault::Damaged(_)) => ledger_reason(alloc, Ledger::Contacts, place),
+        Refused::Record(RecordFault::Damaged(_)) => record_reason(alloc, place),
         Refused::Program(ProgramFault::Memory)
         | Refused::Setup(SetupFault::Memory)
         | Refused::Schedule(ScheduleFault::Memory)
         | Refused::Features(TextFault::Memory)
-        | Refused::Contacts(TextFault::Memory) => Ok(Reason::of_line(String::new(alloc))),
+        | Refused::Contacts(TextFault::Memory)
+        | Refused::Record(RecordFault::Memory) => Ok(Reason::of_line(String::new(alloc))),
     }
 }
 

@@ -58,6 +58,12 @@ pub enum Topic {
     Damaged,
     /// Features that are not the first ones of the program.
     NotOurs,
+    /// A line of a record that is unexpected.
+    RecordDamaged,
+    /// A record of another part.
+    OtherPart,
+    /// A record of another program.
+    OtherProgram,
     /// The server's error for a line without a tag.
     NoTag,
     /// The server's error for a tag under which a command is running or waiting.
@@ -90,7 +96,7 @@ pub enum Topic {
     MachineFault,
 }
 
-const TOPICS: [Topic; 40] = [
+const TOPICS: [Topic; 43] = [
     Topic::NotDmis,
     Topic::Truncated,
     Topic::LineTooLong,
@@ -116,6 +122,9 @@ const TOPICS: [Topic; 40] = [
     Topic::ScheduleLine,
     Topic::Damaged,
     Topic::NotOurs,
+    Topic::RecordDamaged,
+    Topic::OtherPart,
+    Topic::OtherProgram,
     Topic::NoTag,
     Topic::TagInUse,
     Topic::UnknownCommand,
@@ -195,6 +204,9 @@ impl Topic {
             Topic::ScheduleLine => "H1 BadLine",
             Topic::Damaged => "K1 Damaged",
             Topic::NotOurs => "C4 NotOurs",
+            Topic::RecordDamaged => "J1 Damaged",
+            Topic::OtherPart => "J2 OtherPart",
+            Topic::OtherProgram => "J3 OtherProgram",
             Topic::NoTag => "9001 No tag",
             Topic::TagInUse => "9002 Tag in use",
             Topic::UnknownCommand => "9003 Unknown command",
