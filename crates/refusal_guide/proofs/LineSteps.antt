@@ -3,14 +3,14 @@ use Rattle.std.proofs.Common.{◌≡◌, ℕ, suc, ◌+◌, ◌-◌, ◌<◌, �
 use Rattle.std.specs.Prelude.{min}
 use Rattle.std.proofs.lemmas.List.{drop-drop}
 
--- so many lines of all are passed
+-- that many lines of all are passed
 pub record IsPassed (number left : ℕ) (all rest : List (List ℕ)) : Type 0 where
   pub are_left : rest ≡ drop (number - left) all
   pub down : left ≤ number
   pub up : min 1 number ≤ left
   pub inside : number - left ≤ length all - 1
 
--- so many lines from one that is asked for
+-- the lines from the one that is asked for
 abbrev pub asked : ℕ → List (List ℕ) → List (List ℕ)
 asked number all = drop (min (number - 1) (length all - 1)) all
 
@@ -21,7 +21,7 @@ here : (number left : ℕ) (all rest : List (List ℕ)) → IsPassed number left
     → rest ≡ asked number all
 here number left all rest p e = p.are_left ∙ ap (λ k. drop k all) e
 
--- all are passed that stand before the line that is asked for
+-- all lines before the one that is asked for are passed
 pub at_number : (number left : ℕ) (all rest : List (List ℕ)) → IsPassed number left all rest → left ≤ 1 → rest ≡ asked number all
 at_number number left all rest p h = let d = p.down in let u = p.up in let i = p.inside in here number left all rest p (omega arith)
 

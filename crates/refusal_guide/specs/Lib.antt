@@ -2,3 +2,4 @@ pub mod Titles
 pub mod Pages
 pub mod Places
 pub mod Lengths
+pub mod Strangers

@@ -7,10 +7,11 @@ use Rattle.dmis_program.specs.declared.faults.ProgramFault.TheVariants as progra
 use Rattle.tool_rack.specs.declared.faults.SetupFault.TheVariants as setup
 use Rattle.link_world.specs.declared.texts.schedule_faults.ScheduleFault.TheVariants as schedule
 use Rattle.contact_ledger.specs.declared.faults.TextFault.TheVariants as text
+use Rattle.run_record.specs.declared.faults.RecordFault.TheVariants as recorded
 use Rattle.refusal_guide.specs.declared.places.Refused.{Refused}
-use Rattle.refusal_guide.specs.declared.places.Refused.TheVariants.{Program, Setup, Schedule, Features, Contacts}
+use Rattle.refusal_guide.specs.declared.places.Refused.TheVariants.{Program, Setup, Schedule, Features, Contacts, Record}
 
--- the number of the line that is refused; none for want of memory
+-- the number of the line that is refused; none if out of memory
 abbrev pub number_of : Refused → Option ℕ
 number_of (Program (program.Refused refusal line)) = Some line
 number_of (Program program.Memory) = None
@@ -24,17 +25,19 @@ number_of (Features (text.Damaged line)) = Some line
 number_of (Features text.Memory) = None
 number_of (Contacts (text.Damaged line)) = Some line
 number_of (Contacts text.Memory) = None
+number_of (Record (recorded.Damaged line)) = Some line
+number_of (Record recorded.Memory) = None
 
--- the lines of a text from number n on, counted from 1; from the last one on where it has fewer
+-- the lines of a text from number n on, counted from 1; from the last one on if it has fewer
 abbrev pub lines_from : ℕ → List ℕ → List (List ℕ)
 lines_from n bytes = drop (min (n - 1) (length (lines bytes) - 1)) (lines bytes)
 
--- the first of some lines; nothing where there is none
+-- the first of some lines; empty if there is none
 abbrev pub first_of : List (List ℕ) → List ℕ
 first_of [] = []
 first_of (line ∷ more) = line
 
--- line n of a text; its last one where it has fewer
+-- line n of a text; its last one if it has fewer
 abbrev pub line_of : ℕ → List ℕ → List ℕ
 line_of n bytes = first_of (lines_from n bytes)
 
@@ -50,16 +53,16 @@ visible b = if nat_le 32 b && nat_le b 126 then b ∷ [] else codes "\\x" ++ (he
 abbrev pub visible_in_line : ℕ → List ℕ
 visible_in_line b = if b == 9 then b ∷ [] else visible b
 
--- the front of a line, at most 200 bytes of it
+-- the beginning of a line, at most 200 bytes of it
 abbrev pub shown_front : List ℕ → List ℕ
 shown_front bytes = if nat_le (length bytes) 200 then flat_map visible_in_line bytes else flat_map visible_in_line (take 200 bytes)
     ++ codes " .."
 
--- a line from this byte on, which is its first where it has at most 200
+-- a line from this byte on, which is the first if it has at most 200
 abbrev pub shown_from : ℕ → List ℕ → List ℕ
 shown_from start line = (if nat_lt 0 start then codes ".. " else []) ++ shown_front (drop start line)
 
--- a file's name with a number, what is shown of the line, and what is said of it
+-- a file's name with a number, what is shown of the line, and a sentence about it
 abbrev pub place_text : List ℕ → ℕ → List ℕ → List ℕ → List ℕ
 place_text name number line said = name ++ (codes ":" ++ (decimal number ++ (codes ": " ++ (line ++ (codes "\n" ++ (said ++ codes "\n"))))))
 
@@ -70,11 +73,11 @@ pub record IsPlace (name : List ℕ) (bytes : List ℕ) (number : ℕ) (shown : 
   pub within : start ≤ length (line_of number bytes) - 200
   pub whole : shown ≡ place_text name number (shown_from start (line_of number bytes)) said
 
--- the same of the line that is refused; nothing for want of memory
+-- likewise for the line that is refused; nothing if out of memory
 abbrev pub IsPlaceOf : Option ℕ → List ℕ → List ℕ → List ℕ → Type 0
 IsPlaceOf None name bytes shown = shown ≡ []
 IsPlaceOf (Some number) name bytes shown = IsPlace name bytes number shown
 
--- what stood there, and behind it the place of the line that is refused
+-- what was there, followed by the place of the line that is refused
 abbrev pub Places : Refused → List ℕ → List ℕ → List ℕ → List ℕ → Type 0
 Places refused name bytes old new = (shown : List ℕ) × (new ≡ old ++ shown) × IsPlaceOf (number_of refused) name bytes shown

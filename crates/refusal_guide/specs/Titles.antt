@@ -33,6 +33,9 @@ title_of topic.SetupNumeral = codes "S3 BadNumeral"
 title_of topic.ScheduleLine = codes "H1 BadLine"
 title_of topic.Damaged = codes "K1 Damaged"
 title_of topic.NotOurs = codes "C4 NotOurs"
+title_of topic.RecordDamaged = codes "J1 Damaged"
+title_of topic.OtherPart = codes "J2 OtherPart"
+title_of topic.OtherProgram = codes "J3 OtherProgram"
 title_of topic.NoTag = codes "9001 No tag"
 title_of topic.TagInUse = codes "9002 Tag in use"
 title_of topic.UnknownCommand = codes "9003 Unknown command"
@@ -53,7 +56,7 @@ title_of topic.MachineFault = codes "9015 Machine fault"
 abbrev pub is_of_code : ℕ → Bool
 is_of_code byte = not (byte == 32)
 
--- the code of a title: all that stands before its first space
+-- the code of a title: all before its first space
 abbrev pub code_in : List ℕ → List ℕ
 code_in title = take (prefix_len is_of_code title) title
 

@@ -13,7 +13,7 @@ fn is_cart(param: &[u8]) -> bool {
     param == b"CART".as_slice()
 }
 
-/// How many parameters stand before the numerals: a first `CART`, or none.
+/// How many parameters precede the numerals: one if the first is `CART`, else none.
 pub(crate) fn count_before(params: &[Text]) -> usize
     ensures { result ≤ length params.now }
 {
@@ -23,7 +23,7 @@ pub(crate) fn count_before(params: &[Text]) -> usize
     }
 }
 
-/// What stands between these bytes and a `)` at the end.
+/// The bytes between this prefix and a `)` at the end.
 pub(crate) fn within<'a>(front: &[u8], text: &'a [u8]) -> Option<&'a [u8]> {
     match text.strip_prefix(front)? {
         [inner @ .., b')'] => Some(inner),
@@ -31,12 +31,12 @@ pub(crate) fn within<'a>(front: &[u8], text: &'a [u8]) -> Option<&'a [u8]> {
     }
 }
 
-/// How many parameters a statement has behind a first `CART`, and how many it takes.
+/// How many parameters a statement has after a first `CART`, and how many it takes.
 fn count_reason(alloc: Global, found: Found, wanted: &str) -> Result<Reason, AllocError> {
     let params: &[Text] = &found.statement.params;
     let before = count_before(params);
     let count = params.len() - before;
-    let behind = if before > 0 { " behind CART" } else { "" };
+    let behind = if before > 0 { " after CART" } else { "" };
     let parameters = if count == 1 {
         "parameter"
     } else {
@@ -46,7 +46,7 @@ fn count_reason(alloc: Global, found: Found, wanted: &str) -> Result<Reason, All
     found.word().reason(alloc, "", &said)
 }
 
-/// Why a parameter is no name in parentheses behind these bytes, as this says behind it; none where it is one.
+/// Why a parameter is not a name in parentheses after this prefix, in the words of `behind`; none if it is one.
 fn parenthesis_reason(
     alloc: Global,
     found: Found,
@@ -76,13 +76,13 @@ fn meas_reason(alloc: Global, found: Found) -> Result<Reason, AllocError> {
     };
     if !is_letters(kind) {
         let kind = found.in_param(0, kind);
-        return kind.reason(alloc, "", " is no kind, which is a word of letters.");
+        return kind.reason(alloc, "", " is not a kind: a kind is a word of letters.");
     }
-    match parenthesis_reason(alloc, found, 1, b"F(", " is no F(name).")? {
+    match parenthesis_reason(alloc, found, 1, b"F(", " is not F(name).")? {
         Some(reason) => Ok(reason),
         None => {
             let count = found.in_param(2, count);
-            count.reason(alloc, "", " is no count of touches from 1 to 10000.")
+            count.reason(alloc, "", " is not a count of touches from 1 to 10000.")
         }
     }
 }
@@ -92,7 +92,7 @@ fn ptmeas_reason(alloc: Global, found: Found) -> Result<Reason, AllocError> {
     match found.statement.params.split_first() {
         Some((first, _)) if !is_cart(first) => {
             let first = found.in_param(0, first);
-            first.reason(alloc, "", " is no CART, which stands first in PTMEAS.")
+            first.reason(alloc, "", " is not CART, which comes first in PTMEAS.")
         }
         Some(_) => count_reason(alloc, found, "3, or 6 with a direction"),
         None => count_reason(alloc, found, "CART and 3 or 6 numerals"),
@@ -110,19 +110,19 @@ fn snslct_reason(alloc: Global, found: Found) -> Result<Option<Reason>, AllocErr
     } else {
         b"S(".as_slice()
     };
-    parenthesis_reason(alloc, found, 0, front, " is no S(name) and no SA(name).")
+    parenthesis_reason(alloc, found, 0, front, " is not S(name) or SA(name).")
 }
 
 /// Why the one parameter of `RECALL/D(name)` does not fit.
 fn recall_reason(alloc: Global, found: Found) -> Result<Option<Reason>, AllocError> {
     let params: &[Text] = &found.statement.params;
     let [_] = params else {
-        return Reason::given(count_reason(alloc, found, "1, D(name), or more behind S( and SA("));
+        return Reason::given(count_reason(alloc, found, "1, D(name), or more after S( and SA("));
     };
-    parenthesis_reason(alloc, found, 0, b"D(", " is no D(name).")
+    parenthesis_reason(alloc, found, 0, b"D(", " is not D(name).")
 }
 
-/// Where the last apostrophe stands.
+/// The place of the last apostrophe.
 fn last_apostrophe(text: &[u8]) -> usize
     ensures { result ≤ length text.now }
 {
@@ -135,7 +135,7 @@ fn last_apostrophe(text: &[u8]) -> usize
     last
 }
 
-/// What stands from the last apostrophe of these bytes on.
+/// These bytes from their last apostrophe on.
 fn last_text(element: &[u8]) -> &[u8] {
     let (_, text) = element.split_at(last_apostrophe(element));
     text
@@ -159,8 +159,8 @@ fn open_text<'s>(found: Found<'s, '_>) -> Word<'s> {
 fn label_reason(alloc: Global, found: Found, label: Word) -> Result<Reason, AllocError> {
     let behind = found.word().between(
         alloc,
-        " stands before ",
-        ": of the statements that are read FEAT, TOL and SNSDEF have labels.",
+        " comes before ",
+        ": of the statements that are read, only FEAT, TOL and SNSDEF have labels.",
     )?;
     label.reason(alloc, "The label ", &behind)
 }
@@ -170,7 +170,7 @@ fn is_definition(found: Found) -> bool {
     found.is(b"FEAT") || found.is(b"TOL") || found.is(b"SNSDEF")
 }
 
-/// That a statement may have no label, or that one of its texts is not closed; none where neither is so.
+/// That a statement may have no label, or that one of its texts is not closed; none if neither applies.
 fn head_reason(alloc: Global, found: Found) -> Result<Option<Reason>, AllocError> {
     match &found.statement.label {
         Some(label) if !is_definition(found) => {
@@ -184,7 +184,7 @@ fn head_reason(alloc: Global, found: Found) -> Result<Option<Reason>, AllocError
     }
 }
 
-/// How many parameters a statement takes whose parameters are only counted; none of another.
+/// How many parameters a statement takes, if its parameters are only counted; none otherwise.
 fn counted(found: Found) -> Option<&'static str> {
     if found.is(b"GOTO") {
         Some("3")
@@ -199,7 +199,7 @@ fn counted(found: Found) -> Option<&'static str> {
     }
 }
 
-/// Why the parameters of a statement that are more than counted do not fit; none of one that takes any.
+/// Why the parameters of a statement that are more than counted do not fit; none if it takes any parameters.
 fn formed_reason(alloc: Global, found: Found) -> Result<Option<Reason>, AllocError> {
     if found.is(b"MEAS") {
         Reason::given(meas_reason(alloc, found))
@@ -214,7 +214,7 @@ fn formed_reason(alloc: Global, found: Found) -> Result<Option<Reason>, AllocErr
     }
 }
 
-/// Why the parameters of a statement do not fit; none of one that takes any.
+/// Why the parameters of a statement do not fit; none if it takes any parameters.
 pub(crate) fn argument_reason(alloc: Global, found: Found) -> Result<Option<Reason>, AllocError> {
     if let Some(reason) = head_reason(alloc, found)? {
         return Ok(Some(reason));

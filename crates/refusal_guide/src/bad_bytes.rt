@@ -1,5 +1,5 @@
-// Which byte of a line may not stand in its place. The reader of statements tells the line, so it reads the text cut behind more and more
-// bytes of that line.
+// Which byte of a line is not allowed where it is. The reader of statements reports only the line, so it is given longer and longer
+// prefixes of the text, each of which ends within that line.
 
 ghost use Rattle.std.specs.Prelude.{◌≤◌, ◌+◌, length};
 
@@ -8,7 +8,7 @@ use crate::statements::next_statement;
 use dmis_text::{Statements, TextFault};
 use std::alloc::{AllocError, Global};
 
-/// Passes the statements that can be read, and gives the line of the last one; 1 where there is none.
+/// Passes the statements that can be read, and returns the line of the last one; 1 if there is none.
 fn last_line(statements: &mut Statements) -> Result<u64, AllocError> {
     let mut line = 1;
     while let Some(statement) = next_statement(statements)? {
@@ -18,7 +18,7 @@ fn last_line(statements: &mut Statements) -> Result<u64, AllocError> {
     Ok(line)
 }
 
-/// Whether the next statement has a byte that may not stand in its place.
+/// Whether the next statement has a byte that is not allowed where it is.
 fn is_next_bad(statements: &mut Statements) -> Result<bool, AllocError> {
     match statements.next() {
         Err(TextFault::BadByte(_)) => Ok(true),
@@ -28,21 +28,21 @@ fn is_next_bad(statements: &mut Statements) -> Result<bool, AllocError> {
     }
 }
 
-/// Whether a text has a byte that may not stand in its place.
+/// Whether a text has a byte that is not allowed where it is.
 fn has_bad_byte(alloc: Global, text: &[u8]) -> Result<bool, AllocError> {
     let mut statements = Statements::new(alloc, text);
     last_line(&mut statements)?;
     is_next_bad(&mut statements)
 }
 
-/// The text from the last statement on that ends before the line: what stands above it is no part of the line's statement.
+/// The text from the last statement that can be read on: what is above it is not part of the line's statement.
 fn near(alloc: Global, text: &[u8]) -> Result<&[u8], AllocError> {
     let line = last_line(&mut Statements::new(alloc, text))?;
     Ok(from_line(text, line))
 }
 
-/// How many bytes stand before the leftmost of so many bytes, from this place of a text on, that may not stand in its place; before the last
-/// one where all may.
+/// How many of the next `count` bytes, from this place of a text on, precede the leftmost one that is not allowed where it is; all but the
+/// last if all are allowed.
 fn count_good(alloc: Global, text: &[u8], start: usize, count: usize) -> Result<usize, AllocError>
     requires { start + count ≤ length text.now }
 {
@@ -60,7 +60,7 @@ fn count_good(alloc: Global, text: &[u8], start: usize, count: usize) -> Result<
     Ok(before)
 }
 
-/// The leftmost byte of a line that may not stand in its place, and how many bytes of the line stand before it; none where all may.
+/// The leftmost byte of a line that is not allowed where it is, and how many bytes of the line precede it; none if all are allowed.
 pub(crate) fn bad_byte(alloc: Global, place: Place) -> Result<Option<(usize, u8)>, AllocError> {
     let text = near(alloc, place.text)?;
     let (line, _) = place

@@ -1,4 +1,4 @@
-// What stands above a statement that is refused.
+// What is above a statement that is refused.
 
 ghost use Rattle.std.specs.Prelude.{◌≡◌, ◌∷◌, IfOk, IfSome};
 
@@ -8,7 +8,7 @@ use crate::words::Word;
 use dmis_text::{Statement, Statements};
 use std::alloc::{AllocError, Global};
 
-/// An open measurement block: the line of its `MEAS`, how many touches that names, as it stands there, and how many it has so far.
+/// An open measurement block: the line of its `MEAS`, how many touches that names, as written there, and how many it has so far.
 #[derive(Drop)]
 pub(crate) struct Block {
     pub(crate) line: u64,
@@ -32,7 +32,7 @@ fn begun(alloc: Global, statement: &Statement) -> Result<Option<Block>, AllocErr
     }))
 }
 
-/// The open block behind a touch, where this one is open before it.
+/// The open block after a touch, if this one is open before it.
 fn touched(block: Option<Block>) -> Option<Block> {
     let block = block?;
     Some(Block {
@@ -42,7 +42,7 @@ fn touched(block: Option<Block>) -> Option<Block> {
     })
 }
 
-/// The open block behind a statement, where this one is open before it.
+/// The open block after a statement, if this one is open before it.
 fn followed(
     alloc: Global,
     block: Option<Block>,

@@ -1,4 +1,4 @@
-// The topic of each fault that `dme` prints by a code. Want of memory has none.
+// The topic of each fault that `dme` prints by a code. Out of memory has none.
 
 ghost use Rattle.std.specs.Prelude.{◌≡◌, ◌++◌, ◌↔◌, IfSome, None, codes};
 ghost use Rattle.dmis_program.specs.Messages.{refusal_text, fault_text as program_text};
@@ -10,6 +10,8 @@ ghost use Rattle.link_world.specs.ScheduleTexts.{fault_text as schedule_text};
 ghost use Rattle.link_world.specs.declared.texts.schedule_faults.ScheduleFault.TheVariants as schedule;
 ghost use Rattle.contact_ledger.specs.Messages.{fault_text as ledger_text};
 ghost use Rattle.contact_ledger.specs.declared.faults.TextFault.TheVariants as text;
+ghost use Rattle.run_record.specs.Messages.{fault_text as record_text};
+ghost use Rattle.run_record.specs.declared.faults.RecordFault.TheVariants as recorded;
 ghost use Rattle.dme_line.specs.Tags.{four_digits};
 ghost use Rattle.dme_line.specs.Errors.{number_of, text_of};
 ghost use Rattle.refusal_guide.specs.Titles.{title_of, IsTitleOf};
@@ -20,6 +22,7 @@ use dme_line::ErrorNumber;
 use dmis_program::{ProgramFault, Refusal};
 use fixed_um::NumeralFault;
 use link_world::ScheduleFault;
+use run_record::RecordFault;
 use tool_rack::SetupFault;
 
 impl Topic {
@@ -47,7 +50,7 @@ impl Topic {
         }
     }
 
-    /// The topic of a numeral's refusal, which stands behind that of its statement.
+    /// The topic of a numeral's refusal, which follows that of its statement.
     pub fn of_numeral(fault: NumeralFault) -> Topic
         ensures { refusal_text (BadNumeral fault)
             ≡ codes "P7 BadNumeral (" ++ (title_of result ++ codes ")") }
@@ -59,7 +62,7 @@ impl Topic {
         }
     }
 
-    /// The topic of a program's fault; none for want of memory.
+    /// The topic of a program's fault; none if out of memory.
     pub fn of_program(fault: ProgramFault) -> Option<Topic>
         ensures title { IfSome result (λ topic. IsTitleOf (title_of topic) (program_text fault)) }
         ensures none { result ≡ None ↔ fault ≡ program.Memory }
@@ -70,7 +73,7 @@ impl Topic {
         }
     }
 
-    /// The topic of a setup's fault; none for want of memory.
+    /// The topic of a setup's fault; none if out of memory.
     pub fn of_setup(fault: SetupFault) -> Option<Topic>
         ensures title { IfSome result (λ topic. IsTitleOf (title_of topic) (setup_text fault)) }
         ensures none { result ≡ None ↔ fault ≡ setup.Memory }
@@ -83,7 +86,7 @@ impl Topic {
         }
     }
 
-    /// The topic of a schedule's fault; none for want of memory.
+    /// The topic of a schedule's fault; none if out of memory.
     pub fn of_schedule(fault: ScheduleFault) -> Option<Topic>
         ensures title { IfSome result (λ topic. IsTitleOf (title_of topic) (schedule_text fault)) }
         ensures none { result ≡ None ↔ fault ≡ schedule.Memory }
@@ -94,7 +97,7 @@ impl Topic {
         }
     }
 
-    /// The topic of a fault of a file of features or of contacts; none for want of memory.
+    /// The topic of a fault of a features or contacts file; none if out of memory.
     pub fn of_text(fault: TextFault) -> Option<Topic>
         ensures title { IfSome result (λ topic. IsTitleOf (title_of topic) (ledger_text fault)) }
         ensures none { result ≡ None ↔ fault ≡ text.Memory }
@@ -105,7 +108,18 @@ impl Topic {
         }
     }
 
-    /// The topic of an error that a server answers.
+    /// The topic of a record's fault; none if out of memory.
+    pub fn of_record(fault: RecordFault) -> Option<Topic>
+        ensures title { IfSome result (λ topic. IsTitleOf (title_of topic) (record_text fault)) }
+        ensures none { result ≡ None ↔ fault ≡ recorded.Memory }
+    {
+        match fault {
+            RecordFault::Damaged(_) => Some(Topic::RecordDamaged),
+            RecordFault::Memory => None,
+        }
+    }
+
+    /// The topic of an error that a server reports.
     pub fn of_error(error: ErrorNumber) -> Topic
         ensures { title_of result
             ≡ four_digits (number_of error) ++ (codes " " ++ text_of error) }

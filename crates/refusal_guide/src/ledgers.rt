@@ -1,4 +1,4 @@
-// Why a line of features or of contacts cannot stand in its place, in a sentence. What may stand there is told by their readers.
+// Why a line of features or of contacts is unexpected, in a sentence. Their readers decide what may be there.
 
 use crate::lines::{Place, first_line};
 use crate::words::{Reason, Word};
@@ -13,7 +13,7 @@ pub(crate) enum Ledger {
     Contacts,
 }
 
-/// Whether a reader's answer is a text; only want of memory is an `Err`.
+/// Whether a reader accepted a text. Fails only if out of memory.
 fn is_read<T: Drop>(answer: Result<T, TextFault>) -> Result<bool, AllocError> {
     match answer {
         Ok(_) => Ok(true),
@@ -22,28 +22,28 @@ fn is_read<T: Drop>(answer: Result<T, TextFault>) -> Result<bool, AllocError> {
     }
 }
 
-/// Whether features may go on behind these lines with this line.
+/// Whether features may continue after these lines with this line.
 fn goes_on(alloc: Global, above: &[u8], line: &[u8]) -> Result<bool, AllocError> {
     let mut text = Vec::from_slice(alloc, above)?;
     text.extend_from_slice(line)?;
     is_read(read_features(alloc, &text))
 }
 
-/// What has to stand behind these lines of features.
+/// What must follow these lines of features.
 fn wanted(alloc: Global, above: &[u8]) -> Result<&'static str, AllocError> {
     if goes_on(alloc, above, b"END\n")? {
-        return Ok("END stands here, since the feature above has all its points.");
+        return Ok("END is expected here: the feature above has all its points.");
     }
     if goes_on(alloc, above, b"FEATURE A 1 -\n")? {
         return Ok(
-            "A feature begins here, as FEATURE C 3 2 M or FEATURE C 3 -, with a count from 1 to 10000.",
+            "A feature is expected here, such as FEATURE C 3 2 M or FEATURE C 3 -, with a count from 1 to 10000.",
         );
     }
     if goes_on(alloc, above, b"FEATURE A 1\n")? {
-        return Ok("A feature begins here, as FEATURE C 3, with a count from 1 to 10000.");
+        return Ok("A feature is expected here, such as FEATURE C 3, with a count from 1 to 10000.");
     }
     Ok(
-        "A point of the feature above stands here, three lengths with three decimals, as 1.000 0.000 -0.004.",
+        "A point of the feature above is expected here, three lengths with three decimals, such as 1.000 0.000 -0.004.",
     )
 }
 
@@ -56,7 +56,7 @@ fn is_act(alloc: Global, front: &[u8], behind: &[u8]) -> Result<bool, AllocError
 }
 
 /// Whether a word is that of an act.
-fn is_act_word(word: &[u8]) -> bool {
+pub(crate) fn is_act_word(word: &[u8]) -> bool {
     word == b"HOMEDIS".as_slice()
         || word == b"HOMED".as_slice()
         || word == b"MOVED".as_slice()
@@ -65,7 +65,7 @@ fn is_act_word(word: &[u8]) -> bool {
         || word == b"CONTACT".as_slice()
 }
 
-/// The first field of a line, and what stands behind it; nothing where there is none.
+/// The first field of a line, and what follows it; if there is no field, no bytes and the whole line.
 fn cut_first(line: &[u8]) -> (&[u8], &[u8]) {
     match cut_field(line) {
         Some((first, rest)) => (first, rest),
@@ -73,30 +73,30 @@ fn cut_first(line: &[u8]) -> (&[u8], &[u8]) {
     }
 }
 
-/// Why what stands behind the number of a connection is no act.
+/// Why what follows the number of a connection is not an act.
 fn fields_reason(alloc: Global, act: Word) -> Result<Reason, AllocError> {
     let (before, behind) = if is_act_word(act.bytes) {
         (
             "The fields of ",
-            " do not stand in the one form in which they are written, with one space before each.",
+            " are not in the form in which they are written, with one space before each.",
         )
     } else {
         (
             "",
-            " is none of HOMEDIS, HOMED, MOVED, CHANGED, FRAMED and CONTACT.",
+            " is not HOMEDIS, HOMED, MOVED, CHANGED, FRAMED or CONTACT.",
         )
     };
     act.reason(alloc, before, behind)
 }
 
-/// Why a line of contacts is no act.
+/// Why a line of contacts is not an act.
 fn act_reason(alloc: Global, line: &[u8]) -> Result<Reason, AllocError> {
     let (connection, rest) = cut_first(line);
     let connection = Word::found(line, 0, connection);
     if !is_act(alloc, connection.bytes, b" HOMED\n")? {
         return connection.reason(
             alloc,
-            "An act begins with the number of its connection, from 1 to 4000000000 and without a zero in front, and not with ",
+            "An act begins with the number of its connection, from 1 to 4000000000 without leading zeros, not with ",
             ".",
         );
     }
@@ -105,14 +105,14 @@ fn act_reason(alloc: Global, line: &[u8]) -> Result<Reason, AllocError> {
 }
 
 /// Whether a line ends with CR LF.
-fn has_return(rest: &[u8]) -> bool {
+pub(crate) fn has_return(rest: &[u8]) -> bool {
     match rest.get(first_line(rest).len()) {
         Some(byte) => *byte == b'\r',
         None => false,
     }
 }
 
-/// Why a line of features cannot stand in its place.
+/// Why a line of features is unexpected.
 fn feature_reason(alloc: Global, place: Place) -> Result<Reason, AllocError> {
     if place.rest.len() > place.text.len() {
         return Ok(Reason::of_line(String::new(alloc)));
@@ -121,7 +121,7 @@ fn feature_reason(alloc: Global, place: Place) -> Result<Reason, AllocError> {
     Reason::of_text(alloc, wanted(alloc, above)?)
 }
 
-/// Why a line of this ledger cannot stand in its place.
+/// Why a line of this ledger is unexpected.
 pub(crate) fn ledger_reason(
     alloc: Global,
     ledger: Ledger,
@@ -130,7 +130,7 @@ pub(crate) fn ledger_reason(
     if has_return(place.rest) {
         return Reason::of_text(
             alloc,
-            "The line ends with CR LF, and the lines of this file end with LF alone.",
+            "The line ends with CR LF, and the lines of this file end with LF only.",
         );
     }
     match ledger {

@@ -1,5 +1,5 @@
-//! What each refusal of `dme` means and what to do about it: the codes of this profile, and the numbers of a server's errors. And of a text
-//! that is refused: its line, and which word of it is meant.
+//! What each refusal of `dme` means and what to do about it: the codes of this profile, and the numbers of a server's errors. For a text
+//! that is refused, also its line and the word at fault.
 //!
 //! - `topics`: what is refused by a code, and the topic of a code
 //! - `pages`: what a topic means, what to do, and a line as it should be
@@ -7,9 +7,10 @@
 //! - `written`: the page of a topic as text
 //! - `places`: the line of a text that is refused, with a sentence on it
 //! - `lines`, `words`: a line and a word as they are shown
-//! - `programs`: the sentences of programs; `statements`, `blocks`, `bad_bytes`: what they speak of; `arguments`, `numerals`, `names`: why
+//! - `programs`: the sentences of programs; `statements`, `blocks`, `bad_bytes`: what they are about; `arguments`, `numerals`, `names`: why
 //!   a parameter does not fit
-//! - `setups`, `schedules`, `ledgers`: the sentences of the other texts
+//! - `setups`, `schedules`, `ledgers`, `records`: the sentences of the other texts
+//! - `strangers`: why a record is of another part or program; `touches`: in what two touches differ
 #![tactic(auto)]
 
 mod arguments;
@@ -23,13 +24,17 @@ mod numerals;
 mod pages;
 mod places;
 mod programs;
+mod records;
 mod schedules;
 mod setups;
 mod statements;
+mod strangers;
 mod topics;
+mod touches;
 mod words;
 mod written;
 
 pub use places::{Refused, write_place};
+pub use strangers::{write_other_part, write_other_program};
 pub use topics::Topic;
 pub use written::{Page, write_page};

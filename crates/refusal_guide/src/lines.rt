@@ -19,7 +19,7 @@ pub(crate) struct Place<'a> {
     pub(crate) number: u64,
 }
 
-/// The bytes of a text from the line of this number on; from its last line on where it has fewer.
+/// The bytes of a text from the line of this number on; from its last line on if it has fewer.
 pub(crate) fn from_line(text: &[u8], number: u64) -> &[u8]
     ensures { lines result.now ≡ lines_from number text.now }
 {
@@ -38,7 +38,7 @@ pub(crate) fn from_line(text: &[u8], number: u64) -> &[u8]
     rest
 }
 
-/// The first line of a text; nothing where it has none.
+/// The first line of a text; empty if it has none.
 pub(crate) fn first_line(text: &[u8]) -> &[u8]
     ensures { result.now ≡ first_of (lines text.now) }
 {
@@ -106,7 +106,7 @@ fn push_line(text: &mut String, bytes: &[u8]) -> Result<(), AllocError>
     Ok(())
 }
 
-/// Appends the front of a line, at most 200 bytes of it, and `..` where it has more.
+/// Appends the beginning of a line, at most 200 bytes of it, and `..` if it has more.
 fn push_front(text: &mut String, bytes: &[u8]) -> Result<(), AllocError>
     ensures { OnOk result (string_bytes text.new
         ≡ string_bytes text.old ++ shown_front bytes.now) }
@@ -119,8 +119,8 @@ fn push_front(text: &mut String, bytes: &[u8]) -> Result<(), AllocError>
     text.push_str(" ..")
 }
 
-/// The byte from which on a line is shown, so that the word of this place and length stands among the 200 bytes that are shown, where it
-/// has no more: the first byte where the word then does, else so that the word stands in their middle.
+/// The byte from which a line is shown, so that the word of this place and length is among the 200 bytes that are shown, if it fits: the
+/// first byte if the word is then shown, else a byte that puts the word in their middle.
 pub(crate) fn shown_start(line: &[u8], at: usize, len: usize) -> usize
     ensures { result ≤ length line.now - 200 }
 {
@@ -131,7 +131,7 @@ pub(crate) fn shown_start(line: &[u8], at: usize, len: usize) -> usize
     at.saturating_sub(before).min(line.len() - MOST_SHOWN)
 }
 
-/// A line as it is shown from this byte on: at most 200 bytes of it, and `..` where something was cut off.
+/// A line as it is shown from this byte on: at most 200 bytes of it, and `..` where it is cut.
 pub(crate) fn shown_line(alloc: Global, line: &[u8], start: usize) -> Result<String, AllocError>
     requires { start ≤ length line.now - 200 }
     ensures { IfOk result (λ text. string_bytes text ≡ shown_from start line.now) }

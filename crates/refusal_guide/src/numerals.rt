@@ -17,7 +17,7 @@ pub(crate) enum Measure {
     Component,
 }
 
-/// Why a text is not read as a length within the machine's volume; none where it is.
+/// Why a text is not read as a length within the machine's volume; none if it is.
 pub(crate) fn length_fault(text: &[u8]) -> Option<NumeralFault>
     ensures { result ≡ length_fault text.now }
 {
@@ -34,7 +34,7 @@ fn is_no_length(text: &[u8]) -> bool
     length_fault(text).is_some()
 }
 
-/// Why a text is not read as a component of a direction; none where it is.
+/// Why a text is not read as a component of a direction; none if it is.
 pub(crate) fn component_fault(text: &[u8]) -> Option<NumeralFault> {
     match read_dir(text, b"0", b"0") {
         Ok(_) => None,
@@ -57,7 +57,7 @@ pub(crate) fn leftmost_component(params: &[Text]) -> Option<usize>
     params.iter().position(|p| component_fault(p).is_some())
 }
 
-/// The leftmost of three fields that is not read as a length; none where all are.
+/// The leftmost of three fields that is not read as a length; none if all are.
 fn leftmost_field<'a>(x: &'a [u8], y: &'a [u8], z: &'a [u8]) -> Option<&'a [u8]>
     ensures { option_map (λ t. t.now) result
         ≡ find is_no_length (x.now ∷ y.now ∷ z.now ∷ []) }
@@ -79,7 +79,7 @@ fn is_exponent(byte: u8) -> bool {
     byte == b'E' || byte == b'e'
 }
 
-/// How many digits stand before an exponent.
+/// How many digits precede an exponent.
 fn count_digits(numeral: &[u8]) -> usize {
     numeral
         .iter()
@@ -108,18 +108,18 @@ fn numeral_sentence(
         (NumeralFault::NotNumeral, _) => numeral.between(
             alloc,
             "",
-            " is no numeral: a numeral has digits with at most one point, and if wanted a sign and an exponent of one to three digits.",
+            " is not a numeral: a numeral has digits with at most one point, and optionally a sign and an exponent of one to three digits.",
         ),
         (NumeralFault::TooManyDigits, _) => digits_sentence(alloc, numeral),
         (NumeralFault::TooLarge, Measure::Length) => numeral.between(
             alloc,
             "The numeral ",
-            ", rounded to micrometres, is past the limit of 1000000 millimetres.",
+            ", rounded to micrometres, is beyond the limit of 1000000 millimetres.",
         ),
         (NumeralFault::TooLarge, Measure::Component) => numeral.between(
             alloc,
             "The numeral ",
-            ", rounded to millionths, is past the limit of 1000 for a component of a direction.",
+            ", rounded to millionths, is beyond the limit of 1000 for a component of a direction.",
         ),
     }
 }
@@ -135,7 +135,7 @@ pub(crate) fn numeral_reason(
     Ok(Reason::of_word(said, numeral))
 }
 
-/// Which of three fields at the end of a line, behind so many bytes, is not read as a length, and why; none where all are.
+/// Which of three fields of a line, after its first `from` bytes, is not read as a length, and why; none if all are.
 pub(crate) fn field_reason(
     alloc: Global,
     line: &[u8],

@@ -6,12 +6,14 @@ ghost use Rattle.refusal_guide.specs.Places.{number_of, place_text, IsPlace, IsP
 use crate::ledgers::{Ledger, ledger_reason};
 use crate::lines::{Place, first_line, from_line, shown_line, shown_start};
 use crate::programs::program_reason;
+use crate::records::record_reason;
 use crate::schedules::schedule_reason;
 use crate::setups::{setup_line_reason, setup_numeral_reason, setup_twice_reason};
 use crate::words::Reason;
 use contact_ledger::TextFault;
 use dmis_program::ProgramFault;
 use link_world::ScheduleFault;
+use run_record::RecordFault;
 use std::alloc::{AllocError, Global};
 use tool_rack::SetupFault;
 
@@ -28,9 +30,11 @@ pub enum Refused {
     Features(TextFault),
     /// A file of contacts.
     Contacts(TextFault),
+    /// A record.
+    Record(RecordFault),
 }
 
-/// The number of the line that is refused; none for want of memory.
+/// The number of the line that is refused; none if out of memory.
 fn line_number(refused: Refused) -> Option<u64>
     ensures { result ≡ number_of refused }
 {
@@ -42,15 +46,17 @@ fn line_number(refused: Refused) -> Option<u64>
         Refused::Schedule(ScheduleFault::BadLine(line)) => Some(line),
         Refused::Features(TextFault::Damaged(line)) => Some(line),
         Refused::Contacts(TextFault::Damaged(line)) => Some(line),
+        Refused::Record(RecordFault::Damaged(line)) => Some(line),
         Refused::Program(ProgramFault::Memory) => None,
         Refused::Setup(SetupFault::Memory) => None,
         Refused::Schedule(ScheduleFault::Memory) => None,
         Refused::Features(TextFault::Memory) => None,
         Refused::Contacts(TextFault::Memory) => None,
+        Refused::Record(RecordFault::Memory) => None,
     }
 }
 
-/// What is wrong with the line of this place; nothing for want of memory.
+/// What is wrong with the line of this place; nothing if out of memory.
 fn reason(alloc: Global, refused: Refused, place: Place) -> Result<Reason, AllocError> {
     match refused {
         Refused::Program(ProgramFault::Refused(refusal, _)) => {
@@ -62,11 +68,13 @@ fn reason(alloc: Global, refused: Refused, place: Place) -> Result<Reason, Alloc
         Refused::Schedule(ScheduleFault::BadLine(_)) => schedule_reason(alloc, place),
         Refused::Features(TextFault::Damaged(_)) => ledger_reason(alloc, Ledger::Features, place),
         Refused::Contacts(TextFault::Damaged(_)) => ledger_reason(alloc, Ledger::Contacts, place),
+        Refused::Record(RecordFault::Damaged(_)) => record_reason(alloc, place),
         Refused::Program(ProgramFault::Memory)
         | Refused::Setup(SetupFault::Memory)
         | Refused::Schedule(ScheduleFault::Memory)
         | Refused::Features(TextFault::Memory)
-        | Refused::Contacts(TextFault::Memory) => Ok(Reason::of_line(String::new(alloc))),
+        | Refused::Contacts(TextFault::Memory)
+        | Refused::Record(RecordFault::Memory) => Ok(Reason::of_line(String::new(alloc))),
     }
 }
 
@@ -102,7 +110,7 @@ fn numbered_place(
     place_text(alloc, name, number, &shown, &reason.said)
 }
 
-/// The place of the line that is refused; nothing for want of memory.
+/// The place of the line that is refused; nothing if out of memory.
 fn place(alloc: Global, refused: Refused, name: &str, text: &[u8]) -> Result<String, AllocError>
     ensures { IfOk result (λ shown.
         IsPlaceOf (number_of refused) name.now text.now (string_bytes shown)) }
@@ -113,10 +121,10 @@ fn place(alloc: Global, refused: Refused, name: &str, text: &[u8]) -> Result<Str
     }
 }
 
-/// Appends where a text is refused and why: `NAME:LINE: ` and the line as it stands in the text, and below it a sentence that names the
-/// word that is refused, of several the leftmost. Where the text has fewer lines it is its last one. Bytes that cannot be read are shown as
-/// `\xNN`, and of a line with more than 200 bytes the part around the word. Nothing is appended for want of memory in reading the text.
-/// Only want of memory is an `Err`, and then nothing is appended either.
+/// Appends where a text is refused and why: `NAME:LINE: ` and the line as it is in the text, and below it a sentence that names the word
+/// that is refused, of several the leftmost. If the text has fewer lines, its last one is shown. Unprintable bytes are shown as `\xNN`, and
+/// of a line with more than 200 bytes the part around the word. Nothing is appended if the text was refused because memory ran out. Fails
+/// only if out of memory, and then nothing is appended either.
 pub fn write_place(
     out: &mut Vec<u8>,
     refused: Refused,

@@ -15,7 +15,7 @@ use dmis_text::{Statement, Text};
 use fixed_um::NumeralFault;
 use std::alloc::{AllocError, Global};
 
-/// Why no program begins with this statement.
+/// Why a program cannot begin with this statement.
 fn not_dmis(alloc: Global, found: Found) -> Result<Reason, AllocError> {
     let word = found.word();
     word.reason(
@@ -25,7 +25,7 @@ fn not_dmis(alloc: Global, found: Found) -> Result<Reason, AllocError> {
     )
 }
 
-/// Why no program begins in a text without a statement.
+/// Why a text without a statement is not a program.
 fn no_statement(alloc: Global) -> Result<Reason, AllocError> {
     Reason::of_text(
         alloc,
@@ -33,7 +33,7 @@ fn no_statement(alloc: Global) -> Result<Reason, AllocError> {
     )
 }
 
-/// That the end is missing behind this statement.
+/// That the end is missing after this statement.
 fn ended_reason(alloc: Global, last: &Statement) -> Result<Reason, AllocError> {
     let word = Word {
         bytes: &last.word,
@@ -43,7 +43,7 @@ fn ended_reason(alloc: Global, last: &Statement) -> Result<Reason, AllocError> {
     let behind = format!(in alloc; " at line {line}.")?;
     word.reason(
         alloc,
-        "The file ends behind this line without ENDFIL: its last statement is ",
+        "The file ends after this line without ENDFIL: its last statement is ",
         &behind,
     )
 }
@@ -60,25 +60,25 @@ fn truncated(alloc: Global, place: Place) -> Result<Option<Reason>, AllocError> 
 fn too_long(alloc: Global, place: Place) -> Result<Reason, AllocError> {
     let count = first_line(place.rest).len();
     let said = format!(in alloc;
-        "The line has {count} bytes, and at most 4096 may stand before its end."
+        "The line has {count} bytes before its end, and at most 4096 are allowed."
     )?;
     Ok(Reason::of_line(said))
 }
 
-/// That this byte may not stand in this column.
+/// That this byte is not allowed in this column.
 fn column_reason(alloc: Global, at: usize, byte: u8) -> Result<Reason, AllocError> {
     let column = at.saturating_add(1);
     let why = if byte >= 128 {
-        "may stand in texts and in comments alone."
+        "is allowed only in texts and in comments."
     } else {
-        "is a control character, of which a program may have tabs alone."
+        "is a control character, and only tabs are allowed."
     };
     let shown = visible(alloc, &[byte])?;
     let said = format!(in alloc; "The byte {shown} in column {column} {why}")?;
     Ok(Reason { said, at, len: 1 })
 }
 
-/// Which byte may not stand in its place.
+/// Which byte is not allowed where it is.
 fn byte_reason(alloc: Global, place: Place) -> Result<Option<Reason>, AllocError> {
     match bad_byte(alloc, place)? {
         Some((at, byte)) => Reason::given(column_reason(alloc, at, byte)),
@@ -91,7 +91,7 @@ fn unsupported_minor(alloc: Global, found: Found, minor: &[u8]) -> Result<Reason
     let behind = if found.is(b"RECALL") {
         " is not carried out: RECALL/D(name) selects a stored frame."
     } else {
-        " is not carried out: of coordinates only CART is."
+        " is not carried out: only CART coordinates are."
     };
     let major = found.word().between(alloc, "", "/")?;
     found.in_param(0, minor).reason(alloc, &major, behind)
@@ -101,8 +101,8 @@ fn unsupported_minor(alloc: Global, found: Found, minor: &[u8]) -> Result<Reason
 fn unsupported_major(alloc: Global, found: Found) -> Result<Reason, AllocError> {
     let (before, behind) = if found.is(b"DMISMN") {
         (
-            "A second ",
-            " stands here, and a program has one, its first statement.",
+            "This is a second ",
+            ", and a program has one, its first statement.",
         )
     } else {
         ("", " is not carried out.")
@@ -110,7 +110,7 @@ fn unsupported_major(alloc: Global, found: Found) -> Result<Reason, AllocError> 
     found.word().reason(alloc, before, behind)
 }
 
-/// Whether a minor word may stand behind the major word.
+/// Whether a minor word may follow the major word.
 fn has_minor(found: Found) -> bool {
     found.is(b"GOTO") || found.is(b"PTMEAS") || found.is(b"RECALL")
 }
@@ -123,7 +123,7 @@ fn unsupported(alloc: Global, found: Found) -> Result<Reason, AllocError> {
     }
 }
 
-/// The number of the leftmost numeral that does not read, among the parameters behind `CART`, and what it is to be.
+/// The number of the leftmost numeral that does not read, among the parameters after `CART`, and what it should be.
 fn leftmost(numerals: &[Text]) -> Option<(usize, Measure)> {
     let (lengths, components) = numerals.split_at(numerals.len().min(3));
     if let Some(index) = leftmost_length(lengths) {
@@ -133,7 +133,7 @@ fn leftmost(numerals: &[Text]) -> Option<(usize, Measure)> {
     Some((index + 3, Measure::Component))
 }
 
-/// Why a numeral does not read as what it is to be; none where it does.
+/// Why a numeral does not read as what it should be; none if it does.
 fn fault_of(numeral: &[u8], measure: Measure) -> Option<NumeralFault> {
     match measure {
         Measure::Length => length_fault(numeral),
@@ -141,7 +141,7 @@ fn fault_of(numeral: &[u8], measure: Measure) -> Option<NumeralFault> {
     }
 }
 
-/// That a parameter is empty where a numeral stands; `number` counts them from 1.
+/// That a parameter is empty where a numeral is expected; `number` counts parameters from 1.
 fn empty_reason(
     alloc: Global,
     found: Found,
@@ -151,11 +151,11 @@ fn empty_reason(
     let before = format!(in alloc; "Parameter {number} of ")?;
     let said = found
         .word()
-        .between(alloc, &before, " is empty, and a numeral stands there.")?;
+        .between(alloc, &before, " is empty, and a numeral is expected.")?;
     Ok(Reason::of_word(said, word))
 }
 
-/// Why the parameter of this number, counted from 0, is no numeral; none where it is one.
+/// Why the parameter of this number, counted from 0, is not a numeral; none if it is one.
 fn parameter_reason(
     alloc: Global,
     found: Found,
@@ -198,7 +198,7 @@ fn direction_reason(alloc: Global, i: Word, j: Word, k: Word) -> Result<Reason, 
     i.reason(alloc, "The direction ", &behind)
 }
 
-/// Why a direction is none.
+/// Why three components are not a direction.
 fn zero_vector(alloc: Global, found: Found) -> Result<Option<Reason>, AllocError> {
     let params: &[Text] = &found.statement.params;
     let [_, _, _, _, i, j, k] = params else {
@@ -212,25 +212,25 @@ fn zero_vector(alloc: Global, found: Found) -> Result<Option<Reason>, AllocError
     ))
 }
 
-/// Why a statement may not stand outside of a block.
+/// Why a statement may not be outside a block.
 fn outside_block(alloc: Global, found: Found) -> Result<Reason, AllocError> {
     let word = found.word();
     word.reason(
         alloc,
         "",
-        " stands outside of a measurement block: no MEAS above it is open.",
+        " is outside a measurement block: no MEAS above it is open.",
     )
 }
 
-/// That a statement may not stand inside of the block that begins at this line.
+/// That a statement may not be inside the block that begins at this line.
 fn inside_reason(alloc: Global, found: Found, line: u64) -> Result<Reason, AllocError> {
     let behind = format!(in alloc;
-        " stands inside of the measurement block that begins at line {line}: it has no ENDMES yet."
+        " is inside the measurement block that begins at line {line}: it has no ENDMES yet."
     )?;
     found.word().reason(alloc, "", &behind)
 }
 
-/// Why a statement may not stand inside of a block.
+/// Why a statement may not be inside a block.
 fn inside_block(alloc: Global, place: Place, found: Found) -> Result<Option<Reason>, AllocError> {
     match open_line(alloc, place)? {
         Some(line) => Reason::given(inside_reason(alloc, found, line)),
@@ -251,7 +251,7 @@ fn touches_sentence(alloc: Global, block: &Block) -> Result<String, AllocError> 
     format!(in alloc; "MEAS at line {line} names {wanted} touches, and its block has {touches}.")
 }
 
-/// How many touches a block lacks. Where it has none, automatic measuring is asked for.
+/// How many touches a block lacks. If it has none, the program asks for automatic measuring.
 fn too_few(alloc: Global, place: Place, found: Found) -> Result<Option<Reason>, AllocError> {
     let Some(block) = open_block(alloc, place)? else {
         return Ok(None);
@@ -264,7 +264,7 @@ fn too_few(alloc: Global, place: Place, found: Found) -> Result<Option<Reason>, 
 fn frame_reason(alloc: Global, name: Word) -> Result<Reason, AllocError> {
     let behind = name.between(
         alloc,
-        " is stored: --setup names no setup, or none with a line FRAME ",
+        " is stored: --setup is missing, or its file has no line FRAME ",
         ".",
     )?;
     name.reason(alloc, "No frame ", &behind)
@@ -281,7 +281,7 @@ fn unknown_frame(alloc: Global, found: Found) -> Result<Option<Reason>, AllocErr
     }
 }
 
-/// Why the first parameter is none of those that stand there, in a sentence that has it between these texts; none where there is none.
+/// Why the first parameter is not one of those allowed there, in a sentence that has it between these texts; none if there is none.
 fn first_reason(
     alloc: Global,
     found: Found,
@@ -334,7 +334,7 @@ fn too_large(alloc: Global, found: Found) -> Result<Reason, AllocError> {
     )
 }
 
-/// Why a statement is refused; none where no statement in this place is refused so.
+/// Why a statement is refused; none if no statement in this place is refused for this.
 fn statement_reason(
     alloc: Global,
     refusal: Refusal,
@@ -361,7 +361,7 @@ fn statement_reason(
     }
 }
 
-/// The same where no statement begins on the line that can be read.
+/// Likewise if no statement that can be read begins on the line.
 fn line_reason(
     alloc: Global,
     refusal: Refusal,
@@ -387,7 +387,7 @@ fn line_reason(
     }
 }
 
-/// Why a program is refused in this place; none where no text in this place is refused so.
+/// Why a program is refused in this place; none if no text in this place is refused for this.
 fn place_reason(
     alloc: Global,
     refusal: Refusal,
@@ -405,7 +405,7 @@ fn place_reason(
     }
 }
 
-/// Why a program is refused in this place. Where the text is none that is refused so, what the refusal means.
+/// Why a program is refused in this place. If the text is not one that is refused for this, what the refusal means.
 pub(crate) fn program_reason(
     alloc: Global,
     refusal: Refusal,

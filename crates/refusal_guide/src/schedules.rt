@@ -1,4 +1,4 @@
-// Why a line of a schedule asks for nothing, in a sentence. What a word asks for is told by the reader of schedules.
+// Why a line of a schedule is not an instruction, in a sentence. The reader of schedules decides what a word takes.
 
 use crate::lines::{Place, first_line};
 use crate::numerals::field_reason as numeral_reason;
@@ -9,7 +9,7 @@ use link_world::{Schedule, ScheduleFault};
 use std::alloc::{AllocError, Global};
 use tool_rack::fields::{cut_field, has_outer_space, is_word, three_fields};
 
-/// Whether a word with this field behind it asks for something.
+/// Whether a word followed by this field is an instruction.
 fn asks(alloc: Global, word: &[u8], field: &[u8]) -> Result<bool, AllocError> {
     let mut line = Vec::from_slice(alloc, word)?;
     line.extend_from_slice(b" ")?;
@@ -17,7 +17,7 @@ fn asks(alloc: Global, word: &[u8], field: &[u8]) -> Result<bool, AllocError> {
     is_read(alloc, &line)
 }
 
-/// Whether a line asks for something.
+/// Whether a line is an instruction.
 fn is_read(alloc: Global, line: &[u8]) -> Result<bool, AllocError> {
     match Schedule::read(alloc, line) {
         Ok(_) => Ok(true),
@@ -26,7 +26,7 @@ fn is_read(alloc: Global, line: &[u8]) -> Result<bool, AllocError> {
     }
 }
 
-/// What may stand behind a word; none where it is no word of a schedule.
+/// What may follow a word; none if it is not a word of a schedule.
 fn takes(alloc: Global, word: &[u8]) -> Result<Option<&'static str>, AllocError> {
     if asks(alloc, word, b"done")? {
         return Ok(Some("done, missed, fault, auto, or touched x y z"));
@@ -45,16 +45,14 @@ fn takes(alloc: Global, word: &[u8]) -> Result<Option<&'static str>, AllocError>
     })
 }
 
-/// That a touch has not three coordinates.
+/// That a touch does not have three coordinates.
 fn count_reason(alloc: Global, values: &[u8]) -> Result<Reason, AllocError> {
     let count = count_fields(values);
-    let said = format!(in alloc;
-        "machine touched takes 3 numerals, x, y and z, and {count} fields stand behind it."
-    )?;
+    let said = format!(in alloc; "machine touched takes 3 numerals, x, y and z, and has {count}.")?;
     Ok(Reason::of_line(said))
 }
 
-/// Why the coordinates of a touch do not read; none where they do.
+/// Why the coordinates of a touch do not read; none if they do.
 fn touched_reason(alloc: Global, line: &[u8], values: &[u8]) -> Result<Option<Reason>, AllocError> {
     match three_fields(values) {
         Some(fields) => {
@@ -64,13 +62,13 @@ fn touched_reason(alloc: Global, line: &[u8], values: &[u8]) -> Result<Option<Re
     }
 }
 
-/// What this word takes, in a sentence's end that begins so.
+/// The end of a sentence, from these words on, that says what this word takes.
 fn which_takes(alloc: Global, before: &str, word: Word, taken: &str) -> Result<String, AllocError> {
     let behind = format!(in alloc; ", which takes {taken}.")?;
     word.between(alloc, before, &behind)
 }
 
-/// That a field asks for nothing behind a word that takes this.
+/// That a field is not valid after a word that takes this.
 fn field_reason(
     alloc: Global,
     line: &[u8],
@@ -80,17 +78,17 @@ fn field_reason(
 ) -> Result<Reason, AllocError> {
     let field = Word::found(line, word.len(), field);
     let word = Word::found(line, 0, word);
-    let behind = which_takes(alloc, " asks for nothing behind ", word, taken)?;
+    let behind = which_takes(alloc, " is not valid after ", word, taken)?;
     field.reason(alloc, "", &behind)
 }
 
-/// That nothing stands behind a word that takes this.
+/// That nothing follows a word that takes this.
 fn nothing_reason(alloc: Global, word: Word, taken: &str) -> Result<Reason, AllocError> {
-    let said = which_takes(alloc, "Nothing stands behind ", word, taken)?;
+    let said = which_takes(alloc, "Nothing follows ", word, taken)?;
     Ok(Reason::of_word(said, word))
 }
 
-/// That a field stands behind those that are read, where one stands there.
+/// That a field follows those that are read, if one does.
 fn third_reason(alloc: Global, line: &[u8], rest: &[u8]) -> Result<Option<Reason>, AllocError> {
     let Some((third, _)) = cut_field(rest) else {
         return Ok(None);
@@ -100,7 +98,7 @@ fn third_reason(alloc: Global, line: &[u8], rest: &[u8]) -> Result<Option<Reason
     Reason::given(third.reason(alloc, "", " is one field too many."))
 }
 
-/// Why what stands behind a word asks for nothing, where the word takes this.
+/// Why what follows a word is not valid, if the word takes this.
 fn behind_word(
     alloc: Global,
     line: &[u8],
@@ -120,7 +118,7 @@ fn behind_word(
     third_reason(alloc, line, rest)
 }
 
-/// Why a line asks for nothing; none where it asks for something.
+/// Why a line is not an instruction; none if it is one.
 fn bad_line(alloc: Global, line: &[u8]) -> Result<Option<Reason>, AllocError> {
     if has_outer_space(line) {
         return Reason::given(space_reason(alloc, line));
@@ -132,10 +130,10 @@ fn bad_line(alloc: Global, line: &[u8]) -> Result<Option<Reason>, AllocError> {
         return behind_word(alloc, line, field, rest, taken);
     }
     let word = Word::found(line, 0, field);
-    Reason::given(word.reason(alloc, "", " is no word of a schedule."))
+    Reason::given(word.reason(alloc, "", " is not a word of a schedule."))
 }
 
-/// Why a line of a schedule asks for nothing. Where the text is none that is refused so, what the refusal means.
+/// Why a line of a schedule is not an instruction. If the text is not one that is refused for this, what the refusal means.
 pub(crate) fn schedule_reason(alloc: Global, place: Place) -> Result<Reason, AllocError> {
     let reason = bad_line(alloc, first_line(place.rest));
     Reason::or_topic(alloc, reason, Topic::ScheduleLine)

@@ -20,17 +20,17 @@ pub(crate) fn count_fields(bytes: &[u8]) -> usize {
     count
 }
 
-/// That a space stands at an end of the line.
+/// That there is a space at the start or end of the line.
 pub(crate) fn space_reason(alloc: Global, line: &[u8]) -> Result<Reason, AllocError> {
     let (place, at) = match line {
         [b' ', ..] => ("start", 0),
         _ => ("end", line.len().saturating_sub(1)),
     };
-    let said = format!(in alloc; "A space stands at the {place} of the line.")?;
+    let said = format!(in alloc; "There is a space at the {place} of the line.")?;
     Ok(Reason { said, at, len: 1 })
 }
 
-/// How many fields a line has behind its word, and how many it takes.
+/// How many fields a line has after its word, and how many it takes.
 fn count_reason(
     alloc: Global,
     word: Word,
@@ -39,11 +39,11 @@ fn count_reason(
 ) -> Result<Reason, AllocError> {
     let count = count_fields(values);
     let fields = if count == 1 { "field" } else { "fields" };
-    let behind = format!(in alloc; " has {count} {fields} behind it, and takes {wanted}.")?;
+    let behind = format!(in alloc; " has {count} {fields} after it, and takes {wanted}.")?;
     word.reason(alloc, "", &behind)
 }
 
-/// How many fields this word takes, where there are so many behind it; none where it takes so many.
+/// How many fields this word takes, if `count` follow it; none if it takes that many.
 fn wanted(word: &[u8], count: usize) -> Option<&'static str> {
     if is_word(b"SHIFT", word) {
         Some("3, dx, dy and dz")
@@ -56,7 +56,7 @@ fn wanted(word: &[u8], count: usize) -> Option<&'static str> {
     }
 }
 
-/// Why the fields behind the word of a line do not fit; none where they do.
+/// Why the fields after the word of a line do not fit; none if they do.
 fn values_reason(
     alloc: Global,
     line: &[u8],
@@ -77,7 +77,7 @@ fn is_known(word: &[u8]) -> bool {
     is_word(b"TOOL", word) || is_word(b"FRAME", word) || is_word(b"SHIFT", word)
 }
 
-/// Why a line is none of a setup; none where it is one.
+/// Why a line is not one of a setup; none if it is one.
 fn bad_line(alloc: Global, line: &[u8]) -> Result<Option<Reason>, AllocError> {
     if has_outer_space(line) {
         return Reason::given(space_reason(alloc, line));
@@ -92,18 +92,18 @@ fn bad_line(alloc: Global, line: &[u8]) -> Result<Option<Reason>, AllocError> {
     Reason::given(word.reason(
         alloc,
         "",
-        " is none of TOOL, FRAME and SHIFT, of which one begins a line, with spaces behind it.",
+        " is not TOOL, FRAME or SHIFT: a line begins with one of these and a space.",
     ))
 }
 
-/// What the name of a line is that a line above it may have: the word of both, and the name.
+/// The word and the name of a line, which a line above it may also have.
 fn named(line: &[u8]) -> Option<(&[u8], &[u8])> {
     let (word, values) = cut_field(line)?;
     let (name, _) = cut_field(values)?;
     Some((word, name))
 }
 
-/// The number of the first line that has this name behind this word.
+/// The number of the first line that has this name after this word.
 fn first_named(text: &[u8], word: &[u8], name: &[u8]) -> Option<u64> {
     let mut number = 0u64;
     let mut rest = text;
@@ -120,13 +120,13 @@ fn first_named(text: &[u8], word: &[u8], name: &[u8]) -> Option<u64> {
     None
 }
 
-/// That a name is there already, at this line.
+/// That a name is already defined at this line.
 fn twice_at(alloc: Global, before: &str, name: Word, number: u64) -> Result<Reason, AllocError> {
-    let behind = format!(in alloc; " is there already, at line {number}.")?;
+    let behind = format!(in alloc; " is already defined at line {number}.")?;
     name.reason(alloc, before, &behind)
 }
 
-/// Which name is given twice, and where it stood first.
+/// Which name is given twice, and where it was given first.
 fn twice(alloc: Global, place: Place) -> Result<Option<Reason>, AllocError> {
     let line = first_line(place.rest);
     let Some((word, name)) = named(line) else {
@@ -144,7 +144,7 @@ fn twice(alloc: Global, place: Place) -> Result<Option<Reason>, AllocError> {
     Reason::given(twice_at(alloc, before, name, first))
 }
 
-/// What of a line stands where its numerals stand.
+/// The part of a line where its numerals should be.
 fn numerals_of(line: &[u8]) -> Option<&[u8]> {
     let (word, values) = cut_field(line)?;
     match cut_field(values) {
@@ -171,13 +171,13 @@ fn bad_numeral(alloc: Global, line: &[u8]) -> Result<Option<Reason>, AllocError>
     }
 }
 
-/// Why a line of a setup is none. Where the text is none that is refused so, what the refusal means.
+/// Why a line is not one of a setup. If the text is not one that is refused for this, what the refusal means.
 pub(crate) fn setup_line_reason(alloc: Global, place: Place) -> Result<Reason, AllocError> {
     let reason = bad_line(alloc, first_line(place.rest));
     Reason::or_topic(alloc, reason, Topic::SetupLine)
 }
 
-/// Which name of a setup is given twice, and where it stood first.
+/// Which name of a setup is given twice, and where it was given first.
 pub(crate) fn setup_twice_reason(alloc: Global, place: Place) -> Result<Reason, AllocError> {
     Reason::or_topic(alloc, twice(alloc, place), Topic::SetupTwice)
 }

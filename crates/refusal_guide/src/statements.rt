@@ -1,4 +1,4 @@
-// The statement that is refused, and where its words stand.
+// The statement that is refused, and where its words are.
 
 ghost use Rattle.std.specs.Prelude.{◌≡◌, ◌∷◌, IfOk, IfSome};
 
@@ -36,7 +36,7 @@ pub(crate) fn first_statement(
     next_statement(&mut Statements::new(alloc, text))
 }
 
-/// The place behind these bytes, which stand from this place on.
+/// The place after these bytes, which are searched for from this place on.
 fn behind(text: &[u8], from: Option<usize>, wanted: &[u8]) -> Option<usize> {
     let at = place_from(text, from?, wanted)?;
     Some(at + wanted.len())
@@ -49,7 +49,7 @@ impl<'s, 'a> Found<'s, 'a> {
         major == word
     }
 
-    /// The place behind the label; the start where there is none.
+    /// The place after the label; the start if there is none.
     fn behind_label(&self) -> Option<usize> {
         match &self.statement.label {
             Some(label) => behind(self.rest, Some(0), label),
@@ -57,7 +57,7 @@ impl<'s, 'a> Found<'s, 'a> {
         }
     }
 
-    /// The place behind so many parameters.
+    /// The place after the first `count` parameters.
     fn behind_params(&self, count: usize) -> Option<usize> {
         let mut place = behind(self.rest, self.behind_label(), &self.statement.word);
         for param in self.statement.params.iter().take(count) {
@@ -66,7 +66,7 @@ impl<'s, 'a> Found<'s, 'a> {
         place
     }
 
-    /// These bytes as they stand from this place on.
+    /// The word of these bytes, searched for from this place on.
     fn word_from(&self, place: Option<usize>, wanted: &'s [u8]) -> Word<'s> {
         match place {
             Some(place) => Word::found(self.rest, place, wanted),

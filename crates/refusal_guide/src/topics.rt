@@ -5,16 +5,16 @@ ghost use Rattle.std.specs.List.{prefix_len};
 ghost use Rattle.refusal_guide.specs.declared.topics.TheConstants.{TOPICS};
 ghost use Rattle.refusal_guide.specs.Titles.{title_of, is_of_code, code_in, is_called};
 
-/// What `dme` refuses by a code, or its server answers by a number.
+/// What `dme` refuses by a code, or its server reports by a number.
 #[derive(Clone, Copy, Debug, PartialEq, Eq)]
 pub enum Topic {
-    /// The first statement of a program is no `DMISMN`.
+    /// The first statement of a program is not `DMISMN`.
     NotDmis,
     /// A program without an `ENDFIL`.
     Truncated,
     /// A line of more than 4,096 bytes.
     LineTooLong,
-    /// A byte that may not stand where it stands.
+    /// A byte that is not allowed where it is.
     BadByte,
     /// A statement that is not carried out.
     Unsupported,
@@ -22,47 +22,53 @@ pub enum Topic {
     BadArguments,
     /// A numeral of a program that is refused.
     BadNumeral,
-    /// A statement that belongs into a measurement block.
+    /// A statement that belongs in a measurement block.
     OutsideBlock,
-    /// A statement that cannot stand in a measurement block.
+    /// A statement that may not be in a measurement block.
     InsideBlock,
     /// A measurement block with fewer touches than it names.
     TooFewPoints,
     /// A frame that the setup does not have.
     UnknownFrame,
-    /// Another unit than the millimetre.
+    /// A unit other than the millimetre.
     NotMillimetres,
     /// A mode without `PROG`.
     NoProgMode,
-    /// A direction of no length.
+    /// A direction of length zero.
     ZeroVector,
     /// A touch before any tool was selected.
     NoTool,
     /// A program of more than 10,000 statements.
     TooLarge,
-    /// What is no numeral.
+    /// A text that is not a numeral.
     NotNumeral,
     /// A numeral of more than 30 digits.
     TooManyDigits,
     /// A numeral past its limit.
     NumeralTooLarge,
-    /// A line of a setup that says nothing.
+    /// A line that is not one of a setup.
     SetupLine,
     /// A tool or a frame of a setup for the second time.
     SetupTwice,
     /// A numeral of a setup that is refused.
     SetupNumeral,
-    /// A line of a schedule that asks for nothing.
+    /// A line of a schedule that is not an instruction.
     ScheduleLine,
-    /// A line of a features or contacts file that cannot stand in its place.
+    /// A line of a features or contacts file that is unexpected.
     Damaged,
     /// Features that are not the first ones of the program.
     NotOurs,
+    /// A line of a record that is unexpected.
+    RecordDamaged,
+    /// A record of another part.
+    OtherPart,
+    /// A record of another program.
+    OtherProgram,
     /// The server's error for a line without a tag.
     NoTag,
-    /// The server's error for a tag under which a command runs or waits.
+    /// The server's error for a tag under which a command is running or waiting.
     TagInUse,
-    /// The server's error for a name of no command.
+    /// The server's error for a name that is not a command.
     UnknownCommand,
     /// The server's error for arguments that do not read.
     BadCommand,
@@ -90,7 +96,7 @@ pub enum Topic {
     MachineFault,
 }
 
-const TOPICS: [Topic; 40] = [
+const TOPICS: [Topic; 43] = [
     Topic::NotDmis,
     Topic::Truncated,
     Topic::LineTooLong,
@@ -116,6 +122,9 @@ const TOPICS: [Topic; 40] = [
     Topic::ScheduleLine,
     Topic::Damaged,
     Topic::NotOurs,
+    Topic::RecordDamaged,
+    Topic::OtherPart,
+    Topic::OtherProgram,
     Topic::NoTag,
     Topic::TagInUse,
     Topic::UnknownCommand,
@@ -195,6 +204,9 @@ impl Topic {
             Topic::ScheduleLine => "H1 BadLine",
             Topic::Damaged => "K1 Damaged",
             Topic::NotOurs => "C4 NotOurs",
+            Topic::RecordDamaged => "J1 Damaged",
+            Topic::OtherPart => "J2 OtherPart",
+            Topic::OtherProgram => "J3 OtherProgram",
             Topic::NoTag => "9001 No tag",
             Topic::TagInUse => "9002 Tag in use",
             Topic::UnknownCommand => "9003 Unknown command",
@@ -213,7 +225,7 @@ impl Topic {
         }
     }
 
-    /// The topic of a code, its letters in any case; none where no title begins with it.
+    /// The topic of a code, its letters in any case; none if no title begins with it.
     pub fn of_code(code: &[u8]) -> Option<Topic>
         ensures { MatchOption result
             ((topic : Topic) → is_called (title_of topic) code.now ≡ true → ⊥)

@@ -9,7 +9,7 @@ use std::alloc::{AllocError, Global};
 /// The most bytes of a word that a sentence shows (this profile).
 const MOST_OF_WORD: usize = 100;
 
-/// A word that a sentence names, and where it stands in the bytes from its line on; at no place where it is not found there in one piece.
+/// A word that a sentence names, and its place in the bytes from its line on; no place if it is not found there in one piece.
 #[derive(Clone, Copy)]
 pub(crate) struct Word<'a> {
     pub(crate) bytes: &'a [u8],
@@ -17,8 +17,8 @@ pub(crate) struct Word<'a> {
 }
 
 impl<'a> Word<'a> {
-    /// The word of these bytes in a text, its letters in any case: the first from this place on, as it stands there. Where it does not
-    /// stand there, it is the bytes themselves.
+    /// The word of these bytes in a text, its letters in any case: the first from this place on, as it is written there. If it is not
+    /// found, it is the bytes themselves.
     pub(crate) fn found(text: &'a [u8], from: usize, wanted: &'a [u8]) -> Word<'a>
         ensures { IfSome result.at (λ at. result.bytes.now
             ≡ take (length wanted.now) (drop at text.now)) }
@@ -75,7 +75,7 @@ impl<'a> Word<'a> {
     }
 }
 
-/// The first place from this one on at which these bytes stand, letters in any case.
+/// The first place from this one on at which these bytes are found, letters in any case.
 pub(crate) fn place_from(text: &[u8], from: usize, wanted: &[u8]) -> Option<usize>
     ensures { IfSome result (λ at. at + length wanted.now ≤ length text.now) }
 {
@@ -124,7 +124,7 @@ impl Reason {
         Reason::of_text(alloc, topic.meaning())
     }
 
-    /// This reason, or what the refusal of a topic means where there is none.
+    /// This reason, or what the refusal of a topic means if there is none.
     pub(crate) fn or_topic(
         alloc: Global,
         reason: Result<Option<Reason>, AllocError>,
@@ -136,7 +136,7 @@ impl Reason {
         }
     }
 
-    /// A reason, where there always is one.
+    /// A reason that always exists.
     pub(crate) fn given(reason: Result<Reason, AllocError>) -> Result<Option<Reason>, AllocError> {
         Ok(Some(reason?))
     }

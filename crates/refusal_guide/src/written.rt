@@ -8,7 +8,7 @@ ghost use Rattle.refusal_guide.specs.Titles.{title_of};
 use crate::topics::Topic;
 use std::alloc::{AllocError, Global};
 
-/// What there is to say of a refusal.
+/// What a refusal means, as it is explained.
 #[derive(Clone, Copy, Debug, PartialEq, Eq)]
 pub struct Page {
     /// Its code and its name.
@@ -35,7 +35,7 @@ impl Topic {
     }
 }
 
-/// The text of a page. Only want of memory is an `Err`.
+/// The text of a page. Fails only if out of memory.
 fn page_text(alloc: Global, page: &Page) -> Result<String, AllocError>
     ensures { IfOk result (λ text. string_bytes text ≡ page_text page.now) }
 {
@@ -46,8 +46,8 @@ fn page_text(alloc: Global, page: &Page) -> Result<String, AllocError>
     format!(in alloc; "{title}\nMeaning: {meaning}\nRemedy: {remedy}\nExample: {example}\n")
 }
 
-/// Appends a page, four lines: its title, what it means, what to do about it, and a line as it should be. Only want of memory is an `Err`,
-/// and then nothing is appended.
+/// Appends a page, four lines: its title, what it means, what to do about it, and a line as it should be. Fails only if out of memory, and
+/// then nothing is appended.
 pub fn write_page(out: &mut Vec<u8>, page: &Page) -> Result<(), AllocError>
     ensures { Writes result out.old out.new (page_text page.now) }
 {

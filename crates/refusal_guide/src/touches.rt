@@ -1,0 +1,154 @@
+// In what two touches differ.
+
+use crate::lines::visible;
+use contact_ledger::Act;
+use contact_ledger::fields::{add_direction, add_frame, add_point};
+use dmis_program::Touch;
+use fixed_um::{Dir, Frame, Name, Point};
+use std::alloc::{AllocError, Global};
+
+/// What a touch asks for.
+#[derive(Clone, Copy)]
+pub(crate) struct Request<'a> {
+    target: Point,
+    dir: Option<Dir>,
+    tool: &'a Name,
+    frame: Frame,
+}
+
+/// In what two touches differ, and how each has it, in the form of a file.
+#[derive(Drop)]
+pub(crate) struct Difference {
+    pub(crate) what: &'static str,
+    pub(crate) one: String,
+    pub(crate) other: String,
+}
+
+/// Fields as a sentence shows them: without the space before them.
+fn shown_fields(alloc: Global, fields: &[u8]) -> Result<String, AllocError> {
+    match fields {
+        [b' ', value @ ..] => visible(alloc, value),
+        _ => visible(alloc, fields),
+    }
+}
+
+/// A point in the form of a file.
+fn point_text(alloc: Global, point: Point) -> Result<String, AllocError> {
+    let mut text = Vec::new(alloc);
+    add_point(&mut text, point)?;
+    shown_fields(alloc, text.as_slice())
+}
+
+/// A direction, or its absence, in the form of a file.
+fn direction_text(alloc: Global, dir: Option<Dir>) -> Result<String, AllocError> {
+    let mut text = Vec::new(alloc);
+    add_direction(&mut text, dir)?;
+    shown_fields(alloc, text.as_slice())
+}
+
+/// A frame in the form of a file.
+fn frame_text(alloc: Global, frame: Frame) -> Result<String, AllocError> {
+    let mut text = Vec::new(alloc);
+    add_frame(&mut text, frame)?;
+    shown_fields(alloc, text.as_slice())
+}
+
+/// That two targets differ.
+fn points(alloc: Global, one: Point, other: Point) -> Result<Option<Difference>, AllocError> {
+    let one = point_text(alloc, one)?;
+    let other = point_text(alloc, other)?;
+    Ok(Some(Difference {
+        what: "target",
+        one,
+        other,
+    }))
+}
+
+/// That two directions differ.
+fn directions(
+    alloc: Global,
+    one: Option<Dir>,
+    other: Option<Dir>,
+) -> Result<Option<Difference>, AllocError> {
+    let one = direction_text(alloc, one)?;
+    let other = direction_text(alloc, other)?;
+    Ok(Some(Difference {
+        what: "direction",
+        one,
+        other,
+    }))
+}
+
+/// That two tools differ.
+fn tools(alloc: Global, one: &Name, other: &Name) -> Result<Option<Difference>, AllocError> {
+    let one = visible(alloc, one.as_bytes())?;
+    let other = visible(alloc, other.as_bytes())?;
+    Ok(Some(Difference {
+        what: "tool",
+        one,
+        other,
+    }))
+}
+
+/// That two frames differ.
+fn frames(alloc: Global, one: Frame, other: Frame) -> Result<Option<Difference>, AllocError> {
+    let one = frame_text(alloc, one)?;
+    let other = frame_text(alloc, other)?;
+    Ok(Some(Difference {
+        what: "frame",
+        one,
+        other,
+    }))
+}
+
+impl<'a> Request<'a> {
+    /// What a program's touch asks for.
+    pub(crate) fn of_touch(touch: &'a Touch) -> Request<'a> {
+        Request {
+            target: touch.target,
+            dir: touch.dir,
+            tool: &touch.tool,
+            frame: touch.frame,
+        }
+    }
+
+    /// What a contact was asked for; none for another act.
+    pub(crate) fn of_contact(act: &'a Act) -> Option<Request<'a>> {
+        match act {
+            Act::Contact {
+                target,
+                dir,
+                tool,
+                frame,
+                point: _,
+            } => Some(Request {
+                target: *target,
+                dir: *dir,
+                tool,
+                frame: *frame,
+            }),
+            _ => None,
+        }
+    }
+
+    /// The first in which two touches differ, of target, direction, tool and frame; none if they are the same.
+    pub(crate) fn difference(
+        &self,
+        alloc: Global,
+        other: &Request,
+    ) -> Result<Option<Difference>, AllocError> {
+        if self.target != other.target {
+            return points(alloc, self.target, other.target);
+        }
+        if self.dir != other.dir {
+            return directions(alloc, self.dir, other.dir);
+        }
+        if self.tool.as_bytes() != other.tool.as_bytes() {
+            return tools(alloc, self.tool, other.tool);
+        }
+        if self.frame != other.frame {
+            return frames(alloc, self.frame, other.frame);
+        }
+        Ok(None)
+    }
+}
