@@ -1,4 +1,4 @@
--- Choices of starts: a front of one, and one feature more.
+-- Choices of starts: a prefix of one, and one more feature.
 use Rattle.std.proofs.Common.{◌≡◌, ℕ, zero, suc, ◌+◌, ◌<◌, ◌≤◌, List, [], ◌∷◌, ◌++◌, length, take, get_or, refl, ap, subst, arith}
 use Rattle.contact_ledger.specs.declared.acts.Act.{Act}
 use Rattle.contact_ledger.specs.declared.features.Feature.{Feature}
@@ -6,7 +6,7 @@ use Rattle.dmis_program.specs.declared.features.Wanted.{Wanted}
 use Rattle.protocol_model.specs.Claims.{MadeContact, contacts, IsRun, AreRuns, Sound}
 use Rattle.ledger_audit.specs.Verdicts.{AreAtMost}
 
--- where the last of runs with these starts ends, or what is asked of the first, where there are none
+-- the end of the last of the runs with these starts, or the least start allowed for the first without one
 abbrev pub last_end : ℕ → List Feature → List ℕ → ℕ
 last_end least [] starts = least
 last_end least (f ∷ fs) [] = least
@@ -22,11 +22,11 @@ runs_take (suc k) [] (f ∷ fs) starts least made h = absurd h
 runs_take (suc k) (w ∷ ws) (f ∷ fs) [] least made h = absurd h
 runs_take (suc k) (w ∷ ws) (f ∷ fs) (s ∷ starts) least made h = (h.0, h.1, runs_take k ws fs starts (s + length f.points) made h.2)
 
--- features that are true of a ledger have true first ones
+-- the first of the features that are true of a ledger are true of it
 pub sound_take : (k : ℕ) (ws : List Wanted) (fs : List Feature) (l : List (ℕ × Act)) → Sound ws fs l → Sound ws (take k fs) l
 sound_take k ws fs l h = record { starts = take k h.starts; runs = runs_take k ws fs h.starts 0 (contacts l) h.runs }
 
--- one feature more, with a run behind the last
+-- one more feature, with a run after the last
 pub runs_push : (ws : List Wanted) (fs : List Feature) (starts : List ℕ) (least : ℕ) (made : List MadeContact) (w : Wanted) (f : Feature)
     (s : ℕ)
     → AreRuns ws fs starts least made → length fs < length ws → w ≡ get_or ws (length fs) w → last_end least fs starts ≤ s
@@ -60,7 +60,7 @@ pub record AreWithLast (ws : List Wanted) (fs : List Feature) (f : Feature) (sta
   pub from : last_end least fs front ≤ last
   pub run : IsRun wanted f last made
 
--- starts of one feature more are those of the features before it, and one behind their runs
+-- starts of one more feature are those of the features before it, and one after their runs
 pub runs_split : (ws : List Wanted) (fs : List Feature) (f : Feature) (starts : List ℕ) (least : ℕ) (made : List MadeContact)
     → AreRuns ws (fs ++ f ∷ []) starts least made → AreWithLast ws fs f starts least made
 runs_split [] [] f starts least made h = absurd h

@@ -9,7 +9,7 @@ use Rattle.protocol_model.specs.Claims.{MadeContact, contacts, IsRun, AreRuns, S
 use Rattle.ledger_audit.specs.Verdicts.{AreAtMost, IsFirstRun, HasNoRun, AreFewestUnsound}
 use Rattle.ledger_audit.proofs.ChoiceLaws.{last_end, sound_take, runs_push, end_push, AreWithLast, runs_split, at_most_push}
 
--- starts that are a choice, none of which is above that of any other choice; nor do their runs end behind those of another
+-- starts that are a choice, each at most the start in its place of any other choice; their runs end no later than those of another
 pub record AreEarliest (ws : List Wanted) (fs : List Feature) (made : List MadeContact) (starts : List ℕ) (over : ℕ) : Type 0 where
   pub runs : AreRuns ws fs starts 0 made
   pub over_is : over ≡ last_end 0 fs starts
@@ -34,7 +34,7 @@ split_run : (ws : List Wanted) (fs : List Feature) (f : Feature) (starts : List 
 split_run ws fs f starts made w h e =
     subst (λ (x : Wanted). IsRun x f h.last made) (get_same ws (length fs) h.wanted w h.held h.wanted_is e) h.run
 
--- the first run behind the earliest ones is the earliest of one feature more
+-- the first run after the earliest ones is the earliest of one more feature
 pub earliest_push : (ws : List Wanted) (fs : List Feature) (made : List MadeContact) (starts : List ℕ) (over : ℕ) (w : Wanted) (f : Feature)
     (s : ℕ) → AreEarliest ws fs made starts over → length fs < length ws → w ≡ get_or ws (length fs) w → IsFirstRun w f over made s
     → AreEarliest ws (fs ++ f ∷ []) made (starts ++ s ∷ []) (s + length f.points)
@@ -58,7 +58,7 @@ earliest_push ws fs made starts over w f s h lt e first = record {
         = (at_most_push starts g.front s g.last before.0 le, omega arith) in
         subst (λ (l : List ℕ). AreAtMost (starts ++ s ∷ []) l × (s + length f.points ≤ last_end 0 (fs ++ f ∷ []) l)) (sym g.whole) one
 
--- where the next feature has no run behind the earliest ones, there is no choice
+-- if the next feature has no run after the earliest ones, there is no choice
 pub earliest_stuck : (ws : List Wanted) (fs : List Feature) (made : List MadeContact) (starts : List ℕ) (over : ℕ) (w : Wanted)
     (f : Feature)
     → AreEarliest ws fs made starts over → w ≡ get_or ws (length fs) w → HasNoRun w f over made
@@ -68,13 +68,13 @@ earliest_stuck ws fs made starts over w f h e none others g = at (runs_split ws 
     at : AreWithLast ws fs f others 0 made → ⊥
     at k = let before = h.least k.front k.runs in none k.last (omega (arith, before.1, k.from)) (split_run ws fs f others made w k e)
 
--- where no further feature is wanted, there is no choice
+-- if no further feature is wanted, there is no choice
 pub wanted_spent : (ws : List Wanted) (fs : List Feature) (made : List MadeContact) (f : Feature) → length ws ≤ length fs
     → (others : List ℕ) → AreRuns ws (fs ++ f ∷ []) others 0 made → ⊥
 wanted_spent ws fs made f le others g = let k = runs_split ws fs f others 0 made g in
     let held : length fs < length ws = k.held in absurd (omega arith)
 
--- where the first features have a choice, and with one more they have none, these are the fewest that are not sound
+-- if the first features have a choice, and with one more they have none, these are the fewest that are not sound
 pub fewest_by : (ws : List Wanted) (fs : List Feature) (l : List (ℕ × Act)) (k : ℕ) (starts : List ℕ)
     → AreRuns ws (take k fs) starts 0 (contacts l) → k < length fs
     → ((others : List ℕ) → AreRuns ws (take (k + 1) fs) others 0 (contacts l) → ⊥) → AreFewestUnsound ws fs l (k + 1)
@@ -98,7 +98,7 @@ all_unsound ws fs l k h sound = h.unsound (sound_take k ws fs l sound)
 one_more : (fs : List Feature) (k : ℕ) (f : Feature) → k < length fs → f ≡ get_or fs k f → take (k + 1) fs ≡ take k fs ++ f ∷ []
 one_more fs k f lt e = take_more fs k f lt ∙ ap (λ (g : Feature). take k fs ++ g ∷ []) (sym e)
 
--- the earliest starts of the features passed, and the first run behind them
+-- the earliest starts of the features passed, and the first run after them
 pub passed_push : (ws : List Wanted) (fs : List Feature) (made : List MadeContact) (starts : List ℕ) (over k : ℕ) (w : Wanted) (f : Feature)
     (s : ℕ) → AreEarliest ws (take k fs) made starts over → IsFirstRun w f over made s → k < length fs → f ≡ get_or fs k f
     → k < length ws → w ≡ get_or ws k w
@@ -108,7 +108,7 @@ passed_push ws fs made starts over k w f s h first lt e held d =
     subst (λ (gs : List Feature). AreEarliest ws gs made (starts ++ s ∷ []) (s + length f.points)) (sym (one_more fs k f lt e))
     (earliest_push ws (take k fs) made starts over w f s h (omega arith) (subst (λ (i : ℕ). w ≡ get_or ws i w) (sym long) d) first)
 
--- where the next feature has no run behind them
+-- if the next feature has no run after them
 pub passed_stuck : (ws : List Wanted) (fs : List Feature) (l : List (ℕ × Act)) (made : List MadeContact) (starts : List ℕ) (over k : ℕ)
     (w : Wanted) (f : Feature) → AreEarliest ws (take k fs) made starts over → HasNoRun w f over made → made ≡ contacts l → k < length fs
     → f ≡ get_or fs k f → w ≡ get_or ws k w → AreFewestUnsound ws fs l (k + 1)
@@ -119,7 +119,7 @@ passed_stuck ws fs l made starts over k w f h none is lt e d =
     (λ others g. stuck others (subst (λ (ms : List MadeContact). AreRuns ws (take k fs ++ f ∷ []) others 0 ms) (sym is)
     (subst (λ (gs : List Feature). AreRuns ws gs others 0 (contacts l)) (one_more fs k f lt e) g)))
 
--- where all wanted features are passed
+-- if all wanted features are passed
 pub passed_spent : (ws : List Wanted) (fs : List Feature) (l : List (ℕ × Act)) (made : List MadeContact) (starts : List ℕ) (over k : ℕ)
     (f : Feature) → AreEarliest ws (take k fs) made starts over → made ≡ contacts l → k < length fs → f ≡ get_or fs k f → length ws ≤ k
     → AreFewestUnsound ws fs l (k + 1)

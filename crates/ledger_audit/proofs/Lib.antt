@@ -1,4 +1,6 @@
 pub mod RunLaws
+pub mod ShiftLaws
+pub mod SearchLaws
 pub mod ChoiceLaws
 pub mod Greedy
 pub mod OneVerdict

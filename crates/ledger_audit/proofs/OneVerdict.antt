@@ -15,7 +15,7 @@ at_most_same (s ∷ starts) (o ∷ others) h g =
     let head : s ≡ o = omega (arith, h.0, g.0) in
     let tail : starts ≡ others = at_most_same starts others h.1 g.1 in cc
 
--- the fewest features that are not sound are so many
+-- the count of the fewest features that are not sound is unique
 pub fewest_same : (ws : List Wanted) (fs : List Feature) (l : List (ℕ × Act)) (j k : ℕ) → AreFewestUnsound ws fs l j
     → AreFewestUnsound ws fs l k → j ≡ k
 fewest_same ws fs l j k h g = at (cases_lt j k) (cases_lt k j)

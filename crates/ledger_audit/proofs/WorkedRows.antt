@@ -1,4 +1,4 @@
--- What the worked rows show.
+-- What the examples show.
 use Rattle.std.proofs.Common.{ℕ, zero, suc, ◌<◌, ◌≤◌, List, [], ◌∷◌, codes, take, refl, arith}
 use Rattle.fixed_um.specs.declared.lengths.Point.{Point}
 use Rattle.contact_ledger.specs.declared.features.Feature.{Feature}

@@ -1,4 +1,4 @@
--- Worked rows of what a verdict says (this profile).
+-- Examples of what a verdict says (this profile).
 -- No theorem cites these definitions: they show what a verdict allows, and what it refuses.
 use Rattle.std.specs.Prelude.{ℕ, List, [], ◌∷◌, codes}
 use Rattle.contact_ledger.specs.declared.acts.Act.{Act}
@@ -13,6 +13,6 @@ made_twice = first_contact ∷ second_contact ∷ first_contact ∷ second_conta
 abbrev pub once : List Feature
 once = measured_as (codes "A") ∷ []
 
--- the same, and a feature that the program does not have
+-- feature A, and a feature that the program does not have
 abbrev pub once_more : List Feature
 once_more = measured_as (codes "A") ∷ measured_as (codes "B") ∷ []

@@ -1,4 +1,4 @@
--- What an audit's verdict says of features and a ledger (this profile).
+-- What an audit's verdict specifies about features and a ledger (this profile).
 use Rattle.std.specs.Prelude.{ℕ, ◌<◌, ◌≤◌, List, [], ◌∷◌, length, take}
 use Rattle.contact_ledger.specs.declared.acts.Act.{Act}
 use Rattle.contact_ledger.specs.declared.features.Feature.{Feature}
@@ -17,29 +17,29 @@ AreAtMost _ _ = ⊥
 abbrev pub AreLeast : List Wanted → List Feature → List MadeContact → List ℕ → Type 0
 AreLeast wanted features made starts = (others : List ℕ) → AreRuns wanted features others 0 made → AreAtMost starts others
 
--- so many of the features are the fewest that have no runs together
+-- this count of the first features is the least that has no runs together
 pub record AreFewestUnsound (wanted : List Wanted) (features : List Feature) (ledger : List (ℕ × Act)) (count : ℕ) : Type 0 where
   pub some : 1 ≤ count
   pub held : count ≤ length features
   pub before : (fewer : ℕ) → fewer < count → Sound wanted (take fewer features) ledger
   pub unsound : Sound wanted (take count features) ledger → ⊥
 
--- what holds of the starts, where a verdict tells them
+-- what holds of the starts, if a verdict reports them
 abbrev pub IfStarts : Verdict → (List ℕ → Type 0) → Type 0
 IfStarts (verdict.Starts starts) Holds = Holds starts
 IfStarts (verdict.NoRun count) Holds = Unit {0}
 
--- what holds of the count of features, where a verdict tells that so many have no runs
+-- what holds of the count of features, if a verdict reports that this many have no runs
 abbrev pub IfNoRun : Verdict → (ℕ → Type 0) → Type 0
 IfNoRun (verdict.Starts starts) Holds = Unit {0}
 IfNoRun (verdict.NoRun count) Holds = Holds count
 
--- a verdict tells starts
+-- a verdict reports starts
 abbrev pub TellsStarts : Verdict → Type 0
 TellsStarts (verdict.Starts starts) = Unit {0}
 TellsStarts (verdict.NoRun count) = ⊥
 
--- a verdict tells that some features have no runs
+-- a verdict reports that some features have no runs
 abbrev pub TellsNoRun : Verdict → Type 0
 TellsNoRun (verdict.Starts starts) = ⊥
 TellsNoRun (verdict.NoRun count) = Unit {0}

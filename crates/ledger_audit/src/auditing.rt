@@ -11,13 +11,13 @@ use contact_ledger::{Feature, ServerLedger};
 use dmis_program::Program;
 use std::alloc::{AllocError, Global};
 
-/// Whether features are the first ones of a program, each measured by an unbroken run of a server's contacts on one connection, none of
-/// which begins before the one before it has ended. A run's contacts have the targets, directions, tools and frames of the feature's
-/// touches in the program, and reported its points. Where a feature comes from is not looked at.
+/// Whether features are the first ones of a program, each measured by an unbroken run of a server's contacts on one connection. No run
+/// begins before the previous one has ended. A run's contacts have the targets, directions, tools and frames of the feature's touches in
+/// the program, and reported its points. The origin of a feature is not considered.
 ///
-/// The starts are those of the runs, each the least that it can be, where every feature has its run. Otherwise the count of the first
-/// features that have none together, the fewest of which this is so; a feature that the program does not have has no run. Only want of
-/// memory is an `Err`.
+/// If every feature has its run, reports the starts of the runs, each the least possible. Otherwise reports the least count of first
+/// features that have no runs together; a feature that the program does not have has no run. The time is linear in the sum of contacts and
+/// touches. Fails only if out of memory.
 pub fn audit(
     alloc: Global,
     program: &Program,
@@ -43,7 +43,7 @@ pub fn audit(
         if index >= wanted.len() {
             return Ok(Verdict::NoRun(index + 1));
         }
-        let Some(start) = first_run(&wanted[index], feature, &contacts, least) else {
+        let Some(start) = first_run(alloc, &wanted[index], feature, &contacts, least)? else {
             return Ok(Verdict::NoRun(index + 1));
         };
         starts.push(start as u64)?;

@@ -2,7 +2,9 @@
 
 ghost use Rattle.std.specs.Prelude.{◌≡◌, IfOk};
 ghost use Rattle.protocol_model.specs.Claims.{contacts};
+ghost use Rattle.ledger_audit.specs.Shifts.{shown};
 
+use crate::probings::Probing;
 use contact_ledger::Act;
 use fixed_um::{Dir, Frame, Name, Point};
 use std::alloc::{AllocError, Global};
@@ -35,7 +37,29 @@ impl<'l> Model for Contact<'l> {
     } };
 }
 
-/// The contacts of a ledger, in order. Only want of memory is an `Err`.
+impl<'l> Contact<'l> {
+    /// On which connection it was made.
+    pub(crate) fn connection(&self) -> u64
+        ensures { result ≡ self.now.connection }
+    {
+        self.connection
+    }
+
+    /// What the contact shows: all but its connection.
+    pub(crate) fn probing(&self) -> Probing<'l>
+        ensures { result ≡ shown self.now }
+    {
+        Probing {
+            target: self.target,
+            dir: self.dir,
+            tool: self.tool,
+            frame: self.frame,
+            point: self.point,
+        }
+    }
+}
+
+/// The contacts of a ledger, in order. Fails only if out of memory.
 pub(crate) fn contacts_of<'l>(
     alloc: Global,
     acts: &'l [(u64, Act)],

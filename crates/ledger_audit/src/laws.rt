@@ -1,4 +1,4 @@
-// What follows from the definitions alone. Each function has laws for its contract and does nothing.
+// What follows from the definitions alone. The contract of each function states laws; its body does nothing.
 ghost use Rattle.std.specs.Prelude.{◌≡◌, ℕ, List};
 ghost use Rattle.contact_ledger.specs.declared.acts.Act.{Act};
 ghost use Rattle.contact_ledger.specs.declared.features.Feature.{Feature};
@@ -6,7 +6,7 @@ ghost use Rattle.dmis_program.specs.declared.features.Wanted.{Wanted};
 ghost use Rattle.protocol_model.specs.Claims.{MadeContact, AreRuns};
 ghost use Rattle.ledger_audit.specs.Verdicts.{AreLeast, AreFewestUnsound};
 
-/// There is one verdict: starts none of which can be less are the only ones, and so is the count of the fewest features that have none.
+/// There is one verdict: starts none of which can be less are unique, and so is the least count of features that have no runs.
 pub fn there_is_one_verdict()
     ensures starts { (wanted : List Wanted) (features : List Feature) (made : List MadeContact)
         (some others : List ℕ) → AreRuns wanted features some 0 made

@@ -1,21 +1,24 @@
-//! The audit of a client's features against the contacts of a server: that each feature stands in the server's ledger as one unbroken run.
+//! The audit of a client's features against the contacts of a server: whether each feature is one unbroken run in the server's ledger.
 //!
-//! - `contacts`: the contacts of a ledger, beside the numbers of their connections
-//! - `runs`: where a feature begins among them
+//! - `contacts`: the contacts of a ledger, with the numbers of their connections
+//! - `probings`: what a contact that serves a touch has in common with it
+//! - `shifts`: how far a search moves when a contact does not fit
+//! - `runs`: where the first run of a feature begins
 //! - `verdicts`: the verdict, and the numbers at which the runs begin
 //! - `auditing`: the audit
 //! - `laws`: that there is one verdict
-//! - `rows`: worked rows of what a verdict says
+//! - `rows`: examples of what a verdict says
 //!
-//! That features are true of a ledger is said by `Sound` of the protocol's definitions, and in which words a verdict says so by
-//! specs/Verdicts.antt.
+//! `Sound` of the protocol's definitions specifies when features are true of a ledger. specs/Verdicts.antt specifies what a verdict says.
 #![tactic(auto)]
 
 mod auditing;
 mod contacts;
 pub mod laws;
+mod probings;
 pub mod rows;
 mod runs;
+mod shifts;
 mod verdicts;
 
 pub use auditing::audit;

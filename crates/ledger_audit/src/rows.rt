@@ -1,4 +1,4 @@
-// Worked rows of what a verdict says. In them feature A is wanted, with two touches, and the two contacts that it wants were made twice.
+// Examples of what a verdict says. Feature A is wanted, with two touches, and the two contacts that it wants were made twice.
 
 ghost use Rattle.std.specs.Prelude.{◌≡◌, ℕ, List, [], ◌∷◌};
 ghost use Rattle.ledger_audit.specs.declared.verdicts.Verdict.TheVariants as verdict;
@@ -36,7 +36,7 @@ pub fn count_rows()
     ensures one_more { AreFewestUnsound one_wanted once_more [] 2 → ⊥ }
 {}
 
-/// What a verdict tells.
+/// What a verdict reports.
 pub fn verdict_rows()
     ensures starts { TellsStarts (verdict.Starts (1 ∷ [])) }
     ensures starts_are_no_refusal { TellsNoRun (verdict.Starts (1 ∷ [])) → ⊥ }

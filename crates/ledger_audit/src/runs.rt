@@ -1,123 +1,124 @@
-// Where a feature begins among contacts.
+// Where the first run of a feature begins among contacts.
 
-ghost use Rattle.std.specs.Prelude.{◌≡◌, ◌≤◌, ◌+◌, ◌↔◌, ℕ, List, IsTrue, IfSome, IfNone, length};
-ghost use Rattle.fixed_um.specs.declared.lengths.Point.{Point};
-ghost use Rattle.dmis_program.specs.declared.features.Touch.{Touch};
-ghost use Rattle.protocol_model.specs.Claims.{IsServed, Serves, IsRun};
+ghost use Rattle.std.specs.Prelude.{◌≡◌, ◌≤◌, ◌<◌, ◌+◌, IfSome, IfNone, IfOk, length};
+ghost use Rattle.ledger_audit.specs.Shifts.{asked_at, AreShifts, Begins, HasNoneBetween, IsFirstServed};
 ghost use Rattle.ledger_audit.specs.Verdicts.{IsFirstRun, HasNoRun};
 
 use crate::contacts::Contact;
+use crate::probings::{asked, same_probing};
+use crate::shifts::shifts_of;
 use contact_ledger::Feature;
 use dmis_program::{Touch, Wanted};
-use fixed_um::{Dir, Frame, Name, Point};
+use fixed_um::Point;
+use std::alloc::{AllocError, Global};
 
-// Equality of values, told as such.
-
-fn same_point(one: Point, other: Point) -> bool
-    ensures { IsTrue result ↔ (one ≡ other) }
-{
-    one == other
+/// How far a search has come: the contacts from `start` on serve the first `served` touches on one connection.
+#[derive(Clone, Copy)]
+pub(crate) struct Search {
+    start: usize,
+    served: usize,
 }
 
-fn same_dir(one: Option<Dir>, other: Option<Dir>) -> bool
-    ensures { IsTrue result ↔ (one ≡ other) }
+/// A search that has examined the next contact. Its start or its count of served touches rises, and it never goes back to a contact
+/// before the next one.
+fn step(
+    touches: &[Touch],
+    points: &[Point],
+    shifts: &[usize],
+    contacts: &[Contact<'_>],
+    search: Search,
+) -> Search
+    requires long { length touches.now ≡ length points.now }
+    requires table { length shifts.now ≡ length points.now }
+    requires shifts { AreShifts (asked_at touches.now points.now) shifts.now }
+    requires touch { search.served < length points.now }
+    requires contact { search.start + search.served < length contacts.now }
+    requires begins { Begins touches.now points.now contacts.now search.start search.served }
+    ensures begins { Begins touches.now points.now contacts.now result.start result.served }
+    ensures passed { HasNoneBetween touches.now points.now contacts.now
+        search.start result.start }
+    ensures start { search.start ≤ result.start }
+    ensures further { search.start + (search.start + search.served)
+        < result.start + (result.start + result.served) }
+    ensures served { result.served ≤ length points.now }
 {
-    one == other
-}
-
-fn same_frame(one: Frame, other: Frame) -> bool
-    ensures { IsTrue result ↔ (one ≡ other) }
-{
-    one == other
-}
-
-fn same_name(one: &Name, other: &Name) -> bool
-    ensures { IsTrue result ↔ (one.now ≡ other.now) }
-{
-    one.as_bytes() == other.as_bytes()
-}
-
-/// Whether a contact was made on this connection, as the touch asks, and reported this point.
-fn is_served(connection: u64, touch: &Touch, point: &Point, contact: &Contact<'_>) -> bool
-    ensures { IsTrue result ↔ IsServed connection touch.now point.now contact.now }
-{
-    contact.connection == connection
-        && same_point(contact.target, touch.target)
-        && same_dir(contact.dir, touch.dir)
-        && same_name(contact.tool, &touch.tool)
-        && same_frame(contact.frame, touch.frame)
-        && same_point(contact.point, *point)
-}
-
-/// Whether contacts serve touches, each its own, all on this connection, and reported these points. It looks no further than the first
-/// that does not.
-fn serves(connection: u64, touches: &[Touch], points: &[Point], contacts: &[Contact<'_>]) -> bool
-    ensures { IsTrue result ↔ Serves connection touches.now points.now contacts.now }
-{
-    let mut touches = touches;
-    let mut points = points;
-    let mut contacts = contacts;
-    while let [touch, later @ ..] = touches {
-        let ([point, other_points @ ..], [contact, other_contacts @ ..]) = (points, contacts) else {
-            return false;
+    let Search { start, served } = search;
+    let first = &contacts[start];
+    let next = &contacts[start + served];
+    if next.connection() != first.connection() {
+        return Search {
+            start: start + served,
+            served: 0,
         };
-        if !is_served(connection, touch, point, contact) {
-            return false;
+    }
+    if same_probing(&next.probing(), &asked(touches, points, served)) {
+        return Search {
+            start,
+            served: served + 1,
+        };
+    }
+    let shift = shifts[served];
+    Search {
+        start: start + shift,
+        served: served.saturating_sub(shift),
+    }
+}
+
+/// The start of the first contacts, from `least` on, that serve all touches on one connection. The time is linear in the count of the
+/// contacts from `least` to the last one examined.
+fn first_served(
+    touches: &[Touch],
+    points: &[Point],
+    shifts: &[usize],
+    contacts: &[Contact<'_>],
+    least: usize,
+) -> Option<usize>
+    requires long { length touches.now ≡ length points.now }
+    requires table { length shifts.now ≡ length points.now }
+    requires shifts { AreShifts (asked_at touches.now points.now) shifts.now }
+    requires least { least ≤ length contacts.now }
+    ensures found { IfSome result
+        (IsFirstServed touches.now points.now contacts.now least) }
+    ensures none { IfNone result (HasNoneBetween touches.now points.now contacts.now
+        least (length contacts.now + 1)) }
+{
+    let mut search = Search {
+        start: least,
+        served: 0,
+    };
+    while search.served < points.len() {
+        if contacts.len() - search.start < points.len() {
+            return None;
         }
-        touches = later;
-        points = other_points;
-        contacts = other_contacts;
+        search = step(touches, points, shifts, contacts, search);
     }
-    points.is_empty() && contacts.is_empty()
+    Some(search.start)
 }
 
-/// The connection of contacts, where all of them are on one: that of the first, or any where there are none.
-fn connection_of(contacts: &[Contact<'_>]) -> u64
-    ensures { (connection : ℕ) (touches : List Touch) (points : List Point)
-        → Serves connection touches points contacts.now
-        → Serves result touches points contacts.now }
-{
-    match contacts {
-        [first, ..] => first.connection,
-        [] => 0,
-    }
-}
-
-/// Whether the contacts from a start on begin with a run that serves a feature, the label of which is known to be the wanted one.
-fn is_run(wanted: &Wanted, feature: &Feature, contacts: &[Contact<'_>], start: usize) -> bool
-    requires within { start ≤ length contacts.now }
-    requires label { feature.now.label ≡ wanted.now.label }
-    ensures { IsTrue result ↔ IsRun wanted.now feature.now start contacts.now }
-{
-    let points = feature.points.as_slice();
-    let rest = &contacts[start..];
-    if rest.len() < points.len() {
-        return false;
-    }
-    let run = &rest[..points.len()];
-    serves(connection_of(run), wanted.touches.as_slice(), points, run)
-}
-
-/// The first run that serves a feature among the contacts from `least` on.
+/// The first run that serves a feature among the contacts from `least` on. Fails only if out of memory.
 pub(crate) fn first_run(
+    alloc: Global,
     wanted: &Wanted,
     feature: &Feature,
     contacts: &[Contact<'_>],
     least: usize,
-) -> Option<usize>
+) -> Result<Option<usize>, AllocError>
     requires { least ≤ length contacts.now }
-    ensures found { IfSome result (IsFirstRun wanted.now feature.now least contacts.now) }
-    ensures within { IfSome result (λ start. start + length feature.now.points
-        ≤ length contacts.now) }
-    ensures none { IfNone result (HasNoRun wanted.now feature.now least contacts.now) }
+    ensures found { IfOk result (λ r. IfSome r
+        (IsFirstRun wanted.now feature.now least contacts.now)) }
+    ensures within { IfOk result (λ r. IfSome r (λ start. start + length feature.now.points
+        ≤ length contacts.now)) }
+    ensures none { IfOk result (λ r. IfNone r
+        (HasNoRun wanted.now feature.now least contacts.now)) }
 {
     if feature.label.as_bytes() != wanted.label.as_bytes() {
-        return None;
+        return Ok(None);
     }
-    for start in least..=contacts.len() {
-        if is_run(wanted, feature, contacts, start) {
-            return Some(start);
-        }
+    let touches = wanted.touches.as_slice();
+    let points = feature.points.as_slice();
+    if touches.len() != points.len() {
+        return Ok(None);
     }
-    None
+    let shifts = shifts_of(alloc, touches, points)?;
+    Ok(first_served(touches, points, &shifts, contacts, least))
 }

@@ -1,4 +1,4 @@
-// What an audit answers.
+// The result of an audit.
 
 ghost use Rattle.std.specs.Prelude.{◌≡◌, [], ◌∷◌, ◌++◌};
 ghost use Rattle.fixed_um.specs.Calls.{Leads};
@@ -6,7 +6,7 @@ ghost use Rattle.fixed_um.specs.Calls.{Leads};
 use std::alloc::{AllocError, Global};
 use std::marker::Model;
 
-/// The numbers of the contacts at which runs begin, one for each feature, in the order of the features. Contracts see this list.
+/// The numbers of the contacts at which runs begin, one for each feature, in the order of the features. Contracts see the list.
 #[derive(Debug, Drop)]
 pub struct Starts {
     numbers: Vec<u64>,
@@ -21,7 +21,7 @@ impl Model for Starts {
 }
 
 impl Starts {
-    /// No starts yet; it takes no memory.
+    /// No starts yet; does not allocate.
     pub(crate) fn new(alloc: Global) -> Starts
         ensures { result ≡ [] }
     {
@@ -30,7 +30,7 @@ impl Starts {
         }
     }
 
-    /// Appends a start. Only want of memory is an `Err`; the starts are then as before.
+    /// Appends a start. Fails only if out of memory; the starts are then unchanged.
     pub(crate) fn push(&mut self, number: u64) -> Result<(), AllocError>
         ensures { Leads result self.old self.new (self.old ++ number ∷ []) }
     {
@@ -49,9 +49,9 @@ impl Starts {
 /// What an audit finds (this profile).
 #[derive(Debug, Drop)]
 pub enum Verdict {
-    /// Every feature has its run, and these are the numbers at which the runs begin, each the least that it can be. The first contact of
-    /// a ledger has number 0.
+    /// Every feature has its run, and these are the numbers at which the runs begin, each the least possible. The first contact of a
+    /// ledger has number 0.
     Starts(Starts),
-    /// So many features, counted from the first, have no runs together, while those before the last of them have. At least one.
+    /// This many features, counted from the first, have no runs together, while all but the last of them have. At least one.
     NoRun(usize),
 }
