@@ -12,7 +12,7 @@ _dme()
             mapfile -t COMPREPLY < <(compgen -f -- "$word")
             return ;;
         --as)
-            mapfile -t COMPREPLY < <(compgen -W "csv json svg" -- "$word")
+            mapfile -t COMPREPLY < <(compgen -W "csv json svg features contacts" -- "$word")
             return ;;
         --host)
             mapfile -t COMPREPLY < <(compgen -A hostname -- "$word")
@@ -23,11 +23,11 @@ _dme()
     case ${COMP_WORDS[1]} in
         check) options="--setup --explain" ;;
         simulate) options="--setup --schedule --window --trace --explain" ;;
-        audit) options="--setup --features --contacts --explain" ;;
+        audit) options="--setup --features --contacts --record --explain" ;;
         loop) options="--setup --window --progress --trace --explain" ;;
         serve) options="--setup --port --connections --contacts --progress --explain" ;;
         run) options="--setup --host --port --window --features --record --part --progress --explain" ;;
-        export) options="--as --setup --features --explain" ;;
+        export) options="--as --setup --features --record --explain" ;;
         explain)
             options="P1 P2 P3 P4 P5 P6 P7 P8 P9 P10 P11 P12 P13 P14 P15 P16 N1 N2 N3 S1 S2 S3 H1 K1 C4"
             options+=" 9001 9002 9003 9004 9005 9006 9007 9008 9009 9010 9011 9012 9013 9014 9015"

@@ -56,6 +56,9 @@ FILE_ROWS = {
     " --contacts break_inside_a_feature.contacts circle.dmis",
     "export": "export --as csv --setup machine.setup --features break_inside_a_feature.features circle.dmis",
     "export_svg": "export --as svg --setup machine.setup --features break_inside_a_feature.features circle.dmis",
+    "audit_record": "audit --setup machine.setup --record break_inside_a_feature.record circle.dmis",
+    "export_features": "export --as features --record break_inside_a_feature.record circle.dmis",
+    "export_contacts": "export --as contacts --record break_inside_a_feature.record circle.dmis",
     "explain": "explain P5",
 }
 

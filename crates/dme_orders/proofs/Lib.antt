@@ -3,3 +3,4 @@ pub mod NumberedLines
 pub mod OrderLemmas
 pub mod PlanLemmas
 pub mod ReadingLemmas
+pub mod RecordLemmas

@@ -1,7 +1,7 @@
 -- What an order leaves that stops.
 use Rattle.std.proofs.Common.{◌≡◌, ◌<◌, ◌⊎◌, inl, inr, ℕ, Bool, false, List, [], ◌∷◌, length, Result, Ok, Err, refl, sym, subst, arith}
 use Rattle.std.specs.Prelude.{IsErrAnd, IfErr}
-use Rattle.dme_orders.specs.Orders.{Went, Carries, Prints, no_memory}
+use Rattle.dme_orders.specs.Orders.{Went, Carries, IsTorn, Prints, no_memory, torn}
 use Rattle.dme_orders.specs.declared.reading.FilesFault.{FilesFault}
 use Rattle.dme_orders.specs.declared.reading.FilesFault.TheVariants as fault
 
@@ -11,6 +11,12 @@ pub no_room : {A B W : Type 0} (Reads : A → Type 0) (Leaves : A → B → List
     → Carries Reads Leaves w WhyNo r
 no_room Reads Leaves w WhyNo (Ok end) is input read same = absurd is
 no_room Reads Leaves w WhyNo (Err f) is input read same = no_memory is input read same
+
+-- its files were read, and the sink has failed
+pub torn_as : {A B W : Type 0} (Reads : A → Type 0) (Leaves : A → B → List ℕ → Type 0) (w : Went W) (WhyNo : FilesFault → Type 0)
+    (r : Result B FilesFault) → IsErrAnd r (λ f. f ≡ fault.Write) → IsTorn Reads Leaves w → Carries Reads Leaves w WhyNo r
+torn_as Reads Leaves w WhyNo (Ok end) is front = absurd is
+torn_as Reads Leaves w WhyNo (Err f) is front = torn is front
 
 -- it reads no files
 pub no_text : {B W : Type 0} (Leaves : B → List ℕ → Type 0) (w : Went W) (r : Result B FilesFault)

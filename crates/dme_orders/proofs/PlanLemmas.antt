@@ -24,10 +24,10 @@ lines_counted count (p ∷ ps) =
     (ap (λ (n : ℕ). lines_from n ps) (number_step count (count % 9999 + 1 == 9999) refl) ∙ lines_counted (count + 1) ps)
 
 -- text after other text, with a byte of its own
-some_behind : (front back : List ℕ) → 0 < length (front ++ 10 ∷ back)
-some_behind front back = let all : length (front ++ 10 ∷ back) ≡ length front + length (10 ∷ back) = length-append front (10 ∷ back)
+pub some_after : (front back : List ℕ) → 0 < length (front ++ 10 ∷ back)
+some_after front back = let all : length (front ++ 10 ∷ back) ≡ length front + length (10 ∷ back) = length-append front (10 ∷ back)
     in omega arith
 
 -- each plan has a line: it begins a session
 pub plan_has_text : (text : List ℕ) (program : Meaning) → text ≡ plan_text program → 0 < length text
-plan_has_text text program is = rw is (some_behind _ _)
+plan_has_text text program is = rw is (some_after _ _)

@@ -5,10 +5,11 @@ use Rattle.contact_ledger.specs.declared.acts.Act.{Act}
 use Rattle.contact_ledger.specs.declared.features.Feature.{Feature}
 use Rattle.dmis_program.specs.Meaning.{Meaning}
 use Rattle.link_world.specs.declared.texts.schedules.Instruction.{Instruction}
+use Rattle.run_record.specs.Records.{Recorded}
 use Rattle.tool_rack.specs.Setups.{SetupValue}
 use Rattle.dme_orders.specs.declared.reading.FilesFault.{FilesFault}
 use Rattle.dme_orders.specs.Reading.{Came, came, IsUntouched, ReadsSetup, WhyNoSetup, ReadsSchedule, WhyNoSchedule, ReadsFeatures}
-use Rattle.dme_orders.specs.Reading.{WhyNoFeatures, ReadsContacts, WhyNoContacts, ReadsProgram, WhyNoProgram}
+use Rattle.dme_orders.specs.Reading.{WhyNoFeatures, ReadsContacts, WhyNoContacts, ReadsRecord, WhyNoRecord, ReadsProgram, WhyNoProgram}
 
 -- a file comes before others: it is blamed for a reason of its own, and the others are untouched; or it is accepted, and one of the others
 -- is blamed
@@ -133,3 +134,19 @@ module _ {S F R : Type 0} (s : Named S) (f : Came F) (r : Came R) where
   abbrev pub WhyNoExport : FilesFault → Type 0
   WhyNoExport = InTurn (ReadsNamed s) (WhyNoNamed s) (IsUntouched f × IsUntouched r) (λ setup.
       InTurn (ReadsFeatures f) (WhyNoFeatures f) (IsUntouched r) (λ features. WhyNoProgram r (frames_under setup)))
+
+-- a record, if it is begun, and a program under the frames of a setup, if one is named
+pub record RecordInput : Type 0 where
+  pub setup : Option SetupValue
+  pub held : Option Recorded
+  pub program : Meaning
+
+module _ {S J R : Type 0} (s : Named S) (j : Came J) (r : Came R) where
+  pub record ReadsHeld (input : RecordInput) : Type 0 where
+    pub said : ReadsNamed s input.setup
+    pub held : ReadsRecord j input.held
+    pub accepted : ReadsProgram r (frames_under input.setup) input.program
+
+  abbrev pub WhyNoneHeld : FilesFault → Type 0
+  WhyNoneHeld = InTurn (ReadsNamed s) (WhyNoNamed s) (IsUntouched j × IsUntouched r) (λ setup.
+      InTurn (ReadsRecord j) (WhyNoRecord j) (IsUntouched r) (λ held. WhyNoProgram r (frames_under setup)))

@@ -16,3 +16,5 @@ pub mod Driving
 pub mod Serving
 pub mod Explaining
 pub mod Exporting
+pub mod Recorded
+pub mod OfRecords

@@ -3,6 +3,7 @@ use Rattle.std.specs.Prelude.{◌≡◌, ℕ, List, [], string_bytes, Option, So
 use Rattle.tool_rack.specs.declared.faults.SetupFault.TheVariants as setup
 use Rattle.dmis_program.specs.declared.faults.ProgramFault.TheVariants as program
 use Rattle.link_world.specs.declared.texts.schedule_faults.ScheduleFault.TheVariants as schedule
+use Rattle.run_record.specs.declared.faults.RecordFault.TheVariants as recorded
 use Rattle.dme_orders.specs.declared.reading.FilesFault.{FilesFault}
 use Rattle.dme_orders.specs.declared.reading.FilesFault.TheVariants as files
 use Rattle.dme_orders.specs.declared.reading.Role.{Role}
@@ -23,6 +24,8 @@ status_of (fault.Setup cause) = 1
 status_of (fault.Schedule cause) = 1
 status_of (fault.Features cause) = 1
 status_of (fault.Contacts cause) = 1
+status_of (fault.Record cause) = 1
+status_of (fault.OtherProgram label) = 1
 status_of (fault.CannotRead file) = 1
 status_of fault.CannotWriteOutput = 1
 status_of (fault.CannotWrite file) = 1
@@ -41,6 +44,7 @@ file_in files role.Setup = files.setup
 file_in files role.Schedule = files.schedule
 file_in files role.Features = files.features
 file_in files role.Contacts = files.contacts
+file_in files role.Record = files.record
 file_in files role.Program = files.program
 
 -- what is shown for the fault of an order, by its files: the refusal, or the name of the file
@@ -53,6 +57,9 @@ IsFaultShown (files.Features ledger.Memory) file shown = shown ≡ fault.Memory
 IsFaultShown (files.Features cause) file shown = shown ≡ fault.Features cause
 IsFaultShown (files.Contacts ledger.Memory) file shown = shown ≡ fault.Memory
 IsFaultShown (files.Contacts cause) file shown = shown ≡ fault.Contacts cause
+IsFaultShown (files.Record recorded.Memory) file shown = shown ≡ fault.Memory
+IsFaultShown (files.Record cause) file shown = shown ≡ fault.Record cause
+IsFaultShown (files.OtherProgram label) file shown = shown ≡ fault.OtherProgram label
 IsFaultShown (files.Program program.Memory) file shown = shown ≡ fault.Memory
 IsFaultShown (files.Program cause) file shown = shown ≡ fault.Program cause
 IsFaultShown (files.Unread role) file shown = ShowsFile (Some (string_bytes (file role).name)) shown
@@ -64,7 +71,7 @@ IsFaultShown files.Memory file shown = shown ≡ fault.Memory
 abbrev pub IsPlaceIn : Refused → InputFile → List ℕ → Type 0
 IsPlaceIn why file shown = Places why (string_bytes file.name) file.text.items [] shown
 
--- where the file of a fault is refused, by the order's files; nothing if no file is refused
+-- where the file of a fault is refused, by the order's files; nothing if no file is refused, and nothing yet of a record
 abbrev pub IsPlaceShown : FilesFault → (Role → InputFile) → List ℕ → Type 0
 IsPlaceShown (files.Setup cause) file shown = IsPlaceIn (refused.Setup cause) (file role.Setup) shown
 IsPlaceShown (files.Schedule cause) file shown = IsPlaceIn (refused.Schedule cause) (file role.Schedule) shown
@@ -72,6 +79,8 @@ IsPlaceShown (files.Features cause) file shown = IsPlaceIn (refused.Features cau
 IsPlaceShown (files.Contacts cause) file shown = IsPlaceIn (refused.Contacts cause) (file role.Contacts) shown
 IsPlaceShown (files.Program cause) file shown = IsPlaceIn (refused.Program cause) (file role.Program) shown
 IsPlaceShown (files.Unread unread) file shown = shown ≡ []
+IsPlaceShown (files.Record cause) file shown = shown ≡ []
+IsPlaceShown (files.OtherProgram label) file shown = shown ≡ []
 IsPlaceShown files.NotOurs file shown = shown ≡ []
 IsPlaceShown files.Write file shown = shown ≡ []
 IsPlaceShown files.Memory file shown = shown ≡ []

@@ -10,12 +10,15 @@ use Rattle.deviations.specs.declared.faults.RowsFault.{RowsFault}
 use Rattle.deviations.specs.declared.faults.RowsFault.TheVariants as rows
 use Rattle.tool_rack.specs.Setups.{SetupValue, setup_of}
 use Rattle.tool_rack.specs.declared.faults.SetupFault.TheVariants as setup
+use Rattle.run_record.specs.Records.{Recorded}
+use Rattle.run_record.specs.declared.faults.RecordFault.TheVariants as recorded
 use Rattle.link_world.specs.ScheduleTexts.{schedule_of}
 use Rattle.link_world.specs.declared.texts.schedules.Instruction.{Instruction}
 use Rattle.link_world.specs.declared.texts.schedule_faults.ScheduleFault.TheVariants as schedule
 use Rattle.dmis_program.specs.Meaning.{Meaning, program_of}
 use Rattle.dmis_program.specs.declared.faults.ProgramFault.TheVariants as program
 use Rattle.dme_orders.specs.Checked.{IsUnread}
+use Rattle.dme_orders.specs.Recorded.{IsReadAs}
 use Rattle.dme_orders.specs.declared.reading.Role.{Role}
 use Rattle.dme_orders.specs.declared.reading.Role.TheVariants as role
 use Rattle.dme_orders.specs.declared.reading.FilesFault.{FilesFault}
@@ -99,6 +102,16 @@ module _ {S : Type 0} (c : Came S) where
   abbrev pub WhyNoContacts : FilesFault → Type 0
   WhyNoContacts (fault.Contacts (ledger.Damaged n)) = Reads c (λ text. IsDamagedContacts text n)
   WhyNoContacts given = WhyNoText role.Contacts given
+
+  -- the record of a source, if it is begun
+  abbrev pub ReadsRecord : Option Recorded → Type 0
+  ReadsRecord said = Reads c (λ text. IsReadAs text (Ok said))
+
+  -- why there is no such value
+  abbrev pub WhyNoRecord : FilesFault → Type 0
+  WhyNoRecord (fault.Record recorded.Memory) = ⊥
+  WhyNoRecord (fault.Record cause) = Reads c (λ text. IsReadAs text (Err cause))
+  WhyNoRecord given = WhyNoText role.Record given
 
   -- the program of a source under frames
   abbrev pub ReadsProgram : List (List ℕ × Point) → Meaning → Type 0

@@ -34,7 +34,7 @@ fn verdict_line(
 }
 
 /// Likewise for features, a ledger and a program that are dropped.
-fn audited(
+pub(crate) fn audited(
     alloc: Global,
     features: FeatureLedger,
     ledger: ServerLedger,

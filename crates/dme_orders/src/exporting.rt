@@ -82,7 +82,7 @@ fn form_text(
 }
 
 /// The table of features in a form. They are refused only if they are not the first ones of the program.
-fn table_text(
+pub(crate) fn table_text(
     alloc: Global,
     form: Form,
     program: &Program,

@@ -7,8 +7,10 @@ ghost use Rattle.dme_orders.specs.Printed.{status_of, file_in, IsFaultShown, IsP
 use crate::reading::{FilesFault, Role};
 use contact_ledger::TextFault;
 use dmis_program::ProgramFault;
+use fixed_um::Name;
 use link_world::ScheduleFault;
 use refusal_guide::{Refused, write_place};
+use run_record::RecordFault;
 use std::alloc::{AllocError, AllocFailed, Global};
 use thiserror::Error;
 use tool_rack::SetupFault;
@@ -31,6 +33,12 @@ pub enum OrderFault {
     /// Contacts that are refused; never because memory ran out.
     #[error("dme: {0} in contacts\n")]
     Contacts(TextFault),
+    /// A record that is refused; never because memory ran out.
+    #[error("dme: {0} in record\n")]
+    Record(RecordFault),
+    /// A record that is not of the program: this feature differs.
+    #[error("dme: J3 OtherProgram (feature {0}) in record\n")]
+    OtherProgram(Name),
     /// A file that cannot be opened or read; `-` is standard input.
     #[error("dme: cannot read {0}\n")]
     CannotRead(String),
@@ -81,6 +89,7 @@ impl OrderFault {
         match self {
             OrderFault::Program(_) | OrderFault::Setup(_) | OrderFault::Schedule(_) => 1,
             OrderFault::Features(_) | OrderFault::Contacts(_) => 1,
+            OrderFault::Record(_) | OrderFault::OtherProgram(_) => 1,
             OrderFault::CannotRead(_)
             | OrderFault::CannotWriteOutput
             | OrderFault::CannotWrite(_) => 1,
@@ -117,6 +126,7 @@ pub struct InputFiles {
     pub schedule: InputFile,
     pub features: InputFile,
     pub contacts: InputFile,
+    pub record: InputFile,
     pub program: InputFile,
 }
 
@@ -128,6 +138,7 @@ impl InputFiles {
             schedule: InputFile::unnamed(alloc),
             features: InputFile::unnamed(alloc),
             contacts: InputFile::unnamed(alloc),
+            record: InputFile::unnamed(alloc),
             program: InputFile::unnamed(alloc),
         }
     }
@@ -138,6 +149,7 @@ impl InputFiles {
             || self.schedule.is_short
             || self.features.is_short
             || self.contacts.is_short
+            || self.record.is_short
             || self.program.is_short
     }
 
@@ -150,6 +162,7 @@ impl InputFiles {
             Role::Schedule => self.schedule,
             Role::Features => self.features,
             Role::Contacts => self.contacts,
+            Role::Record => self.record,
             Role::Program => self.program,
         }
     }
@@ -165,16 +178,22 @@ fn placed(alloc: Global, refused: Refused, file: &InputFile) -> Result<Vec<u8>, 
     Ok(out)
 }
 
-/// Where a file is refused and what is wrong there, as `write_place` shows it; nothing if no file is refused. Fails only if out of memory.
-pub fn place_of(alloc: Global, fault: FilesFault, files: &InputFiles) -> Result<Vec<u8>, AllocError>
-    ensures { IfOk result (λ shown. IsPlaceShown fault (file_in files.now) shown.items) }
+/// Where a file is refused and what is wrong there, as `write_place` shows it; nothing if no file is refused, and nothing yet of a record.
+/// Fails only if out of memory.
+pub fn place_of(
+    alloc: Global,
+    fault: &FilesFault,
+    files: &InputFiles,
+) -> Result<Vec<u8>, AllocError>
+    ensures { IfOk result (λ shown. IsPlaceShown fault.now (file_in files.now) shown.items) }
 {
     let (refused, file) = match fault {
-        FilesFault::Setup(cause) => (Refused::Setup(cause), &files.setup),
-        FilesFault::Schedule(cause) => (Refused::Schedule(cause), &files.schedule),
-        FilesFault::Features(cause) => (Refused::Features(cause), &files.features),
-        FilesFault::Contacts(cause) => (Refused::Contacts(cause), &files.contacts),
-        FilesFault::Program(cause) => (Refused::Program(cause), &files.program),
+        FilesFault::Setup(cause) => (Refused::Setup(*cause), &files.setup),
+        FilesFault::Schedule(cause) => (Refused::Schedule(*cause), &files.schedule),
+        FilesFault::Features(cause) => (Refused::Features(*cause), &files.features),
+        FilesFault::Contacts(cause) => (Refused::Contacts(*cause), &files.contacts),
+        FilesFault::Program(cause) => (Refused::Program(*cause), &files.program),
+        FilesFault::Record(_) | FilesFault::OtherProgram(_) => return Ok(Vec::new(alloc)),
         FilesFault::Unread(_) | FilesFault::NotOurs | FilesFault::Write | FilesFault::Memory => {
             return Ok(Vec::new(alloc));
         }
@@ -191,12 +210,15 @@ pub fn shown_fault(fault: FilesFault, files: InputFiles) -> OrderFault
         | FilesFault::Schedule(ScheduleFault::Memory)
         | FilesFault::Features(TextFault::Memory)
         | FilesFault::Contacts(TextFault::Memory)
+        | FilesFault::Record(RecordFault::Memory)
         | FilesFault::Program(ProgramFault::Memory)
         | FilesFault::Memory => OrderFault::Memory,
         FilesFault::Setup(cause) => OrderFault::Setup(cause),
         FilesFault::Schedule(cause) => OrderFault::Schedule(cause),
         FilesFault::Features(cause) => OrderFault::Features(cause),
         FilesFault::Contacts(cause) => OrderFault::Contacts(cause),
+        FilesFault::Record(cause) => OrderFault::Record(cause),
+        FilesFault::OtherProgram(label) => OrderFault::OtherProgram(label),
         FilesFault::Program(cause) => OrderFault::Program(cause),
         FilesFault::Unread(role) => OrderFault::CannotRead(files.into_file(role).name),
         FilesFault::NotOurs => OrderFault::NotOurs,

@@ -6,6 +6,7 @@
 //! - `simulating`: a program is run by a schedule on a simulated machine
 //! - `auditing`: a client's features are judged by a server's contacts
 //! - `exporting`: what was measured is put next to what a program asks for; `explaining`: what a refusal means
+//! - `of_records`: a record is audited and exported
 //! - `preparing`: the files of an order over a connection are read before there is one
 //! - `looping`: a program is run over one connection between both ends
 //! - `driving`: a program is run on a server over a connection, and its features are kept
@@ -27,6 +28,7 @@ mod explaining;
 mod exporting;
 mod faults;
 mod looping;
+mod of_records;
 mod orders;
 mod plan;
 mod preparing;
@@ -45,6 +47,7 @@ pub use explaining::explain;
 pub use exporting::{ExportFiles, export_files};
 pub use faults::{InputFile, InputFiles, OrderFault, place_of, shown_fault};
 pub use looping::{LoopTask, loop_over};
+pub use of_records::{RecordFiles, RecordText, audit_record, export_record};
 pub use orders::check_under_setup;
 pub use plan::plan_text;
 pub use preparing::{features_and_program, setup_and_program};

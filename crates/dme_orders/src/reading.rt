@@ -2,14 +2,16 @@
 
 ghost use Rattle.std.specs.Prelude.{◌≡◌, Ok, IfOk, IfErr};
 ghost use Rattle.dme_orders.specs.Reading.{came, Reads, WhyNoText, ReadsSetup, WhyNoSetup, ReadsSchedule, WhyNoSchedule, ReadsProgram, WhyNoProgram};
-ghost use Rattle.dme_orders.specs.Reading.{ReadsFeatures, WhyNoFeatures, ReadsContacts, WhyNoContacts};
+ghost use Rattle.dme_orders.specs.Reading.{ReadsFeatures, WhyNoFeatures, ReadsContacts, WhyNoContacts, ReadsRecord, WhyNoRecord};
 ghost use Rattle.dme_orders.specs.Input.{named, ReadsNamed, WhyNoNamed, frames_under};
 
 use byte_ports::{PullFault, Source, pull_all};
 use contact_ledger::{FeatureLedger, ServerLedger, TextFault, read_contacts, read_features};
 use deviations::RowsFault;
 use dmis_program::{Frames, Program, ProgramFault};
+use fixed_um::Name;
 use link_world::{Schedule, ScheduleFault};
+use run_record::{Record, RecordFault, read_record};
 use std::alloc::{AllocError, Global};
 use tool_rack::{Setup, SetupFault};
 
@@ -24,12 +26,14 @@ pub enum Role {
     Features,
     /// The contacts of an audit.
     Contacts,
+    /// The record of a run.
+    Record,
     /// The DMIS program.
     Program,
 }
 
 /// Why an order was not carried out.
-#[derive(Clone, Copy, Debug, PartialEq, Eq)]
+#[derive(Debug, Drop)]
 pub enum FilesFault {
     /// The setup is refused; never because memory ran out.
     Setup(SetupFault),
@@ -39,10 +43,14 @@ pub enum FilesFault {
     Features(TextFault),
     /// The contacts are refused; never because memory ran out.
     Contacts(TextFault),
+    /// The record is refused; never because memory ran out.
+    Record(RecordFault),
     /// The program is refused, under the setup's frames; never because memory ran out.
     Program(ProgramFault),
     /// A source has failed, or a million pulls have not come to the end of its text.
     Unread(Role),
+    /// The record is not of this program under this setup: this feature differs.
+    OtherProgram(Name),
     /// The features are not the first ones of the program, by labels and counts of points.
     NotOurs,
     /// The sink has failed; it may have taken a prefix of the text.
@@ -156,6 +164,24 @@ pub(crate) fn contacts_from<S: Source>(
         Ok(ledger) => Ok(ledger),
         Err(TextFault::Memory) => Err(FilesFault::Memory),
         Err(refused) => Err(FilesFault::Contacts(refused)),
+    }
+}
+
+/// The record that a source gives, if it is begun.
+pub(crate) fn record_from<S: Source>(
+    alloc: Global,
+    source: &mut S,
+) -> Result<Option<Record>, FilesFault>
+    ensures ok { IfOk result (ReadsRecord (came S.left S.has_failed source.old source.new)) }
+    ensures err { IfErr result (WhyNoRecord (came S.left S.has_failed source.old source.new)) }
+{
+    let text = read_text(alloc, source, Role::Record)?;
+    let read = read_record(alloc, text.as_slice());
+    drop(text);
+    match read {
+        Ok(held) => Ok(held),
+        Err(RecordFault::Memory) => Err(FilesFault::Memory),
+        Err(refused) => Err(FilesFault::Record(refused)),
     }
 }
 

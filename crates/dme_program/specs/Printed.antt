@@ -18,6 +18,7 @@ abbrev pub words_shown : WordsFault → Fault
 words_shown (words.Line error) = fault.Words error
 words_shown (words.NoCode code) = fault.NoCode code
 words_shown (words.NoForm word) = fault.NoForm word
+words_shown (words.Misfits why) = fault.Misfits why
 words_shown words.Memory = short
 
 -- what is shown for a record that a run may not continue
@@ -31,6 +32,7 @@ exit_status (fault.Words error) = 2
 exit_status fault.NotUtf8 = 2
 exit_status (fault.NoCode code) = 2
 exit_status (fault.NoForm word) = 2
+exit_status (fault.Misfits why) = 2
 exit_status (fault.NoPart part) = 2
 exit_status fault.PartAlone = 2
 exit_status (fault.OneFile name) = 2

@@ -4,8 +4,8 @@ use crate::faults::Fault;
 use dme_orders::{FilesFault, InputFiles, place_of, shown_fault};
 use std::alloc::Global;
 
-/// Where a file is refused and what is wrong there, as text; nothing if there is no memory for it, or was none for the text of a file.
-fn place(alloc: Global, fault: FilesFault, files: &InputFiles) -> String {
+/// Where a file is refused and what is wrong there, as text; nothing if memory runs out, or ran out for the text of a file.
+fn place(alloc: Global, fault: &FilesFault, files: &InputFiles) -> String {
     if files.is_short() {
         return String::new(alloc);
     }
@@ -22,6 +22,6 @@ pub fn refused(alloc: Global, fault: FilesFault, files: InputFiles, is_explained
     if !is_explained {
         return Fault::Order(shown_fault(fault, files));
     }
-    let place = place(alloc, fault, &files);
+    let place = place(alloc, &fault, &files);
     Fault::Explained(shown_fault(fault, files), place)
 }

@@ -3,10 +3,12 @@
 use crate::connecting::of_output;
 use crate::explaining::refused;
 use crate::faults::Fault;
-use crate::files::Sources;
+use crate::files::{NamedSource, Sources};
 use byte_ports::Writing;
-use dme_orders::{ExportFiles, InputFiles, explain, export_files};
-use dme_words::Export;
+use dme_orders::{
+    ExportFiles, InputFiles, RecordFiles, RecordText, explain, export_files, export_record,
+};
+use dme_words::{Export, RecordExport, RecordForm};
 use refusal_guide::Topic;
 use std::io;
 use std::rt::Files;
@@ -35,6 +37,52 @@ pub fn export<R: Files + Input + Print + AllocGlobal>(rt: &R, order: Export) -> 
     files.features = features.into_file();
     files.program = program.into_file();
     Err(refused(rt.alloc(), fault, files, order.explain))
+}
+
+/// What is printed of a record in a form.
+fn text_of(form: RecordForm) -> RecordText {
+    match form {
+        RecordForm::Table(form) => RecordText::Table(form),
+        RecordForm::Features => RecordText::Features,
+        RecordForm::Contacts => RecordText::Contacts,
+    }
+}
+
+/// The order `export` for a record: its exit status.
+pub fn export_of_record<R: Files + Input + Print + AllocGlobal>(
+    rt: &R,
+    order: RecordExport,
+) -> Result<u8, Fault> {
+    let mut sources = Sources::new(rt, order.explain);
+    let mut sought = RecordFiles {
+        setup: sources.maybe(order.setup),
+        record: sources.file(order.record),
+        program: sources.file(order.program),
+    };
+    let mut sink = Writing::new(io::writer(rt));
+    match export_record(rt.alloc(), text_of(order.form), &mut sought, &mut sink) {
+        Ok(()) => Ok(0),
+        Err(fault) => Err(refused(rt.alloc(), fault, record_files(rt, sought), order.explain)),
+    }
+}
+
+/// The files of an order over a record, as far as they were read.
+pub fn record_files<'a, R: Files + Input + AllocGlobal>(
+    rt: &'a R,
+    sought: RecordFiles<NamedSource<'a, R>, NamedSource<'a, R>, NamedSource<'a, R>>,
+) -> InputFiles {
+    let RecordFiles {
+        setup,
+        record,
+        program,
+    } = sought;
+    let mut files = InputFiles::unnamed(rt.alloc());
+    if let Some(setup) = setup {
+        files.setup = setup.into_file();
+    }
+    files.record = record.into_file();
+    files.program = program.into_file();
+    files
 }
 
 /// The order `explain`: its exit status.

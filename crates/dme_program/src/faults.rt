@@ -5,7 +5,7 @@ ghost use Rattle.dme_program.specs.Printed.{exit_status, short};
 
 use clap::Error as WordsError;
 use dme_orders::OrderFault;
-use dme_words::WordsFault;
+use dme_words::{Misfit, WordsFault};
 use record_keeping::RecordRefusal;
 use std::alloc::AllocError;
 use std::io::ErrorKind;
@@ -24,8 +24,11 @@ pub enum Fault {
     #[error("error: invalid value '{0}' for '<CODE>': no refusal has this code\n\nFor more information, try '--help'.\n")]
     NoCode(String),
     /// A word that names no form.
-    #[error("error: invalid value '{0}' for '--as <FORM>'\n  [possible values: csv, json, svg]\n\nFor more information, try '--help'.\n")]
+    #[error("error: invalid value '{0}' for '--as <FORM>'\n  [possible values: csv, json, svg, features, contacts]\n\nFor more information, try '--help'.\n")]
     NoForm(String),
+    /// Options that do not go together.
+    #[error("{0}")]
+    Misfits(Misfit),
     /// A text that may not be a part.
     #[error("error: invalid value '{0}' for '--part <TEXT>': 1 to 64 printable bytes\n\nFor more information, try '--help'.\n")]
     NoPart(String),
@@ -57,6 +60,7 @@ impl From<WordsFault> for Fault {
             WordsFault::Line(error) => Fault::Words(error),
             WordsFault::NoCode(code) => Fault::NoCode(code),
             WordsFault::NoForm(word) => Fault::NoForm(word),
+            WordsFault::Misfits(why) => Fault::Misfits(why),
             WordsFault::Memory => Fault::Order(OrderFault::Memory),
         }
     }
@@ -116,7 +120,7 @@ impl Fault {
     {
         match self {
             Fault::Words(_) | Fault::NotUtf8 | Fault::NoCode(_) | Fault::NoForm(_) => 2,
-            Fault::NoPart(_) | Fault::PartAlone | Fault::OneFile(_) => 2,
+            Fault::Misfits(_) | Fault::NoPart(_) | Fault::PartAlone | Fault::OneFile(_) => 2,
             Fault::Record(_) => 1,
             Fault::Order(cause) | Fault::Explained(cause, _) => cause.status(),
         }

@@ -8,17 +8,17 @@ ghost use Rattle.dme_program.specs.Blamed.{OnSetup};
 use crate::connecting::loop_program;
 use crate::driving_connection::run_program;
 use crate::explaining::refused;
-use crate::exporting::{explain_topic, export};
+use crate::exporting::{explain_topic, export, export_of_record, record_files};
 use crate::faults::Fault;
 use crate::files::{NamedSource, Sources};
 use crate::serving_connections::serve;
 use crate::tracing::ErrorOutput;
 use byte_ports::Writing;
 use dme_orders::{
-    AuditFiles, FilesFault, InputFiles, SimulationFiles, audit_files, check_under_setup, simulate,
-    status,
+    AuditFiles, FilesFault, InputFiles, RecordFiles, SimulationFiles, audit_files, audit_record,
+    check_under_setup, simulate, status,
 };
-use dme_words::{Audit, Check, Order, Simulation, read_words};
+use dme_words::{Audit, Check, Order, RecordAudit, Simulation, read_words};
 use std::alloc::{AllocError, Global};
 use std::env::{self, Env};
 use std::fs::File;
@@ -146,6 +146,24 @@ fn audit<R: Files + Input + Print + AllocGlobal>(rt: &R, order: Audit) -> Result
     }
 }
 
+/// The order `audit` for a record: its exit status.
+fn audit_of_record<R: Files + Input + Print + AllocGlobal>(
+    rt: &R,
+    order: RecordAudit,
+) -> Result<u8, Fault> {
+    let mut sources = Sources::new(rt, order.explain);
+    let mut sought = RecordFiles {
+        setup: sources.maybe(order.setup),
+        record: sources.file(order.record),
+        program: sources.file(order.program),
+    };
+    let mut sink = Writing::new(io::writer(rt));
+    match audit_record(rt.alloc(), &mut sought, &mut sink) {
+        Ok(status) => Ok(status),
+        Err(fault) => Err(refused(rt.alloc(), fault, record_files(rt, sought), order.explain)),
+    }
+}
+
 /// Carries out an order: its exit status.
 fn carry_out<
     R: Files<File = File>
@@ -161,11 +179,13 @@ fn carry_out<
         Order::Check(order) => check(rt, order),
         Order::Simulate(order) => simulate_files(rt, order),
         Order::Audit(order) => audit(rt, order),
+        Order::AuditRecord(order) => audit_of_record(rt, order),
         Order::Loop(order) => loop_program(rt, order),
         Order::Serve(order) => serve(rt, order),
         Order::Run(order) => run_program(rt, order),
         Order::Explain(topic) => explain_topic(rt, topic),
         Order::Export(order) => export(rt, order),
+        Order::ExportRecord(order) => export_of_record(rt, order),
     }
 }
 

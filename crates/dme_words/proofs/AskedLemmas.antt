@@ -11,7 +11,7 @@ use Rattle.clap.specs.Simple.{App, Shape, argument_words, built, built_leaf, ent
 use Rattle.clap.specs.Simple.{on_top, rows_at, subcommand_of, with_leaf_noted}
 use Rattle.clap.specs.Faults.{entered_fault, fault_of, level_fault, walk_fault}
 use Rattle.dme_words.specs.CommandLine.{audit_line, check_line, explain_line, export_line, loop_line, run_line, serve_line, simulate_line, whole_line}
-use Rattle.dme_words.specs.Ordered.{HasAudit, HasExplained, HasExport, HasLoop, HasRun, HasService, HasSimulation, HasValue, IsAskable}
+use Rattle.dme_words.specs.Ordered.{HasExplained, HasExport, HasLoop, HasRun, HasService, HasSimulation, HasValue, IsAskable}
 use Rattle.dme_words.proofs.HelpLemmas.{NotAtHelp, entered_there, first_none, second_none, walk_stops}
 use Rattle.dme_words.proofs.FoundLemmas.{has_flag, has_number, has_value, level_found}
 
@@ -73,18 +73,12 @@ simulation words none =
     }
 
 audit : (words : List Text) → level_fault (leaf audit_line) [] nothing_held words false [] ≡ []
-    → HasAudit (rows_after (leaf audit_line).rules [] words)
+    → HasExplained (rows_after (leaf audit_line).rules [] words)
 audit words none =
-    let c = (leaf audit_line).rules in
     let found = level_found (leaf audit_line) words refl
-    ((refl, inl (refl, refl)), ((refl, inl (refl, refl)), ((refl, inl (refl, refl)), ((refl, inr (inl (refl, omega arith))), ((refl, inl (refl, refl)), ((refl, inr (inr refl)), tt))))))
+    ((refl, inl (refl, refl)), ((refl, inl (refl, refl)), ((refl, inl (refl, refl)), ((refl, inl (refl, refl)), ((refl, inr (inl (refl, omega arith))), ((refl, inl (refl, refl)), ((refl, inr (inr refl)), tt)))))))
     none in
-    record {
-      setup = has_value c (codes "setup") _ refl found.fit (found.needed.0 refl);
-      features = has_value c (codes "features") _ refl found.fit (found.needed.1.0 refl);
-      contacts = has_value c (codes "contacts") _ refl found.fit (found.needed.1.1.0 refl);
-      explain = has_flag c _ (codes "explain") _ refl refl found.fit (found.defaulted.1.1.1.0 (omega arith));
-    }
+    has_flag (leaf audit_line).rules _ (codes "explain") _ refl refl found.fit (found.defaulted.1.1.1.1.0 (omega arith))
 
 loop : (words : List Text) → level_fault (leaf loop_line) [] nothing_held words false [] ≡ []
     → HasLoop (rows_after (leaf loop_line).rules [] words)
@@ -143,12 +137,11 @@ export : (words : List Text) → level_fault (leaf export_line) [] nothing_held 
 export words none =
     let c = (leaf export_line).rules in
     let found = level_found (leaf export_line) words refl
-    ((refl, inl (refl, refl)), ((refl, inl (refl, refl)), ((refl, inl (refl, refl)), ((refl, inr (inl (refl, omega arith))), ((refl, inl (refl, refl)), ((refl, inr (inr refl)), tt))))))
+    ((refl, inl (refl, refl)), ((refl, inl (refl, refl)), ((refl, inl (refl, refl)), ((refl, inl (refl, refl)), ((refl, inr (inl (refl, omega arith))), ((refl, inl (refl, refl)), ((refl, inr (inr refl)), tt)))))))
     none in
     record {
       form = has_value c (codes "as") _ refl found.fit (found.needed.0 refl);
-      features = has_value c (codes "features") _ refl found.fit (found.needed.1.1.0 refl);
-      explain = has_flag c _ (codes "explain") _ refl refl found.fit (found.defaulted.1.1.1.0 (omega arith));
+      explain = has_flag c _ (codes "explain") _ refl refl found.fit (found.defaulted.1.1.1.1.0 (omega arith));
     }
 
 -- each subcommand of `dme` may be asked for, and `help` was not met

@@ -9,7 +9,7 @@ use Rattle.dme_words.specs.declared.orders.Order.{Order}
 use Rattle.dme_words.specs.CommandLine.{whole_line}
 use Rattle.dme_words.specs.Ordered.{Asks, AsksForNothing, HasFault, HasNoValue, IsAskable, IsCalled, IsOrderOf, IsRefusal}
 use Rattle.dme_words.specs.declared.words.WordsFault.{WordsFault}
-use Rattle.dme_words.specs.declared.words.WordsFault.TheVariants.{Line, Memory, NoCode, NoForm}
+use Rattle.dme_words.specs.declared.words.WordsFault.TheVariants.{Line, Memory, Misfits, NoCode, NoForm}
 use Rattle.clap.specs.declared.error.Error.{Error}
 use Rattle.clap.specs.declared.error.kind.ErrorKind.TheVariants.{OutOfMemory}
 use Rattle.dme_words.proofs.AskedLemmas.{asked}
@@ -49,6 +49,7 @@ refused_value a words m (Line told) is none has asks = absurd asks
 refused_value a words m Memory is none has asks = tt
 refused_value a words m (NoCode code) is none has asks = has_no_value a words m (NoCode code) is none has asks
 refused_value a words m (NoForm word) is none has asks = has_no_value a words m (NoForm word) is none has asks
+refused_value a words m (Misfits why) is none has asks = has_no_value a words m (Misfits why) is none has asks
 
 -- what is asked or refused, by the answer of a parse
 pub asked_or_refused : (a : App) (words : List Text) (answer : Result ArgMatches Error) (result : Result Order WordsFault) → a ≡ whole_line
@@ -72,3 +73,4 @@ asked_or_refused a words (Err error) (Err (Line told)) is kinds has order_is tak
 asked_or_refused a words (Err error) (Err Memory) is kinds has order_is taken called = (tt, tt)
 asked_or_refused a words (Err error) (Err (NoCode code)) is kinds has order_is taken called = absurd called
 asked_or_refused a words (Err error) (Err (NoForm word)) is kinds has order_is taken called = absurd called
+asked_or_refused a words (Err error) (Err (Misfits why)) is kinds has order_is taken called = absurd called

@@ -49,10 +49,10 @@ abbrev pub simulate_line : App
 simulate_line = line_of (codes "simulate") (needed_rule (codes "setup") ∷ needed_rule (codes "schedule") ∷ window_rule
     ∷ flag_rule (codes "trace") ∷ flag_rule (codes "explain") ∷ program_rule ∷ [])
 
--- `audit --setup FILE --features FILE --contacts FILE [--explain] [PROGRAM]`
+-- `audit [--setup FILE] [--features FILE] [--contacts FILE] [--record FILE] [--explain] [PROGRAM]`
 abbrev pub audit_line : App
-audit_line = line_of (codes "audit") (needed_rule (codes "setup") ∷ needed_rule (codes "features") ∷ needed_rule (codes "contacts")
-    ∷ flag_rule (codes "explain") ∷ program_rule ∷ [])
+audit_line = line_of (codes "audit") (text_rule (codes "setup") ∷ text_rule (codes "features") ∷ text_rule (codes "contacts")
+    ∷ text_rule (codes "record") ∷ flag_rule (codes "explain") ∷ program_rule ∷ [])
 
 -- `loop --setup FILE [--window W] [--progress] [--trace] [--explain] [PROGRAM]`
 abbrev pub loop_line : App
@@ -78,10 +78,10 @@ code_rule = record (new_rule (codes "CODE")) { required = true }
 abbrev pub explain_line : App
 explain_line = line_of (codes "explain") (code_rule ∷ [])
 
--- `export --as FORM [--setup FILE] --features FILE [--explain] [PROGRAM]`
+-- `export --as FORM [--setup FILE] [--features FILE] [--record FILE] [--explain] [PROGRAM]`
 abbrev pub export_line : App
-export_line = line_of (codes "export") (needed_rule (codes "as") ∷ text_rule (codes "setup") ∷ needed_rule (codes "features")
-    ∷ flag_rule (codes "explain") ∷ program_rule ∷ [])
+export_line = line_of (codes "export") (needed_rule (codes "as") ∷ text_rule (codes "setup") ∷ text_rule (codes "features")
+    ∷ text_rule (codes "record") ∷ flag_rule (codes "explain") ∷ program_rule ∷ [])
 
 -- the command without its subcommands, of which one is required
 abbrev pub bare_line : App

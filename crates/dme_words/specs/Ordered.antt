@@ -1,5 +1,5 @@
 -- What the words of a command line ask for.
-use Rattle.std.specs.Prelude.{◌≡◌, ◌≢◌, ◌⊎◌, ◌≤◌, ℕ, Bool, List, [], Option, Some, None, IsSomeAnd, codes, is_some, pos, true, unwrap_or}
+use Rattle.std.specs.Prelude.{◌≡◌, ◌≢◌, ◌⊎◌, ◌≤◌, ◌||◌, not, ℕ, Bool, List, [], Option, Some, None, IsSomeAnd, codes, is_some, pos, true, unwrap_or}
 use Rattle.std.specs.Prelude.{string_bytes}
 use Rattle.std.specs.Option.{option_map}
 use Rattle.std.specs.Str.Parse.{signed_digits_value}
@@ -10,7 +10,6 @@ use Rattle.clap.specs.Words.{IsAmong, IsSignedIn, Row, Text, fault_of, first_of,
 use Rattle.client_core.specs.Clients.{is_window}
 use Rattle.refusal_guide.specs.Titles.{is_called, title_of}
 use Rattle.refusal_guide.specs.declared.topics.Topic.{Topic}
-use Rattle.deviations.specs.declared.forms.Form.{Form}
 use Rattle.deviations.specs.declared.forms.Form.TheVariants.{Csv, Json, Svg}
 use Rattle.dme_words.specs.CommandLine.{whole_line}
 use Rattle.dme_words.specs.declared.orders.Audit.{Audit}
@@ -19,11 +18,18 @@ use Rattle.dme_words.specs.declared.orders.Export.{Export}
 use Rattle.dme_words.specs.declared.orders.Loop.{Loop}
 use Rattle.dme_words.specs.declared.orders.Order.{Order}
 use Rattle.dme_words.specs.declared.orders.Order.TheVariants as order
+use Rattle.dme_words.specs.declared.orders.RecordAudit.{RecordAudit}
+use Rattle.dme_words.specs.declared.orders.RecordExport.{RecordExport}
+use Rattle.dme_words.specs.declared.orders.RecordForm.{RecordForm}
+use Rattle.dme_words.specs.declared.orders.RecordForm.TheVariants.{Table, Features, Contacts}
 use Rattle.dme_words.specs.declared.orders.Run.{Run}
 use Rattle.dme_words.specs.declared.orders.Service.{Service}
 use Rattle.dme_words.specs.declared.orders.Simulation.{Simulation}
 use Rattle.dme_words.specs.declared.words.WordsFault.{WordsFault}
-use Rattle.dme_words.specs.declared.words.WordsFault.TheVariants.{Line, Memory, NoCode, NoForm}
+use Rattle.dme_words.specs.declared.words.WordsFault.TheVariants.{Line, Memory, Misfits, NoCode, NoForm}
+use Rattle.dme_words.specs.declared.misfits.Misfit.{Misfit}
+use Rattle.dme_words.specs.declared.misfits.Misfit.TheVariants as misfit
+use Rattle.dme_words.specs.declared.misfits.Lacks.{Lacks}
 
 -- the name is the value of the option with this id
 abbrev pub IsValueOf : Text → List Row → Text → Type 0
@@ -32,6 +38,10 @@ IsValueOf id rows name = first_of id rows ≡ Some name
 -- the name is the value of the option with this id, or none if none is named
 abbrev pub IsMaybeOf : Text → List Row → Option Text → Type 0
 IsMaybeOf id rows name = name ≡ first_of id rows
+
+-- the option with this id has no value
+abbrev pub HasNone : Text → List Row → Type 0
+HasNone id rows = first_of id rows ≡ None
 
 -- the program is the named one, or standard input if none is named
 abbrev pub IsProgramOf : List Row → Text → Type 0
@@ -78,11 +88,25 @@ IsSimulateOf rows o =
     × IsWindowOf rows o.window × IsFlagOf (codes "trace") rows o.trace × IsExplainedOf rows o.explain
     × IsProgramOf rows (string_bytes o.program)
 
--- an audit of the program with the named setup, features and contacts
+-- an audit of the program with the named setup, features and contacts; no record is named
 abbrev pub IsAuditOf : List Row → Audit → Type 0
 IsAuditOf rows o =
     IsValueOf (codes "setup") rows (string_bytes o.setup) × IsValueOf (codes "features") rows (string_bytes o.features)
-    × IsValueOf (codes "contacts") rows (string_bytes o.contacts) × IsExplainedOf rows o.explain × IsProgramOf rows (string_bytes o.program)
+    × IsValueOf (codes "contacts") rows (string_bytes o.contacts) × HasNone (codes "record") rows × IsExplainedOf rows o.explain
+    × IsProgramOf rows (string_bytes o.program)
+
+-- an audit of the program with the named record, and with the named setup or with none if none is named; no features or contacts are named
+abbrev pub IsRecordAuditOf : List Row → RecordAudit → Type 0
+IsRecordAuditOf rows o =
+    IsMaybeOf (codes "setup") rows (option_map string_bytes o.setup) × IsValueOf (codes "record") rows (string_bytes o.record)
+    × HasNone (codes "features") rows × HasNone (codes "contacts") rows × IsExplainedOf rows o.explain
+    × IsProgramOf rows (string_bytes o.program)
+
+-- the order of `audit`: that of a record just if one is named
+abbrev pub IsAnyAuditOf : List Row → Order → Type 0
+IsAnyAuditOf rows (order.Audit o) = IsAuditOf rows o
+IsAnyAuditOf rows (order.AuditRecord o) = IsRecordAuditOf rows o
+IsAnyAuditOf rows _ = ⊥
 
 -- a run of the program over one connection to itself, with the named setup and window
 abbrev pub IsLoopOf : List Row → Loop → Type 0
@@ -115,27 +139,46 @@ abbrev pub IsExplainOf : List Row → Topic → Type 0
 IsExplainOf rows topic = IsSomeAnd (first_of (codes "CODE") rows) (IsCodeOf topic)
 
 -- the word for a form
-abbrev pub form_word : Form → Text
-form_word Csv = codes "csv"
-form_word Json = codes "json"
-form_word Svg = codes "svg"
+abbrev pub form_word : RecordForm → Text
+form_word (Table Csv) = codes "csv"
+form_word (Table Json) = codes "json"
+form_word (Table Svg) = codes "svg"
+form_word Features = codes "features"
+form_word Contacts = codes "contacts"
 
--- what was measured of the program, in the named form, with the named features, and with the named setup or with none if none is named
+-- what was measured of the program, in the named form, with the named features, and with the named setup or with none if none is named; no
+-- record is named
 abbrev pub IsExportOf : List Row → Export → Type 0
 IsExportOf rows o =
+    IsValueOf (codes "as") rows (form_word (Table o.form)) × IsMaybeOf (codes "setup") rows (option_map string_bytes o.setup)
+    × IsValueOf (codes "features") rows (string_bytes o.features) × HasNone (codes "record") rows × IsExplainedOf rows o.explain
+    × IsProgramOf rows (string_bytes o.program)
+
+-- what the named record holds, in the named form, under the program and the named setup or none if none is named; no features are named
+abbrev pub IsRecordExportOf : List Row → RecordExport → Type 0
+IsRecordExportOf rows o =
     IsValueOf (codes "as") rows (form_word o.form) × IsMaybeOf (codes "setup") rows (option_map string_bytes o.setup)
-    × IsValueOf (codes "features") rows (string_bytes o.features) × IsExplainedOf rows o.explain × IsProgramOf rows (string_bytes o.program)
+    × IsValueOf (codes "record") rows (string_bytes o.record) × HasNone (codes "features") rows × IsExplainedOf rows o.explain
+    × IsProgramOf rows (string_bytes o.program)
+
+-- the order of `export`: that of a record just if one is named
+abbrev pub IsAnyExportOf : List Row → Order → Type 0
+IsAnyExportOf rows (order.Export o) = IsExportOf rows o
+IsAnyExportOf rows (order.ExportRecord o) = IsRecordExportOf rows o
+IsAnyExportOf rows _ = ⊥
 
 -- the order of a subcommand with its values, by its name
 abbrev pub IsNamedOrderOf : Text × List Row → Order → Type 0
 IsNamedOrderOf p (order.Check o) = (p.0 ≡ codes "check") × IsCheckOf p.1 o
 IsNamedOrderOf p (order.Simulate o) = (p.0 ≡ codes "simulate") × IsSimulateOf p.1 o
 IsNamedOrderOf p (order.Audit o) = (p.0 ≡ codes "audit") × IsAuditOf p.1 o
+IsNamedOrderOf p (order.AuditRecord o) = (p.0 ≡ codes "audit") × IsRecordAuditOf p.1 o
 IsNamedOrderOf p (order.Loop o) = (p.0 ≡ codes "loop") × IsLoopOf p.1 o
 IsNamedOrderOf p (order.Serve o) = (p.0 ≡ codes "serve") × IsServeOf p.1 o
 IsNamedOrderOf p (order.Run o) = (p.0 ≡ codes "run") × IsRunOf p.1 o
 IsNamedOrderOf p (order.Explain topic) = (p.0 ≡ codes "explain") × IsExplainOf p.1 topic
 IsNamedOrderOf p (order.Export o) = (p.0 ≡ codes "export") × IsExportOf p.1 o
+IsNamedOrderOf p (order.ExportRecord o) = (p.0 ≡ codes "export") × IsRecordExportOf p.1 o
 
 -- the order of the subcommand that was found
 abbrev pub IsOrderOf : Option (Text × List Row) → Order → Type 0
@@ -182,13 +225,6 @@ pub record HasSimulation (rows : List Row) : Type 0 where
   pub trace : HasFlag (codes "trace") rows
   pub explain : HasExplained rows
 
--- the values that an audit cannot do without are there
-pub record HasAudit (rows : List Row) : Type 0 where
-  pub setup : HasValue (codes "setup") rows
-  pub features : HasValue (codes "features") rows
-  pub contacts : HasValue (codes "contacts") rows
-  pub explain : HasExplained rows
-
 -- the values that a run over a connection to itself cannot do without are there
 pub record HasLoop (rows : List Row) : Type 0 where
   pub setup : HasValue (codes "setup") rows
@@ -217,7 +253,6 @@ pub record HasRun (rows : List Row) : Type 0 where
 -- the values that an export cannot do without are there
 pub record HasExport (rows : List Row) : Type 0 where
   pub form : HasValue (codes "as") rows
-  pub features : HasValue (codes "features") rows
   pub explain : HasExplained rows
 
 -- the name of one of the last four subcommands, with the values that it cannot do without
@@ -227,7 +262,7 @@ IsLaterAskable p = ((p.0 ≡ codes "serve") × HasService p.1) ⊎ ((p.0 ≡ cod
 
 -- the name of a subcommand of `dme`, with the values that it cannot do without
 abbrev pub IsAskable : Text × List Row → Type 0
-IsAskable p = ((p.0 ≡ codes "check") × HasExplained p.1) ⊎ ((p.0 ≡ codes "simulate") × HasSimulation p.1) ⊎ ((p.0 ≡ codes "audit") × HasAudit p.1)
+IsAskable p = ((p.0 ≡ codes "check") × HasExplained p.1) ⊎ ((p.0 ≡ codes "simulate") × HasSimulation p.1) ⊎ ((p.0 ≡ codes "audit") × HasExplained p.1)
     ⊎ ((p.0 ≡ codes "loop") × HasLoop p.1) ⊎ IsLaterAskable p
 
 -- the window is one that a client takes, the port is one that can be listened on, and the count is one of a server's connections
@@ -235,11 +270,13 @@ abbrev pub IsReady : Order → Type 0
 IsReady (order.Check o) = Unit {0}
 IsReady (order.Simulate o) = is_window o.window ≡ true
 IsReady (order.Audit o) = Unit {0}
+IsReady (order.AuditRecord o) = Unit {0}
 IsReady (order.Loop o) = is_window o.window ≡ true
 IsReady (order.Serve o) = (1 ≤ o.port) × (1 ≤ o.connections) × (o.connections ≤ 4000000000)
 IsReady (order.Run o) = (1 ≤ o.port) × (is_window o.window ≡ true)
 IsReady (order.Explain topic) = Unit {0}
 IsReady (order.Export o) = Unit {0}
+IsReady (order.ExportRecord o) = Unit {0}
 
 -- the words are a command line without a fault, and this is the order of the subcommand that they name, with its values
 pub record Asks (words : List Text) (asked : Order) : Type 0 where
@@ -257,7 +294,7 @@ IsNoCode code = (topic : Topic) → IsCodeOf topic code → ⊥
 
 -- the word names no form
 abbrev pub IsNoForm : Text → Type 0
-IsNoForm word = (form : Form) → word ≡ form_word form → ⊥
+IsNoForm word = (form : RecordForm) → word ≡ form_word form → ⊥
 
 -- no refusal has the named code; or memory ran out
 abbrev pub HasNoTopic : List Row → WordsFault → Type 0
@@ -265,32 +302,71 @@ HasNoTopic rows (NoCode code) = IsValueOf (codes "CODE") rows (string_bytes code
 HasNoTopic rows Memory = Unit {0}
 HasNoTopic rows _ = ⊥
 
--- the named word is not a form; or memory ran out
-abbrev pub HasNoForm : List Row → WordsFault → Type 0
-HasNoForm rows (NoForm word) = IsValueOf (codes "as") rows (string_bytes word) × IsNoForm (string_bytes word)
-HasNoForm rows Memory = Unit {0}
-HasNoForm rows _ = ⊥
+-- whether the option with this id has no value
+abbrev pub is_lacking : Text → List Row → Bool
+is_lacking id rows = not (is_some (first_of id rows))
 
--- why a subcommand asks for nothing: no refusal has its code, or its word is not a form; or memory ran out
+-- which of the options that an audit without a record needs are not named; one at least
+pub record AreLacking (rows : List Row) (lacks : Lacks) : Type 0 where
+  pub setup : lacks.setup ≡ is_lacking (codes "setup") rows
+  pub features : lacks.features ≡ is_lacking (codes "features") rows
+  pub contacts : lacks.contacts ≡ is_lacking (codes "contacts") rows
+  pub some : (lacks.setup || lacks.features || lacks.contacts) ≡ true
+
+-- the options of an audit that do not go together
+abbrev pub AuditMisfits : List Row → Misfit → Type 0
+AuditMisfits rows misfit.RecordAndFeatures = HasValue (codes "record") rows × HasValue (codes "features") rows
+AuditMisfits rows misfit.RecordAndContacts = HasValue (codes "record") rows × HasValue (codes "contacts") rows
+AuditMisfits rows (misfit.AuditLacks lacks) = HasNone (codes "record") rows × AreLacking rows lacks
+AuditMisfits rows _ = ⊥
+
+-- the options of an export that do not go together
+abbrev pub ExportMisfits : List Row → Misfit → Type 0
+ExportMisfits rows misfit.RecordAndFeatures = HasValue (codes "record") rows × HasValue (codes "features") rows
+ExportMisfits rows misfit.FeaturesWithoutRecord = HasNone (codes "record") rows × IsValueOf (codes "as") rows (form_word Features)
+ExportMisfits rows misfit.ContactsWithoutRecord = HasNone (codes "record") rows × IsValueOf (codes "as") rows (form_word Contacts)
+ExportMisfits rows (misfit.ExportLacks is_named) = HasNone (codes "record") rows × HasNone (codes "features") rows
+ExportMisfits rows _ = ⊥
+
+-- the options of an audit do not go together; or memory ran out
+abbrev pub HasNoAudit : List Row → WordsFault → Type 0
+HasNoAudit rows (Misfits why) = AuditMisfits rows why
+HasNoAudit rows Memory = Unit {0}
+HasNoAudit rows _ = ⊥
+
+-- the named word is not a form, or the options of an export do not go together; or memory ran out
+abbrev pub HasNoExport : List Row → WordsFault → Type 0
+HasNoExport rows (NoForm word) = IsValueOf (codes "as") rows (string_bytes word) × IsNoForm (string_bytes word)
+HasNoExport rows (Misfits why) = ExportMisfits rows why
+HasNoExport rows Memory = Unit {0}
+HasNoExport rows _ = ⊥
+
+-- the options of an audit or of an export do not go together
+abbrev pub OptionsMisfit : Misfit → Text × List Row → Type 0
+OptionsMisfit why p = ((p.0 ≡ codes "audit") × AuditMisfits p.1 why) ⊎ ((p.0 ≡ codes "export") × ExportMisfits p.1 why)
+
+-- why a subcommand asks for nothing: no refusal has its code, its word is not a form, or its options do not go together; or memory ran out
 abbrev pub AsksForNothing : Option (Text × List Row) → WordsFault → Type 0
 AsksForNothing found (Line error) = ⊥
 AsksForNothing found Memory = Unit {0}
 AsksForNothing found (NoCode code) =
     IsSomeAnd found (λ p. (p.0 ≡ codes "explain") × HasNoTopic p.1 (NoCode code))
 AsksForNothing found (NoForm word) =
-    IsSomeAnd found (λ p. (p.0 ≡ codes "export") × HasNoForm p.1 (NoForm word))
+    IsSomeAnd found (λ p. (p.0 ≡ codes "export") × HasNoExport p.1 (NoForm word))
+AsksForNothing found (Misfits why) = IsSomeAnd found (OptionsMisfit why)
 
 -- the words are a command line without a fault, and this is why the subcommand that they name asks for nothing
 pub record HasNoValue (words : List Text) (fault : WordsFault) : Type 0 where
   pub faultless : fault_of whole_line words ≡ []
   pub named : AsksForNothing (subcommand_of whole_line words) fault
 
--- only a fault of the words is called a bad line, and only an unknown code or form a bad value
+-- only a fault of the words is called a bad line, and only an unknown code or form, or options that do not go together, a bad value
 abbrev pub IsRefusal : List Text → WordsFault → Type 0
 IsRefusal words (Line error) = HasFault words error
 IsRefusal words Memory = Unit {0}
 IsRefusal words (NoCode code) = HasNoValue words (NoCode code)
 IsRefusal words (NoForm word) = HasNoValue words (NoForm word)
+IsRefusal words (Misfits why) = HasNoValue words (Misfits why)
 
 -- what an error of `clap` is called: running out of memory exactly if it is that, and a bad line, with its text, if it is any other
 abbrev pub IsCalled : Error → WordsFault → Type 0

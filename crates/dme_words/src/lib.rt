@@ -1,13 +1,18 @@
 //! The command line of `dme` and what its words ask for. The command line is this profile's; the crate `clap` reads it.
 //!
 //! - `line`: the command line, as `clap` is given it
-//! - `orders`: what words ask for
+//! - `orders`: what words ask for; `misfits`: options that do not go together
 //! - `words`: which of these the words of a command line ask for, or why they ask for nothing
 #![tactic(auto)]
 
 mod line;
+pub mod misfits;
 pub mod orders;
 pub mod words;
 
-pub use orders::{Audit, Check, Export, Loop, Order, Run, Service, Simulation};
+pub use misfits::{Lacks, Misfit};
+pub use orders::{
+    Audit, Check, Export, Loop, Order, RecordAudit, RecordExport, RecordForm, Run, Service,
+    Simulation,
+};
 pub use words::{WordsFault, read_words};

@@ -23,12 +23,14 @@ enum Argument {
     NeededSetup,
     /// `--schedule FILE`, which must be named.
     Schedule,
-    /// `--features FILE`, which must be named: those that the client holds.
+    /// `--features FILE`: those that the client holds.
     HeldFeatures,
-    /// `--contacts FILE`, which must be named: those that the server made.
+    /// `--contacts FILE`: those that the server made.
     MadeContacts,
-    /// `--features FILE`, which must be named: those that were measured.
+    /// `--features FILE`: those that were measured.
     MeasuredFeatures,
+    /// `--record FILE`, which is read.
+    ReadRecord,
     /// `--features FILE`, to which they are written.
     WrittenFeatures,
     /// `--contacts FILE`, to which they are written.
@@ -243,7 +245,9 @@ fn form_option<'a>(alloc: Global) -> Arg<'a>
     Arg::new(alloc, "as")
         .long("as")
         .value_name("FORM")
-        .help("The form that is printed: csv, comma-separated values; json; or svg, a drawing")
+        .help(
+            "The form that is printed: csv, comma-separated values; json; svg, a drawing; of a record also features or contacts",
+        )
         .required(true)
 }
 
@@ -261,15 +265,20 @@ fn made_argument<'a>(alloc: Global, argument: Argument) -> Arg<'a>
         }
         Argument::HeldFeatures => {
             let features = "The features that the client holds; - is standard input";
-            needed_option(alloc, "features", features)
+            file_option(alloc, "features", features)
         }
         Argument::MadeContacts => {
             let contacts = "The contacts that the server made; - is standard input";
-            needed_option(alloc, "contacts", contacts)
+            file_option(alloc, "contacts", contacts)
         }
         Argument::MeasuredFeatures => {
             let measured = "The features that were measured; - is standard input";
-            needed_option(alloc, "features", measured)
+            file_option(alloc, "features", measured)
+        }
+        Argument::ReadRecord => {
+            let record =
+                "The record of a run, in place of features and contacts; - is standard input";
+            file_option(alloc, "record", record)
         }
         Argument::WrittenFeatures => {
             let written =
@@ -392,7 +401,7 @@ fn simulate_command<'a>(alloc: Global) -> Result<Command<'a>, AllocError>
     )
 }
 
-/// `audit --setup FILE --features FILE --contacts FILE [--explain] [PROGRAM]`.
+/// `audit [--setup FILE] [--features FILE] [--contacts FILE] [--record FILE] [--explain] [PROGRAM]`.
 fn audit_command<'a>(alloc: Global) -> Result<Command<'a>, AllocError>
     ensures shape { IfOk result (λ command. app_of command ≡ audit_line) }
     ensures local { IfOk result (λ command. (out-Command command).has_globals ≡ false) }
@@ -404,9 +413,10 @@ fn audit_command<'a>(alloc: Global) -> Result<Command<'a>, AllocError>
         alloc,
         command,
         &[
-            Argument::NeededSetup,
+            Argument::Setup,
             Argument::HeldFeatures,
             Argument::MadeContacts,
+            Argument::ReadRecord,
             Argument::Explain,
             Argument::Program,
         ],
@@ -494,7 +504,7 @@ fn explain_command<'a>(alloc: Global) -> Result<Command<'a>, AllocError>
     with_argument(command, code_argument(alloc))
 }
 
-/// `export --as FORM [--setup FILE] --features FILE [--explain] [PROGRAM]`.
+/// `export --as FORM [--setup FILE] [--features FILE] [--record FILE] [--explain] [PROGRAM]`.
 fn export_command<'a>(alloc: Global) -> Result<Command<'a>, AllocError>
     ensures shape { IfOk result (λ command. app_of command ≡ export_line) }
     ensures local { IfOk result (λ command. (out-Command command).has_globals ≡ false) }
@@ -509,6 +519,7 @@ fn export_command<'a>(alloc: Global) -> Result<Command<'a>, AllocError>
             Argument::Form,
             Argument::Setup,
             Argument::MeasuredFeatures,
+            Argument::ReadRecord,
             Argument::Explain,
             Argument::Program,
         ],

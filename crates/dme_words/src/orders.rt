@@ -12,6 +12,8 @@ pub enum Order {
     Simulate(Simulation),
     /// Say in which runs of the server's contacts the client's features were measured.
     Audit(Audit),
+    /// Say likewise of a record: in which runs of the reported contacts its features were measured.
+    AuditRecord(RecordAudit),
     /// Run a program on a simulated machine over one connection to itself, and print the report.
     Loop(Loop),
     /// Be the server of a simulated machine, and print the contacts that it made.
@@ -22,6 +24,8 @@ pub enum Order {
     Explain(Topic),
     /// Print how far the measured points of features lie from their nominal points.
     Export(Export),
+    /// Print likewise what a record holds, or the text of one of its two ledgers.
+    ExportRecord(RecordExport),
 }
 
 /// The values of `check`.
@@ -61,6 +65,19 @@ pub struct Audit {
     pub features: String,
     /// The file of the contacts that the server made; `-` is standard input.
     pub contacts: String,
+    /// Whether a line that is refused is shown, with what is wrong with it.
+    pub explain: bool,
+    /// The file of the program; `-` is standard input.
+    pub program: String,
+}
+
+/// The values of `audit` for a record.
+#[derive(Debug, Drop)]
+pub struct RecordAudit {
+    /// The file of the machine's setup, whose frames the program may recall; `-` is standard input.
+    pub setup: Option<String>,
+    /// The file of the record; `-` is standard input.
+    pub record: String,
     /// Whether a line that is refused is shown, with what is wrong with it.
     pub explain: bool,
     /// The file of the program; `-` is standard input.
@@ -135,6 +152,32 @@ pub struct Export {
     pub setup: Option<String>,
     /// The file of the features that were measured; `-` is standard input.
     pub features: String,
+    /// Whether a line that is refused is shown, with what is wrong with it.
+    pub explain: bool,
+    /// The file of the program; `-` is standard input.
+    pub program: String,
+}
+
+/// A form in which a record is printed.
+#[derive(Clone, Copy, Debug, PartialEq, Eq)]
+pub enum RecordForm {
+    /// What was measured, in one of the forms of features.
+    Table(Form),
+    /// The text of a features file.
+    Features,
+    /// The text of a contacts file.
+    Contacts,
+}
+
+/// The values of `export` for a record.
+#[derive(Debug, Drop)]
+pub struct RecordExport {
+    /// The form that is printed.
+    pub form: RecordForm,
+    /// The file of the machine's setup, whose frames the program may recall; `-` is standard input.
+    pub setup: Option<String>,
+    /// The file of the record; `-` is standard input.
+    pub record: String,
     /// Whether a line that is refused is shown, with what is wrong with it.
     pub explain: bool,
     /// The file of the program; `-` is standard input.

@@ -5,16 +5,22 @@ ghost use Rattle.std.specs.Option.{option_map};
 ghost use Rattle.clap.specs.Words.{first_of, found_of, rows_of, subcommand_rows_of};
 ghost use Rattle.client_core.specs.Clients.{is_window};
 ghost use Rattle.dme_words.specs.Ordered.{IsValueOf, IsMaybeOf, IsProgramOf, IsWindowOf, IsPortOf, IsConnectionsOf, IsFlagOf};
-ghost use Rattle.dme_words.specs.Ordered.{IsCheckOf, IsSimulateOf, IsAuditOf, IsLoopOf, IsServeOf, IsRunOf, IsOrderOf};
-ghost use Rattle.dme_words.specs.Ordered.{IsExplainOf, IsExportOf, HasExport, AsksForNothing, IsNoCode, IsNoForm, IsCodeOf, form_word, HasNoTopic, HasNoForm};
+ghost use Rattle.dme_words.specs.Ordered.{IsCheckOf, IsSimulateOf, IsAnyAuditOf, IsLoopOf, IsServeOf, IsRunOf, IsOrderOf};
+ghost use Rattle.dme_words.specs.Ordered.{IsExplainOf, IsAnyExportOf, HasExport, AsksForNothing, IsNoCode, IsNoForm, IsCodeOf, form_word, HasNoTopic};
 ghost use Rattle.dme_words.specs.Ordered.{HasValue, HasWindow, HasPort, HasConnections, HasFlag, HasExplained};
-ghost use Rattle.dme_words.specs.Ordered.{HasSimulation, HasAudit, HasLoop, HasService, HasRun};
+ghost use Rattle.dme_words.specs.Ordered.{HasSimulation, HasLoop, HasService, HasRun};
+ghost use Rattle.dme_words.specs.Ordered.{HasNone, is_lacking, AreLacking, HasNoAudit, HasNoExport, ExportMisfits};
 ghost use Rattle.dme_words.specs.Ordered.{IsLaterAskable};
 ghost use Rattle.dme_words.specs.Ordered.{IsAskable, IsReady, Asks, IsRefusal, IsCalled};
 
 use crate::line::whole_command;
-use crate::orders::{Audit, Check, Export, Loop, Order, Run, Service, Simulation};
+use crate::misfits::{Lacks, Misfit};
+use crate::orders::{
+    Audit, Check, Export, Loop, Order, RecordAudit, RecordExport, RecordForm, Run, Service,
+    Simulation,
+};
 use clap::error::ErrorKind;
+use clap::parser::ValueSource;
 use clap::{ArgMatches, Error};
 use deviations::Form;
 use refusal_guide::Topic;
@@ -29,6 +35,8 @@ pub enum WordsFault {
     NoCode(String),
     /// A word that names no form.
     NoForm(String),
+    /// Options that do not go together.
+    Misfits(Misfit),
     /// Out of memory.
     Memory,
 }
@@ -172,23 +180,86 @@ fn simulate_order(alloc: Global, values: &ArgMatches) -> Result<Simulation, Allo
     })
 }
 
-/// The values of `audit`. Fails only if out of memory.
-fn audit_order(alloc: Global, values: &ArgMatches) -> Result<Audit, AllocError>
-    requires { HasAudit (rows_of (found_of values.now)) }
-    ensures { IfOk result (IsAuditOf (rows_of (found_of values.now))) }
+/// Whether an option has no value.
+fn is_lacking(values: &ArgMatches, id: &str) -> bool
+    ensures { result ≡ is_lacking id.now (rows_of (found_of values.now)) }
 {
+    value_of(values, id).is_none()
+}
+
+/// Whether the command line names a program.
+fn names_program(values: &ArgMatches) -> bool {
+    matches!(
+        values.value_source("PROGRAM"),
+        Some(ValueSource::CommandLine)
+    )
+}
+
+/// The values of `audit` for the record that is named.
+fn record_audit(alloc: Global, values: &ArgMatches, file: String) -> Result<Order, WordsFault>
+    requires explain { HasExplained (rows_of (found_of values.now)) }
+    requires recorded { IsValueOf (codes "record") (rows_of (found_of values.now))
+        (string_bytes file) }
+    ensures named { IfOk result (IsAnyAuditOf (rows_of (found_of values.now))) }
+    ensures none { IfErr result (HasNoAudit (rows_of (found_of values.now))) }
+{
+    if !is_lacking(values, "features") {
+        return Err(WordsFault::Misfits(Misfit::RecordAndFeatures));
+    }
+    if !is_lacking(values, "contacts") {
+        return Err(WordsFault::Misfits(Misfit::RecordAndContacts));
+    }
+    let setup = copied_maybe(alloc, values, "setup")?;
+    let explain = flag_of(values, "explain");
+    let program = copied_program(alloc, values)?;
+    Ok(Order::AuditRecord(RecordAudit {
+        setup,
+        record: file,
+        explain,
+        program,
+    }))
+}
+
+/// The values of `audit` without a record.
+fn files_audit(alloc: Global, values: &ArgMatches) -> Result<Order, WordsFault>
+    requires explain { HasExplained (rows_of (found_of values.now)) }
+    requires recorded { HasNone (codes "record") (rows_of (found_of values.now)) }
+    ensures named { IfOk result (IsAnyAuditOf (rows_of (found_of values.now))) }
+    ensures none { IfErr result (HasNoAudit (rows_of (found_of values.now))) }
+{
+    let lacks = Lacks {
+        setup: is_lacking(values, "setup"),
+        features: is_lacking(values, "features"),
+        contacts: is_lacking(values, "contacts"),
+        is_named: names_program(values),
+    };
+    if lacks.setup || lacks.features || lacks.contacts {
+        return Err(WordsFault::Misfits(Misfit::AuditLacks(lacks)));
+    }
     let setup = copied_value(alloc, values, "setup")?;
     let features = copied_value(alloc, values, "features")?;
     let contacts = copied_value(alloc, values, "contacts")?;
     let explain = flag_of(values, "explain");
     let program = copied_program(alloc, values)?;
-    Ok(Audit {
+    Ok(Order::Audit(Audit {
         setup,
         features,
         contacts,
         explain,
         program,
-    })
+    }))
+}
+
+/// The values of `audit`: of a record, if one is named.
+fn audit_order(alloc: Global, values: &ArgMatches) -> Result<Order, WordsFault>
+    requires { HasExplained (rows_of (found_of values.now)) }
+    ensures named { IfOk result (IsAnyAuditOf (rows_of (found_of values.now))) }
+    ensures none { IfErr result (HasNoAudit (rows_of (found_of values.now))) }
+{
+    match copied_maybe(alloc, values, "record")? {
+        Some(file) => record_audit(alloc, values, file),
+        None => files_audit(alloc, values),
+    }
 }
 
 /// The values of `loop`. Fails only if out of memory.
@@ -290,34 +361,107 @@ fn explain_order(alloc: Global, values: &ArgMatches) -> Result<Topic, WordsFault
 }
 
 /// The form that a word names.
-fn form_of(word: String) -> Result<Form, WordsFault>
+fn form_of(word: String) -> Result<RecordForm, WordsFault>
     ensures ok { IfOk result (λ form. string_bytes word ≡ form_word form) }
     ensures err { IfErr result (λ fault. (fault ≡ WordsFault.NoForm word)
         × IsNoForm (string_bytes word)) }
 {
     match word.as_str() {
-        "csv" => Ok(Form::Csv),
-        "json" => Ok(Form::Json),
-        "svg" => Ok(Form::Svg),
+        "csv" => Ok(RecordForm::Table(Form::Csv)),
+        "json" => Ok(RecordForm::Table(Form::Json)),
+        "svg" => Ok(RecordForm::Table(Form::Svg)),
+        "features" => Ok(RecordForm::Features),
+        "contacts" => Ok(RecordForm::Contacts),
         _ => Err(WordsFault::NoForm(word)),
     }
 }
 
-/// The values of `export`.
-fn export_order(alloc: Global, values: &ArgMatches) -> Result<Export, WordsFault>
-    requires { HasExport (rows_of (found_of values.now)) }
-    ensures named { IfOk result (IsExportOf (rows_of (found_of values.now))) }
-    ensures none { IfErr result (HasNoForm (rows_of (found_of values.now))) }
+/// The values of `export` for the record that is named.
+fn record_export(
+    alloc: Global,
+    values: &ArgMatches,
+    form: RecordForm,
+    file: String,
+) -> Result<Order, WordsFault>
+    requires explain { HasExplained (rows_of (found_of values.now)) }
+    requires form { IsValueOf (codes "as") (rows_of (found_of values.now)) (form_word form) }
+    requires recorded { IsValueOf (codes "record") (rows_of (found_of values.now))
+        (string_bytes file) }
+    requires features { HasNone (codes "features") (rows_of (found_of values.now)) }
+    ensures named { IfOk result (IsAnyExportOf (rows_of (found_of values.now))) }
+    ensures none { IfErr result (HasNoExport (rows_of (found_of values.now))) }
 {
-    let word = copied_value(alloc, values, "as")?;
-    let form = form_of(word)?;
-    Ok(Export {
+    Ok(Order::ExportRecord(RecordExport {
         form,
         setup: copied_maybe(alloc, values, "setup")?,
-        features: copied_value(alloc, values, "features")?,
+        record: file,
         explain: flag_of(values, "explain"),
         program: copied_program(alloc, values)?,
-    })
+    }))
+}
+
+/// The values of `export` for the features that are named. Two of the forms are those of a record only.
+fn features_export(
+    alloc: Global,
+    values: &ArgMatches,
+    form: RecordForm,
+    features: String,
+) -> Result<Order, WordsFault>
+    requires explain { HasExplained (rows_of (found_of values.now)) }
+    requires form { IsValueOf (codes "as") (rows_of (found_of values.now)) (form_word form) }
+    requires features { IsValueOf (codes "features") (rows_of (found_of values.now))
+        (string_bytes features) }
+    requires recorded { HasNone (codes "record") (rows_of (found_of values.now)) }
+    ensures named { IfOk result (IsAnyExportOf (rows_of (found_of values.now))) }
+    ensures none { IfErr result (HasNoExport (rows_of (found_of values.now))) }
+{
+    let form = match form {
+        RecordForm::Table(form) => form,
+        RecordForm::Features => {
+            return Err(WordsFault::Misfits(Misfit::FeaturesWithoutRecord));
+        }
+        RecordForm::Contacts => {
+            return Err(WordsFault::Misfits(Misfit::ContactsWithoutRecord));
+        }
+    };
+    Ok(Order::Export(Export {
+        form,
+        setup: copied_maybe(alloc, values, "setup")?,
+        features,
+        explain: flag_of(values, "explain"),
+        program: copied_program(alloc, values)?,
+    }))
+}
+
+/// What an export with neither record nor features lacks, by the word for its form.
+fn export_lacks(values: &ArgMatches, word: &str) -> Misfit
+    requires form { IsValueOf (codes "as") (rows_of (found_of values.now)) word.now }
+    requires recorded { HasNone (codes "record") (rows_of (found_of values.now)) }
+    requires features { HasNone (codes "features") (rows_of (found_of values.now)) }
+    ensures { ExportMisfits (rows_of (found_of values.now)) result }
+{
+    match word {
+        "features" => Misfit::FeaturesWithoutRecord,
+        "contacts" => Misfit::ContactsWithoutRecord,
+        _ => Misfit::ExportLacks(names_program(values)),
+    }
+}
+
+/// The values of `export`: of a record, if one is named.
+fn export_order(alloc: Global, values: &ArgMatches) -> Result<Order, WordsFault>
+    requires { HasExport (rows_of (found_of values.now)) }
+    ensures named { IfOk result (IsAnyExportOf (rows_of (found_of values.now))) }
+    ensures none { IfErr result (HasNoExport (rows_of (found_of values.now))) }
+{
+    let word = copied_value(alloc, values, "as")?;
+    let record = copied_maybe(alloc, values, "record")?;
+    let features = copied_maybe(alloc, values, "features")?;
+    match (record, features) {
+        (Some(_), Some(_)) => Err(WordsFault::Misfits(Misfit::RecordAndFeatures)),
+        (Some(record), None) => record_export(alloc, values, form_of(word)?, record),
+        (None, Some(features)) => features_export(alloc, values, form_of(word)?, features),
+        (None, None) => Err(WordsFault::Misfits(export_lacks(values, word.as_str()))),
+    }
 }
 
 /// The order of one of the last four subcommands, with its values.
@@ -332,7 +476,7 @@ fn later_order(alloc: Global, name: &str, values: &ArgMatches) -> Result<Order, 
         "serve" => Ok(Order::Serve(serve_order(alloc, values)?)),
         "run" => Ok(Order::Run(run_order(alloc, values)?)),
         "explain" => Ok(Order::Explain(explain_order(alloc, values)?)),
-        "export" => Ok(Order::Export(export_order(alloc, values)?)),
+        "export" => export_order(alloc, values),
         _ => unreachable!(),
     }
 }
@@ -347,7 +491,7 @@ fn order_of(alloc: Global, matches: &ArgMatches) -> Result<Order, WordsFault>
     match matches.subcommand() {
         Some(("check", values)) => Ok(Order::Check(check_order(alloc, values)?)),
         Some(("simulate", values)) => Ok(Order::Simulate(simulate_order(alloc, values)?)),
-        Some(("audit", values)) => Ok(Order::Audit(audit_order(alloc, values)?)),
+        Some(("audit", values)) => audit_order(alloc, values),
         Some(("loop", values)) => Ok(Order::Loop(loop_order(alloc, values)?)),
         Some((name, values)) => later_order(alloc, name, values),
         None => unreachable!(),
@@ -364,8 +508,8 @@ fn refusal_of(error: Error) -> WordsFault
     WordsFault::Line(error)
 }
 
-/// What `clap`'s answer asks for. Words that it takes are refused only for a code that no refusal has, for a word that names no form, or
-/// because memory ran out in copying a value.
+/// What `clap`'s answer asks for. Words that it takes are refused only for a code that no refusal has, for a word that names no form, for
+/// options that do not go together, or because memory ran out in copying a value.
 fn answered(alloc: Global, answer: Result<ArgMatches, Error>) -> Result<Order, WordsFault>
     requires { IfOk answer (λ matches. IsSomeAnd (subcommand_rows_of matches) IsAskable) }
     ensures order { IfOk answer.entry (λ matches. IfOk result
@@ -383,7 +527,8 @@ fn answered(alloc: Global, answer: Result<ArgMatches, Error>) -> Result<Order, W
 
 /// What the words of a command line ask for. The first word names the program in `clap`'s texts.
 ///
-/// Words are a bad line only for a fault that they have; a code is refused only if no refusal has it, and a word only if it names no form.
+/// Words are a bad line only for a fault that they have; a code is refused only if no refusal has it, a word only if it names no
+/// form, and options only if they do not go together.
 /// Running out of memory is reported as that alone, in building the command, in `clap`, or in copying a value.
 pub fn read_words<'a>(alloc: Global, words: &'a [&'a str]) -> Result<Order, WordsFault>
     ensures order { IfOk result (Asks (map (λ word. word.now) words.now)) }

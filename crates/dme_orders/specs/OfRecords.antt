@@ -1,0 +1,65 @@
+-- What auditing and exporting the record of a run leaves (this profile).
+use Rattle.std.specs.Prelude.{◌≡◌, ◌⊎◌, ℕ, List, Option, true, false, Result}
+use Rattle.client_core.specs.Clients.{are_ours}
+use Rattle.contact_ledger.specs.ContactTexts.{contacts_text}
+use Rattle.contact_ledger.specs.declared.acts.Act.{Act}
+use Rattle.contact_ledger.specs.declared.features.Feature.{Feature}
+use Rattle.dmis_program.specs.Meaning.{Meaning}
+use Rattle.run_record.specs.Records.{Recorded}
+use Rattle.dme_orders.specs.Auditing.{LeavesVerdict}
+use Rattle.dme_orders.specs.Driving.{IsFeaturesText}
+use Rattle.dme_orders.specs.Exporting.{LeavesTable}
+use Rattle.dme_orders.specs.Input.{Named, RecordInput, ReadsHeld, WhyNoneHeld}
+use Rattle.dme_orders.specs.Orders.{Went, Carries}
+use Rattle.dme_orders.specs.Reading.{Came}
+use Rattle.dme_orders.specs.Recorded.{IsOfProgram, DiffersAt, features_in, told_in}
+use Rattle.dme_orders.specs.declared.of_records.RecordText.{RecordText}
+use Rattle.dme_orders.specs.declared.of_records.RecordText.TheVariants.{Table, Features, Contacts}
+use Rattle.dme_orders.specs.declared.reading.FilesFault.{FilesFault}
+use Rattle.dme_orders.specs.declared.reading.FilesFault.TheVariants as files
+
+-- a record is not of a program: this feature differs; or memory ran out
+abbrev pub RefusesRecord : Option Recorded → Meaning → FilesFault → Type 0
+RefusesRecord held program cause =
+    ((label : List ℕ) × (cause ≡ files.OtherProgram label) × DiffersAt held program label) ⊎ (cause ≡ files.Memory)
+
+-- the record is of the program, and this is the line of a verdict on its features by its acts, with the status that goes with it
+pub record LeavesRecordVerdict (input : RecordInput) (status : ℕ) (text : List ℕ) : Type 0 where
+  pub same : IsOfProgram input.held input.program
+  pub verdict : LeavesVerdict input.program (features_in input.held) (told_in input.held) status text
+
+-- a text in a form: the table of the features, or the text of a features file, or the text of a contacts file
+abbrev pub IsRecordText : RecordText → Meaning → List Feature → List (ℕ × Act) → List ℕ → Type 0
+IsRecordText (Table form) program features told text = LeavesTable form program features text
+IsRecordText Features program features told text = (are_ours program.features features ≡ true) × IsFeaturesText features text
+IsRecordText Contacts program features told text = text ≡ contacts_text told
+
+-- the record is of the program, and this is its text in a form
+pub record LeavesRecordText (form : RecordText) (input : RecordInput) (done : Unit {0}) (text : List ℕ) : Type 0 where
+  pub same : IsOfProgram input.held input.program
+  pub is : IsRecordText form input.program (features_in input.held) (told_in input.held) text
+
+module _ {S J R W : Type 0} (s : Named S) (j : Came J) (r : Came R) (w : Went W) where
+  -- all files were read, and the record is not of the program: this feature differs
+  pub record IsOtherProgram (cause : FilesFault) : Type 0 where
+    pub label : List ℕ
+    pub is : cause ≡ files.OtherProgram label
+    pub input : RecordInput
+    pub read : ReadsHeld s j r input
+    pub other : DiffersAt input.held input.program label
+
+  -- all files were read, and the features are not the first ones of the program
+  pub record HoldsOthers (cause : FilesFault) : Type 0 where
+    pub is : cause ≡ files.NotOurs
+    pub input : RecordInput
+    pub read : ReadsHeld s j r input
+    pub not_ours : are_ours input.program.features (features_in input.held) ≡ false
+
+  -- the line of the verdict was written, or the audit was not carried out: a file is blamed, or the record is of another program
+  abbrev pub AuditsRecord : Result ℕ FilesFault → Type 0
+  AuditsRecord = Carries (ReadsHeld s j r) LeavesRecordVerdict w (λ cause. WhyNoneHeld s j r cause ⊎ IsOtherProgram cause)
+
+  -- the text was written, or the export was not carried out: a file is blamed, or the record is of another program, or has other features
+  abbrev pub ExportsRecord : RecordText → Result (Unit {0}) FilesFault → Type 0
+  ExportsRecord form = Carries (ReadsHeld s j r) (LeavesRecordText form) w
+      (λ cause. WhyNoneHeld s j r cause ⊎ (IsOtherProgram cause ⊎ HoldsOthers cause))

@@ -1,0 +1,29 @@
+-- What an order takes from the record of a run (this profile).
+use Rattle.std.specs.Prelude.{ℕ, List, [], Option, Some, None, Result}
+use Rattle.contact_ledger.specs.declared.acts.Act.{Act}
+use Rattle.contact_ledger.specs.declared.features.Feature.{Feature}
+use Rattle.dmis_program.specs.Meaning.{Meaning}
+use Rattle.run_record.specs.Records.{Recorded}
+use Rattle.run_record.specs.declared.faults.RecordFault.{RecordFault}
+
+-- what reading a text as a record answers: nothing is claimed of the answer yet, and `ReadsRecord` of `run_record` belongs here
+abbrev pub IsReadAs : List ℕ → Result (Option Recorded) RecordFault → Type 0
+IsReadAs text answer = Unit {0}
+
+-- a record asked for the features of this program: nothing is claimed yet
+abbrev pub IsOfProgram : Option Recorded → Meaning → Type 0
+IsOfProgram held program = Unit {0}
+
+-- this feature is the first in which a record is not of this program: nothing is claimed yet
+abbrev pub DiffersAt : Option Recorded → Meaning → List ℕ → Type 0
+DiffersAt held program label = Unit {0}
+
+-- the features that a record completes; a record that is not begun has none
+abbrev pub features_in : Option Recorded → List Feature
+features_in None = []
+features_in (Some held) = held.features
+
+-- the acts that a record says a server reported
+abbrev pub told_in : Option Recorded → List (ℕ × Act)
+told_in None = []
+told_in (Some held) = held.told

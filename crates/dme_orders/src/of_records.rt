@@ -1,0 +1,191 @@
+// The record of a run is audited and exported, over ports.
+
+ghost use Rattle.std.specs.Prelude.{◌≡◌, ◌<◌, length, Option, OnOk, IfOk, IfErr, true};
+ghost use Rattle.client_core.specs.Clients.{are_ours};
+ghost use Rattle.contact_ledger.specs.ContactTexts.{contacts_text};
+ghost use Rattle.contact_ledger.specs.Ledgers.{HaveOrigins};
+ghost use Rattle.tool_rack.specs.Setups.{SetupValue};
+ghost use Rattle.dme_orders.specs.Driving.{IsFeaturesText};
+ghost use Rattle.dme_orders.specs.Exporting.{RefusesFeatures};
+ghost use Rattle.dme_orders.specs.Input.{named, ReadsHeld, WhyNoneHeld};
+ghost use Rattle.dme_orders.specs.OfRecords.{RefusesRecord, IsRecordText, AuditsRecord, ExportsRecord};
+ghost use Rattle.dme_orders.specs.Orders.{went};
+ghost use Rattle.dme_orders.specs.Reading.{came};
+ghost use Rattle.dme_orders.specs.Recorded.{IsOfProgram, features_in, told_in};
+
+use crate::auditing::audited;
+use crate::exporting::table_text;
+use crate::reading::{FilesFault, named_setup, program_under, record_from};
+use crate::simulating::write_text;
+use byte_ports::{Sink, Source};
+use contact_ledger::{Feature, FeatureLedger, ServerLedger, write_contacts, write_features};
+use deviations::{Form, rows_of};
+use dmis_program::Program;
+use run_record::{Record, other_feature};
+use std::alloc::{AllocError, Global};
+
+/// The files of an order over a record, as sources.
+#[derive(Drop)]
+pub struct RecordFiles<S, J, R> {
+    /// The machine's setup, if one is named.
+    pub setup: Option<S>,
+    /// The record of a run.
+    pub record: J,
+    /// The DMIS program.
+    pub program: R,
+}
+
+/// What is printed of a record.
+#[derive(Clone, Copy, Debug, PartialEq, Eq)]
+pub enum RecordText {
+    /// The table of its features, or their drawing.
+    Table(Form),
+    /// The text of a features file.
+    Features,
+    /// The text of a contacts file.
+    Contacts,
+}
+
+/// Reads a setup if one is named, then a record, then a program under the setup's frames, each to the end of its text and understood before
+/// the next is read.
+fn record_input<S: Source, J: Source, R: Source>(
+    alloc: Global,
+    files: &mut RecordFiles<S, J, R>,
+) -> Result<(Option<Record>, Program), FilesFault>
+    ensures ok { IfOk result (λ read. (said : Option SetupValue)
+        × ReadsHeld (named S.left S.has_failed files.old.setup files.new.setup)
+        (came J.left J.has_failed files.old.record files.new.record)
+        (came R.left R.has_failed files.old.program files.new.program)
+        (record { setup = said; held = read.0; program = read.1 })) }
+    ensures err { IfErr result (WhyNoneHeld (named S.left S.has_failed files.old.setup files.new.setup)
+        (came J.left J.has_failed files.old.record files.new.record)
+        (came R.left R.has_failed files.old.program files.new.program)) }
+{
+    let setup = named_setup(alloc, &mut files.setup)?;
+    let held = record_from(alloc, &mut files.record)?;
+    let program = program_under(alloc, &setup, &mut files.program)?;
+    Ok((held, program))
+}
+
+/// Refuses a record that is not of this program. One that is not begun is of any.
+fn of_program(alloc: Global, held: &Option<Record>, program: &Program) -> Result<(), FilesFault>
+    ensures same { OnOk result (IsOfProgram held.now program.now) }
+    ensures other { IfErr result (RefusesRecord held.now program.now) }
+{
+    let Some(held) = held else {
+        return Ok(());
+    };
+    match other_feature(held, program) {
+        None => Ok(()),
+        Some(label) => Err(FilesFault::OtherProgram(label.copy(alloc)?)),
+    }
+}
+
+/// The features and the acts of a record; one that is not begun has none.
+fn parts_of(alloc: Global, held: Option<Record>) -> (FeatureLedger, ServerLedger)
+    ensures features { result.0 ≡ features_in held }
+    ensures told { result.1 ≡ told_in held }
+{
+    match held {
+        Some(held) => held.into_parts(),
+        None => (FeatureLedger::new(alloc), ServerLedger::new(alloc)),
+    }
+}
+
+/// Reads a setup if one is named, then a record, then a program under the setup's frames, each to the end of its text and understood before
+/// the next is read; audits the record's features by the acts that it says a server reported; and writes the line of the verdict. The answer
+/// is the exit status: 0 if every feature has its run, else 3. A record of another program is `OtherProgram`; its part is not compared.
+///
+/// It writes only once the whole line is there. A file is blamed only for its own first refusal, or because it could not be read.
+pub fn audit_record<S: Source, J: Source, R: Source, W: Sink>(
+    alloc: Global,
+    files: &mut RecordFiles<S, J, R>,
+    sink: &mut W,
+) -> Result<u8, FilesFault>
+    ensures { AuditsRecord (named S.left S.has_failed files.old.setup files.new.setup)
+        (came J.left J.has_failed files.old.record files.new.record)
+        (came R.left R.has_failed files.old.program files.new.program)
+        (went W.taken W.has_failed sink.old sink.new) result }
+{
+    let (held, program) = record_input(alloc, files)?;
+    of_program(alloc, &held, &program)?;
+    let (features, ledger) = parts_of(alloc, held);
+    let (status, text) = audited(alloc, features, ledger, program)?;
+    write_text(sink, text.as_slice())?;
+    Ok(status)
+}
+
+/// The text of a features file. The features are refused only if they are not the first ones of the program.
+#[tactic(auto, using(crate::proofs::RecordLemmas::ours_can_be_written, crate::proofs::RecordLemmas::features_have_text))]
+fn features_text(
+    alloc: Global,
+    program: &Program,
+    features: &[Feature],
+) -> Result<Vec<u8>, FilesFault>
+    requires { HaveOrigins features.now }
+    ensures ours { OnOk result (are_ours program.now.features features.now ≡ true) }
+    ensures text { IfOk result (λ text. IsFeaturesText features.now text.items) }
+    ensures some { IfOk result (λ text. 0 < length text.items) }
+    ensures refused { IfErr result (RefusesFeatures program.now features.now) }
+{
+    drop(rows_of(alloc, program, features)?);
+    let _wanted = program.features();
+    let mut text = Vec::new(alloc);
+    write_features(&mut text, features)?;
+    Ok(text)
+}
+
+/// The text of a contacts file. Fails only if out of memory.
+#[tactic(auto, using(crate::proofs::RecordLemmas::contacts_have_text))]
+fn contacts_text(alloc: Global, ledger: &ServerLedger) -> Result<Vec<u8>, AllocError>
+    ensures text { IfOk result (λ text. text.items ≡ contacts_text ledger.now) }
+    ensures some { IfOk result (λ text. 0 < length text.items) }
+{
+    let mut text = Vec::new(alloc);
+    write_contacts(&mut text, ledger)?;
+    Ok(text)
+}
+
+/// What is printed of features and acts of a record. Features are refused only if they are not the first ones of the program.
+fn text_in(
+    alloc: Global,
+    form: RecordText,
+    program: &Program,
+    features: &[Feature],
+    ledger: &ServerLedger,
+) -> Result<Vec<u8>, FilesFault>
+    requires { HaveOrigins features.now }
+    ensures leaves { IfOk result (λ text. IsRecordText form program.now features.now ledger.now
+        text.items) }
+    ensures some { IfOk result (λ text. 0 < length text.items) }
+    ensures refused { IfErr result (RefusesFeatures program.now features.now) }
+{
+    match form {
+        RecordText::Table(form) => table_text(alloc, form, program, features),
+        RecordText::Features => features_text(alloc, program, features),
+        RecordText::Contacts => Ok(contacts_text(alloc, ledger)?),
+    }
+}
+
+/// Reads a setup if one is named, then a record, then a program under the setup's frames, each to the end of its text and understood before
+/// the next is read; and writes what the record holds in a form: the table of its features as `export_files` writes it, or the text of a
+/// features file or of a contacts file. A record of another program is `OtherProgram`; its part is not compared.
+///
+/// It writes only once the whole text is there. A file is blamed only for its own first refusal, or because it could not be read.
+pub fn export_record<S: Source, J: Source, R: Source, W: Sink>(
+    alloc: Global,
+    form: RecordText,
+    files: &mut RecordFiles<S, J, R>,
+    sink: &mut W,
+) -> Result<(), FilesFault>
+    ensures { ExportsRecord (named S.left S.has_failed files.old.setup files.new.setup)
+        (came J.left J.has_failed files.old.record files.new.record)
+        (came R.left R.has_failed files.old.program files.new.program)
+        (went W.taken W.has_failed sink.old sink.new) form result }
+{
+    let (held, program) = record_input(alloc, files)?;
+    of_program(alloc, &held, &program)?;
+    let (features, ledger) = parts_of(alloc, held);
+    let text = text_in(alloc, form, &program, features.list(), &ledger)?;
+    Ok(write_text(sink, text.as_slice())?)
+}
