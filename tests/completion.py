@@ -42,7 +42,7 @@ def is_whole(name):
         codes = completed("explain", "")
         small = completed("explain", "p")
         known = all(told("explain", it)[0] == 0 for it in codes | small)
-        return len(codes) == 40 and small == {it.lower() for it in codes if it[0] == "P"} and known
+        return len(codes) == 43 and small == {it.lower() for it in codes if it[0] == "P"} and known
     if name == "forms":
         forms = re.search(r"possible values: (.*)\]", told("export", "--as", "", "--features", "none")[1])
         return completed("export", "--as", "") == set(forms[1].split(", "))

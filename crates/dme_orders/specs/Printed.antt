@@ -71,7 +71,7 @@ IsFaultShown files.Memory file shown = shown ≡ fault.Memory
 abbrev pub IsPlaceIn : Refused → InputFile → List ℕ → Type 0
 IsPlaceIn why file shown = Places why (string_bytes file.name) file.text.items [] shown
 
--- where the file of a fault is refused, by the order's files; nothing if no file is refused, and nothing yet of a record
+-- where the file of a fault is refused, by the order's files; nothing if no file is refused at a line
 abbrev pub IsPlaceShown : FilesFault → (Role → InputFile) → List ℕ → Type 0
 IsPlaceShown (files.Setup cause) file shown = IsPlaceIn (refused.Setup cause) (file role.Setup) shown
 IsPlaceShown (files.Schedule cause) file shown = IsPlaceIn (refused.Schedule cause) (file role.Schedule) shown
@@ -79,7 +79,7 @@ IsPlaceShown (files.Features cause) file shown = IsPlaceIn (refused.Features cau
 IsPlaceShown (files.Contacts cause) file shown = IsPlaceIn (refused.Contacts cause) (file role.Contacts) shown
 IsPlaceShown (files.Program cause) file shown = IsPlaceIn (refused.Program cause) (file role.Program) shown
 IsPlaceShown (files.Unread unread) file shown = shown ≡ []
-IsPlaceShown (files.Record cause) file shown = shown ≡ []
+IsPlaceShown (files.Record cause) file shown = IsPlaceIn (refused.Record cause) (file role.Record) shown
 IsPlaceShown (files.OtherProgram label) file shown = shown ≡ []
 IsPlaceShown files.NotOurs file shown = shown ≡ []
 IsPlaceShown files.Write file shown = shown ≡ []

@@ -178,8 +178,8 @@ fn placed(alloc: Global, refused: Refused, file: &InputFile) -> Result<Vec<u8>, 
     Ok(out)
 }
 
-/// Where a file is refused and what is wrong there, as `write_place` shows it; nothing if no file is refused, and nothing yet of a record.
-/// Fails only if out of memory.
+/// Where a file is refused and what is wrong there, as `write_place` shows it; nothing if no file is refused at a line. Fails only if out of
+/// memory.
 pub fn place_of(
     alloc: Global,
     fault: &FilesFault,
@@ -193,8 +193,12 @@ pub fn place_of(
         FilesFault::Features(cause) => (Refused::Features(*cause), &files.features),
         FilesFault::Contacts(cause) => (Refused::Contacts(*cause), &files.contacts),
         FilesFault::Program(cause) => (Refused::Program(*cause), &files.program),
-        FilesFault::Record(_) | FilesFault::OtherProgram(_) => return Ok(Vec::new(alloc)),
-        FilesFault::Unread(_) | FilesFault::NotOurs | FilesFault::Write | FilesFault::Memory => {
+        FilesFault::Record(cause) => (Refused::Record(*cause), &files.record),
+        FilesFault::Unread(_)
+        | FilesFault::OtherProgram(_)
+        | FilesFault::NotOurs
+        | FilesFault::Write
+        | FilesFault::Memory => {
             return Ok(Vec::new(alloc));
         }
     };
