@@ -39,7 +39,7 @@ PHRASES = {
     r"(?<!there )(?:is|are|was|were) none": "is not a .., does not exist",
     r"go(?:es)? on": "continues",
     r"ha(?:s|ve) (?:its|their) turn": "is processed",
-    r"where (?:one|it) is(?! ?[.,;:)])": "if",
+    r"where (?:one|it) is(?! ?[.,;:)/])": "if",
     r"ha(?:s|ve|d) no place": "is unexpected",
     r"given up": "discarded, closed",
     r"worked rows?": "examples",
@@ -132,6 +132,8 @@ def faults_of_length(name, text):
 def faults_of_language(name, text):
     """No phrase of PHRASES occurs, and in a document each of ONCE at most once."""
     words, faults = spoken(name, text), []
+    for fixed in FIXED:
+        words = words.replace(fixed, "")
     for phrases, most in ((PHRASES, 0), (ONCE if name.endswith((".md", ".1")) else {}, 1)):
         for phrase, instead in phrases.items():
             found = list(re.finditer(rf"\b(?:{phrase})\b", words, re.IGNORECASE))
