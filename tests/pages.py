@@ -20,7 +20,7 @@ DOCUMENTS = ("README.md", "docs/*.md", "crates/*/README.md")
 # Where PHRASES must not occur: anywhere in a document, in the comments of a source, and in the texts of .rt files and of scripts, except in the
 # tables of phrases themselves.
 SPOKEN = (*DOCUMENTS, "docs/dme.1", "crates/*/src/**/*.rt", "crates/*/specs/**/*.antt", "crates/*/proofs/**/*.antt", "tests/*.py", "tests/run", "tools/*")
-TABLES = {"PHRASES", "ONCE", "PLANTED"}
+TABLES = {"PHRASES", "ONCE", "FIXED", "PLANTED"}
 MOST_WORDS = {"README.md": 1500, "docs/PROOFS.md": 3000, "docs/DECISIONS.md": 4000, "crates/*/README.md": 450}
 TOGETHER = ("README.md", "docs/*.md")
 MOST_WORDS_TOGETHER = 24_000
@@ -49,6 +49,7 @@ PHRASES = {
     r"by hand": "manually",
 }
 ONCE = {r"this profile": "say it once a document"}  # only in documents: a comment names its source
+FIXED = ("the server answered what has no place",)  # printed lines, whose bytes do not change
 
 DEFINING = ("crates/*/src/**/*.rt", "crates/*/specs/**/*.antt", "crates/*/proofs/**/*.antt")
 OTHER_SOURCES = ("crates/*/must-fail*/*.edit", "crates/*/include/*", "crates/*/std*", "crates.txt", "tests/**/*.py", "tests/run", "tests/*.c", "tools/*", "bench/**/*.py", "bench/**/*.rs", "examples/**/*")
