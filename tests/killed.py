@@ -9,6 +9,9 @@ lines of the record are read here, by a second implementation of docs/FILES.md; 
 - the audit of the record's features over the record's contacts answers RUNS, and over the server's contacts too;
 - what the server reported is a prefix of what it did on that connection, for each connection.
 
+Likewise with a features file in place of the record, which grows by each completed feature: no feature whose END was whole is lost, and the
+audit of the file over the server's contacts answers RUNS.
+
 `run` calls this with a few moments; by itself: tests/killed.py [MOMENTS], which spreads that many over each window.
 """
 
@@ -47,9 +50,12 @@ def dme(folder, *words):
     return subprocess.Popen([str(PROGRAM), *words], cwd=folder, stdout=subprocess.PIPE, stderr=subprocess.PIPE, text=True)
 
 
-def run_words(port, window):
-    return ["run", "--setup", "machine.setup", "--host", "127.0.0.1", "--port", str(port), "--window", str(window),
-            "--record", "part.record", "--part", "0042/7", "part.dmis"]
+RECORD = ("--record", "part.record", "--part", "0042/7")
+LEDGER = ("--features", "part.features")
+
+
+def run_words(port, window, kept):
+    return ["run", "--setup", "machine.setup", "--host", "127.0.0.1", "--port", str(port), "--window", str(window), *kept, "part.dmis"]
 
 
 class Record:
@@ -101,13 +107,6 @@ def read(folder):
     return Record(file.read_text() if file.exists() else "")
 
 
-def audited(folder, contacts):
-    """The verdict on the record's features over a file of contacts."""
-    (folder / "record.features").write_text(read(folder).features_text())
-    words = ["audit", "--setup", "machine.setup", "--features", "record.features", "--contacts", contacts, "part.dmis"]
-    return dme(folder, *words).communicate(timeout=SECONDS)[0]
-
-
 def killed_run(folder, port, window, moment):
     """A run that is killed after that many seconds, unless it ends earlier."""
     process = dme(folder, *run_words(port, window))
@@ -142,7 +141,34 @@ def must_be_prefix(folder):
         must(any(did[:len(told)] == told for did in server.values()), "connection", number, "is no prefix")
 
 
-def kill_twice(folder, window, moments):
+def held_in(folder, kept):
+    """How many features the file of a run holds whole."""
+    if kept == RECORD:
+        return len(read(folder).features)
+    file = folder / "part.features"
+    lines = file.read_text().split("\n")[:-1] if file.exists() else []
+    must(lines[:1] in ([], ["DME-FEATURES 2"]), "first line", lines[:1])
+    return lines.count("END")
+
+
+def must_be_recorded(folder):
+    """The record of a run that is Done is whole, and its audit answers RUNS over both ledgers."""
+    record = read(folder)
+    must([it[0] for it in record.features] == [f"F{it}" for it in range(FEATURES)], "features", len(record.features))
+    (folder / "record.contacts").write_text(record.contacts_text())
+    (folder / "part.features").write_text(record.features_text())
+    must_be_audited(folder, "record.contacts")
+    must_be_prefix(folder)
+
+
+def must_be_audited(folder, contacts):
+    """The audit of the features over a file of contacts answers RUNS."""
+    words = ["audit", "--setup", "machine.setup", "--features", "part.features", "--contacts", contacts, "part.dmis"]
+    verdict = dme(folder, *words).communicate(timeout=SECONDS)[0]
+    must(verdict.startswith("RUNS") and len(verdict.split()) == FEATURES + 1, "audit over", contacts, verdict)
+
+
+def kill_twice(folder, window, moments, kept):
     (folder / "machine.setup").write_text(SETUP)
     (folder / "part.dmis").write_text(program())
     port = free_port()
@@ -151,48 +177,46 @@ def kill_twice(folder, window, moments):
     wait_for_listener(port, lambda: server.poll() is not None, SECONDS)
     held = 0
     for moment in moments:
-        killed_run(folder, port, window, moment)
-        now = len(read(folder).features)
+        killed_run(folder, port, window, moment, kept)
+        now = held_in(folder, kept)
         must(now >= held, "features are lost", held, now)
         held = now
-    last = dme(folder, *run_words(port, window))
+    last = dme(folder, *run_words(port, window, kept))
     output, errors = last.communicate(timeout=SECONDS)
     must(last.returncode == 0 and output.startswith("STATE Done\n"), "the last run", last.returncode, output[:100], errors)
     ended_server(server, port)
-    record = read(folder)
-    must([it[0] for it in record.features] == [f"F{it}" for it in range(FEATURES)], "features", len(record.features))
-    (folder / "record.contacts").write_text(record.contacts_text())
-    for contacts in ("record.contacts", "server.contacts"):
-        verdict = audited(folder, contacts)
-        must(verdict.startswith("RUNS"), "audit over", contacts, verdict)
-    must_be_prefix(folder)
+    if kept == RECORD:
+        must_be_recorded(folder)
+    must_be_audited(folder, "server.contacts")
     return held
 
 
-def whole_time(window):
-    """How long an undisturbed run takes."""
+def whole_time(window, kept):
+    """How long a run takes that nothing disturbs."""
     begin = time.monotonic()
     with tempfile.TemporaryDirectory() as folder:
-        kill_twice(pathlib.Path(folder), window, [])
+        kill_twice(pathlib.Path(folder), window, [], kept)
     return time.monotonic() - begin
 
 
 def check_killed(moments=MOMENTS):
-    """How many windows pass at every moment, and how many do not."""
-    chance, wrong, kept = Fixed(7), 0, 0
-    for window in WINDOWS:
+    """How many windows were run whole at each moment, with either file, and how many were not."""
+    chance, wrong, held = Fixed(7), 0, 0
+    cases = [(window, kept) for kept in (RECORD, LEDGER) for window in WINDOWS]
+    for window, kept in cases:
         try:
             must(PROGRAM.exists(), "no executable")
-            span = whole_time(window)
+            span = whole_time(window, kept)
             for at in range(moments):
                 with tempfile.TemporaryDirectory() as folder:
                     first = span * (at + 1) / (moments + 1)
-                    kept += kill_twice(pathlib.Path(folder), window, [first, span * chance.below(1000) / 1000])
+                    held += kill_twice(pathlib.Path(folder), window, [first, span * chance.below(1000) / 1000], kept)
         except (Wrong, OSError, subprocess.SubprocessError, IndexError, ValueError) as why:
-            print(f"killed, window {window}: {str(why)[:500]}")
+            print(f"killed, window {window}, {kept[0]}: {str(why)[:500]}")
             wrong += 1
-    print(f"killed runs: {len(WINDOWS) - wrong} of {len(WINDOWS)} windows, {moments} moments each, {kept} features held after kills", flush=True)
-    return len(WINDOWS) - wrong, wrong
+    passed = len(cases) - wrong
+    print(f"killed runs: {passed} of {len(cases)} windows and files, {moments} moments each, {held} features held after kills", flush=True)
+    return passed, wrong
 
 
 if __name__ == "__main__":

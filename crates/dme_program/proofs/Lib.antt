@@ -1,1 +1,2 @@
 pub mod Blaming
+pub mod Growing

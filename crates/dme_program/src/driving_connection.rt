@@ -7,6 +7,8 @@ use crate::connecting::{no_connection, of_output};
 use crate::explaining::refused;
 use crate::faults::Fault;
 use crate::files::Sources;
+use crate::growing_files::FeaturesFile;
+use crate::keeping::tell_kept;
 use crate::progress::Progress;
 use crate::recording::{Follower, OpenRecord, open_record, record_words};
 use crate::text_files::NamedFile;
@@ -66,7 +68,11 @@ struct Call {
 
 /// A client takes its turns over a connection to the server that is called.
 fn drive_client<
-    R: Files + Print + Eprint + Net<Listener = TcpListener, Stream = TcpStream> + AllocGlobal,
+    R: Files<File = File>
+        + Print
+        + Eprint
+        + Net<Listener = TcpListener, Stream = TcpStream>
+        + AllocGlobal,
 >(
     rt: &R,
     client: Client,
@@ -86,6 +92,9 @@ fn drive_client<
         Err(error) => return Err(no_connection(&error, call.progress)),
     };
     let mut client = client;
+    if let Some(name) = &call.features {
+        follower.grow(FeaturesFile::open(rt, name.as_str(), &client)?);
+    }
     if client.connected(number).is_err() {
         return Err(OrderFault::Memory);
     }
@@ -103,18 +112,34 @@ fn drive_client<
 
 /// A program on a server, and its report on standard output.
 fn drive_program<
-    R: Files + Print + Eprint + Net<Listener = TcpListener, Stream = TcpStream> + AllocGlobal,
+    R: Files<File = File>
+        + Print
+        + Eprint
+        + Net<Listener = TcpListener, Stream = TcpStream>
+        + AllocGlobal,
 >(rt: &R, kept: FeatureLedger, program: Program, call: Call) -> Result<u8, OrderFault>
     requires { is_window call.window ≡ true }
 {
     let progress = Progress::new(rt, call.progress, program.features().len());
     let client = kept_client(rt.alloc(), program, kept, call.window)?;
+    if let Some(name) = &call.features {
+        tell_kept(
+            rt,
+            name.as_str(),
+            client.features(),
+            client.program().features(),
+        );
+    }
     drive_client(rt, client, 1, call, &mut Follower::new(rt, progress, None))
 }
 
 /// Likewise, with a record of it. A record in which the last connection has the greatest possible number cannot be written.
 fn drive_recorded<
-    R: Files + Print + Eprint + Net<Listener = TcpListener, Stream = TcpStream> + AllocGlobal,
+    R: Files<File = File>
+        + Print
+        + Eprint
+        + Net<Listener = TcpListener, Stream = TcpStream>
+        + AllocGlobal,
 >(rt: &R, open: OpenRecord, program: Program, call: Call) -> Result<u8, OrderFault>
     requires { is_window call.window ≡ true }
 {

@@ -6,7 +6,8 @@
 //! - `running`: an order is carried out on files and the standard streams; `connecting`, `driving_connection`, `serving_connections`: one
 //!   that needs a connection, on sockets too; `exporting`: what was measured is printed, and what a refusal means
 //! - `files`: the files of an order as ports; `text_files`: files that are replaced as a whole
-//! - `recording`: the record of a run, as a file that grows
+//! - `growing_files`: files that grow during a run; `recording`: the record of a run, which is one; `keeping`: what a run reports of the
+//!   features that it keeps
 //! - `progress`: lines that report how far an order is; `tracing`: the lines of a connection
 //! - `explaining`: what is shown for an order whose files are refused
 //! - `faults`: what is printed on standard error, and the exit status
@@ -18,6 +19,8 @@ mod explaining;
 mod exporting;
 mod faults;
 mod files;
+mod growing_files;
+mod keeping;
 mod progress;
 mod recording;
 mod running;

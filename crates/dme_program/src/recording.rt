@@ -4,72 +4,20 @@ ghost use Rattle.std.specs.Prelude.{None};
 
 use crate::faults::Fault;
 use crate::files::Sources;
+use crate::growing_files::{FeaturesFile, LockedFile};
+use crate::keeping::tell_kept;
 use crate::progress::Progress;
 use crate::text_files::NamedFile;
-use byte_ports::{Failed, PullFault, pull_all};
+use byte_ports::{PullFault, pull_all};
 use client_core::Client;
 use contact_ledger::{Feature, FeatureLedger};
 use dme_orders::{OrderFault, TextFile};
 use dmis_program::Program;
 use link_world::Watcher;
-use record_keeping::{Beginning, GrowingFile, Recorder, begin_record};
+use record_keeping::{Beginning, Recorder, begin_record};
 use run_record::is_part;
-use std::fs::{self, File, OpenOptions};
-use std::io::{self, ErrorKind, Write};
+use std::fs::{self, File};
 use std::rt::Files;
-
-/// A file that is open for appending, and that no other run may append to meanwhile.
-#[derive(Drop)]
-pub struct LockedFile {
-    file: File,
-    has_failed: bool,
-}
-
-impl LockedFile {
-    /// Opens the file of this name, or makes it, and locks it. It must have as many bytes as were read of it.
-    fn open<R: Files<File = File>>(rt: &R, name: &str, length: usize) -> io::Result<LockedFile> {
-        let mut how = OpenOptions::new();
-        how.append(true).create(true);
-        let file = how.open(rt, name)?;
-        file.try_lock()?;
-        if file.metadata()?.len() != length as u64 {
-            return Err(io::Error::from(ErrorKind::Other));
-        }
-        Ok(LockedFile {
-            file,
-            has_failed: false,
-        })
-    }
-
-    /// Gives the file this text, of which it has the first bytes, and forces it to the device. What follows them is torn and is cut off.
-    fn begin(&mut self, text: &[u8], held: usize, length: usize) -> io::Result<()> {
-        if held < length {
-            self.file.set_len(held as u64)?;
-        }
-        if held < text.len() {
-            self.file.write_all(&text[held..])?;
-        }
-        self.file.sync_all()
-    }
-}
-
-impl GrowingFile for LockedFile {
-    ghost has_failed = { λ f. f.has_failed };
-
-    fn append(&mut self, bytes: &[u8], settled: bool) -> Result<(), Failed> {
-        let mut result = self.file.write_all(bytes);
-        if settled && result.is_ok() {
-            result = self.file.sync_data();
-        }
-        match result {
-            Ok(()) => Ok(()),
-            Err(_) => {
-                self.has_failed = true;
-                Err(Failed)
-            }
-        }
-    }
-}
 
 /// Which record a run keeps, and of which part.
 #[derive(Drop)]
@@ -154,15 +102,6 @@ pub struct OpenRecord {
     pub file: LockedFile,
 }
 
-/// Reports how many features a record gives back, if it gives any.
-fn tell_kept<R: Eprint>(rt: &R, name: &str, kept: usize, total: usize) {
-    if kept == total && kept > 0 {
-        let _ = eprintln!(rt; "all {kept} features kept from {name}, nothing is measured");
-    } else if kept > 0 {
-        let _ = eprintln!(rt; "{kept} of {total} features kept from {name}");
-    }
-}
-
 /// Reads and opens the record of a run of a program. It is refused, and left as it is, if it is damaged, or is of another part or program.
 /// Features of a file that it does not give back are `NotOurs`: the run would put others in their place.
 pub fn open_record<R: Files<File = File> + Input + Eprint + AllocGlobal>(
@@ -188,8 +127,12 @@ pub fn open_record<R: Files<File = File> + Input + Eprint + AllocGlobal>(
     {
         return Err(Fault::Order(OrderFault::CannotWrite(words.name)));
     }
-    let kept = beginning.features.list().len();
-    tell_kept(rt, words.name.as_str(), kept, program.features().len());
+    tell_kept(
+        rt,
+        words.name.as_str(),
+        beginning.features.list(),
+        program.features(),
+    );
     Ok(OpenRecord {
         name: words.name,
         beginning,
@@ -197,12 +140,13 @@ pub fn open_record<R: Files<File = File> + Input + Eprint + AllocGlobal>(
     })
 }
 
-/// Who follows a run: reports its progress, and keeps its record.
+/// Who follows a run: reports its progress, and keeps its record and its features file.
 #[derive(Drop)]
 pub struct Follower<'a, R: Eprint> {
     rt: &'a R,
     progress: Progress<'a, R>,
     record: Option<(String, Recorder<LockedFile>)>,
+    features: Option<FeaturesFile>,
     is_told: bool,
 }
 
@@ -216,7 +160,25 @@ impl<'a, R: Eprint> Follower<'a, R> {
             rt,
             progress,
             record,
+            features: None,
             is_told: false,
+        }
+    }
+
+    /// From now on a features file grows too.
+    pub fn grow(&mut self, features: Option<FeaturesFile>) {
+        self.features = features;
+    }
+
+    /// Appends to the record what a client has counted. A file that could not be written is reported once.
+    fn record(&mut self, client: &Client) {
+        let Some((name, recorder)) = &mut self.record else {
+            return;
+        };
+        recorder.follow(client);
+        if recorder.has_failed() && !self.is_told {
+            self.is_told = true;
+            let _ = eprintln!(self.rt; "dme: cannot write {name}");
         }
     }
 }
@@ -229,9 +191,11 @@ impl<'a, R: Files + Eprint + AllocGlobal> Follower<'a, R> {
             rt,
             progress,
             record,
+            features,
             is_told: _,
         } = self;
         drop(progress);
+        drop(features);
         let Some((name, recorder)) = record else {
             return Ok(None);
         };
@@ -251,7 +215,7 @@ impl<'a, R: Files + Eprint + AllocGlobal> Follower<'a, R> {
     }
 }
 
-impl<'a, R: Eprint> Watcher for Follower<'a, R> {
+impl<'a, R: Eprint + AllocGlobal> Watcher for Follower<'a, R> {
     ghost told = { λ _. None };
 
     fn completed(&mut self, number: usize, feature: &Feature) {
@@ -259,12 +223,12 @@ impl<'a, R: Eprint> Watcher for Follower<'a, R> {
     }
 
     fn turned(&mut self, client: &Client) {
-        let Some((name, recorder)) = &mut self.record else {
+        self.record(client);
+        let Some(file) = &mut self.features else {
             return;
         };
-        recorder.follow(client);
-        if recorder.has_failed() && !self.is_told {
-            self.is_told = true;
+        if !file.follow(self.rt.alloc(), client) {
+            let name = &file.name;
             let _ = eprintln!(self.rt; "dme: cannot write {name}");
         }
     }

@@ -9,6 +9,22 @@ use std::fs::{self, OpenFile};
 use std::io::Write;
 use std::rt::Files;
 
+/// The name of the file next to that of this name, in which its next text is made.
+pub fn beside(alloc: Global, name: &str) -> Result<String, AllocError> {
+    let mut beside = String::new(alloc);
+    beside.push_str(name)?;
+    beside.push_str(".new")?;
+    Ok(beside)
+}
+
+/// Whether a new file may take this name: nothing has it, or a plain file, which is no link, no device and no pipe.
+pub fn may_be_replaced<R: Files>(rt: &R, name: &str) -> bool {
+    match fs::symlink_metadata(rt, name) {
+        Ok(found) => found.is_file(),
+        Err(_) => true,
+    }
+}
+
 /// A file of this name, `-` too, or no file if none is named. A text is written to a file next to it, whose name ends in `.new`, forced to
 /// the device, and renamed, so that a crash leaves the old text or the new one. A link, a device or a pipe of this name is written itself.
 /// It does not report its text.
@@ -25,7 +41,7 @@ impl<'a, R: Files + AllocGlobal> NamedFile<'a, R> {
         let names = match name {
             Some(name) => Some((
                 String::from_str(rt.alloc(), name)?,
-                Self::beside(rt.alloc(), name)?,
+                beside(rt.alloc(), name)?,
             )),
             None => None,
         };
@@ -34,22 +50,6 @@ impl<'a, R: Files + AllocGlobal> NamedFile<'a, R> {
             names,
             has_failed: false,
         })
-    }
-
-    /// The name of the file next to it.
-    fn beside(alloc: Global, name: &str) -> Result<String, AllocError> {
-        let mut beside = String::new(alloc);
-        beside.push_str(name)?;
-        beside.push_str(".new")?;
-        Ok(beside)
-    }
-
-    /// Whether a new file may take this name: nothing has it, or a plain file, which is no link, no device and no pipe.
-    fn may_be_replaced(&self, name: &str) -> bool {
-        match fs::symlink_metadata(self.rt, name) {
-            Ok(found) => found.is_file(),
-            Err(_) => true,
-        }
     }
 
     /// Writes all of a text to a new file, forces it to the device, and only then gives the file its name.
@@ -77,7 +77,7 @@ impl<'a, R: Files + AllocGlobal> NamedFile<'a, R> {
 
     /// Writes a text to the file of this name, which is replaced if it may be.
     fn write(&self, text: &[u8], beside: &str, name: &str) -> std::io::Result<()> {
-        if self.may_be_replaced(name) {
+        if may_be_replaced(self.rt, name) {
             self.put(text, beside, name)
         } else {
             fs::write(self.rt, name, text)

@@ -1,0 +1,184 @@
+// Files that grow during a run.
+
+use crate::text_files::{beside, may_be_replaced};
+use byte_ports::Failed;
+use client_core::Client;
+use contact_ledger::lines::cut_line;
+use contact_ledger::write_features;
+use dme_orders::OrderFault;
+use record_keeping::GrowingFile;
+use std::alloc::{AllocError, Global};
+use std::fs::{self, File, OpenOptions};
+use std::io::{self, ErrorKind, Write};
+use std::rt::Files;
+
+/// A file that is open for appending, and that no other run may append to meanwhile.
+#[derive(Drop)]
+pub struct LockedFile {
+    file: File,
+    has_failed: bool,
+}
+
+impl LockedFile {
+    /// Opens the file of this name, or makes it, and locks it. It must have as many bytes as were read of it.
+    pub fn open<R: Files<File = File>>(
+        rt: &R,
+        name: &str,
+        length: usize,
+    ) -> io::Result<LockedFile> {
+        let mut how = OpenOptions::new();
+        how.append(true).create(true);
+        let file = how.open(rt, name)?;
+        file.try_lock()?;
+        if file.metadata()?.len() != length as u64 {
+            return Err(io::Error::from(ErrorKind::Other));
+        }
+        Ok(LockedFile {
+            file,
+            has_failed: false,
+        })
+    }
+
+    /// Puts a new file with this text in the place of the one of this name, which must be one that may be replaced. The new one is locked
+    /// before it has its name, and the old one is locked until then, so that two runs cannot share the file.
+    fn replacing<R: Files<File = File>>(
+        rt: &R,
+        name: &str,
+        beside: &str,
+        text: &[u8],
+    ) -> io::Result<LockedFile> {
+        let mut old = OpenOptions::new();
+        old.append(true).create(true);
+        let old = old.open(rt, name)?;
+        old.try_lock()?;
+        let _ = fs::remove_file(rt, beside);
+        let mut new = OpenOptions::new();
+        new.append(true).create_new(true);
+        let file = new.open(rt, beside)?;
+        let mut locked = LockedFile {
+            file,
+            has_failed: false,
+        };
+        let result = locked.settle(rt, name, beside, text);
+        if result.is_err() {
+            let _ = fs::remove_file(rt, beside);
+        }
+        result?;
+        drop(old);
+        Ok(locked)
+    }
+
+    /// Locks this new file, gives it this text, forces it to the device, and gives it its name.
+    fn settle<R: Files<File = File>>(
+        &mut self,
+        rt: &R,
+        name: &str,
+        beside: &str,
+        text: &[u8],
+    ) -> io::Result<()> {
+        self.file.try_lock()?;
+        self.file.write_all(text)?;
+        self.file.sync_all()?;
+        fs::rename(rt, beside, name)
+    }
+
+    /// Gives the file this text, of which it has the first bytes, and forces it to the device. What follows them is torn and is cut off.
+    pub fn begin(&mut self, text: &[u8], held: usize, length: usize) -> io::Result<()> {
+        if held < length {
+            self.file.set_len(held as u64)?;
+        }
+        if held < text.len() {
+            self.file.write_all(&text[held..])?;
+        }
+        self.file.sync_all()
+    }
+}
+
+impl GrowingFile for LockedFile {
+    ghost has_failed = { λ f. f.has_failed };
+
+    fn append(&mut self, bytes: &[u8], settled: bool) -> Result<(), Failed> {
+        let mut result = self.file.write_all(bytes);
+        if settled && result.is_ok() {
+            result = self.file.sync_data();
+        }
+        match result {
+            Ok(()) => Ok(()),
+            Err(_) => {
+                self.has_failed = true;
+                Err(Failed)
+            }
+        }
+    }
+}
+
+/// The text by which a features file grows: the features after the first `held`. Fails only if out of memory.
+#[tactic(auto, using(crate::proofs::Growing::all_drop))]
+fn text_after(alloc: Global, client: &Client, held: usize) -> Result<Vec<u8>, AllocError> {
+    let features = client.features();
+    let mut whole = Vec::new(alloc);
+    if held < features.len() {
+        write_features(&mut whole, &features[held..])?;
+    }
+    let mut text = Vec::new(alloc);
+    if let Some((_, lines)) = cut_line(whole.as_slice()) {
+        text.extend_from_slice(lines)?;
+    }
+    Ok(text)
+}
+
+/// A features file that grows: each completed feature is appended to it, and forced to the device.
+///
+/// A file that fails stops nothing, and is not written any more.
+#[derive(Drop)]
+pub struct FeaturesFile {
+    pub name: String,
+    file: LockedFile,
+    /// How many features it has.
+    held: usize,
+    has_failed: bool,
+}
+
+impl FeaturesFile {
+    /// Opens the file of this name, whose text are the features that a client holds from then on; none if something of this name is a
+    /// link, a device or a pipe, which is written only at the end.
+    pub fn open<R: Files<File = File> + AllocGlobal>(
+        rt: &R,
+        name: &str,
+        client: &Client,
+    ) -> Result<Option<FeaturesFile>, OrderFault> {
+        if !may_be_replaced(rt, name) {
+            return Ok(None);
+        }
+        let name = String::from_str(rt.alloc(), name)?;
+        let beside = beside(rt.alloc(), name.as_str())?;
+        let mut text = Vec::new(rt.alloc());
+        write_features(&mut text, client.features())?;
+        match LockedFile::replacing(rt, name.as_str(), beside.as_str(), text.as_slice()) {
+            Ok(file) => Ok(Some(FeaturesFile {
+                name,
+                file,
+                held: client.features().len(),
+                has_failed: false,
+            })),
+            Err(_) => Err(OrderFault::CannotWrite(name)),
+        }
+    }
+
+    /// Appends what a client has completed since; false if that could not be written for the first time. If memory runs out, it is appended
+    /// after a later turn.
+    pub fn follow(&mut self, alloc: Global, client: &Client) -> bool {
+        let count = client.features().len();
+        if self.has_failed || count <= self.held {
+            return true;
+        }
+        let Ok(text) = text_after(alloc, client, self.held) else {
+            return true;
+        };
+        match self.file.append(text.as_slice(), true) {
+            Ok(()) => self.held = count,
+            Err(Failed) => self.has_failed = true,
+        }
+        !self.has_failed
+    }
+}
