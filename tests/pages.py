@@ -20,7 +20,7 @@ DOCUMENTS = ("README.md", "docs/*.md", "crates/*/README.md")
 # Where PHRASES must not occur: anywhere in a document, in the comments of a source, and in the texts of .rt files and of scripts, except in the
 # tables of phrases themselves.
 SPOKEN = (*DOCUMENTS, "docs/dme.1", "crates/*/src/**/*.rt", "crates/*/specs/**/*.antt", "crates/*/proofs/**/*.antt", "tests/*.py", "tests/run", "tools/*")
-TABLES = {"PHRASES", "ONCE", "PLANTED"}
+TABLES = {"PHRASES", "ONCE", "FIXED", "PLANTED"}
 MOST_WORDS = {"README.md": 1500, "docs/PROOFS.md": 3000, "docs/DECISIONS.md": 4000, "crates/*/README.md": 450}
 TOGETHER = ("README.md", "docs/*.md")
 MOST_WORDS_TOGETHER = 24_000
@@ -39,7 +39,7 @@ PHRASES = {
     r"(?<!there )(?:is|are|was|were) none": "is not a .., does not exist",
     r"go(?:es)? on": "continues",
     r"ha(?:s|ve) (?:its|their) turn": "is processed",
-    r"where (?:one|it) is(?! ?[.,;:)])": "if",
+    r"where (?:one|it) is(?! ?[.,;:)/])": "if",
     r"ha(?:s|ve|d) no place": "is unexpected",
     r"given up": "discarded, closed",
     r"worked rows?": "examples",
@@ -49,6 +49,7 @@ PHRASES = {
     r"by hand": "manually",
 }
 ONCE = {r"this profile": "say it once a document"}  # only in documents: a comment names its source
+FIXED = ("the server answered what has no place",)  # printed lines, whose bytes do not change
 
 DEFINING = ("crates/*/src/**/*.rt", "crates/*/specs/**/*.antt", "crates/*/proofs/**/*.antt")
 OTHER_SOURCES = ("crates/*/must-fail*/*.edit", "crates/*/include/*", "crates/*/std*", "crates.txt", "tests/**/*.py", "tests/run", "tests/*.c", "tools/*", "bench/**/*.py", "bench/**/*.rs", "examples/**/*")
@@ -132,6 +133,8 @@ def faults_of_length(name, text):
 def faults_of_language(name, text):
     """No phrase of PHRASES occurs, and in a document each of ONCE at most once."""
     words, faults = spoken(name, text), []
+    for fixed in FIXED:
+        words = words.replace(fixed, "")
     for phrases, most in ((PHRASES, 0), (ONCE if name.endswith((".md", ".1")) else {}, 1)):
         for phrase, instead in phrases.items():
             found = list(re.finditer(rf"\b(?:{phrase})\b", words, re.IGNORECASE))

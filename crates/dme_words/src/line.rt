@@ -188,7 +188,7 @@ fn progress_flag<'a>(alloc: Global) -> Arg<'a>
     ensures rule { rule_of result ≡ flag_rule (codes "progress") }
     ensures local { result.global ≡ false }
 {
-    flag(alloc, "progress", "Tells on standard error how far it is")
+    flag(alloc, "progress", "Reports on standard error how far it is")
 }
 
 /// `--explain`.

@@ -131,7 +131,7 @@ pub(crate) fn shown_start(line: &[u8], at: usize, len: usize) -> usize
     at.saturating_sub(before).min(line.len() - MOST_SHOWN)
 }
 
-/// A line as it is shown from this byte on: at most 200 bytes of it, and `..` where it is cut.
+/// A line as it is shown from this byte on: at most 200 bytes of it, and `..` at each cut.
 pub(crate) fn shown_line(alloc: Global, line: &[u8], start: usize) -> Result<String, AllocError>
     requires { start ≤ length line.now - 200 }
     ensures { IfOk result (λ text. string_bytes text ≡ shown_from start line.now) }
