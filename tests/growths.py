@@ -119,10 +119,10 @@ def must_be_front_of_report(output, whole):
         must(is_front(list(filter(part, rows[2:])), list(filter(part, all_rows[2:]))), "is not a prefix", output)
 
 
-def must_want_memory(whole, runs, and_so):
-    """All runs except at most one end out of memory, and their output has this property."""
+def must_want_memory(whole, runs, and_so, spared=1):
+    """All runs except at most this number end out of memory, and their output has this property."""
     others = [it for it in runs if it != whole]
-    must(len(others) >= len(runs) - 1, "done without", len(runs) - len(others), "of", len(runs))
+    must(len(others) >= len(runs) - spared, "done without", len(runs) - len(others), "of", len(runs))
     for run in others:
         must((run[0], run[2]) == WANT, "another end", run)
         and_so(run)
@@ -212,9 +212,11 @@ def must_be_front_of_file(text, whole, ends):
 def run_row(refusing):
     (whole, file), runs = refusing.all_of(Pair(refusing, "run").run)
     must(whole[0] == 0 and "FEATURE C" in whole[1] and file.endswith("END\n"), "with all memory", whole, file)
-    for _, text in runs:
+    for end, text in runs:
         must_be_front_of_file(text, file, "END")
-    return must_want_memory(whole, [it for it, _ in runs], lambda run: must_be_front_of_report(run[1], whole[1]))
+        must(end != whole or text == file, "done, and its file is not whole", text)
+    # Without memory for the text of a completed feature the run continues, and its file has that feature at the end: eight growths at most.
+    return must_want_memory(whole, [it for it, _ in runs], lambda run: must_be_front_of_report(run[1], whole[1]), 8)
 
 
 def serve_row(refusing):

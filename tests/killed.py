@@ -107,9 +107,9 @@ def read(folder):
     return Record(file.read_text() if file.exists() else "")
 
 
-def killed_run(folder, port, window, moment):
+def killed_run(folder, port, window, moment, kept):
     """A run that is killed after that many seconds, unless it ends earlier."""
-    process = dme(folder, *run_words(port, window))
+    process = dme(folder, *run_words(port, window, kept))
     try:
         process.communicate(timeout=moment)
     except subprocess.TimeoutExpired:
