@@ -6,8 +6,9 @@
   growths  every row of calls and every row of tests/program without another end, with each growth of its program refused in turn: the program
            ends with its own words for out of memory, or gives what it gives with all memory, and never anything else. With growths=N it
            refuses only the first N growths of each.
+  kills    runs that are killed at 2,001 moments and begun again, over a record and as many over a features file (tests/killed.py)
 
-usage: tests/releases.py [PART ..]     by default all parts; a part may be limited: edits=CRATE, events=COUNT, growths=N
+usage: tests/releases.py [PART ..]     by default all parts; a part may be limited: edits=CRATE, events=COUNT, growths=N, kills=MOMENTS
 
 It needs the executables that `tests/run` has built.
 """
@@ -23,12 +24,14 @@ import tempfile
 import time
 
 from growths import CALLS, PROGRAM, ROOT, WANT, Refusing, Wrong, ended, must, parts_of
+from killed import WINDOWS, check_killed
 
 TESTS = ROOT / "tests"
 ROWS = TESTS / "program"
 ALONE = ("check", "simulate", "audit", "loop")  # the commands that need no other end
 ANY = 1_000_000
 EVENTS = 9_100_000
+KILLS = 2_001  # moments over each of both files, spread over the windows
 
 
 def counts_of(words):
@@ -49,6 +52,10 @@ def edits(portion):
 def events(portion):
     done = subprocess.run([sys.executable, str(TESTS / "stopped.py"), portion or str(EVENTS)])
     return (1, 0) if done.returncode == 0 else (0, 1)
+
+
+def kills(portion):
+    return check_killed(int(portion or KILLS) // len(WINDOWS))
 
 
 # ---- each growth of each row
@@ -164,7 +171,7 @@ def growths(portion):
     return right, len(jobs) - right
 
 
-PARTS = {"edits": edits, "events": events, "growths": growths}
+PARTS = {"edits": edits, "events": events, "growths": growths, "kills": kills}
 
 
 def main(names):
