@@ -1,5 +1,5 @@
 -- What only proofs mention.
-use Rattle.std.specs.Prelude.{ℕ, ◌+◌, List, [], ◌∷◌, ◌++◌}
+use Rattle.std.specs.Prelude.{ℕ, List, [], ◌∷◌, ◌++◌}
 use Rattle.protocol_model.specs.declared.plans.Planned.{Planned}
 use Rattle.dme_orders.specs.Numbered.{number_behind, line_under}
 
