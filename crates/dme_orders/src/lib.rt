@@ -7,6 +7,7 @@
 //! - `auditing`: a client's features are judged by a server's contacts
 //! - `exporting`: what was measured is put next to what a program asks for; `explaining`: what a refusal means
 //! - `of_records`: a record is audited and exported
+//! - `notes`: what is said of an audit, and of a record of another program, besides what an order prints
 //! - `preparing`: the files of an order over a connection are read before there is one
 //! - `looping`: a program is run over one connection between both ends
 //! - `driving`: a program is run on a server over a connection, and its features are kept
@@ -28,6 +29,7 @@ mod explaining;
 mod exporting;
 mod faults;
 mod looping;
+mod notes;
 mod of_records;
 mod orders;
 mod plan;
@@ -47,6 +49,7 @@ pub use explaining::explain;
 pub use exporting::{ExportFiles, export_files};
 pub use faults::{InputFile, InputFiles, OrderFault, place_of, shown_fault};
 pub use looping::{LoopTask, loop_over};
+pub use notes::{audit_notes, other_program_notes};
 pub use of_records::{RecordFiles, RecordText, audit_record, export_record};
 pub use orders::check_under_setup;
 pub use plan::plan_text;

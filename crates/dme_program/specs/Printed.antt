@@ -37,5 +37,6 @@ exit_status (fault.NoPart part) = 2
 exit_status fault.PartAlone = 2
 exit_status (fault.OneFile name) = 2
 exit_status (fault.Record refusal) = 1
+exit_status (fault.ExplainedRecord refusal note) = 1
 exit_status (fault.Order cause) = status_of cause
 exit_status (fault.Explained cause place) = status_of cause

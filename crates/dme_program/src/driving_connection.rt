@@ -177,7 +177,12 @@ pub fn run_program<
 >(rt: &R, order: Run) -> Result<u8, Fault>
     requires { is_window order.window ≡ true }
 {
-    let words = record_words(order.record, order.part, order.features.as_deref())?;
+    let words = record_words(
+        order.record,
+        order.part,
+        order.features.as_deref(),
+        order.explain,
+    )?;
     let is_kept = order.features.is_some();
     let mut sources = Sources::new(rt, order.explain);
     let mut setup = sources.file(order.setup);

@@ -41,6 +41,9 @@ pub enum Fault {
     /// A record that the run may not continue; never because memory ran out.
     #[error("dme: {0} in record\n")]
     Record(RecordRefusal),
+    /// Likewise, and then what is wrong with the record.
+    #[error("dme: {0} in record\n{1}")]
+    ExplainedRecord(RecordRefusal, String),
     /// An order that was not carried out.
     #[error("{0}")]
     Order(OrderFault),
@@ -121,7 +124,7 @@ impl Fault {
         match self {
             Fault::Words(_) | Fault::NotUtf8 | Fault::NoCode(_) | Fault::NoForm(_) => 2,
             Fault::Misfits(_) | Fault::NoPart(_) | Fault::PartAlone | Fault::OneFile(_) => 2,
-            Fault::Record(_) => 1,
+            Fault::Record(_) | Fault::ExplainedRecord(_, _) => 1,
             Fault::Order(cause) | Fault::Explained(cause, _) => cause.status(),
         }
     }

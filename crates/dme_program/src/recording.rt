@@ -2,6 +2,7 @@
 
 ghost use Rattle.std.specs.Prelude.{None};
 
+use crate::explaining::text_of;
 use crate::faults::Fault;
 use crate::files::Sources;
 use crate::growing_files::{FeaturesFile, LockedFile};
@@ -14,8 +15,10 @@ use contact_ledger::{Feature, FeatureLedger};
 use dme_orders::{OrderFault, TextFile};
 use dmis_program::Program;
 use link_world::Watcher;
-use record_keeping::{Beginning, Recorder, begin_record};
-use run_record::is_part;
+use record_keeping::{Beginning, RecordRefusal, Recorder, begin_record};
+use refusal_guide::{Refused, write_other_part, write_other_program, write_place};
+use run_record::{RecordFault, is_part, read_record};
+use std::alloc::{AllocError, Global};
 use std::fs::{self, File};
 use std::rt::Files;
 
@@ -26,6 +29,8 @@ pub struct RecordWords {
     pub name: String,
     /// The part, if it is named.
     pub part: Option<String>,
+    /// Whether it is shown what is wrong with a record that is refused.
+    pub explain: bool,
 }
 
 /// Which record the words of a command line name. A part needs a record, and has from 1 to 64 printable bytes; the record and the features
@@ -34,6 +39,7 @@ pub fn record_words(
     record: Option<String>,
     part: Option<String>,
     features: Option<&str>,
+    explain: bool,
 ) -> Result<Option<RecordWords>, Fault> {
     let part = match part {
         Some(part) if !is_part(part.as_bytes()) => return Err(Fault::NoPart(part)),
@@ -48,7 +54,11 @@ pub fn record_words(
     if features == Some(name.as_str()) {
         return Err(Fault::OneFile(name));
     }
-    Ok(Some(RecordWords { name, part }))
+    Ok(Some(RecordWords {
+        name,
+        part,
+        explain,
+    }))
 }
 
 /// Whether something has this name that is no plain file, nor a link to one: no record can be kept there.
@@ -102,6 +112,50 @@ pub struct OpenRecord {
     pub file: LockedFile,
 }
 
+/// What is wrong with a record that is refused: at which line and what, which parts, or which feature and in what. Fails only if out of
+/// memory.
+fn note(
+    alloc: Global,
+    refusal: &RecordRefusal,
+    words: &RecordWords,
+    text: &[u8],
+    program: &Program,
+) -> Result<Vec<u8>, AllocError> {
+    let mut out = Vec::new(alloc);
+    if let RecordRefusal::Damaged(line) = refusal {
+        let refused = Refused::Record(RecordFault::Damaged(*line));
+        write_place(&mut out, refused, words.name.as_str(), text)?;
+        return Ok(out);
+    }
+    let Ok(Some(record)) = read_record(alloc, text) else {
+        return Ok(out);
+    };
+    match refusal {
+        RecordRefusal::OtherPart => {
+            let part = words.part.as_ref().map(|part| part.as_bytes());
+            write_other_part(&mut out, &record, part)?;
+        }
+        RecordRefusal::OtherProgram(_) => write_other_program(&mut out, &record, program)?,
+        RecordRefusal::Damaged(_) | RecordRefusal::Memory => {}
+    }
+    Ok(out)
+}
+
+/// Why a record is not continued, and what is wrong with it, if that is asked for.
+fn refused_record(
+    alloc: Global,
+    refusal: RecordRefusal,
+    words: &RecordWords,
+    text: &[u8],
+    program: &Program,
+) -> Fault {
+    if !words.explain || matches!(refusal, RecordRefusal::Memory) {
+        return Fault::from(refusal);
+    }
+    let note = text_of(alloc, note(alloc, &refusal, words, text, program));
+    Fault::ExplainedRecord(refusal, note)
+}
+
 /// Reads and opens the record of a run of a program. It is refused, and left as it is, if it is damaged, or is of another part or program.
 /// Features of a file that it does not give back are `NotOurs`: the run would put others in their place.
 pub fn open_record<R: Files<File = File> + Input + Eprint + AllocGlobal>(
@@ -113,7 +167,12 @@ pub fn open_record<R: Files<File = File> + Input + Eprint + AllocGlobal>(
 ) -> Result<OpenRecord, Fault> {
     let text = read_whole(rt, sources, &words)?;
     let part = words.part.as_ref().map(|part| part.as_bytes());
-    let beginning = begin_record(rt.alloc(), text.as_slice(), program, part)?;
+    let beginning = match begin_record(rt.alloc(), text.as_slice(), program, part) {
+        Ok(beginning) => beginning,
+        Err(refusal) => {
+            return Err(refused_record(rt.alloc(), refusal, &words, text.as_slice(), program));
+        }
+    };
     if !are_first(features.list(), beginning.features.list()) {
         return Err(Fault::Order(OrderFault::NotOurs));
     }

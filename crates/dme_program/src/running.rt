@@ -7,7 +7,7 @@ ghost use Rattle.dme_program.specs.Blamed.{OnSetup};
 
 use crate::connecting::loop_program;
 use crate::driving_connection::run_program;
-use crate::explaining::refused;
+use crate::explaining::{refused, tell_audit};
 use crate::exporting::{explain_topic, export, export_of_record, record_files};
 use crate::faults::Fault;
 use crate::files::{NamedSource, Sources};
@@ -124,7 +124,10 @@ fn simulate_files<R: Files + Input + Print + Eprint + AllocGlobal>(
 }
 
 /// The order `audit`: its exit status.
-fn audit<R: Files + Input + Print + AllocGlobal>(rt: &R, order: Audit) -> Result<u8, Fault> {
+fn audit<R: Files + Input + Print + Eprint + AllocGlobal>(
+    rt: &R,
+    order: Audit,
+) -> Result<u8, Fault> {
     let mut sources = Sources::new(rt, order.explain);
     let mut sought = AuditFiles {
         setup: sources.file(order.setup),
@@ -133,21 +136,34 @@ fn audit<R: Files + Input + Print + AllocGlobal>(rt: &R, order: Audit) -> Result
         program: sources.file(order.program),
     };
     let mut sink = Writing::new(io::writer(rt));
-    match audit_files(rt.alloc(), &mut sought, &mut sink) {
-        Ok(status) => Ok(status),
-        Err(fault) => {
-            let mut files = InputFiles::unnamed(rt.alloc());
-            files.setup = sought.setup.into_file();
-            files.features = sought.features.into_file();
-            files.contacts = sought.contacts.into_file();
-            files.program = sought.program.into_file();
-            Err(refused(rt.alloc(), fault, files, order.explain))
-        }
+    let result = audit_files(rt.alloc(), &mut sought, &mut sink);
+    let mut files = InputFiles::unnamed(rt.alloc());
+    files.setup = sought.setup.into_file();
+    files.features = sought.features.into_file();
+    files.contacts = sought.contacts.into_file();
+    files.program = sought.program.into_file();
+    audit_end(rt, result, files, order.explain)
+}
+
+/// The exit status of an audit, after which standard error shows what it found, if that is asked for.
+fn audit_end<R: Eprint + AllocGlobal>(
+    rt: &R,
+    audited: Result<u8, FilesFault>,
+    files: InputFiles,
+    is_explained: bool,
+) -> Result<u8, Fault> {
+    let status = match audited {
+        Ok(status) => status,
+        Err(fault) => return Err(refused(rt.alloc(), fault, files, is_explained)),
+    };
+    if is_explained {
+        tell_audit(rt, &files);
     }
+    Ok(status)
 }
 
 /// The order `audit` for a record: its exit status.
-fn audit_of_record<R: Files + Input + Print + AllocGlobal>(
+fn audit_of_record<R: Files + Input + Print + Eprint + AllocGlobal>(
     rt: &R,
     order: RecordAudit,
 ) -> Result<u8, Fault> {
@@ -158,10 +174,8 @@ fn audit_of_record<R: Files + Input + Print + AllocGlobal>(
         program: sources.file(order.program),
     };
     let mut sink = Writing::new(io::writer(rt));
-    match audit_record(rt.alloc(), &mut sought, &mut sink) {
-        Ok(status) => Ok(status),
-        Err(fault) => Err(refused(rt.alloc(), fault, record_files(rt, sought), order.explain)),
-    }
+    let result = audit_record(rt.alloc(), &mut sought, &mut sink);
+    audit_end(rt, result, record_files(rt, sought), order.explain)
 }
 
 /// Carries out an order: its exit status.

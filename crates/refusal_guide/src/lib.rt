@@ -11,15 +11,18 @@
 //!   a parameter does not fit
 //! - `setups`, `schedules`, `ledgers`, `records`: the sentences of the other texts
 //! - `strangers`: why a record is of another part or program; `touches`: in what two touches differ
+//! - `audits`: what an audit found; `nearest`: the contact that is nearest to a touch without one
 #![tactic(auto)]
 
 mod arguments;
+mod audits;
 mod bad_bytes;
 mod blocks;
 mod faults;
 mod ledgers;
 mod lines;
 mod names;
+mod nearest;
 mod numerals;
 mod pages;
 mod places;
@@ -34,6 +37,7 @@ mod touches;
 mod words;
 mod written;
 
+pub use audits::write_audit;
 pub use places::{Refused, write_place};
 pub use strangers::{write_other_part, write_other_program};
 pub use topics::Topic;

@@ -33,7 +33,7 @@ fn shown_fields(alloc: Global, fields: &[u8]) -> Result<String, AllocError> {
 }
 
 /// A point in the form of a file.
-fn point_text(alloc: Global, point: Point) -> Result<String, AllocError> {
+pub(crate) fn point_text(alloc: Global, point: Point) -> Result<String, AllocError> {
     let mut text = Vec::new(alloc);
     add_point(&mut text, point)?;
     shown_fields(alloc, text.as_slice())
@@ -129,6 +129,19 @@ impl<'a> Request<'a> {
             }),
             _ => None,
         }
+    }
+
+    /// The target.
+    pub(crate) fn target(&self) -> Point {
+        self.target
+    }
+
+    /// Whether two touches ask for the same.
+    pub(crate) fn is(&self, other: &Request) -> bool {
+        self.target == other.target
+            && self.dir == other.dir
+            && self.tool.as_bytes() == other.tool.as_bytes()
+            && self.frame == other.frame
     }
 
     /// The first in which two touches differ, of target, direction, tool and frame; none if they are the same.
