@@ -1,5 +1,5 @@
 -- What exporting what was measured leaves (this profile).
-use Rattle.std.specs.Prelude.{◌≡◌, ◌⊎◌, ℕ, List, true, false, Result}
+use Rattle.std.specs.Prelude.{◌≡◌, ◌⊎◌, ℕ, List, true, false, Result, codes}
 use Rattle.std.specs.List.{AllZip}
 use Rattle.client_core.specs.Clients.{are_ours}
 use Rattle.contact_ledger.specs.declared.features.Feature.{Feature}
@@ -9,24 +9,30 @@ use Rattle.deviations.specs.Rows.{IsRow, Row, places_of}
 use Rattle.deviations.specs.declared.forms.Form.{Form}
 use Rattle.deviations.specs.declared.forms.Form.TheVariants.{Csv, Json, Svg}
 use Rattle.dmis_program.specs.Meaning.{Meaning}
+use Rattle.drawings.specs.Drawing.{IsDrawing}
+use Rattle.drawings.specs.Texts.{Adds}
 use Rattle.dme_orders.specs.Input.{Named, ExportInput, ReadsExport, WhyNoExport}
 use Rattle.dme_orders.specs.Orders.{Went, Carries}
 use Rattle.dme_orders.specs.Reading.{Came}
 use Rattle.dme_orders.specs.declared.reading.FilesFault.{FilesFault}
 use Rattle.dme_orders.specs.declared.reading.FilesFault.TheVariants as files
 
--- the text is that of a table in a form; what a drawing shows is not specified
-abbrev pub IsInForm : Form → List Row → List ℕ → Type 0
-IsInForm Csv rows text = text ≡ csv_text rows
-IsInForm Json rows text = text ≡ json_of rows
-IsInForm Svg rows text = Unit {0}
+-- the declaration of a text in XML, with its line's end
+unfoldable pub xml : List ℕ
+xml = codes "<?xml version=\"1.0\" encoding=\"UTF-8\"?>\n"
+
+-- the text is that of a table in a form: a drawing is one of the program and of the features
+abbrev pub IsInForm : Form → Meaning → List Feature → List Row → List ℕ → Type 0
+IsInForm Csv program features rows text = text ≡ csv_text rows
+IsInForm Json program features rows text = text ≡ json_of rows
+IsInForm Svg program features rows text = Adds (IsDrawing program features) xml text
 
 -- the features are the first ones of the program, and the text is their table in a form: a row for each measured point, in order
 pub record LeavesTable (form : Form) (program : Meaning) (features : List Feature) (text : List ℕ) : Type 0 where
   pub rows : List Row
   pub ours : are_ours program.features features ≡ true
   pub are : AllZip IsRow (places_of program.features features) rows
-  pub told : IsInForm form rows text
+  pub told : IsInForm form program features rows text
 
 -- the features are not the first ones of the program; or memory ran out
 abbrev pub RefusesFeatures : Meaning → List Feature → FilesFault → Type 0

@@ -1,8 +1,10 @@
 // An export as a whole, over ports: what was measured of features next to what a program asks for.
 
-ghost use Rattle.std.specs.Prelude.{◌<◌, length, Option, IfOk, IfErr};
+ghost use Rattle.std.specs.Prelude.{◌≡◌, ◌<◌, length, Option, IfOk, IfErr};
 ghost use Rattle.tool_rack.specs.Setups.{SetupValue};
-ghost use Rattle.dme_orders.specs.Exporting.{IsInForm, LeavesTable, RefusesFeatures, Exports};
+ghost use Rattle.drawings.specs.Drawing.{IsDrawing};
+ghost use Rattle.drawings.specs.Texts.{Adds};
+ghost use Rattle.dme_orders.specs.Exporting.{xml, IsInForm, LeavesTable, RefusesFeatures, Exports};
 ghost use Rattle.dme_orders.specs.Input.{named, ReadsExport, WhyNoExport};
 ghost use Rattle.dme_orders.specs.Orders.{went};
 ghost use Rattle.dme_orders.specs.Reading.{came};
@@ -48,15 +50,23 @@ fn export_input<S: Source, F: Source, R: Source>(
     Ok((features, program))
 }
 
-/// The declaration of a text in XML, with its line's end.
-const XML: &[u8] = b"<?xml version=\"1.0\" encoding=\"UTF-8\"?>\n";
+/// The declaration of a text in XML, with its line's end. Fails only if out of memory.
+#[tactic(auto, unfolding(crate::specs::Exporting::xml))]
+fn declared(alloc: Global) -> Result<Vec<u8>, AllocError>
+    ensures text { IfOk result (λ text. text.items ≡ xml) }
+    ensures some { IfOk result (λ text. 0 < length text.items) }
+{
+    let mut text = Vec::new(alloc);
+    text.extend_from_slice(b"<?xml version=\"1.0\" encoding=\"UTF-8\"?>\n")?;
+    Ok(text)
+}
 
 /// A drawing of features. Fails only if out of memory.
 fn drawn(alloc: Global, program: &Program, features: &[Feature]) -> Result<Vec<u8>, AllocError>
-    ensures { IfOk result (λ text. 0 < length text.items) }
+    ensures text { IfOk result (λ text. Adds (IsDrawing program.now features.now) xml text.items) }
+    ensures some { IfOk result (λ text. 0 < length text.items) }
 {
-    let mut text = Vec::new(alloc);
-    text.extend_from_slice(XML)?;
+    let mut text = declared(alloc)?;
     write_drawing(alloc, &mut text, program, features)?;
     Ok(text)
 }
@@ -69,7 +79,8 @@ fn form_text(
     program: &Program,
     features: &[Feature],
 ) -> Result<Vec<u8>, AllocError>
-    ensures text { IfOk result (λ text. IsInForm form rows.now text.items) }
+    ensures text { IfOk result (λ text. IsInForm form program.now features.now rows.now
+        text.items) }
     ensures some { IfOk result (λ text. 0 < length text.items) }
 {
     let mut text = Vec::new(alloc);
