@@ -2,80 +2,83 @@
 
 ghost use Rattle.std.specs.Prelude.{◌≡◌, OnErr};
 
+use crate::contacts::Contacts;
 use crate::lines::visible;
-use crate::nearest::{Met, add_nearest};
-use crate::touches::{Request, point_text};
-use contact_ledger::{Act, Feature, ServerLedger};
+use crate::nearest::add_nearest;
+use crate::touches::point_text;
+use contact_ledger::{Feature, ServerLedger};
 use dmis_program::{Program, Wanted};
 use ledger_audit::{Verdict, audit};
 use std::alloc::{AllocError, Global};
 
-/// The contacts of a ledger, in order.
-fn contacts_in(alloc: Global, ledger: &ServerLedger) -> Result<Vec<Met<'_>>, AllocError> {
-    let mut contacts = Vec::new(alloc);
-    for (connection, act) in ledger.acts() {
-        let Act::Contact { point, .. } = act else {
-            continue;
-        };
-        let Some(request) = Request::of_contact(act) else {
-            continue;
-        };
-        let number = contacts.len();
-        contacts.push(Met {
-            number,
-            connection: *connection,
-            request,
-            point: *point,
-        })?;
-    }
-    Ok(contacts)
+/// Appends that the contact of this number serves no feature.
+fn add_unserving(
+    alloc: Global,
+    text: &mut String,
+    contacts: &Contacts,
+    number: usize,
+) -> Result<(), AllocError> {
+    let Some(contact) = contacts.get(number) else {
+        return Ok(());
+    };
+    let target = point_text(alloc, contact.target)?;
+    let point = point_text(alloc, contact.point)?;
+    let connection = contact.connection;
+    writeln!(
+        text,
+        "dme: contact {number} on connection {connection} serves no feature: target {target}, point {point}"
+    )
 }
 
-/// Appends a line for each of these contacts: that it serves no feature.
-fn add_unserving(alloc: Global, text: &mut String, contacts: &[Met]) -> Result<(), AllocError> {
-    for met in contacts {
-        let target = point_text(alloc, met.request.target())?;
-        let point = point_text(alloc, met.point)?;
-        let number = met.number;
-        let connection = met.connection;
-        writeln!(
-            text,
-            "dme: contact {number} on connection {connection} serves no feature: target {target}, point {point}"
-        )?;
+/// Appends a line for each contact from one number on and before another: that it serves no feature.
+fn add_all_unserving(
+    alloc: Global,
+    text: &mut String,
+    contacts: &Contacts,
+    from: usize,
+    to: usize,
+) -> Result<(), AllocError> {
+    for number in from..to {
+        add_unserving(alloc, text, contacts, number)?;
     }
     Ok(())
 }
 
-/// Appends a line for each contact before, between and after the runs of these features, which begin at these numbers. The contacts after
-/// the last run.
-fn add_between<'c, 'a>(
+/// How many points the feature in this place has.
+fn points_at(features: &[Feature], index: usize) -> usize {
+    match features.get(index) {
+        Some(feature) => feature.points.as_slice().len(),
+        None => 0,
+    }
+}
+
+/// Appends a line for each contact before and between the runs of these features, which begin at these numbers. The number of the contact
+/// after the last run.
+fn add_between(
     alloc: Global,
     text: &mut String,
     features: &[Feature],
     starts: &[u64],
-    contacts: &'c [Met<'a>],
-) -> Result<&'c [Met<'a>], AllocError> {
-    let mut left = contacts;
-    for (index, start) in starts.iter().enumerate() {
-        let passed = contacts.len().saturating_sub(left.len());
-        let before = (*start as usize).saturating_sub(passed);
-        add_unserving(alloc, text, left.get(..before).unwrap_or(left))?;
-        let count = features
-            .get(index)
-            .map_or(0, |feature| feature.points.as_slice().len());
-        left = left.get(before.saturating_add(count)..).unwrap_or(&[]);
+    contacts: &Contacts,
+) -> Result<usize, AllocError> {
+    let mut passed = 0;
+    for index in 0..starts.len() {
+        let start = starts[index] as usize;
+        add_all_unserving(alloc, text, contacts, passed, start)?;
+        passed = start.saturating_add(points_at(features, index));
     }
-    Ok(left)
+    Ok(passed)
 }
 
-/// Appends why the first feature without a run has none among these contacts.
+/// Appends why the first feature without a run has none among the contacts from this number on.
 fn add_reason(
-    alloc: Global,
     text: &mut String,
     feature: &Feature,
     wanted: Option<&Wanted>,
-    contacts: &[Met],
+    contacts: &Contacts,
+    least: usize,
 ) -> Result<(), AllocError> {
+    let alloc = *text.allocator();
     let label = visible(alloc, feature.label.as_bytes())?;
     let Some(wanted) = wanted else {
         return writeln!(
@@ -95,7 +98,24 @@ fn add_reason(
             "dme: {label} has {count} points, and {touches} touches in the program"
         );
     }
-    add_nearest(alloc, text, feature, wanted, contacts)
+    add_nearest(text, feature, wanted, contacts, least)
+}
+
+/// Appends how many of the program's features were audited. How many first ones have their runs.
+fn add_count(
+    alloc: Global,
+    text: &mut String,
+    program: &Program,
+    features: &[Feature],
+    ledger: &ServerLedger,
+) -> Result<usize, AllocError> {
+    let count = features.len();
+    let all = program.features().len();
+    writeln!(text, "dme: {count} of {all} features audited")?;
+    match audit(alloc, program, features, ledger)? {
+        Verdict::Starts(_) => Ok(count),
+        Verdict::NoRun(count) => Ok(count.saturating_sub(1)),
+    }
 }
 
 /// The text of an audit's explanation.
@@ -105,25 +125,19 @@ fn audit_text(
     features: &[Feature],
     ledger: &ServerLedger,
 ) -> Result<String, AllocError> {
-    let contacts = contacts_in(alloc, ledger)?;
     let mut text = String::new(alloc);
-    let sound = match audit(alloc, program, features, ledger)? {
-        Verdict::Starts(_) => features.len(),
-        Verdict::NoRun(count) => count.saturating_sub(1),
-    };
-    let wanted = program.features();
-    let count = features.len();
-    let all = wanted.len();
-    writeln!(text, "dme: {count} of {all} features audited")?;
-    let first = features.get(..sound).unwrap_or(features);
+    let sound = add_count(alloc, &mut text, program, features, ledger)?;
+    let (first, _) = features.split_at(sound.min(features.len()));
     let Verdict::Starts(starts) = audit(alloc, program, first, ledger)? else {
         return Ok(text);
     };
-    let left = add_between(alloc, &mut text, features, starts.as_slice(), &contacts)?;
+    let contacts = Contacts::of(alloc, ledger)?;
+    let passed = add_between(alloc, &mut text, first, starts.as_slice(), &contacts)?;
     if let Some(feature) = features.get(sound) {
-        add_reason(alloc, &mut text, feature, wanted.get(sound), left)?;
+        let wanted = program.features().get(sound);
+        add_reason(&mut text, feature, wanted, &contacts, passed)?;
     }
-    add_unserving(alloc, &mut text, left)?;
+    add_all_unserving(alloc, &mut text, &contacts, passed, contacts.len())?;
     Ok(text)
 }
 

@@ -11,13 +11,15 @@
 //!   a parameter does not fit
 //! - `setups`, `schedules`, `ledgers`, `records`: the sentences of the other texts
 //! - `strangers`: why a record is of another part or program; `touches`: in what two touches differ
-//! - `audits`: what an audit found; `nearest`: the contact that is nearest to a touch without one
+//! - `audits`: what an audit found; `contacts`: the contacts of a ledger; `nearest`: the one
+//!   that is nearest to a touch without one
 #![tactic(auto)]
 
 mod arguments;
 mod audits;
 mod bad_bytes;
 mod blocks;
+mod contacts;
 mod faults;
 mod ledgers;
 mod lines;

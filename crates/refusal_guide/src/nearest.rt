@@ -1,5 +1,6 @@
 // Which contact is nearest to a touch that has none, and in what it differs.
 
+use crate::contacts::{Contact, Contacts};
 use crate::lines::visible;
 use crate::touches::{Request, point_text};
 use contact_ledger::Feature;
@@ -7,46 +8,64 @@ use dmis_program::{Touch, Wanted};
 use fixed_um::{Point, Um};
 use std::alloc::{AllocError, Global};
 
-/// A contact of a ledger: its number among the contacts, counted from 0, its connection, what was asked for, and the point reported.
-#[derive(Clone, Copy)]
-pub(crate) struct Met<'a> {
-    pub(crate) number: usize,
-    pub(crate) connection: u64,
-    pub(crate) request: Request<'a>,
-    pub(crate) point: Point,
+/// Whether the contact of this number is on a connection and serves a touch of which this point was measured.
+fn serves(
+    contacts: &Contacts,
+    number: usize,
+    connection: u64,
+    touch: &Touch,
+    point: Point,
+) -> bool {
+    match contacts.get(number) {
+        Some(contact) => {
+            contact.connection == connection
+                && contact.point == point
+                && contact.request().is(&Request::of_touch(touch))
+        }
+        None => false,
+    }
 }
 
-/// Whether a contact serves a touch of which this point was measured.
-fn serves(met: &Met, touch: &Touch, point: Point) -> bool {
-    met.point == point && met.request.is(&Request::of_touch(touch))
-}
-
-/// How many of these contacts, from the first on, serve the first touches on one connection.
-fn served(touches: &[Touch], points: &[Point], contacts: &[Met]) -> usize {
-    let Some(first) = contacts.first() else {
+/// How many contacts, from this number on, serve the first touches on one connection.
+fn served(contacts: &Contacts, start: usize, touches: &[Touch], points: &[Point]) -> usize {
+    let Some(first) = contacts.get(start) else {
         return 0;
     };
+    let connection = first.connection;
     for (count, touch) in touches.iter().enumerate() {
-        let (Some(point), Some(met)) = (points.get(count), contacts.get(count)) else {
+        let Some(point) = points.get(count) else {
             return count;
         };
-        if met.connection != first.connection || !serves(met, touch, *point) {
+        if !serves(
+            contacts,
+            start.saturating_add(count),
+            connection,
+            touch,
+            *point,
+        ) {
             return count;
         }
     }
     touches.len()
 }
 
-/// Where the first of the longest runs that serve the first touches begins, and how long it is.
-fn longest(touches: &[Touch], points: &[Point], contacts: &[Met]) -> (usize, usize) {
-    let mut best = (0, 0);
-    for start in 0..contacts.len() {
-        let count = served(touches, points, &contacts[start..]);
-        if count > best.1 {
-            best = (start, count);
+/// The number, from this one on, at which the first of the longest runs that serve the first touches begins, and how long it is.
+fn longest(
+    contacts: &Contacts,
+    least: usize,
+    touches: &[Touch],
+    points: &[Point],
+) -> (usize, usize) {
+    let mut start = least;
+    let mut length = 0;
+    for number in least..contacts.len() {
+        let count = served(contacts, number, touches, points);
+        if count > length {
+            start = number;
+            length = count;
         }
     }
-    best
+    (start, length)
 }
 
 /// How far two lengths lie apart, in micrometres.
@@ -55,51 +74,75 @@ fn apart(one: Um, other: Um) -> u64 {
 }
 
 /// How far two points lie apart along the three axes together, in micrometres.
-fn distance(one: Point, other: Point) -> u64 {
+fn distance(one: &Point, other: &Point) -> u64 {
     apart(one.x, other.x)
         .saturating_add(apart(one.y, other.y))
         .saturating_add(apart(one.z, other.z))
 }
 
-/// The place of the first of the contacts whose target lies nearest to a point.
-fn closest(contacts: &[Met], target: Point) -> usize {
-    let mut best = 0;
-    let mut least = u64::MAX;
-    for (at, met) in contacts.iter().enumerate() {
-        let length = distance(met.request.target(), target);
-        if length < least {
-            best = at;
-            least = length;
+/// How far the target of the contact of this number lies from a point; as far as can be if there is none.
+fn target_distance(contacts: &Contacts, number: usize, target: &Point) -> u64 {
+    match contacts.get(number) {
+        Some(contact) => distance(&contact.target, target),
+        None => u64::MAX,
+    }
+}
+
+/// The number of the first contact, from this one on, whose target lies nearest to a point.
+fn closest(contacts: &Contacts, least: usize, target: &Point) -> usize {
+    let mut best = least;
+    for number in least..contacts.len() {
+        if target_distance(contacts, number, target) < target_distance(contacts, best, target) {
+            best = number;
         }
     }
     best
 }
 
-/// In what a contact differs from a touch of a program, and from the point of a feature.
+/// Appends in what a contact differs from a touch of a program, and from the point of a feature.
 fn add_difference(
     alloc: Global,
     text: &mut String,
-    met: &Met,
+    contact: &Contact,
     touch: &Touch,
     point: Point,
 ) -> Result<(), AllocError> {
-    if let Some(found) = met.request.difference(alloc, &Request::of_touch(touch))? {
+    if let Some(found) = contact
+        .request()
+        .difference(alloc, &Request::of_touch(touch))?
+    {
         let what = found.what;
         let one: &str = &found.one;
         let other: &str = &found.other;
         return writeln!(text, "has {what} {one}, and the program {other}");
     }
-    let one = point_text(alloc, met.point)?;
+    let one = point_text(alloc, contact.point)?;
     let other = point_text(alloc, point)?;
     writeln!(text, "has point {one}, and the features {other}")
 }
 
-/// Appends that no contact follows these on the connection of the last of them.
-fn add_lack(text: &mut String, contacts: &[Met]) -> Result<(), AllocError> {
-    match contacts.last() {
-        Some(met) => {
-            let number = met.number;
-            let connection = met.connection;
+/// Appends which contact is nearest to a touch, and in what it differs.
+fn add_contact(
+    alloc: Global,
+    text: &mut String,
+    contact: &Contact,
+    touch: &Touch,
+    point: Point,
+) -> Result<(), AllocError> {
+    let number = contact.number;
+    let connection = contact.connection;
+    write!(
+        text,
+        "the nearest contact, {number} on connection {connection}, "
+    )?;
+    add_difference(alloc, text, contact, touch, point)
+}
+
+/// Appends that no contact follows the one of this number on its connection.
+fn add_lack(text: &mut String, contacts: &Contacts, number: usize) -> Result<(), AllocError> {
+    match contacts.get(number) {
+        Some(contact) => {
+            let connection = contact.connection;
             writeln!(
                 text,
                 "connection {connection} has no contact after {number}"
@@ -109,41 +152,63 @@ fn add_lack(text: &mut String, contacts: &[Met]) -> Result<(), AllocError> {
     }
 }
 
-/// Appends which touch of a feature has no contact among these, and in what the nearest one differs. The nearest is the one that follows the
-/// longest run of contacts that serve the touches before; where not even the first touch is served, the one with the nearest target.
-pub(crate) fn add_nearest(
+/// Appends why no contact serves a touch after the run that begins at this number and serves this many touches before it: it ends with the
+/// connection, or the contact that follows differs.
+fn add_next(
     alloc: Global,
+    text: &mut String,
+    contacts: &Contacts,
+    run: (usize, usize),
+    asked: (&Touch, Point),
+) -> Result<(), AllocError> {
+    let (start, count) = run;
+    let number = start.saturating_add(count);
+    let last = number.saturating_sub(1);
+    let (Some(contact), Some(before)) = (contacts.get(number), contacts.get(last)) else {
+        return add_lack(text, contacts, last);
+    };
+    if contact.connection != before.connection {
+        return add_lack(text, contacts, last);
+    }
+    add_contact(alloc, text, &contact, asked.0, asked.1)
+}
+
+/// Appends which contact, from this number on, is nearest to a touch that begins a feature, and in what it differs.
+fn add_first(
+    alloc: Global,
+    text: &mut String,
+    contacts: &Contacts,
+    least: usize,
+    asked: (&Touch, Point),
+) -> Result<(), AllocError> {
+    let number = closest(contacts, least, &asked.0.target);
+    match contacts.get(number) {
+        Some(contact) => add_contact(alloc, text, &contact, asked.0, asked.1),
+        None => writeln!(text, "no contact is left"),
+    }
+}
+
+/// Appends which touch of a feature has no contact from this number on, and in what the nearest one differs. The nearest is the one that
+/// follows the longest run of contacts that serve the touches before; if no contact serves the first touch, the one with the nearest target.
+pub(crate) fn add_nearest(
     text: &mut String,
     feature: &Feature,
     wanted: &Wanted,
-    contacts: &[Met],
+    contacts: &Contacts,
+    least: usize,
 ) -> Result<(), AllocError> {
+    let alloc = *text.allocator();
     let touches = wanted.touches.as_slice();
     let points = feature.points.as_slice();
-    let (start, count) = longest(touches, points, contacts);
+    let (start, count) = longest(contacts, least, touches, points);
     let (Some(touch), Some(point)) = (touches.get(count), points.get(count)) else {
         return Ok(());
-    };
-    let at = if count == 0 {
-        closest(contacts, touch.target)
-    } else {
-        start.saturating_add(count)
     };
     let label = visible(alloc, feature.label.as_bytes())?;
     let place = count.saturating_add(1);
     write!(text, "dme: touch {place} of {label}: ")?;
-    let Some(met) = contacts.get(at) else {
-        return add_lack(text, contacts);
-    };
-    let before = contacts.get(start).unwrap_or(met);
-    if count > 0 && met.connection != before.connection {
-        return add_lack(text, contacts.get(..at).unwrap_or(contacts));
+    if count == 0 {
+        return add_first(alloc, text, contacts, least, (touch, *point));
     }
-    let number = met.number;
-    let connection = met.connection;
-    write!(
-        text,
-        "the nearest contact, {number} on connection {connection}, "
-    )?;
-    add_difference(alloc, text, met, touch, *point)
+    add_next(alloc, text, contacts, (start, count), (touch, *point))
 }

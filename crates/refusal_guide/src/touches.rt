@@ -102,6 +102,21 @@ fn frames(alloc: Global, one: Frame, other: Frame) -> Result<Option<Difference>,
 }
 
 impl<'a> Request<'a> {
+    /// A target, a direction, a tool and a frame that are asked for.
+    pub(crate) fn new(
+        target: Point,
+        dir: Option<Dir>,
+        tool: &'a Name,
+        frame: Frame,
+    ) -> Request<'a> {
+        Request {
+            target,
+            dir,
+            tool,
+            frame,
+        }
+    }
+
     /// What a program's touch asks for.
     pub(crate) fn of_touch(touch: &'a Touch) -> Request<'a> {
         Request {
@@ -129,11 +144,6 @@ impl<'a> Request<'a> {
             }),
             _ => None,
         }
-    }
-
-    /// The target.
-    pub(crate) fn target(&self) -> Point {
-        self.target
     }
 
     /// Whether two touches ask for the same.
