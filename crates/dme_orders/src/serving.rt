@@ -5,6 +5,7 @@ ghost use Rattle.contact_ledger.specs.ContactTexts.{contacts_text};
 ghost use Rattle.protocol_model.specs.Ends.{serving_accepted};
 ghost use Rattle.server_core.specs.Serving.{may_accept};
 ghost use Rattle.link_world.specs.Pumps.{BlamesPorts};
+ghost use Rattle.link_world.specs.ServerWatching.{EndsWith};
 ghost use Rattle.dme_orders.specs.Driving.{file_told, Keeps};
 ghost use Rattle.dme_orders.specs.Orders.{went, Prints};
 ghost use Rattle.dme_orders.specs.Serving.{ServeCame, break_after, LeavesLedger};
@@ -13,24 +14,28 @@ use crate::reading::FilesFault;
 use crate::text_files::TextFile;
 use byte_ports::{Failed, Ports, Sink, Source, push_all};
 use contact_ledger::{ServerLedger, write_contacts};
-use link_world::{Machine, PumpFault, serve_link, write_contact_rows};
+use link_world::{Machine, PumpFault, ServerWatcher, watch_server_link, write_contact_rows};
 use server_core::{Server, ServerFault};
 use std::alloc::{AllocError, Global};
 
-/// A server comes to the connection of this number and takes its turns on it until the input has ended; it has then left. The answer is the
-/// fault of a turn, or that the server may not come to this connection: then it is as it was.
-pub fn serve_one<M: Machine, R: Source, W: Sink>(
+/// A server comes to the connection of this number and takes its turns on it until the input has ended; it has then left. Each turn is
+/// reported to the watcher. The answer is the fault of a turn, or that the server may not come to this connection: then all is as it was.
+pub fn serve_one<M: Machine, R: Source, W: Sink, N: ServerWatcher>(
     server: &mut Server,
     machine: &mut M,
     number: u64,
     ports: &mut Ports<R, W>,
+    watcher: &mut N,
 ) -> Result<(), PumpFault<ServerFault>>
     ensures came { may_accept number server.old.end.server ≡ true
         → ServeCame (M.answers machine.old) (serving_accepted number server.old.end)
         server.new.end (R.left ports.old.source) (R.left ports.new.source) (W.taken ports.old.sink)
-        (W.taken ports.new.sink) result }
+        (W.taken ports.new.sink) (N.told watcher.old) (N.told watcher.new) result }
+    ensures last { may_accept number server.old.end.server ≡ true
+        → EndsWith (N.told watcher.new) server.new.end.server.ledger }
     ensures refused { may_accept number server.old.end.server ≡ false
         → IsErrOf result (PumpFault.Core ServerFault.NotNow) × (server.new ≡ server.old) }
+    ensures untold { may_accept number server.old.end.server ≡ false → watcher.new ≡ watcher.old }
     ensures left { may_accept number server.old.end.server ≡ true
         → server.new.end.server.on ≡ false }
     ensures keeps { M.answers machine.new ≡ M.answers machine.old }
@@ -41,7 +46,7 @@ pub fn serve_one<M: Machine, R: Source, W: Sink>(
         (W.has_failed ports.old.sink) (W.has_failed ports.new.sink) }
 {
     server.accept(number)?;
-    serve_link(server, machine, ports)
+    watch_server_link(server, machine, ports, watcher)
 }
 
 /// Why connections were broken off: running out of memory, if one was for that, else the first cause of them; none if none was.

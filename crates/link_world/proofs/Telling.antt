@@ -93,17 +93,17 @@ turned_grows bound calls calls_now least old new left left_now taken taken_now (
 
 -- ---- what is reported
 
-pub hears_none : (told : Option (List Note)) → Hears told told []
+pub hears_none : {T : Type 0} (told : Option (List T)) → Hears told told []
 hears_none None = tt
 hears_none (Some notes) = sym (append-nil notes)
 
-hears_more : (told mid now : Option (List Note)) (first then : List Note) → Hears told mid first → Hears mid now then
+pub hears_more : {T : Type 0} (told mid now : Option (List T)) (first then : List T) → Hears told mid first → Hears mid now then
     → Hears told now (first ++ then)
 hears_more told mid None first then h g = tt
 hears_more told None (Some now) first then h g = absurd g
 hears_more None (Some mid) (Some now) first then h g = absurd h
-hears_more (Some before) (Some mid) (Some now) first then h g =
-    g ∙ ap (λ (l : List Note). l ++ then) h ∙ append_assoc before first then
+hears_more {T} (Some before) (Some mid) (Some now) first then h g =
+    g ∙ ap (λ (l : List T). l ++ then) h ∙ append_assoc before first then
 
 -- the features up to one of them are reported
 pub record ToldSoFar (fs : List Feature) (first at : ℕ) (told told_now : Option (List Note)) : Type 0 where

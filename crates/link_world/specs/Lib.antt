@@ -19,3 +19,4 @@ pub mod Joined
 pub mod LinkRuns
 pub mod Watching
 pub mod WatchingRows
+pub mod ServerWatching

@@ -13,7 +13,7 @@ notes_from n [] = []
 notes_from n (f ∷ fs) = Completed n f ∷ notes_from (n + 1) fs
 
 -- a watcher received exactly these notes after all that it had received before; one that no longer says what it received says nothing
-abbrev pub Hears : (told told_now : Option (List Note)) → List Note → Type 0
+abbrev pub Hears : {T : Type 0} → (told told_now : Option (List T)) → List T → Type 0
 Hears told None notes = ⊤
 Hears None (Some now) notes = ⊥
 Hears (Some before) (Some now) notes = now ≡ before ++ notes

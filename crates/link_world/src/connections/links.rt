@@ -4,13 +4,14 @@ ghost use Rattle.std.specs.Prelude.{◌≡◌, ◌↔◌, ◌<◌, ◌≤◌, �
 ghost use Rattle.std.specs.Result.{IsErrOf};
 ghost use Rattle.link_world.specs.Pumps.{BlamesPorts, ClientMovedWithin, ClientStoppedWithin};
 ghost use Rattle.link_world.specs.Watching.{TellsRun};
+ghost use Rattle.link_world.specs.ServerWatching.{EndsWith, ServerRunWatched};
 ghost use Rattle.link_world.specs.LinkRuns.{calls_most, is_over, ClientRan, ClientRunStopped, ServerRunStopped};
 
 use crate::connections::client_pump::client_turns;
 use crate::connections::machines::Machine;
 use crate::connections::pumps::{Moved, PIECE, PumpFault};
-use crate::connections::server_pump::serve_turns;
-use crate::connections::watching::{Silent, Watcher, tell};
+use crate::connections::server_pump::{Limits, watched_turns};
+use crate::connections::watching::{ServerWatcher, Silent, Watcher, tell};
 use byte_ports::{Ports, Sink, Source};
 use client_core::{Client, ClientFault, State};
 use server_core::{Server, ServerFault};
@@ -20,6 +21,12 @@ pub(crate) const TURNS_MAX: u32 = 1_000_000;
 
 /// How many steps each of them may make (this profile): `steps_most` of the definitions.
 pub(crate) const STEPS_MAX: u64 = 1_000_000;
+
+/// What a turn of a server's run asks for: one byte, within the allowed steps.
+const LINK: Limits = Limits {
+    at_least: 1,
+    bound: STEPS_MAX,
+};
 
 /// Why a client and a server that take turns alternately stop: the fault of one side's turn.
 #[derive(Clone, Copy, Debug, PartialEq, Eq)]
@@ -134,6 +141,40 @@ fn end_of(fault: PumpFault<ServerFault>) -> Result<(), PumpFault<ServerFault>>
     }
 }
 
+/// A whole run of a server and its machine, as `serve_link`, that is reported to a watcher: one report a turn, also of the turn that stops,
+/// before the answers of that turn go out. Whatever the watcher does, the run is the same.
+pub fn watch_server_link<M: Machine, R: Source, W: Sink, N: ServerWatcher>(
+    server: &mut Server,
+    machine: &mut M,
+    ports: &mut Ports<R, W>,
+    watcher: &mut N,
+) -> Result<(), PumpFault<ServerFault>>
+    ensures ended { OnOk result (ServerRunWatched (M.answers machine.old) server.old.end
+        server.new.end (R.left ports.old.source) (R.left ports.new.source) (W.taken ports.old.sink)
+        (W.taken ports.new.sink) PumpFault.Ended (N.told watcher.old) (N.told watcher.new)) }
+    ensures stopped { IfErr result (λ fault. ServerRunWatched (M.answers machine.old)
+        server.old.end server.new.end (R.left ports.old.source) (R.left ports.new.source) (W.taken ports.old.sink)
+        (W.taken ports.new.sink) fault (N.told watcher.old) (N.told watcher.new)) }
+    ensures last { EndsWith (N.told watcher.new) server.new.end.server.ledger }
+    ensures normal { IsErrOf result PumpFault.Ended → ⊥ }
+    ensures left { server.new.end.server.on ≡ false }
+    ensures bounded { R.calls ports.new.source + W.calls ports.new.sink
+        ≤ R.calls ports.old.source + W.calls ports.old.sink + calls_most }
+    ensures setup { server.new.setup ≡ server.old.setup }
+    ensures keeps { M.answers machine.new ≡ M.answers machine.old }
+    ensures blamed { BlamesPorts PumpFault.ReadFailed PumpFault.WriteFailed result
+        (R.has_failed ports.old.source) (R.has_failed ports.new.source)
+        (W.has_failed ports.old.sink) (W.has_failed ports.new.sink) }
+{
+    for _turn in 0..TURNS_MAX {
+        if let Err(fault) = watched_turns(server, machine, ports, LINK, watcher) {
+            return end_of(fault);
+        }
+    }
+    server.leave();
+    Err(PumpFault::TurnsSpent)
+}
+
 /// A whole run of a server and its machine over the ports of a connection (this profile): turns in which at least one byte comes in, until
 /// the input has ended. That end is the normal one of a connection: the answer is Ok, and the server has left.
 ///
@@ -161,11 +202,5 @@ pub fn serve_link<M: Machine, R: Source, W: Sink>(
         (R.has_failed ports.old.source) (R.has_failed ports.new.source)
         (W.has_failed ports.old.sink) (W.has_failed ports.new.sink) }
 {
-    for _turn in 0..TURNS_MAX {
-        if let Err(fault) = serve_turns(server, machine, ports, 1, STEPS_MAX) {
-            return end_of(fault);
-        }
-    }
-    server.leave();
-    Err(PumpFault::TurnsSpent)
+    watch_server_link(server, machine, ports, &mut Silent)
 }

@@ -1,6 +1,6 @@
 // A server and its machine over the ports of a connection.
 
-ghost use Rattle.std.specs.Prelude.{◌≡◌, ℕ, ◌<◌, ◌≤◌, ◌+◌, ◌*◌, Option, List, true, false, length, None, [], Ok, IfOk, OnOk, OnErr, IfErr, IfSome, option_map};
+ghost use Rattle.std.specs.Prelude.{◌≡◌, ℕ, ◌<◌, ◌≤◌, ◌+◌, ◌*◌, Option, List, true, false, length, None, [], ◌∷◌, Ok, IfOk, OnOk, OnErr, IfErr, IfSome, option_map};
 ghost use Rattle.std.specs.Result.{IsErrOf};
 ghost use Rattle.contact_ledger.specs.Ledgers.{contact_count};
 ghost use Rattle.line_framing.specs.Next.{next_of};
@@ -12,11 +12,13 @@ ghost use Rattle.server_core.specs.Steady.{IsRunnable};
 ghost use Rattle.protocol_model.specs.declared.machine.Job.{Job as OneJob};
 ghost use Rattle.protocol_model.specs.declared.machine.Outcome.{Outcome as OneOutcome};
 ghost use Rattle.link_world.specs.Pumps.{Blames, BlamesPorts, Reading, Working};
+ghost use Rattle.link_world.specs.Watching.{Hears};
 ghost use Rattle.link_world.specs.ServerPumps.{ServerMovedWithin, ServerStoppedWithin};
 ghost use Rattle.link_world.specs.ServerPumpParts.{ServerGoesOn, ServerCame, ServerCameShort, ServerReadStops, ReadIn, IsWorkFault, has_work, steps_of};
 
 use crate::connections::machines::Machine;
 use crate::connections::pumps::{Budget, Moved, PIECE, PumpFault, pull_counted, push_counted};
+use crate::connections::watching::{ServerWatcher, Silent};
 use byte_ports::{Ports, Sink, Source};
 use protocol_model::Outcome;
 use server_core::{Server, ServerFault};
@@ -163,37 +165,87 @@ fn work<M: Machine>(
     Ok(())
 }
 
-/// The server's turn, which does not leave.
-fn turn<M: Machine, R: Source, W: Sink>(
+/// How many bytes a turn asks for, and how many steps it may make.
+#[derive(Clone, Copy)]
+pub(crate) struct Limits {
+    pub(crate) at_least: usize,
+    pub(crate) bound: u64,
+}
+
+/// The server's turn, which does not leave. What it has done is reported before its answers go out.
+fn turn<M: Machine, R: Source, W: Sink, N: ServerWatcher>(
     server: &mut Server,
     machine: &mut M,
     ports: &mut Ports<R, W>,
-    at_least: usize,
-    bound: u64,
+    limits: Limits,
+    watcher: &mut N,
 ) -> Result<Moved, PumpFault<ServerFault>>
-    ensures moved { IfOk result (λ moved. ServerMovedWithin (M.answers machine.old) bound
+    ensures moved { IfOk result (λ moved. ServerMovedWithin (M.answers machine.old) limits.bound
         (R.calls ports.old.source + W.calls ports.old.sink) (R.calls ports.new.source + W.calls ports.new.sink)
-        at_least server.old.end server.new.end (R.left ports.old.source) (R.left ports.new.source)
+        limits.at_least server.old.end server.new.end (R.left ports.old.source) (R.left ports.new.source)
         (W.taken ports.old.sink) (W.taken ports.new.sink) moved) }
-    ensures stopped { IfErr result (λ fault. ServerStoppedWithin (M.answers machine.old) bound
+    ensures stopped { IfErr result (λ fault. ServerStoppedWithin (M.answers machine.old) limits.bound
         (R.calls ports.old.source + W.calls ports.old.sink) (R.calls ports.new.source + W.calls ports.new.sink)
-        at_least server.old.end (serving_left server.new.end) (R.left ports.old.source)
+        limits.at_least server.old.end (serving_left server.new.end) (R.left ports.old.source)
         (R.left ports.new.source) (W.taken ports.old.sink) (W.taken ports.new.sink) fault) }
     ensures setup { server.new.setup ≡ server.old.setup }
     ensures keeps { M.answers machine.new ≡ M.answers machine.old }
-    ensures few { IfOk result (λ moved. moved.read < at_least + PIECE) }
-    ensures unasked { at_least ≡ 0 → ports.new.source ≡ ports.old.source }
+    ensures few { IfOk result (λ moved. moved.read < limits.at_least + PIECE) }
+    ensures unasked { limits.at_least ≡ 0 → ports.new.source ≡ ports.old.source }
     ensures blamed { BlamesPorts PumpFault.ReadFailed PumpFault.WriteFailed result
         (R.has_failed ports.old.source) (R.has_failed ports.new.source)
         (W.has_failed ports.old.sink) (W.has_failed ports.new.sink) }
+    ensures told { Hears (N.told watcher.old) (N.told watcher.new)
+        (server.new.end.server.ledger ∷ []) }
 {
-    let mut budget = Budget { left: bound };
-    let read = read_in(server, &mut ports.source, at_least, &mut budget)?;
-    work(server, machine, &mut budget)?;
+    let mut budget = Budget { left: limits.bound };
+    let read = match read_in(server, &mut ports.source, limits.at_least, &mut budget) {
+        Ok(read) => read,
+        Err(fault) => {
+            watcher.worked(server.ledger());
+            return Err(fault);
+        }
+    };
+    let worked = work(server, machine, &mut budget);
+    watcher.worked(server.ledger());
+    worked?;
     let written = server.out().len();
     push_counted(&mut ports.sink, server.out(), &mut budget)?;
     server.sent(written);
     Ok(Moved { read, written })
+}
+
+/// One turn of a server and its machine, as `serve_turns`, that is reported to a watcher.
+pub(crate) fn watched_turns<M: Machine, R: Source, W: Sink, N: ServerWatcher>(
+    server: &mut Server,
+    machine: &mut M,
+    ports: &mut Ports<R, W>,
+    limits: Limits,
+    watcher: &mut N,
+) -> Result<Moved, PumpFault<ServerFault>>
+    ensures moved { IfOk result (λ moved. ServerMovedWithin (M.answers machine.old) limits.bound
+        (R.calls ports.old.source + W.calls ports.old.sink) (R.calls ports.new.source + W.calls ports.new.sink)
+        limits.at_least server.old.end server.new.end (R.left ports.old.source) (R.left ports.new.source)
+        (W.taken ports.old.sink) (W.taken ports.new.sink) moved) }
+    ensures stopped { IfErr result (λ fault. ServerStoppedWithin (M.answers machine.old) limits.bound
+        (R.calls ports.old.source + W.calls ports.old.sink) (R.calls ports.new.source + W.calls ports.new.sink)
+        limits.at_least server.old.end server.new.end (R.left ports.old.source)
+        (R.left ports.new.source) (W.taken ports.old.sink) (W.taken ports.new.sink) fault) }
+    ensures setup { server.new.setup ≡ server.old.setup }
+    ensures keeps { M.answers machine.new ≡ M.answers machine.old }
+    ensures few { IfOk result (λ moved. moved.read < limits.at_least + PIECE) }
+    ensures unasked { limits.at_least ≡ 0 → ports.new.source ≡ ports.old.source }
+    ensures blamed { BlamesPorts PumpFault.ReadFailed PumpFault.WriteFailed result
+        (R.has_failed ports.old.source) (R.has_failed ports.new.source)
+        (W.has_failed ports.old.sink) (W.has_failed ports.new.sink) }
+    ensures told { Hears (N.told watcher.old) (N.told watcher.new)
+        (server.new.end.server.ledger ∷ []) }
+{
+    let result = turn(server, machine, ports, limits, watcher);
+    if result.is_err() {
+        server.leave();
+    }
+    result
 }
 
 /// One turn of a server and its machine over the ports of its connection (this profile): bytes come in, in pieces of at most `PIECE`, until
@@ -227,9 +279,11 @@ pub fn serve_turns<M: Machine, R: Source, W: Sink>(
         (R.has_failed ports.old.source) (R.has_failed ports.new.source)
         (W.has_failed ports.old.sink) (W.has_failed ports.new.sink) }
 {
-    let result = turn(server, machine, ports, at_least, bound);
-    if result.is_err() {
-        server.leave();
-    }
-    result
+    watched_turns(
+        server,
+        machine,
+        ports,
+        Limits { at_least, bound },
+        &mut Silent,
+    )
 }

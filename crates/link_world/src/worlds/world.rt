@@ -32,7 +32,7 @@ use tool_rack::Setup;
 /// Whatever events have happened, the features that the client holds are the first of the program, and their points are, in order, those of
 /// disjoint ascending runs of the server's contacts, one unbroken run on one connection for each feature, each contact made with its
 /// touch's target, direction, tool and frame; what the client has counted on its connection is a prefix of what the server did there; and
-/// neither end has met an unexpected line or mark.
+/// the client has met no unexpected line or mark, and the server no framing fault.
 #[derive(Drop)]
 pub struct World {
     pub(crate) alloc: Global,
@@ -215,7 +215,7 @@ impl World {
     }
 
     /// What the server did, with the numbers of the connections: the features that the client holds are true of it, what the client has
-    /// counted is a prefix of it on its connection, and neither side has met an unexpected line or mark.
+    /// counted is a prefix of it on its connection, the client has met no unexpected line or mark, and the server no framing fault.
     pub fn ledger(&self) -> &ServerLedger
         ensures value { result.now ≡ self.now.world.server.server.ledger }
         ensures always { Headline self.now.world }
