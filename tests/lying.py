@@ -26,7 +26,7 @@ from hostile import Fixed
 from killed import FEATURES, RECORD, SETUP, WINDOWS, dme, program, read, run_words
 
 SECONDS = 60
-SESSIONS = 4
+SESSIONS = 1
 RUNS = 400
 LIES = ("cut", "cut", "reset", "error", "no point", "two points", "twice", "stranger", "garbage")
 NUMBER = r"(-?\d+\.\d{3})"
@@ -42,6 +42,7 @@ class Liar(threading.Thread):
         self.listener = socket.create_server(("127.0.0.1", 0))
         self.port = self.listener.getsockname()[1]
         self.answered = []  # for each connection, the contacts that it answered: target and point
+        self.lies = 0
 
     def run(self):
         while True:
@@ -50,7 +51,7 @@ class Liar(threading.Thread):
             except OSError:
                 return
             self.answered.append([])
-            left = self.chance.below(400) if self.chance.below(8) else 1_000_000
+            left = self.chance.below(80)
             try:
                 self.serve(stream, left)
             except OSError:
@@ -72,8 +73,8 @@ class Liar(threading.Thread):
             for line in lines:
                 tag, _, command = line.decode().partition(" ")
                 if left == 0:
-                    lie = self.chance.one_of(LIES)
-                    if not self.lie(stream, lie, tag, command):
+                    self.lies += 1
+                    if not self.lie(stream, self.chance.one_of(LIES), tag, command):
                         return
                     in_error, left = True, 1_000_000
                     continue
@@ -149,7 +150,7 @@ def run_once(folder, port, window, moment):
 
 
 def session(chance, folder, window):
-    """Runs until one is Done: how many there were."""
+    """Runs until one is Done: how many there were, and how many lies."""
     (folder / "machine.setup").write_text(SETUP)
     (folder / "part.dmis").write_text(program())
     liar = Liar(chance)
@@ -164,7 +165,7 @@ def session(chance, folder, window):
             held = len(record.features)
             must_be_answered(record, list(liar.answered))
             if is_done:
-                return count
+                return count, liar.lies
     finally:
         liar.close()
     raise Wrong(f"not Done after {RUNS} runs")
@@ -181,18 +182,19 @@ def must_be_sound(folder):
 
 def check_lying(sessions=SESSIONS):
     """How many windows ended well in each session, and how many did not."""
-    chance, wrong, runs = Fixed(11), 0, 0
+    chance, wrong, runs, lies = Fixed(11), 0, 0, 0
     for window in WINDOWS:
         try:
             must(PROGRAM.exists(), "no executable")
             for _ in range(sessions):
                 with tempfile.TemporaryDirectory() as folder:
-                    runs += session(chance, pathlib.Path(folder), window)
+                    ran, lied = session(chance, pathlib.Path(folder), window)
+                    runs, lies = runs + ran, lies + lied
                     must_be_sound(pathlib.Path(folder))
         except (Wrong, OSError, subprocess.SubprocessError, IndexError, ValueError) as why:
             print(f"lying server, window {window}: {str(why)[:500]}")
             wrong += 1
-    print(f"lying server: {len(WINDOWS) - wrong} of {len(WINDOWS)} windows, {sessions} sessions each, {runs} runs", flush=True)
+    print(f"lying server: {len(WINDOWS) - wrong} of {len(WINDOWS)} windows, {sessions} sessions each, {runs} runs, {lies} lies", flush=True)
     return len(WINDOWS) - wrong, wrong
 
 

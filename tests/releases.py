@@ -6,9 +6,10 @@
   growths  every row of calls and every row of tests/program without another end, with each growth of its program refused in turn: the program
            ends with its own words for out of memory, or gives what it gives with all memory, and never anything else. With growths=N it
            refuses only the first N growths of each.
+  lies     120 sessions against a server that breaks off and lies, begun again until they are Done (tests/lying.py)
   kills    runs that are killed at 2,001 moments and begun again, over a record and as many over a features file (tests/killed.py)
 
-usage: tests/releases.py [PART ..]     by default all parts; a part may be limited: edits=CRATE, events=COUNT, growths=N, kills=MOMENTS
+usage: tests/releases.py [PART ..]     by default all parts; a part may be limited: edits=CRATE, events=COUNT, growths=N, kills=MOMENTS, lies=SESSIONS
 
 It needs the executables that `tests/run` has built.
 """
@@ -25,12 +26,14 @@ import time
 
 from growths import CALLS, PROGRAM, ROOT, WANT, Refusing, Wrong, ended, must, parts_of
 from killed import WINDOWS, check_killed
+from lying import check_lying
 
 TESTS = ROOT / "tests"
 ROWS = TESTS / "program"
 ALONE = ("check", "simulate", "audit", "loop")  # the commands that need no other end
 ANY = 1_000_000
 EVENTS = 9_100_000
+LIES = 120  # sessions, spread over the windows
 KILLS = 2_001  # moments over each of both files, spread over the windows
 
 
@@ -52,6 +55,10 @@ def edits(portion):
 def events(portion):
     done = subprocess.run([sys.executable, str(TESTS / "stopped.py"), portion or str(EVENTS)])
     return (1, 0) if done.returncode == 0 else (0, 1)
+
+
+def lies(portion):
+    return check_lying(int(portion or LIES) // len(WINDOWS))
 
 
 def kills(portion):
@@ -171,7 +178,7 @@ def growths(portion):
     return right, len(jobs) - right
 
 
-PARTS = {"edits": edits, "events": events, "growths": growths, "kills": kills}
+PARTS = {"edits": edits, "events": events, "growths": growths, "kills": kills, "lies": lies}
 
 
 def main(names):
