@@ -255,4 +255,5 @@ def main():
             print_bodies(make)
 
 
-main()
+if __name__ == "__main__":
+    main()
