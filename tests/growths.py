@@ -225,7 +225,8 @@ def serve_row(refusing):
     for _, text in runs:
         must_be_front_of_file(text, file, "1 ")
     rows = whole[1].splitlines()
-    return must_want_memory(whole, [it for it, _ in runs], lambda run: must(is_front(run[1].splitlines(), rows), "is not a prefix", run))
+    # Without memory for the text of a turn's acts the server continues, and its file has them at the end: forty growths at most.
+    return must_want_memory(whole, [it for it, _ in runs], lambda run: must(is_front(run[1].splitlines(), rows), "is not a prefix", run), 40)
 
 
 def call_row(refusing, group, row, answer):

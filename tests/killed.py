@@ -12,6 +12,8 @@ lines of the record are read here, by a second implementation of docs/FILES.md; 
 Likewise with a features file in place of the record, which grows by each completed feature: no feature whose END was whole is lost, and the
 audit of the file over the server's contacts answers RUNS.
 
+And the server is killed: its contacts file has each act that it reported, and the audit of what the record completed answers RUNS.
+
 `run` calls this with a few moments; by itself: tests/killed.py [MOMENTS], which spreads that many over each window.
 """
 
@@ -161,11 +163,11 @@ def must_be_recorded(folder):
     must_be_prefix(folder)
 
 
-def must_be_audited(folder, contacts):
-    """The audit of the features over a file of contacts answers RUNS."""
+def must_be_audited(folder, contacts, count=FEATURES):
+    """The audit of that many features over a file of contacts answers RUNS."""
     words = ["audit", "--setup", "machine.setup", "--features", "part.features", "--contacts", contacts, "part.dmis"]
     verdict = dme(folder, *words).communicate(timeout=SECONDS)[0]
-    must(verdict.startswith("RUNS") and len(verdict.split()) == FEATURES + 1, "audit over", contacts, verdict)
+    must(verdict.startswith("RUNS") and len(verdict.split()) == count + 1, "audit over", contacts, verdict)
 
 
 def kill_twice(folder, window, moments, kept):
@@ -191,6 +193,35 @@ def kill_twice(folder, window, moments, kept):
     return held
 
 
+def kill_server(folder, window, moment):
+    """A server that is killed after that many seconds, while a client measures: how many acts the client has recorded."""
+    (folder / "machine.setup").write_text(SETUP)
+    (folder / "part.dmis").write_text(program())
+    port = free_port()
+    server = dme(folder, "serve", "--setup", "machine.setup", "--port", str(port), "--contacts", "server.contacts")
+    wait_for_listener(port, lambda: server.poll() is not None, SECONDS)
+    client = dme(folder, *run_words(port, window, RECORD))
+    time.sleep(moment)
+    server.kill()
+    server.communicate()
+    client.communicate(timeout=SECONDS)
+    record = read(folder)
+    must_be_prefix(folder)
+    (folder / "part.features").write_text(record.features_text())
+    must_be_audited(folder, "server.contacts", len(record.features))
+    return len(record.told)
+
+
+def kill_servers(window, span, moments):
+    """Servers that are killed at moments of a run: how many acts their clients have recorded."""
+    told = 0
+    for at in range(moments):
+        with tempfile.TemporaryDirectory() as folder:
+            told += kill_server(pathlib.Path(folder), window, span * (at + 1) / (moments + 1))
+    must(told > 0, "no client recorded an act")
+    return told
+
+
 def whole_time(window, kept):
     """How long a run takes that nothing disturbs."""
     begin = time.monotonic()
@@ -201,7 +232,7 @@ def whole_time(window, kept):
 
 def check_killed(moments=MOMENTS):
     """How many windows were run whole at each moment, with either file, and how many were not."""
-    chance, wrong, held = Fixed(7), 0, 0
+    chance, wrong, held, told = Fixed(7), 0, 0, 0
     cases = [(window, kept) for kept in (RECORD, LEDGER) for window in WINDOWS]
     for window, kept in cases:
         try:
@@ -211,11 +242,14 @@ def check_killed(moments=MOMENTS):
                 with tempfile.TemporaryDirectory() as folder:
                     first = span * (at + 1) / (moments + 1)
                     held += kill_twice(pathlib.Path(folder), window, [first, span * chance.below(1000) / 1000], kept)
+            if kept == RECORD:
+                told += kill_servers(window, span, moments)
         except (Wrong, OSError, subprocess.SubprocessError, IndexError, ValueError) as why:
             print(f"killed, window {window}, {kept[0]}: {str(why)[:500]}")
             wrong += 1
     passed = len(cases) - wrong
-    print(f"killed runs: {passed} of {len(cases)} windows and files, {moments} moments each, {held} features held after kills", flush=True)
+    print(f"killed runs: {passed} of {len(cases)} windows and files, {moments} moments each, {held} features held after kills, "
+          f"{told} acts reported by killed servers", flush=True)
     return passed, wrong
 
 

@@ -4,7 +4,7 @@ use crate::text_files::{beside, may_be_replaced};
 use byte_ports::Failed;
 use client_core::Client;
 use contact_ledger::lines::cut_line;
-use contact_ledger::write_features;
+use contact_ledger::{ServerLedger, add_entry, write_contacts, write_features};
 use dme_orders::OrderFault;
 use record_keeping::GrowingFile;
 use std::alloc::{AllocError, Global};
@@ -39,47 +39,11 @@ impl LockedFile {
         })
     }
 
-    /// Puts a new file with this text in the place of the one of this name, which must be one that may be replaced. The new one is locked
-    /// before it has its name, and the old one is locked until then, so that two runs cannot share the file.
-    fn replacing<R: Files<File = File>>(
-        rt: &R,
-        name: &str,
-        beside: &str,
-        text: &[u8],
-    ) -> io::Result<LockedFile> {
-        let mut old = OpenOptions::new();
-        old.append(true).create(true);
-        let old = old.open(rt, name)?;
-        old.try_lock()?;
-        let _ = fs::remove_file(rt, beside);
-        let mut new = OpenOptions::new();
-        new.append(true).create_new(true);
-        let file = new.open(rt, beside)?;
-        let mut locked = LockedFile {
-            file,
-            has_failed: false,
-        };
-        let result = locked.settle(rt, name, beside, text);
-        if result.is_err() {
-            let _ = fs::remove_file(rt, beside);
-        }
-        result?;
-        drop(old);
-        Ok(locked)
-    }
-
-    /// Locks this new file, gives it this text, forces it to the device, and gives it its name.
-    fn settle<R: Files<File = File>>(
-        &mut self,
-        rt: &R,
-        name: &str,
-        beside: &str,
-        text: &[u8],
-    ) -> io::Result<()> {
+    /// Locks this new file, gives it this text, and forces it to the device.
+    fn settle(&mut self, text: &[u8]) -> io::Result<()> {
         self.file.try_lock()?;
         self.file.write_all(text)?;
-        self.file.sync_all()?;
-        fs::rename(rt, beside, name)
+        self.file.sync_all()
     }
 
     /// Gives the file this text, of which it has the first bytes, and forces it to the device. What follows them is torn and is cut off.
@@ -91,6 +55,80 @@ impl LockedFile {
             self.file.write_all(&text[held..])?;
         }
         self.file.sync_all()
+    }
+}
+
+/// A new file next to the one whose place it is to take. Both are locked, so that two runs cannot share the file.
+#[derive(Drop)]
+struct NextFile {
+    old: File,
+    new: LockedFile,
+    /// Whether the old file was made here.
+    is_first: bool,
+}
+
+impl NextFile {
+    /// Makes the new file, gives it this text, and forces it to the device. The file of this name must be one that may be replaced.
+    fn make<R: Files<File = File>>(
+        rt: &R,
+        name: &str,
+        beside: &str,
+        text: &[u8],
+    ) -> io::Result<NextFile> {
+        let is_first = fs::symlink_metadata(rt, name).is_err();
+        let mut old = OpenOptions::new();
+        old.append(true).create(true);
+        let old = old.open(rt, name)?;
+        old.try_lock()?;
+        let _ = fs::remove_file(rt, beside);
+        let mut new = OpenOptions::new();
+        new.append(true).create_new(true);
+        let file = new.open(rt, beside)?;
+        let mut new = LockedFile {
+            file,
+            has_failed: false,
+        };
+        let result = new.settle(text);
+        if result.is_err() {
+            let _ = fs::remove_file(rt, beside);
+        }
+        result?;
+        Ok(NextFile { old, new, is_first })
+    }
+
+    /// Puts a new file with this text in the place of the one of this name.
+    fn replacing<R: Files<File = File>>(
+        rt: &R,
+        name: &str,
+        beside: &str,
+        text: &[u8],
+    ) -> io::Result<LockedFile> {
+        NextFile::make(rt, name, beside, text)?.put(rt, name, beside)
+    }
+
+    /// Gives the new file its name.
+    fn put<R: Files<File = File>>(
+        self,
+        rt: &R,
+        name: &str,
+        beside: &str,
+    ) -> io::Result<LockedFile> {
+        let NextFile { old, new, .. } = self;
+        let result = fs::rename(rt, beside, name);
+        if result.is_err() {
+            let _ = fs::remove_file(rt, beside);
+        }
+        result?;
+        drop(old);
+        Ok(new)
+    }
+
+    /// Removes the new file, and the old one if there was none before.
+    fn discard<R: Files<File = File>>(self, rt: &R, name: &str, beside: &str) {
+        let _ = fs::remove_file(rt, beside);
+        if self.is_first {
+            let _ = fs::remove_file(rt, name);
+        }
     }
 }
 
@@ -154,7 +192,7 @@ impl FeaturesFile {
         let beside = beside(rt.alloc(), name.as_str())?;
         let mut text = Vec::new(rt.alloc());
         write_features(&mut text, client.features())?;
-        match LockedFile::replacing(rt, name.as_str(), beside.as_str(), text.as_slice()) {
+        match NextFile::replacing(rt, name.as_str(), beside.as_str(), text.as_slice()) {
             Ok(file) => Ok(Some(FeaturesFile {
                 name,
                 file,
@@ -176,6 +214,96 @@ impl FeaturesFile {
             return true;
         };
         match self.file.append(text.as_slice(), true) {
+            Ok(()) => self.held = count,
+            Err(Failed) => self.has_failed = true,
+        }
+        !self.has_failed
+    }
+}
+
+/// The text by which a contacts file grows: the acts after the first `held`. Fails only if out of memory.
+fn acts_after(alloc: Global, ledger: &ServerLedger, held: usize) -> Result<Vec<u8>, AllocError> {
+    let acts = ledger.acts();
+    let mut text = Vec::new(alloc);
+    for at in held..acts.len() {
+        let (connection, act) = &acts[at];
+        add_entry(&mut text, *connection, act)?;
+    }
+    Ok(text)
+}
+
+/// A contacts file that can be written, and is as it was until the server listens.
+#[derive(Drop)]
+pub struct NextContacts {
+    name: String,
+    beside: String,
+    next: NextFile,
+}
+
+impl NextContacts {
+    /// Locks the file of this name; none if something of this name is a link, a device or a pipe, which is written only at the end.
+    pub fn make<R: Files<File = File> + AllocGlobal>(
+        rt: &R,
+        name: &str,
+    ) -> Result<Option<NextContacts>, OrderFault> {
+        if !may_be_replaced(rt, name) {
+            return Ok(None);
+        }
+        let name = String::from_str(rt.alloc(), name)?;
+        let beside = beside(rt.alloc(), name.as_str())?;
+        let mut text = Vec::new(rt.alloc());
+        write_contacts(&mut text, &ServerLedger::new(rt.alloc()))?;
+        match NextFile::make(rt, name.as_str(), beside.as_str(), text.as_slice()) {
+            Ok(next) => Ok(Some(NextContacts { name, beside, next })),
+            Err(_) => Err(OrderFault::CannotWrite(name)),
+        }
+    }
+
+    /// From now on the file has no act, and grows.
+    pub fn begin<R: Files<File = File>>(self, rt: &R) -> Result<ContactsFile, OrderFault> {
+        let NextContacts { name, beside, next } = self;
+        match next.put(rt, name.as_str(), beside.as_str()) {
+            Ok(file) => Ok(ContactsFile {
+                name,
+                file,
+                held: 0,
+                has_failed: false,
+            }),
+            Err(_) => Err(OrderFault::CannotWrite(name)),
+        }
+    }
+
+    /// Leaves the file as it was.
+    pub fn discard<R: Files<File = File>>(self, rt: &R) {
+        let NextContacts { name, beside, next } = self;
+        next.discard(rt, name.as_str(), beside.as_str());
+    }
+}
+
+/// A contacts file that grows: what a server has done in a turn is appended to it by one write.
+///
+/// A file that fails stops nothing, and is not written any more.
+#[derive(Drop)]
+pub struct ContactsFile {
+    pub name: String,
+    file: LockedFile,
+    /// How many acts it has.
+    held: usize,
+    has_failed: bool,
+}
+
+impl ContactsFile {
+    /// Appends what a server has done since; false if that could not be written for the first time. If memory runs out, it is appended
+    /// after a later turn.
+    pub fn follow(&mut self, alloc: Global, ledger: &ServerLedger) -> bool {
+        let count = ledger.acts().len();
+        if self.has_failed || count <= self.held {
+            return true;
+        }
+        let Ok(text) = acts_after(alloc, ledger, self.held) else {
+            return true;
+        };
+        match self.file.append(text.as_slice(), false) {
             Ok(()) => self.held = count,
             Err(Failed) => self.has_failed = true,
         }
