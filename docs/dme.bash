@@ -8,13 +8,13 @@ _dme()
         return
     fi
     case $before in
-        --setup | --schedule | --features | --contacts | --record)
+        --setup | --schedule | --features | --contacts | --record | --log)
             mapfile -t COMPREPLY < <(compgen -f -- "$word")
             return ;;
         --as)
             mapfile -t COMPREPLY < <(compgen -W "csv json svg features contacts" -- "$word")
             return ;;
-        --host)
+        --host | --listen)
             mapfile -t COMPREPLY < <(compgen -A hostname -- "$word")
             return ;;
         --port | --window | --connections | --part)
@@ -25,8 +25,8 @@ _dme()
         simulate) options="--setup --schedule --window --trace --explain" ;;
         audit) options="--setup --features --contacts --record --explain" ;;
         loop) options="--setup --window --progress --trace --explain" ;;
-        serve) options="--setup --port --connections --contacts --progress --explain" ;;
-        run) options="--setup --host --port --window --features --record --part --progress --explain" ;;
+        serve) options="--setup --listen --port --connections --contacts --progress --trace --log --explain" ;;
+        run) options="--setup --host --port --window --features --record --part --progress --trace --log --explain" ;;
         export) options="--as --setup --features --record --explain" ;;
         explain)
             options="P1 P2 P3 P4 P5 P6 P7 P8 P9 P10 P11 P12 P13 P14 P15 P16 N1 N2 N3 S1 S2 S3 H1 K1 J1 J2 J3 C4"

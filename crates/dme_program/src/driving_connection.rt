@@ -11,6 +11,8 @@ use crate::growing_files::FeaturesFile;
 use crate::keeping::tell_kept;
 use crate::progress::Progress;
 use crate::recording::{Follower, OpenRecord, open_record, record_words};
+use crate::refusals::Refusals;
+use crate::talking::{HeardPort, Log, SaidPort, Side, Talk};
 use crate::text_files::NamedFile;
 use byte_ports::{Ports, Reading, Writing};
 use client_core::Client;
@@ -21,10 +23,12 @@ use dme_orders::{
 use dme_words::Run;
 use dmis_program::Program;
 use record_keeping::{Beginning, Recorder};
+use std::alloc::{AllocError, Global};
+use std::cell::RefCell;
 use std::fs::File;
 use std::io;
 use std::net::{Net, TcpListener, TcpStream};
-use std::rt::Files;
+use std::rt::{Clock, Files};
 
 /// What is shown if a file could not be written: that, and then why the order was not carried out, if it was not.
 fn with_unwritten<R: Eprint>(
@@ -46,9 +50,8 @@ fn client_verdict<R: Eprint>(
     rt: &R,
     driven: RunEnd,
     features: Option<String>,
-    is_told: bool,
 ) -> Result<u8, OrderFault> {
-    let verdict = driven.ended.verdict(is_told);
+    let verdict = driven.ended.verdict(true);
     if driven.is_kept {
         return verdict;
     }
@@ -64,6 +67,17 @@ struct Call {
     /// The file that the features are written to.
     features: Option<String>,
     progress: bool,
+    /// Whether the lines of the connection are shown.
+    trace: bool,
+    /// Where they are added, if anywhere.
+    log: Option<Log>,
+}
+
+/// What is known, for the errors of its server, of a client that has come to a connection.
+fn still_wanted(alloc: Global, client: &Client) -> Result<Refusals, AllocError> {
+    let wanted = client.program().features();
+    let held = client.features().len().min(wanted.len());
+    Refusals::new(alloc, &wanted[held..])
 }
 
 /// A client takes its turns over a connection to the server that is called.
@@ -71,6 +85,7 @@ fn drive_client<
     R: Files<File = File>
         + Print
         + Eprint
+        + Clock
         + Net<Listener = TcpListener, Stream = TcpStream>
         + AllocGlobal,
 >(
@@ -89,7 +104,7 @@ fn drive_client<
     };
     let stream = match TcpStream::connect(rt, (call.host.as_str(), call.port)) {
         Ok(stream) => stream,
-        Err(error) => return Err(no_connection(&error, call.progress)),
+        Err(error) => return Err(no_connection(&error, true)),
     };
     let mut client = client;
     if let Some(name) = &call.features {
@@ -98,14 +113,18 @@ fn drive_client<
     if client.connected(number).is_err() {
         return Err(OrderFault::Memory);
     }
+    let mut talk = Talk::new(rt, call.trace, call.log);
+    talk.begin(number);
+    talk.tell_errors(still_wanted(rt.alloc(), &client)?);
+    let talk = RefCell::new(talk);
     let mut ports = Ports {
-        source: Reading::new(&stream),
-        sink: Writing::new(&stream),
+        source: HeardPort::new(Reading::new(&stream), Side::Server, &talk),
+        sink: SaidPort::new(Writing::new(&stream), Side::Client, &talk),
     };
     let result = drive(rt.alloc(), client, &mut ports, follower, &mut outputs);
     drop(outputs);
     match result {
-        Ok(driven) => client_verdict(rt, driven, call.features, call.progress),
+        Ok(driven) => client_verdict(rt, driven, call.features),
         Err(fault) => Err(of_output(rt, fault)),
     }
 }
@@ -115,6 +134,7 @@ fn drive_program<
     R: Files<File = File>
         + Print
         + Eprint
+        + Clock
         + Net<Listener = TcpListener, Stream = TcpStream>
         + AllocGlobal,
 >(rt: &R, kept: FeatureLedger, program: Program, call: Call) -> Result<u8, OrderFault>
@@ -138,6 +158,7 @@ fn drive_recorded<
     R: Files<File = File>
         + Print
         + Eprint
+        + Clock
         + Net<Listener = TcpListener, Stream = TcpStream>
         + AllocGlobal,
 >(rt: &R, open: OpenRecord, program: Program, call: Call) -> Result<u8, OrderFault>
@@ -172,6 +193,7 @@ pub fn run_program<
         + Input
         + Print
         + Eprint
+        + Clock
         + Net<Listener = TcpListener, Stream = TcpStream>
         + AllocGlobal,
 >(rt: &R, order: Run) -> Result<u8, Fault>
@@ -198,12 +220,18 @@ pub fn run_program<
         Err(fault) => return Err(refused(rt.alloc(), fault, files, order.explain)),
     };
     let features = files.features;
+    let log = match order.log {
+        Some(name) => Some(Log::open(rt, name)),
+        None => None,
+    };
     let call = Call {
         host: order.host,
         port: order.port,
         window: order.window,
         features: if is_kept { Some(features.name) } else { None },
         progress: order.progress,
+        trace: order.trace,
+        log,
     };
     let Some(words) = words else {
         return Ok(drive_program(rt, kept, program, call)?);

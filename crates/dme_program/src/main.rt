@@ -8,7 +8,8 @@
 //! - `files`: the files of an order as ports; `text_files`: files that are replaced as a whole
 //! - `growing_files`: files that grow during a run; `recording`: the record of a run, which is one; `keeping`: what a run reports of the
 //!   features that it keeps
-//! - `progress`: lines that report how far an order is; `tracing`: the lines of a connection
+//! - `progress`: lines that report how far an order is; `tracing`: the lines of a connection to itself; `talking`: those of other
+//!   connections, shown or added to a log; `refusals`: what is reported of a server's errors
 //! - `explaining`: what is shown for an order whose files are refused
 //! - `faults`: what is printed on standard error, and the exit status
 #![tactic(auto)]
@@ -23,8 +24,10 @@ mod growing_files;
 mod keeping;
 mod progress;
 mod recording;
+mod refusals;
 mod running;
 mod serving_connections;
+mod talking;
 mod text_files;
 mod tracing;
 

@@ -24,7 +24,7 @@ use std::env::{self, Env};
 use std::fs::File;
 use std::io;
 use std::net::{Net, TcpListener, TcpStream};
-use std::rt::Files;
+use std::rt::{Clock, Files};
 
 /// The words of the command line; the first names the program in `clap`'s texts, whatever file it runs from.
 fn words_of(alloc: Global, given: &[String]) -> Result<Vec<&str>, AllocError> {
@@ -184,6 +184,7 @@ fn carry_out<
         + Input
         + Print
         + Eprint
+        + Clock
         + Net<Listener = TcpListener, Stream = TcpStream>
         + AllocGlobal,
 >(rt: &R, order: Order) -> Result<u8, Fault>
@@ -210,6 +211,7 @@ pub fn run<
         + Input
         + Print
         + Eprint
+        + Clock
         + Net<Listener = TcpListener, Stream = TcpStream>
         + AllocGlobal,
 >(rt: &R) -> Result<u8, Fault> {

@@ -7,6 +7,7 @@ use crate::explaining::refused;
 use crate::faults::Fault;
 use crate::files::Sources;
 use crate::growing_files::{ContactsFile, NextContacts};
+use crate::talking::{HeardPort, Log, SaidPort, Side, Talk};
 use crate::text_files::NamedFile;
 use byte_ports::{Ports, Reading, Writing};
 use contact_ledger::ServerLedger;
@@ -16,18 +17,25 @@ use dme_orders::{
 use dme_words::Service;
 use link_world::{LoopFault, PumpFault, ServerWatcher, Simulated};
 use server_core::{Server, ServerFault};
+use std::cell::RefCell;
 use std::fs::File;
 use std::io;
 use std::net::{Net, TcpListener, TcpStream};
-use std::rt::Files;
+use std::rt::{Clock, Files};
 use tool_rack::Setup;
 
 /// Where a server listens, for how many connections, and whether it reports how far it is.
-#[derive(Clone, Copy)]
+#[derive(Drop)]
 struct Post {
+    /// The address, if it is named.
+    listen: Option<String>,
     port: u16,
     connections: u32,
     progress: bool,
+    /// Whether the lines of its connections are shown.
+    trace: bool,
+    /// The file that the contacts are written to, if one is named.
+    contacts: Option<String>,
 }
 
 /// Keeps what a server does in its contacts file, turn by turn, if that grows.
@@ -66,14 +74,57 @@ fn tell<R: Eprint>(rt: &R, is_told: bool, number: u64, what: &str) {
     }
 }
 
+/// The listener of a server: on 127.0.0.1 unless another address is named, which is then reported.
+fn listener_of<R: Eprint + Net<Listener = TcpListener, Stream = TcpStream>>(
+    rt: &R,
+    post: &Post,
+) -> Result<TcpListener, OrderFault> {
+    let address = match &post.listen {
+        Some(address) => address.as_str(),
+        None => "127.0.0.1",
+    };
+    match TcpListener::bind(rt, (address, post.port)) {
+        Ok(listener) => {
+            if address != "127.0.0.1" {
+                let _ = eprintln!(rt; "dme: listening on {address}");
+            }
+            Ok(listener)
+        }
+        Err(error) => Err(no_connection(&error, true)),
+    }
+}
+
+/// The server's connection of this number is taken, served and left.
+fn serve_stream<R: Eprint + Clock + AllocGlobal>(
+    serving: &mut Serving<'_, R>,
+    number: u64,
+    stream: &TcpStream,
+    talk: &RefCell<Talk<'_, R>>,
+) -> Result<(), PumpFault<ServerFault>> {
+    if let Ok(mut talk) = talk.try_borrow_mut() {
+        talk.begin(number);
+    }
+    let mut ports = Ports {
+        source: HeardPort::new(Reading::new(stream), Side::Client, talk),
+        sink: SaidPort::new(Writing::new(stream), Side::Server, talk),
+    };
+    let Serving {
+        server,
+        machine,
+        keeper,
+    } = &mut *serving;
+    serve_one(server, machine, number, &mut ports, keeper)
+}
+
 /// Serves that many connections, one after the other; why some were broken off, if any was. If a connection cannot be taken, it serves no
 /// more.
-fn serve_connections<R: Eprint + Net<Listener = TcpListener, Stream = TcpStream> + AllocGlobal>(
-    rt: &R,
+fn serve_connections<R: Eprint + Clock + Net<Listener = TcpListener, Stream = TcpStream> + AllocGlobal>(
     listener: &TcpListener,
     serving: &mut Serving<'_, R>,
-    post: Post,
+    post: &Post,
+    talk: &RefCell<Talk<'_, R>>,
 ) -> Option<PumpFault<ServerFault>> {
+    let rt = serving.keeper.rt;
     let mut broken = None;
     for count in 0..post.connections {
         let number = count as u64 + 1;
@@ -81,16 +132,7 @@ fn serve_connections<R: Eprint + Net<Listener = TcpListener, Stream = TcpStream>
             return with_break(broken, Err(PumpFault::ReadFailed));
         };
         tell(rt, post.progress, number, "taken");
-        let mut ports = Ports {
-            source: Reading::new(&stream),
-            sink: Writing::new(&stream),
-        };
-        let Serving {
-            server,
-            machine,
-            keeper,
-        } = &mut *serving;
-        let result = serve_one(server, machine, number, &mut ports, keeper);
+        let result = serve_stream(serving, number, &stream, talk);
         broken = with_break(broken, result);
         tell(rt, post.progress, number, "left");
     }
@@ -102,16 +144,15 @@ fn service_verdict<R: Eprint>(
     rt: &R,
     broken: Option<PumpFault<ServerFault>>,
     unwritten: Option<String>,
-    is_told: bool,
 ) -> Result<u8, OrderFault> {
     match (broken, unwritten) {
         (None, None) => Ok(0),
         (None, Some(name)) => Err(OrderFault::CannotWrite(name)),
-        (Some(fault), None) => Err(shown_break(LoopFault::Server(fault), is_told)),
+        (Some(fault), None) => Err(shown_break(LoopFault::Server(fault), true)),
         (Some(fault), Some(name)) => {
             let shown = OrderFault::CannotWrite(name);
             let _ = eprint!(rt; "{shown}");
-            Err(shown_break(LoopFault::Server(fault), is_told))
+            Err(shown_break(LoopFault::Server(fault), true))
         }
     }
 }
@@ -128,18 +169,18 @@ fn next_contacts<R: Files<File = File> + AllocGlobal>(
 }
 
 /// Listens, and from then on the contacts file grows. If it cannot listen, that file is as it was.
-fn listen<R: Files<File = File> + Net<Listener = TcpListener, Stream = TcpStream>>(
+fn listen<R: Files<File = File> + Eprint + Net<Listener = TcpListener, Stream = TcpStream>>(
     rt: &R,
-    post: Post,
+    post: &Post,
     next: Option<NextContacts>,
 ) -> Result<(TcpListener, Option<ContactsFile>), OrderFault> {
-    match (TcpListener::bind(rt, ("127.0.0.1", post.port)), next) {
+    match (listener_of(rt, post), next) {
         (Ok(listener), None) => Ok((listener, None)),
         (Ok(listener), Some(next)) => Ok((listener, Some(next.begin(rt)?))),
-        (Err(error), None) => Err(no_connection(&error, post.progress)),
-        (Err(error), Some(next)) => {
+        (Err(fault), None) => Err(fault),
+        (Err(fault), Some(next)) => {
             next.discard(rt);
-            Err(no_connection(&error, post.progress))
+            Err(fault)
         }
     }
 }
@@ -150,20 +191,22 @@ fn serve_setup<
     R: Files<File = File>
         + Print
         + Eprint
+        + Clock
         + Net<Listener = TcpListener, Stream = TcpStream>
         + AllocGlobal,
->(rt: &R, setup: Setup, post: Post, contacts: Option<String>) -> Result<u8, OrderFault> {
-    let mut file = NamedFile::new(rt, contacts.as_deref())?;
+>(rt: &R, setup: Setup, post: Post, log: Option<Log>) -> Result<u8, OrderFault> {
+    let mut file = NamedFile::new(rt, post.contacts.as_deref())?;
     let machine = Simulated::new(rt.alloc(), &setup)?;
     let server = Server::new(rt.alloc(), setup)?;
-    let next = next_contacts(rt, contacts.as_deref())?;
-    let (listener, growing) = listen(rt, post, next)?;
+    let next = next_contacts(rt, post.contacts.as_deref())?;
+    let (listener, growing) = listen(rt, &post, next)?;
     let mut serving = Serving {
         server,
         machine,
         keeper: Keeper { rt, file: growing },
     };
-    let broken = serve_connections(rt, &listener, &mut serving, post);
+    let talk = RefCell::new(Talk::new(rt, post.trace, log));
+    let broken = serve_connections(&listener, &mut serving, &post, &talk);
     let result = close_service(
         rt.alloc(),
         serving.server.ledger(),
@@ -173,8 +216,8 @@ fn serve_setup<
     drop(file);
     match result {
         Ok(is_kept) => {
-            let unwritten = if is_kept { None } else { contacts };
-            service_verdict(rt, broken, unwritten, post.progress)
+            let unwritten = if is_kept { None } else { post.contacts };
+            service_verdict(rt, broken, unwritten)
         }
         Err(fault) => Err(of_output(rt, fault)),
     }
@@ -186,6 +229,7 @@ pub fn serve<
         + Input
         + Print
         + Eprint
+        + Clock
         + Net<Listener = TcpListener, Stream = TcpStream>
         + AllocGlobal,
 >(rt: &R, order: Service) -> Result<u8, Fault> {
@@ -199,10 +243,17 @@ pub fn serve<
         }
     };
     drop(source);
+    let log = match order.log {
+        Some(name) => Some(Log::open(rt, name)),
+        None => None,
+    };
     let post = Post {
+        listen: order.listen,
         port: order.port,
         connections: order.connections,
         progress: order.progress,
+        trace: order.trace,
+        contacts: order.contacts,
     };
-    Ok(serve_setup(rt, setup, post, order.contacts)?)
+    Ok(serve_setup(rt, setup, post, log)?)
 }

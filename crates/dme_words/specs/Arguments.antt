@@ -23,6 +23,7 @@ argument_rule argument.WrittenRecord = text_rule (codes "record")
 argument_rule argument.Part = text_rule (codes "part")
 argument_rule argument.Window = window_rule
 argument_rule argument.Host = needed_rule (codes "host")
+argument_rule argument.Listen = text_rule (codes "listen")
 argument_rule argument.OwnPort = port_rule
 argument_rule argument.ServersPort = port_rule
 argument_rule argument.Connections = connections_rule
@@ -30,6 +31,7 @@ argument_rule argument.Form = needed_rule (codes "as")
 argument_rule argument.Code = code_rule
 argument_rule argument.Progress = flag_rule (codes "progress")
 argument_rule argument.Trace = flag_rule (codes "trace")
+argument_rule argument.Log = text_rule (codes "log")
 argument_rule argument.Explain = flag_rule (codes "explain")
 argument_rule argument.Program = program_rule
 

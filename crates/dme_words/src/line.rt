@@ -43,6 +43,8 @@ enum Argument {
     Window,
     /// `--host H`.
     Host,
+    /// `--listen ADDRESS`.
+    Listen,
     /// `--port N` of a server itself.
     OwnPort,
     /// `--port N` of the server that is called.
@@ -57,6 +59,8 @@ enum Argument {
     Progress,
     /// `--trace`.
     Trace,
+    /// `--log FILE`.
+    Log,
     /// `--explain`.
     Explain,
     /// `PROGRAM`.
@@ -144,6 +148,17 @@ fn host_option<'a>(alloc: Global) -> Arg<'a>
         .value_name("H")
         .help("The server's host, as a name or as an address")
         .required(true)
+}
+
+/// `--listen ADDRESS`.
+fn listen_option<'a>(alloc: Global) -> Arg<'a>
+    ensures rule { rule_of result ≡ text_rule (codes "listen") }
+    ensures local { result.global ≡ false }
+{
+    Arg::new(alloc, "listen")
+        .long("listen")
+        .value_name("ADDRESS")
+        .help("The address that is listened on, 127.0.0.1 if none is named")
 }
 
 /// `--port N`.
@@ -296,8 +311,9 @@ fn made_argument<'a>(alloc: Global, argument: Argument) -> Arg<'a>
         Argument::Part => part_option(alloc),
         Argument::Window => window_option(alloc),
         Argument::Host => host_option(alloc),
+        Argument::Listen => listen_option(alloc),
         Argument::OwnPort => {
-            let port = "The port of 127.0.0.1 that is listened on, from 1 to 65535";
+            let port = "The port that is listened on, from 1 to 65535";
             port_option(alloc, port)
         }
         Argument::ServersPort => port_option(alloc, "The server's port, from 1 to 65535"),
@@ -306,6 +322,10 @@ fn made_argument<'a>(alloc: Global, argument: Argument) -> Arg<'a>
         Argument::Code => code_argument(alloc),
         Argument::Progress => progress_flag(alloc),
         Argument::Trace => trace_flag(alloc),
+        Argument::Log => {
+            let log = "The file that each line that either side writes is added to, with its time";
+            file_option(alloc, "log", log)
+        }
         Argument::Explain => explain_flag(alloc),
         Argument::Program => program_argument(alloc),
     }
@@ -445,7 +465,7 @@ fn loop_command<'a>(alloc: Global) -> Result<Command<'a>, AllocError>
     )
 }
 
-/// `serve --setup FILE --port N [--connections K] [--contacts FILE] [--progress] [--explain]`.
+/// `serve --setup FILE [--listen ADDRESS] --port N [--connections K] [--contacts FILE] [--progress] [--trace] [--log FILE] [--explain]`.
 fn serve_command<'a>(alloc: Global) -> Result<Command<'a>, AllocError>
     ensures shape { IfOk result (λ command. app_of command ≡ serve_line) }
     ensures local { IfOk result (λ command. (out-Command command).has_globals ≡ false) }
@@ -458,16 +478,20 @@ fn serve_command<'a>(alloc: Global) -> Result<Command<'a>, AllocError>
         command,
         &[
             Argument::NeededSetup,
+            Argument::Listen,
             Argument::OwnPort,
             Argument::Connections,
             Argument::WrittenContacts,
             Argument::Progress,
+            Argument::Trace,
+            Argument::Log,
             Argument::Explain,
         ],
     )
 }
 
-/// `run --setup FILE --host H --port N [--window W] [--features FILE] [--record FILE] [--part TEXT] [--progress] [--explain] [PROGRAM]`.
+/// `run --setup FILE --host H --port N [--window W] [--features FILE] [--record FILE] [--part TEXT] [--progress] [--trace] [--log FILE]
+/// [--explain] [PROGRAM]`.
 fn run_command<'a>(alloc: Global) -> Result<Command<'a>, AllocError>
     ensures shape { IfOk result (λ command. app_of command ≡ run_line) }
     ensures local { IfOk result (λ command. (out-Command command).has_globals ≡ false) }
@@ -487,6 +511,8 @@ fn run_command<'a>(alloc: Global) -> Result<Command<'a>, AllocError>
             Argument::WrittenRecord,
             Argument::Part,
             Argument::Progress,
+            Argument::Trace,
+            Argument::Log,
             Argument::Explain,
             Argument::Program,
         ],

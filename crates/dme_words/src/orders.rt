@@ -106,6 +106,8 @@ pub struct Loop {
 pub struct Service {
     /// The file of the machine's setup; `-` is standard input.
     pub setup: String,
+    /// The address that is listened on, 127.0.0.1 if none is named.
+    pub listen: Option<String>,
     /// The port that is listened on, at least 1.
     pub port: u16,
     /// How many connections are served, one after the other, from 1 to 4,000,000,000.
@@ -114,6 +116,10 @@ pub struct Service {
     pub contacts: Option<String>,
     /// Whether it reports how far it is.
     pub progress: bool,
+    /// Whether each line that either side writes is shown.
+    pub trace: bool,
+    /// The file that these lines are added to, with their times; `-` is a file of that name.
+    pub log: Option<String>,
     /// Whether a line that is refused is shown, with what is wrong with it.
     pub explain: bool,
 }
@@ -137,6 +143,10 @@ pub struct Run {
     pub part: Option<String>,
     /// Whether it reports how far it is.
     pub progress: bool,
+    /// Whether each line that either side writes is shown.
+    pub trace: bool,
+    /// The file that these lines are added to, with their times; `-` is a file of that name.
+    pub log: Option<String>,
     /// Whether a line that is refused is shown, with what is wrong with it.
     pub explain: bool,
     /// The file of the program; `-` is standard input.

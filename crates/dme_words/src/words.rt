@@ -292,17 +292,23 @@ fn serve_order(alloc: Global, values: &ArgMatches) -> Result<Service, AllocError
         × (1 ≤ order.connections) × (order.connections ≤ 4000000000)) }
 {
     let setup = copied_value(alloc, values, "setup")?;
+    let listen = copied_maybe(alloc, values, "listen")?;
     let port = port_of(values);
     let connections = connections_of(values);
     let contacts = copied_maybe(alloc, values, "contacts")?;
     let progress = flag_of(values, "progress");
+    let trace = flag_of(values, "trace");
+    let log = copied_maybe(alloc, values, "log")?;
     let explain = flag_of(values, "explain");
     Ok(Service {
         setup,
+        listen,
         port,
         connections,
         contacts,
         progress,
+        trace,
+        log,
         explain,
     })
 }
@@ -322,6 +328,8 @@ fn run_order(alloc: Global, values: &ArgMatches) -> Result<Run, AllocError>
     let record = copied_maybe(alloc, values, "record")?;
     let part = copied_maybe(alloc, values, "part")?;
     let progress = flag_of(values, "progress");
+    let trace = flag_of(values, "trace");
+    let log = copied_maybe(alloc, values, "log")?;
     let explain = flag_of(values, "explain");
     let program = copied_program(alloc, values)?;
     Ok(Run {
@@ -333,6 +341,8 @@ fn run_order(alloc: Global, values: &ArgMatches) -> Result<Run, AllocError>
         record,
         part,
         progress,
+        trace,
+        log,
         explain,
         program,
     })

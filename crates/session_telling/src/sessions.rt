@@ -98,7 +98,7 @@ impl Session {
         self.sent.iter().rev().copied().find(|sent| sent.tag == tag)
     }
 
-    /// What a line of the server, given without its end, says of a command; nothing if it is not an error. Does not allocate.
+    /// The error in a line of the server, given without its end; nothing if it is not an error. Does not allocate.
     pub fn refusal<'a>(&self, line: &'a [u8]) -> Option<Refusal<'a>>
         ensures { MatchOption result (ReportsNothing line.now)
             (λ told. Reports self.now line.now told.about told.text.now) }

@@ -1,0 +1,270 @@
+// The lines of connections, as they go through the ports: shown if asked, added to a log, and the errors among them reported.
+
+ghost use Rattle.std.specs.Prelude.{◌≡◌, ◌<◌};
+
+use crate::refusals::Refusals;
+use byte_ports::{Failed, Sink, Source};
+use jiff::Timestamp;
+use std::alloc::{AllocError, Global};
+use std::cell::RefCell;
+use std::fs::{File, OpenOptions};
+use std::io::Write;
+use std::rt::{Clock, Files};
+
+/// A hexadecimal digit.
+fn hex_digit(value: u8) -> char
+    requires { value < 16 }
+{
+    if value < 10 {
+        (b'0' + value) as char
+    } else {
+        (b'A' + (value - 10)) as char
+    }
+}
+
+/// Bytes of a peer as they can be read: from 32 to 126 as they are, any other as `\xNN`.
+pub fn visible(alloc: Global, bytes: &[u8]) -> Result<String, AllocError> {
+    let mut text = String::new(alloc);
+    for byte in bytes {
+        if *byte >= 32 && *byte <= 126 {
+            text.push(*byte as char)?;
+        } else {
+            text.push_str("\\x")?;
+            text.push(hex_digit(*byte / 16))?;
+            text.push(hex_digit(*byte % 16))?;
+        }
+    }
+    Ok(text)
+}
+
+/// A file that lines are added to, each after the time at which it came. One that cannot be written is reported once, and then left alone.
+#[derive(Drop)]
+pub struct Log {
+    name: String,
+    file: Option<File>,
+}
+
+impl Log {
+    /// The file of this name, which is made if there is none.
+    pub fn open<R: Files<File = File> + Eprint>(rt: &R, name: String) -> Log {
+        let mut how = OpenOptions::new();
+        how.append(true).create(true);
+        let file = how.open(rt, name.as_str()).ok();
+        let mut log = Log { name, file };
+        if log.file.is_none() {
+            log.fail(rt);
+        }
+        log
+    }
+
+    /// The file could not be written.
+    fn fail<R: Eprint>(&mut self, rt: &R) {
+        self.file = None;
+        let name = &self.name;
+        let _ = eprintln!(rt; "dme: cannot write {name}");
+    }
+
+    /// Adds a line, after the time (RFC 3339, in UTC, with milliseconds).
+    fn add<R: Eprint + Clock + AllocGlobal>(&mut self, rt: &R, line: &str) {
+        let Some(file) = &mut self.file else { return };
+        let is_added = match Timestamp::now(rt) {
+            Ok(now) => match format!(in rt.alloc(); "{now:.3} {line}\n") {
+                Ok(text) => file.write_all(text.as_bytes()).is_ok(),
+                Err(_) => false,
+            },
+            Err(_) => false,
+        };
+        if !is_added {
+            self.fail(rt);
+        }
+    }
+}
+
+/// Which side of a connection has written.
+#[derive(Clone, Copy)]
+pub enum Side {
+    Client,
+    Server,
+}
+
+impl Side {
+    /// The mark of its lines.
+    fn mark(self) -> &'static str {
+        match self {
+            Side::Client => ">",
+            Side::Server => "<",
+        }
+    }
+}
+
+/// What is shown and added to a log of the lines of connections, one connection after the other.
+#[derive(Drop)]
+pub struct Talk<'a, R> {
+    rt: &'a R,
+    number: u64,
+    trace: bool,
+    log: Option<Log>,
+    refusals: Option<Refusals>,
+    client: Vec<u8>,
+    server: Vec<u8>,
+}
+
+impl<'a, R: AllocGlobal> Talk<'a, R> {
+    /// Lines are shown on standard error if `trace` says so, and added to the log if there is one.
+    pub fn new(rt: &'a R, trace: bool, log: Option<Log>) -> Self {
+        Talk {
+            rt,
+            number: 0,
+            trace,
+            log,
+            refusals: None,
+            client: Vec::new(rt.alloc()),
+            server: Vec::new(rt.alloc()),
+        }
+    }
+
+    /// From now on the errors of the server are reported.
+    pub fn tell_errors(&mut self, refusals: Refusals) {
+        self.refusals = Some(refusals);
+    }
+
+    /// The connection of this number has begun.
+    pub fn begin(&mut self, number: u64) {
+        self.number = number;
+        self.client.clear();
+        self.server.clear();
+    }
+}
+
+impl<'a, R: Eprint + Clock + AllocGlobal> Talk<'a, R> {
+    /// A line of a side, without its end, as it is shown.
+    fn shown(&self, side: Side) -> Result<String, AllocError> {
+        let line = match side {
+            Side::Client => self.client.as_slice(),
+            Side::Server => self.server.as_slice(),
+        };
+        let text = visible(self.rt.alloc(), line)?;
+        let number = self.number;
+        let mark = side.mark();
+        format!(in self.rt.alloc(); "{number} {mark} {text}")
+    }
+
+    /// Reports the error of a line, if it is one.
+    fn refuse(&mut self, side: Side) -> Result<(), AllocError> {
+        let Some(refusals) = &mut self.refusals else {
+            return Ok(());
+        };
+        match side {
+            Side::Client => refusals.send(self.rt.alloc(), self.client.as_slice()),
+            Side::Server => refusals.tell(self.rt, self.server.as_slice()),
+        }
+    }
+
+    /// A line of a side has come to its end.
+    fn show(&mut self, side: Side) -> Result<(), AllocError> {
+        self.refuse(side)?;
+        if !self.trace && self.log.is_none() {
+            return Ok(());
+        }
+        let shown = self.shown(side)?;
+        if self.trace {
+            let _ = eprintln!(self.rt; "{shown}");
+        }
+        if let Some(log) = &mut self.log {
+            log.add(self.rt, shown.as_str());
+        }
+        Ok(())
+    }
+
+    /// A byte of a side.
+    fn keep(&mut self, side: Side, byte: u8) -> Result<(), AllocError> {
+        if byte == b'\n' {
+            self.show(side)?;
+        }
+        let line = match side {
+            Side::Client => &mut self.client,
+            Side::Server => &mut self.server,
+        };
+        match byte {
+            b'\n' => line.clear(),
+            b'\r' => {}
+            _ => line.push(byte)?,
+        }
+        Ok(())
+    }
+
+    /// Bytes that a side has written. If memory runs out for them, that is reported, and no more is shown.
+    fn keep_all(&mut self, side: Side, bytes: &[u8]) {
+        if !self.trace && self.log.is_none() && self.refusals.is_none() {
+            return;
+        }
+        for byte in bytes {
+            if self.keep(side, *byte).is_err() {
+                let _ = eprintln!(self.rt; "dme: out of memory for the lines of the connection");
+                self.trace = false;
+                self.log = None;
+                self.refusals = None;
+                return;
+            }
+        }
+    }
+}
+
+/// Bytes that a side has written go by.
+fn go_by<R: Eprint + Clock + AllocGlobal>(talk: &RefCell<Talk<'_, R>>, side: Side, bytes: &[u8]) {
+    if let Ok(mut talk) = talk.try_borrow_mut() {
+        talk.keep_all(side, bytes);
+    }
+}
+
+/// A source of what a side has written, whose lines go by.
+#[derive(Drop)]
+pub struct HeardPort<'a, 'b, R, S: Source> {
+    source: S,
+    side: Side,
+    talk: &'a RefCell<Talk<'b, R>>,
+}
+
+impl<'a, 'b, R, S: Source> HeardPort<'a, 'b, R, S> {
+    pub fn new(source: S, side: Side, talk: &'a RefCell<Talk<'b, R>>) -> Self {
+        HeardPort { source, side, talk }
+    }
+}
+
+impl<'a, 'b, R: Eprint + Clock + AllocGlobal, S: Source> Source for HeardPort<'a, 'b, R, S> {
+    ghost left = { λ s. S.left s.source };
+
+    ghost has_failed = { λ s. S.has_failed s.source };
+
+    fn pull(&mut self, buf: &mut [u8]) -> Result<usize, Failed> {
+        let count = self.source.pull(buf)?;
+        go_by(self.talk, self.side, &buf[..count]);
+        Ok(count)
+    }
+}
+
+/// A sink of what a side writes, whose lines go by.
+#[derive(Drop)]
+pub struct SaidPort<'a, 'b, R, W: Sink> {
+    sink: W,
+    side: Side,
+    talk: &'a RefCell<Talk<'b, R>>,
+}
+
+impl<'a, 'b, R, W: Sink> SaidPort<'a, 'b, R, W> {
+    pub fn new(sink: W, side: Side, talk: &'a RefCell<Talk<'b, R>>) -> Self {
+        SaidPort { sink, side, talk }
+    }
+}
+
+impl<'a, 'b, R: Eprint + Clock + AllocGlobal, W: Sink> Sink for SaidPort<'a, 'b, R, W> {
+    ghost taken = { λ s. W.taken s.sink };
+
+    ghost has_failed = { λ s. W.has_failed s.sink };
+
+    fn push(&mut self, bytes: &[u8]) -> Result<usize, Failed> {
+        let count = self.sink.push(bytes)?;
+        go_by(self.talk, self.side, &bytes[..count]);
+        Ok(count)
+    }
+}
