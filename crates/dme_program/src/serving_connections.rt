@@ -118,7 +118,9 @@ fn serve_stream<R: Eprint + Clock + AllocGlobal>(
 
 /// Serves that many connections, one after the other; why some were broken off, if any was. If a connection cannot be taken, it serves no
 /// more.
-fn serve_connections<R: Eprint + Clock + Net<Listener = TcpListener, Stream = TcpStream> + AllocGlobal>(
+fn serve_connections<
+    R: Eprint + Clock + Net<Listener = TcpListener, Stream = TcpStream> + AllocGlobal,
+>(
     listener: &TcpListener,
     serving: &mut Serving<'_, R>,
     post: &Post,
