@@ -6,7 +6,7 @@ not. Then it cuts a reply off at any byte and closes or resets the connection, a
 command twice, answers one that was never sent, or sends a line that is no response. Some runs are killed. After each run:
 
 - no feature whose COMPLETED line was whole is lost;
-- what the record says of a connection is what was answered on one, in order: each contact's target was sent, and its point was the answer.
+- the contacts that the record has of a connection are those that were answered on one, in order: each contact's target was sent, and its point was the answer.
 
 In the end the record has the program's features, each with the points of its last contacts, and its audit answers RUNS.
 

@@ -7,7 +7,7 @@
 //! - `auditing`: a client's features are judged by a server's contacts
 //! - `exporting`: what was measured is put next to what a program asks for; `explaining`: what a refusal means
 //! - `of_records`: a record is audited and exported
-//! - `notes`: what is said of an audit, and of a record of another program, besides what an order prints
+//! - `notes`: what an audit found, and in what a record differs from a program, besides what an order prints
 //! - `preparing`: the files of an order over a connection are read before there is one
 //! - `looping`: a program is run over one connection between both ends
 //! - `driving`: a program is run on a server over a connection, and its features are kept

@@ -1,4 +1,4 @@
-// What is said of an audit, and of a record that is of another program, besides what an order prints: from the texts that the order read.
+// What an audit found, and in what a record differs from a program, besides what an order prints: from the texts that the order read.
 
 use crate::faults::InputFiles;
 use contact_ledger::{FeatureLedger, ServerLedger, read_contacts, read_features};
