@@ -220,10 +220,7 @@ pub fn run_program<
         Err(fault) => return Err(refused(rt.alloc(), fault, files, order.explain)),
     };
     let features = files.features;
-    let log = match order.log {
-        Some(name) => Some(Log::open(rt, name)),
-        None => None,
-    };
+    let log = Log::named(rt, order.log);
     let call = Call {
         host: order.host,
         port: order.port,

@@ -245,10 +245,7 @@ pub fn serve<
         }
     };
     drop(source);
-    let log = match order.log {
-        Some(name) => Some(Log::open(rt, name)),
-        None => None,
-    };
+    let log = Log::named(rt, order.log);
     let post = Post {
         listen: order.listen,
         port: order.port,

@@ -46,7 +46,7 @@ pub struct Log {
 
 impl Log {
     /// The file of this name, which is made if there is none.
-    pub fn open<R: Files<File = File> + Eprint>(rt: &R, name: String) -> Log {
+    fn open<R: Files<File = File> + Eprint>(rt: &R, name: String) -> Log {
         let mut how = OpenOptions::new();
         how.append(true).create(true);
         let file = how.open(rt, name.as_str()).ok();
@@ -55,6 +55,14 @@ impl Log {
             log.fail(rt);
         }
         log
+    }
+
+    /// The file of this name, if one is named.
+    pub fn named<R: Files<File = File> + Eprint>(rt: &R, name: Option<String>) -> Option<Log> {
+        match name {
+            Some(name) => Some(Log::open(rt, name)),
+            None => None,
+        }
     }
 
     /// The file could not be written.
