@@ -14,14 +14,16 @@ use crate::recording::{Follower, OpenRecord, open_record, record_words};
 use crate::refusals::Refusals;
 use crate::talking::{HeardPort, Log, SaidPort, Side, Talk};
 use crate::text_files::NamedFile;
-use byte_ports::{Ports, Reading, Writing};
+use byte_ports::{Ports, Reading, Sink, Writing};
 use client_core::Client;
 use contact_ledger::{CONNECTION_MAX, FeatureLedger};
 use dme_orders::{
-    InputFiles, OrderFault, RunEnd, RunOutputs, drive, features_and_program, kept_client,
+    FilesFault, InputFiles, OrderFault, RunEnd, RunOutputs, TextFile, drive, features_and_program,
+    kept_client,
 };
 use dme_words::Run;
 use dmis_program::Program;
+use link_world::Watcher;
 use record_keeping::{Beginning, Recorder};
 use std::alloc::{AllocError, Global};
 use std::cell::RefCell;
@@ -80,6 +82,37 @@ fn still_wanted(alloc: Global, client: &Client) -> Result<Refusals, AllocError> 
     Refusals::new(alloc, &wanted[held..])
 }
 
+/// What is shown of the lines of a client's connection of this number, and of its server's errors.
+fn talk_of<'a, R: AllocGlobal>(
+    rt: &'a R,
+    client: &Client,
+    number: u64,
+    trace: bool,
+    log: Option<Log>,
+) -> Result<RefCell<Talk<'a, R>>, AllocError> {
+    let wanted = still_wanted(rt.alloc(), client)?;
+    let mut talk = Talk::new(rt, trace, log);
+    talk.begin(number);
+    talk.tell_errors(wanted);
+    Ok(RefCell::new(talk))
+}
+
+/// A client that has come to its connection takes its turns over a stream, whose lines go by.
+fn drive_stream<R: Eprint + Clock + AllocGlobal, N: Watcher, F: TextFile, O: Sink>(
+    rt: &R,
+    client: Client,
+    wire: (&TcpStream, &RefCell<Talk<'_, R>>),
+    watcher: &mut N,
+    outputs: &mut RunOutputs<F, O>,
+) -> Result<RunEnd, FilesFault> {
+    let (stream, talk) = wire;
+    let mut ports = Ports {
+        source: HeardPort::new(Reading::new(stream), Side::Server, talk),
+        sink: SaidPort::new(Writing::new(stream), Side::Client, talk),
+    };
+    drive(rt.alloc(), client, &mut ports, watcher, outputs)
+}
+
 /// A client takes its turns over a connection to the server that is called.
 fn drive_client<
     R: Files<File = File>
@@ -113,15 +146,8 @@ fn drive_client<
     if client.connected(number).is_err() {
         return Err(OrderFault::Memory);
     }
-    let mut talk = Talk::new(rt, call.trace, call.log);
-    talk.begin(number);
-    talk.tell_errors(still_wanted(rt.alloc(), &client)?);
-    let talk = RefCell::new(talk);
-    let mut ports = Ports {
-        source: HeardPort::new(Reading::new(&stream), Side::Server, &talk),
-        sink: SaidPort::new(Writing::new(&stream), Side::Client, &talk),
-    };
-    let result = drive(rt.alloc(), client, &mut ports, follower, &mut outputs);
+    let talk = talk_of(rt, &client, number, call.trace, call.log)?;
+    let result = drive_stream(rt, client, (&stream, &talk), follower, &mut outputs);
     drop(outputs);
     match result {
         Ok(driven) => client_verdict(rt, driven, call.features),
