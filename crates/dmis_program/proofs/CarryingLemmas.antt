@@ -87,7 +87,7 @@ reached false e None r t h = h
 said_is : (frames : List (List ℕ × Point)) (c : Context) (s : Statement) (t : StatementMeaning) → judged frames c s ≡ Ok t → saying s ≡ Ok t
 unfolding judged
 said_is frames c s t h = settling_is frames c.tool c.wanted c.touched (saying s) t
-    (reached (nat_le 10000 c.number) TooLarge (word_refusal c (keyword_of s.word) s.params)
+    (reached (nat_le 10000 c.number) TooLarge (word_refusal c.number c.wanted (keyword_of s.word) s.params)
     (saying s >>= settled frames c.tool c.wanted c.touched) t h)
 
 -- the same parts after a statement, by what it says

@@ -95,7 +95,7 @@ unfolding judged
 judged_if frames c s =
     let keyword = keyword_of s.word in
     unless_if (MayFollow frames c) (nat_le 10000 c.number) _ _ (λ few.
-    when_none (MayFollow frames c) (word_refusal (context_of c) keyword s.params) _ (λ none.
+    when_none (MayFollow frames c) (word_refusal c.number (context_of c).wanted keyword s.params) _ (λ none.
     let place = last_none (c.number == 0 && not (is_start keyword)) (is_unsupported (c.number == 0) keyword s.params) NotDmis Unsupported
     (misplaced keyword (count_wanted c.open_block)) none in
     both_if (c.number < 10000) (IsAllowed frames c.tool c.open_block (length c.touches)) _ (below_most c.number few) (

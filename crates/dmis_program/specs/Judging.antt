@@ -40,12 +40,12 @@ misplaced Meas (Some count) = Some InsideBlock
 misplaced Endfil (Some count) = Some InsideBlock
 misplaced _ _ = None
 
--- what the word and the place alone refuse
-abbrev pub word_refusal : Context → Keyword → List (List ℕ) → Option Refusal
-word_refusal c keyword params =
-    if (c.number == 0) && not (is_start keyword) then Some NotDmis else
-    if is_unsupported (c.number == 0) keyword params then Some Unsupported else
-    misplaced keyword c.wanted
+-- what the word and the place alone refuse, after this many statements, where the open block asks for this many touches
+abbrev pub word_refusal : ℕ → Option ℕ → Keyword → List (List ℕ) → Option Refusal
+word_refusal number wanted keyword params =
+    if (number == 0) && not (is_start keyword) then Some NotDmis else
+    if is_unsupported (number == 0) keyword params then Some Unsupported else
+    misplaced keyword wanted
 
 abbrev pub refused_by : {A : Type 0} → Option Refusal → Result A Refusal → Result A Refusal
 refused_by (Some refusal) due = Err refusal
@@ -67,4 +67,4 @@ settled frames tool wanted count said = Ok said
 unfoldable pub judged : List (List ℕ × Point) → Context → Statement → Result StatementMeaning Refusal
 judged frames c s =
     if nat_le 10000 c.number then Err TooLarge else
-    refused_by (word_refusal c (keyword_of s.word) s.params) (saying s >>= settled frames c.tool c.wanted c.touched)
+    refused_by (word_refusal c.number c.wanted (keyword_of s.word) s.params) (saying s >>= settled frames c.tool c.wanted c.touched)

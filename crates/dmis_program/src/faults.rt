@@ -68,8 +68,10 @@ impl From<TextFault> for ProgramFault {
 
 /// Why a statement gives nothing.
 #[derive(Clone, Copy, Debug, PartialEq, Eq)]
-pub(crate) enum StatementFault {
+pub enum StatementFault {
+    /// It is refused.
     Refused(Refusal),
+    /// A growth was refused. The call may be made again.
     Memory,
 }
 

@@ -4,7 +4,7 @@ ghost use Rattle.dmis_program.specs.Keywords.{keyword_of, is_among, definitions,
 
 /// What a statement's word is in this profile (the words are those of ISO 22093).
 #[derive(Clone, Copy, Debug, PartialEq, Eq)]
-pub(crate) enum Keyword {
+pub enum Keyword {
     Dmismn,
     Goto,
     Meas,
@@ -32,7 +32,7 @@ pub(crate) fn is_text(text: &[u8], other: &str) -> bool
 
 /// What a statement's word is.
 #[tactic(auto, unfolding(crate::specs::Keywords::keyword_of))]
-pub(crate) fn keyword_of_word(word: &[u8]) -> Keyword
+pub fn keyword_of_word(word: &[u8]) -> Keyword
     ensures { result ≡ keyword_of word.now }
 {
     if is_text(word, "DMISMN") {

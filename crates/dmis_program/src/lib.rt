@@ -25,8 +25,11 @@ mod reading;
 mod sayings;
 mod steps;
 
-pub use faults::{ProgramFault, Refusal};
+pub use faults::{ProgramFault, Refusal, StatementFault};
 pub use features::{Touch, Touches, Wanted};
+pub use keywords::{Keyword, keyword_of_word};
 pub use offsets::Frames;
 pub use programs::Program;
+pub use reading::word_refusal;
+pub use sayings::{StatementMeaning, said_of};
 pub use steps::Step;

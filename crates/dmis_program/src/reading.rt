@@ -84,6 +84,26 @@ fn misplaced(keyword: Keyword, wanted: Option<u64>) -> Option<Refusal>
     }
 }
 
+/// What the word of a statement and its place alone refuse: after this many statements, in a block that asks for this many touches, or in
+/// none.
+pub fn word_refusal(
+    count: u64,
+    wanted: Option<u64>,
+    keyword: Keyword,
+    params: &[Text],
+) -> Option<Refusal>
+    ensures { result ≡ word_refusal count wanted keyword params.now }
+{
+    let first = count == 0;
+    if first && !is_start(keyword) {
+        return Some(Refusal::NotDmis);
+    }
+    if is_unsupported(first, keyword, params) {
+        return Some(Refusal::Unsupported);
+    }
+    misplaced(keyword, wanted)
+}
+
 impl Reader {
     ghost use Rattle.dmis_program.specs.Carrying.{no_statement, context_of, with_step, changed, recalled_at, follows, next, GivesNext};
     ghost use Rattle.dmis_program.specs.Meaning.{closes, without_end};
@@ -114,20 +134,6 @@ impl Reader {
             Some(block) => Some(block.wanted),
             None => None,
         }
-    }
-
-    /// What the word and the place alone refuse.
-    fn word_refusal(&self, keyword: Keyword, params: &[Text]) -> Option<Refusal>
-        ensures { result ≡ word_refusal (context_of self.now) keyword params.now }
-    {
-        let first = self.count == 0;
-        if first && !is_start(keyword) {
-            return Some(Refusal::NotDmis);
-        }
-        if is_unsupported(first, keyword, params) {
-            return Some(Refusal::Unsupported);
-        }
-        misplaced(keyword, self.wanted())
     }
 
     /// One step more.
@@ -240,7 +246,7 @@ impl Reader {
         }
         let keyword = keyword_of_word(&statement.word);
         let params = &statement.params;
-        if let Some(refusal) = self.word_refusal(keyword, params) {
+        if let Some(refusal) = word_refusal(self.count, self.wanted(), keyword, params) {
             return Err(StatementFault::Refused(refusal));
         }
         let said = said_of(self.alloc, keyword, statement)?;

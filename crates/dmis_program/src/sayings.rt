@@ -12,7 +12,7 @@ use std::alloc::Global;
 
 /// What one statement says by itself.
 #[derive(Drop)]
-pub(crate) enum StatementMeaning {
+pub enum StatementMeaning {
     /// A move.
     Goes(Point),
     /// A block begins for a feature, which asks for that many touches.
@@ -191,9 +191,9 @@ fn is_badly_formed(keyword: Keyword, statement: &Statement) -> bool
     (statement.label.is_some() && keyword != Keyword::Definition) || statement.is_open()
 }
 
-/// What a statement with this keyword says. The caller must give a word that this profile reads.
+/// What a statement with this keyword says by itself, or why it is refused for itself. The caller must give a word that this profile reads.
 #[tactic(auto, unfolding(crate::specs::Sayings::said_of))]
-pub(crate) fn said_of(
+pub fn said_of(
     alloc: Global,
     keyword: Keyword,
     statement: &Statement,
