@@ -13,7 +13,7 @@ use crate::text_files::TextFile;
 use byte_ports::{Failed, Ports, Sink, Source};
 use client_core::Client;
 use contact_ledger::write_features;
-use link_world::{LoopFault, Watcher, watch_link};
+use link_world::{LoopFault, Steering, Watcher, watch_link};
 use std::alloc::{AllocError, Global};
 
 /// How a run on a server has ended.
@@ -64,30 +64,35 @@ fn keep_features<F: TextFile>(
 }
 
 /// A client takes its turns, and its features are put in their file; how that ended, and the report of it. Fails only if out of memory.
-fn turned<R: Source, W: Sink, N: Watcher, F: TextFile>(
+fn turned<R: Source, W: Sink, N: Watcher, S: Steering, F: TextFile>(
     alloc: Global,
     client: &mut Client,
     ports: &mut Ports<R, W>,
     watcher: &mut N,
+    steering: &mut S,
     file: &mut F,
 ) -> Result<(RunEnd, Vec<u8>), AllocError>
     ensures leaves { IfOk result (λ end. LeavesRun client.old
         (run_told (R.left ports.old.source) (W.taken ports.old.sink) (N.told watcher.old)
+        (S.can_have_said steering.old)
         (file_told (F.kept file.old) (F.has_failed file.old)))
         (run_told (R.left ports.new.source) (W.taken ports.new.sink) (N.told watcher.new)
+        (S.can_have_said steering.new)
         (file_told (F.kept file.new) (F.has_failed file.new)))
         end.0 end.1.items) }
     ensures some { IfOk result (λ end. 0 < length end.1.items) }
     ensures stops { OnErr result (StopsRun client.old
         (run_told (R.left ports.old.source) (W.taken ports.old.sink) (N.told watcher.old)
+        (S.can_have_said steering.old)
         (file_told (F.kept file.old) (F.has_failed file.old)))
         (run_told (R.left ports.new.source) (W.taken ports.new.sink) (N.told watcher.new)
+        (S.can_have_said steering.new)
         (file_told (F.kept file.new) (F.has_failed file.new)))) }
     ensures blamed { IfOk result (λ end. BlamesClient end.0.ended.broken
         (R.has_failed ports.old.source) (R.has_failed ports.new.source)
         (W.has_failed ports.old.sink) (W.has_failed ports.new.sink)) }
 {
-    let broken = match watch_link(client, ports, watcher) {
+    let broken = match watch_link(client, ports, watcher, steering) {
         Ok(()) => None,
         Err(fault) => Some(LoopFault::Client(fault)),
     };
@@ -98,22 +103,26 @@ fn turned<R: Source, W: Sink, N: Watcher, F: TextFile>(
     Ok((RunEnd { ended, is_kept }, text))
 }
 
-/// Runs a program on a server: a client that has come to its connection takes its turns, its features are put in their file, and its report
+/// Runs a program on a server: a client that has come to its connection takes its turns, until what steers the run says that it stops and
+/// then until its abort has ended; its features are put in their file, and its report
 /// is written, without contacts. The answer is how that ended. Both are done also if a fault has broken the turns off, and the report is
 /// written also if the file could not be. `Memory` and `Write` are the only `Err`s.
-pub fn drive<R: Source, W: Sink, N: Watcher, F: TextFile, O: Sink>(
+pub fn drive<R: Source, W: Sink, N: Watcher, S: Steering, F: TextFile, O: Sink>(
     alloc: Global,
     client: Client,
     ports: &mut Ports<R, W>,
     watcher: &mut N,
+    steering: &mut S,
     outputs: &mut RunOutputs<F, O>,
 ) -> Result<RunEnd, FilesFault>
     // The report of what the client has become was written, its file keeps what it then holds, and what was completed was reported to the
     // watcher; or memory ran out, or the output has failed.
     ensures prints { Prints (LeavesRun client
         (run_told (R.left ports.old.source) (W.taken ports.old.sink) (N.told watcher.old)
+        (S.can_have_said steering.old)
         (file_told (F.kept outputs.old.features) (F.has_failed outputs.old.features)))
         (run_told (R.left ports.new.source) (W.taken ports.new.sink) (N.told watcher.new)
+        (S.can_have_said steering.new)
         (file_told (F.kept outputs.new.features) (F.has_failed outputs.new.features))))
         (went O.taken O.has_failed outputs.old.report outputs.new.report) result }
 
@@ -121,8 +130,10 @@ pub fn drive<R: Source, W: Sink, N: Watcher, F: TextFile, O: Sink>(
     // client then holds.
     ensures stops { IsErrOf result FilesFault.Memory → StopsRun client
         (run_told (R.left ports.old.source) (W.taken ports.old.sink) (N.told watcher.old)
+        (S.can_have_said steering.old)
         (file_told (F.kept outputs.old.features) (F.has_failed outputs.old.features)))
         (run_told (R.left ports.new.source) (W.taken ports.new.sink) (N.told watcher.new)
+        (S.can_have_said steering.new)
         (file_told (F.kept outputs.new.features) (F.has_failed outputs.new.features))) }
 
     // A port of the connection is reported as what broke it off if it has failed, and only then.
@@ -131,7 +142,7 @@ pub fn drive<R: Source, W: Sink, N: Watcher, F: TextFile, O: Sink>(
         (W.has_failed ports.old.sink) (W.has_failed ports.new.sink)) }
 {
     let mut client = client;
-    let end = turned(alloc, &mut client, ports, watcher, &mut outputs.features);
+    let end = turned(alloc, &mut client, ports, watcher, steering, &mut outputs.features);
     drop(client);
     let (driven, text) = end?;
     write_text(&mut outputs.report, text.as_slice())?;

@@ -1,5 +1,5 @@
 -- A client's turn over its ports is a list of events of the world.
-use Rattle.std.proofs.Common.{◌≡◌, ℕ, zero, suc, ◌-◌, ◌≤◌, Bool, true, false, not, ◌&&◌, List, [], ◌∷◌, ◌++◌, length, take, drop}
+use Rattle.std.proofs.Common.{◌≡◌, ℕ, zero, suc, ◌-◌, ◌≤◌, Bool, true, false, cond, not, ◌&&◌, List, [], ◌∷◌, ◌++◌, length, take, drop}
 use Rattle.std.proofs.Common.{refl, sym, ◌∙◌, ap, subst, arith, append_assoc, append-nil, is_some, Option, Some, None, Ok, slice_set}
 use Rattle.std.proofs.lemmas.Bool.{and_parts, and_from, le-leb}
 use Rattle.std.proofs.lemmas.List.{set-get_or, take-append-drop}
@@ -9,9 +9,9 @@ use Rattle.line_framing.specs.declared.faults.FramingFault.{FramingFault}
 use Rattle.dmis_program.specs.Programs.{IsProgram}
 use Rattle.dmis_program.specs.Meaning.{Meaning}
 use Rattle.protocol_model.specs.Claims.{Sound, Told}
-use Rattle.protocol_model.specs.Client.{Client, due, sends_next}
-use Rattle.protocol_model.specs.Ends.{ClientEnd, end_sent, end_taken, end_fed, end_read, end_left}
-use Rattle.protocol_model.specs.World.{World, Link, no_link, client_link, link_of, with_link, has_some, is_any, start, can, after, run_of}
+use Rattle.protocol_model.specs.Client.{Client, due, sends_next, sends_abort, next_number, may_abort}
+use Rattle.protocol_model.specs.Ends.{ClientEnd, end_sent, end_taken, end_fed, end_read, end_left, end_aborted}
+use Rattle.protocol_model.specs.World.{World, Link, no_link, client_link, link_of, with_link, has_some, is_any, start, can, happens, after, run_of}
 use Rattle.protocol_model.specs.World.{is_faulted as is_over}
 use Rattle.protocol_model.specs.declared.events.Event.{Event}
 use Rattle.protocol_model.specs.declared.events.Event.TheVariants as event
@@ -21,7 +21,10 @@ use Rattle.protocol_model.proofs.whole_run.Links.{link_same}
 use Rattle.protocol_model.proofs.whole_run.WholeRun.{always_sound, always_told}
 use Rattle.client_core.specs.Clients.{is_faulted, may_read}
 use Rattle.link_world.specs.Pumps.{Stage, Sending, Writing, Taking, Reading, ClientTurn, begins, sends, writes, takes, has, reads}
-use Rattle.link_world.specs.Joined.{IsClientTurn, TurnLeads, client_joined}
+use Rattle.link_world.specs.Joined.{IsClientTurn, TurnLeads, client_joined, steering}
+use Rattle.link_world.specs.Courses.{steered}
+use Rattle.link_world.specs.declared.connections.steering.Course.{Course}
+use Rattle.link_world.specs.declared.connections.steering.Course.TheVariants as course
 use Rattle.link_world.proofs.EventLists.{run_append, done_now, not_done}
 use Rattle.link_world.proofs.TurnJoins.{SoFar, not_yet, once_more, all_done, sent_only, client_turned}
 
@@ -96,6 +99,23 @@ begun w h = sym (λ i. record {
   written = (ap (λ (t : List ℕ). w.written ++ t) h.out ∙ append-nil w.written) i;
 })
 
+aborts_last : (c : Client) (n : Option ℕ) → (sends_abort c n).client.last ≡ c.last
+aborts_last c None = refl
+aborts_last c (Some n) = refl
+
+-- a world in which the client is at the start of its turn: what it has written has joined its connection
+record Starts (w v : World) (s : ClientEnd) : Type 0 where
+  pub as : v ≡ client_joined w s s.out 0
+  pub last : s.client.last ≡ w.client.client.last
+
+stop_starts : (w : World) → IsOn w → (b : Bool) → Starts w (cond b (happens event.Abort w) w) (cond b (end_aborted w.client) w.client)
+stop_starts w h true = record { as = refl; last = aborts_last w.client.client _ }
+stop_starts w h false = record { as = begun w h; last = refl }
+
+steered_starts : (c : Course) (w : World) → IsOn w → Starts w (run_of (steering c) w) (steered c w.client)
+steered_starts course.GoOn w h = record { as = begun w h; last = refl }
+steered_starts course.Stop w h = stop_starts w h (may_abort w.client.client.state)
+
 sends_on : (w : World) (e : ClientEnd) → IsOn w → e.client.last ≡ w.client.client.last
     → is_some (due e.client) ≡ true
     → after event.ClientSends (client_joined w e e.out 0) ≡ client_joined w (end_sent e) (end_sent e).out 0
@@ -165,55 +185,55 @@ reads_on w e text k may is =
 -- ---- the turn
 
 -- in addition: until bytes come in the client is on its connection, and from then on it has nothing to send; it sends until nothing is due
-record Sends (w : World) (e : ClientEnd) : Type 0 where
-  pub so_far : SoFar event.ClientSends w (client_joined w e e.out 0)
+record Sends (v w : World) (e : ClientEnd) : Type 0 where
+  pub so_far : SoFar event.ClientSends v (client_joined w e e.out 0)
   pub last : e.client.last ≡ w.client.client.last
 
-record Writes (w : World) (written : List ℕ) (e : ClientEnd) : Type 0 where
-  pub so_far : SoFar event.ClientSends w (client_joined w e (written ++ e.out) 0)
+record Writes (v w : World) (written : List ℕ) (e : ClientEnd) : Type 0 where
+  pub so_far : SoFar event.ClientSends v (client_joined w e (written ++ e.out) 0)
   pub last : e.client.last ≡ w.client.client.last
   pub none : due e.client ≡ None
 
-record Hears (w : World) (read written : List ℕ) (e : ClientEnd) : Type 0 where
+record Hears (v w : World) (read written : List ℕ) (e : ClientEnd) : Type 0 where
   pub first : ClientEnd
-  pub sent : SoFar event.ClientSends w (client_joined w first written 0)
+  pub sent : SoFar event.ClientSends v (client_joined w first written 0)
   pub none : due first.client ≡ None
   pub fed : World
   pub came : after (event.Down (length read)) (client_joined w first written 0) ≡ fed
   pub so_far : SoFar event.ClientReads fed (client_joined w e written (length read))
   pub out : e.out ≡ []
 
-abbrev Goes : World → Stage → List ℕ → List ℕ → ClientEnd → Type 0
-Goes w Sending read written e = Sends w e × (written ≡ [])
-Goes w Writing read written e = Writes w written e
-Goes w _ read written e = Hears w read written e
+abbrev Goes : (v w : World) → Stage → List ℕ → List ℕ → ClientEnd → Type 0
+Goes v w Sending read written e = Sends v w e × (written ≡ [])
+Goes v w Writing read written e = Writes v w written e
+Goes v w _ read written e = Hears v w read written e
 
-plays : (least : ℕ) (w : World) (stage : Stage) (read written : List ℕ) (e : ClientEnd) → IsOn w
-    → take (length read) (client_link w).down ≡ read → ClientTurn least w.client stage read written e
-    → Goes w stage read written e
-plays least w _ _ _ _ h front begins =
-    (record { so_far = not_yet event.ClientSends w (client_joined w w.client w.client.out 0) (begun w h); last = refl }, refl)
-plays least w _ _ _ _ h front (sends e t is) =
-    let p : Sends w e = (plays least w Sending [] [] e h front t).0 in (
+plays : (least : ℕ) (v w : World) (s : ClientEnd) (stage : Stage) (read written : List ℕ) (e : ClientEnd) → IsOn w → Starts w v s
+    → take (length read) (client_link w).down ≡ read → ClientTurn least s stage read written e
+    → Goes v w stage read written e
+plays least v w s _ _ _ _ h g front begins =
+    (record { so_far = not_yet event.ClientSends v (client_joined w s s.out 0) g.as; last = g.last }, refl)
+plays least v w s _ _ _ _ h g front (sends e t is) =
+    let p : Sends v w e = (plays least v w s Sending [] [] e h g front t).0 in (
       record {
-        so_far = once_more event.ClientSends w (client_joined w e e.out 0)
+        so_far = once_more event.ClientSends v (client_joined w e e.out 0)
             (client_joined w (end_sent e) (end_sent e).out 0) p.so_far
             is (sends_on w e h p.last is);
         last = sent_last e ∙ p.last;
       },
       refl,
     )
-plays least w _ _ _ _ h front (writes e count t none within) =
-    let p : Sends w e = (plays least w Sending [] [] e h front t).0 in record {
-      so_far = subst (λ (x : List ℕ). SoFar event.ClientSends w (client_joined w e x 0))
+plays least v w s _ _ _ _ h g front (writes e count t none within) =
+    let p : Sends v w e = (plays least v w s Sending [] [] e h g front t).0 in record {
+      so_far = subst (λ (x : List ℕ). SoFar event.ClientSends v (client_joined w e x 0))
           (sym (take-append-drop count e.out)) p.so_far;
       last = p.last;
       none = none;
     }
-plays least w _ _ _ _ h front (takes e read written t out may) =
-    let p : Writes w written e = plays least w Writing [] written e h refl t in record {
+plays least v w s _ _ _ _ h g front (takes e read written t out may) =
+    let p : Writes v w written e = plays least v w s Writing [] written e h g refl t in record {
       first = e;
-      sent = subst (λ (x : List ℕ). SoFar event.ClientSends w (client_joined w e x 0)) (all_out written e out) p.so_far;
+      sent = subst (λ (x : List ℕ). SoFar event.ClientSends v (client_joined w e x 0)) (all_out written e out) p.so_far;
       none = p.none;
       fed = client_joined w (end_fed read e) written (length read);
       came = takes_on w e written read h p.last may front;
@@ -221,9 +241,9 @@ plays least w _ _ _ _ h front (takes e read written t out may) =
           (client_joined w (end_fed read e) written (length read)) refl;
       out = out;
     }
-plays least w _ _ _ _ h front (has e read written t enough) = plays least w Taking read written e h front t
-plays least w _ _ _ _ h front (reads e read written t may is) =
-    let p : Hears w read written e = plays least w Reading read written e h front t in record {
+plays least v w s _ _ _ _ h g front (has e read written t enough) = plays least v w s Taking read written e h g front t
+plays least v w s _ _ _ _ h g front (reads e read written t may is) =
+    let p : Hears v w read written e = plays least v w s Reading read written e h g front t in record {
       first = p.first;
       sent = p.sent;
       none = p.none;
@@ -241,69 +261,75 @@ none_due : (w : World) (e : ClientEnd) (text : List ℕ) → due e.client ≡ No
 none_due w e text none = ap is_some none
 
 abbrev Turns : World → (cut : Bool) → ℕ → World → Type 0
-Turns w cut count v = TurnLeads (IsClientTurn count) cut w v
+Turns v cut count x = TurnLeads (IsClientTurn count) cut v x
 
-hears_leads : (w : World) (read written : List ℕ) (e : ClientEnd) → Hears w read written e
-    → Turns w true (length read) (client_joined w e (written ++ e.out) (length read))
-hears_leads w read written e p =
-    subst (λ (x : List ℕ). Turns w true (length read) (client_joined w e x (length read))) (sym (all_out written e p.out))
-    (client_turned (length read) true w (client_joined w p.first written 0) p.fed (client_joined w e written (length read)) p.sent
+hears_leads : (v w : World) (read written : List ℕ) (e : ClientEnd) → Hears v w read written e
+    → Turns v true (length read) (client_joined w e (written ++ e.out) (length read))
+hears_leads v w read written e p =
+    subst (λ (x : List ℕ). Turns v true (length read) (client_joined w e x (length read))) (sym (all_out written e p.out))
+    (client_turned (length read) true v (client_joined w p.first written 0) p.fed (client_joined w e written (length read)) p.sent
     (none_due w p.first written p.none) p.came p.so_far p.so_far.while)
 
 -- so far, in events
-sent_leads : (least : ℕ) (w : World) (stage : Stage) (read written : List ℕ) (e : ClientEnd) → IsOn w
-    → take (length read) (client_link w).down ≡ read → ClientTurn least w.client stage read written e
-    → Turns w true (length read) (client_joined w e (written ++ e.out) (length read))
-sent_leads least w _ _ _ _ h front begins =
-    let p : Sends w w.client = (plays least w Sending [] [] w.client h front begins).0 in
-    sent_only 0 w (client_joined w w.client w.client.out 0) p.so_far
-sent_leads least w _ _ _ _ h front (sends e t is) =
-    let p : Sends w (end_sent e) = (plays least w Sending [] [] (end_sent e) h front (sends e t is)).0 in
-    sent_only 0 w (client_joined w (end_sent e) (end_sent e).out 0) p.so_far
-sent_leads least w _ _ _ _ h front (writes e count t none within) =
-    let p : Writes w (take count e.out) (end_taken count e) =
-    plays least w Writing [] (take count e.out) (end_taken count e) h front (writes e count t none within) in
-    sent_only 0 w (client_joined w (end_taken count e) (take count e.out ++ drop count e.out) 0) p.so_far
-sent_leads least w _ _ _ _ h front (takes e read written t out may) =
-    hears_leads w read written (end_fed read e)
-    (plays least w Taking read written (end_fed read e) h front (takes e read written t out may))
-sent_leads least w _ _ _ _ h front (has e read written t enough) =
-    hears_leads w read written e (plays least w Reading read written e h front (has e read written t enough))
-sent_leads least w _ _ _ _ h front (reads e read written t may is) =
-    hears_leads w read written (end_read e)
-    (plays least w Reading read written (end_read e) h front (reads e read written t may is))
+sent_leads : (least : ℕ) (v w : World) (s : ClientEnd) (stage : Stage) (read written : List ℕ) (e : ClientEnd) → IsOn w → Starts w v s
+    → take (length read) (client_link w).down ≡ read → ClientTurn least s stage read written e
+    → Turns v true (length read) (client_joined w e (written ++ e.out) (length read))
+sent_leads least v w s _ _ _ _ h g front begins =
+    let p : Sends v w s = (plays least v w s Sending [] [] s h g front begins).0 in
+    sent_only 0 v (client_joined w s s.out 0) p.so_far
+sent_leads least v w s _ _ _ _ h g front (sends e t is) =
+    let p : Sends v w (end_sent e) = (plays least v w s Sending [] [] (end_sent e) h g front (sends e t is)).0 in
+    sent_only 0 v (client_joined w (end_sent e) (end_sent e).out 0) p.so_far
+sent_leads least v w s _ _ _ _ h g front (writes e count t none within) =
+    let p : Writes v w (take count e.out) (end_taken count e) =
+    plays least v w s Writing [] (take count e.out) (end_taken count e) h g front (writes e count t none within) in
+    sent_only 0 v (client_joined w (end_taken count e) (take count e.out ++ drop count e.out) 0) p.so_far
+sent_leads least v w s _ _ _ _ h g front (takes e read written t out may) =
+    hears_leads v w read written (end_fed read e)
+    (plays least v w s Taking read written (end_fed read e) h g front (takes e read written t out may))
+sent_leads least v w s _ _ _ _ h g front (has e read written t enough) =
+    hears_leads v w read written e (plays least v w s Reading read written e h g front (has e read written t enough))
+sent_leads least v w s _ _ _ _ h g front (reads e read written t may is) =
+    hears_leads v w read written (end_read e)
+    (plays least v w s Reading read written (end_read e) h g front (reads e read written t may is))
 
 -- how far a client's turn has come, in events
-pub turn_joins : (least : ℕ) (w : World) (stage : Stage) (read written : List ℕ) (e : ClientEnd)
+pub turn_joins : (c : Course) (least : ℕ) (w : World) (stage : Stage) (read written : List ℕ) (e : ClientEnd)
     → w.client.out ≡ [] → 1 ≤ w.client.client.last → w.client.client.last ≤ length w.links
-    → take (length read) (client_link w).down ≡ read → ClientTurn least w.client stage read written e
-    → TurnLeads (IsClientTurn (length read)) true w (client_joined w e (written ++ e.out) (length read))
-turn_joins least w stage read written e out from to front t =
-    sent_leads least w stage read written e (record { out = out; from = from; to = to }) front t
+    → take (length read) (client_link w).down ≡ read → ClientTurn least (steered c w.client) stage read written e
+    → TurnLeads (IsClientTurn (length read)) true (run_of (steering c) w) (client_joined w e (written ++ e.out) (length read))
+turn_joins c least w stage read written e out from to front t =
+    let on : IsOn w = record { out = out; from = from; to = to } in
+    sent_leads least (run_of (steering c) w) w (steered c w.client) stage read written e on (steered_starts c w on) front t
+
+heard_so_far : (c : Course) (least : ℕ) (w : World) (read written : List ℕ) (e : ClientEnd)
+    → w.client.out ≡ [] → 1 ≤ w.client.client.last → w.client.client.last ≤ length w.links
+    → take (length read) (client_link w).down ≡ read → ClientTurn least (steered c w.client) Reading read written e
+    → Hears (run_of (steering c) w) w read written e
+heard_so_far c least w read written e out from to front t =
+    let on : IsOn w = record { out = out; from = from; to = to } in
+    plays least (run_of (steering c) w) w (steered c w.client) Reading read written e on (steered_starts c w on) front t
 
 -- a turn in which the client has read all
-pub turn_whole : (least : ℕ) (w : World) (read written : List ℕ) (e : ClientEnd)
+pub turn_whole : (c : Course) (least : ℕ) (w : World) (read written : List ℕ) (e : ClientEnd)
     → w.client.out ≡ [] → 1 ≤ w.client.client.last → w.client.client.last ≤ length w.links
-    → take (length read) (client_link w).down ≡ read → ClientTurn least w.client Reading read written e
+    → take (length read) (client_link w).down ≡ read → ClientTurn least (steered c w.client) Reading read written e
     → next_of e.input.rest ≡ Ok None
-    → TurnLeads (IsClientTurn (length read)) false w (client_joined w e written (length read))
-turn_whole least w read written e out from to front t none =
-    let p : Hears w read written e =
-    plays least w Reading read written e (record { out = out; from = from; to = to }) front t in
+    → TurnLeads (IsClientTurn (length read)) false (run_of (steering c) w) (client_joined w e written (length read))
+turn_whole c least w read written e out from to front t none =
+    let p : Hears (run_of (steering c) w) w read written e = heard_so_far c least w read written e out from to front t in
     let v : World = client_joined w e written (length read) in
     let never : can event.ClientReads v ≡ false =
     ap (λ (f : Front). e.client.on && (not (is_over e.client.state) && is_any f)) none
     ∙ never_none e.client.on (not (is_over e.client.state)) in
-    client_turned (length read) false w (client_joined w p.first written 0) p.fed v p.sent
+    client_turned (length read) false (run_of (steering c) w) (client_joined w p.first written 0) p.fed v p.sent
     (none_due w p.first written p.none) p.came p.so_far (all_done event.ClientReads p.fed v p.so_far never)
 
 -- it has then written all
-pub turn_written : (least : ℕ) (w : World) (read written : List ℕ) (e : ClientEnd)
+pub turn_written : (c : Course) (least : ℕ) (w : World) (read written : List ℕ) (e : ClientEnd)
     → w.client.out ≡ [] → 1 ≤ w.client.client.last → w.client.client.last ≤ length w.links
-    → take (length read) (client_link w).down ≡ read → ClientTurn least w.client Reading read written e → e.out ≡ []
-turn_written least w read written e out from to front t =
-    let p : Hears w read written e =
-    plays least w Reading read written e (record { out = out; from = from; to = to }) front t in p.out
+    → take (length read) (client_link w).down ≡ read → ClientTurn least (steered c w.client) Reading read written e → e.out ≡ []
+turn_written c least w read written e out from to front t = (heard_so_far c least w read written e out from to front t).out
 
 -- if a client reads, as many bytes have come in as were asked for
 abbrev Enough : Stage → ℕ → List ℕ → Type 0
@@ -329,29 +355,31 @@ at_end : (w x : World) (events more : List Event) (v : World) → w ≡ run_of e
     → run_of more w ≡ x → run_of (events ++ more) v ≡ x
 at_end w x events more v is leads = run_append events more v ∙ (ap (run_of more) (sym is) ∙ leads)
 
-pub turn_sound : (least : ℕ) (w : World) (stage : Stage) (read written : List ℕ) (e : ClientEnd)
+pub turn_sound : (c : Course) (least : ℕ) (w : World) (stage : Stage) (read written : List ℕ) (e : ClientEnd)
     (program : Meaning) (rack : List (List ℕ)) (window : ℕ) (events : List Event) → IsProgram program → window ≤ 16
     → w ≡ run_of events (start program rack window)
     → w.client.out ≡ [] → 1 ≤ w.client.client.last → w.client.client.last ≤ length w.links
-    → take (length read) (client_link w).down ≡ read → ClientTurn least w.client stage read written e
+    → take (length read) (client_link w).down ≡ read → ClientTurn least (steered c w.client) stage read written e
     → Sound program.features e.client.table.tally.features w.server.server.ledger
-turn_sound least w stage read written e program rack window events is few reached out from to front t =
-    let j = turn_joins least w stage read written e out from to front t in
+turn_sound c least w stage read written e program rack window events is few reached out from to front t =
+    let j = turn_joins c least w stage read written e out from to front t in
     subst (λ (v : World). Sound program.features v.client.client.table.tally.features v.server.server.ledger)
-    (at_end w (client_joined w e (written ++ e.out) (length read)) events j.events (start program rack window) reached j.leads)
-    (always_sound program rack window (events ++ j.events) is few)
+    (at_end w (client_joined w e (written ++ e.out) (length read)) events (steering c ++ j.events) (start program rack window) reached
+    (run_append (steering c) j.events w ∙ j.leads))
+    (always_sound program rack window (events ++ (steering c ++ j.events)) is few)
 
-pub turn_told : (least : ℕ) (w : World) (stage : Stage) (read written : List ℕ) (e : ClientEnd)
+pub turn_told : (c : Course) (least : ℕ) (w : World) (stage : Stage) (read written : List ℕ) (e : ClientEnd)
     (program : Meaning) (rack : List (List ℕ)) (window : ℕ) (events : List Event) → IsProgram program → window ≤ 16
     → w ≡ run_of events (start program rack window)
     → w.client.out ≡ [] → 1 ≤ w.client.client.last → w.client.client.last ≤ length w.links
-    → take (length read) (client_link w).down ≡ read → ClientTurn least w.client stage read written e
+    → take (length read) (client_link w).down ≡ read → ClientTurn least (steered c w.client) stage read written e
     → Told e.client.table.tally.counted w.server.server.ledger e.client.last
-turn_told least w stage read written e program rack window events is few reached out from to front t =
-    let j = turn_joins least w stage read written e out from to front t in
+turn_told c least w stage read written e program rack window events is few reached out from to front t =
+    let j = turn_joins c least w stage read written e out from to front t in
     subst (λ (v : World). Told v.client.client.table.tally.counted v.server.server.ledger v.client.client.last)
-    (at_end w (client_joined w e (written ++ e.out) (length read)) events j.events (start program rack window) reached j.leads)
-    (always_told program rack window (events ++ j.events) is few)
+    (at_end w (client_joined w e (written ++ e.out) (length read)) events (steering c ++ j.events) (start program rack window) reached
+    (run_append (steering c) j.events w ∙ j.leads))
+    (always_told program rack window (events ++ (steering c ++ j.events)) is few)
 
 -- the client leaves its connection after events that have led so far
 pub turn_leaves : (w : World) (events : List Event) (e : ClientEnd) (text : List ℕ) (count : ℕ)

@@ -34,6 +34,7 @@ pub mod ServerPumps
 pub mod ServerRuns
 pub mod ServerSteps
 pub mod ServerWork
+pub mod Courses
 pub mod Telling
 pub mod Thens
 pub mod TurnJoins

@@ -1,15 +1,27 @@
 -- Calls of a client's pump are calls of the client, whatever its peer sends.
-use Rattle.std.proofs.Common.{◌≡◌, ℕ, Bool, true, false, cond, List, [], ◌∷◌, ◌++◌, refl, sym, ◌∙◌, ap, subst}
+use Rattle.std.proofs.Common.{◌≡◌, inl, inr, ℕ, Bool, true, false, cond, List, [], ◌∷◌, ◌++◌, refl, sym, ◌∙◌, ap, subst, Option}
 use Rattle.std.proofs.lemmas.Bool.{false≢true, le-leb}
 use Rattle.contact_ledger.specs.declared.features.Feature.{Feature}
 use Rattle.dmis_program.specs.Meaning.{Meaning}
 use Rattle.dmis_program.specs.Programs.{IsProgram}
-use Rattle.protocol_model.specs.Ends.{ClientEnd, new_client_end}
-use Rattle.client_core.specs.Calls.{Call, Send, Feed, ReadOne, Leave, Sent, possible, done_by, behind_call, behind_calls}
+use Rattle.protocol_model.specs.Ends.{ClientEnd, new_client_end, end_aborted, end_left}
+use Rattle.protocol_model.specs.Client.{may_abort}
+use Rattle.client_core.specs.Calls.{Call, Send, Abort, Feed, ReadOne, Leave, Sent, possible, done_by, behind_call, behind_calls}
 use Rattle.client_core.specs.Clients.{are_ours}
 use Rattle.client_core.proofs.Runs.{features_are_ours}
 use Rattle.link_world.specs.Pumps.{Stage, Sending, Writing, Taking, Reading, ClientTurn, begins, sends, writes, takes, has, reads}
 use Rattle.link_world.specs.Joined.{ClientCalls, not_called, moves, stops, called, AreOwnCalls}
+use Rattle.link_world.specs.LinkRuns.{Phase, Fresh, Out, Steered, ClientRun, ClientRan, ClientEnds, ClientRunStopped}
+use Rattle.link_world.specs.LinkRuns as run
+use Rattle.link_world.specs.Courses.{steered, AbortRefused}
+use Rattle.link_world.specs.Pumps.{of_client}
+use Rattle.link_world.specs.declared.connections.pumps.PumpFault.{PumpFault}
+use Rattle.link_world.specs.declared.connections.steering.Course.{Course}
+use Rattle.link_world.specs.declared.connections.steering.Course.TheVariants as course
+use Rattle.link_world.proofs.Courses.{stop_aborts}
+use Rattle.client_core.specs.Refusals.{IsSendRefused}
+use Rattle.client_core.specs.declared.faults.ClientFault.{ClientFault}
+use Rattle.client_core.specs.declared.faults.ClientFault.TheVariants as client_fault
 
 -- ---- one more call
 
@@ -70,3 +82,61 @@ pumped_features program kept window e is ours t =
     let h = pumped_calls (new_client_end program kept window) e t in
     subst (λ (x : ClientEnd). are_ours program.features x.client.table.tally.features ≡ true) (sym h.lead)
     (features_are_ours program kept window h.calls is ours)
+
+-- ---- a run
+
+steered_calls : (first e : ClientEnd) (c : Course) → ClientCalls first e → ClientCalls first (steered c e)
+steered_calls first e course.GoOn h = h
+steered_calls first e course.Stop h = called e Abort h
+
+so_far : (first : ClientEnd) (left taken : Option (List ℕ)) (phase : Phase) (turns : ℕ) (said : List Course) (read written : List ℕ)
+    (e : ClientEnd) (left_now taken_now : Option (List ℕ)) → ClientRun first left taken phase turns said read written e left_now taken_now
+    → ClientCalls first e
+so_far first left taken _ _ _ _ _ _ _ _ run.starts = not_called
+so_far first left taken _ _ _ _ _ _ _ _ (run.gives turns said read written mid new left_mid left_now taken_mid taken_now moved t going turn) =
+    moves mid new 0 left_mid left_now taken_mid taken_now moved (so_far first left taken Fresh turns said read written mid left_mid taken_mid t)
+    turn
+so_far first left taken _ _ _ _ _ _ _ _ (run.asks turns said read written mid left_mid taken_mid answer t going asked) =
+    steered_calls first mid answer (so_far first left taken Out turns said read written mid left_mid taken_mid t)
+so_far first left taken _ _ _ _ _ _ _ _ (run.stays turns said read written mid left_mid taken_mid t going asked) =
+    so_far first left taken Out turns said read written mid left_mid taken_mid t
+so_far first left taken _ _ _ _ _ _ _ _ (run.goes turns said read written mid new left_mid left_now taken_mid taken_now moved t turn) =
+    moves mid new 1 left_mid left_now taken_mid taken_now moved
+    (so_far first left taken Steered turns said read written mid left_mid taken_mid t) turn
+
+pub run_calls : (first e : ClientEnd) (left left_now taken taken_now : Option (List ℕ)) (can can_now : List Course → Bool)
+    → ClientRan first e left left_now taken taken_now can can_now → ClientCalls first e
+run_calls first e left left_now taken taken_now can can_now h =
+    so_far first left taken h.phase h.turns h.said h.read h.written e left_now taken_now h.run
+
+refused_calls : (first mid last : ClientEnd) (why : ClientFault) → may_abort mid.client.state ≡ true
+    → IsSendRefused true mid last (end_aborted mid) why → ClientCalls first mid → ClientCalls first last
+refused_calls first mid last client_fault.NotNow may r h = absurd (false≢true (sym r.1.1))
+refused_calls first mid last (client_fault.Faulted cause) may (inl r) h = absurd (false≢true (sym r.0))
+refused_calls first mid last (client_fault.Faulted cause) may (inr r) h =
+    subst (ClientCalls first) (sym (stop_aborts mid last may r.1.0)) (called mid Abort h)
+refused_calls first mid last client_fault.Memory may r h = subst (ClientCalls first) (sym r) h
+
+ends_so : (first e : ClientEnd) (left left_now taken taken_now : Option (List ℕ)) (fault : PumpFault ClientFault) (said : List Course)
+    (read written lost : List ℕ) (last : ClientEnd)
+    → ClientEnds first e left left_now taken taken_now fault said read written lost last → ClientCalls first e
+ends_so first e left left_now taken taken_now _ _ _ _ _ _
+    (run.stops_giving turns said read written mid left_mid taken_mid fault t going few turn) =
+    stops mid e 0 1000000 left_mid left_now taken_mid taken_now fault
+    (so_far first left taken Fresh turns said read written mid left_mid taken_mid t) turn
+ends_so first e left left_now taken taken_now _ _ _ _ _ _ (run.refuses turns said read written mid fault t going asked few abort) =
+    subst (ClientCalls first) (sym abort.leaves)
+    (called abort.last Leave (refused_calls first mid abort.last abort.why abort.can abort.refused
+    (so_far first left taken Out turns said read written mid left_now taken_now t)))
+ends_so first e left left_now taken taken_now _ _ _ _ _ _
+    (run.stops turns said read written mid left_mid taken_mid fault t few turn) =
+    stops mid e 1 1000000 left_mid left_now taken_mid taken_now fault
+    (so_far first left taken Steered turns said read written mid left_mid taken_mid t) turn
+ends_so first e left left_now taken taken_now _ _ _ _ _ _ (run.spends said read written last t going is) =
+    subst (ClientCalls first) (sym is)
+    (called last Leave (so_far first left taken Fresh 1000000 said read written last left_now taken_now t))
+
+pub broken_calls : (first e : ClientEnd) (left left_now taken taken_now : Option (List ℕ)) (can can_now : List Course → Bool)
+    (fault : PumpFault ClientFault) → ClientRunStopped first e left left_now taken taken_now can can_now fault → ClientCalls first e
+broken_calls first e left left_now taken taken_now can can_now fault h =
+    ends_so first e left left_now taken taken_now fault h.said h.read h.written h.lost h.last h.ends

@@ -25,11 +25,11 @@ use Rattle.protocol_model.specs.Replies.{Mark, tag_is}
 use Rattle.protocol_model.specs.Lines.{reading_of}
 use Rattle.protocol_model.specs.Claims.{Sound, Told}
 use Rattle.protocol_model.specs.Client.{Client, Table, due, sends_next, client_read, client_hears, heard_on, left_state, is_running}
-use Rattle.protocol_model.specs.Client.{first_due}
+use Rattle.protocol_model.specs.Client.{first_due, sends_abort, may_abort}
 use Rattle.protocol_model.specs.Open.{is_asking, count_open}
 use Rattle.protocol_model.specs.Server.{running_job}
 use Rattle.server_core.specs.Serving.{may_turn}
-use Rattle.protocol_model.specs.Ends.{ClientEnd, end_left, held_under, given_point, given_homed, given_for, given_under}
+use Rattle.protocol_model.specs.Ends.{ClientEnd, end_left, end_aborted, held_under, given_point, given_homed, given_for, given_under}
 use Rattle.protocol_model.specs.Ends.{response_read, line_read, front_read}
 use Rattle.protocol_model.specs.Ends.{ServerEnd, front_served, serving_left}
 use Rattle.protocol_model.specs.World.{World, Link, client_link, server_link, link_of, with_link, start, run_of}
@@ -55,6 +55,10 @@ use Rattle.link_world.specs.ServerPumps.{ServerTurn, ServerMoved, ServerStopped}
 use Rattle.link_world.specs.ServerPumps as server_stage
 use Rattle.link_world.specs.Joined.{IsClientTurn, IsServerTurn, TurnLeads, client_joined, AreFit, server_joined}
 use Rattle.link_world.specs.Joined.{EndPair, pumped_of, with_client, with_server, PumpCalls, no_calls, client_moves, client_stops}
+use Rattle.link_world.specs.Joined.{client_leaves, steering}
+use Rattle.link_world.specs.Courses.{steered}
+use Rattle.link_world.specs.declared.connections.steering.Course.{Course}
+use Rattle.link_world.specs.declared.connections.steering.Course.TheVariants as course
 use Rattle.link_world.specs.Joined.{server_moves, server_stops, AreOnWay, IsWorldOf, IsOneWorld}
 use Rattle.link_world.specs.Joined.{IsCall, no_event, client_turn, client_left, server_turn, server_left, AreCalls, no_call, one_more}
 use Rattle.link_world.proofs.EventLists.{run_append}
@@ -146,6 +150,25 @@ client_stays least s _ _ _ _ (client_stage.reads e read written t may is) =
       last = read_last e.client (next_of e.input.rest) ∙ k.last;
     }
 
+aborts_stay : (c : Client) (n : Option ℕ) → Stays c.on (sends_abort c n).client.on c.last (sends_abort c n).client.last
+aborts_stay c None = record { on = refl; last = refl }
+aborts_stay c (Some n) = record { on = refl; last = refl }
+
+stop_stays : (e : ClientEnd) (b : Bool)
+    → Stays e.client.on (cond b (end_aborted e) e).client.on e.client.last (cond b (end_aborted e) e).client.last
+stop_stays e true = aborts_stay e.client _
+stop_stays e false = record { on = refl; last = refl }
+
+steered_stays : (c : Course) (e : ClientEnd) → Stays e.client.on (steered c e).client.on e.client.last (steered c e).client.last
+steered_stays course.GoOn e = record { on = refl; last = refl }
+steered_stays course.Stop e = stop_stays e (may_abort e.client.state)
+
+turn_stays : (c : Course) (least : ℕ) (s : ClientEnd) (stage : Stage) (read written : List ℕ) (e : ClientEnd)
+    → ClientTurn least (steered c s) stage read written e → Stays s.client.on e.client.on s.client.last e.client.last
+turn_stays c least s stage read written e t =
+    let k = client_stays least (steered c s) stage read written e t in
+    let m = steered_stays c s in record { on = k.on ∙ m.on; last = k.last ∙ m.last }
+
 served_stays : (e : ServerEnd) (f : Front)
     → Stays e.server.on (front_served e f).server.on e.server.last (front_served e f).server.last
 served_stays e (Ok None) = record { on = refl; last = refl }
@@ -205,6 +228,25 @@ left_twice e = λ i. record (end_left e) { client = record ((end_left e).client)
 not_due : (e : ClientEnd) → is_some (due (end_left e).client) ≡ true → ⊥
 not_due e is = never_due e.client.state (not (is_asking e.client.table.standard))
     (first_due e.client.window (count_open e.client.table.standard) e.client.table.tally.unsent) is
+
+never_aborts : (s : State) → may_abort (left_state s) ≡ false
+never_aborts State.Apart = refl
+never_aborts State.Running = refl
+never_aborts State.Failing = refl
+never_aborts State.Aborting = refl
+never_aborts State.Halted = refl
+never_aborts State.Done = refl
+never_aborts State.Faulted = refl
+
+rests_by : (e : ClientEnd) (b : Bool) → b ≡ false → cond b (end_aborted e) e ≡ e
+rests_by e true may = absurd (false≢true (sym may))
+rests_by e false may = refl
+
+-- what has left is not steered
+left_steered : (c : Course) (s x : ClientEnd) → s ≡ end_left x → steered c s ≡ end_left x
+left_steered course.GoOn s x left = left
+left_steered course.Stop s x left =
+    rests_by s (may_abort s.client.state) (ap (λ (e : ClientEnd). may_abort e.client.state) left ∙ never_aborts x.client.state) ∙ left
 
 record Still {E : Type 0} (s e : E) (read written : List ℕ) : Type 0 where
   pub same : e ≡ s
@@ -350,29 +392,29 @@ server_rests p e read written same read_none written_none = λ i. record {
 }
 
 -- the client's turn, from its connection
-record ClientSteps (v : World) (p : EndPair) (stage : Stage) (read written : List ℕ) (e : ClientEnd) : Type 0 where
-  pub joined : TurnLeads (IsClientTurn (length read)) true v (client_joined v e (written ++ e.out) (length read))
+record ClientSteps (c : Course) (v : World) (p : EndPair) (stage : Stage) (read written : List ℕ) (e : ClientEnd) : Type 0 where
+  pub joined : TurnLeads (IsClientTurn (length read)) true (run_of (steering c) v) (client_joined v e (written ++ e.out) (length read))
   pub stays : Stays p.client.client.on e.client.on p.client.client.last e.client.last
   pub out : stage ≡ Reading → e.out ≡ []
   pub whole : stage ≡ Reading → next_of e.input.rest ≡ Ok None
-      → TurnLeads (IsClientTurn (length read)) false v (client_joined v e written (length read))
+      → TurnLeads (IsClientTurn (length read)) false (run_of (steering c) v) (client_joined v e written (length read))
 
-client_goes : (v : World) (p : EndPair) → IsCarried v → Stands v p → (least : ℕ) (stage : Stage)
+client_goes : (k : Course) (v : World) (p : EndPair) → IsCarried v → Stands v p → (least : ℕ) (stage : Stage)
     (read written : List ℕ) (e : ClientEnd) → take (length read) p.down ≡ read
-    → ClientTurn least p.client stage read written e → ClientSteps v p stage read written e
-client_goes v p c s least stage read written e front t =
-    let turn : ClientTurn least v.client stage read written e =
-    subst (λ (x : ClientEnd). ClientTurn least x stage read written e) (sym s.is.client) t in
+    → ClientTurn least (steered k p.client) stage read written e → ClientSteps k v p stage read written e
+client_goes k v p c s least stage read written e front t =
+    let turn : ClientTurn least (steered k v.client) stage read written e =
+    subst (λ (x : ClientEnd). ClientTurn least (steered k x) stage read written e) (sym s.is.client) t in
     let came : take (length read) (client_link v).down ≡ read =
     way_front p.server.server.on read p.down (client_link v).down front s.is.down in
     let made = c.wired.made in
     let to : v.client.client.last ≤ length v.links = omega (arith, made) in record {
-      joined = turn_joins least v stage read written e c.client_out s.from to came turn;
-      stays = client_stays least p.client stage read written e t;
-      out = λ is. turn_written least v read written e c.client_out s.from to came
-          (subst (λ (x : Stage). ClientTurn least v.client x read written e) is turn);
-      whole = λ is all. turn_whole least v read written e c.client_out s.from to came
-          (subst (λ (x : Stage). ClientTurn least v.client x read written e) is turn) all;
+      joined = turn_joins k least v stage read written e c.client_out s.from to came turn;
+      stays = turn_stays k least p.client stage read written e t;
+      out = λ is. turn_written k least v read written e c.client_out s.from to came
+          (subst (λ (x : Stage). ClientTurn least (steered k v.client) x read written e) is turn);
+      whole = λ is all. turn_whole k least v read written e c.client_out s.from to came
+          (subst (λ (x : Stage). ClientTurn least (steered k v.client) x read written e) is turn) all;
     }
 
 -- the way up after a turn of the client
@@ -394,22 +436,22 @@ client_last_now : (v : World) (p : EndPair) (e : ClientEnd) → Stands v p → e
     → e.client.last ≡ v.client.client.last
 client_last_now v p e s last = last ∙ sym (ap (λ (x : ClientEnd). x.client.last) s.is.client)
 
-client_moved_on : (answer : Job → ℕ → Outcome) → (v : World) (p : EndPair) → IsCarried v
+client_moved_on : (answer : Job → ℕ → Outcome) → (k : Course) (v : World) (p : EndPair) → IsCarried v
     → Stands v p → (least : ℕ)
     (read written : List ℕ) (e : ClientEnd) → p.client.client.on ≡ true → next_of e.input.rest ≡ Ok None → take (length read) p.down ≡ read
-    → ClientTurn least p.client Reading read written e → Step answer v (with_client p e read written)
-client_moved_on answer v p c s least read written e on all front t =
-    let g : ClientSteps v p Reading read written e = client_goes v p c s least Reading read written e front t in
+    → ClientTurn least (steered k p.client) Reading read written e → Step answer v (with_client p e read written)
+client_moved_on answer k v p c s least read written e on all front t =
+    let g : ClientSteps k v p Reading read written e = client_goes k v p c s least Reading read written e front t in
     let still_on : e.client.on ≡ true = g.stays.on ∙ on in
     let out : e.out ≡ [] = g.out refl in
     let last : e.client.last ≡ v.client.client.last = client_last_now v p e s g.stays.last in
     let link = client_link_now v p e written (length read) c s g.stays.last in
     let turn = g.whole refl all in
     let now : World = client_joined v e written (length read) in record {
-      events = turn.events;
-      is = client_turn (length read) turn.events turn.made;
+      events = steering k ++ turn.events;
+      is = client_turn k (length read) turn.events turn.made;
       now = now;
-      leads = turn.leads;
+      leads = run_append (steering k) turn.events v ∙ turn.leads;
       stands = record {
         is = record {
           client = λ i. record e { out = sym out i };
@@ -427,19 +469,20 @@ client_moved_on answer v p c s least read written e on all front t =
       };
     }
 
-client_stopped_on : (answer : Job → ℕ → Outcome) → (v : World) (p : EndPair) → IsCarried v
+client_stopped_on : (answer : Job → ℕ → Outcome) → (k : Course) (v : World) (p : EndPair) → IsCarried v
     → Stands v p → (least : ℕ)
     (stage : Stage) (read written : List ℕ) (e : ClientEnd) → p.client.client.on ≡ true → take (length read) p.down ≡ read
-    → ClientTurn least p.client stage read written e → Step answer v (with_client p (end_left e) read written)
-client_stopped_on answer v p c s least stage read written e on front t =
-    let g : ClientSteps v p stage read written e = client_goes v p c s least stage read written e front t in
+    → ClientTurn least (steered k p.client) stage read written e → Step answer v (with_client p (end_left e) read written)
+client_stopped_on answer k v p c s least stage read written e on front t =
+    let g : ClientSteps k v p stage read written e = client_goes k v p c s least stage read written e front t in
     let last : e.client.last ≡ v.client.client.last = client_last_now v p e s g.stays.last in
     let link = client_link_now v p e (written ++ e.out) (length read) c s g.stays.last in
     let now : World = record (client_joined v e (written ++ e.out) (length read)) { client = end_left e } in record {
-      events = g.joined.events ++ event.ClientLeaves ∷ [];
-      is = client_left (length read) g.joined.events g.joined.made;
+      events = (steering k ++ g.joined.events) ++ event.ClientLeaves ∷ [];
+      is = client_left k (length read) g.joined.events g.joined.made;
       now = now;
-      leads = turn_leaves v g.joined.events e (written ++ e.out) (length read) g.joined.leads (g.stays.on ∙ on);
+      leads = turn_leaves v (steering k ++ g.joined.events) e (written ++ e.out) (length read)
+          (run_append (steering k) g.joined.events v ∙ g.joined.leads) (g.stays.on ∙ on);
       stands = record {
         is = record {
           client = refl;
@@ -455,14 +498,14 @@ client_stopped_on answer v p c s least stage read written e on front t =
       };
     }
 
-client_moved : (answer : Job → ℕ → Outcome) → (v : World) (p : EndPair) → IsCarried v → Stands v p
+client_moved : (answer : Job → ℕ → Outcome) → (k : Course) (v : World) (p : EndPair) → IsCarried v → Stands v p
     → (least : ℕ) (read written : List ℕ) (e : ClientEnd) (b : Bool) → p.client.client.on ≡ b → next_of e.input.rest ≡ Ok None
-    → take (length read) p.down ≡ read → ClientTurn least p.client Reading read written e
+    → take (length read) p.down ≡ read → ClientTurn least (steered k p.client) Reading read written e
     → Step answer v (with_client p e read written)
-client_moved answer v p c s least read written e true on all front t =
-    client_moved_on answer v p c s least read written e on all front t
-client_moved answer v p c s least read written e false off all front t =
-    let gone = s.client_gone off in absurd (client_still least p.client gone.0 Reading read written e gone.1 t)
+client_moved answer k v p c s least read written e true on all front t =
+    client_moved_on answer k v p c s least read written e on all front t
+client_moved answer k v p c s least read written e false off all front t =
+    let gone = s.client_gone off in absurd (client_still least (steered k p.client) gone.0 Reading read written e (left_steered k p.client gone.0 gone.1) t)
 
 client_rest : (answer : Job → ℕ → Outcome) (v : World) (p : EndPair) (stage : Stage) (read written : List ℕ)
     (e x : ClientEnd) → Stands v p
@@ -480,16 +523,17 @@ client_rest answer v p stage read written e x s left k = go stage k
     go Reading k = absurd k
     go Working k = absurd k
 
-client_stopped : (answer : Job → ℕ → Outcome) → (v : World) (p : EndPair) → IsCarried v
+client_stopped : (answer : Job → ℕ → Outcome) → (k : Course) (v : World) (p : EndPair) → IsCarried v
     → Stands v p → (least : ℕ)
     (stage : Stage) (read written : List ℕ) (e : ClientEnd) (b : Bool) → p.client.client.on ≡ b → take (length read) p.down ≡ read
-    → ClientTurn least p.client stage read written e → Step answer v (with_client p (end_left e) read written)
-client_stopped answer v p c s least stage read written e true on front t =
-    client_stopped_on answer v p c s least stage read written e on front t
-client_stopped answer v p c s least stage read written e false off front t =
+    → ClientTurn least (steered k p.client) stage read written e → Step answer v (with_client p (end_left e) read written)
+client_stopped answer k v p c s least stage read written e true on front t =
+    client_stopped_on answer k v p c s least stage read written e on front t
+client_stopped answer k v p c s least stage read written e false off front t =
     let gone = s.client_gone off in
     client_rest answer v p stage read written e gone.0 s gone.1
-    (client_still least p.client gone.0 stage read written e gone.1 t)
+    (subst (λ (x : ClientEnd). ClientStill stage x e read written) (left_steered k p.client gone.0 gone.1 ∙ sym gone.1)
+    (client_still least (steered k p.client) gone.0 stage read written e (left_steered k p.client gone.0 gone.1) t))
 
 -- the server's turn
 record ServerSteps (answer : Job → ℕ → Outcome) (v : World) (p : EndPair) (stage : Stage) (read written : List ℕ)
@@ -635,16 +679,21 @@ now_carried answer w p c g = subst IsCarried g.leads (run_carried g.events w c)
 calls : (answer : Job → ℕ → Outcome) → AreFit answer → (w : World) (p : EndPair) → IsCarried w
     → Stands w (pumped_of w) → PumpCalls answer (pumped_of w) p → Steps answer w p
 calls answer fit w _ c s no_calls = record { events = []; are = no_call; now = w; leads = refl; stands = s }
-calls answer fit w _ c s (client_moves p e least left left_now taken taken_now moved t h front) =
+calls answer fit w _ c s (client_moves p k e least left left_now taken taken_now moved t h front) =
     let g : Steps answer w p = calls answer fit w p c s t in
     steps_more answer w p (with_client p e h.read h.written) g
-    (client_moved answer g.now p (now_carried answer w p c g) g.stands least h.read h.written e
+    (client_moved answer k g.now p (now_carried answer w p c g) g.stands least h.read h.written e
     p.client.client.on refl h.all front (h.turn))
-calls answer fit w _ c s (client_stops p e least bound left left_now taken taken_now fault t h front) =
+calls answer fit w _ c s (client_leaves p k t) =
+    let g : Steps answer w p = calls answer fit w p c s t in
+    steps_more answer w p (with_client p (end_left (steered k p.client)) [] []) g
+    (client_stopped answer k g.now p (now_carried answer w p c g) g.stands 0 Sending [] [] (steered k p.client)
+    p.client.client.on refl refl client_stage.begins)
+calls answer fit w _ c s (client_stops p k e least bound left left_now taken taken_now fault t h front) =
     let g : Steps answer w p = calls answer fit w p c s t in
     subst (λ (x : ClientEnd). Steps answer w (with_client p x h.read h.written)) (sym h.leaves)
     (steps_more answer w p (with_client p (end_left h.last) h.read h.written) g
-    (client_stopped answer g.now p (now_carried answer w p c g) g.stands least h.stage h.read h.written h.last
+    (client_stopped answer k g.now p (now_carried answer w p c g) g.stands least h.stage h.read h.written h.last
     p.client.client.on refl front (h.turn)))
 calls answer fit w _ c s (server_moves p e least left left_now taken taken_now moved t h front) =
     let g : Steps answer w p = calls answer fit w p c s t in

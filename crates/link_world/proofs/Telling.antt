@@ -1,7 +1,8 @@
 -- What a client has counted and holds only grows in its turns, and the features by which it grew are reported to its watcher.
-use Rattle.std.proofs.Common.{◌≡◌, ℕ, ◌+◌, ◌<◌, ◌≤◌, List, [], ◌∷◌, ◌++◌, length, drop, refl, sym, ◌∙◌, ap, subst, arith}
+use Rattle.std.proofs.Common.{◌≡◌, inl, inr, ℕ, ◌+◌, ◌<◌, ◌≤◌, Bool, true, false, cond, List, [], ◌∷◌, ◌++◌, length, drop, refl, sym, ◌∙◌, ap, subst, arith}
 use Rattle.std.proofs.Common.{append_assoc, append-nil, length-append, Option, Some, None, Result, Ok, Err, IfOk, get_or}
 use Rattle.std.specs.Prelude.{IfErr}
+use Rattle.std.proofs.lemmas.Bool.{false≢true}
 use Rattle.std.proofs.Math.Seq.{drop-append_seam}
 use Rattle.std.proofs.Math.ListN.{drop_of_length-le}
 use Rattle.std.proofs.lemmas.List.{drop_more}
@@ -10,8 +11,8 @@ use Rattle.dme_line.specs.declared.tags.Tag.{Tag}
 use Rattle.contact_ledger.specs.declared.features.Feature.{Feature}
 use Rattle.dmis_program.specs.declared.features.Wanted.{Wanted}
 use Rattle.protocol_model.specs.Replies.{Mark, Reply}
-use Rattle.protocol_model.specs.Client.{Client, Table, sends_next}
-use Rattle.protocol_model.specs.Ends.{ClientEnd, front_read, end_left}
+use Rattle.protocol_model.specs.Client.{Client, Table, sends_next, sends_abort, may_abort}
+use Rattle.protocol_model.specs.Ends.{ClientEnd, front_read, end_left, end_aborted}
 use Rattle.protocol_model.specs.declared.plans.Planned.{Planned}
 use Rattle.protocol_model.proofs.HeardTables.{heard}
 use Rattle.protocol_model.proofs.table.Replying.{fine, Grows, grows_refl, grows_trans, front_refl, reads_grows}
@@ -21,6 +22,11 @@ use Rattle.link_world.specs.declared.connections.pumps.Moved.{Moved}
 use Rattle.link_world.specs.declared.connections.pumps.PumpFault.{PumpFault}
 use Rattle.link_world.specs.Pumps.{Stage, Sending, Writing, Taking, Reading, ClientTurn, begins, sends, writes, takes, has, reads}
 use Rattle.link_world.specs.Pumps.{ClientMoved, ClientStopped, ClientMovedWithin, ClientStoppedWithin}
+use Rattle.client_core.specs.Refusals.{IsSendRefused}
+use Rattle.client_core.specs.declared.faults.ClientFault.TheVariants as client_fault
+use Rattle.link_world.specs.Courses.{steered, course_of, Asks, StopRefused}
+use Rattle.link_world.specs.declared.connections.steering.Course.{Course}
+use Rattle.link_world.specs.declared.connections.steering.Course.TheVariants as course
 use Rattle.link_world.specs.Watching.{Note, Completed, notes_from, Hears, TellsRun}
 
 -- ---- a client's turn
@@ -194,6 +200,48 @@ tells_left old mid new told now left h =
       joined = sym (append-nil mid.client.table.tally.features);
       heard = hears_none now;
     }))
+
+-- nor does one that is steered
+tells_same : (e f : ClientEnd) (told : Option (List Note)) → f.client.table.tally.features ≡ e.client.table.tally.features
+    → TellsRun e f told told
+tells_same e f told same = record {
+  completed = [];
+  joined = same ∙ sym (append-nil e.client.table.tally.features);
+  heard = hears_none told;
+}
+
+aborted_features : (c : Client) (n : Option ℕ) → (sends_abort c n).client.table.tally.features ≡ c.table.tally.features
+aborted_features c None = refl
+aborted_features c (Some n) = refl
+
+stopped_features : (e : ClientEnd) (b : Bool) → (cond b (end_aborted e) e).client.table.tally.features ≡ e.client.table.tally.features
+stopped_features e true = aborted_features e.client _
+stopped_features e false = refl
+
+steered_features : (answer : Course) (e : ClientEnd) → (steered answer e).client.table.tally.features ≡ e.client.table.tally.features
+steered_features course.GoOn e = refl
+steered_features course.Stop e = stopped_features e (may_abort e.client.state)
+
+pub tells_asked : (stopped stops : Bool) (e f : ClientEnd) (can can_now : List Course → Bool) (told : Option (List Note))
+    → Asks stopped stops e f can can_now → TellsRun e f told told
+tells_asked true stops e f can can_now told asks =
+    tells_same e f told (ap (λ (x : ClientEnd). x.client.table.tally.features) asks.1.0)
+tells_asked false stops e f can can_now told asks =
+    tells_same e f told (ap (λ (x : ClientEnd). x.client.table.tally.features) asks.0 ∙ steered_features (course_of stops) e)
+
+refused_features : (e f : ClientEnd) (why : ClientFault) → IsSendRefused true e f (end_aborted e) why
+    → f.client.table.tally.features ≡ e.client.table.tally.features
+refused_features e f client_fault.NotNow r = absurd (false≢true (sym r.1.1))
+refused_features e f (client_fault.Faulted cause) (inl r) = absurd (false≢true (sym r.0))
+refused_features e f (client_fault.Faulted cause) (inr r) =
+    ap (λ (x : ClientEnd). x.client.table.tally.features) r.1.0 ∙ aborted_features e.client _
+refused_features e f client_fault.Memory r = ap (λ (x : ClientEnd). x.client.table.tally.features) r
+
+pub tells_refused : (stopped : Bool) (e f : ClientEnd) (can can_now : List Course → Bool) (fault : PumpFault ClientFault)
+    (told : Option (List Note)) → StopRefused stopped e f can can_now fault → TellsRun e f told told
+tells_refused stopped e f can can_now fault told r =
+    tells_same e f told (ap (λ (x : ClientEnd). x.client.table.tally.features) r.abort.leaves
+    ∙ refused_features e r.abort.last r.abort.why r.abort.refused)
 
 -- a watcher that says what it received has received these notes and no others
 pub only_these : (old new : ClientEnd) (more : List Feature) (told now : List Note)

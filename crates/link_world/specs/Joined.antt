@@ -1,6 +1,6 @@
 -- Turns over ports as lists of the events of a world (this profile).
 use Rattle.std.specs.Prelude.{◌≡◌, ℕ, Bool, true, false, Option, List, [], ◌∷◌, ◌++◌, length, take, drop}
-use Rattle.protocol_model.specs.Ends.{ClientEnd, ServerEnd}
+use Rattle.protocol_model.specs.Ends.{ClientEnd, ServerEnd, end_left}
 use Rattle.protocol_model.specs.World.{World, client_link, server_link, with_link, run_of}
 use Rattle.protocol_model.specs.declared.events.Event.{Event}
 use Rattle.protocol_model.specs.declared.events.Event.TheVariants as event
@@ -15,6 +15,9 @@ use Rattle.link_world.specs.declared.connections.pumps.Moved.{Moved}
 use Rattle.link_world.specs.declared.connections.pumps.PumpFault.{PumpFault}
 use Rattle.link_world.specs.Pumps.{ClientMoved, ClientStopped}
 use Rattle.link_world.specs.ServerPumps.{ServerMoved, ServerStopped}
+use Rattle.link_world.specs.Courses.{steered}
+use Rattle.link_world.specs.declared.connections.steering.Course.{Course}
+use Rattle.link_world.specs.declared.connections.steering.Course.TheVariants as course
 
 -- a client's turn as events: it sends while it can, n bytes come down (if n is not 0), and it reads while it can; a turn that is cut is a
 -- prefix of that
@@ -22,6 +25,11 @@ abbrev pub IsClientTurn : ℕ → Bool → World → List Event → Type 0
 IsClientTurn count =
     Then (AreWhile event.ClientSends) (
     Then (λ cut w. IsOne (possible (event.Down count) w) cut) (AreWhile event.ClientReads))
+
+-- an answer of what steers a client's run, as events: a stop is an abort, which changes nothing if the client cannot abort
+abbrev pub steering : Course → List Event
+steering course.GoOn = []
+steering course.Stop = event.Abort ∷ []
 
 -- a server's turn as events: n bytes come up (if n is not 0), it reads while it can, and it does all that it has to do, as its machine
 -- answers; a turn that is cut is a prefix of that
@@ -82,17 +90,19 @@ abbrev pub with_server : EndPair → ServerEnd → (read written : List ℕ) →
 with_server p e read written = record { client = p.client; server = e; up = drop (length read) p.up; down = p.down ++ written }
 
 -- calls of both pumps, one after another in any order, each whole or stopped, with any bounds and over any ports, where the bytes that a
--- call took are the first of those on their way to its side
+-- call took are the first of those on their way to its side; the client is steered before each of its calls, and may then leave
 pub data PumpCalls (answer : Job → ℕ → Outcome) (start : EndPair) : EndPair → Type 0 where
   no_calls : PumpCalls answer start start
-  client_moves : (p : EndPair) (e : ClientEnd) (least : ℕ) (left left_now taken taken_now : Option (List ℕ)) (moved : Moved)
+  client_moves : (p : EndPair) (c : Course) (e : ClientEnd) (least : ℕ) (left left_now taken taken_now : Option (List ℕ)) (moved : Moved)
       → PumpCalls answer start p
-      → (h : ClientMoved least p.client e left left_now taken taken_now moved) → take (length h.read) p.down ≡ h.read
+      → (h : ClientMoved least (steered c p.client) e left left_now taken taken_now moved) → take (length h.read) p.down ≡ h.read
       → PumpCalls answer start (with_client p e h.read h.written)
-  client_stops : (p : EndPair) (e : ClientEnd) (least bound : ℕ) (left left_now taken taken_now : Option (List ℕ))
+  client_stops : (p : EndPair) (c : Course) (e : ClientEnd) (least bound : ℕ) (left left_now taken taken_now : Option (List ℕ))
       (fault : PumpFault ClientFault) → PumpCalls answer start p
-      → (h : ClientStopped least bound p.client e left left_now taken taken_now fault) → take (length h.read) p.down ≡ h.read
+      → (h : ClientStopped least bound (steered c p.client) e left left_now taken taken_now fault) → take (length h.read) p.down ≡ h.read
       → PumpCalls answer start (with_client p e h.read h.written)
+  client_leaves : (p : EndPair) (c : Course) → PumpCalls answer start p
+      → PumpCalls answer start (with_client p (end_left (steered c p.client)) [] [])
   server_moves : (p : EndPair) (e : ServerEnd) (least : ℕ) (left left_now taken taken_now : Option (List ℕ)) (moved : Moved)
       → PumpCalls answer start p
       → (h : ServerMoved answer least p.server e left left_now taken taken_now moved) → take (length h.read) p.up ≡ h.read
@@ -114,12 +124,14 @@ pub record IsWorldOf (w : World) (p : EndPair) : Type 0 where
   pub up : AreOnWay p.client.client.on p.up (client_link w).up
   pub down : AreOnWay p.server.server.on p.down (client_link w).down
 
--- a call as events: the whole turn of a side, or a prefix of one and its leaving; a call of a side that has left is no event
+-- a call as events: the whole turn of a side, or a prefix of one and its leaving, after an abort if a client was to stop; a call of a side
+-- that has left is no event
 pub data IsCall (answer : Job → ℕ → Outcome) (w : World) : List Event → Type 0 where
   no_event : IsCall answer w []
-  client_turn : (count : ℕ) (events : List Event) → IsClientTurn count false w events → IsCall answer w events
-  client_left : (count : ℕ) (events : List Event) → IsClientTurn count true w events
-      → IsCall answer w (events ++ event.ClientLeaves ∷ [])
+  client_turn : (c : Course) (count : ℕ) (events : List Event) → IsClientTurn count false (run_of (steering c) w) events
+      → IsCall answer w (steering c ++ events)
+  client_left : (c : Course) (count : ℕ) (events : List Event) → IsClientTurn count true (run_of (steering c) w) events
+      → IsCall answer w ((steering c ++ events) ++ event.ClientLeaves ∷ [])
   server_turn : (count : ℕ) (events : List Event) → IsServerTurn answer count false w events → IsCall answer w events
   server_left : (count : ℕ) (events : List Event) → IsServerTurn answer count true w events
       → IsCall answer w (events ++ event.ServerLeaves ∷ [])

@@ -16,6 +16,7 @@ pub mod PumpParts
 pub mod ServerPumps
 pub mod ServerPumpParts
 pub mod Joined
+pub mod Courses
 pub mod LinkRuns
 pub mod Watching
 pub mod WatchingRows

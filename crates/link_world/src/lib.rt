@@ -20,6 +20,7 @@ pub use connections::links::{LoopFault, run_link, serve_link, watch_link, watch_
 pub use connections::machines::{Machine, Simulated};
 pub use connections::pumps::{Moved, PIECE, PumpFault};
 pub use connections::server_pump::serve_turns;
+pub use connections::steering::{Course, Onward, Steering};
 pub use connections::watching::{ServerWatcher, Watcher};
 pub use protocol_model::{Event, Outcome};
 pub use texts::report_rows::contacts_are_numbered_as_they_were_made;

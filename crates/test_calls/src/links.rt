@@ -19,7 +19,7 @@ use byte_ports::{Pieces, Ports, Takes};
 use client_core::Client;
 use contact_ledger::Feature;
 use link_world::{
-    LoopPorts, Simulated, Watcher, client_turns, loop_link, run_link, serve_link, serve_turns,
+    LoopPorts, Onward, Simulated, Watcher, client_turns, loop_link, run_link, serve_link, serve_turns,
     watch_link,
 };
 use server_core::Server;
@@ -239,7 +239,7 @@ fn push_watched(
     ports: &mut MemoryPorts,
 ) -> Result<(), AllocError> {
     let mut told = Told::new(alloc);
-    let answer = watch_link(client, ports, &mut told);
+    let answer = watch_link(client, ports, &mut told, &mut Onward);
     push_answer(alloc, out, &answer)?;
     told.push_to(out)
 }
@@ -386,7 +386,7 @@ impl<'a> Calling<'a> {
 
     fn watch(&mut self, asked: Asked, pieces: &str) -> Result<(), Stop> {
         let mut ports = new_ports(self.alloc, asked, pieces)?;
-        let answer = watch_link(self.client, &mut ports, &mut self.told);
+        let answer = watch_link(self.client, &mut ports, &mut self.told, &mut Onward);
         push_answer(self.alloc, &mut self.shown, &answer)?;
         Ok(self.told.push_to(&mut self.shown)?)
     }

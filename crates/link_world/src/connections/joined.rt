@@ -1,6 +1,6 @@
 // The turns of both sides over their ports, as events of a world. Each function has laws for its contract and does nothing.
 
-ghost use Rattle.std.specs.Prelude.{◌≡◌, ◌≢◌, ◌≤◌, ℕ, true, false, Option, None, Some, Ok, List, [], ◌∷◌, ◌++◌, length, take};
+ghost use Rattle.std.specs.Prelude.{◌≡◌, ◌≢◌, ◌≤◌, ℕ, Bool, true, false, Option, None, Some, Ok, List, [], ◌∷◌, ◌++◌, length, take};
 ghost use Rattle.std.specs.Io.KnownBytes.{Consumes};
 ghost use Rattle.client_core.specs.Clients.{are_ours};
 ghost use Rattle.contact_ledger.specs.declared.features.Feature.{Feature as OneFeature};
@@ -20,17 +20,22 @@ ghost use Rattle.protocol_model.specs.declared.states.State.{State};
 ghost use Rattle.link_world.specs.Machines.{simulated};
 ghost use Rattle.link_world.specs.Pumps.{Stage, Writing, Reading, ClientTurn};
 ghost use Rattle.link_world.specs.ServerPumps.{ServerTurn};
-ghost use Rattle.link_world.specs.Joined.{IsClientTurn, IsServerTurn, TurnLeads, client_joined};
+ghost use Rattle.link_world.specs.Joined.{IsClientTurn, IsServerTurn, TurnLeads, client_joined, steering};
+ghost use Rattle.link_world.specs.LinkRuns.{ClientRan, ClientRunStopped};
+ghost use Rattle.link_world.specs.Courses.{steered};
+ghost use Rattle.link_world.specs.declared.connections.pumps.PumpFault.{PumpFault as OneFault};
+ghost use Rattle.link_world.specs.declared.connections.steering.Course.{Course};
+ghost use Rattle.client_core.specs.declared.faults.ClientFault.{ClientFault as OneClientFault};
 ghost use Rattle.link_world.specs.Joined.{AreFit, server_joined};
 ghost use Rattle.link_world.specs.Joined.{EndPair, pumped_of, PumpCalls, IsOneWorld};
 ghost use Rattle.link_world.specs.Joined.{ClientCalls, AreOwnCalls};
 
 /// A client's turn over its ports is a list of events of the world. Take every world whose client has nothing to send and is on a
-/// connection that was made, and every turn of that client, as `client_turns` makes it, in which the bytes that came in are the first that
-/// wait for it on that connection:
+/// connection that was made, and every turn of that client, as `client_turns` makes it, from there or after the client was told to stop, in
+/// which the bytes that came in are the first that wait for it on that connection:
 ///
 /// - `joined`: however far the turn has come, there is a list of events, a prefix of one in which the client sends while it can, bytes come
-///   down and it reads while it can, that leads the world to one with the client as the turn has left it, the server unchanged, and the
+///   down and it reads while it can, after its abort if it was told to stop, that leads the world to one with the client as the turn has left it, the server unchanged, and the
 ///   connection without the bytes that came in; what the turn has written to its sink, followed by what it has not yet written, is at the
 ///   end of the connection's way up;
 /// - `whole`: if it has read all, there is such a list that is whole, and the connection has grown by what went to the sink;
@@ -40,26 +45,26 @@ ghost use Rattle.link_world.specs.Joined.{ClientCalls, AreOwnCalls};
 /// - `sound`, `told`: if a list of events has led to the world, what `every_run` claims holds of the client after its turn.
 #[tactic(auto, using(crate::proofs::ClientJoins::turn_joins, crate::proofs::ClientJoins::turn_whole, crate::proofs::ClientJoins::turn_written, crate::proofs::ClientJoins::turn_enough, crate::proofs::ClientJoins::turn_leaves, crate::proofs::ClientJoins::turn_sound, crate::proofs::ClientJoins::turn_told))]
 pub fn turns_of_a_client_are_events()
-    ensures joined { (least : ℕ) (w : World) (stage : Stage)
+    ensures joined { (course : Course) (least : ℕ) (w : World) (stage : Stage)
         (read written : List ℕ) (e : ClientEnd)
         → w.client.out ≡ [] → 1 ≤ w.client.client.last → w.client.client.last ≤ length w.links
         → take (length read) (client_link w).down ≡ read
-        → ClientTurn least w.client stage read written e
-        → TurnLeads (IsClientTurn (length read)) true w
+        → ClientTurn least (steered course w.client) stage read written e
+        → TurnLeads (IsClientTurn (length read)) true (run_of (steering course) w)
         (client_joined w e (written ++ e.out) (length read)) }
-    ensures whole { (least : ℕ) (w : World)
+    ensures whole { (course : Course) (least : ℕ) (w : World)
         (read written : List ℕ) (e : ClientEnd)
         → w.client.out ≡ [] → 1 ≤ w.client.client.last → w.client.client.last ≤ length w.links
         → take (length read) (client_link w).down ≡ read
-        → ClientTurn least w.client Reading read written e
+        → ClientTurn least (steered course w.client) Reading read written e
         → next_of e.input.rest ≡ Ok None
-        → TurnLeads (IsClientTurn (length read)) false w
+        → TurnLeads (IsClientTurn (length read)) false (run_of (steering course) w)
         (client_joined w e written (length read)) }
-    ensures written { (least : ℕ) (w : World)
+    ensures written { (course : Course) (least : ℕ) (w : World)
         (read written : List ℕ) (e : ClientEnd)
         → w.client.out ≡ [] → 1 ≤ w.client.client.last → w.client.client.last ≤ length w.links
         → take (length read) (client_link w).down ≡ read
-        → ClientTurn least w.client Reading read written e → e.out ≡ [] }
+        → ClientTurn least (steered course w.client) Reading read written e → e.out ≡ [] }
     ensures enough { (least : ℕ) (first : ClientEnd)
         (read written : List ℕ) (e : ClientEnd)
         → ClientTurn least first Reading read written e → least ≤ length read }
@@ -68,21 +73,21 @@ pub fn turns_of_a_client_are_events()
         → run_of events w ≡ client_joined w e text count → e.client.on ≡ true
         → run_of (events ++ event.ClientLeaves ∷ []) w
         ≡ record (client_joined w e text count) { client = end_left e } }
-    ensures sound { (least : ℕ) (w : World) (stage : Stage) (read written : List ℕ) (e : ClientEnd)
+    ensures sound { (course : Course) (least : ℕ) (w : World) (stage : Stage) (read written : List ℕ) (e : ClientEnd)
         (program : Meaning) (rack : List (List ℕ)) (window : ℕ) (events : List OneEvent)
         → IsProgram program → window ≤ 16
         → w ≡ run_of events (start program rack window)
         → w.client.out ≡ [] → 1 ≤ w.client.client.last → w.client.client.last ≤ length w.links
         → take (length read) (client_link w).down ≡ read
-        → ClientTurn least w.client stage read written e
+        → ClientTurn least (steered course w.client) stage read written e
         → Sound program.features e.client.table.tally.features w.server.server.ledger }
-    ensures told { (least : ℕ) (w : World) (stage : Stage) (read written : List ℕ) (e : ClientEnd)
+    ensures told { (course : Course) (least : ℕ) (w : World) (stage : Stage) (read written : List ℕ) (e : ClientEnd)
         (program : Meaning) (rack : List (List ℕ)) (window : ℕ) (events : List OneEvent)
         → IsProgram program → window ≤ 16
         → w ≡ run_of events (start program rack window)
         → w.client.out ≡ [] → 1 ≤ w.client.client.last → w.client.client.last ≤ length w.links
         → take (length read) (client_link w).down ≡ read
-        → ClientTurn least w.client stage read written e
+        → ClientTurn least (steered course w.client) stage read written e
         → Told e.client.table.tally.counted w.server.server.ledger e.client.last }
 {}
 
@@ -148,10 +153,11 @@ pub fn turns_of_a_server_are_events()
 
 /// Two pumps on one connection are a world. Take every world to which a list of events has led and whose sides are on one connection, every
 /// machine whose answers fit the jobs, and every list of calls of `client_turns` and `serve_turns` from there, in any order, each whole or
-/// stopped, with any bounds and ports, in which the bytes that a call took are the first of those on their way to its side (what waited
+/// stopped, with any bounds and ports, the client's perhaps after it was told to stop, in which the bytes that a call took are the first of those on their way to its side (what waited
 /// there at first, and what the other side's calls have written since):
 ///
-/// - `world`: one list of events, for each call the whole turn of a side or a prefix of one and its leaving, leads the world to one with
+/// - `world`: one list of events, for each call the whole turn of a side or a prefix of one and its leaving, after an abort where the client
+///   was told to stop, leads the world to one with
 ///   both sides as the calls have left them; what is on its way up and down waits on their connection, and if a side has left, what it had
 ///   not yet written may follow that;
 /// - `sound`, `told`, `agree`: so what `every_run` claims holds of the client and the server after the calls;
@@ -198,12 +204,20 @@ pub fn two_pumps_are_a_world()
 ///
 /// - `calls`: the client is as a list of its own calls leaves it, so that all that `client_core::whatever_the_peer_sends` specifies for
 ///   such lists holds of it;
+/// - `runs`, `broken`: a run of the client, whole or stopped, is such a list of calls, whatever steers it;
 /// - `features`: if it began with a program and features of it that were kept, those that it holds are the first of the program, by their
 ///   labels and their counts of points.
-#[tactic(auto, using(crate::proofs::PeerJoins::pumped_calls, crate::proofs::PeerJoins::pumped_features))]
+#[tactic(auto, using(crate::proofs::PeerJoins::pumped_calls, crate::proofs::PeerJoins::pumped_features, crate::proofs::PeerJoins::run_calls, crate::proofs::PeerJoins::broken_calls))]
 pub fn a_pumped_client_holds_first_features()
     ensures calls { (first e : ClientEnd)
         → ClientCalls first e → AreOwnCalls first e }
+    ensures runs { (first e : ClientEnd) (left left_now taken taken_now : Option (List ℕ))
+        (can can_now : List Course → Bool)
+        → ClientRan first e left left_now taken taken_now can can_now → ClientCalls first e }
+    ensures broken { (first e : ClientEnd) (left left_now taken taken_now : Option (List ℕ))
+        (can can_now : List Course → Bool) (fault : OneFault OneClientFault)
+        → ClientRunStopped first e left left_now taken taken_now can can_now fault
+        → ClientCalls first e }
     ensures features { (program : Meaning) (kept : List OneFeature) (window : ℕ) (e : ClientEnd)
         → IsProgram program → are_ours program.features kept ≡ true
         → ClientCalls (new_client_end program kept window) e

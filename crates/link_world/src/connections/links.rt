@@ -5,12 +5,14 @@ ghost use Rattle.std.specs.Result.{IsErrOf};
 ghost use Rattle.link_world.specs.Pumps.{BlamesPorts, ClientMovedWithin, ClientStoppedWithin};
 ghost use Rattle.link_world.specs.Watching.{TellsRun};
 ghost use Rattle.link_world.specs.ServerWatching.{EndsWith, ServerRunWatched};
-ghost use Rattle.link_world.specs.LinkRuns.{calls_most, is_over, ClientRan, ClientRunStopped, ServerRunStopped};
+ghost use Rattle.link_world.specs.Courses.{goes_on};
+ghost use Rattle.link_world.specs.LinkRuns.{calls_most, client_calls_most, is_over, ClientRan, ClientRunStopped, ServerRunStopped};
 
 use crate::connections::client_pump::client_turns;
 use crate::connections::machines::Machine;
 use crate::connections::pumps::{Moved, PIECE, PumpFault};
 use crate::connections::server_pump::{Limits, watched_turns};
+use crate::connections::steering::{Onward, Steering, ask};
 use crate::connections::watching::{ServerWatcher, Silent, Watcher, tell};
 use byte_ports::{Ports, Sink, Source};
 use client_core::{Client, ClientFault, State};
@@ -73,61 +75,76 @@ pub(crate) fn watched_turn<R: Source, W: Sink, N: Watcher>(
     result
 }
 
-/// A whole run of a client over the ports of its connection (this profile): turns in which at least one byte comes in, until it is Done or
-/// Halted. It makes no turn if it is so at first. Each feature that a turn has completed is reported to the watcher, once, in order, with
-/// its number and after that turn, even if the turn stops; whatever the watcher does, the run is the same.
+/// A whole run of a client over the ports of its connection (this profile): rounds, until it is Done or Halted. It makes none if it is so at
+/// first. In a round all that is due goes out, in a turn that asks for no byte; then, if the run is not over, `steering` is asked whether
+/// it goes on, until it has said that it stops; and a turn asks for at least one byte. If the run is to stop and the client can abort,
+/// which is so in Running and Failing, it aborts: AbortE goes out, and its end is awaited.
 ///
-/// A fault of a turn is the answer, and the client has then left its connection. A turn may make 1,000,000 steps, and a run may have
-/// 1,000,000 turns; if the client is neither Done nor Halted after them, it leaves, and the answer is `TurnsSpent`. That comes only if
-/// 1,000,000 is at most the count of the bytes that went out and of twice those that came in or were held unread at first.
-pub fn watch_link<R: Source, W: Sink, N: Watcher>(
+/// Each feature that a turn has completed is reported to the watcher, once, in order, with its number and after that turn, even if the turn
+/// stops; whatever the watcher does, the run is the same.
+///
+/// A fault of a turn is the answer, and the client has then left its connection; so is the refusal of an abort. A turn may make 1,000,000
+/// steps, and a run may have 1,000,000 rounds; if the client is neither Done nor Halted after them, it leaves, and the answer is
+/// `TurnsSpent`. That comes only if 1,000,000 is at most the count of the bytes that went out and of twice those that came in or were held
+/// unread at first.
+pub fn watch_link<R: Source, W: Sink, N: Watcher, S: Steering>(
     client: &mut Client,
     ports: &mut Ports<R, W>,
     watcher: &mut N,
+    steering: &mut S,
 ) -> Result<(), PumpFault<ClientFault>>
     ensures ran { OnOk result (ClientRan client.old client.new (R.left ports.old.source)
-        (R.left ports.new.source) (W.taken ports.old.sink) (W.taken ports.new.sink)) }
+        (R.left ports.new.source) (W.taken ports.old.sink) (W.taken ports.new.sink)
+        (S.can_have_said steering.old) (S.can_have_said steering.new)) }
     ensures done { OnOk result (is_over client.new.client.state ≡ true) }
     ensures stopped { IfErr result (λ fault. ClientRunStopped client.old client.new
-        (R.left ports.old.source) (R.left ports.new.source) (W.taken ports.old.sink) (W.taken ports.new.sink) fault) }
+        (R.left ports.old.source) (R.left ports.new.source) (W.taken ports.old.sink) (W.taken ports.new.sink)
+        (S.can_have_said steering.old) (S.can_have_said steering.new) fault) }
     ensures left { OnErr result (client.new.client.on ≡ false) }
     ensures bounded { R.calls ports.new.source + W.calls ports.new.sink
-        ≤ R.calls ports.old.source + W.calls ports.old.sink + calls_most }
+        ≤ R.calls ports.old.source + W.calls ports.old.sink + client_calls_most }
     ensures blamed { BlamesPorts PumpFault.ReadFailed PumpFault.WriteFailed result
         (R.has_failed ports.old.source) (R.has_failed ports.new.source)
         (W.has_failed ports.old.sink) (W.has_failed ports.new.sink) }
     ensures told { TellsRun client.old client.new (N.told watcher.old) (N.told watcher.new) }
 {
     let mut turns = 0;
+    let mut has_stopped = false;
     while !is_over(client.state()) {
         if turns == TURNS_MAX {
             client.leave();
             return Err(PumpFault::TurnsSpent);
         }
+        watched_turn(client, ports, 0, watcher)?;
+        if is_over(client.state()) {
+            return Ok(());
+        }
+        has_stopped = ask(client, steering, has_stopped)?;
         watched_turn(client, ports, 1, watcher)?;
         turns += 1;
     }
     Ok(())
 }
 
-/// A whole run of a client over the ports of its connection, as `watch_link`, with no watcher.
+/// A whole run of a client over the ports of its connection, as `watch_link`, with no watcher. It always goes on: it aborts nothing.
 pub fn run_link<R: Source, W: Sink>(
     client: &mut Client,
     ports: &mut Ports<R, W>,
 ) -> Result<(), PumpFault<ClientFault>>
     ensures ran { OnOk result (ClientRan client.old client.new (R.left ports.old.source)
-        (R.left ports.new.source) (W.taken ports.old.sink) (W.taken ports.new.sink)) }
+        (R.left ports.new.source) (W.taken ports.old.sink) (W.taken ports.new.sink) goes_on goes_on) }
     ensures done { OnOk result (is_over client.new.client.state ≡ true) }
     ensures stopped { IfErr result (λ fault. ClientRunStopped client.old client.new
-        (R.left ports.old.source) (R.left ports.new.source) (W.taken ports.old.sink) (W.taken ports.new.sink) fault) }
+        (R.left ports.old.source) (R.left ports.new.source) (W.taken ports.old.sink) (W.taken ports.new.sink)
+        goes_on goes_on fault) }
     ensures left { OnErr result (client.new.client.on ≡ false) }
     ensures bounded { R.calls ports.new.source + W.calls ports.new.sink
-        ≤ R.calls ports.old.source + W.calls ports.old.sink + calls_most }
+        ≤ R.calls ports.old.source + W.calls ports.old.sink + client_calls_most }
     ensures blamed { BlamesPorts PumpFault.ReadFailed PumpFault.WriteFailed result
         (R.has_failed ports.old.source) (R.has_failed ports.new.source)
         (W.has_failed ports.old.sink) (W.has_failed ports.new.sink) }
 {
-    watch_link(client, ports, &mut Silent)
+    watch_link(client, ports, &mut Silent, &mut Onward)
 }
 
 /// How a run of a server ends by the fault of a turn: the end of the input is not a fault of the run.

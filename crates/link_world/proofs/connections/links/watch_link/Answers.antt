@@ -1,13 +1,17 @@
 use Rattle.std.proofs.Common.{rules, arith, ◌<◌}
 use Rattle.std.proofs.lemmas.Grind.{common_steps}
+use Rattle.link_world.specs.LinkRuns.{Out}
 use Rattle.link_world.proofs.ClientPumps.{if_err}
-use Rattle.link_world.proofs.ClientRuns.{client_starts, client_goes, client_stops, client_spends}
-use Rattle.link_world.proofs.Telling.{tells_none, tells_more, tells_left}
+use Rattle.link_world.proofs.ClientRuns.{client_starts, client_gives, client_round, client_ran, client_stops_giving, client_refuses}
+use Rattle.link_world.proofs.ClientRuns.{client_stops, client_spends}
+use Rattle.link_world.proofs.Telling.{tells_none, tells_more, tells_refused}
+use Rattle.link_world.proofs.Telling.{tells_left, tells_asked}
 use Rattle.link_world.proofs.connections.links.watch_link.Goals as goal
 
 pub loop-client-init : goal.loop-client-init
 loop-client-init g c = (
-  client_starts c.args.client.now (g.R.Source.left c.args.ports.now.source) (g.W.Sink.taken c.args.ports.now.sink),
+  client_starts c.args.client.now (g.R.Source.left c.args.ports.now.source) (g.W.Sink.taken c.args.ports.now.sink)
+      (g.S.Steering.can_have_said c.args.steering.now),
   omega arith,
   omega arith,
   λ works. works,
@@ -16,18 +20,24 @@ loop-client-init g c = (
 )
 
 pub returns-then-turns-eq-TURNS_MAX-clause-stopped : goal.returns-then-turns-eq-TURNS_MAX-clause-stopped
-returns-then-turns-eq-TURNS_MAX-clause-stopped g c = client_spends c.loop-client.turns c.args.client.now c.loop-client.client
-    c.leave.new.self (g.R.Source.left c.args.ports.now.source) (g.R.Source.left c.loop-client.ports.source)
-    (g.W.Sink.taken c.args.ports.now.sink)
-    (g.W.Sink.taken c.loop-client.ports.sink) c.loop-client.invariant.0 (search rules) (grind arith) c.leave.ensures
+returns-then-turns-eq-TURNS_MAX-clause-stopped g c = client_spends c.loop-client.turns c.loop-client.has_stopped c.args.client.now
+    c.loop-client.client c.leave.new.self (g.R.Source.left c.args.ports.now.source) (g.R.Source.left c.loop-client.ports.source)
+    (g.W.Sink.taken c.args.ports.now.sink) (g.W.Sink.taken c.loop-client.ports.sink)
+    (g.S.Steering.can_have_said c.args.steering.now) (g.S.Steering.can_have_said c.loop-client.steering)
+    c.loop-client.invariant.0 (search rules) (grind arith) c.leave.ensures
+
+pub returns-then-turns-eq-TURNS_MAX-clause-told : goal.returns-then-turns-eq-TURNS_MAX-clause-told
+returns-then-turns-eq-TURNS_MAX-clause-told g c = tells_left c.args.client.now c.loop-client.client c.leave.new.self
+    (g.N.Watcher.told c.args.watcher.now) (g.N.Watcher.told c.loop-client.watcher) c.leave.ensures c.loop-client.invariant.5
 
 pub returns-in_err-watched_turn-clause-stopped : goal.returns-in_err-watched_turn-clause-stopped
 returns-in_err-watched_turn-clause-stopped g c = if_err c.from_residual.result _ _ c.from_residual.ensures.0 c.from_residual.ensures.1
-    (client_stops c.loop-client.turns c.args.client.now c.loop-client.client c.watched_turn.new.client
-    (g.R.Source.left c.args.ports.now.source)
-    (g.R.Source.left c.loop-client.ports.source) (g.R.Source.left c.watched_turn.new.ports.source) (g.W.Sink.taken c.args.ports.now.sink)
-    (g.W.Sink.taken c.loop-client.ports.sink) (g.W.Sink.taken c.watched_turn.new.ports.sink) c.in_err-watched_turn.field-0.0
-    c.loop-client.invariant.0 (search rules) (grind arith) c.in_err-watched_turn.ensures.stopped.front)
+    (client_stops_giving c.loop-client.turns c.loop-client.has_stopped c.args.client.now c.loop-client.client c.watched_turn.new.client
+    (g.R.Source.left c.args.ports.now.source) (g.R.Source.left c.loop-client.ports.source)
+    (g.R.Source.left c.watched_turn.new.ports.source) (g.W.Sink.taken c.args.ports.now.sink)
+    (g.W.Sink.taken c.loop-client.ports.sink) (g.W.Sink.taken c.watched_turn.new.ports.sink)
+    (g.S.Steering.can_have_said c.args.steering.now) (g.S.Steering.can_have_said c.loop-client.steering)
+    c.in_err-watched_turn.field-0.0 c.loop-client.invariant.0 (search rules) (grind arith) c.in_err-watched_turn.ensures.stopped.front)
 
 pub returns-in_err-watched_turn-clause-bounded : goal.returns-in_err-watched_turn-clause-bounded
 returns-in_err-watched_turn-clause-bounded g c =
@@ -35,27 +45,124 @@ returns-in_err-watched_turn-clause-bounded g c =
     let few : c.loop-client.turns < 1000000 = grind arith in
     let more = c.in_err-watched_turn.ensures.stopped.within in omega (arith, before, few, more)
 
-pub returns-then-turns-eq-TURNS_MAX-clause-told : goal.returns-then-turns-eq-TURNS_MAX-clause-told
-returns-then-turns-eq-TURNS_MAX-clause-told g c = tells_left c.args.client.now c.loop-client.client c.leave.new.self
-    (g.N.Watcher.told c.args.watcher.now) (g.N.Watcher.told c.loop-client.watcher) c.leave.ensures c.loop-client.invariant.5
-
 pub returns-in_err-watched_turn-clause-told : goal.returns-in_err-watched_turn-clause-told
 returns-in_err-watched_turn-clause-told g c = tells_more c.args.client.now c.loop-client.client c.watched_turn.new.client
     (g.N.Watcher.told c.args.watcher.now) (g.N.Watcher.told c.loop-client.watcher) (g.N.Watcher.told c.watched_turn.new.watcher)
     c.loop-client.invariant.5 c.watched_turn.ensures.told
 
+pub returns-then-is_over-clause-ran : goal.returns-then-is_over-clause-ran
+returns-then-is_over-clause-ran g c = client_ran Out c.loop-client.turns c.loop-client.has_stopped c.args.client.now
+    c.watched_turn.new.client (g.R.Source.left c.args.ports.now.source) (g.R.Source.left c.watched_turn.new.ports.source)
+    (g.W.Sink.taken c.args.ports.now.sink) (g.W.Sink.taken c.watched_turn.new.ports.sink)
+    (g.S.Steering.can_have_said c.args.steering.now) (g.S.Steering.can_have_said c.loop-client.steering)
+    (client_gives c.loop-client.turns c.loop-client.has_stopped c.args.client.now c.loop-client.client c.watched_turn.new.client
+    (g.R.Source.left c.args.ports.now.source) (g.R.Source.left c.loop-client.ports.source)
+    (g.R.Source.left c.watched_turn.new.ports.source) (g.W.Sink.taken c.args.ports.now.sink)
+    (g.W.Sink.taken c.loop-client.ports.sink) (g.W.Sink.taken c.watched_turn.new.ports.sink) c.in_ok-watched_turn.field-0
+    (g.S.Steering.can_have_said c.args.steering.now) (g.S.Steering.can_have_said c.loop-client.steering)
+    c.loop-client.invariant.0 (search rules) c.in_ok-watched_turn.ensures.moved.whole)
+    c.loop-client.invariant.1
+
+pub returns-then-is_over-clause-bounded : goal.returns-then-is_over-clause-bounded
+returns-then-is_over-clause-bounded g c =
+    let before = c.loop-client.invariant.2 in
+    let few : c.loop-client.turns < 1000000 = grind arith in
+    let more = c.in_ok-watched_turn.ensures.moved.within in omega (arith, before, few, more)
+
+pub returns-then-is_over-clause-told : goal.returns-then-is_over-clause-told
+returns-then-is_over-clause-told g c = tells_more c.args.client.now c.loop-client.client c.watched_turn.new.client
+    (g.N.Watcher.told c.args.watcher.now) (g.N.Watcher.told c.loop-client.watcher) (g.N.Watcher.told c.watched_turn.new.watcher)
+    c.loop-client.invariant.5 c.watched_turn.ensures.told
+
+pub returns-in_err-has_stopped-clause-stopped : goal.returns-in_err-has_stopped-clause-stopped
+returns-in_err-has_stopped-clause-stopped g c = if_err c.from_residual-in_err-has_stopped.result _ _
+    c.from_residual-in_err-has_stopped.ensures.0 c.from_residual-in_err-has_stopped.ensures.1
+    (client_refuses c.loop-client.turns c.loop-client.has_stopped c.args.client.now c.loop-client.client c.watched_turn.new.client
+    c.ask.new.client (g.R.Source.left c.args.ports.now.source) (g.R.Source.left c.loop-client.ports.source)
+    (g.R.Source.left c.watched_turn.new.ports.source) (g.W.Sink.taken c.args.ports.now.sink)
+    (g.W.Sink.taken c.loop-client.ports.sink) (g.W.Sink.taken c.watched_turn.new.ports.sink) c.in_ok-watched_turn.field-0
+    (g.S.Steering.can_have_said c.args.steering.now) (g.S.Steering.can_have_said c.loop-client.steering)
+    (g.S.Steering.can_have_said c.ask.new.steering) c.in_err-has_stopped.field-0.0
+    c.loop-client.invariant.0 (search rules) c.in_ok-watched_turn.ensures.moved.whole (search rules) (grind arith)
+    c.in_err-has_stopped.ensures.refused)
+
+pub returns-in_err-has_stopped-clause-bounded : goal.returns-in_err-has_stopped-clause-bounded
+returns-in_err-has_stopped-clause-bounded g c =
+    let before = c.loop-client.invariant.2 in
+    let few : c.loop-client.turns < 1000000 = grind arith in
+    let more = c.in_ok-watched_turn.ensures.moved.within in omega (arith, before, few, more)
+
+pub returns-in_err-has_stopped-clause-told : goal.returns-in_err-has_stopped-clause-told
+returns-in_err-has_stopped-clause-told g c = tells_more c.args.client.now c.watched_turn.new.client c.ask.new.client
+    (g.N.Watcher.told c.args.watcher.now) (g.N.Watcher.told c.watched_turn.new.watcher) (g.N.Watcher.told c.watched_turn.new.watcher)
+    (tells_more c.args.client.now c.loop-client.client c.watched_turn.new.client
+    (g.N.Watcher.told c.args.watcher.now) (g.N.Watcher.told c.loop-client.watcher) (g.N.Watcher.told c.watched_turn.new.watcher)
+    c.loop-client.invariant.5 c.watched_turn.ensures.told)
+    (tells_refused c.loop-client.has_stopped c.watched_turn.new.client c.ask.new.client
+    (g.S.Steering.can_have_said c.loop-client.steering) (g.S.Steering.can_have_said c.ask.new.steering) c.in_err-has_stopped.field-0.0
+    (g.N.Watcher.told c.watched_turn.new.watcher) c.in_err-has_stopped.ensures.refused)
+
+pub returns-in_err-watched_turn-2-clause-stopped : goal.returns-in_err-watched_turn-2-clause-stopped
+returns-in_err-watched_turn-2-clause-stopped g c = if_err c.from_residual-in_err-watched_turn-2.result _ _
+    c.from_residual-in_err-watched_turn-2.ensures.0 c.from_residual-in_err-watched_turn-2.ensures.1
+    (client_stops c.loop-client.turns c.loop-client.has_stopped c.in_ok-has_stopped.field-0 c.args.client.now c.loop-client.client
+    c.watched_turn.new.client c.ask.new.client c.watched_turn-2.new.client
+    (g.R.Source.left c.args.ports.now.source) (g.R.Source.left c.loop-client.ports.source)
+    (g.R.Source.left c.watched_turn.new.ports.source) (g.R.Source.left c.watched_turn-2.new.ports.source)
+    (g.W.Sink.taken c.args.ports.now.sink) (g.W.Sink.taken c.loop-client.ports.sink) (g.W.Sink.taken c.watched_turn.new.ports.sink)
+    (g.W.Sink.taken c.watched_turn-2.new.ports.sink) c.in_ok-watched_turn.field-0
+    (g.S.Steering.can_have_said c.args.steering.now) (g.S.Steering.can_have_said c.loop-client.steering)
+    (g.S.Steering.can_have_said c.ask.new.steering) c.in_err-watched_turn-2.field-0.0
+    c.loop-client.invariant.0 (search rules) c.in_ok-watched_turn.ensures.moved.whole (search rules) c.in_ok-has_stopped.ensures.asks
+    (grind arith) c.in_err-watched_turn-2.ensures.stopped.front)
+
+pub returns-in_err-watched_turn-2-clause-bounded : goal.returns-in_err-watched_turn-2-clause-bounded
+returns-in_err-watched_turn-2-clause-bounded g c =
+    let before = c.loop-client.invariant.2 in
+    let few : c.loop-client.turns < 1000000 = grind arith in
+    let more = c.in_ok-watched_turn.ensures.moved.within in
+    let last = c.in_err-watched_turn-2.ensures.stopped.within in omega (arith, before, few, more, last)
+
+pub returns-in_err-watched_turn-2-clause-told : goal.returns-in_err-watched_turn-2-clause-told
+returns-in_err-watched_turn-2-clause-told g c = tells_more c.args.client.now c.ask.new.client c.watched_turn-2.new.client
+    (g.N.Watcher.told c.args.watcher.now) (g.N.Watcher.told c.watched_turn.new.watcher) (g.N.Watcher.told c.watched_turn-2.new.watcher)
+    (tells_more c.args.client.now c.watched_turn.new.client c.ask.new.client
+    (g.N.Watcher.told c.args.watcher.now) (g.N.Watcher.told c.watched_turn.new.watcher) (g.N.Watcher.told c.watched_turn.new.watcher)
+    (tells_more c.args.client.now c.loop-client.client c.watched_turn.new.client
+    (g.N.Watcher.told c.args.watcher.now) (g.N.Watcher.told c.loop-client.watcher) (g.N.Watcher.told c.watched_turn.new.watcher)
+    c.loop-client.invariant.5 c.watched_turn.ensures.told)
+    (tells_asked c.loop-client.has_stopped c.in_ok-has_stopped.field-0 c.watched_turn.new.client c.ask.new.client
+    (g.S.Steering.can_have_said c.loop-client.steering) (g.S.Steering.can_have_said c.ask.new.steering)
+    (g.N.Watcher.told c.watched_turn.new.watcher) c.in_ok-has_stopped.ensures.asks))
+    c.watched_turn-2.ensures.told
+
 pub loop-client-preserved : goal.loop-client-preserved
 loop-client-preserved g c = (
-  client_goes c.loop-client.turns c.args.client.now c.loop-client.client c.watched_turn.new.client (g.R.Source.left c.args.ports.now.source)
-      (g.R.Source.left c.loop-client.ports.source) (g.R.Source.left c.watched_turn.new.ports.source) (g.W.Sink.taken c.args.ports.now.sink)
-      (g.W.Sink.taken c.loop-client.ports.sink) (g.W.Sink.taken c.watched_turn.new.ports.sink) c.in_ok-watched_turn.field-0
-      c.loop-client.invariant.0 (search rules) c.in_ok-watched_turn.ensures.moved.whole,
+  client_round c.loop-client.turns c.loop-client.has_stopped c.in_ok-has_stopped.field-0 c.args.client.now c.loop-client.client
+      c.watched_turn.new.client c.ask.new.client c.watched_turn-2.new.client
+      (g.R.Source.left c.args.ports.now.source) (g.R.Source.left c.loop-client.ports.source)
+      (g.R.Source.left c.watched_turn.new.ports.source) (g.R.Source.left c.watched_turn-2.new.ports.source)
+      (g.W.Sink.taken c.args.ports.now.sink) (g.W.Sink.taken c.loop-client.ports.sink) (g.W.Sink.taken c.watched_turn.new.ports.sink)
+      (g.W.Sink.taken c.watched_turn-2.new.ports.sink) c.in_ok-watched_turn.field-0 c.in_ok-watched_turn-2.field-0
+      (g.S.Steering.can_have_said c.args.steering.now) (g.S.Steering.can_have_said c.loop-client.steering)
+      (g.S.Steering.can_have_said c.ask.new.steering)
+      c.loop-client.invariant.0 (search rules) c.in_ok-watched_turn.ensures.moved.whole (search rules) c.in_ok-has_stopped.ensures.asks
+      c.in_ok-watched_turn-2.ensures.moved.whole,
   grind (arith, common_steps),
   (let before = c.loop-client.invariant.2 in
-      let more = c.in_ok-watched_turn.ensures.moved.within in omega (arith, before, more)),
+      let more = c.in_ok-watched_turn.ensures.moved.within in
+      let last = c.in_ok-watched_turn-2.ensures.moved.within in omega (arith, before, more, last)),
   grind (arith, common_steps),
   grind (arith, common_steps),
-  tells_more c.args.client.now c.loop-client.client c.watched_turn.new.client (g.N.Watcher.told c.args.watcher.now)
-      (g.N.Watcher.told c.loop-client.watcher) (g.N.Watcher.told c.watched_turn.new.watcher) c.loop-client.invariant.5
-      c.watched_turn.ensures.told,
+  tells_more c.args.client.now c.ask.new.client c.watched_turn-2.new.client
+      (g.N.Watcher.told c.args.watcher.now) (g.N.Watcher.told c.watched_turn.new.watcher) (g.N.Watcher.told c.watched_turn-2.new.watcher)
+      (tells_more c.args.client.now c.watched_turn.new.client c.ask.new.client
+      (g.N.Watcher.told c.args.watcher.now) (g.N.Watcher.told c.watched_turn.new.watcher) (g.N.Watcher.told c.watched_turn.new.watcher)
+      (tells_more c.args.client.now c.loop-client.client c.watched_turn.new.client
+      (g.N.Watcher.told c.args.watcher.now) (g.N.Watcher.told c.loop-client.watcher) (g.N.Watcher.told c.watched_turn.new.watcher)
+      c.loop-client.invariant.5 c.watched_turn.ensures.told)
+      (tells_asked c.loop-client.has_stopped c.in_ok-has_stopped.field-0 c.watched_turn.new.client c.ask.new.client
+      (g.S.Steering.can_have_said c.loop-client.steering) (g.S.Steering.can_have_said c.ask.new.steering)
+      (g.N.Watcher.told c.watched_turn.new.watcher) c.in_ok-has_stopped.ensures.asks))
+      c.watched_turn-2.ensures.told,
 )
