@@ -3,7 +3,8 @@
 ghost use Rattle.std.specs.Prelude.{◌≡◌, true};
 ghost use Rattle.client_core.specs.Clients.{is_window, may_connect};
 
-use crate::connecting::{no_connection, of_output};
+use crate::calling::{Called, call_server};
+use crate::connecting::of_output;
 use crate::explaining::refused;
 use crate::faults::Fault;
 use crate::files::Sources;
@@ -14,7 +15,8 @@ use crate::recording::{Follower, OpenRecord, open_record, record_words};
 use crate::refusals::Refusals;
 use crate::talking::{HeardPort, Log, SaidPort, Side, Talk};
 use crate::text_files::NamedFile;
-use byte_ports::{Ports, Reading, Sink, Writing};
+use crate::waiting::{Patience, PatientSink, PatientSource, StopFile};
+use byte_ports::{Ports, Sink, Writing};
 use client_core::Client;
 use contact_ledger::{CONNECTION_MAX, FeatureLedger};
 use dme_orders::{
@@ -35,25 +37,29 @@ use std::rt::{Clock, Files};
 /// What is shown if a file could not be written: that, and then why the order was not carried out, if it was not.
 fn with_unwritten<R: Eprint>(
     rt: &R,
-    verdict: Result<u8, OrderFault>,
+    verdict: Result<u8, Fault>,
     name: Option<String>,
-) -> Result<u8, OrderFault> {
+) -> Result<u8, Fault> {
     let Some(name) = name else { return verdict };
     let unwritten = OrderFault::CannotWrite(name);
     if verdict.is_err() {
         let _ = eprint!(rt; "{unwritten}");
         return verdict;
     }
-    Err(unwritten)
+    Err(Fault::Order(unwritten))
 }
 
 /// What is shown of a run whose features were to be written to a file of this name, if any.
-fn client_verdict<R: Eprint>(
+fn client_verdict<R: Eprint + AllocGlobal>(
     rt: &R,
     driven: RunEnd,
     features: Option<String>,
-) -> Result<u8, OrderFault> {
-    let verdict = driven.ended.verdict(true);
+    patience: &Patience<'_, R>,
+) -> Result<u8, Fault> {
+    let verdict = match driven.ended.verdict(true) {
+        Ok(status) => Ok(status),
+        Err(fault) => Err(patience.shown(rt.alloc(), fault, "server")),
+    };
     if driven.is_kept {
         return verdict;
     }
@@ -73,6 +79,8 @@ struct Call {
     trace: bool,
     /// Where they are added, if anywhere.
     log: Option<Log>,
+    /// How many seconds it may take to make the connection, if it is tried again and again.
+    wait: Option<u32>,
 }
 
 /// What is known, for the errors of its server, of a client that has come to a connection.
@@ -98,19 +106,36 @@ fn talk_of<'a, R: AllocGlobal>(
 }
 
 /// A client that has come to its connection takes its turns over a stream, whose lines go by.
-fn drive_stream<R: Eprint + Clock + AllocGlobal, N: Watcher, F: TextFile, O: Sink>(
+fn drive_stream<
+    R: Files + Eprint + Clock + AllocGlobal,
+    N: Watcher,
+    F: TextFile,
+    O: Sink,
+>(
     rt: &R,
     client: Client,
-    wire: (&TcpStream, &RefCell<Talk<'_, R>>),
+    wire: (&TcpStream, &RefCell<Talk<'_, R>>, &Patience<'_, R>),
     watcher: &mut N,
     outputs: &mut RunOutputs<F, O>,
 ) -> Result<RunEnd, FilesFault> {
-    let (stream, talk) = wire;
+    let (stream, talk, patience) = wire;
     let mut ports = Ports {
-        source: HeardPort::new(Reading::new(stream), Side::Server, talk),
-        sink: SaidPort::new(Writing::new(stream), Side::Client, talk),
+        source: HeardPort::new(
+            PatientSource::new(stream, patience, false),
+            Side::Server,
+            talk,
+        ),
+        sink: SaidPort::new(PatientSink::new(stream, patience), Side::Client, talk),
     };
-    drive(rt.alloc(), client, &mut ports, watcher, outputs)
+    let mut steering = StopFile::new(patience, stream);
+    drive(
+        rt.alloc(),
+        client,
+        &mut ports,
+        watcher,
+        &mut steering,
+        outputs,
+    )
 }
 
 /// A client takes its turns over a connection to the server that is called.
@@ -126,8 +151,9 @@ fn drive_client<
     client: Client,
     number: u64,
     call: Call,
+    patience: &Patience<'_, R>,
     follower: &mut Follower<'_, R>,
-) -> Result<u8, OrderFault>
+) -> Result<u8, Fault>
     requires { may_connect number client.client ≡ true }
 {
     let features = NamedFile::new(rt, call.features.as_deref())?;
@@ -135,23 +161,24 @@ fn drive_client<
         features,
         report: Writing::new(io::writer(rt)),
     };
-    let stream = match TcpStream::connect(rt, (call.host.as_str(), call.port)) {
-        Ok(stream) => stream,
-        Err(error) => return Err(no_connection(&error, true)),
+    let stream = match call_server(rt, call.host.as_str(), call.port, call.wait, patience)? {
+        Called::Connected(stream) => stream,
+        Called::Stopped => return Ok(patience.not_begun()),
     };
     let mut client = client;
     if let Some(name) = &call.features {
         follower.grow(FeaturesFile::open(rt, name.as_str(), &client)?);
     }
     if client.connected(number).is_err() {
-        return Err(OrderFault::Memory);
+        return Err(Fault::Order(OrderFault::Memory));
     }
     let talk = talk_of(rt, &client, number, call.trace, call.log)?;
-    let result = drive_stream(rt, client, (&stream, &talk), follower, &mut outputs);
+    let wire = (&stream, &talk, patience);
+    let result = drive_stream(rt, client, wire, follower, &mut outputs);
     drop(outputs);
     match result {
-        Ok(driven) => client_verdict(rt, driven, call.features),
-        Err(fault) => Err(of_output(rt, fault)),
+        Ok(driven) => client_verdict(rt, driven, call.features, patience),
+        Err(fault) => Err(Fault::Order(of_output(rt, fault))),
     }
 }
 
@@ -163,7 +190,13 @@ fn drive_program<
         + Clock
         + Net<Listener = TcpListener, Stream = TcpStream>
         + AllocGlobal,
->(rt: &R, kept: FeatureLedger, program: Program, call: Call) -> Result<u8, OrderFault>
+>(
+    rt: &R,
+    kept: FeatureLedger,
+    program: Program,
+    call: Call,
+    patience: &Patience<'_, R>,
+) -> Result<u8, Fault>
     requires { is_window call.window ≡ true }
 {
     let progress = Progress::new(rt, call.progress, program.features().len());
@@ -176,7 +209,8 @@ fn drive_program<
             client.program().features(),
         );
     }
-    drive_client(rt, client, 1, call, &mut Follower::new(rt, progress, None))
+    let mut follower = Follower::new(rt, progress, None);
+    drive_client(rt, client, 1, call, patience, &mut follower)
 }
 
 /// Likewise, with a record of it. A record in which the last connection has the greatest possible number cannot be written.
@@ -187,7 +221,13 @@ fn drive_recorded<
         + Clock
         + Net<Listener = TcpListener, Stream = TcpStream>
         + AllocGlobal,
->(rt: &R, open: OpenRecord, program: Program, call: Call) -> Result<u8, OrderFault>
+>(
+    rt: &R,
+    open: OpenRecord,
+    program: Program,
+    call: Call,
+    patience: &Patience<'_, R>,
+) -> Result<u8, Fault>
     requires { is_window call.window ≡ true }
 {
     let progress = Progress::new(rt, call.progress, program.features().len());
@@ -203,14 +243,21 @@ fn drive_recorded<
         ..
     } = beginning;
     if connection < 1 || connection > CONNECTION_MAX {
-        return Err(OrderFault::CannotWrite(name));
+        return Err(Fault::Order(OrderFault::CannotWrite(name)));
     }
     let recorder = Recorder::new(connection, features.list().len(), text, file);
     let client = kept_client(rt.alloc(), program, features, call.window)?;
     let mut follower = Follower::new(rt, progress, Some((name, recorder)));
-    let verdict = drive_client(rt, client, connection, call, &mut follower);
+    let verdict = drive_client(rt, client, connection, call, patience, &mut follower);
     let unwritten = follower.finish()?;
     with_unwritten(rt, verdict, unwritten)
+}
+
+fn seconds_of(text: Option<String>) -> Option<u32> {
+    match text {
+        Some(text) => text.parse().ok(),
+        None => None,
+    }
 }
 
 /// The order `run`: its exit status. Its features file and its record are read if there are such files, and never from standard input.
@@ -245,6 +292,10 @@ pub fn run_program<
         Ok(read) => read,
         Err(fault) => return Err(refused(rt.alloc(), fault, files, order.explain)),
     };
+    let patience = Patience::new(rt, seconds_of(order.timeout), order.stop);
+    if patience.is_stopped() {
+        return Ok(patience.not_begun());
+    }
     let features = files.features;
     let log = Log::named(rt, order.log);
     let call = Call {
@@ -255,10 +306,11 @@ pub fn run_program<
         progress: order.progress,
         trace: order.trace,
         log,
+        wait: seconds_of(order.wait),
     };
     let Some(words) = words else {
-        return Ok(drive_program(rt, kept, program, call)?);
+        return drive_program(rt, kept, program, call, &patience);
     };
     let open = open_record(rt, &mut sources, words, &program, &kept)?;
-    Ok(drive_recorded(rt, open, program, call)?)
+    drive_recorded(rt, open, program, call, &patience)
 }

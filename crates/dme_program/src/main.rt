@@ -10,10 +10,12 @@
 //!   features that it keeps
 //! - `progress`: lines that report how far an order is; `tracing`: the lines of a connection to itself; `talking`: those of other
 //!   connections, shown or added to a log; `refusals`: what is reported of a server's errors
+//! - `calling`: how a server is called; `waiting`: time limits and stop files
 //! - `explaining`: what is shown for an order whose files are refused
 //! - `faults`: what is printed on standard error, and the exit status
 #![tactic(auto)]
 
+mod calling;
 mod connecting;
 mod driving_connection;
 mod explaining;
@@ -30,6 +32,7 @@ mod serving_connections;
 mod talking;
 mod text_files;
 mod tracing;
+mod waiting;
 
 use std::process::ExitCode;
 

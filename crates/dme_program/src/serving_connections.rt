@@ -9,7 +9,8 @@ use crate::files::Sources;
 use crate::growing_files::{ContactsFile, NextContacts};
 use crate::talking::{HeardPort, Log, SaidPort, Side, Talk};
 use crate::text_files::NamedFile;
-use byte_ports::{Ports, Reading, Writing};
+use crate::waiting::{LOOK_MS, Patience, PatientSink, PatientSource};
+use byte_ports::{Ports, Writing};
 use contact_ledger::ServerLedger;
 use dme_orders::{
     InputFiles, OrderFault, close_service, read_setup, serve_one, shown_break, with_break,
@@ -19,9 +20,11 @@ use link_world::{LoopFault, PumpFault, ServerWatcher, Simulated};
 use server_core::{Server, ServerFault};
 use std::cell::RefCell;
 use std::fs::File;
-use std::io;
+use std::io::{self, ErrorKind};
 use std::net::{Net, TcpListener, TcpStream};
 use std::rt::{Clock, Files};
+use std::thread;
+use std::time::Duration;
 use tool_rack::Setup;
 
 /// Where a server listens, for how many connections, and whether it reports how far it is.
@@ -95,18 +98,23 @@ fn listener_of<R: Eprint + Net<Listener = TcpListener, Stream = TcpStream>>(
 }
 
 /// The server's connection of this number is taken, served and left.
-fn serve_stream<R: Eprint + Clock + AllocGlobal>(
+fn serve_stream<R: Files + Eprint + Clock + AllocGlobal>(
     serving: &mut Serving<'_, R>,
     number: u64,
     stream: &TcpStream,
     talk: &RefCell<Talk<'_, R>>,
+    patience: &Patience<'_, R>,
 ) -> Result<(), PumpFault<ServerFault>> {
     if let Ok(mut talk) = talk.try_borrow_mut() {
         talk.begin(number);
     }
     let mut ports = Ports {
-        source: HeardPort::new(Reading::new(stream), Side::Client, talk),
-        sink: SaidPort::new(Writing::new(stream), Side::Server, talk),
+        source: HeardPort::new(
+            PatientSource::new(stream, patience, true),
+            Side::Client,
+            talk,
+        ),
+        sink: SaidPort::new(PatientSink::new(stream, patience), Side::Server, talk),
     };
     let Serving {
         server,
@@ -116,25 +124,62 @@ fn serve_stream<R: Eprint + Clock + AllocGlobal>(
     serve_one(server, machine, number, &mut ports, keeper)
 }
 
+/// The next connection, whose reads and writes come back in time; none if the stop file is there, or if it cannot be taken, which is told.
+fn next_connection<R: Files + Clock>(
+    rt: &R,
+    listener: &TcpListener,
+    patience: &Patience<'_, R>,
+) -> io::Result<Option<TcpStream>> {
+    if !patience.has_stop() {
+        let (stream, _) = listener.accept()?;
+        patience.limit(&stream)?;
+        return Ok(Some(stream));
+    }
+    listener.set_nonblocking(true)?;
+    for _look in 0..u64::MAX {
+        if patience.is_stopped() {
+            return Ok(None);
+        }
+        match listener.accept() {
+            Ok((stream, _)) => {
+                patience.limit(&stream)?;
+                return Ok(Some(stream));
+            }
+            Err(error) if error.kind() == ErrorKind::WouldBlock => {
+                thread::sleep(rt, Duration::from_millis(LOOK_MS));
+            }
+            Err(error) => return Err(error),
+        }
+    }
+    Ok(None)
+}
+
 /// Serves that many connections, one after the other; why some were broken off, if any was. If a connection cannot be taken, it serves no
 /// more.
 fn serve_connections<
-    R: Eprint + Clock + Net<Listener = TcpListener, Stream = TcpStream> + AllocGlobal,
+    R: Files + Eprint + Clock + Net<Listener = TcpListener, Stream = TcpStream> + AllocGlobal,
 >(
     listener: &TcpListener,
     serving: &mut Serving<'_, R>,
     post: &Post,
     talk: &RefCell<Talk<'_, R>>,
+    patience: &Patience<'_, R>,
 ) -> Option<PumpFault<ServerFault>> {
     let rt = serving.keeper.rt;
     let mut broken = None;
     for count in 0..post.connections {
         let number = count as u64 + 1;
-        let Ok((stream, _)) = listener.accept() else {
-            return with_break(broken, Err(PumpFault::ReadFailed));
+        let stream = match next_connection(rt, listener, patience) {
+            Ok(Some(stream)) => stream,
+            Ok(None) => return broken,
+            Err(_) => return with_break(broken, Err(PumpFault::ReadFailed)),
         };
         tell(rt, post.progress, number, "taken");
-        let result = serve_stream(serving, number, &stream, talk);
+        let lapse = patience.lapse();
+        let result = serve_stream(serving, number, &stream, talk, patience);
+        if broken.is_some() {
+            patience.keep(lapse);
+        }
         broken = with_break(broken, result);
         tell(rt, post.progress, number, "left");
     }
@@ -142,21 +187,27 @@ fn serve_connections<
 }
 
 /// What is shown of a service: if its file could not be written, that first, and then what broke connections off.
-fn service_verdict<R: Eprint>(
+fn service_verdict<R: Eprint + AllocGlobal>(
     rt: &R,
     broken: Option<PumpFault<ServerFault>>,
     unwritten: Option<String>,
-) -> Result<u8, OrderFault> {
-    match (broken, unwritten) {
-        (None, None) => Ok(0),
-        (None, Some(name)) => Err(OrderFault::CannotWrite(name)),
-        (Some(fault), None) => Err(shown_break(LoopFault::Server(fault), true)),
-        (Some(fault), Some(name)) => {
-            let shown = OrderFault::CannotWrite(name);
-            let _ = eprint!(rt; "{shown}");
-            Err(shown_break(LoopFault::Server(fault), true))
-        }
+    patience: &Patience<'_, R>,
+) -> Result<u8, Fault> {
+    let unwritten = match unwritten {
+        Some(name) => Some(OrderFault::CannotWrite(name)),
+        None => None,
+    };
+    let Some(fault) = broken else {
+        return match unwritten {
+            Some(shown) => Err(Fault::Order(shown)),
+            None => Ok(0),
+        };
+    };
+    if let Some(shown) = unwritten {
+        let _ = eprint!(rt; "{shown}");
     }
+    let shown = shown_break(LoopFault::Server(fault), true);
+    Err(patience.shown(rt.alloc(), shown, "client"))
 }
 
 /// The contacts file of this name that is to grow, if one is named.
@@ -196,7 +247,13 @@ fn serve_setup<
         + Clock
         + Net<Listener = TcpListener, Stream = TcpStream>
         + AllocGlobal,
->(rt: &R, setup: Setup, post: Post, log: Option<Log>) -> Result<u8, OrderFault> {
+>(
+    rt: &R,
+    setup: Setup,
+    post: Post,
+    log: Option<Log>,
+    patience: &Patience<'_, R>,
+) -> Result<u8, Fault> {
     let mut file = NamedFile::new(rt, post.contacts.as_deref())?;
     let machine = Simulated::new(rt.alloc(), &setup)?;
     let server = Server::new(rt.alloc(), setup)?;
@@ -208,7 +265,7 @@ fn serve_setup<
         keeper: Keeper { rt, file: growing },
     };
     let talk = RefCell::new(Talk::new(rt, post.trace, log));
-    let broken = serve_connections(&listener, &mut serving, &post, &talk);
+    let broken = serve_connections(&listener, &mut serving, &post, &talk, patience);
     let result = close_service(
         rt.alloc(),
         serving.server.ledger(),
@@ -219,9 +276,16 @@ fn serve_setup<
     match result {
         Ok(is_kept) => {
             let unwritten = if is_kept { None } else { post.contacts };
-            service_verdict(rt, broken, unwritten)
+            service_verdict(rt, broken, unwritten, patience)
         }
-        Err(fault) => Err(of_output(rt, fault)),
+        Err(fault) => Err(Fault::Order(of_output(rt, fault))),
+    }
+}
+
+fn seconds_of(text: Option<String>) -> Option<u32> {
+    match text {
+        Some(text) => text.parse().ok(),
+        None => None,
     }
 }
 
@@ -254,5 +318,6 @@ pub fn serve<
         trace: order.trace,
         contacts: order.contacts,
     };
-    Ok(serve_setup(rt, setup, post, log)?)
+    let patience = Patience::new(rt, seconds_of(order.timeout), order.stop);
+    serve_setup(rt, setup, post, log, &patience)
 }

@@ -1,0 +1,95 @@
+// A server is called, for as long as that is allowed.
+
+use crate::connecting::no_connection;
+use crate::waiting::{LOOK_MS, Patience};
+use dme_orders::OrderFault;
+use std::io::{self, Error, ErrorKind};
+use std::net::{Net, TcpListener, TcpStream, ToSocketAddrs};
+use std::rt::{Clock, Files};
+use std::thread;
+use std::time::{Duration, Instant};
+
+/// How the call of a server has ended.
+pub enum Called {
+    Connected(TcpStream),
+    /// The stop file is there.
+    Stopped,
+}
+
+/// How long an attempt may take if a stop file is looked for between two, in milliseconds.
+const ATTEMPT_MS: u64 = 1_000;
+
+/// How long a call may still take, of a number of seconds since it has begun; none if that is over. A clock that cannot be read ends it.
+fn left_of<R: Clock>(rt: &R, began: Instant, seconds: u32) -> Option<Duration> {
+    let elapsed = began.elapsed(rt).ok()?;
+    Duration::from_secs(seconds as u64).checked_sub(elapsed)
+}
+
+/// One attempt at a connection, which takes no longer than allowed.
+fn attempt<R: Net<Listener = TcpListener, Stream = TcpStream>>(
+    rt: &R,
+    address: (&str, u16),
+    most: Duration,
+) -> io::Result<TcpStream> {
+    let mut result = Err(Error::from(ErrorKind::NotFound));
+    for found in address.to_socket_addrs(rt)? {
+        result = TcpStream::connect_timeout(rt, &found, most);
+        if result.is_ok() {
+            break;
+        }
+    }
+    result
+}
+
+/// Attempts a connection again and again for that many seconds, until there is one or the stop file is there.
+fn attempts<R: Files + Clock + Net<Listener = TcpListener, Stream = TcpStream>>(
+    rt: &R,
+    address: (&str, u16),
+    seconds: u32,
+    patience: &Patience<'_, R>,
+) -> io::Result<Option<TcpStream>> {
+    let began = Instant::now(rt)?;
+    let look = Duration::from_millis(LOOK_MS);
+    let mut left = Duration::from_secs(seconds as u64);
+    for _attempt in 0..u64::MAX {
+        if patience.is_stopped() {
+            return Ok(None);
+        }
+        let error = match attempt(rt, address, left.min(Duration::from_millis(ATTEMPT_MS))) {
+            Ok(stream) => return Ok(Some(stream)),
+            Err(error) => error,
+        };
+        match left_of(rt, began, seconds) {
+            Some(more) if more > look => left = more,
+            _ => return Err(error),
+        }
+        thread::sleep(rt, look);
+    }
+    Ok(None)
+}
+
+/// Calls a server: once, or again and again for that many seconds.
+pub fn call_server<R: Files + Clock + Net<Listener = TcpListener, Stream = TcpStream>>(
+    rt: &R,
+    host: &str,
+    port: u16,
+    wait: Option<u32>,
+    patience: &Patience<'_, R>,
+) -> Result<Called, OrderFault> {
+    let made = match wait {
+        Some(seconds) => attempts(rt, (host, port), seconds, patience),
+        None => match TcpStream::connect(rt, (host, port)) {
+            Ok(stream) => Ok(Some(stream)),
+            Err(error) => Err(error),
+        },
+    };
+    let stream = match made {
+        Ok(Some(stream)) => stream,
+        Ok(None) => return Ok(Called::Stopped),
+        Err(error) => return Err(no_connection(&error, true)),
+    };
+    match patience.limit(&stream) {
+        Ok(()) => Ok(Called::Connected(stream)),
+        Err(error) => Err(no_connection(&error, true)),
+    }
+}
