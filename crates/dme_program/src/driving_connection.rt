@@ -7,8 +7,8 @@ use crate::connecting::{no_connection, of_output};
 use crate::explaining::refused;
 use crate::faults::Fault;
 use crate::files::Sources;
-use crate::growing_files::FeaturesFile;
-use crate::keeping::tell_kept;
+use crate::growing_files::{FeaturesFile, ReportedContacts};
+use crate::keeping::{is_confirmed, tell_kept, tell_next};
 use crate::progress::Progress;
 use crate::recording::{Follower, OpenRecord, open_record, record_words};
 use crate::refusals::Refusals;
@@ -16,14 +16,14 @@ use crate::talking::{HeardPort, Log, SaidPort, Side, Talk};
 use crate::text_files::NamedFile;
 use byte_ports::{Ports, Reading, Sink, Writing};
 use client_core::Client;
-use contact_ledger::{CONNECTION_MAX, FeatureLedger};
+use contact_ledger::{CONNECTION_MAX, FeatureLedger, ServerLedger};
 use dme_orders::{
     FilesFault, InputFiles, OrderFault, RunEnd, RunOutputs, TextFile, drive, features_and_program,
     kept_client,
 };
 use dme_words::Run;
 use dmis_program::Program;
-use link_world::Watcher;
+use program_review::touch_lines;
 use record_keeping::{Beginning, Recorder};
 use std::alloc::{AllocError, Global};
 use std::cell::RefCell;
@@ -47,6 +47,17 @@ fn with_unwritten<R: Eprint>(
     Err(unwritten)
 }
 
+/// Likewise for two files.
+fn with_both_unwritten<R: Eprint>(
+    rt: &R,
+    verdict: Result<u8, OrderFault>,
+    names: (Option<String>, Option<String>),
+) -> Result<u8, OrderFault> {
+    let (first, second) = names;
+    let verdict = with_unwritten(rt, verdict, second);
+    with_unwritten(rt, verdict, first)
+}
+
 /// What is shown of a run whose features were to be written to a file of this name, if any.
 fn client_verdict<R: Eprint>(
     rt: &R,
@@ -68,18 +79,24 @@ struct Call {
     window: u8,
     /// The file that the features are written to.
     features: Option<String>,
+    /// The file that the contacts which the server reports are written to.
+    contacts: Option<String>,
     progress: bool,
     /// Whether the lines of the connection are shown.
     trace: bool,
     /// Where they are added, if anywhere.
     log: Option<Log>,
+    /// Whether the run waits for a confirmation before it connects.
+    confirm: bool,
+    /// The lines of the program's touches.
+    lines: Vec<u64>,
 }
 
-/// What is known, for the errors of its server, of a client that has come to a connection.
-fn still_wanted(alloc: Global, client: &Client) -> Result<Refusals, AllocError> {
+/// What is known, for the errors of its server, of a client whose program has touches on these lines.
+fn still_wanted(alloc: Global, client: &Client, lines: &[u64]) -> Result<Refusals, AllocError> {
     let wanted = client.program().features();
     let held = client.features().len().min(wanted.len());
-    Refusals::new(alloc, &wanted[held..])
+    Refusals::new(alloc, &wanted[held..], lines)
 }
 
 /// What is shown of the lines of a client's connection of this number, and of its server's errors.
@@ -87,33 +104,72 @@ fn talk_of<'a, R: AllocGlobal>(
     rt: &'a R,
     client: &Client,
     number: u64,
-    trace: bool,
-    log: Option<Log>,
+    call: &mut Call,
 ) -> Result<RefCell<Talk<'a, R>>, AllocError> {
-    let wanted = still_wanted(rt.alloc(), client)?;
-    let mut talk = Talk::new(rt, trace, log);
+    let wanted = still_wanted(rt.alloc(), client, call.lines.as_slice())?;
+    let mut talk = Talk::new(rt, call.trace, call.log.take());
     talk.begin(number);
     talk.tell_errors(wanted);
     Ok(RefCell::new(talk))
 }
 
+/// Reports what comes next, if a run continues or is to be confirmed, and waits for the confirmation, if it is asked for.
+fn confirm<R: Input + Eprint + AllocGlobal>(
+    rt: &R,
+    client: &Client,
+    call: &Call,
+) -> Result<(), Fault> {
+    if client.features().is_empty() && !call.confirm {
+        return Ok(());
+    }
+    tell_next(rt, client, call.lines.as_slice())?;
+    if call.confirm && !is_confirmed(rt) {
+        return Err(Fault::NotConfirmed);
+    }
+    Ok(())
+}
+
 /// A client that has come to its connection takes its turns over a stream, whose lines go by.
-fn drive_stream<R: Eprint + Clock + AllocGlobal, N: Watcher, F: TextFile, O: Sink>(
+fn drive_stream<R: Eprint + Clock + AllocGlobal, F: TextFile, O: Sink>(
     rt: &R,
     client: Client,
-    wire: (&TcpStream, &RefCell<Talk<'_, R>>),
-    watcher: &mut N,
+    stream: &TcpStream,
+    follower: &mut Follower<'_, R>,
     outputs: &mut RunOutputs<F, O>,
 ) -> Result<RunEnd, FilesFault> {
-    let (stream, talk) = wire;
+    let talk = follower.talk;
     let mut ports = Ports {
         source: HeardPort::new(Reading::new(stream), Side::Server, talk),
         sink: SaidPort::new(Writing::new(stream), Side::Client, talk),
     };
-    drive(rt.alloc(), client, &mut ports, watcher, outputs)
+    drive(rt.alloc(), client, &mut ports, follower, outputs)
 }
 
-/// A client takes its turns over a connection to the server that is called.
+/// The file of contacts of this name, if one is named, which begins with these acts.
+fn reported_contacts<R: Files<File = File> + AllocGlobal>(
+    rt: &R,
+    name: Option<&str>,
+    told: &ServerLedger,
+) -> Result<Option<ReportedContacts>, OrderFault> {
+    match name {
+        Some(name) => Ok(Some(ReportedContacts::open(rt, name, told)?)),
+        None => Ok(None),
+    }
+}
+
+/// The features file of this name that is to grow, if one is named.
+fn growing_features<R: Files<File = File> + AllocGlobal>(
+    rt: &R,
+    name: Option<&str>,
+    client: &Client,
+) -> Result<Option<FeaturesFile>, OrderFault> {
+    match name {
+        Some(name) => FeaturesFile::open(rt, name, client),
+        None => Ok(None),
+    }
+}
+
+/// A client takes its turns over a connection of this number to the server that is called. `told` is what servers reported before.
 fn drive_client<
     R: Files<File = File>
         + Print
@@ -124,11 +180,11 @@ fn drive_client<
 >(
     rt: &R,
     client: Client,
-    number: u64,
+    told: &ServerLedger,
     call: Call,
     follower: &mut Follower<'_, R>,
 ) -> Result<u8, OrderFault>
-    requires { may_connect number client.client ≡ true }
+    requires { may_connect follower.old.number client.client ≡ true }
 {
     let features = NamedFile::new(rt, call.features.as_deref())?;
     let mut outputs = RunOutputs {
@@ -140,14 +196,13 @@ fn drive_client<
         Err(error) => return Err(no_connection(&error, true)),
     };
     let mut client = client;
-    if let Some(name) = &call.features {
-        follower.grow(FeaturesFile::open(rt, name.as_str(), &client)?);
-    }
-    if client.connected(number).is_err() {
+    let growing = growing_features(rt, call.features.as_deref(), &client)?;
+    let contacts = reported_contacts(rt, call.contacts.as_deref(), told)?;
+    follower.grow(growing, contacts);
+    if client.connected(follower.number).is_err() {
         return Err(OrderFault::Memory);
     }
-    let talk = talk_of(rt, &client, number, call.trace, call.log)?;
-    let result = drive_stream(rt, client, (&stream, &talk), follower, &mut outputs);
+    let result = drive_stream(rt, client, &stream, follower, &mut outputs);
     drop(outputs);
     match result {
         Ok(driven) => client_verdict(rt, driven, call.features),
@@ -158,14 +213,16 @@ fn drive_client<
 /// A program on a server, and its report on standard output.
 fn drive_program<
     R: Files<File = File>
+        + Input
         + Print
         + Eprint
         + Clock
         + Net<Listener = TcpListener, Stream = TcpStream>
         + AllocGlobal,
->(rt: &R, kept: FeatureLedger, program: Program, call: Call) -> Result<u8, OrderFault>
+>(rt: &R, kept: FeatureLedger, program: Program, call: Call) -> Result<u8, Fault>
     requires { is_window call.window ≡ true }
 {
+    let mut call = call;
     let progress = Progress::new(rt, call.progress, program.features().len());
     let client = kept_client(rt.alloc(), program, kept, call.window)?;
     if let Some(name) = &call.features {
@@ -176,20 +233,28 @@ fn drive_program<
             client.program().features(),
         );
     }
-    drive_client(rt, client, 1, call, &mut Follower::new(rt, progress, None))
+    confirm(rt, &client, &call)?;
+    let talk = talk_of(rt, &client, 1, &mut call)?;
+    let mut follower = Follower::new(rt, progress, &talk, 1, None);
+    let told = ServerLedger::new(rt.alloc());
+    let verdict = drive_client(rt, client, &told, call, &mut follower);
+    let unwritten = follower.finish()?;
+    Ok(with_both_unwritten(rt, verdict, unwritten)?)
 }
 
 /// Likewise, with a record of it. A record in which the last connection has the greatest possible number cannot be written.
 fn drive_recorded<
     R: Files<File = File>
+        + Input
         + Print
         + Eprint
         + Clock
         + Net<Listener = TcpListener, Stream = TcpStream>
         + AllocGlobal,
->(rt: &R, open: OpenRecord, program: Program, call: Call) -> Result<u8, OrderFault>
+>(rt: &R, open: OpenRecord, program: Program, call: Call) -> Result<u8, Fault>
     requires { is_window call.window ≡ true }
 {
+    let mut call = call;
     let progress = Progress::new(rt, call.progress, program.features().len());
     let OpenRecord {
         name,
@@ -198,19 +263,22 @@ fn drive_recorded<
     } = open;
     let Beginning {
         features,
+        told,
         connection,
         text,
         ..
     } = beginning;
     if connection < 1 || connection > CONNECTION_MAX {
-        return Err(OrderFault::CannotWrite(name));
+        return Err(Fault::Order(OrderFault::CannotWrite(name)));
     }
     let recorder = Recorder::new(connection, features.list().len(), text, file);
     let client = kept_client(rt.alloc(), program, features, call.window)?;
-    let mut follower = Follower::new(rt, progress, Some((name, recorder)));
-    let verdict = drive_client(rt, client, connection, call, &mut follower);
+    confirm(rt, &client, &call)?;
+    let talk = talk_of(rt, &client, connection, &mut call)?;
+    let mut follower = Follower::new(rt, progress, &talk, connection, Some((name, recorder)));
+    let verdict = drive_client(rt, client, &told, call, &mut follower);
     let unwritten = follower.finish()?;
-    with_unwritten(rt, verdict, unwritten)
+    Ok(with_both_unwritten(rt, verdict, unwritten)?)
 }
 
 /// The order `run`: its exit status. Its features file and its record are read if there are such files, and never from standard input.
@@ -235,7 +303,7 @@ pub fn run_program<
     let mut sources = Sources::new(rt, order.explain);
     let mut setup = sources.file(order.setup);
     let mut features = sources.kept(order.features);
-    let mut program = sources.file(order.program);
+    let mut program = sources.file(order.program).keeping();
     let read = features_and_program(rt.alloc(), &mut setup, &mut features, &mut program);
     let mut files = InputFiles::unnamed(rt.alloc());
     files.setup = setup.into_file();
@@ -245,6 +313,7 @@ pub fn run_program<
         Ok(read) => read,
         Err(fault) => return Err(refused(rt.alloc(), fault, files, order.explain)),
     };
+    let lines = touch_lines(rt.alloc(), files.program.text.as_slice())?;
     let features = files.features;
     let log = Log::named(rt, order.log);
     let call = Call {
@@ -252,13 +321,16 @@ pub fn run_program<
         port: order.port,
         window: order.window,
         features: if is_kept { Some(features.name) } else { None },
+        contacts: order.contacts,
         progress: order.progress,
         trace: order.trace,
         log,
+        confirm: order.confirm,
+        lines,
     };
     let Some(words) = words else {
-        return Ok(drive_program(rt, kept, program, call)?);
+        return drive_program(rt, kept, program, call);
     };
     let open = open_record(rt, &mut sources, words, &program, &kept)?;
-    Ok(drive_recorded(rt, open, program, call)?)
+    drive_recorded(rt, open, program, call)
 }
