@@ -3,7 +3,7 @@
 -- `PTMEAS` is a touch of its block; a refused `ENDMES` ends it; a refused `SNSLCT` selects some tool; a refused `ENDFIL` ends the program.
 -- That there is no `DMISMN`, no tool, or a statement too many is listed once.
 use Rattle.std.specs.Prelude.{ℕ, ◌+◌, ◌-◌, Bool, true, false, not, ◌&&◌, ◌||◌, List, [], ◌∷◌, ◌++◌, length, Option, Some, None}
-use Rattle.std.specs.Prelude.{Result, Ok, Err, nat_lt, nat_le, ◌==◌, if◌then◌else◌}
+use Rattle.std.specs.Prelude.{Result, Ok, Err, nat_lt, ◌==◌, if◌then◌else◌}
 use Rattle.std.specs.Str.Lines.{lines}
 use Rattle.dmis_text.specs.Reading.{text_reading}
 use Rattle.dmis_text.specs.declared.elements.Statement.{Statement}

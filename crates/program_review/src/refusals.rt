@@ -62,15 +62,9 @@ fn missing_end(number: u64, lines: u64) -> Found
     }
 }
 
-/// Every refusal of a program's text, in the order of its statements; `frames` are those that it may recall. The text is read once.
-///
-/// The first is that with which `Program::read` refuses the text, and none is listed only if that accepts it. A statement is
-/// judged as if those above it that are refused were left out, but for what they certainly mean: a `MEAS` opens a block, which asks
-/// for no touch if it is refused; a `PTMEAS` is a touch of its block; `ENDMES` ends the block, `ENDFIL` the program; `SNSLCT` selects a
-/// tool. That the program has no `DMISMN` at its start, no tool, or a statement too many is listed once. What follows a line that cannot be
-/// read is not reviewed. Fails only if out of memory.
-pub fn review(alloc: Global, bytes: &[u8], frames: &Frames) -> Result<Vec<Found>, AllocError>
-    ensures all { IfOk result (λ found. found.items ≡ refusals_of frames.now bytes.now) }
+/// Every refusal of a text, in the order of its statements.
+fn all_refusals(alloc: Global, bytes: &[u8], frames: &Frames) -> Result<Vec<Found>, AllocError>
+    ensures { IfOk result (λ found. found.items ≡ refusals_of frames.now bytes.now) }
 {
     let mut statements = Statements::new(alloc, bytes);
     let mut standing = Standing::start();
@@ -101,4 +95,21 @@ pub fn review(alloc: Global, bytes: &[u8], frames: &Frames) -> Result<Vec<Found>
         }
         statements.take_back(statement);
     }
+}
+
+/// Every refusal of a program's text, in the order of its statements; `frames` are those that it may recall. The text is read once.
+///
+/// The first is that with which `Program::read` refuses the text, and none is listed only if that accepts it. A statement is
+/// judged as if those above it that are refused were left out, but for what they certainly mean: a `MEAS` opens a block, which asks
+/// for no touch if it is refused; a `PTMEAS` is a touch of its block; `ENDMES` ends the block, `ENDFIL` the program; `SNSLCT` selects a
+/// tool. That the program has no `DMISMN` at its start, no tool, or a statement too many is listed once. What follows a line that cannot be
+/// read is not reviewed. Fails only if out of memory.
+#[tactic(auto, using(crate::proofs::FirstLemmas::first_is))]
+pub fn review(alloc: Global, bytes: &[u8], frames: &Frames) -> Result<Vec<Found>, AllocError>
+    ensures all { IfOk result (λ found. found.items ≡ refusals_of frames.now bytes.now) }
+    ensures first { IfOk result (λ found.
+        first_of found.items ≡ fault_of (program_of frames.now bytes.now)) }
+{
+    let found = all_refusals(alloc, bytes, frames)?;
+    Ok(found)
 }

@@ -1,6 +1,6 @@
 use Rattle.std.proofs.Common.{◌≡◌, ◌++◌, length}
 use Rattle.program_review.specs.Refusals.{refusals_from, refusals_of}
-use Rattle.program_review.proofs.refusals.review.Given as goal
+use Rattle.program_review.proofs.refusals.all_refusals.Given as goal
 
 -- what was found so far, and what is to be found in the statements left
 abbrev pub invariant-loop-statement : goal.invariant-loop-statement
