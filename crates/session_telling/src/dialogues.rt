@@ -67,7 +67,7 @@ fn end_of(bytes: &[u8]) -> Option<usize>
 }
 
 /// The first line without its LF, and the bytes after that; nothing if there is no LF.
-#[tactic(auto, using(crate::proofs::DialogueLemmas::unended_before, crate::proofs::DialogueLemmas::unended_whole))]
+#[tactic(auto, using(crate::proofs::DialogueLemmas::ended_line, crate::proofs::DialogueLemmas::unended_before, crate::proofs::DialogueLemmas::unended_whole))]
 fn cut(bytes: &[u8]) -> Option<(&[u8], &[u8])>
     ensures line { IfSome result (λ p. bytes.now ≡ p.0.now ++ 10 ∷ p.1.now) }
     ensures ended { IfSome result (λ p. IsUnended p.0.now) }
