@@ -134,7 +134,7 @@ fn drive_stream<R: Eprint + Clock + AllocGlobal, F: TextFile, O: Sink>(
     rt: &R,
     client: Client,
     stream: &TcpStream,
-    follower: &mut Follower<'_, R>,
+    follower: &mut Follower<'_, '_, R>,
     outputs: &mut RunOutputs<F, O>,
 ) -> Result<RunEnd, FilesFault> {
     let talk = follower.talk;
@@ -182,7 +182,7 @@ fn drive_client<
     client: Client,
     told: &ServerLedger,
     call: Call,
-    follower: &mut Follower<'_, R>,
+    follower: &mut Follower<'_, '_, R>,
 ) -> Result<u8, OrderFault>
     requires { may_connect follower.old.number client.client ≡ true }
 {

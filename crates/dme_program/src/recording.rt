@@ -203,11 +203,11 @@ pub fn open_record<R: Files<File = File> + Input + Eprint + AllocGlobal>(
 
 /// Who follows a run: reports its progress, and keeps its record, its features file and the contacts that its server reports.
 #[derive(Drop)]
-pub struct Follower<'a, R: Eprint> {
-    rt: &'a R,
-    progress: Progress<'a, R>,
+pub struct Follower<'a, 'b, R: Eprint> {
+    rt: &'b R,
+    progress: Progress<'b, R>,
     /// The lines of the connection, with the errors of its server.
-    pub talk: &'a RefCell<Talk<'a, R>>,
+    pub talk: &'a RefCell<Talk<'b, R>>,
     /// The number of the connection.
     pub number: u64,
     record: Option<(String, Recorder<LockedFile>)>,
@@ -216,11 +216,11 @@ pub struct Follower<'a, R: Eprint> {
     is_told: bool,
 }
 
-impl<'a, R: Eprint> Follower<'a, R> {
+impl<'a, 'b, R: Eprint> Follower<'a, 'b, R> {
     pub fn new(
-        rt: &'a R,
-        progress: Progress<'a, R>,
-        talk: &'a RefCell<Talk<'a, R>>,
+        rt: &'b R,
+        progress: Progress<'b, R>,
+        talk: &'a RefCell<Talk<'b, R>>,
         number: u64,
         record: Option<(String, Recorder<LockedFile>)>,
     ) -> Self {
@@ -243,7 +243,7 @@ impl<'a, R: Eprint> Follower<'a, R> {
     }
 }
 
-impl<'a, R: Eprint + AllocGlobal> Follower<'a, R> {
+impl<'a, 'b, R: Eprint + AllocGlobal> Follower<'a, 'b, R> {
     /// Appends to the record what a client has counted, and the errors of its server. A file that could not be written is reported once.
     fn record(&mut self, client: &Client) {
         let errors = match self.talk.try_borrow_mut() {
@@ -293,7 +293,7 @@ fn finish_record<R: Files + AllocGlobal>(
     }
 }
 
-impl<'a, R: Files + Eprint + AllocGlobal> Follower<'a, R> {
+impl<'a, 'b, R: Files + Eprint + AllocGlobal> Follower<'a, 'b, R> {
     /// Ends the record and the file of contacts, once the run has ended. A file that has failed is replaced by the whole text; the names of
     /// those for which that is not possible either. Fails only if out of memory: what was counted is not all written then.
     pub fn finish(self) -> Result<(Option<String>, Option<String>), OrderFault> {
@@ -315,7 +315,7 @@ impl<'a, R: Files + Eprint + AllocGlobal> Follower<'a, R> {
     }
 }
 
-impl<'a, R: Eprint + AllocGlobal> Watcher for Follower<'a, R> {
+impl<'a, 'b, R: Eprint + AllocGlobal> Watcher for Follower<'a, 'b, R> {
     ghost told = { λ _. None };
 
     fn completed(&mut self, number: usize, feature: &Feature) {
