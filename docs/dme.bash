@@ -4,11 +4,11 @@ _dme()
     local word=${COMP_WORDS[COMP_CWORD]} before=${COMP_WORDS[COMP_CWORD - 1]} options
     COMPREPLY=()
     if (( COMP_CWORD == 1 )); then
-        mapfile -t COMPREPLY < <(compgen -W "check simulate audit loop serve run explain export help --help" -- "$word")
+        mapfile -t COMPREPLY < <(compgen -W "check simulate audit loop serve run explain export help --help --version" -- "$word")
         return
     fi
     case $before in
-        --setup | --schedule | --features | --contacts | --record | --log)
+        --setup | --schedule | --features | --contacts | --record | --log | --stop)
             mapfile -t COMPREPLY < <(compgen -f -- "$word")
             return ;;
         --as)
@@ -17,7 +17,7 @@ _dme()
         --host | --listen)
             mapfile -t COMPREPLY < <(compgen -A hostname -- "$word")
             return ;;
-        --port | --window | --connections | --part)
+        --port | --window | --connections | --part | --timeout | --wait)
             return ;;
     esac
     case ${COMP_WORDS[1]} in
@@ -25,8 +25,8 @@ _dme()
         simulate) options="--setup --schedule --window --trace --explain" ;;
         audit) options="--setup --features --contacts --record --explain" ;;
         loop) options="--setup --window --progress --trace --explain" ;;
-        serve) options="--setup --listen --port --connections --contacts --progress --trace --log --explain" ;;
-        run) options="--setup --host --port --window --features --record --part --progress --trace --log --explain" ;;
+        serve) options="--setup --listen --port --connections --contacts --progress --trace --log --timeout --stop --explain" ;;
+        run) options="--setup --host --port --window --features --record --part --contacts --progress --trace --log --timeout --wait --stop --confirm --explain" ;;
         export) options="--as --setup --features --record --explain" ;;
         explain)
             options="P1 P2 P3 P4 P5 P6 P7 P8 P9 P10 P11 P12 P13 P14 P15 P16 N1 N2 N3 S1 S2 S3 H1 K1 J1 J2 J3 C4"

@@ -37,7 +37,7 @@ def options(command):
 def is_whole(name):
     """Whether the completion of these words is what the program reports."""
     if name == "commands":
-        return completed("") == commands() | {"--help"}
+        return completed("") == commands() | {"--help", "--version"} and told("--version")[0] == 0
     if name == "codes":
         codes = completed("explain", "")
         small = completed("explain", "p")

@@ -1,7 +1,10 @@
 -- Numbers that are counted up.
 use Rattle.std.proofs.Common.{◌≡◌, ℕ, ◌+◌, ◌%◌, Bool, true, false, cond, ◌==◌, ◌<◌, length, length-append, List, [], ◌∷◌, ◌++◌, refl, ap}
 use Rattle.std.proofs.Common.{◌∙◌, arith, append_assoc}
+use Rattle.std.specs.Prelude.{All, take}
 use Rattle.std.proofs.lemmas.Bool.{eqb-true, eqb-false}
+use Rattle.std.proofs.lemmas.List.Elements.{All-take}
+use Rattle.resume_plan.specs.Sendable.{IsSendable}
 use Rattle.dme_line.specs.declared.tags.Tag.TheVariants.{Std}
 use Rattle.dme_line.specs.Written.{written_command}
 use Rattle.protocol_model.specs.declared.plans.Planned.{Planned}
@@ -31,3 +34,7 @@ some_after front back = let all : length (front ++ 10 ∷ back) ≡ length front
 -- each plan has a line: it begins a session
 pub plan_has_text : (text : List ℕ) (program : Meaning) → text ≡ plan_text program → 0 < length text
 plan_has_text text program is = rw is (some_after _ _)
+
+-- the first of commands can be sent where all can
+pub first_are_sendable : (n : ℕ) (ps : List Planned) → All IsSendable ps → All IsSendable (take n ps)
+first_are_sendable n ps all = All-take IsSendable n ps all

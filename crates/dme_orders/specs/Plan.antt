@@ -1,6 +1,10 @@
 -- The plan of a program as text: the commands of the whole plan on a new connection as lines under tags that are counted up (the lines are
 -- those of the I++ DME Interface version 1, the tags this profile's).
-use Rattle.std.specs.Prelude.{ℕ, ◌+◌, ◌%◌, List, [], ◌∷◌, ◌++◌}
+use Rattle.std.specs.Prelude.{ℕ, ◌+◌, ◌%◌, Bool, true, false, List, [], ◌∷◌, ◌++◌, length, take}
+use Rattle.std.specs.List.{position}
+use Rattle.std.specs.Option.{option_map_or}
+use Rattle.dme_line.specs.declared.commands.Command.{Command}
+use Rattle.dme_line.specs.declared.commands.Command.TheVariants as command
 use Rattle.dme_line.specs.declared.tags.Tag.{Tag}
 use Rattle.dme_line.specs.declared.tags.Tag.TheVariants.{Std}
 use Rattle.dme_line.specs.Written.{written_command}
@@ -17,6 +21,18 @@ tag_behind count = Std (count % 9999 + 1)
 abbrev pub lines_behind : ℕ → List Planned → List ℕ
 lines_behind count [] = []
 lines_behind count (p ∷ ps) = written_command (tag_behind count) p.command ++ (10 ∷ lines_behind (count + 1) ps)
+
+-- a command that touches, and how many commands there are up to the first of these: all if there is none
+abbrev pub is_touch : Command → Bool
+is_touch (command.PtMeas target direction) = true
+is_touch _ = false
+
+abbrev pub count_to_touch : List Planned → ℕ
+count_to_touch ps = option_map_or (λ at. at + 1) (position (λ p. is_touch p.command) ps) (length ps)
+
+-- the commands of the plan for what is left after that many features, on a new connection, up to the first touch
+abbrev pub first_commands : Meaning → ℕ → List Planned
+first_commands program completed = take (count_to_touch (plan program completed NewConnection)) (plan program completed NewConnection)
 
 -- the text of the plan of a program of which nothing is completed
 abbrev pub plan_text : Meaning → List ℕ

@@ -142,7 +142,14 @@ pub fn drive<R: Source, W: Sink, N: Watcher, S: Steering, F: TextFile, O: Sink>(
         (W.has_failed ports.old.sink) (W.has_failed ports.new.sink)) }
 {
     let mut client = client;
-    let end = turned(alloc, &mut client, ports, watcher, steering, &mut outputs.features);
+    let end = turned(
+        alloc,
+        &mut client,
+        ports,
+        watcher,
+        steering,
+        &mut outputs.features,
+    );
     drop(client);
     let (driven, text) = end?;
     write_text(&mut outputs.report, text.as_slice())?;

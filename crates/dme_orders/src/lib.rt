@@ -52,7 +52,7 @@ pub use looping::{LoopTask, loop_over};
 pub use notes::{audit_notes, other_program_notes};
 pub use of_records::{RecordFiles, RecordText, audit_record, export_record};
 pub use orders::check_under_setup;
-pub use plan::plan_text;
+pub use plan::{first_lines, plan_text};
 pub use preparing::{features_and_program, setup_and_program};
 pub use reading::{FilesFault, Role, read_setup};
 pub use serving::{close_service, serve_one, with_break};

@@ -4,7 +4,7 @@ ghost use Rattle.std.specs.Prelude.{◌≡◌, ◌<◌, ◌≤◌, length, ◌++
 ghost use Rattle.dme_line.specs.Kinds.{kind_of, is_event_kind};
 ghost use Rattle.dme_line.specs.Written.{HasVolumeLengths};
 ghost use Rattle.resume_plan.specs.Sendable.{IsSendable};
-ghost use Rattle.dme_orders.specs.Plan.{lines_behind, plan_text};
+ghost use Rattle.dme_orders.specs.Plan.{count_to_touch, first_commands, is_touch, lines_behind, plan_text};
 ghost use Rattle.dme_orders.specs.Numbered.{number_behind, line_under};
 
 use dme_line::{Command, Tag, write_command};
@@ -53,6 +53,41 @@ fn lines_text(alloc: Global, commands: &[Planned]) -> Result<Vec<u8>, AllocError
         lines.push(&planned.command)?;
     }
     Ok(lines.text)
+}
+
+/// Whether a command touches.
+fn is_touch(command: &Command) -> bool
+    ensures { result ≡ is_touch command.now }
+{
+    matches!(command, Command::PtMeas(_, _))
+}
+
+/// How many commands there are up to the first touch; all if there is no touch.
+fn count_to_touch(commands: &[Planned]) -> usize
+    ensures count { result ≡ count_to_touch commands.now }
+    ensures within { result ≤ length commands.now }
+{
+    match commands
+        .iter()
+        .position(|planned| is_touch(&planned.command))
+    {
+        Some(at) => at + 1,
+        None => commands.len(),
+    }
+}
+
+/// The commands up to the first touch, as a plan begins on a new connection if that many features are completed, as lines. The caller must
+/// ensure that the program has that many features. Fails only if out of memory.
+#[tactic(auto, using(crate::proofs::PlanLemmas::first_are_sendable))]
+pub fn first_lines(alloc: Global, program: &Program, completed: usize) -> Result<Vec<u8>, AllocError>
+    requires { completed ≤ length program.now.features }
+    ensures { IfOk result (λ text. text.items
+        ≡ lines_behind 0 (first_commands program.now completed)) }
+{
+    let commands = plan(alloc, program, completed, Start::NewConnection)?;
+    let commands = commands.as_slice();
+    let (first, _) = commands.split_at(count_to_touch(commands));
+    lines_text(alloc, first)
 }
 
 /// The text of the plan of a program on a new connection, with no feature completed. Fails only if out of memory.

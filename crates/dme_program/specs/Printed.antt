@@ -26,7 +26,7 @@ abbrev pub record_shown : RecordRefusal → Fault
 record_shown cause.Memory = short
 record_shown refusal = fault.Record refusal
 
--- 2 for the command line, 1 for a record, else the status of the order's fault
+-- 2 for the command line, 1 for a record and for a run that is not confirmed, else the status of the order's fault
 abbrev pub exit_status : Fault → ℕ
 exit_status (fault.Words error) = 2
 exit_status fault.NotUtf8 = 2
@@ -36,6 +36,8 @@ exit_status (fault.Misfits why) = 2
 exit_status (fault.NoPart part) = 2
 exit_status fault.PartAlone = 2
 exit_status (fault.OneFile name) = 2
+exit_status (fault.NoSeconds option text) = 2
+exit_status fault.NotConfirmed = 1
 exit_status (fault.Record refusal) = 1
 exit_status (fault.ExplainedRecord refusal note) = 1
 exit_status (fault.Order cause) = status_of cause

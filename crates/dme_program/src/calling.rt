@@ -71,14 +71,13 @@ fn attempts<R: Files + Clock + Net<Listener = TcpListener, Stream = TcpStream>>(
 /// Calls a server: once, or again and again for that many seconds.
 pub fn call_server<R: Files + Clock + Net<Listener = TcpListener, Stream = TcpStream>>(
     rt: &R,
-    host: &str,
-    port: u16,
+    address: (&str, u16),
     wait: Option<u32>,
     patience: &Patience<'_, R>,
 ) -> Result<Called, OrderFault> {
     let made = match wait {
-        Some(seconds) => attempts(rt, (host, port), seconds, patience),
-        None => match TcpStream::connect(rt, (host, port)) {
+        Some(seconds) => attempts(rt, address, seconds, patience),
+        None => match TcpStream::connect(rt, address) {
             Ok(stream) => Ok(Some(stream)),
             Err(error) => Err(error),
         },

@@ -8,24 +8,24 @@ use crate::connecting::of_output;
 use crate::explaining::refused;
 use crate::faults::Fault;
 use crate::files::Sources;
-use crate::growing_files::FeaturesFile;
-use crate::keeping::tell_kept;
+use crate::growing_files::{FeaturesFile, ReportedContacts};
+use crate::keeping::{is_confirmed, tell_kept, tell_next};
 use crate::progress::Progress;
 use crate::recording::{Follower, OpenRecord, open_record, record_words};
 use crate::refusals::Refusals;
 use crate::talking::{HeardPort, Log, SaidPort, Side, Talk};
 use crate::text_files::NamedFile;
-use crate::waiting::{Patience, PatientSink, PatientSource, StopFile};
+use crate::waiting::{Patience, PatientSink, PatientSource, StopFile, seconds_of};
 use byte_ports::{Ports, Sink, Writing};
 use client_core::Client;
-use contact_ledger::{CONNECTION_MAX, FeatureLedger};
+use contact_ledger::{CONNECTION_MAX, FeatureLedger, ServerLedger};
 use dme_orders::{
     FilesFault, InputFiles, OrderFault, RunEnd, RunOutputs, TextFile, drive, features_and_program,
     kept_client,
 };
 use dme_words::Run;
 use dmis_program::Program;
-use link_world::Watcher;
+use program_review::touch_lines;
 use record_keeping::{Beginning, Recorder};
 use std::alloc::{AllocError, Global};
 use std::cell::RefCell;
@@ -47,6 +47,17 @@ fn with_unwritten<R: Eprint>(
         return verdict;
     }
     Err(Fault::Order(unwritten))
+}
+
+/// Likewise for two files.
+fn with_both_unwritten<R: Eprint>(
+    rt: &R,
+    verdict: Result<u8, Fault>,
+    names: (Option<String>, Option<String>),
+) -> Result<u8, Fault> {
+    let (first, second) = names;
+    let verdict = with_unwritten(rt, verdict, second);
+    with_unwritten(rt, verdict, first)
 }
 
 /// What is shown of a run whose features were to be written to a file of this name, if any.
@@ -74,6 +85,8 @@ struct Call {
     window: u8,
     /// The file that the features are written to.
     features: Option<String>,
+    /// The file that the contacts which the server reports are written to.
+    contacts: Option<String>,
     progress: bool,
     /// Whether the lines of the connection are shown.
     trace: bool,
@@ -81,13 +94,17 @@ struct Call {
     log: Option<Log>,
     /// How many seconds it may take to make the connection, if it is tried again and again.
     wait: Option<u32>,
+    /// Whether the run waits for a confirmation before it connects.
+    confirm: bool,
+    /// The lines of the program's touches.
+    lines: Vec<u64>,
 }
 
-/// What is known, for the errors of its server, of a client that has come to a connection.
-fn still_wanted(alloc: Global, client: &Client) -> Result<Refusals, AllocError> {
+/// What is known, for the errors of its server, of a client whose program has touches on these lines.
+fn still_wanted(alloc: Global, client: &Client, lines: &[u64]) -> Result<Refusals, AllocError> {
     let wanted = client.program().features();
     let held = client.features().len().min(wanted.len());
-    Refusals::new(alloc, &wanted[held..])
+    Refusals::new(alloc, &wanted[held..], lines)
 }
 
 /// What is shown of the lines of a client's connection of this number, and of its server's errors.
@@ -95,36 +112,43 @@ fn talk_of<'a, R: AllocGlobal>(
     rt: &'a R,
     client: &Client,
     number: u64,
-    trace: bool,
-    log: Option<Log>,
+    call: &mut Call,
 ) -> Result<RefCell<Talk<'a, R>>, AllocError> {
-    let wanted = still_wanted(rt.alloc(), client)?;
-    let mut talk = Talk::new(rt, trace, log);
+    let wanted = still_wanted(rt.alloc(), client, call.lines.as_slice())?;
+    let mut talk = Talk::new(rt, call.trace, call.log.take());
     talk.begin(number);
     talk.tell_errors(wanted);
     Ok(RefCell::new(talk))
 }
 
+/// Reports what comes next, if a run continues or is to be confirmed, and waits for the confirmation, if it is asked for.
+fn confirm<R: Input + Eprint + AllocGlobal>(
+    rt: &R,
+    client: &Client,
+    call: &Call,
+) -> Result<(), Fault> {
+    if client.features().is_empty() && !call.confirm {
+        return Ok(());
+    }
+    tell_next(rt, client, call.lines.as_slice())?;
+    if call.confirm && !is_confirmed(rt) {
+        return Err(Fault::NotConfirmed);
+    }
+    Ok(())
+}
+
 /// A client that has come to its connection takes its turns over a stream, whose lines go by.
-fn drive_stream<
-    R: Files + Eprint + Clock + AllocGlobal,
-    N: Watcher,
-    F: TextFile,
-    O: Sink,
->(
+fn drive_stream<R: Files + Eprint + Clock + AllocGlobal, F: TextFile, O: Sink>(
     rt: &R,
     client: Client,
-    wire: (&TcpStream, &RefCell<Talk<'_, R>>, &Patience<'_, R>),
-    watcher: &mut N,
+    (stream, patience): (&TcpStream, &Patience<'_, R>),
+    follower: &mut Follower<'_, '_, R>,
     outputs: &mut RunOutputs<F, O>,
 ) -> Result<RunEnd, FilesFault> {
-    let (stream, talk, patience) = wire;
+    let talk = follower.talk;
+    let source = PatientSource::new(stream, patience, false);
     let mut ports = Ports {
-        source: HeardPort::new(
-            PatientSource::new(stream, patience, false),
-            Side::Server,
-            talk,
-        ),
+        source: HeardPort::new(source, Side::Server, talk),
         sink: SaidPort::new(PatientSink::new(stream, patience), Side::Client, talk),
     };
     let mut steering = StopFile::new(patience, stream);
@@ -132,13 +156,37 @@ fn drive_stream<
         rt.alloc(),
         client,
         &mut ports,
-        watcher,
+        follower,
         &mut steering,
         outputs,
     )
 }
 
-/// A client takes its turns over a connection to the server that is called.
+/// The file of contacts of this name, if one is named, which begins with these acts.
+fn reported_contacts<R: Files<File = File> + AllocGlobal>(
+    rt: &R,
+    name: Option<&str>,
+    told: &ServerLedger,
+) -> Result<Option<ReportedContacts>, OrderFault> {
+    match name {
+        Some(name) => Ok(Some(ReportedContacts::open(rt, name, told)?)),
+        None => Ok(None),
+    }
+}
+
+/// The features file of this name that is to grow, if one is named.
+fn growing_features<R: Files<File = File> + AllocGlobal>(
+    rt: &R,
+    name: Option<&str>,
+    client: &Client,
+) -> Result<Option<FeaturesFile>, OrderFault> {
+    match name {
+        Some(name) => FeaturesFile::open(rt, name, client),
+        None => Ok(None),
+    }
+}
+
+/// A client takes its turns over a connection of this number to the server that is called. `told` is what servers reported before.
 fn drive_client<
     R: Files<File = File>
         + Print
@@ -149,32 +197,29 @@ fn drive_client<
 >(
     rt: &R,
     client: Client,
-    number: u64,
-    call: Call,
-    patience: &Patience<'_, R>,
-    follower: &mut Follower<'_, R>,
+    told: &ServerLedger,
+    (call, patience): (Call, &Patience<'_, R>),
+    follower: &mut Follower<'_, '_, R>,
 ) -> Result<u8, Fault>
-    requires { may_connect number client.client ≡ true }
+    requires { may_connect follower.old.number client.client ≡ true }
 {
     let features = NamedFile::new(rt, call.features.as_deref())?;
     let mut outputs = RunOutputs {
         features,
         report: Writing::new(io::writer(rt)),
     };
-    let stream = match call_server(rt, call.host.as_str(), call.port, call.wait, patience)? {
+    let stream = match call_server(rt, (call.host.as_str(), call.port), call.wait, patience)? {
         Called::Connected(stream) => stream,
         Called::Stopped => return Ok(patience.not_begun()),
     };
     let mut client = client;
-    if let Some(name) = &call.features {
-        follower.grow(FeaturesFile::open(rt, name.as_str(), &client)?);
-    }
-    if client.connected(number).is_err() {
+    let growing = growing_features(rt, call.features.as_deref(), &client)?;
+    let contacts = reported_contacts(rt, call.contacts.as_deref(), told)?;
+    follower.grow(growing, contacts);
+    if client.connected(follower.number).is_err() {
         return Err(Fault::Order(OrderFault::Memory));
     }
-    let talk = talk_of(rt, &client, number, call.trace, call.log)?;
-    let wire = (&stream, &talk, patience);
-    let result = drive_stream(rt, client, wire, follower, &mut outputs);
+    let result = drive_stream(rt, client, (&stream, patience), follower, &mut outputs);
     drop(outputs);
     match result {
         Ok(driven) => client_verdict(rt, driven, call.features, patience),
@@ -185,6 +230,7 @@ fn drive_client<
 /// A program on a server, and its report on standard output.
 fn drive_program<
     R: Files<File = File>
+        + Input
         + Print
         + Eprint
         + Clock
@@ -199,6 +245,7 @@ fn drive_program<
 ) -> Result<u8, Fault>
     requires { is_window call.window ≡ true }
 {
+    let mut call = call;
     let progress = Progress::new(rt, call.progress, program.features().len());
     let client = kept_client(rt.alloc(), program, kept, call.window)?;
     if let Some(name) = &call.features {
@@ -209,13 +256,19 @@ fn drive_program<
             client.program().features(),
         );
     }
-    let mut follower = Follower::new(rt, progress, None);
-    drive_client(rt, client, 1, call, patience, &mut follower)
+    confirm(rt, &client, &call)?;
+    let talk = talk_of(rt, &client, 1, &mut call)?;
+    let mut follower = Follower::new(rt, progress, &talk, 1, None);
+    let told = ServerLedger::new(rt.alloc());
+    let verdict = drive_client(rt, client, &told, (call, patience), &mut follower);
+    let unwritten = follower.finish()?;
+    with_both_unwritten(rt, verdict, unwritten)
 }
 
 /// Likewise, with a record of it. A record in which the last connection has the greatest possible number cannot be written.
 fn drive_recorded<
     R: Files<File = File>
+        + Input
         + Print
         + Eprint
         + Clock
@@ -230,6 +283,7 @@ fn drive_recorded<
 ) -> Result<u8, Fault>
     requires { is_window call.window ≡ true }
 {
+    let mut call = call;
     let progress = Progress::new(rt, call.progress, program.features().len());
     let OpenRecord {
         name,
@@ -238,6 +292,7 @@ fn drive_recorded<
     } = open;
     let Beginning {
         features,
+        told,
         connection,
         text,
         ..
@@ -247,17 +302,12 @@ fn drive_recorded<
     }
     let recorder = Recorder::new(connection, features.list().len(), text, file);
     let client = kept_client(rt.alloc(), program, features, call.window)?;
-    let mut follower = Follower::new(rt, progress, Some((name, recorder)));
-    let verdict = drive_client(rt, client, connection, call, patience, &mut follower);
+    confirm(rt, &client, &call)?;
+    let talk = talk_of(rt, &client, connection, &mut call)?;
+    let mut follower = Follower::new(rt, progress, &talk, connection, Some((name, recorder)));
+    let verdict = drive_client(rt, client, &told, (call, patience), &mut follower);
     let unwritten = follower.finish()?;
-    with_unwritten(rt, verdict, unwritten)
-}
-
-fn seconds_of(text: Option<String>) -> Option<u32> {
-    match text {
-        Some(text) => text.parse().ok(),
-        None => None,
-    }
+    with_both_unwritten(rt, verdict, unwritten)
 }
 
 /// The order `run`: its exit status. Its features file and its record are read if there are such files, and never from standard input.
@@ -272,6 +322,8 @@ pub fn run_program<
 >(rt: &R, order: Run) -> Result<u8, Fault>
     requires { is_window order.window ≡ true }
 {
+    let timeout = seconds_of("timeout", order.timeout)?;
+    let wait = seconds_of("wait", order.wait)?;
     let words = record_words(
         order.record,
         order.part,
@@ -282,7 +334,7 @@ pub fn run_program<
     let mut sources = Sources::new(rt, order.explain);
     let mut setup = sources.file(order.setup);
     let mut features = sources.kept(order.features);
-    let mut program = sources.file(order.program);
+    let mut program = sources.file(order.program).keeping();
     let read = features_and_program(rt.alloc(), &mut setup, &mut features, &mut program);
     let mut files = InputFiles::unnamed(rt.alloc());
     files.setup = setup.into_file();
@@ -292,10 +344,11 @@ pub fn run_program<
         Ok(read) => read,
         Err(fault) => return Err(refused(rt.alloc(), fault, files, order.explain)),
     };
-    let patience = Patience::new(rt, seconds_of(order.timeout), order.stop);
+    let patience = Patience::new(rt, timeout, order.stop);
     if patience.is_stopped() {
         return Ok(patience.not_begun());
     }
+    let lines = touch_lines(rt.alloc(), files.program.text.as_slice())?;
     let features = files.features;
     let log = Log::named(rt, order.log);
     let call = Call {
@@ -303,10 +356,13 @@ pub fn run_program<
         port: order.port,
         window: order.window,
         features: if is_kept { Some(features.name) } else { None },
+        contacts: order.contacts,
         progress: order.progress,
         trace: order.trace,
         log,
-        wait: seconds_of(order.wait),
+        wait,
+        confirm: order.confirm,
+        lines,
     };
     let Some(words) = words else {
         return drive_program(rt, kept, program, call, &patience);

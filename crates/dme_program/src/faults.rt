@@ -38,6 +38,12 @@ pub enum Fault {
     /// The same file for features and for a record.
     #[error("error: '--features' and '--record' name one file, '{0}'\n\nFor more information, try '--help'.\n")]
     OneFile(String),
+    /// A number of seconds that an option does not take.
+    #[error("error: invalid value '{1}' for '--{0} <SECONDS>': a number from 1 to 86400\n\nFor more information, try '--help'.\n")]
+    NoSeconds(&'static str, String),
+    /// A run that is not confirmed.
+    #[error("dme: not confirmed, nothing has moved\n")]
+    NotConfirmed,
     /// A record that the run may not continue; never because memory ran out.
     #[error("dme: {0} in record\n")]
     Record(RecordRefusal),
@@ -117,14 +123,15 @@ impl Fault {
         }
     }
 
-    /// The exit status: 2 for the command line, else that of the order's fault.
+    /// The exit status: 2 for the command line, 1 for a record and for a run that is not confirmed, else that of the order's fault.
     pub fn status(&self) -> u8
         ensures { result ≡ exit_status self.now }
     {
         match self {
             Fault::Words(_) | Fault::NotUtf8 | Fault::NoCode(_) | Fault::NoForm(_) => 2,
             Fault::Misfits(_) | Fault::NoPart(_) | Fault::PartAlone | Fault::OneFile(_) => 2,
-            Fault::Record(_) | Fault::ExplainedRecord(_, _) => 1,
+            Fault::NoSeconds(_, _) => 2,
+            Fault::NotConfirmed | Fault::Record(_) | Fault::ExplainedRecord(_, _) => 1,
             Fault::Order(cause) | Fault::Explained(cause, _) => cause.status(),
         }
     }

@@ -37,6 +37,14 @@ pub struct NamedSource<'a, R: Files + Input> {
 }
 
 impl<'a, R: Files + Input> NamedSource<'a, R> {
+    /// This source, which keeps the text that is read from it.
+    pub fn keeping(self) -> NamedSource<'a, R> {
+        NamedSource {
+            is_kept: true,
+            ..self
+        }
+    }
+
     /// The file's name, and what was read of it, as far as it was kept.
     pub fn into_file(self) -> InputFile {
         InputFile {

@@ -1,9 +1,11 @@
-// What a run reports, before it connects, of the features that it keeps.
+// What a run reports before it connects: the features that it keeps, and what comes next. It may be asked to wait for a confirmation.
 
+use client_core::Client;
 use contact_ledger::Feature;
+use dme_orders::{OrderFault, first_lines};
 use dmis_program::{Touch, Wanted};
 use fixed_um::Frame;
-use std::io;
+use std::io::{self, Read};
 
 /// The frame of the last of touches.
 fn last_frame(touches: &[Touch]) -> Frame {
@@ -56,5 +58,71 @@ pub fn tell_kept<R: Eprint>(rt: &R, name: &str, features: &[Feature], wanted: &[
     }
     for at in 0..kept.min(total) {
         let _ = tell_other_frame(rt, &features[at], &wanted[at]);
+    }
+}
+
+/// How many touches features have.
+fn touches_of(wanted: &[Wanted]) -> usize {
+    let mut count: usize = 0;
+    for feature in wanted {
+        count = count.saturating_add(feature.touches.as_slice().len());
+    }
+    count
+}
+
+/// Reports the first feature that is still to be measured, with the line of its first touch, if that is known.
+fn tell_next_feature<R: Eprint>(rt: &R, wanted: &[Wanted], held: usize, lines: &[u64]) {
+    let Some(next) = wanted.get(held) else {
+        let _ = eprintln!(rt; "dme: no feature is left to be measured");
+        return;
+    };
+    let label = &next.label;
+    match lines.get(touches_of(&wanted[..held])) {
+        Some(line) => {
+            let _ = eprintln!(rt; "dme: next is feature {label}, line {line}");
+        }
+        None => {
+            let _ = eprintln!(rt; "dme: next is feature {label}");
+        }
+    }
+}
+
+/// Reports what comes next, before a run connects: the first feature that is still to be measured, and the commands up to its first touch.
+/// The first moves start where the probe stands. Lines that cannot be written change nothing. Fails only if out of memory.
+pub fn tell_next<R: Eprint + AllocGlobal>(
+    rt: &R,
+    client: &Client,
+    lines: &[u64],
+) -> Result<(), OrderFault> {
+    let wanted = client.program().features();
+    let held = client.features().len().min(wanted.len());
+    tell_next_feature(rt, wanted, held, lines);
+    let text = first_lines(rt.alloc(), client.program(), held)?;
+    let _ = eprintln!(rt; "dme: it begins from where the probe stands, with");
+    for line in text.as_slice().split(|byte| *byte == b'\n') {
+        let shown = str::from_utf8(line).unwrap_or("");
+        if !shown.is_empty() {
+            let _ = eprintln!(rt; "dme:   {shown}");
+        }
+    }
+    Ok(())
+}
+
+/// The next byte of standard input, if there is one.
+fn next_byte<R: Input>(rt: &R) -> Option<u8> {
+    let mut byte = [0u8; 1];
+    match rt.reader().read(&mut byte) {
+        Ok(1) => Some(byte[0]),
+        _ => None,
+    }
+}
+
+/// Waits for a line on standard input: whether it is empty. Anything else, and the end of the input, is no confirmation.
+pub fn is_confirmed<R: Input + Eprint>(rt: &R) -> bool {
+    let _ = eprintln!(rt; "dme: an empty line begins the run, anything else ends it");
+    match next_byte(rt) {
+        Some(b'\n') => true,
+        Some(b'\r') => next_byte(rt) == Some(b'\n'),
+        _ => false,
     }
 }

@@ -6,13 +6,13 @@
 //! - `running`: an order is carried out on files and the standard streams; `connecting`, `driving_connection`, `serving_connections`: one
 //!   that needs a connection, on sockets too; `exporting`: what was measured is printed, and what a refusal means
 //! - `files`: the files of an order as ports; `text_files`: files that are replaced as a whole
-//! - `growing_files`: files that grow during a run; `recording`: the record of a run, which is one; `keeping`: what a run reports of the
-//!   features that it keeps
+//! - `growing_files`: files that grow during a run; `recording`: the record of a run, which is one; `keeping`: what a run reports before it
+//!   connects
 //! - `progress`: lines that report how far an order is; `tracing`: the lines of a connection to itself; `talking`: those of other
 //!   connections, shown or added to a log; `refusals`: what is reported of a server's errors
 //! - `calling`: how a server is called; `waiting`: time limits and stop files
 //! - `explaining`: what is shown for an order whose files are refused
-//! - `faults`: what is printed on standard error, and the exit status
+//! - `faults`: what is printed on standard error, and the exit status; `version`: which program this is
 #![tactic(auto)]
 
 mod calling;
@@ -32,6 +32,7 @@ mod serving_connections;
 mod talking;
 mod text_files;
 mod tracing;
+mod version;
 mod waiting;
 
 use std::process::ExitCode;

@@ -5,9 +5,10 @@ ghost use Rattle.std.specs.Prelude.{None};
 use crate::explaining::text_of;
 use crate::faults::Fault;
 use crate::files::Sources;
-use crate::growing_files::{FeaturesFile, LockedFile};
+use crate::growing_files::{FeaturesFile, LockedFile, ReportedContacts};
 use crate::keeping::tell_kept;
 use crate::progress::Progress;
+use crate::talking::Talk;
 use crate::text_files::NamedFile;
 use byte_ports::{PullFault, pull_all};
 use client_core::Client;
@@ -19,6 +20,7 @@ use record_keeping::{Beginning, RecordRefusal, Recorder, begin_record};
 use refusal_guide::{Refused, write_other_part, write_other_program, write_place};
 use run_record::{RecordFault, is_part, read_record};
 use std::alloc::{AllocError, Global};
+use std::cell::RefCell;
 use std::fs::{self, File};
 use std::rt::Files;
 
@@ -199,82 +201,121 @@ pub fn open_record<R: Files<File = File> + Input + Eprint + AllocGlobal>(
     })
 }
 
-/// Who follows a run: reports its progress, and keeps its record and its features file.
+/// Who follows a run: reports its progress, and keeps its record, its features file and the contacts that its server reports.
 #[derive(Drop)]
-pub struct Follower<'a, R: Eprint> {
-    rt: &'a R,
-    progress: Progress<'a, R>,
+pub struct Follower<'a, 'b, R: Eprint> {
+    rt: &'b R,
+    progress: Progress<'b, R>,
+    /// The lines of the connection, with the errors of its server.
+    pub talk: &'a RefCell<Talk<'b, R>>,
+    /// The number of the connection.
+    pub number: u64,
     record: Option<(String, Recorder<LockedFile>)>,
     features: Option<FeaturesFile>,
+    contacts: Option<ReportedContacts>,
     is_told: bool,
 }
 
-impl<'a, R: Eprint> Follower<'a, R> {
+impl<'a, 'b, R: Eprint> Follower<'a, 'b, R> {
     pub fn new(
-        rt: &'a R,
-        progress: Progress<'a, R>,
+        rt: &'b R,
+        progress: Progress<'b, R>,
+        talk: &'a RefCell<Talk<'b, R>>,
+        number: u64,
         record: Option<(String, Recorder<LockedFile>)>,
     ) -> Self {
         Follower {
             rt,
             progress,
+            talk,
+            number,
             record,
             features: None,
+            contacts: None,
             is_told: false,
         }
     }
 
-    /// From now on a features file grows too.
-    pub fn grow(&mut self, features: Option<FeaturesFile>) {
+    /// From now on a features file grows too, and one of contacts.
+    pub fn grow(&mut self, features: Option<FeaturesFile>, contacts: Option<ReportedContacts>) {
         self.features = features;
+        self.contacts = contacts;
     }
+}
 
-    /// Appends to the record what a client has counted. A file that could not be written is reported once.
+impl<'a, 'b, R: Eprint + AllocGlobal> Follower<'a, 'b, R> {
+    /// Appends to the record what a client has counted, and the errors of its server. A file that could not be written is reported once.
     fn record(&mut self, client: &Client) {
+        let errors = match self.talk.try_borrow_mut() {
+            Ok(mut talk) => talk.take_errors(),
+            Err(_) => Vec::new(self.rt.alloc()),
+        };
         let Some((name, recorder)) = &mut self.record else {
             return;
         };
-        recorder.follow(client);
+        recorder.follow(client, errors.as_slice());
         if recorder.has_failed() && !self.is_told {
             self.is_told = true;
             let _ = eprintln!(self.rt; "dme: cannot write {name}");
         }
     }
-}
 
-impl<'a, R: Files + Eprint + AllocGlobal> Follower<'a, R> {
-    /// Ends the record, once the run has ended. A file that has failed is replaced by the whole text; its name, if that is not possible
-    /// either. Fails only if out of memory: what was counted is not all recorded then.
-    pub fn finish(self) -> Result<Option<String>, OrderFault> {
-        let Follower {
-            rt,
-            progress,
-            record,
-            features,
-            is_told: _,
-        } = self;
-        drop(progress);
-        drop(features);
-        let Some((name, recorder)) = record else {
-            return Ok(None);
+    /// Appends to the file of contacts what a client has counted. One that could not be written is reported once.
+    fn add_contacts(&mut self, client: &Client) {
+        let Some(contacts) = &mut self.contacts else {
+            return;
         };
-        if !recorder.is_whole() {
-            return Err(OrderFault::Memory);
-        }
-        if !recorder.has_failed() {
-            return Ok(None);
-        }
-        let mut file = NamedFile::new(rt, Some(name.as_str()))?;
-        let result = file.replace(recorder.text());
-        drop(file);
-        match result {
-            Ok(()) => Ok(None),
-            Err(_) => Ok(Some(name)),
+        if !contacts.follow(self.number, client) {
+            let name = &contacts.name;
+            let _ = eprintln!(self.rt; "dme: cannot write {name}");
         }
     }
 }
 
-impl<'a, R: Eprint + AllocGlobal> Watcher for Follower<'a, R> {
+/// Ends a record: its name if its file has failed and cannot be replaced by the whole text. Fails only if out of memory.
+fn finish_record<R: Files + AllocGlobal>(
+    rt: &R,
+    name: String,
+    recorder: Recorder<LockedFile>,
+) -> Result<Option<String>, OrderFault> {
+    if !recorder.is_whole() {
+        return Err(OrderFault::Memory);
+    }
+    if !recorder.has_failed() {
+        return Ok(None);
+    }
+    let mut file = NamedFile::new(rt, Some(name.as_str()))?;
+    let result = file.replace(recorder.text());
+    drop(file);
+    match result {
+        Ok(()) => Ok(None),
+        Err(_) => Ok(Some(name)),
+    }
+}
+
+impl<'a, 'b, R: Files + Eprint + AllocGlobal> Follower<'a, 'b, R> {
+    /// Ends the record and the file of contacts, once the run has ended. A file that has failed is replaced by the whole text; the names of
+    /// those for which that is not possible either. Fails only if out of memory: what was counted is not all written then.
+    pub fn finish(self) -> Result<(Option<String>, Option<String>), OrderFault> {
+        let Follower {
+            rt,
+            record,
+            contacts,
+            ..
+        } = self;
+        let record = match record {
+            Some((name, recorder)) => finish_record(rt, name, recorder)?,
+            None => None,
+        };
+        let contacts = match contacts {
+            Some(contacts) => contacts.finish(rt)?,
+            None => None,
+        };
+        Ok((record, contacts))
+    }
+}
+
+impl<'a, 'b, R: Eprint + AllocGlobal> Watcher for Follower<'a, 'b, R> {
     ghost told = { λ _. None };
 
     fn completed(&mut self, number: usize, feature: &Feature) {
@@ -283,6 +324,7 @@ impl<'a, R: Eprint + AllocGlobal> Watcher for Follower<'a, R> {
 
     fn turned(&mut self, client: &Client) {
         self.record(client);
+        self.add_contacts(client);
         let Some(file) = &mut self.features else {
             return;
         };

@@ -13,6 +13,7 @@ use crate::faults::Fault;
 use crate::files::{NamedSource, Sources};
 use crate::serving_connections::serve;
 use crate::tracing::ErrorOutput;
+use crate::version;
 use byte_ports::Writing;
 use dme_orders::{
     AuditFiles, FilesFault, InputFiles, RecordFiles, SimulationFiles, audit_files, audit_record,
@@ -36,16 +37,19 @@ fn words_of(alloc: Global, given: &[String]) -> Result<Vec<&str>, AllocError> {
     Ok(words)
 }
 
+/// The command line as it was given.
+fn given_words<R: Env + AllocGlobal>(rt: &R) -> Result<Vec<String>, Fault> {
+    match env::args(rt) {
+        Ok(given) => Ok(given.collect::<Vec<String>>(rt.alloc())?),
+        Err(error) => Err(Fault::of_words(error.kind())),
+    }
+}
+
 /// The order that the command line asks for.
-fn read_order<R: Env + AllocGlobal>(rt: &R) -> Result<Order, Fault>
+fn read_order(alloc: Global, given: &[String]) -> Result<Order, Fault>
     ensures { IfOk result IsReady }
 {
-    let alloc = rt.alloc();
-    let given = match env::args(rt) {
-        Ok(given) => given.collect::<Vec<String>>(alloc)?,
-        Err(error) => return Err(Fault::of_words(error.kind())),
-    };
-    let words = words_of(alloc, given.as_slice())?;
+    let words = words_of(alloc, given)?;
     Ok(read_words(alloc, words.as_slice())?)
 }
 
@@ -215,6 +219,10 @@ pub fn run<
         + Net<Listener = TcpListener, Stream = TcpStream>
         + AllocGlobal,
 >(rt: &R) -> Result<u8, Fault> {
-    let order = read_order(rt)?;
+    let given = given_words(rt)?;
+    if version::is_asked(given.as_slice()) {
+        return version::tell(rt);
+    }
+    let order = read_order(rt.alloc(), given.as_slice())?;
     carry_out(rt, order)
 }

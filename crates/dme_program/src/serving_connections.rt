@@ -9,7 +9,7 @@ use crate::files::Sources;
 use crate::growing_files::{ContactsFile, NextContacts};
 use crate::talking::{HeardPort, Log, SaidPort, Side, Talk};
 use crate::text_files::NamedFile;
-use crate::waiting::{LOOK_MS, Patience, PatientSink, PatientSource};
+use crate::waiting::{LOOK_MS, Patience, PatientSink, PatientSource, seconds_of};
 use byte_ports::{Ports, Writing};
 use contact_ledger::ServerLedger;
 use dme_orders::{
@@ -282,13 +282,6 @@ fn serve_setup<
     }
 }
 
-fn seconds_of(text: Option<String>) -> Option<u32> {
-    match text {
-        Some(text) => text.parse().ok(),
-        None => None,
-    }
-}
-
 /// The order `serve`: its exit status.
 pub fn serve<
     R: Files<File = File>
@@ -299,6 +292,7 @@ pub fn serve<
         + Net<Listener = TcpListener, Stream = TcpStream>
         + AllocGlobal,
 >(rt: &R, order: Service) -> Result<u8, Fault> {
+    let timeout = seconds_of("timeout", order.timeout)?;
     let mut source = Sources::new(rt, order.explain).file(order.setup);
     let setup = match read_setup(rt.alloc(), &mut source) {
         Ok(setup) => setup,
@@ -318,6 +312,6 @@ pub fn serve<
         trace: order.trace,
         contacts: order.contacts,
     };
-    let patience = Patience::new(rt, seconds_of(order.timeout), order.stop);
+    let patience = Patience::new(rt, timeout, order.stop);
     serve_setup(rt, setup, post, log, &patience)
 }

@@ -1,41 +1,14 @@
 // The lines of connections, as they go through the ports: shown if asked, added to a log, and the errors among them reported.
 
-ghost use Rattle.std.specs.Prelude.{◌≡◌, ◌<◌};
-
 use crate::refusals::Refusals;
 use byte_ports::{Failed, Sink, Source};
 use jiff::Timestamp;
-use std::alloc::{AllocError, Global};
+use session_telling::visible;
+use std::alloc::AllocError;
 use std::cell::RefCell;
 use std::fs::{File, OpenOptions};
 use std::io::Write;
 use std::rt::{Clock, Files};
-
-/// A hexadecimal digit.
-fn hex_digit(value: u8) -> char
-    requires { value < 16 }
-{
-    if value < 10 {
-        (b'0' + value) as char
-    } else {
-        (b'A' + (value - 10)) as char
-    }
-}
-
-/// Bytes of a peer as they can be read: from 32 to 126 as they are, any other as `\xNN`.
-pub fn visible(alloc: Global, bytes: &[u8]) -> Result<String, AllocError> {
-    let mut text = String::new(alloc);
-    for byte in bytes {
-        if *byte >= 32 && *byte <= 126 {
-            text.push(*byte as char)?;
-        } else {
-            text.push_str("\\x")?;
-            text.push(hex_digit(*byte / 16))?;
-            text.push(hex_digit(*byte % 16))?;
-        }
-    }
-    Ok(text)
-}
 
 /// A file that lines are added to, each after the time at which it came. One that cannot be written is reported once, and then left alone.
 #[derive(Drop)]
@@ -142,6 +115,14 @@ impl<'a, R: AllocGlobal> Talk<'a, R> {
         self.client.clear();
         self.server.clear();
     }
+
+    /// The errors that the server reported since this was called last, each from its tag on.
+    pub fn take_errors(&mut self) -> Vec<Vec<u8>> {
+        match &mut self.refusals {
+            Some(refusals) => refusals.take_errors(self.rt.alloc()),
+            None => Vec::new(self.rt.alloc()),
+        }
+    }
 }
 
 impl<'a, R: Eprint + Clock + AllocGlobal> Talk<'a, R> {
@@ -157,23 +138,19 @@ impl<'a, R: Eprint + Clock + AllocGlobal> Talk<'a, R> {
         format!(in self.rt.alloc(); "{number} {mark} {text}")
     }
 
-    /// Reports the error of a line, if it is one.
-    fn refuse(&mut self, side: Side) -> Result<(), AllocError> {
+    /// Reports the errors of bytes of a side.
+    fn refuse(&mut self, side: Side, bytes: &[u8]) -> Result<(), AllocError> {
         let Some(refusals) = &mut self.refusals else {
             return Ok(());
         };
         match side {
-            Side::Client => refusals.send(self.rt.alloc(), self.client.as_slice()),
-            Side::Server => refusals.tell(self.rt, self.server.as_slice()),
+            Side::Client => refusals.send(self.rt.alloc(), bytes),
+            Side::Server => refusals.hear(self.rt, bytes),
         }
     }
 
     /// A line of a side has come to its end.
     fn show(&mut self, side: Side) -> Result<(), AllocError> {
-        self.refuse(side)?;
-        if !self.trace && self.log.is_none() {
-            return Ok(());
-        }
         let shown = self.shown(side)?;
         if self.trace {
             let _ = eprintln!(self.rt; "{shown}");
@@ -201,19 +178,43 @@ impl<'a, R: Eprint + Clock + AllocGlobal> Talk<'a, R> {
         Ok(())
     }
 
+    /// Bytes of a side, of which the last alone may be the end of a line.
+    fn keep_piece(&mut self, side: Side, piece: &[u8]) -> Result<(), AllocError> {
+        self.refuse(side, piece)?;
+        if !self.trace && self.log.is_none() {
+            return Ok(());
+        }
+        for byte in piece {
+            self.keep(side, *byte)?;
+        }
+        Ok(())
+    }
+
+    /// Bytes that a side has written, line by line.
+    fn keep_lines(&mut self, side: Side, bytes: &[u8]) -> Result<(), AllocError> {
+        let mut rest = bytes;
+        while !rest.is_empty() {
+            let end = match rest.iter().position(|byte| *byte == b'\n') {
+                Some(at) => at + 1,
+                None => rest.len(),
+            };
+            let (piece, after) = rest.split_at(end);
+            self.keep_piece(side, piece)?;
+            rest = after;
+        }
+        Ok(())
+    }
+
     /// Bytes that a side has written. If memory runs out for them, that is reported, and no more is shown.
     fn keep_all(&mut self, side: Side, bytes: &[u8]) {
         if !self.trace && self.log.is_none() && self.refusals.is_none() {
             return;
         }
-        for byte in bytes {
-            if self.keep(side, *byte).is_err() {
-                let _ = eprintln!(self.rt; "dme: out of memory for the lines of the connection");
-                self.trace = false;
-                self.log = None;
-                self.refusals = None;
-                return;
-            }
+        if self.keep_lines(side, bytes).is_err() {
+            let _ = eprintln!(self.rt; "dme: out of memory for the lines of the connection");
+            self.trace = false;
+            self.log = None;
+            self.refusals = None;
         }
     }
 }

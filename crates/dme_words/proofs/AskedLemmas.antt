@@ -100,7 +100,7 @@ service : (words : List Text) → level_fault (leaf serve_line) [] nothing_held 
 service words none =
     let c = (leaf serve_line).rules in
     let found = level_found (leaf serve_line) words refl
-    ((refl, inl (refl, refl)), ((refl, inl (refl, refl)), ((refl, inl (refl, refl)), ((refl, inl (refl, refl)), ((refl, inl (refl, refl)), ((refl, inr (inl (refl, omega arith))), ((refl, inr (inl (refl, omega arith))), ((refl, inl (refl, refl)), ((refl, inr (inl (refl, omega arith))), ((refl, inr (inr refl)), tt))))))))))
+    ((refl, inl (refl, refl)), ((refl, inl (refl, refl)), ((refl, inl (refl, refl)), ((refl, inl (refl, refl)), ((refl, inl (refl, refl)), ((refl, inr (inl (refl, omega arith))), ((refl, inr (inl (refl, omega arith))), ((refl, inl (refl, refl)), ((refl, inl (refl, refl)), ((refl, inl (refl, refl)), ((refl, inr (inl (refl, omega arith))), ((refl, inr (inr refl)), tt))))))))))))
     none in
     record {
       setup = has_value c (codes "setup") _ refl found.fit (found.needed.0 refl);
@@ -108,7 +108,7 @@ service words none =
       connections = has_number c _ (codes "connections") 4000000000 _ refl refl found.fit (found.defaulted.1.1.1.0 (omega arith));
       progress = has_flag c _ (codes "progress") _ refl refl found.fit (found.defaulted.1.1.1.1.1.0 (omega arith));
       trace = has_flag c _ (codes "trace") _ refl refl found.fit (found.defaulted.1.1.1.1.1.1.0 (omega arith));
-      explain = has_flag c _ (codes "explain") _ refl refl found.fit (found.defaulted.1.1.1.1.1.1.1.1.0 (omega arith));
+      explain = has_flag c _ (codes "explain") _ refl refl found.fit (found.defaulted.1.1.1.1.1.1.1.1.1.1.0 (omega arith));
     }
 
 driven : (words : List Text) → level_fault (leaf run_line) [] nothing_held words false [] ≡ []
@@ -116,16 +116,17 @@ driven : (words : List Text) → level_fault (leaf run_line) [] nothing_held wor
 driven words none =
     let c = (leaf run_line).rules in
     let found = level_found (leaf run_line) words refl
-    ((refl, inl (refl, refl)), ((refl, inl (refl, refl)), ((refl, inl (refl, refl)), ((refl, inl (refl, refl)), ((refl, inl (refl, refl)), ((refl, inl (refl, refl)), ((refl, inl (refl, refl)), ((refl, inr (inl (refl, omega arith))), ((refl, inr (inl (refl, omega arith))), ((refl, inl (refl, refl)), ((refl, inr (inl (refl, omega arith))), ((refl, inl (refl, refl)), ((refl, inr (inr refl)), tt)))))))))))))
+    ((refl, inl (refl, refl)), ((refl, inl (refl, refl)), ((refl, inl (refl, refl)), ((refl, inl (refl, refl)), ((refl, inl (refl, refl)), ((refl, inl (refl, refl)), ((refl, inl (refl, refl)), ((refl, inl (refl, refl)), ((refl, inr (inl (refl, omega arith))), ((refl, inr (inl (refl, omega arith))), ((refl, inl (refl, refl)), ((refl, inl (refl, refl)), ((refl, inl (refl, refl)), ((refl, inl (refl, refl)), ((refl, inr (inl (refl, omega arith))), ((refl, inr (inl (refl, omega arith))), ((refl, inl (refl, refl)), ((refl, inr (inr refl)), tt))))))))))))))))))
     none in
     record {
       setup = has_value c (codes "setup") _ refl found.fit (found.needed.0 refl);
       host = has_value c (codes "host") _ refl found.fit (found.needed.1.0 refl);
       port = has_number c _ (codes "port") 65535 _ refl refl found.fit (found.needed.1.1.0 refl);
       window = has_number c _ (codes "window") 16 _ refl refl found.fit (found.defaulted.1.1.1.0 (omega arith));
-      progress = has_flag c _ (codes "progress") _ refl refl found.fit (found.defaulted.1.1.1.1.1.1.1.0 (omega arith));
-      trace = has_flag c _ (codes "trace") _ refl refl found.fit (found.defaulted.1.1.1.1.1.1.1.1.0 (omega arith));
-      explain = has_flag c _ (codes "explain") _ refl refl found.fit (found.defaulted.1.1.1.1.1.1.1.1.1.1.0 (omega arith));
+      progress = has_flag c _ (codes "progress") _ refl refl found.fit (found.defaulted.1.1.1.1.1.1.1.1.0 (omega arith));
+      trace = has_flag c _ (codes "trace") _ refl refl found.fit (found.defaulted.1.1.1.1.1.1.1.1.1.0 (omega arith));
+      confirm = has_flag c _ (codes "confirm") _ refl refl found.fit (found.defaulted.1.1.1.1.1.1.1.1.1.1.1.1.1.1.0 (omega arith));
+      explain = has_flag c _ (codes "explain") _ refl refl found.fit (found.defaulted.1.1.1.1.1.1.1.1.1.1.1.1.1.1.1.0 (omega arith));
     }
 
 explained : (words : List Text) → level_fault (leaf explain_line) [] nothing_held words false [] ≡ []

@@ -32,6 +32,11 @@ argument_rule argument.Code = code_rule
 argument_rule argument.Progress = flag_rule (codes "progress")
 argument_rule argument.Trace = flag_rule (codes "trace")
 argument_rule argument.Log = text_rule (codes "log")
+argument_rule argument.ReportedContacts = text_rule (codes "contacts")
+argument_rule argument.Timeout = text_rule (codes "timeout")
+argument_rule argument.Wait = text_rule (codes "wait")
+argument_rule argument.Stop = text_rule (codes "stop")
+argument_rule argument.Confirm = flag_rule (codes "confirm")
 argument_rule argument.Explain = flag_rule (codes "explain")
 argument_rule argument.Program = program_rule
 

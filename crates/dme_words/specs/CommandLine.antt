@@ -59,18 +59,20 @@ abbrev pub loop_line : App
 loop_line = line_of (codes "loop") (needed_rule (codes "setup") ∷ window_rule ∷ flag_rule (codes "progress") ∷ flag_rule (codes "trace")
     ∷ flag_rule (codes "explain") ∷ program_rule ∷ [])
 
--- `serve --setup FILE [--listen ADDRESS] --port N [--connections K] [--contacts FILE] [--progress] [--trace] [--log FILE] [--explain]`
+-- `serve --setup FILE [--listen ADDRESS] --port N [--connections K] [--contacts FILE] [--progress] [--trace] [--log FILE]
+-- [--timeout SECONDS] [--stop FILE] [--explain]`
 abbrev pub serve_line : App
 serve_line = line_of (codes "serve") (needed_rule (codes "setup") ∷ text_rule (codes "listen") ∷ port_rule ∷ connections_rule
     ∷ text_rule (codes "contacts") ∷ flag_rule (codes "progress") ∷ flag_rule (codes "trace") ∷ text_rule (codes "log")
-    ∷ flag_rule (codes "explain") ∷ [])
+    ∷ text_rule (codes "timeout") ∷ text_rule (codes "stop") ∷ flag_rule (codes "explain") ∷ [])
 
--- `run --setup FILE --host H --port N [--window W] [--features FILE] [--record FILE] [--part TEXT] [--progress] [--trace] [--log FILE]
--- [--explain] [PROGRAM]`
+-- `run --setup FILE --host H --port N [--window W] [--features FILE] [--record FILE] [--part TEXT] [--contacts FILE] [--progress] [--trace]
+-- [--log FILE] [--timeout SECONDS] [--wait SECONDS] [--stop FILE] [--confirm] [--explain] [PROGRAM]`
 abbrev pub run_line : App
 run_line = line_of (codes "run") (needed_rule (codes "setup") ∷ needed_rule (codes "host") ∷ port_rule ∷ window_rule
-    ∷ text_rule (codes "features") ∷ text_rule (codes "record") ∷ text_rule (codes "part") ∷ flag_rule (codes "progress")
-    ∷ flag_rule (codes "trace") ∷ text_rule (codes "log") ∷ flag_rule (codes "explain") ∷ program_rule ∷ [])
+    ∷ text_rule (codes "features") ∷ text_rule (codes "record") ∷ text_rule (codes "part") ∷ text_rule (codes "contacts")
+    ∷ flag_rule (codes "progress") ∷ flag_rule (codes "trace") ∷ text_rule (codes "log") ∷ text_rule (codes "timeout")
+    ∷ text_rule (codes "wait") ∷ text_rule (codes "stop") ∷ flag_rule (codes "confirm") ∷ flag_rule (codes "explain") ∷ program_rule ∷ [])
 
 -- the positional `CODE`, which must be named
 abbrev pub code_rule : Rule

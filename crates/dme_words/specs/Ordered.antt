@@ -114,24 +114,30 @@ IsLoopOf rows o =
     IsValueOf (codes "setup") rows (string_bytes o.setup) × IsWindowOf rows o.window × IsFlagOf (codes "progress") rows o.progress
     × IsFlagOf (codes "trace") rows o.trace × IsExplainedOf rows o.explain × IsProgramOf rows (string_bytes o.program)
 
--- a server with the named setup at the named port, for that many connections, with the named address, file for its contacts and log, if any
+-- a server with the named setup at the named port, for that many connections, with the named address, file for its contacts, log, time limit
+-- and stop file, if any
 abbrev pub IsServeOf : List Row → Service → Type 0
 IsServeOf rows o =
     IsValueOf (codes "setup") rows (string_bytes o.setup) × IsMaybeOf (codes "listen") rows (option_map string_bytes o.listen)
     × IsPortOf rows o.port × IsConnectionsOf rows o.connections
     × IsMaybeOf (codes "contacts") rows (option_map string_bytes o.contacts) × IsFlagOf (codes "progress") rows o.progress
     × IsFlagOf (codes "trace") rows o.trace × IsMaybeOf (codes "log") rows (option_map string_bytes o.log)
+    × IsMaybeOf (codes "timeout") rows (option_map string_bytes o.timeout) × IsMaybeOf (codes "stop") rows (option_map string_bytes o.stop)
     × IsExplainedOf rows o.explain
 
 -- a run of the program against the server at the named host and port, with the named setup and window, and the named file of features,
--- record, part and log, if any
+-- record, part, file for the reported contacts, log, time limits and stop file, if any
 abbrev pub IsRunOf : List Row → Run → Type 0
 IsRunOf rows o =
     IsValueOf (codes "setup") rows (string_bytes o.setup) × IsValueOf (codes "host") rows (string_bytes o.host) × IsPortOf rows o.port
     × IsWindowOf rows o.window × IsMaybeOf (codes "features") rows (option_map string_bytes o.features)
     × IsMaybeOf (codes "record") rows (option_map string_bytes o.record) × IsMaybeOf (codes "part") rows (option_map string_bytes o.part)
+    × IsMaybeOf (codes "contacts") rows (option_map string_bytes o.contacts)
     × IsFlagOf (codes "progress") rows o.progress × IsFlagOf (codes "trace") rows o.trace
-    × IsMaybeOf (codes "log") rows (option_map string_bytes o.log) × IsExplainedOf rows o.explain × IsProgramOf rows (string_bytes o.program)
+    × IsMaybeOf (codes "log") rows (option_map string_bytes o.log)
+    × IsMaybeOf (codes "timeout") rows (option_map string_bytes o.timeout) × IsMaybeOf (codes "wait") rows (option_map string_bytes o.wait)
+    × IsMaybeOf (codes "stop") rows (option_map string_bytes o.stop) × IsFlagOf (codes "confirm") rows o.confirm
+    × IsExplainedOf rows o.explain × IsProgramOf rows (string_bytes o.program)
 
 -- a code that a refusal is called by, its letters in any case
 abbrev pub IsCodeOf : Topic → Text → Type 0
@@ -253,6 +259,7 @@ pub record HasRun (rows : List Row) : Type 0 where
   pub window : HasWindow rows
   pub progress : HasFlag (codes "progress") rows
   pub trace : HasFlag (codes "trace") rows
+  pub confirm : HasFlag (codes "confirm") rows
   pub explain : HasExplained rows
 
 -- the values that an export cannot do without are there

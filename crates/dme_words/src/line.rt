@@ -61,6 +61,16 @@ enum Argument {
     Trace,
     /// `--log FILE`.
     Log,
+    /// `--contacts FILE`, to which those that the server reports are written.
+    ReportedContacts,
+    /// `--timeout SECONDS`.
+    Timeout,
+    /// `--wait SECONDS`.
+    Wait,
+    /// `--stop FILE`.
+    Stop,
+    /// `--confirm`.
+    Confirm,
     /// `--explain`.
     Explain,
     /// `PROGRAM`.
@@ -198,6 +208,29 @@ fn flag<'a>(alloc: Global, name: &'a str, help: &'a str) -> Arg<'a>
         .action(ArgAction::SetTrue)
 }
 
+/// `--NAME SECONDS`.
+fn seconds_option<'a>(alloc: Global, name: &'a str, help: &'a str) -> Arg<'a>
+    ensures rule { rule_of result ≡ text_rule name.entry.now }
+    ensures local { result.global ≡ false }
+{
+    Arg::new(alloc, name)
+        .long(name)
+        .value_name("SECONDS")
+        .help(help)
+}
+
+/// `--confirm`.
+fn confirm_flag<'a>(alloc: Global) -> Arg<'a>
+    ensures rule { rule_of result ≡ flag_rule (codes "confirm") }
+    ensures local { result.global ≡ false }
+{
+    flag(
+        alloc,
+        "confirm",
+        "Shows what comes first, and waits for an empty line before anything moves",
+    )
+}
+
 /// `--progress`.
 fn progress_flag<'a>(alloc: Global) -> Arg<'a>
     ensures rule { rule_of result ≡ flag_rule (codes "progress") }
@@ -326,6 +359,23 @@ fn made_argument<'a>(alloc: Global, argument: Argument) -> Arg<'a>
             let log = "The file that each line that either side writes is added to, with its time";
             file_option(alloc, "log", log)
         }
+        Argument::ReportedContacts => {
+            let reported = "The file that the contacts which the server reports are written to";
+            file_option(alloc, "contacts", reported)
+        }
+        Argument::Timeout => {
+            let timeout = "How long the other end may be silent if something is due from it, from 1 to 86400";
+            seconds_option(alloc, "timeout", timeout)
+        }
+        Argument::Wait => {
+            let wait = "How long it tries to connect, from 1 to 86400";
+            seconds_option(alloc, "wait", wait)
+        }
+        Argument::Stop => {
+            let stop = "The file that ends it when it appears";
+            file_option(alloc, "stop", stop)
+        }
+        Argument::Confirm => confirm_flag(alloc),
         Argument::Explain => explain_flag(alloc),
         Argument::Program => program_argument(alloc),
     }
@@ -465,7 +515,8 @@ fn loop_command<'a>(alloc: Global) -> Result<Command<'a>, AllocError>
     )
 }
 
-/// `serve --setup FILE [--listen ADDRESS] --port N [--connections K] [--contacts FILE] [--progress] [--trace] [--log FILE] [--explain]`.
+/// `serve --setup FILE [--listen ADDRESS] --port N [--connections K] [--contacts FILE] [--progress] [--trace] [--log FILE]
+/// [--timeout SECONDS] [--stop FILE] [--explain]`.
 fn serve_command<'a>(alloc: Global) -> Result<Command<'a>, AllocError>
     ensures shape { IfOk result (λ command. app_of command ≡ serve_line) }
     ensures local { IfOk result (λ command. (out-Command command).has_globals ≡ false) }
@@ -485,13 +536,15 @@ fn serve_command<'a>(alloc: Global) -> Result<Command<'a>, AllocError>
             Argument::Progress,
             Argument::Trace,
             Argument::Log,
+            Argument::Timeout,
+            Argument::Stop,
             Argument::Explain,
         ],
     )
 }
 
-/// `run --setup FILE --host H --port N [--window W] [--features FILE] [--record FILE] [--part TEXT] [--progress] [--trace] [--log FILE]
-/// [--explain] [PROGRAM]`.
+/// `run --setup FILE --host H --port N [--window W] [--features FILE] [--record FILE] [--part TEXT] [--contacts FILE] [--progress] [--trace]
+/// [--log FILE] [--timeout SECONDS] [--wait SECONDS] [--stop FILE] [--confirm] [--explain] [PROGRAM]`.
 fn run_command<'a>(alloc: Global) -> Result<Command<'a>, AllocError>
     ensures shape { IfOk result (λ command. app_of command ≡ run_line) }
     ensures local { IfOk result (λ command. (out-Command command).has_globals ≡ false) }
@@ -510,9 +563,14 @@ fn run_command<'a>(alloc: Global) -> Result<Command<'a>, AllocError>
             Argument::WrittenFeatures,
             Argument::WrittenRecord,
             Argument::Part,
+            Argument::ReportedContacts,
             Argument::Progress,
             Argument::Trace,
             Argument::Log,
+            Argument::Timeout,
+            Argument::Wait,
+            Argument::Stop,
+            Argument::Confirm,
             Argument::Explain,
             Argument::Program,
         ],

@@ -120,6 +120,10 @@ pub struct Service {
     pub trace: bool,
     /// The file that these lines are added to, with their times; `-` is a file of that name.
     pub log: Option<String>,
+    /// How many seconds the other end may be silent if something is due from it, as they are written; no limit if none are named.
+    pub timeout: Option<String>,
+    /// The file that ends it when it appears.
+    pub stop: Option<String>,
     /// Whether a line that is refused is shown, with what is wrong with it.
     pub explain: bool,
 }
@@ -141,12 +145,22 @@ pub struct Run {
     pub record: Option<String>,
     /// Which part is measured, as the record has it.
     pub part: Option<String>,
+    /// The file that the contacts which the server reports are written to; `-` is a file of that name.
+    pub contacts: Option<String>,
     /// Whether it reports how far it is.
     pub progress: bool,
     /// Whether each line that either side writes is shown.
     pub trace: bool,
     /// The file that these lines are added to, with their times; `-` is a file of that name.
     pub log: Option<String>,
+    /// How many seconds the other end may be silent if something is due from it, as they are written; no limit if none are named.
+    pub timeout: Option<String>,
+    /// How many seconds it tries to connect, as they are written; once if none are named.
+    pub wait: Option<String>,
+    /// The file that ends it when it appears.
+    pub stop: Option<String>,
+    /// Whether it shows what comes first, and waits for an empty line before anything moves.
+    pub confirm: bool,
     /// Whether a line that is refused is shown, with what is wrong with it.
     pub explain: bool,
     /// The file of the program; `-` is standard input.

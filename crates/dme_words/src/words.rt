@@ -299,6 +299,8 @@ fn serve_order(alloc: Global, values: &ArgMatches) -> Result<Service, AllocError
     let progress = flag_of(values, "progress");
     let trace = flag_of(values, "trace");
     let log = copied_maybe(alloc, values, "log")?;
+    let timeout = copied_maybe(alloc, values, "timeout")?;
+    let stop = copied_maybe(alloc, values, "stop")?;
     let explain = flag_of(values, "explain");
     Ok(Service {
         setup,
@@ -309,6 +311,8 @@ fn serve_order(alloc: Global, values: &ArgMatches) -> Result<Service, AllocError
         progress,
         trace,
         log,
+        timeout,
+        stop,
         explain,
     })
 }
@@ -327,9 +331,14 @@ fn run_order(alloc: Global, values: &ArgMatches) -> Result<Run, AllocError>
     let features = copied_maybe(alloc, values, "features")?;
     let record = copied_maybe(alloc, values, "record")?;
     let part = copied_maybe(alloc, values, "part")?;
+    let contacts = copied_maybe(alloc, values, "contacts")?;
     let progress = flag_of(values, "progress");
     let trace = flag_of(values, "trace");
     let log = copied_maybe(alloc, values, "log")?;
+    let timeout = copied_maybe(alloc, values, "timeout")?;
+    let wait = copied_maybe(alloc, values, "wait")?;
+    let stop = copied_maybe(alloc, values, "stop")?;
+    let confirm = flag_of(values, "confirm");
     let explain = flag_of(values, "explain");
     let program = copied_program(alloc, values)?;
     Ok(Run {
@@ -340,9 +349,14 @@ fn run_order(alloc: Global, values: &ArgMatches) -> Result<Run, AllocError>
         features,
         record,
         part,
+        contacts,
         progress,
         trace,
         log,
+        timeout,
+        wait,
+        stop,
+        confirm,
         explain,
         program,
     })

@@ -105,15 +105,15 @@ aborts_last c (Some n) = refl
 
 -- a world in which the client is at the start of its turn: what it has written has joined its connection
 record Starts (w v : World) (s : ClientEnd) : Type 0 where
-  pub as : v ≡ client_joined w s s.out 0
+  pub stands : v ≡ client_joined w s s.out 0
   pub last : s.client.last ≡ w.client.client.last
 
 stop_starts : (w : World) → IsOn w → (b : Bool) → Starts w (cond b (happens event.Abort w) w) (cond b (end_aborted w.client) w.client)
-stop_starts w h true = record { as = refl; last = aborts_last w.client.client _ }
-stop_starts w h false = record { as = begun w h; last = refl }
+stop_starts w h true = record { stands = refl; last = aborts_last w.client.client _ }
+stop_starts w h false = record { stands = begun w h; last = refl }
 
 steered_starts : (c : Course) (w : World) → IsOn w → Starts w (run_of (steering c) w) (steered c w.client)
-steered_starts course.GoOn w h = record { as = begun w h; last = refl }
+steered_starts course.GoOn w h = record { stands = begun w h; last = refl }
 steered_starts course.Stop w h = stop_starts w h (may_abort w.client.client.state)
 
 sends_on : (w : World) (e : ClientEnd) → IsOn w → e.client.last ≡ w.client.client.last
@@ -212,7 +212,7 @@ plays : (least : ℕ) (v w : World) (s : ClientEnd) (stage : Stage) (read writte
     → take (length read) (client_link w).down ≡ read → ClientTurn least s stage read written e
     → Goes v w stage read written e
 plays least v w s _ _ _ _ h g front begins =
-    (record { so_far = not_yet event.ClientSends v (client_joined w s s.out 0) g.as; last = g.last }, refl)
+    (record { so_far = not_yet event.ClientSends v (client_joined w s s.out 0) g.stands; last = g.last }, refl)
 plays least v w s _ _ _ _ h g front (sends e t is) =
     let p : Sends v w e = (plays least v w s Sending [] [] e h g front t).0 in (
       record {

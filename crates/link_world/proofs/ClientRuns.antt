@@ -133,14 +133,14 @@ client_asked turns true stops old mid new left left_mid taken taken_mid can can_
   said = h.said;
   read = h.read;
   written = h.written;
-  run = subst (λ (e : ClientEnd). ClientRun old left taken Steered turns h.said h.read h.written e left_mid taken_mid) (sym asks.1.0)
+  run = subst (λ (e : ClientEnd). ClientRun old left taken Steered turns h.said h.read h.written e left_mid taken_mid) (sym asks.1)
       (run.stays turns h.said h.read h.written mid left_mid taken_mid h.run going h.stopped_is);
   consumed = h.consumed;
   appended = h.appended;
-  says = subst (λ (x : List Course → Bool). Says can x h.said) (sym asks.1.1) h.says;
+  says = subst (λ (x : List Course → Bool). Says can x h.said) (sym asks.2) h.says;
   stopped_is = h.stopped_is ∙ sym asks.0;
   many = h.many;
-  held = let same = ap (λ (x : ClientEnd). length x.input.rest) asks.1.0 in let few = h.held in omega (arith, few, same);
+  held = let same = ap (λ (x : ClientEnd). length x.input.rest) asks.1 in let few = h.held in omega (arith, few, same);
 }
 client_asked turns false stops old mid new left left_mid taken taken_mid can can_mid can_now h going asks = record {
   said = h.said ++ course_of stops ∷ [];
@@ -276,9 +276,9 @@ client_stops turns stopped stops old mid out asked new left left_mid left_out le
 -- why an abort is refused
 abort_why : (read written held : ℕ) (left_now : Option (List ℕ)) (e last : ClientEnd) (why : ClientFault)
     → IsSendRefused true e last (end_aborted e) why → ClientRunWhy read written held left_now last (of_client why)
-abort_why read written held left_now e last client_fault.NotNow r = absurd (false≢true (sym r.1.1))
+abort_why read written held left_now e last client_fault.NotNow r = absurd (false≢true (sym r.2))
 abort_why read written held left_now e last (client_fault.Faulted cause) (inl r) = absurd (false≢true (sym r.0))
-abort_why read written held left_now e last (client_fault.Faulted cause) (inr r) = r.1.1
+abort_why read written held left_now e last (client_fault.Faulted cause) (inr r) = (r.2, r.3)
 abort_why read written held left_now e last client_fault.Memory r = tt
 
 none_lost : {F : Type 0} (f : PumpFault F) → IsLost f []

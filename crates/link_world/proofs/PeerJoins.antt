@@ -111,10 +111,10 @@ run_calls first e left left_now taken taken_now can can_now h =
 
 refused_calls : (first mid last : ClientEnd) (why : ClientFault) → may_abort mid.client.state ≡ true
     → IsSendRefused true mid last (end_aborted mid) why → ClientCalls first mid → ClientCalls first last
-refused_calls first mid last client_fault.NotNow may r h = absurd (false≢true (sym r.1.1))
+refused_calls first mid last client_fault.NotNow may r h = absurd (false≢true (sym r.2))
 refused_calls first mid last (client_fault.Faulted cause) may (inl r) h = absurd (false≢true (sym r.0))
 refused_calls first mid last (client_fault.Faulted cause) may (inr r) h =
-    subst (ClientCalls first) (sym (stop_aborts mid last may r.1.0)) (called mid Abort h)
+    subst (ClientCalls first) (sym (stop_aborts mid last may r.1)) (called mid Abort h)
 refused_calls first mid last client_fault.Memory may r h = subst (ClientCalls first) (sym r) h
 
 ends_so : (first e : ClientEnd) (left left_now taken taken_now : Option (List ℕ)) (fault : PumpFault ClientFault) (said : List Course)

@@ -225,16 +225,16 @@ steered_features course.Stop e = stopped_features e (may_abort e.client.state)
 pub tells_asked : (stopped stops : Bool) (e f : ClientEnd) (can can_now : List Course → Bool) (told : Option (List Note))
     → Asks stopped stops e f can can_now → TellsRun e f told told
 tells_asked true stops e f can can_now told asks =
-    tells_same e f told (ap (λ (x : ClientEnd). x.client.table.tally.features) asks.1.0)
+    tells_same e f told (ap (λ (x : ClientEnd). x.client.table.tally.features) asks.1)
 tells_asked false stops e f can can_now told asks =
     tells_same e f told (ap (λ (x : ClientEnd). x.client.table.tally.features) asks.0 ∙ steered_features (course_of stops) e)
 
 refused_features : (e f : ClientEnd) (why : ClientFault) → IsSendRefused true e f (end_aborted e) why
     → f.client.table.tally.features ≡ e.client.table.tally.features
-refused_features e f client_fault.NotNow r = absurd (false≢true (sym r.1.1))
+refused_features e f client_fault.NotNow r = absurd (false≢true (sym r.2))
 refused_features e f (client_fault.Faulted cause) (inl r) = absurd (false≢true (sym r.0))
 refused_features e f (client_fault.Faulted cause) (inr r) =
-    ap (λ (x : ClientEnd). x.client.table.tally.features) r.1.0 ∙ aborted_features e.client _
+    ap (λ (x : ClientEnd). x.client.table.tally.features) r.1 ∙ aborted_features e.client _
 refused_features e f client_fault.Memory r = ap (λ (x : ClientEnd). x.client.table.tally.features) r
 
 pub tells_refused : (stopped : Bool) (e f : ClientEnd) (can can_now : List Course → Bool) (fault : PumpFault ClientFault)

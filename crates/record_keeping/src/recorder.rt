@@ -2,7 +2,7 @@
 
 use crate::growing::GrowingFile;
 use client_core::Client;
-use run_record::Telling;
+use run_record::{Telling, write_refused};
 use std::alloc::{AllocError, Global};
 
 /// Appends to a record, after each turn of a client, what the turn has counted: each act, and each feature that is completed.
@@ -11,6 +11,7 @@ use std::alloc::{AllocError, Global};
 #[derive(Drop)]
 pub struct Recorder<F> {
     telling: Telling,
+    connection: u64,
     /// How many of the acts that the client has counted on its connection are in the text.
     told: usize,
     /// The whole record.
@@ -23,6 +24,8 @@ pub struct Recorder<F> {
     held: usize,
     /// Whether all that it had counted then is in the text.
     is_whole: bool,
+    /// Whether memory ran out for an error of its server.
+    misses_errors: bool,
 }
 
 impl<F: GrowingFile> Recorder<F> {
@@ -31,6 +34,7 @@ impl<F: GrowingFile> Recorder<F> {
         let filed = text.len();
         Recorder {
             telling: Telling::new(connection, features),
+            connection,
             told: 0,
             text,
             filed,
@@ -38,6 +42,7 @@ impl<F: GrowingFile> Recorder<F> {
             has_failed: false,
             held: features,
             is_whole: true,
+            misses_errors: false,
         }
     }
 
@@ -67,17 +72,30 @@ impl<F: GrowingFile> Recorder<F> {
         }
     }
 
-    /// Follows a client after a turn, and forces what is new to the device if a feature is completed.
-    pub fn follow(&mut self, client: &Client) {
+    /// Adds the lines of errors that the server reported. Fails only if out of memory.
+    fn tell_errors(&mut self, errors: &[Vec<u8>]) -> Result<(), AllocError> {
+        for error in errors {
+            write_refused(&mut self.text, self.connection, error.as_slice())?;
+        }
+        Ok(())
+    }
+
+    /// Follows a client after a turn: what it has counted, and then the errors that its server reported in the turn, each from its tag on.
+    /// What is new is forced to the device if a feature is completed.
+    pub fn follow(&mut self, client: &Client, errors: &[Vec<u8>]) {
         self.is_whole = self.tell(client).is_ok();
+        if self.tell_errors(errors).is_err() {
+            self.misses_errors = true;
+        }
         let held = client.features().len();
         self.file(held > self.held);
         self.held = held;
     }
 
-    /// Whether all that the client had counted when it was followed last is in the text. It is not if memory ran out.
+    /// Whether all that the client had counted when it was followed last is in the text, and all errors of its server. It is not if memory
+    /// ran out.
     pub fn is_whole(&self) -> bool {
-        self.is_whole
+        self.is_whole && !self.misses_errors
     }
 
     /// The whole record, once the client's last turn is followed.

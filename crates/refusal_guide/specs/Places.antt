@@ -1,9 +1,10 @@
 -- Where a text is refused, as it is shown (this profile).
-use Rattle.std.specs.Prelude.{◌≡◌, ℕ, ◌+◌, ◌-◌, ◌/◌, ◌%◌, ◌≤◌, List, [], ◌∷◌, ◌++◌, length, take, drop, codes, decimal, Option, Some, None, nat_le, nat_lt}
-use Rattle.std.specs.Prelude.{◌==◌, ◌&&◌, min, if◌then◌else◌}
+use Rattle.std.specs.Prelude.{◌≡◌, ℕ, ◌+◌, ◌-◌, ◌≤◌, List, [], ◌∷◌, ◌++◌, length, take, drop, codes, decimal, Option, Some, None, nat_le, nat_lt}
+use Rattle.std.specs.Prelude.{◌==◌, min, if◌then◌else◌}
 use Rattle.std.specs.List.{flat_map}
 use Rattle.std.specs.Str.Lines.{lines}
 use Rattle.dmis_program.specs.declared.faults.ProgramFault.TheVariants as program
+use Rattle.session_telling.specs.Visible.{visible}
 use Rattle.tool_rack.specs.declared.faults.SetupFault.TheVariants as setup
 use Rattle.link_world.specs.declared.texts.schedule_faults.ScheduleFault.TheVariants as schedule
 use Rattle.contact_ledger.specs.declared.faults.TextFault.TheVariants as text
@@ -40,14 +41,6 @@ first_of (line ∷ more) = line
 -- line n of a text; its last one if it has fewer
 abbrev pub line_of : ℕ → List ℕ → List ℕ
 line_of n bytes = first_of (lines_from n bytes)
-
--- a hexadecimal digit
-abbrev pub hex_digit : ℕ → ℕ
-hex_digit n = if nat_lt n 10 then 48 + n else 65 + (n - 10)
-
--- a byte as it can be read: from 32 to 126 as it is, any other by its two hexadecimal digits
-abbrev pub visible : ℕ → List ℕ
-visible b = if nat_le 32 b && nat_le b 126 then b ∷ [] else codes "\\x" ++ (hex_digit (b / 16) ∷ hex_digit (b % 16) ∷ [])
 
 -- a byte of a line: a tab as it is
 abbrev pub visible_in_line : ℕ → List ℕ

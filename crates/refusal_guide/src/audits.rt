@@ -3,12 +3,12 @@
 ghost use Rattle.std.specs.Prelude.{◌≡◌, OnErr};
 
 use crate::contacts::Contacts;
-use crate::lines::visible;
 use crate::nearest::add_nearest;
 use crate::touches::point_text;
 use contact_ledger::{Feature, ServerLedger};
 use dmis_program::{Program, Wanted};
 use ledger_audit::{Verdict, audit};
+use session_telling::visible;
 use std::alloc::{AllocError, Global};
 
 /// Appends that the contact of this number serves no feature.

@@ -1,11 +1,12 @@
 // The line of a number, and how it is shown.
 
-ghost use Rattle.std.specs.Prelude.{◌≡◌, ◌<◌, ◌≤◌, ◌-◌, ◌++◌, length, OnOk, IfOk, string_bytes};
+ghost use Rattle.std.specs.Prelude.{◌≡◌, ◌≤◌, ◌-◌, ◌++◌, length, OnOk, IfOk, string_bytes};
 ghost use Rattle.std.specs.List.{flat_map};
 ghost use Rattle.std.specs.Str.Lines.{lines};
-ghost use Rattle.refusal_guide.specs.Places.{lines_from, first_of, hex_digit, visible, visible_in_line, shown_front, shown_from};
+ghost use Rattle.refusal_guide.specs.Places.{lines_from, first_of, visible_in_line, shown_front, shown_from};
 
 use dmis_text::cut_line;
+use session_telling::push_visible;
 use std::alloc::{AllocError, Global};
 
 /// The most bytes of a line that are shown (this profile).
@@ -48,42 +49,6 @@ pub(crate) fn first_line(text: &[u8]) -> &[u8]
     }
 }
 
-/// A hexadecimal digit.
-fn hex_digit(value: u8) -> char
-    requires { value < 16 }
-    ensures digit { result ≡ hex_digit value }
-    ensures ascii { result < 128 }
-{
-    if value < 10 {
-        (b'0' + value) as char
-    } else {
-        (b'A' + (value - 10)) as char
-    }
-}
-
-/// Appends a byte as it can be read: from 32 to 126 as it is, any other as `\xNN`.
-fn push_byte(text: &mut String, byte: u8) -> Result<(), AllocError>
-    ensures { OnOk result (string_bytes text.new ≡ string_bytes text.old ++ visible byte) }
-{
-    if byte >= 32 && byte <= 126 {
-        return text.push(byte as char);
-    }
-    text.push_str("\\x")?;
-    text.push(hex_digit(byte / 16))?;
-    text.push(hex_digit(byte % 16))
-}
-
-/// Bytes as they can be read.
-pub(crate) fn visible(alloc: Global, bytes: &[u8]) -> Result<String, AllocError>
-    ensures { IfOk result (λ text. string_bytes text ≡ flat_map visible bytes.now) }
-{
-    let mut text = String::new(alloc);
-    for byte in bytes {
-        push_byte(&mut text, *byte)?;
-    }
-    Ok(text)
-}
-
 /// Appends a byte of a line: a tab as it is, any other as it can be read.
 fn push_line_byte(text: &mut String, byte: u8) -> Result<(), AllocError>
     ensures { OnOk result (string_bytes text.new
@@ -92,7 +57,7 @@ fn push_line_byte(text: &mut String, byte: u8) -> Result<(), AllocError>
     if byte == b'\t' {
         return text.push('\t');
     }
-    push_byte(text, byte)
+    push_visible(text, byte)
 }
 
 /// Appends bytes of a line.

@@ -1,8 +1,8 @@
 // Why a text is not a name.
 
-use crate::lines::visible;
 use crate::words::{Reason, Word};
 use fixed_um::Name;
+use session_telling::visible;
 use std::alloc::{AllocError, Global};
 
 /// The most bytes that a name has (this profile).

@@ -1,11 +1,11 @@
 // Which contact is nearest to a touch that has none, and in what it differs.
 
 use crate::contacts::{Contact, Contacts};
-use crate::lines::visible;
 use crate::touches::{Request, point_text};
 use contact_ledger::Feature;
 use dmis_program::{Touch, Wanted};
 use fixed_um::{Point, Um};
+use session_telling::visible;
 use std::alloc::{AllocError, Global};
 
 /// Whether the contact of this number is on a connection and serves a touch of which this point was measured.

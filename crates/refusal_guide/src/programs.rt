@@ -3,7 +3,7 @@
 use crate::arguments::{argument_reason, count_before, within};
 use crate::bad_bytes::bad_byte;
 use crate::blocks::{Block, last_statement, open_block, open_line};
-use crate::lines::{Place, first_line, visible};
+use crate::lines::{Place, first_line};
 use crate::numerals::{
     Measure, component_fault, leftmost_component, leftmost_length, length_fault, numeral_reason,
 };
@@ -13,6 +13,7 @@ use crate::words::{Reason, Word};
 use dmis_program::Refusal;
 use dmis_text::{Statement, Text};
 use fixed_um::NumeralFault;
+use session_telling::visible;
 use std::alloc::{AllocError, Global};
 
 /// Why a program cannot begin with this statement.

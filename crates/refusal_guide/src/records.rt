@@ -1,7 +1,7 @@
 // Why a line of a record is unexpected, in a sentence. The reader of records decides what may be there.
 
 use crate::ledgers::{has_return, is_act_word};
-use crate::lines::{Place, first_line, visible};
+use crate::lines::{Place, first_line};
 use crate::topics::Topic;
 use crate::touches::Request;
 use crate::words::{Reason, Word};
@@ -9,6 +9,7 @@ use contact_ledger::forms::{read_name, read_number};
 use contact_ledger::lines::{cut_line, first_field, next_field};
 use contact_ledger::{CONNECTION_MAX, ServerLedger};
 use run_record::{Asked, Record, RecordFault, read_record};
+use session_telling::visible;
 use std::alloc::{AllocError, Global};
 
 /// Whether a record may begin with these lines and this line.

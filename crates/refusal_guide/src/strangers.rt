@@ -4,10 +4,10 @@ ghost use Rattle.std.specs.Prelude.{◌≡◌, OnErr, IfOk, option_map, string_b
 ghost use Rattle.fixed_um.specs.Calls.{Writes};
 ghost use Rattle.refusal_guide.specs.Strangers.{other_part_text};
 
-use crate::lines::visible;
 use crate::touches::Request;
 use dmis_program::{Program, Touch, Wanted};
 use run_record::{Asked, Record};
+use session_telling::visible;
 use std::alloc::{AllocError, Global};
 
 /// Which part a record names, and which was given.

@@ -1,10 +1,10 @@
 // In what two touches differ.
 
-use crate::lines::visible;
 use contact_ledger::Act;
 use contact_ledger::fields::{add_direction, add_frame, add_point};
 use dmis_program::Touch;
 use fixed_um::{Dir, Frame, Name, Point};
+use session_telling::visible;
 use std::alloc::{AllocError, Global};
 
 /// What a touch asks for.

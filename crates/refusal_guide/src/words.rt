@@ -2,8 +2,8 @@
 
 ghost use Rattle.std.specs.Prelude.{◌≡◌, ◌≤◌, ◌+◌, length, take, drop, IfSome};
 
-use crate::lines::visible;
 use crate::topics::Topic;
+use session_telling::visible;
 use std::alloc::{AllocError, Global};
 
 /// The most bytes of a word that a sentence shows (this profile).

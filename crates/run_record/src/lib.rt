@@ -7,7 +7,7 @@
 //! - `entry_reading`, `bodies`, `runs`: the entries, line by line, and what they leave
 //! - `records`, `record_reading`: `Record`, and reading it
 //! - `strangers`: whether a record is that of a part and a program
-//! - `head_writing`, `telling`: writing
+//! - `head_writing`, `telling`, `refusals`: writing
 //! - `faults`: why a record is refused
 #![tactic(auto)]
 
@@ -23,6 +23,7 @@ mod heads;
 mod parts;
 mod record_reading;
 mod records;
+mod refusals;
 mod runs;
 mod strangers;
 pub mod telling;
@@ -35,5 +36,6 @@ pub use head_writing::write_head;
 pub use parts::is_part;
 pub use record_reading::read_record;
 pub use records::Record;
+pub use refusals::write_refused;
 pub use strangers::{is_of_part, other_feature};
 pub use telling::Telling;

@@ -1,2 +1,4 @@
 pub mod Sessions
 pub mod Places
+pub mod Visible
+pub mod Dialogues

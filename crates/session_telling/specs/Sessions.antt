@@ -41,9 +41,8 @@ pub record Adds (line : List ℕ) (before after : List Sent) : Type 0 where
 abbrev pub last_under : Tag → List Sent → Option Sent
 last_under tag sent = find (λ s. tag_is s.tag tag) (reverse sent)
 
--- a line of the server reports this error, about this command
-pub record Reports (sent : List Sent) (line : List ℕ) (about : Option Sent) (text : List ℕ) : Type 0 where
-  pub tag : Tag
+-- a line of the server reports this error under this tag, about this command
+pub record Reports (sent : List Sent) (line : List ℕ) (tag : Tag) (about : Option Sent) (text : List ℕ) : Type 0 where
   pub read : IsResponseLine line (record { tag = tag; mark = Error text })
   pub under : about ≡ last_under tag sent
 

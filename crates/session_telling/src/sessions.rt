@@ -19,6 +19,8 @@ pub struct Sent {
 /// A server's error.
 #[derive(Clone, Copy, Debug)]
 pub struct Refusal<'a> {
+    /// The tag of its line.
+    pub tag: Tag,
     /// The command that it is about; none if no command was sent under its tag, as for what a server says unasked.
     pub about: Option<Sent>,
     /// Its text, as it was received.
@@ -101,7 +103,7 @@ impl Session {
     /// The error in a line of the server, given without its end; nothing if it is not an error. Does not allocate.
     pub fn refusal<'a>(&self, line: &'a [u8]) -> Option<Refusal<'a>>
         ensures { MatchOption result (ReportsNothing line.now)
-            (λ told. Reports self.now line.now told.about told.text.now) }
+            (λ told. Reports self.now line.now told.tag told.about told.text.now) }
     {
         let Ok(response) = cut_response(line) else {
             return None;
@@ -109,7 +111,8 @@ impl Session {
         let MarkSlice::Error(text) = response.mark else {
             return None;
         };
-        let about = self.last_under(response.tag);
-        Some(Refusal { about, text })
+        let tag = response.tag;
+        let about = self.last_under(tag);
+        Some(Refusal { tag, about, text })
     }
 }

@@ -19,8 +19,8 @@ use byte_ports::{Pieces, Ports, Takes};
 use client_core::Client;
 use contact_ledger::Feature;
 use link_world::{
-    LoopPorts, Onward, Simulated, Watcher, client_turns, loop_link, run_link, serve_link, serve_turns,
-    watch_link,
+    LoopPorts, Onward, Simulated, Watcher, client_turns, loop_link, run_link, serve_link,
+    serve_turns, watch_link,
 };
 use server_core::Server;
 use std::alloc::{AllocError, Global};

@@ -1,7 +1,7 @@
 use Rattle.std.proofs.Common.{◌≡◌, ◌++◌, string_bytes, drop}
 use Rattle.std.specs.List.{flat_map}
-use Rattle.refusal_guide.specs.Places.{visible}
-use Rattle.refusal_guide.proofs.lines.visible.Given as goal
+use Rattle.session_telling.specs.Visible.{visible}
+use Rattle.session_telling.proofs.showing.visible.Given as goal
 
 -- what is written and what is left are all bytes
 abbrev pub invariant-loop-byte : goal.invariant-loop-byte

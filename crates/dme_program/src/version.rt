@@ -1,0 +1,29 @@
+// Which program this is. `tools/release` writes the commit.
+
+use crate::faults::Fault;
+use dme_orders::OrderFault;
+
+/// The version of `dme`.
+const VERSION: &str = "1.0.0";
+
+/// The commit whose sources a release was built from; a program that is built between two releases does not know its own.
+const COMMIT: &str = "not a release";
+
+/// The toolchain that has proved and built it.
+const TOOLCHAIN: &str = "rattle-kit-13f logic dac8208d650f15bf";
+
+/// Whether the words of a command line ask for the version alone.
+pub fn is_asked(words: &[String]) -> bool {
+    match words {
+        [_, word] => word.as_str() == "--version",
+        _ => false,
+    }
+}
+
+/// Prints the version, the commit and the toolchain: the exit status.
+pub fn tell<R: Print>(rt: &R) -> Result<u8, Fault> {
+    match println!(rt; "dme {VERSION}\ncommit {COMMIT}\ntoolchain {TOOLCHAIN}") {
+        Ok(()) => Ok(0),
+        Err(_) => Err(Fault::Order(OrderFault::CannotWriteOutput)),
+    }
+}

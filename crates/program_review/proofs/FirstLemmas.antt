@@ -1,0 +1,286 @@
+-- The first refusal that is listed is the one that the program is refused for.
+use Rattle.std.proofs.Common.{◌≡◌, ℕ, ◌+◌, ◌-◌, ◌<◌, ◌≤◌, Bool, true, false, cond, List, [], ◌∷◌, ◌++◌, length, Option, Some, None}
+use Rattle.std.proofs.Common.{Result, Ok, Err, refl, ap, sym, ◌∙◌, subst, arith, is_none, nat_le, ◌||◌}
+use Rattle.std.specs.Prelude.{nat_lt}
+use Rattle.std.proofs.Math.Bool.{or-false}
+use Rattle.std.proofs.lemmas.Bool.Decides.{nat_tests}
+use Rattle.std.specs.Str.Lines.{lines}
+use Rattle.dmis_text.specs.Reading.{text_reading}
+use Rattle.dmis_text.specs.declared.elements.Statement.{Statement}
+use Rattle.dmis_text.specs.declared.reading.TextFault.{TextFault}
+use Rattle.fixed_um.specs.declared.lengths.Point.{Point}
+use Rattle.dmis_program.specs.Outcomes.{◌>>=◌}
+use Rattle.dmis_program.specs.Keywords.{keyword_of}
+use Rattle.dmis_program.specs.Offsets.{offset_of}
+use Rattle.dmis_program.specs.Sayings.{said_of, said_by, is_badly_formed, without_parameters}
+use Rattle.dmis_program.specs.LookBack.{Context, context_at, saying, nearest, or_else, tool_said, bound_said, bound_count, touched, touched_with}
+use Rattle.dmis_program.specs.Judging.{judged, settled, refused_by, word_refusal, misplaced, is_too_few}
+use Rattle.dmis_program.specs.Meaning.{program_of, meaning_of, meant, steps_from, steps_of, continued, with_front, closes}
+use Rattle.dmis_program.proofs.Sound.{SaidBy}
+use Rattle.dmis_program.proofs.SayingLemmas.{said_of_if}
+use Rattle.dmis_program.specs.declared.faults.Refusal.{Refusal}
+use Rattle.dmis_program.specs.declared.faults.Refusal.TheVariants.{TooLarge}
+use Rattle.dmis_program.specs.declared.keywords.Keyword.{Keyword}
+use Rattle.dmis_program.specs.declared.keywords.Keyword.TheVariants as word
+use Rattle.dmis_program.specs.declared.sayings.StatementMeaning.{StatementMeaning}
+use Rattle.dmis_program.specs.declared.sayings.StatementMeaning.TheVariants as said
+use Rattle.dmis_program.specs.declared.steps.Step.{Step}
+use Rattle.program_review.specs.declared.standing.Standing.{Standing}
+use Rattle.program_review.specs.declared.refusals.Found.{Found}
+use Rattle.program_review.specs.Refusals.{at_start, number_at, some_tool, context_of, due, one_more, one_less, lacking_said, is_selection}
+use Rattle.program_review.specs.Refusals.{after_said, after, is_end, listed, refusals_from, refusals_of, first_of, fault_of}
+
+-- what an open block that has this many touches lacks
+abbrev lacks : Option ℕ → ℕ → Option ℕ
+lacks None n = None
+lacks (Some count) n = Some (count - n)
+
+-- what is carried is what is found by looking back, as long as nothing is refused
+record Matches (above : List Statement) (st : Standing) : Type 0 where
+  number : st.number ≡ length above
+  few : st.number ≤ 10000
+  start : st.lacks_start ≡ false
+  tool : is_none (some_tool st.has_tool) ≡ is_none (nearest tool_said above)
+  lacking : st.lacking ≡ lacks (bound_count (nearest bound_said above)) (touched above)
+
+-- the count of touches refuses the same, whether it goes up or down
+too_few_same : (wanted : Option ℕ) (n : ℕ) → is_too_few (lacks wanted n) 0 ≡ is_too_few wanted n
+too_few_same None n = refl
+too_few_same (Some count) n = grind (arith, nat_tests)
+
+misplaced_same : (keyword : Keyword) (wanted : Option ℕ) (n : ℕ) → misplaced keyword (lacks wanted n) ≡ misplaced keyword wanted
+misplaced_same keyword None n = refl
+misplaced_same word.Dmismn (Some count) n = refl
+misplaced_same word.Goto (Some count) n = refl
+misplaced_same word.Meas (Some count) n = refl
+misplaced_same word.Ptmeas (Some count) n = refl
+misplaced_same word.Endmes (Some count) n = refl
+misplaced_same word.Snslct (Some count) n = refl
+misplaced_same word.Recall (Some count) n = refl
+misplaced_same word.Endfil (Some count) n = refl
+misplaced_same word.Units (Some count) n = refl
+misplaced_same word.Mode (Some count) n = refl
+misplaced_same word.Definition (Some count) n = refl
+misplaced_same word.Passed (Some count) n = refl
+misplaced_same word.Unknown (Some count) n = refl
+
+settled_same : (frames : List (List ℕ × Point)) (t u : Option (List ℕ)) (wanted : Option ℕ) (n : ℕ) (m : StatementMeaning)
+    → is_none t ≡ is_none u → settled frames t (lacks wanted n) 0 m ≡ settled frames u wanted n m
+settled_same frames t u wanted n (said.Goes target) h = refl
+settled_same frames t u wanted n (said.Begins name count) h = refl
+settled_same frames t u wanted n (said.Touches target direction) h = rw h refl
+settled_same frames t u wanted n said.Ends h = rw (too_few_same wanted n) refl
+settled_same frames t u wanted n (said.Selects name) h = refl
+settled_same frames t u wanted n (said.Recalls name) h = refl
+settled_same frames t u wanted n said.Closes h = refl
+settled_same frames t u wanted n said.Passes h = refl
+
+bind_same : (frames : List (List ℕ × Point)) (t u : Option (List ℕ)) (wanted : Option ℕ) (n : ℕ) (r : Result StatementMeaning Refusal)
+    → is_none t ≡ is_none u → (r >>= settled frames t (lacks wanted n) 0) ≡ (r >>= settled frames u wanted n)
+bind_same frames t u wanted n (Ok m) h = settled_same frames t u wanted n m h
+bind_same frames t u wanted n (Err e) h = refl
+
+judged_same : (frames : List (List ℕ × Point)) (c d : Context) (s : Statement) → c.number ≡ d.number → is_none c.tool ≡ is_none d.tool
+    → c.wanted ≡ lacks d.wanted d.touched → c.touched ≡ 0 → judged frames c s ≡ judged frames d s
+unfolding judged
+judged_same frames c d s number tool wanted none =
+    rw (
+      number,
+      wanted,
+      none,
+      misplaced_same (keyword_of s.word) d.wanted d.touched,
+      bind_same frames c.tool d.tool d.wanted d.touched (saying s) tool,
+    ) refl
+
+number_is : (above : List Statement) (st : Standing) (keyword : Keyword) → Matches above st → number_at st keyword ≡ length above
+number_is above st keyword h =
+    let few : nat_lt 10000 st.number ≡ false = grind (arith, nat_tests, h.few) in
+    rw (h.start, few) h.number
+
+due_is : (frames : List (List ℕ × Point)) (above : List Statement) (st : Standing) (s : Statement) → Matches above st
+    → due frames st s ≡ judged frames (context_at frames above) s
+due_is frames above st s h = judged_same frames (context_of st (keyword_of s.word)) (context_at frames above) s
+    (number_is above st (keyword_of s.word) h) h.tool h.lacking refl
+
+-- what an accepted statement says, it says by itself
+unless_is : (b : Bool) (e : Refusal) (m t : StatementMeaning) → cond b (Err e) (Ok m) ≡ Ok t → m ≡ t
+unless_is true e m t h = absurd cc
+unless_is false e m t h = cc
+
+settled_is : (frames : List (List ℕ × Point)) (tool : Option (List ℕ)) (wanted : Option ℕ) (count : ℕ) (m t : StatementMeaning)
+    → settled frames tool wanted count m ≡ Ok t → m ≡ t
+settled_is frames tool wanted count (said.Goes target) t h = cc
+settled_is frames tool wanted count (said.Begins name n) t h = cc
+settled_is frames tool wanted count (said.Touches target direction) t h = unless_is (is_none tool) _ (said.Touches target direction) t h
+settled_is frames tool wanted count said.Ends t h = unless_is (is_too_few wanted count) _ said.Ends t h
+settled_is frames tool wanted count (said.Selects name) t h = cc
+settled_is frames tool wanted count (said.Recalls name) t h = unless_is (is_none (offset_of frames name)) _ (said.Recalls name) t h
+settled_is frames tool wanted count said.Closes t h = cc
+settled_is frames tool wanted count said.Passes t h = cc
+
+settling_is : (frames : List (List ℕ × Point)) (tool : Option (List ℕ)) (wanted : Option ℕ) (count : ℕ)
+    (r : Result StatementMeaning Refusal) (t : StatementMeaning)
+    → (r >>= settled frames tool wanted count) ≡ Ok t → r ≡ Ok t
+settling_is frames tool wanted count (Ok m) t h = ap (λ (x : StatementMeaning). Ok x) (settled_is frames tool wanted count m t h)
+settling_is frames tool wanted count (Err e) t h = absurd cc
+
+reached : (b : Bool) (e : Refusal) (o : Option Refusal) (r : Result StatementMeaning Refusal) (t : StatementMeaning)
+    → cond b (Err e) (refused_by o r) ≡ Ok t → (b ≡ false) × (r ≡ Ok t)
+reached true e o r t h = absurd cc
+reached false e (Some x) r t h = absurd cc
+reached false e None r t h = (refl, h)
+
+record IsAccepted (c : Context) (s : Statement) (t : StatementMeaning) : Type 0 where
+  few : c.number < 10000
+  said : saying s ≡ Ok t
+
+below_most : (n : ℕ) → nat_le 10000 n ≡ false → n < 10000
+below_most n h = grind (arith, nat_tests)
+
+accepted_is : (frames : List (List ℕ × Point)) (c : Context) (s : Statement) (t : StatementMeaning) → judged frames c s ≡ Ok t
+    → IsAccepted c s t
+unfolding judged
+accepted_is frames c s t h =
+    let both = reached (nat_le 10000 c.number) TooLarge (word_refusal c.number c.wanted (keyword_of s.word) s.params)
+    (saying s >>= settled frames c.tool c.wanted c.touched) t h in
+    record { few = below_most c.number both.0; said = settling_is frames c.tool c.wanted c.touched (saying s) t both.1 }
+
+-- an accepted statement ends the program by its word
+no_parameters_close : (params : List (List ℕ)) (t : StatementMeaning) → without_parameters said.Closes params ≡ Ok t → closes t ≡ true
+no_parameters_close [] t h = let same : said.Closes ≡ t = cc in rw (← same) refl
+no_parameters_close (p ∷ params) t h = absurd cc
+
+unless_badly : (b : Bool) (e : Refusal) (r : Result StatementMeaning Refusal) (t : StatementMeaning) → cond b (Err e) r ≡ Ok t → r ≡ Ok t
+unless_badly true e r t h = absurd cc
+unless_badly false e r t h = h
+
+end_closes : (s : Statement) (t : StatementMeaning) → said_of word.Endfil s ≡ Ok t → closes t ≡ true
+unfolding said_of said_by
+end_closes s t h = no_parameters_close s.params t (unless_badly (is_badly_formed word.Endfil s) _ _ t h)
+
+closing_ends : (keyword : Keyword) (t : StatementMeaning) → SaidBy keyword t → closes t ≡ true → keyword ≡ word.Endfil
+closing_ends keyword (said.Goes target) h e = absurd cc
+closing_ends keyword (said.Begins name n) h e = absurd cc
+closing_ends keyword (said.Touches target direction) h e = absurd cc
+closing_ends keyword said.Ends h e = absurd cc
+closing_ends keyword (said.Selects name) h e = absurd cc
+closing_ends keyword (said.Recalls name) h e = absurd cc
+closing_ends keyword said.Closes h e = h
+closing_ends keyword said.Passes h e = absurd cc
+
+both_same : (keyword : Keyword) (t : StatementMeaning) (b : Bool) → closes t ≡ b → (closes t ≡ true → keyword ≡ word.Endfil)
+    → (keyword ≡ word.Endfil → closes t ≡ true) → is_end keyword ≡ b
+both_same keyword t true h f g = rw (f h) refl
+both_same word.Endfil t false h f g = let e = g refl in cc
+both_same word.Dmismn t false h f g = refl
+both_same word.Goto t false h f g = refl
+both_same word.Meas t false h f g = refl
+both_same word.Ptmeas t false h f g = refl
+both_same word.Endmes t false h f g = refl
+both_same word.Snslct t false h f g = refl
+both_same word.Recall t false h f g = refl
+both_same word.Units t false h f g = refl
+both_same word.Mode t false h f g = refl
+both_same word.Definition t false h f g = refl
+both_same word.Passed t false h f g = refl
+both_same word.Unknown t false h f g = refl
+
+end_is : (s : Statement) (t : StatementMeaning) → saying s ≡ Ok t → is_end (keyword_of s.word) ≡ closes t
+end_is s t h =
+    let by_word : SaidBy (keyword_of s.word) t = rw h at (said_of_if (keyword_of s.word) s) in
+    both_same (keyword_of s.word) t (closes t) refl (closing_ends (keyword_of s.word) t by_word)
+    (λ e. end_closes s t (subst (λ (k : Keyword). said_of k s ≡ Ok t) e h))
+
+-- what is carried past an accepted statement
+tool_after : (has_tool : Bool) (m : StatementMeaning) (above : Option (List ℕ)) → is_none (some_tool has_tool) ≡ is_none above
+    → is_none (some_tool (has_tool || is_selection m)) ≡ is_none (or_else (tool_said (Ok m)) above)
+tool_after has_tool (said.Goes target) above h = rw (or-false has_tool) h
+tool_after has_tool (said.Begins name n) above h = rw (or-false has_tool) h
+tool_after has_tool (said.Touches target direction) above h = rw (or-false has_tool) h
+tool_after has_tool said.Ends above h = rw (or-false has_tool) h
+tool_after true (said.Selects name) above h = refl
+tool_after false (said.Selects name) above h = refl
+tool_after has_tool (said.Recalls name) above h = rw (or-false has_tool) h
+tool_after has_tool said.Closes above h = rw (or-false has_tool) h
+tool_after has_tool said.Passes above h = rw (or-false has_tool) h
+
+one_less_lacks : (wanted : Option ℕ) (n : ℕ) → one_less (lacks wanted n) ≡ lacks wanted (n + 1)
+one_less_lacks None n = refl
+one_less_lacks (Some count) n = let e : (count - n) - 1 ≡ count - (n + 1) = omega arith in rw e refl
+
+nothing_less : (count : ℕ) → Some count ≡ lacks (Some count) 0
+nothing_less count = let e : count - 0 ≡ count = omega arith in rw e refl
+
+lacking_after : (lacking : Option ℕ) (m : StatementMeaning) (bound : Option (Option ℕ)) (n : ℕ)
+    → lacking ≡ lacks (bound_count bound) n
+    → lacking_said m lacking ≡ lacks (bound_count (or_else (bound_said (Ok m)) bound)) (touched_with (Ok m) n)
+lacking_after lacking (said.Goes target) bound n h = h
+lacking_after lacking (said.Begins name count) bound n h = nothing_less count
+lacking_after lacking (said.Touches target direction) bound n h = rw h (one_less_lacks (bound_count bound) n)
+lacking_after lacking said.Ends bound n h = refl
+lacking_after lacking (said.Selects name) bound n h = h
+lacking_after lacking (said.Recalls name) bound n h = h
+lacking_after lacking said.Closes bound n h = h
+lacking_after lacking said.Passes bound n h = h
+
+one_more_is : (n : ℕ) → n < 10000 → one_more n ≡ n + 1
+one_more_is n h = let few : nat_lt 10000 n ≡ false = grind (arith, nat_tests, h) in rw few refl
+
+matches_after : (frames : List (List ℕ × Point)) (above : List Statement) (st : Standing) (s : Statement) (m : StatementMeaning)
+    → Matches above st → IsAccepted (context_at frames above) s m → Matches (s ∷ above) (after_said st (keyword_of s.word) m)
+matches_after frames above st s m h a =
+    let more : one_more st.number ≡ st.number + 1 = one_more_is st.number (omega (arith, h.number, a.few)) in
+    record {
+      number = omega (arith, more, h.number);
+      few = omega (arith, more, h.number, a.few);
+      start = rw h.start refl;
+      tool = rw a.said (tool_after st.has_tool m (nearest tool_said above) h.tool);
+      lacking = rw a.said (lacking_after st.lacking m (nearest bound_said above) (touched above) h.lacking);
+    }
+
+front_keeps : (front : List Step) (r : Result (List Step) (Refusal × ℕ)) → fault_of (with_front front r) ≡ fault_of r
+front_keeps front (Ok steps) = refl
+front_keeps front (Err e) = refl
+
+-- one statement, by its judgement
+goes_on : (b : Bool) (steps : List Step) (behind : Result (List Step) (Refusal × ℕ)) (more : List Found)
+    → first_of more ≡ fault_of behind
+    → first_of (cond b [] more) ≡ fault_of (cond b (Ok []) (with_front steps behind))
+goes_on true steps behind more h = refl
+goes_on false steps behind more h = h ∙ sym (front_keeps steps behind)
+
+by_judgement : (keyword : Keyword) (line : ℕ) (st : Standing) (r : Result StatementMeaning Refusal) (steps : StatementMeaning → List Step)
+    (behind : Result (List Step) (Refusal × ℕ)) (rest : Standing → List Found)
+    → ((m : StatementMeaning) → r ≡ Ok m → is_end keyword ≡ closes m)
+    → ((m : StatementMeaning) → r ≡ Ok m → first_of (rest (after_said st keyword m)) ≡ fault_of behind)
+    → first_of (listed line r ++ cond (is_end keyword) [] (rest (after st keyword r))) ≡ fault_of (continued line r steps behind)
+by_judgement keyword line st (Err e) steps behind rest ends more = refl
+by_judgement keyword line st (Ok m) steps behind rest ends more = rw (ends m refl) (goes_on (closes m) (steps m) behind _ (more m refl))
+
+agrees : (frames : List (List ℕ × Point)) (fault : Option TextFault) (n : ℕ) (statements above : List Statement) (st : Standing)
+    → Matches above st → first_of (refusals_from frames fault n st statements) ≡ fault_of (steps_from frames fault n above statements)
+agrees frames fault n [] above st h = rw h.number refl
+agrees frames fault n (s ∷ statements) above st h =
+    let keyword = keyword_of s.word in
+    rw (due_is frames above st s h)
+    (by_judgement keyword s.line st (judged frames (context_at frames above) s) (steps_of frames (context_at frames above))
+    (steps_from frames fault n (s ∷ above) statements) (λ (next : Standing). refusals_from frames fault n next statements)
+    (λ m e. end_is s m (accepted_is frames (context_at frames above) s m e).said)
+    (λ m e. agrees frames fault n statements (s ∷ above) (after_said st keyword m)
+    (matches_after frames above st s m h (accepted_is frames (context_at frames above) s m e))))
+
+meant_keeps : (r : Result (List Step) (Refusal × ℕ)) → fault_of (meant r) ≡ fault_of r
+meant_keeps (Ok steps) = refl
+meant_keeps (Err e) = refl
+
+pub first_is : (frames : List (List ℕ × Point)) (text : List ℕ) → first_of (refusals_of frames text) ≡ fault_of (program_of frames text)
+unfolding meaning_of
+first_is frames text =
+    agrees frames (text_reading text).fault (length (lines text)) (text_reading text).statements [] at_start (record {
+      number = refl;
+      few = omega arith;
+      start = refl;
+      tool = refl;
+      lacking = refl;
+    })
+    ∙ sym (meant_keeps (steps_from frames (text_reading text).fault (length (lines text)) [] (text_reading text).statements))

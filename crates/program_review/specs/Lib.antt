@@ -1,0 +1,2 @@
+pub mod TouchLines
+pub mod Refusals

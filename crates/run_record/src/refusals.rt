@@ -1,0 +1,43 @@
+// Writing the errors that a server reported.
+
+ghost use Rattle.std.specs.Prelude.{◌≡◌, ◌∷◌, [], OnOk};
+ghost use Rattle.fixed_um.specs.Calls.{Writes};
+ghost use Rattle.contact_ledger.specs.Lines.{text_of};
+ghost use Rattle.run_record.specs.Entries.{kept_error, refused_line};
+
+use itoa::Buffer;
+use session_telling::visible;
+use std::alloc::AllocError;
+
+/// The most bytes that are kept of an error (this profile).
+const MOST_KEPT: usize = 400;
+
+/// Adds the line of an error.
+fn add_refused(line: &mut Vec<u8>, connection: u64, text: &[u8]) -> Result<(), AllocError>
+    ensures { OnOk result (line.new.items ≡ line.old.items
+        ++ text_of (refused_line connection text.now ∷ [])) }
+{
+    let mut buffer = Buffer::new();
+    line.extend_from_slice(buffer.format(connection).as_bytes())?;
+    line.extend_from_slice(b" REFUSED ")?;
+    line.extend_from_slice(text)?;
+    line.push(b'\n')?;
+    Ok(())
+}
+
+/// Appends the line of an error that the server reported on the connection of this number. `text` is what is kept of it: its tag and its
+/// text, as they were received. They are written as people read them, other bytes than those from 32 to 126 as `\xNN`, up to 400 bytes.
+///
+/// Fails only if out of memory, and then nothing is appended.
+pub fn write_refused(out: &mut Vec<u8>, connection: u64, text: &[u8]) -> Result<(), AllocError>
+    ensures { Writes result out.old out.new
+        (text_of (refused_line connection (kept_error text.now) ∷ [])) }
+{
+    let shown = visible(*out.allocator(), text)?;
+    let bytes = shown.as_bytes();
+    let (kept, _) = bytes.split_at(bytes.len().min(MOST_KEPT));
+    let mut line = Vec::new(*out.allocator());
+    add_refused(&mut line, connection, kept)?;
+    out.extend_from_slice(line.as_slice())?;
+    Ok(())
+}
