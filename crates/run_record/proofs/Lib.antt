@@ -2,6 +2,9 @@ pub mod ContactRuns
 pub mod HeadLines
 pub mod HeadSteps
 pub mod RecordFields
+pub mod StageLines
+pub mod StageOnes
+pub mod StageReads
 pub mod StageRuns
 pub mod StageShapes
 pub mod ToldLines
