@@ -1,6 +1,6 @@
 // Files that grow during a run.
 
-use crate::text_files::{NamedFile, beside, may_be_replaced};
+use crate::text_files::{NamedFile, beside, is_whole, may_be_replaced};
 use byte_ports::Failed;
 use client_core::Client;
 use contact_ledger::lines::cut_line;
@@ -308,7 +308,7 @@ impl ReportedContacts {
         if is_short {
             return Err(OrderFault::Memory);
         }
-        if file.is_some() {
+        if file.is_some() && is_whole(rt, name.as_str(), text.len()) {
             return Ok(None);
         }
         let mut whole = NamedFile::new(rt, Some(name.as_str()))?;

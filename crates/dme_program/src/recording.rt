@@ -9,7 +9,7 @@ use crate::growing_files::{FeaturesFile, LockedFile, ReportedContacts};
 use crate::keeping::tell_kept;
 use crate::progress::Progress;
 use crate::talking::Talk;
-use crate::text_files::NamedFile;
+use crate::text_files::{NamedFile, is_whole};
 use byte_ports::{PullFault, pull_all};
 use client_core::Client;
 use contact_ledger::{Feature, FeatureLedger};
@@ -272,7 +272,7 @@ impl<'a, 'b, R: Eprint + AllocGlobal> Follower<'a, 'b, R> {
     }
 }
 
-/// Ends a record: its name if its file has failed and cannot be replaced by the whole text. Fails only if out of memory.
+/// Ends a record: its name if its file has failed, or is gone or cut, and cannot be replaced by the whole text. Fails only if out of memory.
 fn finish_record<R: Files + AllocGlobal>(
     rt: &R,
     name: String,
@@ -281,7 +281,7 @@ fn finish_record<R: Files + AllocGlobal>(
     if !recorder.is_whole() {
         return Err(OrderFault::Memory);
     }
-    if !recorder.has_failed() {
+    if !recorder.has_failed() && is_whole(rt, name.as_str(), recorder.text().len()) {
         return Ok(None);
     }
     let mut file = NamedFile::new(rt, Some(name.as_str()))?;

@@ -25,6 +25,14 @@ pub fn may_be_replaced<R: Files>(rt: &R, name: &str) -> bool {
     }
 }
 
+/// Whether the file of this name has that many bytes: one that was removed or cut during a run has not.
+pub fn is_whole<R: Files>(rt: &R, name: &str, length: usize) -> bool {
+    match fs::metadata(rt, name) {
+        Ok(found) => found.len() == length as u64,
+        Err(_) => false,
+    }
+}
+
 /// A file of this name, `-` too, or no file if none is named. A text is written to a file next to it, whose name ends in `.new`, forced to
 /// the device, and renamed, so that a crash leaves the old text or the new one. A link, a device or a pipe of this name is written itself.
 /// It does not report its text.

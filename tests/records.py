@@ -1,0 +1,202 @@
+"""Records that are torn, edited, held by another run, or no plain files.
+
+- A record that is cut at each byte is read as its whole lines: what it completes is counted here, and a text that is no whole head completes
+  nothing.
+- A record in which a field is changed to each of a few other values is refused by its line (J1) or by its feature (J3), or is another whole
+  record: then each of its features still has the points of its own contacts, as this script reads them. It is never changed.
+- A record that another run holds, that is a folder, a pipe or a device, or that cannot be made is refused before a connection is made.
+- A link to a record is continued, and stays a link. A record that is removed during the run is whole at the end.
+
+`run` calls this; by itself: tests/records.py
+"""
+
+import os
+import pathlib
+import socket
+import subprocess
+import sys
+import tempfile
+import time
+
+from growths import PROGRAM, ROOT, Wrong, must
+from listening import free_port, wait_for_listener
+
+EXAMPLES = ROOT / "examples"
+RECORD = (EXAMPLES / "break_inside_a_feature.record").read_bytes()
+CIRCLE = (EXAMPLES / "circle.dmis").read_bytes()
+SETUP = (EXAMPLES / "machine.setup").read_bytes()
+SECONDS = 20
+OTHERS = ("", "2", "X", "M", "1.000", "-1.000000", "4000000001", "END")
+
+
+def dme(folder, *words):
+    return subprocess.run([str(PROGRAM), *words], cwd=folder, capture_output=True, text=True, timeout=SECONDS)
+
+
+def printed(folder, text, form):
+    """What `export` prints of a record, and its status."""
+    (folder / "part.record").write_bytes(text)
+    run = dme(folder, "export", "--as", form, "--setup", "machine.setup", "--record", "part.record", "circle.dmis")
+    must((folder / "part.record").read_bytes() == text, "record was changed", text)
+    return run
+
+
+def points_of(text):
+    """The label and the points of each feature, in the order of their COMPLETED lines, as the whole lines of a record have them."""
+    lines = text.split("\n")[:-1]
+    counts = [int(it.split(" ")[2]) for it in lines if it.startswith("FEATURE ")]
+    contacts, features = [], []
+    for line in lines[lines.index("END") + 1:] if "END" in lines else []:
+        connection, word, *rest = line.split(" ", 2)
+        if word == "CONTACT":
+            contacts.append(" ".join(line.split(" ")[-3:]))
+        elif word == "COMPLETED":
+            features.append((rest[0], contacts[-counts[len(features)]:]))
+    return features
+
+
+def features_text(features):
+    """The label and the points of each feature of the text of a features file."""
+    found, points = [], []
+    for line in features.split("\n")[1:-1]:
+        if line.startswith("FEATURE "):
+            label, points = line.split(" ")[1], []
+        elif line == "END":
+            found.append((label, points))
+        else:
+            points.append(line)
+    return found
+
+
+def check_torn(folder):
+    for cut in range(len(RECORD) + 1):
+        text = RECORD[:cut]
+        run = printed(folder, text, "features")
+        must(run.returncode == 0, f"cut at byte {cut}", run.stderr)
+        must(features_text(run.stdout) == points_of(text.decode()), f"cut at byte {cut}", run.stdout)
+
+
+def edited():
+    """Each record in which one field is another."""
+    lines = RECORD.decode().split("\n")[:-1]
+    for at, line in enumerate(lines):
+        fields = line.split(" ")
+        for place, field in enumerate(fields):
+            for other in OTHERS:
+                if other != field:
+                    changed = [*fields[:place], other, *fields[place + 1:]]
+                    yield at + 1, "\n".join([*lines[:at], " ".join(changed), *lines[at + 1:]]) + "\n"
+
+
+def check_edited(folder):
+    whole = 0
+    for number, text in edited():
+        run = printed(folder, text.encode(), "features")
+        if run.returncode != 0:
+            said = run.stderr.split("\n")[0]
+            known = said.startswith("dme: J1 Damaged at line ") or said.startswith("dme: J3 OtherProgram (feature ")
+            must(known and run.stdout == "", f"line {number} edited", said)
+            continue
+        whole += 1
+        must(features_text(run.stdout) == points_of(text), f"line {number} edited", run.stdout)
+        audit = dme(folder, "audit", "--setup", "machine.setup", "--record", "part.record", "circle.dmis")
+        must(audit.stdout.startswith("RUNS") and audit.returncode == 0, f"line {number} edited", audit.stdout)
+    must(whole > 0, "no edited record is a whole one")
+
+
+def run_words(port, record="part.record"):
+    return ["run", "--setup", "machine.setup", "--host", "127.0.0.1", "--port", str(port), "--record", record, "circle.dmis"]
+
+
+def check_no_files(folder):
+    port = free_port()
+    os.mkfifo(folder / "pipe")
+    (folder / "nothing").mkdir()
+    for name in ("pipe", "nothing", "/dev/null", "missing/part.record"):
+        run = dme(folder, *run_words(port, name))
+        must((run.returncode, run.stdout, run.stderr) == (1, "", f"dme: cannot write {name}\n"), name, run.stderr)
+
+
+def check_held(folder):
+    """A run whose server says nothing holds its record."""
+    (folder / "part.record").write_bytes(RECORD[:400])
+    with socket.create_server(("127.0.0.1", 0)) as silent:
+        first = subprocess.Popen([str(PROGRAM), *run_words(silent.getsockname()[1])], cwd=folder, stdout=subprocess.PIPE, stderr=subprocess.PIPE)
+        try:
+            silent.settimeout(SECONDS)
+            connection, _ = silent.accept()
+            held = (folder / "part.record").read_bytes()
+            run = dme(folder, *run_words(free_port()))
+            must((run.returncode, run.stderr) == (1, "dme: cannot write part.record\n"), "held record", run.stderr)
+            must((folder / "part.record").read_bytes() == held, "held record was changed")
+            connection.close()
+        finally:
+            first.kill()
+            first.communicate()
+
+
+def served(folder, port):
+    server = subprocess.Popen([str(PROGRAM), "serve", "--setup", "machine.setup", "--port", str(port)], cwd=folder, stdout=subprocess.PIPE)
+    wait_for_listener(port, lambda: server.poll() is not None, SECONDS)
+    return server
+
+
+def check_link(folder):
+    (folder / "other.record").write_bytes(RECORD[: RECORD.index(b"2 CONTACT -1.000")])
+    (folder / "part.record").unlink(missing_ok=True)
+    (folder / "part.record").symlink_to("other.record")
+    port = free_port()
+    server = served(folder, port)
+    run = dme(folder, *run_words(port))
+    server.communicate(timeout=SECONDS)
+    must(run.returncode == 0 and (folder / "part.record").is_symlink(), "record by a link", run.stderr)
+    must(len(points_of((folder / "other.record").read_text())) == 1, "record by a link")
+    (folder / "part.record").unlink()
+
+
+def check_removed(folder):
+    """A server that waits before its last answer, while the record is removed."""
+    with socket.create_server(("127.0.0.1", 0)) as listener:
+        words = run_words(listener.getsockname()[1])
+        run = subprocess.Popen([str(PROGRAM), *words], cwd=folder, stdout=subprocess.PIPE, stderr=subprocess.PIPE, text=True)
+        listener.settimeout(SECONDS)
+        connection, _ = listener.accept()
+        with connection, connection.makefile("rb") as lines:
+            for line in lines:
+                tag, command = line.decode().rstrip().split(" ", 1)
+                if command.startswith("EndSession"):
+                    (folder / "part.record").unlink()
+                data = {"IsHomed": f"{tag} # IsHomed(1)\r\n", "PtMeas": f"{tag} # X(1.000), Y(0.000), Z(0.000)\r\n"}
+                connection.sendall(f"{tag} &\r\n{data.get(command.split('(')[0], '')}{tag} %\r\n".encode())
+        out, errors = run.communicate(timeout=SECONDS)
+    must(run.returncode == 0, "removed record", errors)
+    must(len(points_of((folder / "part.record").read_text())) == 1, "removed record")
+
+
+CHECKS = (check_torn, check_edited, check_no_files, check_held, check_link, check_removed)
+
+
+def passes(check):
+    """Whether a check holds, in a folder of its own."""
+    with tempfile.TemporaryDirectory() as room:
+        folder = pathlib.Path(room)
+        (folder / "machine.setup").write_bytes(SETUP)
+        (folder / "circle.dmis").write_bytes(CIRCLE)
+        try:
+            check(folder)
+        except (Wrong, OSError, subprocess.TimeoutExpired, ValueError) as wrong:
+            print(f"{check.__name__}: {wrong}")
+            return False
+    return True
+
+
+def check_records():
+    """How many of the checks hold, and how many do not."""
+    begin = time.monotonic()
+    count = sum(PROGRAM.exists() and passes(it) for it in CHECKS)
+    print(f"records that are damaged or held: {count} of {len(CHECKS)}; {time.monotonic() - begin:.0f} s", flush=True)
+    return count, len(CHECKS) - count
+
+
+if __name__ == "__main__":
+    sys.exit(1 if check_records()[1] else 0)
