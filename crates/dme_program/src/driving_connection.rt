@@ -198,7 +198,8 @@ fn drive_client<
     rt: &R,
     client: Client,
     told: &ServerLedger,
-    (call, patience): (Call, &Patience<'_, R>),
+    call: Call,
+    patience: &Patience<'_, R>,
     follower: &mut Follower<'_, '_, R>,
 ) -> Result<u8, Fault>
     requires { may_connect follower.old.number client.client ≡ true }
@@ -260,7 +261,7 @@ fn drive_program<
     let talk = talk_of(rt, &client, 1, &mut call)?;
     let mut follower = Follower::new(rt, progress, &talk, 1, None);
     let told = ServerLedger::new(rt.alloc());
-    let verdict = drive_client(rt, client, &told, (call, patience), &mut follower);
+    let verdict = drive_client(rt, client, &told, call, patience, &mut follower);
     let unwritten = follower.finish()?;
     with_both_unwritten(rt, verdict, unwritten)
 }
@@ -305,7 +306,7 @@ fn drive_recorded<
     confirm(rt, &client, &call)?;
     let talk = talk_of(rt, &client, connection, &mut call)?;
     let mut follower = Follower::new(rt, progress, &talk, connection, Some((name, recorder)));
-    let verdict = drive_client(rt, client, &told, (call, patience), &mut follower);
+    let verdict = drive_client(rt, client, &told, call, patience, &mut follower);
     let unwritten = follower.finish()?;
     with_both_unwritten(rt, verdict, unwritten)
 }
