@@ -207,7 +207,7 @@ pub fn two_pumps_are_a_world()
 /// - `runs`, `broken`: a run of the client, whole or stopped, is such a list of calls, whatever steers it;
 /// - `features`: if it began with a program and features of it that were kept, those that it holds are the first of the program, by their
 ///   labels and their counts of points.
-#[tactic(auto, using(crate::proofs::PeerJoins::pumped_calls, crate::proofs::PeerJoins::pumped_features, crate::proofs::PeerJoins::run_calls, crate::proofs::PeerJoins::broken_calls))]
+#[tactic(auto, using(crate::proofs::PeerJoins::pumped_calls, crate::proofs::PeerJoins::pumped_features))]
 pub fn a_pumped_client_holds_first_features()
     ensures calls { (first e : ClientEnd)
         → ClientCalls first e → AreOwnCalls first e }
