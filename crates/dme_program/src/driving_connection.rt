@@ -17,7 +17,7 @@ use crate::talking::{HeardPort, Log, SaidPort, Side, Talk};
 use crate::text_files::NamedFile;
 use crate::waiting::{Patience, PatientSink, PatientSource, StopFile, seconds_of};
 use byte_ports::{Ports, Sink, Writing};
-use client_core::Client;
+use client_core::{Client, ClientFault};
 use contact_ledger::{CONNECTION_MAX, FeatureLedger, ServerLedger};
 use dme_orders::{
     FilesFault, InputFiles, OrderFault, RunEnd, RunOutputs, TextFile, drive, features_and_program,
@@ -25,6 +25,7 @@ use dme_orders::{
 };
 use dme_words::Run;
 use dmis_program::Program;
+use link_world::{LoopFault, PumpFault};
 use program_review::touch_lines;
 use record_keeping::{Beginning, Recorder};
 use std::alloc::{AllocError, Global};
@@ -60,15 +61,42 @@ fn with_both_unwritten<R: Eprint>(
     with_unwritten(rt, verdict, first)
 }
 
+/// Whether a connection was broken off for a line that the client did not expect.
+fn is_unexpected(broken: Option<LoopFault>) -> bool {
+    matches!(
+        broken,
+        Some(LoopFault::Client(PumpFault::Core(ClientFault::Faulted(_))))
+    )
+}
+
+/// What is shown for a connection that the server's last line has broken off, with that line.
+fn with_line<R: AllocGlobal>(
+    alloc: Global,
+    fault: OrderFault,
+    talk: &RefCell<Talk<'_, R>>,
+) -> Fault {
+    let Ok(talk) = talk.try_borrow() else {
+        return Fault::Order(fault);
+    };
+    let Ok(line) = talk.last_line() else {
+        return Fault::Order(OrderFault::Memory);
+    };
+    match format!(in alloc; "its last line: {line}\n") {
+        Ok(shown) => Fault::Explained(fault, shown),
+        Err(_) => Fault::Order(OrderFault::Memory),
+    }
+}
+
 /// What is shown of a run whose features were to be written to a file of this name, if any.
 fn client_verdict<R: Eprint + AllocGlobal>(
     rt: &R,
     driven: RunEnd,
     features: Option<String>,
-    patience: &Patience<'_, R>,
+    (patience, talk): (&Patience<'_, R>, &RefCell<Talk<'_, R>>),
 ) -> Result<u8, Fault> {
     let verdict = match driven.ended.verdict(true) {
         Ok(status) => Ok(status),
+        Err(fault) if is_unexpected(driven.ended.broken) => Err(with_line(rt.alloc(), fault, talk)),
         Err(fault) => Err(patience.shown(rt.alloc(), fault, "server")),
     };
     if driven.is_kept {
@@ -198,12 +226,12 @@ fn drive_client<
     rt: &R,
     client: Client,
     told: &ServerLedger,
-    call: Call,
-    patience: &Patience<'_, R>,
+    limited: (Call, &Patience<'_, R>),
     follower: &mut Follower<'_, '_, R>,
 ) -> Result<u8, Fault>
     requires { may_connect follower.old.number client.client ≡ true }
 {
+    let (call, patience) = limited;
     let features = NamedFile::new(rt, call.features.as_deref())?;
     let mut outputs = RunOutputs {
         features,
@@ -223,7 +251,7 @@ fn drive_client<
     let result = drive_stream(rt, client, (&stream, patience), follower, &mut outputs);
     drop(outputs);
     match result {
-        Ok(driven) => client_verdict(rt, driven, call.features, patience),
+        Ok(driven) => client_verdict(rt, driven, call.features, (patience, follower.talk)),
         Err(fault) => Err(Fault::Order(of_output(rt, fault))),
     }
 }
@@ -261,7 +289,7 @@ fn drive_program<
     let talk = talk_of(rt, &client, 1, &mut call)?;
     let mut follower = Follower::new(rt, progress, &talk, 1, None);
     let told = ServerLedger::new(rt.alloc());
-    let verdict = drive_client(rt, client, &told, call, patience, &mut follower);
+    let verdict = drive_client(rt, client, &told, (call, patience), &mut follower);
     let unwritten = follower.finish()?;
     with_both_unwritten(rt, verdict, unwritten)
 }
@@ -306,7 +334,7 @@ fn drive_recorded<
     confirm(rt, &client, &call)?;
     let talk = talk_of(rt, &client, connection, &mut call)?;
     let mut follower = Follower::new(rt, progress, &talk, connection, Some((name, recorder)));
-    let verdict = drive_client(rt, client, &told, call, patience, &mut follower);
+    let verdict = drive_client(rt, client, &told, (call, patience), &mut follower);
     let unwritten = follower.finish()?;
     with_both_unwritten(rt, verdict, unwritten)
 }

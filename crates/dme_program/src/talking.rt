@@ -61,6 +61,9 @@ impl Log {
     }
 }
 
+/// The most bytes of a line that are shown as the last one.
+const MOST_SHOWN: usize = 200;
+
 /// Which side of a connection has written.
 #[derive(Clone, Copy)]
 pub enum Side {
@@ -88,6 +91,10 @@ pub struct Talk<'a, R> {
     refusals: Option<Refusals>,
     client: Vec<u8>,
     server: Vec<u8>,
+    /// The beginning of the last line of the server.
+    last: Vec<u8>,
+    /// Whether that line has ended.
+    has_ended: bool,
 }
 
 impl<'a, R: AllocGlobal> Talk<'a, R> {
@@ -101,6 +108,8 @@ impl<'a, R: AllocGlobal> Talk<'a, R> {
             refusals: None,
             client: Vec::new(rt.alloc()),
             server: Vec::new(rt.alloc()),
+            last: Vec::new(rt.alloc()),
+            has_ended: false,
         }
     }
 
@@ -114,6 +123,25 @@ impl<'a, R: AllocGlobal> Talk<'a, R> {
         self.number = number;
         self.client.clear();
         self.server.clear();
+    }
+
+    /// The last line of the server, as far as it has come, as it is shown: up to 200 bytes of it.
+    pub fn last_line(&self) -> Result<String, AllocError> {
+        visible(self.rt.alloc(), self.last.as_slice())
+    }
+
+    /// Remembers bytes of the server, of which the last alone may be the end of a line.
+    fn remember(&mut self, piece: &[u8]) -> Result<(), AllocError> {
+        if self.has_ended {
+            self.last.clear();
+        }
+        for byte in piece {
+            if *byte != b'\r' && *byte != b'\n' && self.last.len() < MOST_SHOWN {
+                self.last.push(*byte)?;
+            }
+        }
+        self.has_ended = piece.last() == Some(&b'\n');
+        Ok(())
     }
 
     /// The errors that the server reported since this was called last, each from its tag on.
@@ -181,6 +209,9 @@ impl<'a, R: Eprint + Clock + AllocGlobal> Talk<'a, R> {
     /// Bytes of a side, of which the last alone may be the end of a line.
     fn keep_piece(&mut self, side: Side, piece: &[u8]) -> Result<(), AllocError> {
         self.refuse(side, piece)?;
+        if matches!(side, Side::Server) {
+            self.remember(piece)?;
+        }
         if !self.trace && self.log.is_none() {
             return Ok(());
         }

@@ -1,5 +1,7 @@
 // How long an end waits for its peer, and what makes it stop.
 
+ghost use Rattle.std.specs.Prelude.{◌≤◌, length, IfOk};
+
 use crate::faults::Fault;
 use byte_ports::{Failed, Sink, Source};
 use client_core::Client;
@@ -236,7 +238,8 @@ impl<'a, 'b, R: Files + Clock> Steering for StopFile<'a, 'b, R> {
     }
 }
 
-/// A connection as a source: it has failed if nothing has come for too long. A stop file, if that is looked for, is its end.
+/// A connection as a source, which gives one line at a time: so the line that ends a connection is the last that was given. It has failed
+/// if nothing has come for too long. A stop file, if that is looked for, is its end.
 #[derive(Drop)]
 pub struct PatientSource<'a, 'b, R> {
     stream: &'a TcpStream,
@@ -254,6 +257,19 @@ impl<'a, 'b, R> PatientSource<'a, 'b, R> {
             has_failed: false,
         }
     }
+}
+
+/// Reads what has come, up to the end of the first line.
+fn read_line(stream: &TcpStream, buf: &mut [u8]) -> io::Result<usize>
+    ensures { IfOk result (λ n. n ≤ length buf.new) }
+{
+    let mut stream = stream;
+    let came = stream.peek(buf)?;
+    let end = match buf[..came].iter().position(|byte| *byte == b'\n') {
+        Some(at) => at + 1,
+        None => came,
+    };
+    stream.read(&mut buf[..end])
 }
 
 impl<'a, 'b, R: Files + Clock> Source for PatientSource<'a, 'b, R> {
@@ -276,8 +292,7 @@ impl<'a, 'b, R: Files + Clock> Source for PatientSource<'a, 'b, R> {
                 return Err(Failed);
             }
         }
-        let mut stream = self.stream;
-        match stream.read(buf) {
+        match read_line(self.stream, buf) {
             Ok(count) => {
                 self.patience.begin();
                 Ok(count)

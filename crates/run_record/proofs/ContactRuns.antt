@@ -6,7 +6,7 @@ use Rattle.contact_ledger.specs.declared.acts.Act.{Act}
 use Rattle.contact_ledger.specs.declared.acts.Act.TheVariants as act
 use Rattle.protocol_model.specs.Claims.{MadeContact, contacts}
 
-contacts_other : (n : ℕ) (a : Act) (acts : List (ℕ × Act)) → is_contact a ≡ false → contacts ((n, a) ∷ acts) ≡ contacts acts
+pub contacts_other : (n : ℕ) (a : Act) (acts : List (ℕ × Act)) → is_contact a ≡ false → contacts ((n, a) ∷ acts) ≡ contacts acts
 contacts_other n (act.HomedIs homed) acts e = refl
 contacts_other n act.Homed acts e = refl
 contacts_other n (act.Moved target frame) acts e = refl

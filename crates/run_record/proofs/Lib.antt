@@ -1,7 +1,13 @@
+pub mod BodySteps
 pub mod ContactRuns
+pub mod EntryReads
 pub mod HeadLines
 pub mod HeadSteps
 pub mod RecordFields
+pub mod ServedRuns
+pub mod StageLines
+pub mod StageOnes
+pub mod StageReads
 pub mod StageRuns
 pub mod StageShapes
 pub mod ToldLines

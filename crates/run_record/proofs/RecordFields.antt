@@ -136,7 +136,7 @@ completed_found line number word label r s t name n p q w u v m l = (
   completed_made line name n (p ∙ rw (m.2, q, w, u, l.1, v) refl),
 )
 
-append_same : (a x y : List ℕ) → a ++ x ≡ a ++ y → x ≡ y
+pub append_same : (a x y : List ℕ) → a ++ x ≡ a ++ y → x ≡ y
 append_same [] x y e = e
 append_same (b ∷ bs) x y e =
     let rest : bs ++ x ≡ bs ++ y = cc in

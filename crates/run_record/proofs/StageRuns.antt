@@ -29,7 +29,7 @@ line_read ls more l n p q e h step =
     let t = take_one_more n ls more l e in
     (t.1, rw t.0 (leads_more (take n ls) (l ∷ []) start p q h (q, step, refl)))
 
-take_whole : (n : ℕ) (ls : List (List ℕ)) → drop n ls ≡ [] → take n ls ≡ ls
+pub take_whole : (n : ℕ) (ls : List (List ℕ)) → drop n ls ≡ [] → take n ls ≡ ls
 take_whole zero [] e = refl
 take_whole zero (x ∷ xs) e = absurd cc
 take_whole (suc n) [] e = refl

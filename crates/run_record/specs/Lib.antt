@@ -2,6 +2,7 @@ pub mod Heads
 pub mod Entries
 pub mod Records
 pub mod Reading
+pub mod Serving
 pub mod Messages
 pub mod Tellings
 pub mod Unfinished

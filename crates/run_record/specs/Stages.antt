@@ -129,6 +129,17 @@ pub record LeadsNowhere (bytes : List ℕ) (n : ℕ) : Type 0 where
   pub here : drop (n - 1) (whole_lines bytes) ≡ line ∷ more
   pub nowhere : (new : Stage) → Next stage line new → ⊥
 
+-- line n is such a line, if lines that follow `above` others begin at this stage
+pub record StopsAfter (from : Stage) (lines : List (List ℕ)) (above n : ℕ) : Type 0 where
+  pub place : ℕ
+  pub stage : Stage
+  pub line : List ℕ
+  pub more : List (List ℕ)
+  pub number : n ≡ above + place + 1
+  pub led : Leads from (take place lines) stage
+  pub here : drop place lines ≡ line ∷ more
+  pub nowhere : (new : Stage) → Next stage line new → ⊥
+
 -- such a line, or a text of another file
 abbrev pub IsBadHead : List ℕ → ℕ → Type 0
 IsBadHead bytes n = LeadsNowhere bytes n ⊎ ((n ≡ 1) × IsForeign bytes)

@@ -1,7 +1,13 @@
 // What the entries of a record leave.
 
+ghost use Rattle.std.specs.Prelude.{◌≡◌, ◌++◌, ◌∷◌, [], ℕ, Err, IfOk, OnOk, MatchOption};
+ghost use Rattle.fixed_um.specs.Calls.{Finds};
 ghost use Rattle.contact_ledger.specs.Ledgers.{IsConnection};
-ghost use Rattle.run_record.specs.Entries.{IsOnConnection};
+ghost use Rattle.dmis_program.specs.declared.features.Wanted.{Wanted};
+ghost use Rattle.run_record.specs.Entries.{IsWrittenEntry};
+ghost use Rattle.run_record.specs.Records.{Kept, nothing_kept, last_frame, IsLastRun, Completes, Follows};
+ghost use Rattle.run_record.specs.Serving.{CanComplete};
+ghost use Rattle.run_record.specs.declared.faults.RecordFault.TheVariants.{Damaged};
 
 use crate::asked::Asked;
 use crate::comparing::same_name;
@@ -9,11 +15,12 @@ use crate::entries::Entry;
 use crate::faults::RecordFault;
 use crate::runs::{behind_contacts, last_frame, served_points};
 use contact_ledger::{Act, Feature, FeatureLedger, Origin, Points, ServerLedger};
-use fixed_um::Name;
+use fixed_um::{Frame, Name};
 use std::alloc::{AllocError, Global};
+use std::marker::Model;
 
 /// What the entries that were read leave. The contacts from the act numbered `from` on are not used up, so no act is considered for two
-/// features.
+/// features. Contracts see it as a `Kept`.
 #[derive(Drop)]
 pub(crate) struct Body {
     pub(crate) features: FeatureLedger,
@@ -23,9 +30,29 @@ pub(crate) struct Body {
     from: usize,
 }
 
+impl Model for Body {
+    ghost use Rattle.std.specs.Prelude.{◌≡◌, ◌≤◌, length, drop};
+    ghost use Rattle.protocol_model.specs.Claims.{contacts};
+    ghost use Rattle.run_record.specs.Records.{Kept};
+
+    ghost Value = { Kept };
+
+    ghost view = { λ b. record {
+      features = b.features;
+      told = b.told;
+      used = b.used;
+      last = b.last;
+    } };
+
+    ghost invariant = { λ b. (b.used ≤ length (contacts b.told)) × (b.from ≤ length b.told)
+        × (contacts (drop b.from b.told) ≡ drop b.used (contacts b.told)) };
+}
+
 impl Body {
     /// No entry was read.
-    pub(crate) fn new(alloc: Global) -> Body {
+    pub(crate) fn new(alloc: Global) -> Body
+        ensures { result ≡ nothing_kept }
+    {
         Body {
             features: FeatureLedger::new(alloc),
             told: ServerLedger::new(alloc),
@@ -41,21 +68,55 @@ impl Body {
         alloc: Global,
         wanted: &Asked,
         connection: u64,
-    ) -> Result<Option<Points>, AllocError> {
+    ) -> Result<Option<Points>, AllocError>
+        ensures { IfOk result (λ found. Finds found (λ points.
+            IsLastRun self.now wanted.now connection points)) }
+    {
         let count = wanted.touches().len() as u64;
         let unused = self.told.contacts().saturating_sub(self.used);
         if unused < count {
             return Ok(None);
         }
-        let acts = self.told.acts();
-        let from = self.from.min(acts.len());
-        let acts = behind_contacts(&acts[from..], unused - count);
+        let (_, acts) = self.told.acts().split_at(self.from);
+        let acts = behind_contacts(acts, unused - count);
         served_points(alloc, connection, wanted.touches(), acts)
     }
 
-    /// Appends an act.
+    /// The points of the next wanted feature and the frame of its last touch, if this label and the last contacts complete it. Fails only
+    /// if out of memory.
+    fn next_points(
+        &self,
+        alloc: Global,
+        asked: &[Asked],
+        connection: u64,
+        label: &Name,
+    ) -> Result<Option<(Frame, Points)>, AllocError>
+        ensures { IfOk result (λ found. MatchOption found
+            ((new : Kept) → Completes asked.now self.now connection label.now new → ⊥)
+            (λ f. (wanted : Wanted) × (f.0 ≡ last_frame wanted.touches)
+            × CanComplete asked.now self.now connection label.now wanted f.1)) }
+    {
+        let Some(wanted) = asked.get(self.features.list().len()) else {
+            return Ok(None);
+        };
+        if !same_name(label, wanted.label()) || connection != self.last {
+            return Ok(None);
+        }
+        let Some(points) = self.last_points(alloc, wanted, connection)? else {
+            return Ok(None);
+        };
+        Ok(Some((last_frame(wanted.touches()), points)))
+    }
+
+    /// Appends an act. Fails only if out of memory.
     fn tell(&mut self, connection: u64, act: Act) -> Result<(), AllocError>
         requires { IsConnection connection }
+        ensures { OnOk result (self.new ≡ record {
+          features = self.old.features;
+          told = self.old.told ++ (connection, act) ∷ [];
+          used = self.old.used;
+          last = connection;
+        }) }
     {
         self.told.push(connection, act)?;
         self.last = connection;
@@ -72,17 +133,14 @@ impl Body {
         number: u64,
     ) -> Result<(), RecordFault>
         requires { IsConnection connection }
+        ensures completes { OnOk result
+            (Completes asked.now self.old connection label self.new) }
+        ensures damaged { (n : ℕ) → result ≡ Err (Damaged n) → (n ≡ number)
+            × ((new : Kept) → Completes asked.now self.old connection label new → ⊥) }
     {
-        let Some(wanted) = asked.get(self.features.list().len()) else {
+        let Some((frame, points)) = self.next_points(alloc, asked, connection, &label)? else {
             return Err(RecordFault::Damaged(number));
         };
-        if !same_name(&label, wanted.label()) || connection != self.last {
-            return Err(RecordFault::Damaged(number));
-        }
-        let Some(points) = self.last_points(alloc, wanted, connection)? else {
-            return Err(RecordFault::Damaged(number));
-        };
-        let frame = last_frame(wanted.touches());
         self.features.push(Feature {
             label,
             points,
@@ -101,7 +159,10 @@ impl Body {
         entry: Entry,
         number: u64,
     ) -> Result<(), RecordFault>
-        requires { IsOnConnection entry }
+        requires { IsWrittenEntry entry }
+        ensures follows { OnOk result (Follows asked.now self.old entry self.new) }
+        ensures damaged { (n : ℕ) → result ≡ Err (Damaged n) → (n ≡ number)
+            × ((new : Kept) → Follows asked.now self.old entry new → ⊥) }
     {
         match entry {
             Entry::Told(connection, act) => {

@@ -1,6 +1,7 @@
 // Records.
 
 ghost use Rattle.std.specs.Prelude.{◌≡◌, option_map};
+ghost use Rattle.run_record.specs.Records.{recorded};
 
 use crate::asked::Asked;
 use crate::bodies::Body;
@@ -36,7 +37,9 @@ impl Model for Record {
 
 impl Record {
     /// The record of a head and of what its entries left.
-    pub(crate) fn new(head: Head, body: Body) -> Record {
+    pub(crate) fn new(head: Head, body: Body) -> Record
+        ensures { result ≡ recorded head.part head.asked body }
+    {
         Record {
             part: head.part,
             asked: head.asked,

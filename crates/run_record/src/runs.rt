@@ -1,9 +1,11 @@
 // The contacts that complete a feature.
 
-ghost use Rattle.std.specs.Prelude.{◌≡◌, ◌↔◌, ◌≤◌, ◌∷◌, ℕ, List, drop, IsTrue};
+ghost use Rattle.std.specs.Prelude.{◌≡◌, ◌↔◌, ◌≤◌, ◌∷◌, ℕ, List, drop, IsTrue, IfOk};
+ghost use Rattle.fixed_um.specs.Calls.{Finds};
 ghost use Rattle.contact_ledger.specs.declared.acts.Act.{Act};
-ghost use Rattle.protocol_model.specs.Claims.{contacts};
+ghost use Rattle.protocol_model.specs.Claims.{contacts, Serves};
 ghost use Rattle.run_record.specs.Records.{last_frame};
+ghost use Rattle.run_record.specs.Serving.{IsServedBy};
 
 use crate::comparing::{same_dir, same_frame, same_name, same_point};
 use crate::telling::is_contact;
@@ -63,6 +65,26 @@ fn is_asked(touch: &Touch, target: Point, dir: Option<Dir>, tool: &Name, frame: 
         && same_frame(frame, touch.frame)
 }
 
+/// The point that an act reported, if it is a contact on this connection that a touch asked for.
+fn served_point(connection: u64, touch: &Touch, on: u64, act: &Act) -> Option<Point>
+    ensures { Finds result (λ p. IsServedBy connection touch.now p on act.now) }
+{
+    let Act::Contact {
+        target,
+        dir,
+        tool,
+        frame,
+        point,
+    } = act
+    else {
+        return None;
+    };
+    if on != connection || !is_asked(touch, *target, *dir, tool, *frame) {
+        return None;
+    }
+    Some(*point)
+}
+
 /// The points that the contacts among these acts reported, if each serves its own touch, in order, all on this connection. Fails only if
 /// out of memory.
 pub(crate) fn served_points(
@@ -70,29 +92,25 @@ pub(crate) fn served_points(
     connection: u64,
     touches: &[Touch],
     acts: &[(u64, Act)],
-) -> Result<Option<Points>, AllocError> {
+) -> Result<Option<Points>, AllocError>
+    ensures { IfOk result (λ found. Finds found (λ points.
+        Serves connection touches.now points (contacts acts.now))) }
+{
     let mut points = Points::new(alloc);
-    let mut at = 0;
-    for (on, act) in acts {
-        if let Act::Contact {
-            target,
-            dir,
-            tool,
-            frame,
-            point,
-        } = act
-        {
-            let Some(touch) = touches.get(at) else {
-                return Ok(None);
-            };
-            if *on != connection || !is_asked(touch, *target, *dir, tool, *frame) {
-                return Ok(None);
-            }
-            points.push(*point)?;
-            at += 1;
+    for entry in acts {
+        let (on, act) = entry;
+        if !is_contact(act) {
+            continue;
         }
+        let Some(touch) = touches.get(points.len()) else {
+            return Ok(None);
+        };
+        let Some(point) = served_point(connection, touch, *on, act) else {
+            return Ok(None);
+        };
+        points.push(point)?;
     }
-    if at < touches.len() {
+    if points.len() < touches.len() {
         return Ok(None);
     }
     Ok(Some(points))
