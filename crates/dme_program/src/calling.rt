@@ -68,16 +68,23 @@ fn attempts<R: Files + Clock + Net<Listener = TcpListener, Stream = TcpStream>>(
     Ok(None)
 }
 
-/// Calls a server: once, or again and again for that many seconds.
+/// Calls a server: again and again for that many seconds, or once, for as long as it may be silent.
 pub fn call_server<R: Files + Clock + Net<Listener = TcpListener, Stream = TcpStream>>(
     rt: &R,
     address: (&str, u16),
     wait: Option<u32>,
     patience: &Patience<'_, R>,
 ) -> Result<Called, OrderFault> {
-    let made = match wait {
-        Some(seconds) => attempts(rt, address, seconds, patience),
-        None => match TcpStream::connect(rt, address) {
+    if patience.is_stopped() {
+        return Ok(Called::Stopped);
+    }
+    let made = match (wait, patience.seconds()) {
+        (Some(seconds), _) => attempts(rt, address, seconds, patience),
+        (None, Some(seconds)) => match attempt(rt, address, Duration::from_secs(seconds as u64)) {
+            Ok(stream) => Ok(Some(stream)),
+            Err(error) => Err(error),
+        },
+        (None, None) => match TcpStream::connect(rt, address) {
             Ok(stream) => Ok(Some(stream)),
             Err(error) => Err(error),
         },

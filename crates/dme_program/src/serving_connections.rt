@@ -124,7 +124,7 @@ fn serve_stream<R: Files + Eprint + Clock + AllocGlobal>(
     serve_one(server, machine, number, &mut ports, keeper)
 }
 
-/// The next connection, whose reads and writes come back in time; none if the stop file is there, or if it cannot be taken, which is told.
+/// The next connection, whose reads and writes come back in time; none if the stop file is there. An error if it cannot be taken.
 fn next_connection<R: Files + Clock>(
     rt: &R,
     listener: &TcpListener,

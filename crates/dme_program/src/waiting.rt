@@ -83,6 +83,11 @@ impl<'a, R> Patience<'a, R> {
         self.timeout.is_some() || self.stop.is_some()
     }
 
+    /// How many seconds a peer may be silent, if that is limited.
+    pub fn seconds(&self) -> Option<u32> {
+        self.timeout
+    }
+
     /// Whether a stop file is named.
     pub fn has_stop(&self) -> bool {
         self.stop.is_some()

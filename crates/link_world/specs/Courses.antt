@@ -34,7 +34,7 @@ abbrev pub course_of : Bool → Course
 course_of true = course.Stop
 course_of false = course.GoOn
 
--- how a run goes on: what has said that it stops is not asked again, and changes nothing; what has not is asked, and steers the client
+-- how a run continues: what has said that it stops is not asked again, and changes nothing; what has not is asked, and steers the client
 abbrev pub Asks : (stopped stops : Bool) → (old new : ClientEnd) → (can can_now : List Course → Bool) → Type 0
 Asks true stops old new can can_now = (stops ≡ true) × (new ≡ old) × (can_now ≡ can)
 Asks false stops old new can can_now = (new ≡ steered (course_of stops) old) × Says can can_now (course_of stops ∷ [])

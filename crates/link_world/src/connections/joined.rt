@@ -31,11 +31,11 @@ ghost use Rattle.link_world.specs.Joined.{EndPair, pumped_of, PumpCalls, IsOneWo
 ghost use Rattle.link_world.specs.Joined.{ClientCalls, AreOwnCalls};
 
 /// A client's turn over its ports is a list of events of the world. Take every world whose client has nothing to send and is on a
-/// connection that was made, and every turn of that client, as `client_turns` makes it, from there or after the client was told to stop, in
+/// connection that was made, and every turn of that client, as `client_turns` makes it, from there or from where the client has been made to stop, in
 /// which the bytes that came in are the first that wait for it on that connection:
 ///
 /// - `joined`: however far the turn has come, there is a list of events, a prefix of one in which the client sends while it can, bytes come
-///   down and it reads while it can, after its abort if it was told to stop, that leads the world to one with the client as the turn has left it, the server unchanged, and the
+///   down and it reads while it can, after its abort if it was to stop, that leads the world to one with the client as the turn has left it, the server unchanged, and the
 ///   connection without the bytes that came in; what the turn has written to its sink, followed by what it has not yet written, is at the
 ///   end of the connection's way up;
 /// - `whole`: if it has read all, there is such a list that is whole, and the connection has grown by what went to the sink;
@@ -153,11 +153,11 @@ pub fn turns_of_a_server_are_events()
 
 /// Two pumps on one connection are a world. Take every world to which a list of events has led and whose sides are on one connection, every
 /// machine whose answers fit the jobs, and every list of calls of `client_turns` and `serve_turns` from there, in any order, each whole or
-/// stopped, with any bounds and ports, the client's perhaps after it was told to stop, in which the bytes that a call took are the first of those on their way to its side (what waited
+/// stopped, with any bounds and ports, the client's perhaps after it was to stop, in which the bytes that a call took are the first of those on their way to its side (what waited
 /// there at first, and what the other side's calls have written since):
 ///
 /// - `world`: one list of events, for each call the whole turn of a side or a prefix of one and its leaving, after an abort where the client
-///   was told to stop, leads the world to one with
+///   was to stop, leads the world to one with
 ///   both sides as the calls have left them; what is on its way up and down waits on their connection, and if a side has left, what it had
 ///   not yet written may follow that;
 /// - `sound`, `told`, `agree`: so what `every_run` claims holds of the client and the server after the calls;
@@ -207,7 +207,7 @@ pub fn two_pumps_are_a_world()
 /// - `runs`, `broken`: a run of the client, whole or stopped, is such a list of calls, whatever steers it;
 /// - `features`: if it began with a program and features of it that were kept, those that it holds are the first of the program, by their
 ///   labels and their counts of points.
-#[tactic(auto, using(crate::proofs::PeerJoins::pumped_calls, crate::proofs::PeerJoins::pumped_features, crate::proofs::PeerJoins::run_calls, crate::proofs::PeerJoins::broken_calls))]
+#[tactic(auto, using(crate::proofs::PeerJoins::pumped_calls, crate::proofs::PeerJoins::pumped_features))]
 pub fn a_pumped_client_holds_first_features()
     ensures calls { (first e : ClientEnd)
         → ClientCalls first e → AreOwnCalls first e }

@@ -77,7 +77,7 @@ pub(crate) fn watched_turn<R: Source, W: Sink, N: Watcher>(
 
 /// A whole run of a client over the ports of its connection (this profile): rounds, until it is Done or Halted. It makes none if it is so at
 /// first. In a round all that is due goes out, in a turn that asks for no byte; then, if the run is not over, `steering` is asked whether
-/// it goes on, until it has said that it stops; and a turn asks for at least one byte. If the run is to stop and the client can abort,
+/// it continues, until it has said that it stops; and a turn asks for at least one byte. If the run is to stop and the client can abort,
 /// which is so in Running and Failing, it aborts: AbortE goes out, and its end is awaited.
 ///
 /// Each feature that a turn has completed is reported to the watcher, once, in order, with its number and after that turn, even if the turn
@@ -126,7 +126,7 @@ pub fn watch_link<R: Source, W: Sink, N: Watcher, S: Steering>(
     Ok(())
 }
 
-/// A whole run of a client over the ports of its connection, as `watch_link`, with no watcher. It always goes on: it aborts nothing.
+/// A whole run of a client over the ports of its connection, as `watch_link`, with no watcher. It always continues: it aborts nothing.
 pub fn run_link<R: Source, W: Sink>(
     client: &mut Client,
     ports: &mut Ports<R, W>,

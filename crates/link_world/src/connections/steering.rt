@@ -1,4 +1,4 @@
-// Who says whether a run of a client goes on.
+// Who says whether a run of a client continues.
 
 ghost use Rattle.std.specs.Prelude.{◌≡◌, Bool, true, List, [], ◌∷◌, OnOk, IfOk, IfErr};
 ghost use Rattle.protocol_model.specs.Client.{may_abort};
@@ -16,7 +16,7 @@ pub enum Course {
     Stop,
 }
 
-/// Says in each round of a run of a client whether the run goes on.
+/// Says in each round of a run of a client whether the run continues.
 ///
 /// `can_have_said` is whether these can be all answers that it has given so far, in order; one that keeps no account of them can have given
 /// any.
@@ -31,7 +31,7 @@ pub trait Steering {
         ensures { Says (can_have_said self.old) (can_have_said self.new) (result ∷ []) };
 }
 
-/// Always goes on.
+/// Always continues.
 #[derive(Clone, Copy, Debug)]
 pub struct Onward;
 
@@ -67,7 +67,7 @@ fn stop(client: &mut Client) -> Result<(), PumpFault<ClientFault>>
     Ok(())
 }
 
-/// Asks how a run goes on, unless it was said that it stops, and steers the client so; whether the run stops.
+/// Asks how a run continues, unless it was said that it stops, and steers the client so; whether the run stops.
 #[tactic(auto, using(crate::proofs::Courses::asks_stopped, crate::proofs::Courses::asks_onward, crate::proofs::Courses::asks_stop, crate::proofs::Courses::stop_refused))]
 pub(crate) fn ask<S: Steering>(
     client: &mut Client,

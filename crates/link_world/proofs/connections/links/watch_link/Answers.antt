@@ -105,12 +105,12 @@ returns-in_err-has_stopped-clause-told g c = tells_more c.args.client.now c.watc
 pub returns-in_err-watched_turn-2-clause-stopped : goal.returns-in_err-watched_turn-2-clause-stopped
 returns-in_err-watched_turn-2-clause-stopped g c = if_err c.from_residual-in_err-watched_turn-2.result _ _
     c.from_residual-in_err-watched_turn-2.ensures.0 c.from_residual-in_err-watched_turn-2.ensures.1
-    (client_stops c.loop-client.turns c.loop-client.has_stopped c.in_ok-has_stopped.field-0 c.args.client.now c.loop-client.client
-    c.watched_turn.new.client c.ask.new.client c.watched_turn-2.new.client
+    (client_stops c.loop-client.turns c.loop-client.has_stopped c.in_ok-has_stopped.has_stopped c.args.client.now c.loop-client.client
+    c.watched_turn.new.client c.ask.new.client c.watched_turn-in-loop-client.new.client
     (g.R.Source.left c.args.ports.now.source) (g.R.Source.left c.loop-client.ports.source)
-    (g.R.Source.left c.watched_turn.new.ports.source) (g.R.Source.left c.watched_turn-2.new.ports.source)
+    (g.R.Source.left c.watched_turn.new.ports.source) (g.R.Source.left c.watched_turn-in-loop-client.new.ports.source)
     (g.W.Sink.taken c.args.ports.now.sink) (g.W.Sink.taken c.loop-client.ports.sink) (g.W.Sink.taken c.watched_turn.new.ports.sink)
-    (g.W.Sink.taken c.watched_turn-2.new.ports.sink) c.in_ok-watched_turn.field-0
+    (g.W.Sink.taken c.watched_turn-in-loop-client.new.ports.sink) c.in_ok-watched_turn.field-0
     (g.S.Steering.can_have_said c.args.steering.now) (g.S.Steering.can_have_said c.loop-client.steering)
     (g.S.Steering.can_have_said c.ask.new.steering) c.in_err-watched_turn-2.field-0.0
     c.loop-client.invariant.0 (search rules) c.in_ok-watched_turn.ensures.moved.whole (search rules) c.in_ok-has_stopped.ensures.asks
@@ -124,26 +124,26 @@ returns-in_err-watched_turn-2-clause-bounded g c =
     let last = c.in_err-watched_turn-2.ensures.stopped.within in omega (arith, before, few, more, last)
 
 pub returns-in_err-watched_turn-2-clause-told : goal.returns-in_err-watched_turn-2-clause-told
-returns-in_err-watched_turn-2-clause-told g c = tells_more c.args.client.now c.ask.new.client c.watched_turn-2.new.client
-    (g.N.Watcher.told c.args.watcher.now) (g.N.Watcher.told c.watched_turn.new.watcher) (g.N.Watcher.told c.watched_turn-2.new.watcher)
+returns-in_err-watched_turn-2-clause-told g c = tells_more c.args.client.now c.ask.new.client c.watched_turn-in-loop-client.new.client
+    (g.N.Watcher.told c.args.watcher.now) (g.N.Watcher.told c.watched_turn.new.watcher) (g.N.Watcher.told c.watched_turn-in-loop-client.new.watcher)
     (tells_more c.args.client.now c.watched_turn.new.client c.ask.new.client
     (g.N.Watcher.told c.args.watcher.now) (g.N.Watcher.told c.watched_turn.new.watcher) (g.N.Watcher.told c.watched_turn.new.watcher)
     (tells_more c.args.client.now c.loop-client.client c.watched_turn.new.client
     (g.N.Watcher.told c.args.watcher.now) (g.N.Watcher.told c.loop-client.watcher) (g.N.Watcher.told c.watched_turn.new.watcher)
     c.loop-client.invariant.5 c.watched_turn.ensures.told)
-    (tells_asked c.loop-client.has_stopped c.in_ok-has_stopped.field-0 c.watched_turn.new.client c.ask.new.client
+    (tells_asked c.loop-client.has_stopped c.in_ok-has_stopped.has_stopped c.watched_turn.new.client c.ask.new.client
     (g.S.Steering.can_have_said c.loop-client.steering) (g.S.Steering.can_have_said c.ask.new.steering)
     (g.N.Watcher.told c.watched_turn.new.watcher) c.in_ok-has_stopped.ensures.asks))
-    c.watched_turn-2.ensures.told
+    c.watched_turn-in-loop-client.ensures.told
 
 pub loop-client-preserved : goal.loop-client-preserved
 loop-client-preserved g c = (
-  client_round c.loop-client.turns c.loop-client.has_stopped c.in_ok-has_stopped.field-0 c.args.client.now c.loop-client.client
-      c.watched_turn.new.client c.ask.new.client c.watched_turn-2.new.client
+  client_round c.loop-client.turns c.loop-client.has_stopped c.in_ok-has_stopped.has_stopped c.args.client.now c.loop-client.client
+      c.watched_turn.new.client c.ask.new.client c.watched_turn-in-loop-client.new.client
       (g.R.Source.left c.args.ports.now.source) (g.R.Source.left c.loop-client.ports.source)
-      (g.R.Source.left c.watched_turn.new.ports.source) (g.R.Source.left c.watched_turn-2.new.ports.source)
+      (g.R.Source.left c.watched_turn.new.ports.source) (g.R.Source.left c.watched_turn-in-loop-client.new.ports.source)
       (g.W.Sink.taken c.args.ports.now.sink) (g.W.Sink.taken c.loop-client.ports.sink) (g.W.Sink.taken c.watched_turn.new.ports.sink)
-      (g.W.Sink.taken c.watched_turn-2.new.ports.sink) c.in_ok-watched_turn.field-0 c.in_ok-watched_turn-2.field-0
+      (g.W.Sink.taken c.watched_turn-in-loop-client.new.ports.sink) c.in_ok-watched_turn.field-0 c.in_ok-watched_turn-2.field-0
       (g.S.Steering.can_have_said c.args.steering.now) (g.S.Steering.can_have_said c.loop-client.steering)
       (g.S.Steering.can_have_said c.ask.new.steering)
       c.loop-client.invariant.0 (search rules) c.in_ok-watched_turn.ensures.moved.whole (search rules) c.in_ok-has_stopped.ensures.asks
@@ -154,15 +154,15 @@ loop-client-preserved g c = (
       let last = c.in_ok-watched_turn-2.ensures.moved.within in omega (arith, before, more, last)),
   grind (arith, common_steps),
   grind (arith, common_steps),
-  tells_more c.args.client.now c.ask.new.client c.watched_turn-2.new.client
-      (g.N.Watcher.told c.args.watcher.now) (g.N.Watcher.told c.watched_turn.new.watcher) (g.N.Watcher.told c.watched_turn-2.new.watcher)
+  tells_more c.args.client.now c.ask.new.client c.watched_turn-in-loop-client.new.client
+      (g.N.Watcher.told c.args.watcher.now) (g.N.Watcher.told c.watched_turn.new.watcher) (g.N.Watcher.told c.watched_turn-in-loop-client.new.watcher)
       (tells_more c.args.client.now c.watched_turn.new.client c.ask.new.client
       (g.N.Watcher.told c.args.watcher.now) (g.N.Watcher.told c.watched_turn.new.watcher) (g.N.Watcher.told c.watched_turn.new.watcher)
       (tells_more c.args.client.now c.loop-client.client c.watched_turn.new.client
       (g.N.Watcher.told c.args.watcher.now) (g.N.Watcher.told c.loop-client.watcher) (g.N.Watcher.told c.watched_turn.new.watcher)
       c.loop-client.invariant.5 c.watched_turn.ensures.told)
-      (tells_asked c.loop-client.has_stopped c.in_ok-has_stopped.field-0 c.watched_turn.new.client c.ask.new.client
+      (tells_asked c.loop-client.has_stopped c.in_ok-has_stopped.has_stopped c.watched_turn.new.client c.ask.new.client
       (g.S.Steering.can_have_said c.loop-client.steering) (g.S.Steering.can_have_said c.ask.new.steering)
       (g.N.Watcher.told c.watched_turn.new.watcher) c.in_ok-has_stopped.ensures.asks))
-      c.watched_turn-2.ensures.told,
+      c.watched_turn-in-loop-client.ensures.told,
 )
