@@ -3,7 +3,9 @@ pub mod ContactRuns
 pub mod EntryReads
 pub mod HeadLines
 pub mod HeadSteps
+pub mod RecordFacts
 pub mod RecordFields
+pub mod RecordOnes
 pub mod ServedRuns
 pub mod StageLines
 pub mod StageOnes

@@ -6,7 +6,7 @@ use Rattle.contact_ledger.specs.FeatureTexts.{IsPointCount}
 use Rattle.dmis_program.specs.declared.features.Touch.{Touch}
 use Rattle.dmis_program.specs.declared.features.Wanted.{Wanted}
 use Rattle.run_record.specs.Heads.{IsPartGiven, IsAskedTouch, IsAsked, AreAsked, part_lines, feature_line, touch_line}
-use Rattle.run_record.specs.Heads.{wanted_lines, asked_lines, head_lines}
+use Rattle.run_record.specs.Heads.{header, wanted_lines, asked_lines, head_lines}
 use Rattle.run_record.specs.Entries.{IsWrittenEntry, entry_line}
 use Rattle.run_record.specs.Records.{Kept, nothing_kept, Follows, Follow, record_lines}
 use Rattle.run_record.specs.Stages.{Stage, start, head, within, body, Leads}
@@ -83,6 +83,14 @@ lead_part (Some text) h = (
   refl,
 )
 
+-- the lines of a head but END
+pub lead_open : (part : Option (List ℕ)) (asked : List Wanted) → IsPartGiven part → AreAsked asked
+    → Leads start (header ∷ (part_lines part ++ asked_lines asked)) (head part asked)
+lead_open part asked h g =
+    let all = leads_more (part_lines part) (asked_lines asked) (head None []) (head part []) (head part asked) (lead_part part h)
+    (lead_asked asked part [] g) in
+    (head None [], (refl, refl), all)
+
 pub lead_head : (part : Option (List ℕ)) (asked : List Wanted) → IsPartGiven part → AreAsked asked
     → Leads start (head_lines part asked) (body part asked nothing_kept)
 lead_head part asked h g =
@@ -91,18 +99,12 @@ lead_head part asked h g =
       inr (inr (record { line_is = refl; next = refl })),
       refl,
     ) in
-    let wanted = leads_more (asked_lines asked) (codes "END" ∷ []) (head part []) (head part asked) (body part asked nothing_kept)
-    (lead_asked asked part [] g) ended in
-    let all = leads_more (part_lines part) (asked_lines asked ++ codes "END" ∷ []) (head None []) (head part [])
-    (body part asked nothing_kept) (lead_part part h) wanted in
-    (head None [], (refl, refl), all)
+    let whole = leads_more (header ∷ (part_lines part ++ asked_lines asked)) (codes "END" ∷ []) start (head part asked)
+    (body part asked nothing_kept) (lead_open part asked h g) ended in
+    subst (λ (ls : List (List ℕ)). Leads start (header ∷ ls) (body part asked nothing_kept))
+    (append_assoc (part_lines part) (asked_lines asked) (codes "END" ∷ [])) whole
 
 -- ---- and the lines of entries to what they leave
-
-written_follows : (asked : List Wanted) (old new : Kept) (entry : Entry) → Follows asked old entry new → IsWrittenEntry entry
-written_follows asked old new (Told n act) h = h.0
-written_follows asked old new (Refused n text) h = h.0
-written_follows asked old new (Completed n label) h = h.0
 
 lead_entries : (entries : List Entry) (part : Option (List ℕ)) (asked : List Wanted) (old new : Kept) → Follow asked old entries new
     → Leads (body part asked old) (map entry_line entries) (body part asked new)

@@ -9,6 +9,7 @@
 //! - `strangers`: whether a record is that of a part and a program
 //! - `head_writing`, `telling`, `refusals`: writing
 //! - `faults`: why a record is refused
+//! - `laws`: what follows from the definitions
 #![tactic(auto)]
 
 pub mod asked;
@@ -20,6 +21,7 @@ mod faults;
 mod head_reading;
 mod head_writing;
 mod heads;
+pub mod laws;
 mod parts;
 mod record_reading;
 mod records;
