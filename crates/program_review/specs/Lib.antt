@@ -1,2 +1,3 @@
 pub mod TouchLines
 pub mod Refusals
+pub mod Notices
