@@ -1,4 +1,4 @@
--- What a review says of statements that are accepted: those that are passed over though they change how the machine moves, what nominal values
+-- Statements that a review notices although they are accepted: those that are passed over though they change how the machine moves, what nominal values
 -- mean or what an operator must do, and those that are probably not meant (ISO 22093; which they are is this profile's).
 use Rattle.std.specs.Prelude.{ℕ, Bool, false, ◌&&◌, List, [], ◌∷◌, codes, Option, Some, None}
 use Rattle.std.specs.Prelude.{if◌then◌else◌}
