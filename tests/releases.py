@@ -8,8 +8,10 @@
            refuses only the first N growths of each.
   lies     120 sessions against a server that breaks off and lies, begun again until they are Done (tests/lying.py)
   kills    runs that are killed at 2,001 moments and begun again, over a record and as many over a features file (tests/killed.py)
+  reviews  3,000 generated programs and their reviews (tests/reviews.py)
 
-usage: tests/releases.py [PART ..]     by default all parts; a part may be limited: edits=CRATE, events=COUNT, growths=N, kills=MOMENTS, lies=SESSIONS
+usage: tests/releases.py [PART ..]     by default all parts; a part may be limited: edits=CRATE, events=COUNT, growths=N, kills=MOMENTS, lies=SESSIONS,
+reviews=PROGRAMS
 
 It needs the executables that `tests/run` has built.
 """
@@ -27,13 +29,15 @@ import time
 from growths import CALLS, PROGRAM, ROOT, WANT, Refusing, Wrong, ended, must, parts_of
 from killed import WINDOWS, check_killed
 from lying import check_lying
+from reviews import check_reviews
 
 TESTS = ROOT / "tests"
 ROWS = TESTS / "program"
-ALONE = ("check", "simulate", "audit", "loop")  # the commands that need no other end
+ALONE = ("check", "review", "simulate", "audit", "loop")  # the commands that need no other end
 ANY = 1_000_000
 EVENTS = 9_100_000
 LIES = 120  # sessions, spread over the windows
+REVIEWS = 3_000  # programs
 KILLS = 2_001  # moments over each of both files, spread over the windows
 
 
@@ -63,6 +67,10 @@ def lies(portion):
 
 def kills(portion):
     return check_killed(int(portion or KILLS) // len(WINDOWS))
+
+
+def reviews(portion):
+    return check_reviews(int(portion or REVIEWS), seed=3)
 
 
 # ---- each growth of each row
@@ -178,7 +186,7 @@ def growths(portion):
     return right, len(jobs) - right
 
 
-PARTS = {"edits": edits, "events": events, "growths": growths, "kills": kills, "lies": lies}
+PARTS = {"edits": edits, "events": events, "growths": growths, "kills": kills, "lies": lies, "reviews": reviews}
 
 
 def main(names):

@@ -85,7 +85,11 @@ impl From<AllocError> for FilesFault {
 }
 
 /// The whole text of a source.
-fn read_text<S: Source>(alloc: Global, source: &mut S, role: Role) -> Result<Vec<u8>, FilesFault>
+pub(crate) fn read_text<S: Source>(
+    alloc: Global,
+    source: &mut S,
+    role: Role,
+) -> Result<Vec<u8>, FilesFault>
     ensures ok { IfOk result (λ text. Reads (came S.left S.has_failed source.old source.new)
         (λ told. text.items ≡ told)) }
     ensures unread { IfErr result (WhyNoText (came S.left S.has_failed source.old source.new)

@@ -17,9 +17,9 @@ use crate::version;
 use byte_ports::Writing;
 use dme_orders::{
     AuditFiles, FilesFault, InputFiles, RecordFiles, SimulationFiles, audit_files, audit_record,
-    check_under_setup, simulate, status,
+    check_under_setup, review_program, simulate, status,
 };
-use dme_words::{Audit, Check, Order, RecordAudit, Simulation, read_words};
+use dme_words::{Audit, Check, Order, RecordAudit, Review, Simulation, read_words};
 use std::alloc::{AllocError, Global};
 use std::env::{self, Env};
 use std::fs::File;
@@ -84,6 +84,26 @@ fn check<R: Files + Input + Print + AllocGlobal>(rt: &R, order: Check) -> Result
     }
     files.program = program.into_file();
     Err(refused(rt.alloc(), fault, files, order.explain))
+}
+
+/// The order `review`: its exit status.
+fn review<R: Files + Input + Print + AllocGlobal>(rt: &R, order: Review) -> Result<u8, Fault> {
+    let mut sources = Sources::new(rt, false);
+    let name = String::from_str(rt.alloc(), order.program.as_str())?;
+    let mut setup = sources.maybe(order.setup);
+    let mut program = sources.file(order.program);
+    let mut sink = Writing::new(io::writer(rt));
+    match review_program(rt.alloc(), name.as_str(), &mut setup, &mut program, &mut sink) {
+        Ok(status) => Ok(status),
+        Err(fault) => {
+            let mut files = InputFiles::unnamed(rt.alloc());
+            if let Some(setup) = setup {
+                files.setup = setup.into_file();
+            }
+            files.program = program.into_file();
+            Err(refused(rt.alloc(), fault, files, false))
+        }
+    }
 }
 
 /// Standard error for the lines of both sides, if they are shown.
@@ -205,6 +225,7 @@ fn carry_out<
         Order::Explain(topic) => explain_topic(rt, topic),
         Order::Export(order) => export(rt, order),
         Order::ExportRecord(order) => export_of_record(rt, order),
+        Order::Review(order) => review(rt, order),
     }
 }
 

@@ -164,8 +164,11 @@ serves p free = (
             (
               λ answers none. inr (inr (inr (inr (inr (inr (inl (refl, explained p.1 none))))))),
               (
-                λ answers none. inr (inr (inr (inr (inr (inr (inr (refl, export p.1 none))))))),
-                (λ answers none. absurd (no_help p.0 p.1 free answers), tt),
+                λ answers none. inr (inr (inr (inr (inr (inr (inr (inl (refl, export p.1 none)))))))),
+                (
+                  λ answers none. inr (inr (inr (inr (inr (inr (inr (inr refl))))))),
+                  (λ answers none. absurd (no_help p.0 p.1 free answers), tt),
+                ),
               ),
             ),
           ),

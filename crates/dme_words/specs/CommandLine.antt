@@ -87,6 +87,10 @@ abbrev pub export_line : App
 export_line = line_of (codes "export") (needed_rule (codes "as") ∷ text_rule (codes "setup") ∷ text_rule (codes "features")
     ∷ text_rule (codes "record") ∷ flag_rule (codes "explain") ∷ program_rule ∷ [])
 
+-- `review [--setup FILE] [PROGRAM]`
+abbrev pub review_line : App
+review_line = line_of (codes "review") (text_rule (codes "setup") ∷ program_rule ∷ [])
+
 -- the command without its subcommands, of which one is required
 abbrev pub bare_line : App
 bare_line = record (new_app (codes "dme")) { top = record (new_app (codes "dme")).top { subcommand_required = true } }
@@ -94,4 +98,4 @@ bare_line = record (new_app (codes "dme")) { top = record (new_app (codes "dme")
 -- `dme COMMAND ..`
 abbrev pub whole_line : App
 whole_line = fold (λ line order. with_subcommand line order.top) bare_line (check_line ∷ simulate_line ∷ audit_line ∷ loop_line
-    ∷ serve_line ∷ run_line ∷ explain_line ∷ export_line ∷ [])
+    ∷ serve_line ∷ run_line ∷ explain_line ∷ export_line ∷ review_line ∷ [])

@@ -22,6 +22,7 @@ use Rattle.dme_words.specs.declared.orders.RecordAudit.{RecordAudit}
 use Rattle.dme_words.specs.declared.orders.RecordExport.{RecordExport}
 use Rattle.dme_words.specs.declared.orders.RecordForm.{RecordForm}
 use Rattle.dme_words.specs.declared.orders.RecordForm.TheVariants.{Table, Features, Contacts}
+use Rattle.dme_words.specs.declared.orders.Review.{Review}
 use Rattle.dme_words.specs.declared.orders.Run.{Run}
 use Rattle.dme_words.specs.declared.orders.Service.{Service}
 use Rattle.dme_words.specs.declared.orders.Simulation.{Simulation}
@@ -176,6 +177,10 @@ IsAnyExportOf rows (order.Export o) = IsExportOf rows o
 IsAnyExportOf rows (order.ExportRecord o) = IsRecordExportOf rows o
 IsAnyExportOf rows _ = ⊥
 
+-- a review of the program with the named setup, or with none if none is named
+abbrev pub IsReviewOf : List Row → Review → Type 0
+IsReviewOf rows o = IsMaybeOf (codes "setup") rows (option_map string_bytes o.setup) × IsProgramOf rows (string_bytes o.program)
+
 -- the order of a subcommand with its values, by its name
 abbrev pub IsNamedOrderOf : Text × List Row → Order → Type 0
 IsNamedOrderOf p (order.Check o) = (p.0 ≡ codes "check") × IsCheckOf p.1 o
@@ -188,6 +193,7 @@ IsNamedOrderOf p (order.Run o) = (p.0 ≡ codes "run") × IsRunOf p.1 o
 IsNamedOrderOf p (order.Explain topic) = (p.0 ≡ codes "explain") × IsExplainOf p.1 topic
 IsNamedOrderOf p (order.Export o) = (p.0 ≡ codes "export") × IsExportOf p.1 o
 IsNamedOrderOf p (order.ExportRecord o) = (p.0 ≡ codes "export") × IsRecordExportOf p.1 o
+IsNamedOrderOf p (order.Review o) = (p.0 ≡ codes "review") × IsReviewOf p.1 o
 
 -- the order of the subcommand that was found
 abbrev pub IsOrderOf : Option (Text × List Row) → Order → Type 0
@@ -267,10 +273,10 @@ pub record HasExport (rows : List Row) : Type 0 where
   pub form : HasValue (codes "as") rows
   pub explain : HasExplained rows
 
--- the name of one of the last four subcommands, with the values that it cannot do without
+-- the name of one of the last five subcommands, with the values that it cannot do without
 abbrev pub IsLaterAskable : Text × List Row → Type 0
 IsLaterAskable p = ((p.0 ≡ codes "serve") × HasService p.1) ⊎ ((p.0 ≡ codes "run") × HasRun p.1)
-    ⊎ ((p.0 ≡ codes "explain") × HasValue (codes "CODE") p.1) ⊎ ((p.0 ≡ codes "export") × HasExport p.1)
+    ⊎ ((p.0 ≡ codes "explain") × HasValue (codes "CODE") p.1) ⊎ ((p.0 ≡ codes "export") × HasExport p.1) ⊎ (p.0 ≡ codes "review")
 
 -- the name of a subcommand of `dme`, with the values that it cannot do without
 abbrev pub IsAskable : Text × List Row → Type 0
@@ -289,6 +295,7 @@ IsReady (order.Run o) = (1 ≤ o.port) × (is_window o.window ≡ true)
 IsReady (order.Explain topic) = Unit {0}
 IsReady (order.Export o) = Unit {0}
 IsReady (order.ExportRecord o) = Unit {0}
+IsReady (order.Review o) = Unit {0}
 
 -- the words are a command line without a fault, and this is the order of the subcommand that they name, with its values
 pub record Asks (words : List Text) (asked : Order) : Type 0 where

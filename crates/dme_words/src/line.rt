@@ -5,7 +5,7 @@ ghost use Rattle.clap.specs.declared.builder.command.Command.TheViews.{out-Comma
 ghost use Rattle.clap.specs.Words.{app_of, rule_of, shape_of, with_rule, with_subcommand};
 ghost use Rattle.dme_words.specs.CommandLine.{text_rule, needed_rule, window_rule, port_rule, connections_rule, flag_rule};
 ghost use Rattle.dme_words.specs.CommandLine.{program_rule, check_line, simulate_line, audit_line, loop_line, serve_line, run_line};
-ghost use Rattle.dme_words.specs.CommandLine.{code_rule, explain_line, export_line, bare_line, whole_line};
+ghost use Rattle.dme_words.specs.CommandLine.{code_rule, explain_line, export_line, review_line, bare_line, whole_line};
 ghost use Rattle.dme_words.specs.Arguments.{argument_rule, kind_line, with_kind, with_next};
 
 use clap::{Arg, ArgAction, Command};
@@ -96,6 +96,8 @@ enum Kind {
     Explain,
     /// `export ..`.
     Export,
+    /// `review ..`.
+    Review,
 }
 
 /// `--NAME FILE`.
@@ -610,6 +612,17 @@ fn export_command<'a>(alloc: Global) -> Result<Command<'a>, AllocError>
     )
 }
 
+/// `review [--setup FILE] [PROGRAM]`.
+fn review_command<'a>(alloc: Global) -> Result<Command<'a>, AllocError>
+    ensures shape { IfOk result (λ command. app_of command ≡ review_line) }
+    ensures local { IfOk result (λ command. (out-Command command).has_globals ≡ false) }
+{
+    let command = Command::new(alloc, "review").about(
+        "Lists everything that stands between a DMIS program and its run",
+    );
+    with_arguments(alloc, command, &[Argument::Setup, Argument::Program])
+}
+
 /// `dme`, without its subcommands.
 fn bare_command<'a>(alloc: Global) -> Command<'a>
     ensures shape { app_of result ≡ bare_line }
@@ -634,6 +647,7 @@ fn order_command<'a>(alloc: Global, kind: Kind) -> Result<Command<'a>, AllocErro
         Kind::Run => run_command(alloc),
         Kind::Explain => explain_command(alloc),
         Kind::Export => export_command(alloc),
+        Kind::Review => review_command(alloc),
     }
 }
 
@@ -681,6 +695,7 @@ pub(crate) fn whole_command<'a>(alloc: Global) -> Result<Command<'a>, AllocError
             Kind::Run,
             Kind::Explain,
             Kind::Export,
+            Kind::Review,
         ],
     )
 }

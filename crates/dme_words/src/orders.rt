@@ -26,6 +26,8 @@ pub enum Order {
     Export(Export),
     /// Print likewise what a record holds, or the text of one of its two ledgers.
     ExportRecord(RecordExport),
+    /// List everything that stands between a program and its run.
+    Review(Review),
 }
 
 /// The values of `check`.
@@ -204,6 +206,15 @@ pub struct RecordExport {
     pub record: String,
     /// Whether a line that is refused is shown, with what is wrong with it.
     pub explain: bool,
+    /// The file of the program; `-` is standard input.
+    pub program: String,
+}
+
+/// The values of `review`.
+#[derive(Debug, Drop)]
+pub struct Review {
+    /// The file of the machine's setup, whose frames the program may recall; `-` is standard input.
+    pub setup: Option<String>,
     /// The file of the program; `-` is standard input.
     pub program: String,
 }

@@ -10,14 +10,14 @@ ghost use Rattle.dme_words.specs.Ordered.{IsExplainOf, IsAnyExportOf, HasExport,
 ghost use Rattle.dme_words.specs.Ordered.{HasValue, HasWindow, HasPort, HasConnections, HasFlag, HasExplained};
 ghost use Rattle.dme_words.specs.Ordered.{HasSimulation, HasLoop, HasService, HasRun};
 ghost use Rattle.dme_words.specs.Ordered.{HasNone, is_lacking, AreLacking, HasNoAudit, HasNoExport, ExportMisfits};
-ghost use Rattle.dme_words.specs.Ordered.{IsLaterAskable};
+ghost use Rattle.dme_words.specs.Ordered.{IsLaterAskable, IsReviewOf};
 ghost use Rattle.dme_words.specs.Ordered.{IsAskable, IsReady, Asks, IsRefusal, IsCalled};
 
 use crate::line::whole_command;
 use crate::misfits::{Lacks, Misfit};
 use crate::orders::{
-    Audit, Check, Export, Loop, Order, RecordAudit, RecordExport, RecordForm, Run, Service,
-    Simulation,
+    Audit, Check, Export, Loop, Order, RecordAudit, RecordExport, RecordForm, Review, Run,
+    Service, Simulation,
 };
 use clap::error::ErrorKind;
 use clap::parser::ValueSource;
@@ -488,7 +488,16 @@ fn export_order(alloc: Global, values: &ArgMatches) -> Result<Order, WordsFault>
     }
 }
 
-/// The order of one of the last four subcommands, with its values.
+/// The values of `review`. Fails only if out of memory.
+fn review_order(alloc: Global, values: &ArgMatches) -> Result<Review, AllocError>
+    ensures { IfOk result (IsReviewOf (rows_of (found_of values.now))) }
+{
+    let setup = copied_maybe(alloc, values, "setup")?;
+    let program = copied_program(alloc, values)?;
+    Ok(Review { setup, program })
+}
+
+/// The order of one of the last five subcommands, with its values.
 fn later_order(alloc: Global, name: &str, values: &ArgMatches) -> Result<Order, WordsFault>
     requires { IsLaterAskable (name.now, rows_of (found_of values.now)) }
     ensures named { IfOk result (IsOrderOf (Some (name.now, rows_of (found_of values.now)))) }
@@ -501,6 +510,7 @@ fn later_order(alloc: Global, name: &str, values: &ArgMatches) -> Result<Order, 
         "run" => Ok(Order::Run(run_order(alloc, values)?)),
         "explain" => Ok(Order::Explain(explain_order(alloc, values)?)),
         "export" => export_order(alloc, values),
+        "review" => Ok(Order::Review(review_order(alloc, values)?)),
         _ => unreachable!(),
     }
 }

@@ -1,2 +1,4 @@
 pub mod TouchLines
 pub mod Refusals
+pub mod Notices
+pub mod UnderSetup

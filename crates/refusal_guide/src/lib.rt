@@ -7,6 +7,7 @@
 //! - `written`: the page of a topic as text
 //! - `places`: the line of a text that is refused, with a sentence on it
 //! - `lines`, `words`: a line and a word as they are shown
+//! - `sentences`: the sentence on a refusal by itself
 //! - `programs`: the sentences of programs; `statements`, `blocks`, `bad_bytes`: what they are about; `arguments`, `numerals`, `names`: why
 //!   a parameter does not fit
 //! - `setups`, `schedules`, `ledgers`, `records`: the sentences of the other texts
@@ -31,6 +32,7 @@ mod places;
 mod programs;
 mod records;
 mod schedules;
+mod sentences;
 mod setups;
 mod statements;
 mod strangers;
@@ -41,6 +43,7 @@ mod written;
 
 pub use audits::write_audit;
 pub use places::{Refused, write_place};
+pub use sentences::{Passage, write_sentence};
 pub use strangers::{write_other_part, write_other_program};
 pub use topics::Topic;
 pub use written::{Page, write_page};

@@ -12,12 +12,14 @@ use std::alloc::{AllocError, Global};
 /// The most bytes of a line that are shown (this profile).
 const MOST_SHOWN: usize = 200;
 
-/// A text with the line of its refusal: the whole text, the bytes from that line on, and the line's number.
+/// A text with the line of its refusal: the text, the bytes from that line on, and the line's number in the text. If the text is a part of
+/// a longer one, `above` says how many lines of that come before it.
 #[derive(Clone, Copy)]
 pub(crate) struct Place<'a> {
     pub(crate) text: &'a [u8],
     pub(crate) rest: &'a [u8],
     pub(crate) number: u64,
+    pub(crate) above: u64,
 }
 
 /// The bytes of a text from the line of this number on; from its last line on if it has fewer.

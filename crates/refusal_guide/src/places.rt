@@ -103,7 +103,13 @@ fn numbered_place(
     ensures { IfOk result (λ shown. IsPlace name.now text.now number (string_bytes shown)) }
 {
     let rest = from_line(text, number);
-    let reason = reason(alloc, refused, Place { text, rest, number })?;
+    let place = Place {
+        text,
+        rest,
+        number,
+        above: 0,
+    };
+    let reason = reason(alloc, refused, place)?;
     let line = first_line(rest);
     let start = shown_start(line, reason.at, reason.len);
     let shown = shown_line(alloc, line, start)?;

@@ -234,14 +234,17 @@ fn inside_reason(alloc: Global, found: Found, line: u64) -> Result<Reason, Alloc
 /// Why a statement may not be inside a block.
 fn inside_block(alloc: Global, place: Place, found: Found) -> Result<Option<Reason>, AllocError> {
     match open_line(alloc, place)? {
-        Some(line) => Reason::given(inside_reason(alloc, found, line)),
+        Some(line) => {
+            let line = line.saturating_add(place.above);
+            Reason::given(inside_reason(alloc, found, line))
+        }
         None => Ok(None),
     }
 }
 
-/// How many touches this block lacks, in a sentence.
-fn touches_sentence(alloc: Global, block: &Block) -> Result<String, AllocError> {
-    let line = block.line;
+/// How many touches this block lacks, in a sentence, where that many lines come before the text.
+fn touches_sentence(alloc: Global, block: &Block, above: u64) -> Result<String, AllocError> {
+    let line = block.line.saturating_add(above);
     let wanted: &str = &block.wanted;
     let touches = block.touches;
     if touches == 0 {
@@ -257,7 +260,7 @@ fn too_few(alloc: Global, place: Place, found: Found) -> Result<Option<Reason>, 
     let Some(block) = open_block(alloc, place)? else {
         return Ok(None);
     };
-    let said = touches_sentence(alloc, &block)?;
+    let said = touches_sentence(alloc, &block, place.above)?;
     Ok(Some(Reason::of_word(said, found.word())))
 }
 

@@ -1,0 +1,48 @@
+-- Statements that a review notices although they are accepted: those that are passed over though they change how the machine moves, what nominal values
+-- mean or what an operator must do, and those that are probably not meant (ISO 22093; which they are is this profile's).
+use Rattle.std.specs.Prelude.{ℕ, Bool, false, ◌&&◌, List, [], ◌∷◌, codes, Option, Some, None}
+use Rattle.std.specs.Prelude.{if◌then◌else◌}
+use Rattle.std.specs.Str.{bytes_eq}
+use Rattle.dmis_text.specs.declared.elements.Statement.{Statement}
+use Rattle.dmis_program.specs.Keywords.{keyword_of}
+use Rattle.dmis_program.specs.Sayings.{is_badly_formed}
+use Rattle.dmis_program.specs.declared.keywords.Keyword.{Keyword}
+use Rattle.dmis_program.specs.declared.keywords.Keyword.TheVariants as word
+use Rattle.program_review.specs.declared.notices.Passed.{Passed}
+use Rattle.program_review.specs.declared.notices.Passed.TheVariants as passed
+use Rattle.program_review.specs.declared.notices.Notice.{Notice}
+
+-- the first parameter is this word
+abbrev pub begins_with : List ℕ → List (List ℕ) → Bool
+begins_with text [] = false
+begins_with text (first ∷ rest) = bytes_eq first text
+
+-- what a word changes that is passed over; a text only if it is for the operator
+abbrev pub passed_word : List ℕ → List (List ℕ) → Option Passed
+passed_word text params =
+    if bytes_eq text (codes "PRCOMP") then Some passed.Compensation else
+    if bytes_eq text (codes "FINPOS") then Some passed.Positioning else
+    if bytes_eq text (codes "SNSET") then Some passed.Probing else
+    if bytes_eq text (codes "WKPLAN") then Some passed.Plane else
+    if bytes_eq text (codes "FEDRAT") then Some passed.Speed else
+    if bytes_eq text (codes "ACLRAT") then Some passed.Acceleration else
+    if bytes_eq text (codes "TEXT") && begins_with (codes "OPER") params then Some passed.Operator else None
+
+-- what a statement changes that is passed over; none if it is refused for its form
+abbrev pub passed_over : Statement → Option Passed
+passed_over s = if is_badly_formed word.Passed s then None else passed_word s.word s.params
+
+-- before what the statements after it give
+abbrev pub with_passed : Option Passed → ℕ → List Notice → List Notice
+with_passed None line behind = behind
+with_passed (Some what) line behind = record { what = what; line = line } ∷ behind
+
+-- nothing counts after `ENDFIL`
+abbrev pub noticed : Keyword → Option Passed → ℕ → List Notice → List Notice
+noticed word.Endfil what line behind = []
+noticed _ what line behind = with_passed what line behind
+
+-- each statement that is passed over and changes something, with its line, in order
+abbrev pub notices_of : List Statement → List Notice
+notices_of [] = []
+notices_of (s ∷ statements) = noticed (keyword_of s.word) (passed_over s) s.line (notices_of statements)

@@ -1,0 +1,77 @@
+-- What a setup lacks for a program: tools that are selected and not in the rack, and moves and touches out of the machine's volume.
+use Rattle.std.specs.Prelude.{ℕ, Bool, true, false, not, ◌&&◌, List, [], ◌∷◌, ◌++◌, Option, Some, None, Result, Ok, Err, nat_le, unsigned_abs}
+use Rattle.std.specs.Prelude.{if◌then◌else◌}
+use Rattle.dmis_text.specs.declared.elements.Statement.{Statement}
+use Rattle.fixed_um.specs.Limits.{volume_limit}
+use Rattle.fixed_um.specs.Points.{point_sum}
+use Rattle.fixed_um.specs.declared.lengths.Point.{Point}
+use Rattle.tool_rack.specs.Setups.{has_name}
+use Rattle.dmis_program.specs.Keywords.{keyword_of}
+use Rattle.dmis_program.specs.Sayings.{said_of}
+use Rattle.dmis_program.specs.Offsets.{offset_of}
+use Rattle.dmis_program.specs.declared.faults.Refusal.{Refusal}
+use Rattle.dmis_program.specs.declared.keywords.Keyword.{Keyword}
+use Rattle.dmis_program.specs.declared.keywords.Keyword.TheVariants as word
+use Rattle.dmis_program.specs.declared.sayings.StatementMeaning.{StatementMeaning}
+use Rattle.dmis_program.specs.declared.sayings.StatementMeaning.TheVariants as said
+use Rattle.program_review.specs.declared.under_setup.Selected.{Selected}
+use Rattle.program_review.specs.declared.under_setup.Selected.TheVariants as selected
+use Rattle.program_review.specs.declared.under_setup.Lack.{Lack}
+use Rattle.program_review.specs.declared.under_setup.Lack.TheVariants as lack
+use Rattle.program_review.specs.declared.under_setup.SetupNotice.{SetupNotice}
+
+-- what a statement says by itself; none if it is refused for itself, or its word is unknown
+abbrev pub accepted : Result StatementMeaning Refusal → Option StatementMeaning
+accepted (Ok meaning) = Some meaning
+accepted (Err refusal) = None
+
+abbrev pub meaning_with : Keyword → Statement → Option StatementMeaning
+meaning_with word.Unknown s = None
+meaning_with keyword s = accepted (said_of keyword s)
+
+-- the frame of a name that is recalled; unknown if it is not stored
+abbrev pub recalled : Option Point → Selected
+recalled None = selected.Unknown
+recalled (Some offset) = selected.Stored offset
+
+-- the frame that is selected after a statement: a `RECALL` that is refused selects an unknown one
+abbrev pub selected_after : List (List ℕ × Point) → Selected → Keyword → Option StatementMeaning → Selected
+selected_after frames before word.Recall None = selected.Unknown
+selected_after frames before keyword (Some (said.Recalls name)) = recalled (offset_of frames name)
+selected_after frames before keyword meaning = before
+
+-- each axis is within the machine's volume
+abbrev pub is_within : Point → Bool
+is_within p = nat_le (unsigned_abs p.x) volume_limit && (nat_le (unsigned_abs p.y) volume_limit && nat_le (unsigned_abs p.z) volume_limit)
+
+-- a position in the axes of a frame is out of the volume in machine axes; where the frame is unknown nothing is said
+abbrev pub is_outside : Selected → Point → Bool
+is_outside selected.Machine target = not (is_within target)
+is_outside (selected.Stored offset) target = not (is_within (point_sum target offset))
+is_outside selected.Unknown target = false
+
+-- what the setup lacks for a statement that says this
+abbrev pub when : Bool → Lack → Option Lack
+when true what = Some what
+when false what = None
+
+abbrev pub lack_of : List (List ℕ) → Selected → Option StatementMeaning → Option Lack
+lack_of tools before (Some (said.Selects name)) = when (not (has_name tools name)) lack.Tool
+lack_of tools before (Some (said.Goes target)) = when (is_outside before target) lack.Volume
+lack_of tools before (Some (said.Touches target direction)) = when (is_outside before target) lack.Volume
+lack_of tools before _ = None
+
+abbrev pub lack_on : ℕ → Option Lack → List SetupNotice
+lack_on line None = []
+lack_on line (Some what) = record { what = what; line = line } ∷ []
+
+abbrev pub is_end : Keyword → Bool
+is_end word.Endfil = true
+is_end _ = false
+
+-- what the setup lacks for each statement from here on, where this frame is selected before them; nothing counts after `ENDFIL`
+abbrev pub lacks_from : List (List ℕ) → List (List ℕ × Point) → Selected → List Statement → List SetupNotice
+lacks_from tools frames before [] = []
+lacks_from tools frames before (s ∷ statements) = if is_end (keyword_of s.word) then [] else
+    lack_on s.line (lack_of tools before (meaning_with (keyword_of s.word) s)) ++ lacks_from tools frames
+    (selected_after frames before (keyword_of s.word) (meaning_with (keyword_of s.word) s)) statements

@@ -1,0 +1,263 @@
+// Statements that are probably not meant as they are written. No clause says which they are.
+
+ghost use Rattle.std.specs.Prelude.{◌≡◌, IfOk, IfSome, ◌∷◌};
+
+use crate::under_setup::meaning_of;
+use dmis_program::{Keyword, StatementMeaning, keyword_of_word};
+use dmis_text::{Statement, Statements, TextFault};
+use fixed_um::Dir;
+use std::alloc::{AllocError, Global};
+
+/// Why a statement is odd.
+#[derive(Clone, Copy, Debug, PartialEq, Eq)]
+pub enum Odd {
+    /// The length of a touch's direction is not 1 within a tenth of a per cent.
+    Direction,
+    /// The first touch of a block comes before any move in it.
+    TouchBeforeMove,
+    /// The first move of the program comes before any tool is selected.
+    MoveBeforeTool,
+    /// A block ends with more touches than its `MEAS` names.
+    MoreTouches,
+    /// The word is not known, and one letter away from one that is (`near_word`).
+    NearWord,
+    /// The text begins with a byte order mark.
+    Mark,
+}
+
+/// An odd statement, and the line on which it begins.
+#[derive(Clone, Copy, Debug, PartialEq, Eq)]
+pub struct OddNotice {
+    /// Why it is odd.
+    pub what: Odd,
+    /// The number of the line, from 1.
+    pub line: u64,
+}
+
+/// The words that a program may have.
+const WORDS: [&str; 23] = [
+    "DMISMN", "GOTO", "MEAS", "PTMEAS", "ENDMES", "SNSLCT", "RECALL", "ENDFIL", "UNITS", "MODE",
+    "FEAT", "TOL", "SNSDEF", "FILNAM", "FEDRAT", "ACLRAT", "SNSET", "FINPOS", "PRCOMP", "WKPLAN",
+    "TEXT", "DISPLY", "OUTPUT",
+];
+
+/// Whether two words have the same byte in these places.
+fn is_same_byte(word: &[u8], at: usize, other: &[u8], other_at: usize) -> bool {
+    match (word.get(at), other.get(other_at)) {
+        (Some(byte), Some(other_byte)) => *byte == *other_byte,
+        _ => false,
+    }
+}
+
+/// How many bytes two words begin with alike.
+fn alike(word: &[u8], other: &[u8]) -> usize {
+    let mut count = 0;
+    for at in 0..word.len().min(other.len()) {
+        if !is_same_byte(word, at, other, at) {
+            return count;
+        }
+        count = at + 1;
+    }
+    count
+}
+
+/// The bytes after the first `count`; none if there are fewer.
+fn behind(word: &[u8], count: usize) -> Option<&[u8]> {
+    if count > word.len() {
+        return None;
+    }
+    let (_, rest) = word.split_at(count);
+    Some(rest)
+}
+
+/// Whether what is left of two words after different counts of bytes is there and the same.
+fn same_behind(word: &[u8], count: usize, other: &[u8], other_count: usize) -> bool {
+    match (behind(word, count), behind(other, other_count)) {
+        (Some(rest), Some(other_rest)) => rest == other_rest,
+        _ => false,
+    }
+}
+
+/// Whether two different words differ in one letter, which is another, lacking or added, or in two next to each other that are exchanged.
+fn is_near(word: &[u8], other: &[u8]) -> bool {
+    let at = alike(word, other).min(1_000);
+    if same_behind(word, at, other, at) {
+        return false;
+    }
+    let is_exchanged = is_same_byte(word, at, other, at + 1)
+        && is_same_byte(word, at + 1, other, at);
+    same_behind(word, at + 1, other, at + 1)
+        || same_behind(word, at, other, at + 1)
+        || same_behind(word, at + 1, other, at)
+        || (is_exchanged && same_behind(word, at + 2, other, at + 2))
+}
+
+/// The first word of those that a program may have that is one letter away from this one; none if there is none, and for a word of less than
+/// four letters.
+pub fn near_word(word: &[u8]) -> Option<&'static str> {
+    if word.len() < 4 {
+        return None;
+    }
+    for other in WORDS.iter() {
+        if is_near(word, other.as_bytes()) {
+            return Some(*other);
+        }
+    }
+    None
+}
+
+/// The square of a component.
+fn square(component: i64) -> u64 {
+    let size = component.unsigned_abs();
+    size.saturating_mul(size)
+}
+
+/// Whether the length of a direction is 1 within a tenth of a per cent; its components are millionths.
+fn is_of_length_one(direction: Dir) -> bool {
+    let whole = square(direction.i)
+        .saturating_add(square(direction.j))
+        .saturating_add(square(direction.k));
+    998_001_000_000 <= whole && whole <= 1_002_001_000_000
+}
+
+/// How far a program has come.
+#[derive(Clone, Copy)]
+struct Course {
+    has_tool: bool,
+    has_moved: bool,
+    has_moved_in_block: bool,
+    wanted: u64,
+    touches: u64,
+}
+
+impl Course {
+    /// Before any statement.
+    fn start() -> Course {
+        Course {
+            has_tool: false,
+            has_moved: false,
+            has_moved_in_block: false,
+            wanted: 0,
+            touches: 0,
+        }
+    }
+
+    /// After a statement that says this.
+    fn after(self, meaning: &StatementMeaning) -> Course {
+        let mut next = self;
+        match meaning {
+            StatementMeaning::Goes(_) => {
+                next.has_moved = true;
+                next.has_moved_in_block = true;
+            }
+            StatementMeaning::Begins(_, count) => {
+                next.has_moved_in_block = false;
+                next.wanted = *count;
+                next.touches = 0;
+            }
+            StatementMeaning::Touches(_, _) => next.touches = self.touches.saturating_add(1),
+            StatementMeaning::Ends => next.wanted = 0,
+            StatementMeaning::Selects(_) => next.has_tool = true,
+            _ => {}
+        }
+        next
+    }
+
+    /// After a statement of this word that is refused for itself.
+    fn after_refused(self, keyword: Keyword) -> Course {
+        let mut next = self;
+        match keyword {
+            Keyword::Goto => {
+                next.has_moved = true;
+                next.has_moved_in_block = true;
+            }
+            Keyword::Meas | Keyword::Endmes => next.wanted = 0,
+            Keyword::Ptmeas => next.touches = self.touches.saturating_add(1),
+            Keyword::Snslct => next.has_tool = true,
+            _ => {}
+        }
+        next
+    }
+
+    /// Why a touch is odd here.
+    fn odd_touch(self, direction: Option<Dir>) -> Option<Odd> {
+        if self.wanted > 0 && self.touches == 0 && !self.has_moved_in_block {
+            return Some(Odd::TouchBeforeMove);
+        }
+        match direction {
+            Some(direction) if !is_of_length_one(direction) => Some(Odd::Direction),
+            _ => None,
+        }
+    }
+
+    /// Why a statement that says this is odd here.
+    fn odd(self, meaning: &StatementMeaning) -> Option<Odd> {
+        match meaning {
+            StatementMeaning::Touches(_, direction) => self.odd_touch(*direction),
+            StatementMeaning::Goes(_) if !self.has_moved && !self.has_tool => {
+                Some(Odd::MoveBeforeTool)
+            }
+            StatementMeaning::Ends if self.wanted > 0 && self.touches > self.wanted => {
+                Some(Odd::MoreTouches)
+            }
+            _ => None,
+        }
+    }
+}
+
+/// Adds why a statement is odd, if it is, and gives how far the program has come after it.
+fn pass(
+    notices: &mut Vec<OddNotice>,
+    course: Course,
+    keyword: Keyword,
+    statement: &Statement,
+) -> Result<Course, AllocError> {
+    let line = statement.line;
+    if keyword == Keyword::Unknown {
+        if near_word(&statement.word).is_some() {
+            let what = Odd::NearWord;
+            notices.push(OddNotice { what, line })?;
+        }
+        return Ok(course);
+    }
+    let Some(meaning) = meaning_of(*notices.allocator(), keyword, statement)? else {
+        return Ok(course.after_refused(keyword));
+    };
+    if let Some(what) = course.odd(&meaning) {
+        notices.push(OddNotice { what, line })?;
+    }
+    Ok(course.after(&meaning))
+}
+
+/// The next statement; none at the end of the text, and before a line that cannot be read.
+fn next_statement<'a>(statements: &mut Statements<'a>) -> Result<Option<Statement<'a>>, AllocError>
+    ensures { IfOk result (λ given. IfSome given
+        (λ s. statements.old.left ≡ s ∷ statements.new.left)) }
+{
+    match statements.next() {
+        Ok(statement) => Ok(statement),
+        Err(TextFault::LineTooLong(_) | TextFault::BadByte(_)) => Ok(None),
+        Err(TextFault::Memory) => Err(AllocError),
+    }
+}
+
+/// Each statement of a program that is probably not meant as it is written, in order, one finding a statement. Statements that are
+/// refused for themselves are left out, but for words that are not known. Nothing is read after `ENDFIL`, nor after a line that cannot be read. Fails only if out of memory.
+pub fn odd_statements(alloc: Global, bytes: &[u8]) -> Result<Vec<OddNotice>, AllocError> {
+    let mut statements = Statements::new(alloc, bytes);
+    let mut course = Course::start();
+    let mut notices = Vec::new(alloc);
+    if bytes.starts_with(b"\xEF\xBB\xBF") {
+        let what = Odd::Mark;
+        notices.push(OddNotice { what, line: 1 })?;
+    }
+    while let Some(statement) = next_statement(&mut statements)? {
+        let keyword = keyword_of_word(&statement.word);
+        if keyword == Keyword::Endfil {
+            return Ok(notices);
+        }
+        course = pass(&mut notices, course, keyword, &statement)?;
+        statements.take_back(statement);
+    }
+    Ok(notices)
+}

@@ -1,0 +1,197 @@
+// What a setup lacks for a program.
+
+ghost use Rattle.std.specs.Prelude.{◌≡◌, ◌++◌, IfOk, IfSome, OnOk};
+ghost use Rattle.dmis_text.specs.Reading.{text_reading};
+ghost use Rattle.dmis_program.specs.Keywords.{keyword_of};
+ghost use Rattle.dmis_program.specs.Offsets.{offset_of};
+ghost use Rattle.program_review.specs.UnderSetup.{meaning_with, recalled, selected_after, is_within, is_outside, when, lack_of, lack_on, is_end, lacks_from};
+
+use dmis_program::{Frames, Keyword, StatementFault, StatementMeaning, keyword_of_word, said_of};
+use dmis_text::{Statement, Statements, TextFault};
+use fixed_um::Point;
+use std::alloc::{AllocError, Global};
+use tool_rack::Rack;
+
+/// What a setup lacks for a statement.
+#[derive(Clone, Copy, Debug, PartialEq, Eq)]
+pub enum Lack {
+    /// The tool that is selected is not in the rack.
+    Tool,
+    /// The position is out of the machine's volume, in machine axes.
+    Volume,
+}
+
+/// What the setup lacks for the statement that begins on a line.
+#[derive(Clone, Copy, Debug, PartialEq, Eq)]
+pub struct SetupNotice {
+    /// What it lacks.
+    pub what: Lack,
+    /// The number of the line, from 1.
+    pub line: u64,
+}
+
+/// The frame that is selected.
+#[derive(Clone, Copy)]
+pub(crate) enum Selected {
+    /// The machine's.
+    Machine,
+    /// A stored one, with the place of its zero point in machine axes.
+    Stored(Point),
+    /// One that is not known.
+    Unknown,
+}
+
+/// What a statement says by itself; none if it is refused for itself, or its word is unknown.
+pub(crate) fn meaning_of(
+    alloc: Global,
+    keyword: Keyword,
+    statement: &Statement,
+) -> Result<Option<StatementMeaning>, AllocError>
+    ensures { IfOk result (λ meaning. meaning ≡ meaning_with keyword statement.now) }
+{
+    if keyword == Keyword::Unknown {
+        return Ok(None);
+    }
+    match said_of(alloc, keyword, statement) {
+        Ok(meaning) => Ok(Some(meaning)),
+        Err(StatementFault::Refused(_)) => Ok(None),
+        Err(StatementFault::Memory) => Err(AllocError),
+    }
+}
+
+/// The frame of a name that is recalled.
+fn recalled(offset: Option<Point>) -> Selected
+    ensures { result ≡ recalled offset }
+{
+    match offset {
+        Some(offset) => Selected::Stored(offset),
+        None => Selected::Unknown,
+    }
+}
+
+/// Whether a position is within the machine's volume.
+fn is_within(position: Point) -> bool
+    ensures { result ≡ is_within position }
+{
+    position.is_in_volume()
+}
+
+impl Selected {
+    /// The frame that is selected after a statement.
+    fn after(
+        &self,
+        frames: &Frames,
+        keyword: Keyword,
+        meaning: &Option<StatementMeaning>,
+    ) -> Selected
+        ensures { result ≡ selected_after frames.now self.now keyword meaning.now }
+    {
+        match meaning {
+            Some(StatementMeaning::Recalls(name)) => recalled(frames.get(name)),
+            Some(_) => *self,
+            None => match keyword {
+                Keyword::Recall => Selected::Unknown,
+                _ => *self,
+            },
+        }
+    }
+
+    /// Whether a position in the axes of this frame is out of the machine's volume.
+    fn is_outside(&self, target: Point) -> bool
+        ensures { result ≡ is_outside self.now target }
+    {
+        match self {
+            Selected::Machine => !is_within(target),
+            Selected::Stored(offset) => target.shifted(*offset).is_none(),
+            Selected::Unknown => false,
+        }
+    }
+}
+
+/// This, if it is so.
+fn when(is_so: bool, what: Lack) -> Option<Lack>
+    ensures { result ≡ when is_so what }
+{
+    if is_so { Some(what) } else { None }
+}
+
+/// What the setup lacks for a statement that says this.
+fn lack_of(rack: &Rack, selected: &Selected, meaning: &Option<StatementMeaning>) -> Option<Lack>
+    ensures { result ≡ lack_of rack.now selected.now meaning.now }
+{
+    match meaning {
+        Some(StatementMeaning::Selects(name)) => when(!rack.has(name), Lack::Tool),
+        Some(StatementMeaning::Goes(target)) => when(selected.is_outside(*target), Lack::Volume),
+        Some(StatementMeaning::Touches(target, _)) => {
+            when(selected.is_outside(*target), Lack::Volume)
+        }
+        _ => None,
+    }
+}
+
+/// Adds what the setup lacks for the statement of a line, if it lacks something.
+fn push_lack(
+    notices: &mut Vec<SetupNotice>,
+    what: Option<Lack>,
+    line: u64,
+) -> Result<(), AllocError>
+    ensures { OnOk result (notices.new.items ≡ notices.old.items ++ lack_on line what) }
+{
+    if let Some(what) = what {
+        notices.push(SetupNotice { what, line })?;
+    }
+    Ok(())
+}
+
+/// Adds what the setup lacks for a statement, and gives the frame that is selected after it.
+fn pass(
+    notices: &mut Vec<SetupNotice>,
+    rack: &Rack,
+    frames: &Frames,
+    selected: &Selected,
+    keyword: Keyword,
+    statement: &Statement,
+) -> Result<Selected, AllocError>
+    ensures notices { OnOk result (notices.new.items ≡ notices.old.items
+        ++ lack_on statement.now.line
+        (lack_of rack.now selected.now (meaning_with keyword statement.now))) }
+    ensures selected { IfOk result (λ next. next
+        ≡ selected_after frames.now selected.now keyword (meaning_with keyword statement.now)) }
+{
+    let meaning = meaning_of(*notices.allocator(), keyword, statement)?;
+    let what = lack_of(rack, selected, &meaning);
+    push_lack(notices, what, statement.line)?;
+    let next = selected.after(frames, keyword, &meaning);
+    Ok(next)
+}
+
+/// What a setup with these tools and frames lacks for a program, in the order of the program's lines: each selection of a tool that is not in
+/// the rack, and each move and touch out of the machine's volume, in machine axes. Where the selected frame is unknown, positions are not
+/// judged. Nothing is read after `ENDFIL`, nor after a line that cannot be read. Fails only if out of memory.
+pub fn lacking_setup(
+    alloc: Global,
+    bytes: &[u8],
+    rack: &Rack,
+    frames: &Frames,
+) -> Result<Vec<SetupNotice>, AllocError>
+    ensures { IfOk result (λ notices. notices.items ≡ lacks_from rack.now frames.now Selected.Machine
+        (text_reading bytes.now).statements) }
+{
+    let mut statements = Statements::new(alloc, bytes);
+    let mut selected = Selected::Machine;
+    let mut notices = Vec::new(alloc);
+    loop {
+        let statement = match statements.next() {
+            Ok(Some(statement)) => statement,
+            Ok(None) => return Ok(notices),
+            Err(TextFault::Memory) => return Err(AllocError),
+            Err(TextFault::LineTooLong(_) | TextFault::BadByte(_)) => return Ok(notices),
+        };
+        let keyword = keyword_of_word(&statement.word);
+        if keyword == Keyword::Endfil {
+            return Ok(notices);
+        }
+        selected = pass(&mut notices, rack, frames, &selected, keyword, &statement)?;
+        statements.take_back(statement);
+    }
+}
