@@ -60,6 +60,20 @@ extern "C" {
 #define DME_FINISHED 5u /* all is measured */
 #define DME_FAULTED 6u
 
+/* Kinds of commands. */
+#define DME_START_SESSION 1u
+#define DME_END_SESSION 2u
+#define DME_CLEAR_ALL_ERRORS 3u
+#define DME_IS_HOMED 4u
+#define DME_HOME_COMMAND 5u
+#define DME_ON_PT_MEAS_REPORT 6u
+#define DME_GO_TO 7u
+#define DME_PT_MEAS 8u
+#define DME_CHANGE_TOOL 9u
+#define DME_SET_CSY_TRANSFORMATION 10u
+#define DME_SET_COORD_SYSTEM 11u
+#define DME_ABORT_E 12u
+
 /* What runs on the machine of a server. */
 #define DME_NO_JOB 0u
 #define DME_HOME 1u
@@ -75,6 +89,19 @@ typedef struct { uint32_t number; int64_t x, y, z; int64_t i, j, k; } dme_job;
 
 /* The number of the answer, and how many bytes the text has. */
 typedef struct { uint32_t number; size_t length; } dme_text;
+
+/*
+ * Why a program is refused: `cause` 5 stands for P5, and so on from 1 to 16; of P7 `numeral` 1 stands for N1, up to 3. `line`, from 1, is
+ * that on which the statement begins. All three are 0 unless `number` is DME_BAD_PROGRAM.
+ */
+typedef struct { uint32_t number, cause, numeral; uint64_t line; } dme_refusal;
+
+/*
+ * The command that is due (0: none), and its place in whole micrometres and its outward normal in whole millionths, in the coordinate system
+ * that is selected on the server; zeros if it has none. `feature` is the number, from 1, of the program's first feature that is not complete,
+ * 0 if all are.
+ */
+typedef struct { uint32_t command; uint64_t feature; int64_t x, y, z; int64_t i, j, k; } dme_next;
 
 /*
  * A client for the program of this text, with the frames of this setup. `features` is the text of the features that it already has, empty
@@ -112,6 +139,14 @@ uint32_t dme_client_state(dme_client *client);
  * room; otherwise the room stays as it is. If `number` is DME_MEMORY, the rest of the answer has no meaning.
  */
 dme_text dme_client_features(dme_client *client, uint8_t *room, size_t room_length);
+
+/* What the client sends and measures next. */
+dme_next dme_client_next(dme_client *client);
+/*
+ * Why the text of the program is refused, with the frames of the setup: DME_DONE if it is not, DME_BAD_SETUP, DME_BAD_PROGRAM with cause and
+ * line, or DME_MEMORY instead of any.
+ */
+dme_refusal dme_program_refusal(const uint8_t *setup, size_t setup_length, const uint8_t *program, size_t program_length);
 
 /*
  * A server with this setup, not homed, without a tool and never on a connection. Its machine is the caller's: see `dme_server_job`.

@@ -4,4 +4,6 @@ pub mod ClientCalls
 pub mod Codes
 pub mod Held
 pub mod Making
+pub mod Next
+pub mod Refusals
 pub mod ServerCalls
