@@ -1,14 +1,31 @@
-/* Measures the features of a program on a server of the I++ DME interface, and prints them: measure PORT SETUP PROGRAM */
+/*
+ * Measures the features of a program on a server of the I++ DME interface, keeps the record of the run in a file, and prints the features:
+ *
+ *     measure PORT SETUP PROGRAM RECORD [CONNECTIONS]
+ *
+ * If the connection breaks off, it makes a new one, CONNECTIONS in all (1 if left out), and measures what is left. Called again with the
+ * same record it continues. Status: 0 all is measured, 3 the server refused a command, 4 the last connection broke off, 1 anything else.
+ */
 #include <arpa/inet.h>
 #include <errno.h>
+#include <fcntl.h>
 #include <netinet/in.h>
 #include <stdio.h>
 #include <stdlib.h>
 #include <string.h>
+#include <sys/file.h>
 #include <sys/socket.h>
 #include <unistd.h>
 
 #include "dme.h"
+
+#define WINDOW 1
+
+struct run {
+    dme_client client;
+    dme_record record;
+    int file; /* the record's */
+};
 
 static void give_up(const char *what, unsigned number)
 {
@@ -16,16 +33,88 @@ static void give_up(const char *what, unsigned number)
     exit(1);
 }
 
-/* The bytes of a file. The pointer is not null, even if the file is empty. */
-static uint8_t *bytes_of(const char *name, size_t *length)
+/* The bytes of an open file. The pointer is not null, even if the file is empty. */
+static uint8_t *bytes_of(const char *name, int file, size_t *length)
 {
-    FILE *file = fopen(name, "rb");
-    uint8_t *bytes = malloc(1 << 20);
-    if (!file || !bytes) give_up(name, 0);
-    *length = fread(bytes, 1, 1 << 20, file);
-    if (ferror(file) || !feof(file)) give_up(name, 1);
-    fclose(file);
+    size_t room = 1 << 20;
+    uint8_t *bytes = malloc(room);
+    ssize_t count;
+    *length = 0;
+    if (file < 0) give_up(name, (unsigned)errno);
+    while (bytes && (count = read(file, bytes + *length, room - *length)) > 0) {
+        *length += (size_t)count;
+        if (*length == room) bytes = realloc(bytes, room *= 2);
+    }
+    if (!bytes || count < 0) give_up(name, DME_MEMORY);
     return bytes;
+}
+
+static uint8_t *bytes_in(const char *name, size_t *length)
+{
+    int file = open(name, O_RDONLY);
+    uint8_t *bytes = bytes_of(name, file, length);
+    close(file);
+    return bytes;
+}
+
+/* Why the program or the record is refused. */
+static void refuse(const dme_begun *begun, const uint8_t *label, const uint8_t *setup, size_t setup_length, const uint8_t *program,
+                   size_t program_length)
+{
+    dme_refusal why;
+    switch (begun->number) {
+    case DME_BAD_PROGRAM:
+        why = dme_program_refusal(setup, setup_length, program, program_length);
+        fprintf(stderr, "measure: P%u at line %llu of the program\n", why.cause, (unsigned long long)why.line);
+        break;
+    case DME_DAMAGED:
+        fprintf(stderr, "measure: J1 at line %llu of the record\n", (unsigned long long)begun->line);
+        break;
+    case DME_OTHER_PART:
+        fprintf(stderr, "measure: J2, the record is of another part\n");
+        break;
+    case DME_OTHER_PROGRAM:
+        fprintf(stderr, "measure: J3, the record is of another program: feature %.*s\n", (int)begun->label_length, (const char *)label);
+        break;
+    default:
+        give_up("begin", begun->number);
+    }
+    exit(1);
+}
+
+/* Reads the record, and cuts off what is torn. */
+static void begin(struct run *run, char **words)
+{
+    uint8_t label[64], none = 0;
+    size_t setup_length, program_length, length;
+    uint8_t *setup = bytes_in(words[2], &setup_length), *program = bytes_in(words[3], &program_length), *record;
+    dme_begun begun;
+    run->file = open(words[4], O_RDWR | O_CREAT | O_APPEND, 0666);
+    if (run->file < 0 || flock(run->file, LOCK_EX | LOCK_NB) != 0) give_up(words[4], (unsigned)errno);
+    record = bytes_of(words[4], run->file, &length);
+    begun = dme_record_begin(&run->record, &run->client, setup, setup_length, program, program_length, &none, 0, record, length, WINDOW, label,
+                             sizeof label);
+    if (begun.number != DME_DONE) refuse(&begun, label, setup, setup_length, program, program_length);
+    if (begun.held < length && ftruncate(run->file, (off_t)begun.held) != 0) give_up(words[4], (unsigned)errno);
+    free(setup);
+    free(program);
+    free(record);
+}
+
+/* Appends to the record what has become due, and forces it to the device. */
+static void keep(struct run *run)
+{
+    uint8_t room[4096];
+    size_t count, kept = 0;
+    uint32_t answer = dme_record_follow(&run->record, &run->client);
+    if (answer != DME_DONE) give_up("follow", answer);
+    while ((count = dme_record_take(&run->record, room, sizeof room)) != 0)
+        for (size_t done = 0; done < count; kept++) {
+            ssize_t written = write(run->file, room + done, count - done);
+            if (written < 0) give_up("the record", (unsigned)errno);
+            done += (size_t)written;
+        }
+    if (kept && fsync(run->file) != 0) give_up("the record", (unsigned)errno);
 }
 
 static int connection_to(const char *port)
@@ -39,76 +128,93 @@ static int connection_to(const char *port)
     return line;
 }
 
-/* Writes all that is due, and sends it. */
-static void give_out(dme_client *client, int line)
+/* Writes all that is due, and sends it; 0 if the connection broke off. */
+static int give_out(struct run *run, int line)
 {
     uint8_t room[4096];
     uint32_t answer;
     size_t count;
     do {
-        answer = dme_client_send(client);
+        answer = dme_client_send(&run->client);
     } while (answer == DME_DONE);
     if (answer != DME_NOT_NOW) give_up("send", answer);
-    while ((count = dme_client_take(client, room, sizeof room)) != 0)
+    while ((count = dme_client_take(&run->client, room, sizeof room)) != 0)
         for (size_t done = 0; done < count;) {
             ssize_t sent = send(line, room + done, count - done, MSG_NOSIGNAL);
-            if (sent <= 0) give_up("the connection broke off", 1);
+            if (sent <= 0) return 0;
             done += (size_t)sent;
         }
+    return 1;
 }
 
-/* Feeds what has come in, and reads each whole line. */
-static void take_in(dme_client *client, int line)
+/* Feeds what has come in, and reads each whole line; 0 if the connection broke off. */
+static int take_in(struct run *run, int line)
 {
     uint8_t piece[4096];
     uint32_t answer;
     ssize_t count = recv(line, piece, sizeof piece, 0);
-    if (count <= 0) give_up("the connection broke off", 2);
-    answer = dme_client_feed(client, piece, (size_t)count);
+    if (count <= 0) return 0;
+    answer = dme_client_feed(&run->client, piece, (size_t)count);
     if (answer != DME_DONE) give_up("feed", answer);
     do {
-        answer = dme_client_read(client);
+        answer = dme_client_read(&run->client);
     } while (answer == DME_DONE);
     if (answer != DME_NOTHING) give_up("read", answer);
+    return 1;
+}
+
+/* Measures on a new connection; answers the state in which it ends, DME_APART if the connection broke off. */
+static uint32_t measured_on(struct run *run, const char *port)
+{
+    int line = connection_to(port);
+    uint32_t state, answer = dme_record_connected(&run->record, &run->client);
+    if (answer != DME_DONE) give_up("connected", answer);
+    for (;;) {
+        int is_up = give_out(run, line);
+        state = dme_client_state(&run->client);
+        if (state == DME_FINISHED || state == DME_HALTED || state == DME_FAULTED) break;
+        is_up = is_up && take_in(run, line);
+        keep(run);
+        if (!is_up) {
+            dme_next next = dme_client_next(&run->client);
+            fprintf(stderr, "measure: the connection broke off, at feature %llu\n", (unsigned long long)next.feature);
+            state = DME_APART;
+            break;
+        }
+    }
+    close(line);
+    dme_client_leave(&run->client);
+    return state;
+}
+
+static void print_features(dme_client *client)
+{
+    uint8_t none = 0, *room;
+    dme_text text = dme_client_features(client, &none, 0);
+    if (text.number != DME_DONE) give_up("features", text.number);
+    room = malloc(text.length);
+    if (!room) give_up("features", DME_MEMORY);
+    text = dme_client_features(client, room, text.length);
+    if (text.number != DME_DONE) give_up("features", text.number);
+    fwrite(room, 1, text.length, stdout);
+    free(room);
 }
 
 int main(int count, char **words)
 {
-    dme_client client = {0};
-    size_t setup_length, program_length;
-    uint8_t *setup, *program, *room, none = 0;
-    uint32_t answer, state;
-    dme_text text;
-    int line;
+    struct run run = {0};
+    uint32_t state = DME_APART;
+    int connections;
 
-    if (count != 4) give_up("PORT SETUP PROGRAM", 0);
-    setup = bytes_of(words[2], &setup_length);
-    program = bytes_of(words[3], &program_length);
-    answer = dme_client_new(&client, setup, setup_length, program, program_length, &none, 0, 1);
-    if (answer != DME_DONE) give_up("new", answer);
-    free(setup);
-    free(program);
-    line = connection_to(words[1]);
-    answer = dme_client_connected(&client, 1);
-    if (answer != DME_DONE) give_up("connected", answer);
-
-    for (;;) {
-        give_out(&client, line);
-        state = dme_client_state(&client);
-        if (state == DME_FINISHED || state == DME_HALTED || state == DME_FAULTED) break;
-        take_in(&client, line);
-    }
-    close(line);
-    dme_client_leave(&client);
-
-    text = dme_client_features(&client, &none, 0);
-    if (text.number != DME_DONE) give_up("features", text.number);
-    room = malloc(text.length);
-    if (!room) give_up("features", DME_MEMORY);
-    text = dme_client_features(&client, room, text.length);
-    if (text.number != DME_DONE) give_up("features", text.number);
-    fwrite(room, 1, text.length, stdout);
-    free(room);
-    dme_client_free(&client);
-    return state == DME_FINISHED ? 0 : 3;
+    if (count < 5 || count > 6) give_up("PORT SETUP PROGRAM RECORD [CONNECTIONS]", 0);
+    connections = count == 6 ? atoi(words[5]) : 1;
+    begin(&run, words);
+    keep(&run);
+    if (dme_client_next(&run.client).feature == 0) state = DME_FINISHED;
+    while (state == DME_APART && connections-- > 0) state = measured_on(&run, words[1]);
+    keep(&run);
+    print_features(&run.client);
+    dme_record_free(&run.record);
+    dme_client_free(&run.client);
+    return state == DME_FINISHED ? 0 : state == DME_APART ? 4 : 3;
 }

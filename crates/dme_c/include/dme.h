@@ -37,6 +37,10 @@ extern "C" {
 #define DME_BAD_FEATURES 6u  /* `dme_client_new`: the text of the kept features is refused */
 #define DME_BAD_WINDOW 7u    /* `dme_client_new`: the window is not from 1 to 16 */
 #define DME_NOT_OURS 8u      /* `dme_client_new`: the kept features are not the first ones of the program */
+#define DME_DAMAGED 9u       /* J1, `dme_record_begin`: a line of the record cannot be where it is */
+#define DME_OTHER_PART 10u   /* J2, `dme_record_begin`: the record names another part, or only one of record and call names any */
+#define DME_OTHER_PROGRAM 11u /* J3, `dme_record_begin`: the wanted features of the record are not those of the program */
+#define DME_BAD_PART 12u     /* `dme_record_begin`: the name of the part has more than 64 bytes, or one that is not from 32 to 126 */
 /* Why the client has closed its connection. Leave it, and come to a new connection. */
 #define DME_NOT_RESPONSE 16u /* a line was not a response, or its data were not what was requested */
 #define DME_LINE_TOO_LONG 17u
@@ -60,6 +64,20 @@ extern "C" {
 #define DME_FINISHED 5u /* all is measured */
 #define DME_FAULTED 6u
 
+/* Kinds of commands. */
+#define DME_START_SESSION 1u
+#define DME_END_SESSION 2u
+#define DME_CLEAR_ALL_ERRORS 3u
+#define DME_IS_HOMED 4u
+#define DME_HOME_COMMAND 5u
+#define DME_ON_PT_MEAS_REPORT 6u
+#define DME_GO_TO 7u
+#define DME_PT_MEAS 8u
+#define DME_CHANGE_TOOL 9u
+#define DME_SET_CSY_TRANSFORMATION 10u
+#define DME_SET_COORD_SYSTEM 11u
+#define DME_ABORT_E 12u
+
 /* What runs on the machine of a server. */
 #define DME_NO_JOB 0u
 #define DME_HOME 1u
@@ -69,12 +87,32 @@ extern "C" {
 
 typedef struct { uint8_t *at; } dme_client;
 typedef struct { uint8_t *at; } dme_server;
+typedef struct { uint8_t *at; } dme_record;
 
 /* A job, its place in whole micrometres in machine axes, and the outward normal of a touch, in whole millionths; zeros if it has none. */
 typedef struct { uint32_t number; int64_t x, y, z; int64_t i, j, k; } dme_job;
 
 /* The number of the answer, and how many bytes the text has. */
 typedef struct { uint32_t number; size_t length; } dme_text;
+
+/*
+ * Why a program is refused: `cause` 5 stands for P5, and so on from 1 to 16; of P7 `numeral` 1 stands for N1, up to 3. `line`, from 1, is
+ * that on which the statement begins. All three are 0 unless `number` is DME_BAD_PROGRAM.
+ */
+typedef struct { uint32_t number, cause, numeral; uint64_t line; } dme_refusal;
+
+/*
+ * The command that is due (0: none), and its place in whole micrometres and its outward normal in whole millionths, in the coordinate system
+ * that is selected on the server; zeros if it has none. `feature` is the number, from 1, of the program's first feature that is not complete,
+ * 0 if all are.
+ */
+typedef struct { uint32_t command; uint64_t feature; int64_t x, y, z; int64_t i, j, k; } dme_next;
+
+/*
+ * What a record gives: the damaged line, from 1, of DME_DAMAGED; if it is begun, the number that its next connection has, and how many of the
+ * bytes are whole lines of it; and of DME_OTHER_PROGRAM how many bytes the label of the first feature has that differs. Otherwise zeros.
+ */
+typedef struct { uint32_t number; uint64_t line, connection; size_t held, label_length; } dme_begun;
 
 /*
  * A client for the program of this text, with the frames of this setup. `features` is the text of the features that it already has, empty
@@ -112,6 +150,47 @@ uint32_t dme_client_state(dme_client *client);
  * room; otherwise the room stays as it is. If `number` is DME_MEMORY, the rest of the answer has no meaning.
  */
 dme_text dme_client_features(dme_client *client, uint8_t *room, size_t room_length);
+
+/* What the client sends and measures next. */
+dme_next dme_client_next(dme_client *client);
+/*
+ * Why the text of the program is refused, with the frames of the setup: DME_DONE if it is not, DME_BAD_SETUP, DME_BAD_PROGRAM with cause and
+ * line, or DME_MEMORY instead of any.
+ */
+dme_refusal dme_program_refusal(const uint8_t *setup, size_t setup_length, const uint8_t *program, size_t program_length);
+
+/*
+ * The record of a run (`DME-RECORD 1`): what was asked, what the server reported, and which features are complete. The file is the caller's.
+ *
+ * Makes a client that continues the record of these bytes, and the record; both handles hold nothing before. `bytes` is all that the file has,
+ * none if there is no file yet. `part` names the part, of length 0 if there is none. The client has the features that the record completes,
+ * whose points are those of contacts that the record says a server reported. Cut the file to `held` bytes and append what `dme_record_take`
+ * gives from then on, first of all. Of a file that has no whole head, `held` is 0, and what is taken begins with the head.
+ *
+ * It answers the first of these that applies, or DME_MEMORY instead, and no other number: DME_BAD_SETUP, DME_BAD_PROGRAM
+ * (`dme_program_refusal` says why), DME_BAD_PART, DME_BAD_WINDOW; then, each of which leaves the file to the caller as it is: DME_DAMAGED,
+ * DME_OTHER_PART, DME_OTHER_PROGRAM. The label of the feature that differs, of at most 64 bytes, is copied to the room if it fits. If the
+ * answer is not DME_DONE, neither handle holds anything.
+ */
+dme_begun dme_record_begin(dme_record *record, dme_client *client, const uint8_t *setup, size_t setup_length, const uint8_t *program,
+                           size_t program_length, const uint8_t *part, size_t part_length, const uint8_t *bytes, size_t bytes_length,
+                           uint8_t window, uint8_t *room, size_t room_length);
+/* Empties the handle. The client stays as it is. */
+void dme_record_free(dme_record *record);
+/*
+ * The calls below that are passed a client must be passed the one that was begun with the record. Of it `dme_client_connected` and
+ * `dme_client_resume` are not called: these two are called instead. They do the same, on the connection with the record's next number, after
+ * adding the lines that are due; DME_MEMORY may come before any other refusal.
+ */
+uint32_t dme_record_connected(dme_record *record, dme_client *client);
+uint32_t dme_record_resume(dme_record *record, dme_client *client);
+/*
+ * Adds the lines of what the client has counted since: each act that the server reported, and each feature that it completes. DME_DONE, also
+ * if nothing is new, or DME_MEMORY. To be called after `dme_client_read`, in any state of the client.
+ */
+uint32_t dme_record_follow(dme_record *record, dme_client *client);
+/* Copies as much of what is to be appended to the file as fits into the room, and forgets it. Answers how many bytes that is. */
+size_t dme_record_take(dme_record *record, uint8_t *room, size_t room_length);
 
 /*
  * A server with this setup, not homed, without a tool and never on a connection. Its machine is the caller's: see `dme_server_job`.

@@ -1,7 +1,10 @@
 -- What a call does follows from the three equations that handles and numbers give.
-use Rattle.std.specs.Prelude.{◌≡◌, Option, Some}
+use Rattle.std.specs.Prelude.{◌≡◌, Option, Some, Result}
 use Rattle.std.proofs.Common.{sym, subst}
 use Rattle.dme_c.specs.Calls.{Called}
+use Rattle.dme_c.specs.Recordings.{CalledBoth, RecordValue}
+use Rattle.protocol_model.specs.Ends.{ClientEnd}
+use Rattle.client_core.specs.declared.faults.ClientFault.{ClientFault}
 
 pub called : {E A : Type 0} (Did : E → E → A → Type 0) {o n : Option E} {d : Option A} {old new : E} {answer : A}
     → o ≡ Some old → n ≡ Some new → d ≡ Some answer → Did old new answer → Called o n d Did
@@ -14,3 +17,16 @@ pub called_lent : {E A : Type 0} (Did : E → E → A → Type 0) {o n : Option 
     → o ≡ Some old → lent ≡ old → n ≡ Some new → d ≡ Some answer → Did lent new answer → Called o n d Did
 called_lent Did {new = new} {answer = answer} o_is lent_is n_is d_is did =
     called Did o_is n_is d_is (subst (λ old'. Did old' new answer) lent_is did)
+
+-- likewise for a call with a client and its record
+pub called_both : (Did : ClientEnd → ClientEnd → RecordValue → RecordValue → Result (Unit {0}) ClientFault → Type 0)
+    → {o n : Option ClientEnd} {ro rn : Option RecordValue} {d : Option (Result (Unit {0}) ClientFault)}
+    {old lent new : ClientEnd} {r_old r_lent r_new : RecordValue} {answer : Result (Unit {0}) ClientFault}
+    → o ≡ Some old → lent ≡ old → n ≡ Some new → ro ≡ Some r_old → r_lent ≡ r_old → rn ≡ Some r_new → d ≡ Some answer
+    → Did lent new r_lent r_new answer → CalledBoth o n ro rn d Did
+called_both Did {o} {n} {ro} {rn} {d} {old} {lent} {new} {r_old} {r_lent} {r_new} {answer} o_is lent_is n_is ro_is r_lent_is rn_is d_is did =
+    subst (λ x. CalledBoth x n ro rn d Did) (sym o_is) (subst (λ x. CalledBoth (Some old) x ro rn d Did) (sym n_is)
+    (subst (λ x. CalledBoth (Some old) (Some new) x rn d Did) (sym ro_is)
+    (subst (λ x. CalledBoth (Some old) (Some new) (Some r_old) x d Did) (sym rn_is)
+    (subst (λ x. CalledBoth (Some old) (Some new) (Some r_old) (Some r_new) x Did) (sym d_is)
+    (subst (λ x. Did x new r_old r_new answer) lent_is (subst (λ x. Did lent new x r_new answer) r_lent_is did))))))

@@ -35,13 +35,13 @@ not_true false due = refl
 
 -- setup and program are read in one way, and what is read is not refused
 module _ {setup program : List ℕ} where
-  setup_first : IsBadProgram setup program → IsBadSetup setup → ⊥
+  pub setup_first : IsBadProgram setup program → IsBadSetup setup → ⊥
   setup_first later bad = read_and_refused _ later.setup_is bad
 
-  no_bad_setup : {meaning : Meaning} → Means setup program meaning → IsBadSetup setup → ⊥
+  pub no_bad_setup : {meaning : Meaning} → Means setup program meaning → IsBadSetup setup → ⊥
   no_bad_setup means bad = read_and_refused _ means.setup_is bad
 
-  no_bad_program : {meaning : Meaning} → Means setup program meaning → IsBadProgram setup program → ⊥
+  pub no_bad_program : {meaning : Meaning} → Means setup program meaning → IsBadProgram setup program → ⊥
   no_bad_program means bad = read_and_refused _ means.means
       (subst IsErr (frames_alike setup program bad.setup_is means.setup_is) bad.refused)
 
@@ -50,13 +50,13 @@ module _ {setup program : List ℕ} where
       let here = one.means in let there = other.means in cc
 
 -- what a number says about a fault: it is this one, or another
-here : {number due : ℕ} {Holds : Type 0} → number ≡ due → Holds → AnswersJust number due Holds
+pub here : {number due : ℕ} {Holds : Type 0} → number ≡ due → Holds → AnswersJust number due Holds
 here is holds = (λ _. holds, λ _. inl is)
 
-elsewhere : {number due : ℕ} {Holds : Type 0} → (number ≡ due → ⊥) → (Holds → ⊥) → AnswersJust number due Holds
+pub elsewhere : {number due : ℕ} {Holds : Type 0} → (number ≡ due → ⊥) → (Holds → ⊥) → AnswersJust number due Holds
 elsewhere differ never = (λ is. absurd (differ is), λ holds. absurd (never holds))
 
-unknown : {number due : ℕ} {Holds : Type 0} → number ≡ 3 → (number ≡ due → ⊥) → AnswersJust number due Holds
+pub unknown : {number due : ℕ} {Holds : Type 0} → number ≡ 3 → (number ≡ due → ⊥) → AnswersJust number due Holds
 unknown memory differ = (λ is. absurd (differ is), λ _. inr memory)
 
 -- a text of features is read in one way

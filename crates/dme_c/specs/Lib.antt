@@ -1,7 +1,11 @@
 -- What the contracts cite.
+pub mod Beginning
 pub mod Calls
 pub mod ClientCalls
 pub mod Codes
 pub mod Held
 pub mod Making
+pub mod Next
+pub mod Recordings
+pub mod Refusals
 pub mod ServerCalls

@@ -81,3 +81,8 @@ IsWhy setup program features window not_made.BadProgram = IsBadProgram setup pro
 IsWhy setup program features window not_made.BadFeatures = IsBadFeatures setup program features
 IsWhy setup program features window not_made.BadWindow = IsBadWindow setup program features window
 IsWhy setup program features window not_made.NotOurs = IsNotOurs setup program features window
+
+-- setup and program are read
+pub record IsAccepted (setup program : List ℕ) : Type 0 where
+  pub meaning : Meaning
+  pub means : Means setup program meaning

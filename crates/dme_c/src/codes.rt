@@ -6,6 +6,7 @@ ghost use Rattle.dme_c.specs.Codes.{client_fault, call_answer, read_answer, not_
 use client_core::{Cause, ClientFault, State};
 
 /// Why no client is made of texts.
+#[derive(Drop)]
 pub(crate) enum NotMade {
     Memory,
     BadSetup,

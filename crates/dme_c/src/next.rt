@@ -1,0 +1,153 @@
+// What a client sends and measures next, for C.
+
+ghost use Rattle.std.specs.Prelude.{◌≡◌, None, IsSome, IfSome, option_map};
+ghost use Rattle.protocol_model.specs.Client.{due};
+ghost use Rattle.client_core.specs.Tables.{planned_command};
+ghost use Rattle.dme_c.specs.Next.{command_normal, command_number, command_place, kind_number, next_feature};
+ghost use Rattle.dme_c.specs.ServerCalls.{AreZero};
+
+use crate::client_handles::ClientHandle;
+use client_core::Client;
+use dme_line::{Command, Kind};
+use fixed_um::{Dir, Point};
+use std::alloc::Global;
+
+/// The command that is due, as the number of its kind, with its place in whole micrometres and its normal in whole millionths, zeros if it
+/// has none; and the number, from 1, of the first feature that is not complete, 0 if all are.
+#[repr(C)]
+#[derive(Drop)]
+pub struct Next {
+    pub command: u32,
+    pub feature: u64,
+    pub x: i64,
+    pub y: i64,
+    pub z: i64,
+    pub i: i64,
+    pub j: i64,
+    pub k: i64,
+}
+
+/// The number of a kind of command.
+pub(crate) fn kind_number(kind: Kind) -> u32
+    ensures { result ≡ kind_number kind }
+{
+    match kind {
+        Kind::StartSession => 1,
+        Kind::EndSession => 2,
+        Kind::ClearAllErrors => 3,
+        Kind::IsHomed => 4,
+        Kind::Home => 5,
+        Kind::OnPtMeasReport => 6,
+        Kind::GoTo => 7,
+        Kind::PtMeas => 8,
+        Kind::ChangeTool => 9,
+        Kind::SetCsyTransformation => 10,
+        Kind::SetCoordSystem => 11,
+        Kind::AbortE => 12,
+    }
+}
+
+/// The number of the kind of the command that is due.
+fn command_of(client: &Client) -> u32
+    ensures { result ≡ command_number (planned_command (due client.now.client)) }
+{
+    match client.due() {
+        None => 0,
+        Some(command) => kind_number(command.kind()),
+    }
+}
+
+/// Where the command that is due moves or touches.
+fn place_of(client: &Client) -> Option<Point>
+    ensures { result ≡ command_place (planned_command (due client.now.client)) }
+{
+    match client.due() {
+        Some(Command::GoTo(place)) => Some(*place),
+        Some(Command::PtMeas(place, _)) => Some(*place),
+        _ => None,
+    }
+}
+
+/// The normal of the touch that is due.
+fn normal_of(client: &Client) -> Option<Dir>
+    ensures { result ≡ command_normal (planned_command (due client.now.client)) }
+{
+    match client.due() {
+        Some(Command::PtMeas(_, normal)) => *normal,
+        _ => None,
+    }
+}
+
+/// The number of the first feature that is not complete.
+fn feature_of(client: &Client) -> u64
+    ensures { result ≡ next_feature client.now.client }
+{
+    let held = client.features().len();
+    if held < client.program().features().len() {
+        held as u64 + 1
+    } else {
+        0
+    }
+}
+
+/// What this client sends and measures next.
+fn shown(client: &Client) -> Next
+    ensures command { result.command
+        ≡ command_number (planned_command (due client.now.client)) }
+    ensures feature { result.feature ≡ next_feature client.now.client }
+    ensures place { IfSome (command_place (planned_command (due client.now.client))) (λ at.
+        (result.x ≡ at.x) × (result.y ≡ at.y) × (result.z ≡ at.z)) }
+    ensures normal { IfSome (command_normal (planned_command (due client.now.client))) (λ at.
+        (result.i ≡ at.i) × (result.j ≡ at.j) × (result.k ≡ at.k)) }
+    ensures no_place { command_place (planned_command (due client.now.client)) ≡ None
+        → AreZero result.x result.y result.z }
+    ensures no_normal { command_normal (planned_command (due client.now.client)) ≡ None
+        → AreZero result.i result.j result.k }
+{
+    let command = command_of(client);
+    let (x, y, z) = match place_of(client) {
+        Some(at) => (at.x.get(), at.y.get(), at.z.get()),
+        None => (0, 0, 0),
+    };
+    let (i, j, k) = match normal_of(client) {
+        Some(at) => (at.i, at.j, at.k),
+        None => (0, 0, 0),
+    };
+    Next {
+        command,
+        feature: feature_of(client),
+        x,
+        y,
+        z,
+        i,
+        j,
+        k,
+    }
+}
+
+/// What the client sends and measures next. Nothing changes.
+#[unsafe(no_mangle)]
+pub extern "C" fn dme_client_next(client: &mut ClientHandle, alloc: Global) -> Next
+    requires { IsSome client.old.held }
+    ensures same { client.new.held ≡ client.old.held }
+    ensures command { IfSome client.old.held (λ e.
+        result.command ≡ command_number (planned_command (due e.client))) }
+    ensures feature { IfSome client.old.held (λ e. result.feature ≡ next_feature e.client) }
+    ensures place { IfSome client.old.held (λ e.
+        IfSome (command_place (planned_command (due e.client)))
+        (λ at. (result.x ≡ at.x) × (result.y ≡ at.y) × (result.z ≡ at.z))) }
+    ensures normal { IfSome client.old.held (λ e.
+        IfSome (command_normal (planned_command (due e.client)))
+        (λ at. (result.i ≡ at.i) × (result.j ≡ at.j) × (result.k ≡ at.k))) }
+    ensures no_place { IfSome client.old.held (λ e.
+        command_place (planned_command (due e.client)) ≡ None
+        → AreZero result.x result.y result.z) }
+    ensures no_normal { IfSome client.old.held (λ e.
+        command_normal (planned_command (due e.client)) ≡ None
+        → AreZero result.i result.j result.k) }
+{
+    let core = client.take(alloc);
+    let next = shown(&core);
+    client.put(core);
+    next
+}
