@@ -8,6 +8,7 @@ use crate::faults::Fault;
 use crate::files::Sources;
 use crate::progress::Progress;
 use crate::tracing::TracingPort;
+use crate::warning::warn;
 use byte_ports::{Ports, Reading, Writing};
 use dme_orders::{
     ConnectionEnd, FilesFault, InputFiles, LoopTask, OrderFault, loop_over, setup_and_program,
@@ -116,8 +117,8 @@ pub fn loop_program<
     requires { is_window order.window ≡ true }
 {
     let mut sources = Sources::new(rt, order.explain);
-    let mut setup = sources.file(order.setup);
-    let mut program = sources.file(order.program);
+    let mut setup = sources.file(order.setup).keeping();
+    let mut program = sources.file(order.program).keeping();
     let read = setup_and_program(rt.alloc(), &mut setup, &mut program);
     let mut files = InputFiles::unnamed(rt.alloc());
     files.setup = setup.into_file();
@@ -126,6 +127,7 @@ pub fn loop_program<
         Ok(read) => read,
         Err(fault) => return Err(refused(rt.alloc(), fault, files, order.explain)),
     };
+    warn(rt, &files.setup, &files.program)?;
     let task = Task {
         run: LoopTask {
             setup,

@@ -15,6 +15,7 @@ use crate::recording::{Follower, OpenRecord, open_record, record_words};
 use crate::refusals::Refusals;
 use crate::talking::{HeardPort, Log, SaidPort, Side, Talk};
 use crate::text_files::NamedFile;
+use crate::warning::warn;
 use crate::waiting::{Patience, PatientSink, PatientSource, StopFile, seconds_of};
 use byte_ports::{Ports, Sink, Writing};
 use client_core::{Client, ClientFault};
@@ -361,7 +362,7 @@ pub fn run_program<
     )?;
     let is_kept = order.features.is_some();
     let mut sources = Sources::new(rt, order.explain);
-    let mut setup = sources.file(order.setup);
+    let mut setup = sources.file(order.setup).keeping();
     let mut features = sources.kept(order.features);
     let mut program = sources.file(order.program).keeping();
     let read = features_and_program(rt.alloc(), &mut setup, &mut features, &mut program);
@@ -373,6 +374,7 @@ pub fn run_program<
         Ok(read) => read,
         Err(fault) => return Err(refused(rt.alloc(), fault, files, order.explain)),
     };
+    warn(rt, &files.setup, &files.program)?;
     let patience = Patience::new(rt, timeout, order.stop);
     if patience.is_stopped() {
         return Ok(patience.not_begun());

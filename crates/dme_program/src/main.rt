@@ -10,7 +10,7 @@
 //!   connects
 //! - `progress`: lines that report how far an order is; `tracing`: the lines of a connection to itself; `talking`: those of other
 //!   connections, shown or added to a log; `refusals`: what is reported of a server's errors
-//! - `calling`: how a server is called; `waiting`: time limits and stop files
+//! - `calling`: how a server is called; `waiting`: time limits and stop files; `warning`: what a setup lacks for a program
 //! - `explaining`: what is shown for an order whose files are refused
 //! - `faults`: what is printed on standard error, and the exit status; `version`: which program this is
 #![tactic(auto)]
@@ -34,6 +34,7 @@ mod text_files;
 mod tracing;
 mod version;
 mod waiting;
+mod warning;
 
 use std::process::ExitCode;
 

@@ -1,0 +1,32 @@
+// What a setup lacks for a program that is accepted, reported before anything moves.
+
+use dme_orders::InputFile;
+use program_review::{Lack, lacking_setup};
+use std::alloc::AllocError;
+use tool_rack::Setup;
+
+/// Reports each line of a program that selects a tool which the setup's rack lacks, or goes out of the machine's volume. Lines that cannot be
+/// written change nothing. Fails only if out of memory.
+pub fn warn<R: Eprint + AllocGlobal>(
+    rt: &R,
+    setup: &InputFile,
+    program: &InputFile,
+) -> Result<(), AllocError> {
+    let Ok(known) = Setup::read(rt.alloc(), setup.text.as_slice()) else {
+        return Ok(());
+    };
+    let text = program.text.as_slice();
+    let name = &setup.name;
+    for notice in lacking_setup(rt.alloc(), text, known.rack(), known.frames())?.iter() {
+        let line = notice.line;
+        match notice.what {
+            Lack::Tool => {
+                let _ = eprintln!(rt; "dme: line {line}: the rack of {name} lacks this tool");
+            }
+            Lack::Volume => {
+                let _ = eprintln!(rt; "dme: line {line}: out of the machine's volume");
+            }
+        }
+    }
+    Ok(())
+}
