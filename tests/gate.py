@@ -27,13 +27,13 @@ def table():
     seconds, said = times()
     known = recorded()
     text = "".join(f"{it}\n" for it in said)
-    text += "\n| Crate | Processor time of its proofs, seconds | Edits | Tried with the present content |\n|---|---|---|---|\n"
+    text += "\n| Crate | Processor time of its proofs, seconds | Edits; * if they were last tried with other content |\n|---|---|---|\n"
     for crate in sorted(it for it in (ROOT / "crates").iterdir() if (it / "src").is_dir()):
         name, count = crate.name, len(edits_of(crate))
-        tried = "yes" if known.get(name) == content_of(crate) else "no"
-        text += f"| `{name}` | {seconds.get(name, 'not measured')} | {count} | {tried if name in crates_with_edits() else ''} |\n"
+        mark = "*" if name in crates_with_edits() and known.get(name) != content_of(crate) else ""
+        text += f"| `{name}` | {seconds.get(name, '?')} | {count}{mark} |\n"
     total = f"{sum(seconds.values())}" if seconds else "not measured"
-    return text + f"| together | {total} | {sum(len(edits_of(ROOT / 'crates' / it)) for it in crates_with_edits())} | |\n"
+    return text + f"| together | {total} | {sum(len(edits_of(ROOT / 'crates' / it)) for it in crates_with_edits())} |\n"
 
 
 def check_gate():

@@ -50,16 +50,15 @@ def row(name, crates):
         return " ".join(f"`{it}`" for it in names)
 
     own = [it for it in crates if it in crates[name]]
-    users = [it for it in crates if name in crates[it]]
-    return f"| [`{name}`](../crates/{name}/) | {joined(own)} | {joined(it for it in crates[name] if it not in crates)} | {joined(users)} |\n"
+    return f"| [`{name}`](../crates/{name}/) | {joined(own)} | {joined(it for it in crates[name] if it not in crates)} |\n"
 
 
 def table(crates):
     """What each crate uses, layer by layer."""
-    text = "| Crate | Stands on | Of the toolchain | Used by |\n|---|---|---|---|\n"
+    text = "| Crate | Stands on | Of the toolchain |\n|---|---|---|\n"
     ordered = {it: crates[it] for names in LAYERS.values() for it in names.split() if it in crates}
     for layer, names in LAYERS.items():
-        text += f"| **{layer}** | | | |\n" + "".join(row(it, ordered) for it in names.split() if it in ordered)
+        text += f"| **{layer}** | | |\n" + "".join(row(it, ordered) for it in names.split() if it in ordered)
     return text
 
 
