@@ -1,6 +1,6 @@
 // Writing the errors that a server reported.
 
-ghost use Rattle.std.specs.Prelude.{◌≡◌, ◌∷◌, [], OnOk};
+ghost use Rattle.std.specs.Prelude.{◌≡◌, ◌++◌, ◌∷◌, [], OnOk};
 ghost use Rattle.fixed_um.specs.Calls.{Writes};
 ghost use Rattle.contact_ledger.specs.Lines.{text_of};
 ghost use Rattle.run_record.specs.Entries.{kept_error, refused_line};
