@@ -1,12 +1,14 @@
 // What a record's text gives a run to continue from.
 
-ghost use Rattle.std.specs.Prelude.{◌≤◌, length, IfOk, IsTrue};
+ghost use Rattle.std.specs.Prelude.{◌≡◌, ◌≤◌, ℕ, List, length, take, option_map, Err, IfOk, OnOk, IfErr};
+ghost use Rattle.contact_ledger.specs.Ledgers.{connection_most};
 ghost use Rattle.protocol_model.specs.Claims.{Sound};
+ghost use Rattle.run_record.specs.Records.{Recorded};
+ghost use Rattle.record_keeping.specs.Beginnings.{AreWhole, IsNew, Continues, IsSame, RefusesSame, BeginsRun};
 
-use contact_ledger::{Feature, FeatureLedger, ServerLedger};
+use contact_ledger::{FeatureLedger, ServerLedger};
 use dmis_program::Program;
 use fixed_um::Name;
-use ledger_audit::{Verdict, audit};
 use run_record::{Record, RecordFault, is_of_part, other_feature, read_record, write_head};
 use std::alloc::{AllocError, Global};
 use thiserror::Error;
@@ -56,50 +58,44 @@ pub struct Beginning {
 
 /// The number of bytes up to and including the last line feed.
 fn whole_length(bytes: &[u8]) -> usize
-    ensures { result ≤ length bytes.now }
+    ensures within { result ≤ length bytes.now }
+    ensures whole { AreWhole bytes.now (take result bytes.now) }
 {
-    match bytes.iter().rposition(|byte| *byte == b'\n') {
-        Some(at) => at + 1,
-        None => 0,
+    let mut held = bytes.len();
+    while held > 0 {
+        if bytes[held - 1] == b'\n' {
+            return held;
+        }
+        held -= 1;
     }
+    0
 }
 
 /// Whether the record is of this program and part.
 fn is_same(
     alloc: Global,
-    record: &Record,
+    found: &Record,
     program: &Program,
     part: Option<&[u8]>,
-) -> Result<(), RecordRefusal> {
-    if !is_of_part(record, part) {
+) -> Result<(), RecordRefusal>
+    ensures same { OnOk result (IsSame (option_map (λ p. p.now) part.entry) program.now.features
+        found.now) }
+    ensures refused { IfErr result (RefusesSame (option_map (λ p. p.now) part.entry)
+        program.now.features found.now) }
+{
+    if !is_of_part(found, part) {
         return Err(RecordRefusal::OtherPart);
     }
-    match other_feature(record, program) {
+    match other_feature(found, program) {
         None => Ok(()),
         Some(label) => Err(RecordRefusal::OtherProgram(label.copy(alloc)?)),
     }
 }
 
-/// Whether each feature is an unbroken run of the reported contacts, as the program asks for it.
-fn is_sound(
-    alloc: Global,
-    program: &Program,
-    features: &[Feature],
-    told: &ServerLedger,
-) -> Result<bool, AllocError>
-    ensures { IfOk result (λ sound. IsTrue sound
-        → Sound program.now.features features.now told.now) }
+/// What a run begins with if the file holds no record yet. Fails only if out of memory.
+fn begin_new(alloc: Global, program: &Program, part: Option<&[u8]>) -> Result<Beginning, AllocError>
+    ensures { IfOk result (IsNew (option_map (λ p. p.now) part.entry) program.now.features) }
 {
-    let verdict = audit(alloc, program, features, told)?;
-    Ok(matches!(verdict, Verdict::Starts(_)))
-}
-
-/// What a run begins with if the file holds no record yet.
-fn begin_new(
-    alloc: Global,
-    program: &Program,
-    part: Option<&[u8]>,
-) -> Result<Beginning, RecordRefusal> {
     let mut text = Vec::new(alloc);
     write_head(&mut text, part, program)?;
     Ok(Beginning {
@@ -111,14 +107,17 @@ fn begin_new(
     })
 }
 
-/// What a run continues from a record: the whole lines of its text.
-fn continued(alloc: Global, bytes: &[u8], record: Record) -> Result<Beginning, RecordRefusal> {
-    let connection = record.last().saturating_add(1);
+/// What a run continues from a record: the whole lines of its text. Fails only if out of memory.
+fn continued(alloc: Global, bytes: &[u8], found: Record) -> Result<Beginning, AllocError>
+    requires { found.last ≤ connection_most }
+    ensures { IfOk result (Continues bytes.now found) }
+{
+    let connection = found.last() + 1;
     let held = whole_length(bytes);
     let (whole, _) = bytes.split_at(held);
     let mut text = Vec::new(alloc);
     text.extend_from_slice(whole)?;
-    let (features, told) = record.into_parts();
+    let (features, told) = found.into_parts();
     Ok(Beginning {
         features,
         told,
@@ -129,7 +128,7 @@ fn continued(alloc: Global, bytes: &[u8], record: Record) -> Result<Beginning, R
 }
 
 /// What a run of a program on a part continues from, if its record's file holds these bytes: a new record if they hold none yet. The
-/// features are sound for the reported acts, whatever the bytes are: they are audited before they are returned.
+/// features are sound for the reported acts, whatever the bytes are: each record is.
 ///
 /// `Damaged`, `OtherPart`, `OtherProgram`: the file must then be left as it is. A part that is given must be one (`is_part`).
 pub fn begin_record(
@@ -138,19 +137,21 @@ pub fn begin_record(
     program: &Program,
     part: Option<&[u8]>,
 ) -> Result<Beginning, RecordRefusal>
-    ensures { IfOk result (λ begun. Sound program.now.features begun.features begun.told) }
+    ensures begins { BeginsRun (option_map (λ p. p.now) part.entry) program.now.features bytes.now
+        result }
+    ensures sound { IfOk result (λ b. Sound program.now.features b.features b.told) }
 {
-    let begun = match read_record(alloc, bytes) {
-        Ok(Some(record)) => {
-            is_same(alloc, &record, program, part)?;
-            continued(alloc, bytes, record)?
+    match read_record(alloc, bytes) {
+        Ok(Some(found)) => {
+            is_same(alloc, &found, program, part)?;
+            let begun = continued(alloc, bytes, found)?;
+            Ok(begun)
         }
-        Ok(None) => begin_new(alloc, program, part)?,
-        Err(RecordFault::Damaged(line)) => return Err(RecordRefusal::Damaged(line)),
-        Err(RecordFault::Memory) => return Err(RecordRefusal::Memory),
-    };
-    if !is_sound(alloc, program, begun.features.list(), &begun.told)? {
-        return Err(RecordRefusal::Damaged(1));
+        Ok(None) => {
+            let begun = begin_new(alloc, program, part)?;
+            Ok(begun)
+        }
+        Err(RecordFault::Damaged(line)) => Err(RecordRefusal::Damaged(line)),
+        Err(RecordFault::Memory) => Err(RecordRefusal::Memory),
     }
-    Ok(begun)
 }
