@@ -179,13 +179,13 @@ impl LineStart {
     }
 
     /// The bytes from this line on.
-    fn rest(self, text: &[u8]) -> &[u8] {
+    fn rest<'t>(&self, text: &'t [u8]) -> &'t [u8] {
         let (_, rest) = text.split_at(self.at.min(text.len()));
         rest
     }
 
     /// The line of this number, from this one on; the last one if the text has fewer.
-    fn forward(self, text: &[u8], number: u64) -> LineStart {
+    fn forward(&self, text: &[u8], number: u64) -> LineStart {
         let mut rest = self.rest(text);
         let mut reached = self.number;
         for passed in self.number..number {
@@ -259,7 +259,7 @@ impl<'a> Reviewed<'a> {
             match notes.get(at) {
                 Some(note) if note.line <= line => {
                     self.noted = self.noted.forward(self.text, note.line);
-                    write_note(out, name, *note, self.noted.rest(self.text))?;
+                    write_note(out, name, note, self.noted.rest(self.text))?;
                     written = at + 1;
                 }
                 _ => break,
@@ -268,8 +268,9 @@ impl<'a> Reviewed<'a> {
         Ok(written)
     }
 
-    /// The bytes from this line on as far as the statement of a finding may go.
-    fn passage(&self, start: LineStart, found: Found) -> Passage<'a> {
+    /// The bytes from the block or from the line that was reached, as far as the statement of a finding may go.
+    fn passage(&self, is_of_block: bool, line: u64) -> Passage<'a> {
+        let start = if is_of_block { &self.block } else { &self.line };
         let end = self
             .line
             .at
@@ -280,26 +281,23 @@ impl<'a> Reviewed<'a> {
         Passage {
             text: part,
             first: start.number,
-            line: found.line,
+            line,
         }
     }
 
     /// The part of the text that a finding's sentence needs. Findings come in the order of their lines.
-    fn around(&mut self, found: Found) -> Passage<'a> {
-        let open = self.open_line(found.line);
+    fn around(&mut self, refusal: Refusal, line: u64) -> Passage<'a> {
+        let open = self.open_line(line);
         self.block = self.block.forward(self.text, open);
-        self.line = self.line.forward(self.text, found.line);
-        if needs_text(found.refusal) {
+        self.line = self.line.forward(self.text, line);
+        if needs_text(refusal) {
             return Passage {
                 text: self.text,
                 first: 1,
-                line: found.line,
+                line,
             };
         }
-        if needs_block(found.refusal) {
-            return self.passage(self.block, found);
-        }
-        self.passage(self.line, found)
+        self.passage(needs_block(refusal), line)
     }
 }
 
@@ -307,7 +305,7 @@ impl<'a> Reviewed<'a> {
 fn write_found(
     out: &mut Vec<u8>,
     name: &str,
-    found: Found,
+    found: &Found,
     passage: Passage,
 ) -> Result<(), AllocError> {
     let refusal = found.refusal;
@@ -392,7 +390,7 @@ fn write_mark(out: &mut Vec<u8>, name: &str) -> Result<(), AllocError> {
 }
 
 /// Appends the line of a remark: `NAME:LINE: `, its kind, the statement with which the text begins, and its meaning.
-fn write_note(out: &mut Vec<u8>, name: &str, note: Note, text: &[u8]) -> Result<(), AllocError> {
+fn write_note(out: &mut Vec<u8>, name: &str, note: &Note, text: &[u8]) -> Result<(), AllocError> {
     if let Remark::Odd(Odd::Mark) = note.remark {
         return write_mark(out, name);
     }
@@ -435,8 +433,8 @@ pub(crate) fn findings_text(
     for one in found {
         let above = one.line.saturating_sub(1);
         written = reviewed.write_notes(&mut out, name, notes.as_slice(), written, above)?;
-        let passage = reviewed.around(*one);
-        write_found(&mut out, name, *one, passage)?;
+        let passage = reviewed.around(one.refusal, one.line);
+        write_found(&mut out, name, one, passage)?;
     }
     reviewed.write_notes(&mut out, name, notes.as_slice(), written, u64::MAX)?;
     Ok(out)
