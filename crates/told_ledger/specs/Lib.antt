@@ -1,0 +1,5 @@
+pub mod Asking
+pub mod Judging
+pub mod Effects
+pub mod Talking
+pub mod Watching
