@@ -3,3 +3,5 @@ pub mod Judging
 pub mod Effects
 pub mod Talking
 pub mod Watching
+pub mod Texts
+pub mod Examples

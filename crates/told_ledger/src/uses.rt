@@ -84,6 +84,10 @@ pub enum Told {
     Other(Side, Text),
     /// A line that breaks a rule, by its tag.
     Broken(Rule, Tag),
+    /// The connection was opened.
+    Opened,
+    /// The connection was left.
+    Left,
 }
 
 /// What a response is for the command under its tag.
