@@ -8,7 +8,7 @@ use Rattle.told_ledger.specs.declared.uses.Told.{Told}
 
 pub ruleset pieces = (append_assoc, spaced_more)
 
--- the line of what was told: its number, its fields, its end
+-- the line of what was reported: its number, its fields, its end
 pub told_written : (old a b new : List ℕ) (n : ℕ) (told : Told) → a ≡ old ++ decimal n → b ≡ a ++ spaced (told_fields told)
     → new ≡ b ++ 10 ∷ []
     → new ≡ old ++ text_of (told_line (n, told) ∷ [])

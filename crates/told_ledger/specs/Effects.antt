@@ -1,4 +1,4 @@
--- What a command tells that a server has completed, and what is known of the machine after each mark (this profile).
+-- What a command reports that a server has completed, and what is known of the machine after each mark (this profile).
 use Rattle.std.specs.Prelude.{ℕ, Bool, true, false, List, Option, Some, None}
 use Rattle.fixed_um.specs.Points.{point_opposite}
 use Rattle.fixed_um.specs.Shapes.{Direction}
@@ -72,7 +72,7 @@ done_by known (command.SetCsyTransformation p) = change.Offset (Some (point_oppo
 done_by known (command.SetCoordSystem csy) = change.Frame (frame_of known csy)
 done_by known _ = change.Keeps
 
--- a command that failed, or did what is not told
+-- a command that failed, or did what is not reported
 abbrev pub lost_by : Command → Change
 lost_by command.StartSession = change.Forgets
 lost_by command.EndSession = change.Forgets
@@ -89,7 +89,7 @@ changed_by known c Fails = lost_by c
 changed_by known c (Breaks rule) = lost_by c
 changed_by known c (Counts given) = done_by known c
 
--- ---- what is told
+-- ---- what is reported
 
 -- a move, in the frame that is known
 abbrev pub moved : Point → Option Frame → Told
@@ -141,7 +141,7 @@ lost_at tag _ = None
 abbrev pub step_of : Command → Stage → Heard → Step
 step_of c s h = step (asks_data (kind_of c)) s h
 
--- what is told by a mark of a command that was asked alone under its tag
+-- what is reported by a mark of a command that was asked alone under its tag
 abbrev pub told_alone : Known → Use → Heard → Asked → Option Told
 told_alone known u h (asks.Known c) = told_of known u.tag c (step_of c u.stage h)
 told_alone known u h asks.Harmless = None

@@ -1,4 +1,4 @@
--- Examples: lines of a client and of a server as values, and what they tell (this profile). No contract but theirs cites these definitions.
+-- Examples: lines of a client and of a server as values, and what they report (this profile). No contract but theirs cites these definitions.
 use Rattle.std.specs.Prelude.{ℕ, List, [], ◌∷◌, codes, Some, None, pos}
 use Rattle.fixed_um.specs.declared.lengths.Point.{Point}
 use Rattle.dme_line.specs.declared.tags.Tag.{Tag}
@@ -42,7 +42,7 @@ abbrev pub all_said : Talking → List Said → Talking
 all_said t [] = t
 all_said t (line ∷ lines) = all_said (said t line) lines
 
--- what lines tell on a new connection
+-- what lines report on a new connection
 abbrev pub told_of_lines : List Said → List Told
 told_of_lines lines = (all_said silence lines).told
 

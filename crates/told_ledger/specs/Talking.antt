@@ -1,4 +1,4 @@
--- The lines of both ends of a connection, one at a time, and what they tell (this profile).
+-- The lines of both ends of a connection, one at a time, and what they report (this profile).
 use Rattle.std.specs.Prelude.{ℕ, Bool, true, false, ◌&&◌, if◌then◌else◌, List, [], ◌∷◌, ◌++◌, position, remove, slice_get, slice_set}
 use Rattle.std.specs.Prelude.{Option, Some, None, Result, Ok, Err}
 use Rattle.std.specs.List.{list_any}
@@ -26,7 +26,7 @@ use Rattle.told_ledger.specs.declared.uses.Told.TheVariants as told
 use Rattle.told_ledger.specs.declared.uses.Use.{Use}
 
 -- the commands that were sent and whose end was not read, in order; whether the server refused a line without naming its tag, or sent one
--- that is no response; what is known of the machine; and what was told
+-- that is no response; what is known of the machine; and what was reported
 pub record Talking : Type 0 where
   pub uses : List Use
   pub refused : Bool
@@ -58,7 +58,7 @@ client_said t line = asking t (asked line (command_of line))
 
 -- ---- a line of the server
 
--- one thing more is told, or none
+-- one thing more is reported, or none
 abbrev pub with_told : List Told → Option Told → List Told
 with_told so_far None = so_far
 with_told so_far (Some more) = so_far ++ more ∷ []

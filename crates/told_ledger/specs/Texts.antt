@@ -1,4 +1,4 @@
--- The text of what was told (this profile): version 1. An act is as in a text of contacts.
+-- The text of what was reported (this profile): version 1. An act is as in a text of contacts.
 use Rattle.std.specs.Prelude.{ℕ, List, [], ◌∷◌, ◌++◌, map, codes, decimal, Option, Some, None}
 use Rattle.fixed_um.specs.declared.frames.Frame.{Frame}
 use Rattle.dme_line.specs.Tags.{written_tag}
@@ -38,7 +38,7 @@ abbrev pub side_field : Side → List ℕ
 side_field Client = codes ">"
 side_field Server = codes "<"
 
--- the fields of what was told, after the number of the connection; the last field of a line that is not known is the line, with its spaces
+-- the fields of what was reported, after the number of the connection; the last field of a line that is not known is the line, with its spaces
 abbrev pub told_fields : Told → List (List ℕ)
 told_fields (told.Did act) = act_fields act
 told_fields (told.MovedSomewhere target) = codes "MOVED" ∷ (point_fields target ++ unknown_field ∷ [])
@@ -50,10 +50,14 @@ told_fields (told.Broken rule tag) = codes "BROKEN" ∷ rule_name rule ∷ writt
 told_fields told.Opened = codes "OPENED" ∷ []
 told_fields told.Left = codes "LEFT" ∷ []
 
--- the line of what was told on a connection
+-- the line of what was reported on a connection
 abbrev pub told_line : ℕ × Told → List ℕ
 told_line entry = line_of (decimal entry.0 ∷ told_fields entry.1)
 
--- the text of what was told
+-- the text of what was reported
 abbrev pub told_text : List (ℕ × Told) → List ℕ
 told_text entries = text_of (codes "DME-TOLD 1" ∷ map told_line entries)
+
+-- what was reported on a connection
+abbrev pub numbered : ℕ → Told → ℕ × Told
+numbered connection told = (connection, told)

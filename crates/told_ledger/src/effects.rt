@@ -1,4 +1,4 @@
-// What a command tells that a server has completed, and what is known of the machine after each mark.
+// What a command reports that a server has completed, and what is known of the machine after each mark.
 
 ghost use Rattle.std.specs.Prelude.{◌≡◌, option_map, IfOk};
 ghost use Rattle.told_ledger.specs.Effects as spec;
@@ -74,7 +74,7 @@ fn done_by(alloc: Global, known: &Known, command: &Command) -> Result<Change, Al
     }
 }
 
-/// What a command changes that failed, or did what is not told.
+/// What a command changes that failed, or did what is not reported.
 fn lost_by(command: &Command) -> Change
     ensures { result ≡ spec.lost_by command.now }
 {
@@ -103,7 +103,7 @@ fn changed_by(
     }
 }
 
-// ---- what is told
+// ---- what is reported
 
 /// A move, in the frame that is known.
 fn moved(target: Point, frame: Option<Frame>) -> Told
@@ -186,7 +186,7 @@ fn act_of(
     }
 }
 
-/// What a step of a command under a tag tells.
+/// What a step of a command under a tag reports.
 fn told_of(
     alloc: Global,
     known: &Known,
@@ -218,7 +218,7 @@ fn other_at(alloc: Global, line: &Text, stage: Stage) -> Result<Option<Told>, Al
 
 // ---- one mark
 
-/// What a mark tells of a command. `lost`: it is not known whether it is for this command.
+/// What a mark reports of a command. `lost`: it is not known whether it is for this command.
 pub(crate) fn told_by(
     alloc: Global,
     lost: bool,

@@ -1,4 +1,4 @@
-// Examples: what lines tell that are written out as values.
+// Examples: what lines report that are written out as values.
 
 ghost use Rattle.std.specs.Prelude.{◌≡◌, [], ◌∷◌, ◌++◌, codes, Some, None};
 ghost use Rattle.fixed_um.specs.declared.frames.Frame.TheVariants.{Machine};
@@ -13,7 +13,7 @@ ghost use Rattle.told_ledger.specs.declared.uses.Side.TheVariants.{Client, Serve
 ghost use Rattle.told_ledger.specs.declared.uses.Told.TheVariants.{Did, FramedSomehow, Touched, Other, Broken};
 ghost use Rattle.told_ledger.specs.Examples.{told_of_lines, Asks, Hears, Refuses, Mumbles, at, changes, frames, touch, touched};
 
-/// An act is told when its command is complete, and not before; of a command that failed none is told, and none without the data that the
+/// An act is reported when its command is complete, and not before; of a command that failed none is reported, and none without the data that the
 /// command asks for.
 pub fn acts_are_told_at_the_end()
     ensures received { told_of_lines (Asks 7 (Known command.Home) ∷ Hears 7 Received ∷ []) ≡ [] }
@@ -29,7 +29,7 @@ pub fn acts_are_told_at_the_end()
         ≡ Broken rule.UnknownTag (Std 7) ∷ [] }
 {}
 
-/// A contact has the tool and the frame that were told last; before that it has none.
+/// A contact has the tool and the frame that were reported last; before that it has none.
 pub fn tool_and_frame_are_those_told_last()
     ensures known { told_of_lines (changes 1 ++ (frames 2 ++ (touch 3 4 ∷ touched 3 5)))
         ≡ Did (act.Changed (codes "P1")) ∷ Did (act.Framed Machine)
@@ -43,7 +43,7 @@ pub fn tool_and_frame_are_those_told_last()
         ∷ Hears 1 Received ∷ Hears 1 Complete ∷ []) ≡ FramedSomehow ∷ [] }
 {}
 
-/// A line of another maker is told at its first mark, and neither tool nor frame is known after it; one that only asks is not told.
+/// A line of another maker is reported at its first mark, and neither tool nor frame is known after it; one that only asks is not reported.
 pub fn foreign_lines_forget()
     ensures foreign { told_of_lines (changes 1 ++ (frames 2 ++ (Asks 3 (Foreign (codes "x"))
         ∷ Hears 3 Received ∷ touch 4 4 ∷ touched 4 5)))
@@ -60,7 +60,7 @@ pub fn foreign_lines_forget()
 {}
 
 /// The second end under a tag is that of its second use. If the server has refused something without a tag, which of two uses ends is not
-/// known, and neither act is told but the first.
+/// known, and neither act is reported but the first.
 pub fn ends_are_paired_in_order()
     ensures twice { told_of_lines (touch 1 4 ∷ touch 1 6 ∷ (touched 1 4 ++ touched 1 6))
         ≡ Touched (at 4) None None None (at 4) ∷ Touched (at 6) None None None (at 6) ∷ [] }

@@ -17,8 +17,8 @@ use protocol_model::Stage;
 use std::alloc::{AllocError, Global};
 use std::marker::Model;
 
-/// The lines of both ends of a connection, and what they tell. Contracts see the open commands, what is known of the machine, and what was
-/// told and not taken.
+/// The lines of both ends of a connection, and what they report. Contracts see the open commands, what is known of the machine, and what was
+/// reported and not taken.
 #[derive(Drop)]
 pub struct Talk {
     alloc: Global,
@@ -50,14 +50,14 @@ impl Talk {
         }
     }
 
-    /// What was told and not taken, in order.
+    /// What was reported and not taken, in order.
     pub fn told(&self) -> &[Told]
         ensures { result.now ≡ self.now.told }
     {
         self.told.as_slice()
     }
 
-    /// Takes all that was told. Does not allocate.
+    /// Takes all that was reported. Does not allocate.
     pub fn clear_told(&mut self)
         ensures { self.new ≡ record self.old { told = [] } }
     {

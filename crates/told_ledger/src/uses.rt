@@ -1,4 +1,4 @@
-// Commands that a client sent, and what a server told of them.
+// Commands that a client sent, and what a server reported of them.
 
 use contact_ledger::Act;
 use dme_line::{Command, Tag, Text};
@@ -27,12 +27,12 @@ pub struct Use {
     pub doubtful: bool,
 }
 
-/// What is known of a machine from what was told on a connection; nothing at its start.
+/// What is known of a machine from what was reported on a connection; nothing at its start.
 #[derive(Debug, Drop)]
 pub struct Known {
-    /// The tool that was told last.
+    /// The tool that was reported last.
     pub tool: Option<Name>,
-    /// The frame that was told last.
+    /// The frame that was reported last.
     pub frame: Option<Frame>,
     /// The place of the part's zero point that was stored last, in machine axes.
     pub offset: Option<Point>,
@@ -63,7 +63,7 @@ pub enum Side {
     Server,
 }
 
-/// What a line of a server told. Of a tool or a frame that is not known there is none.
+/// What a line of a server reported. Of a tool or a frame that is not known there is none.
 #[derive(Debug, Drop)]
 pub enum Told {
     /// It did this.
@@ -80,7 +80,7 @@ pub enum Told {
         frame: Option<Frame>,
         point: Point,
     },
-    /// A line that this profile does not know; a client's line is told as soon as the server answers it.
+    /// A line that this profile does not know; a client's line is reported as soon as the server answers it.
     Other(Side, Text),
     /// A line that breaks a rule, by its tag.
     Broken(Rule, Tag),
@@ -110,7 +110,7 @@ pub(crate) enum Step {
     Comes(Stage),
     /// It failed.
     Fails,
-    /// The mark breaks a rule. What the command does is not told.
+    /// The mark breaks a rule. What the command does is not reported.
     Breaks(Rule),
     /// It is complete, with these data.
     Counts(Option<Datum>),

@@ -1,6 +1,6 @@
 // The bytes of both ends of a connection.
 
-ghost use Rattle.std.specs.Prelude.{◌≡◌, ◌↔◌, IsTrue, [], OnOk, OnErr};
+ghost use Rattle.std.specs.Prelude.{◌≡◌, ◌<◌, ◌↔◌, IsTrue, [], length, OnOk, OnErr};
 ghost use Rattle.line_framing.specs.Framing.{fed, IsLineDue};
 ghost use Rattle.line_framing.specs.Next.{next_of};
 ghost use Rattle.told_ledger.specs.Watching as spec;
@@ -12,7 +12,7 @@ use std::alloc::{AllocError, Global};
 use std::marker::Model;
 
 /// The bytes of both ends of a connection, cut into lines. Contracts see the bytes of each end that were fed and not read, and what the lines
-/// before them tell.
+/// before them report.
 ///
 /// From a byte on that no line can hold, or a line that is too long, nothing more is read of that end.
 #[derive(Drop)]
@@ -86,6 +86,8 @@ impl Witness {
     /// Reads the first line of the client, if one waits. Fails only if out of memory, and then nothing has changed.
     pub fn read_client(&mut self) -> Result<(), AllocError>
         ensures ok { OnOk result (self.new ≡ spec.client_read self.old) }
+        ensures shorter { OnOk result (IsLineDue (next_of self.old.up.rest)
+            → length self.new.up.rest < length self.old.up.rest) }
         ensures err { OnErr result (self.new ≡ self.old) }
     {
         let Ok(Some(length)) = self.up.first_line() else {
@@ -100,6 +102,8 @@ impl Witness {
     /// Reads the first line of the server, if one waits. Fails only if out of memory, and then nothing has changed.
     pub fn read_server(&mut self) -> Result<(), AllocError>
         ensures ok { OnOk result (self.new ≡ spec.server_read self.old) }
+        ensures shorter { OnOk result (IsLineDue (next_of self.old.down.rest)
+            → length self.new.down.rest < length self.old.down.rest) }
         ensures err { OnErr result (self.new ≡ self.old) }
     {
         let Ok(Some(length)) = self.down.first_line() else {
@@ -111,14 +115,38 @@ impl Witness {
         Ok(())
     }
 
-    /// What was told and not taken, in order.
+    /// Reads the lines of the client that wait. Fails only if out of memory, and then has read some of them.
+    pub fn read_client_lines(&mut self) -> Result<(), AllocError>
+        ensures reads { spec.ReadsClient self.old self.new }
+        ensures all { OnOk result (IsLineDue (next_of self.new.up.rest) → ⊥) }
+    {
+        let _ = &self.talk;
+        while self.has_client_line() {
+            self.read_client()?;
+        }
+        Ok(())
+    }
+
+    /// Reads the lines of the server that wait. Fails only if out of memory, and then has read some of them.
+    pub fn read_server_lines(&mut self) -> Result<(), AllocError>
+        ensures reads { spec.ReadsServer self.old self.new }
+        ensures all { OnOk result (IsLineDue (next_of self.new.down.rest) → ⊥) }
+    {
+        let _ = &self.talk;
+        while self.has_server_line() {
+            self.read_server()?;
+        }
+        Ok(())
+    }
+
+    /// What was reported and not taken, in order.
     pub fn told(&self) -> &[Told]
         ensures { result.now ≡ self.now.talk.told }
     {
         self.talk.told()
     }
 
-    /// Takes all that was told. Does not allocate.
+    /// Takes all that was reported. Does not allocate.
     pub fn clear_told(&mut self)
         ensures { self.new ≡ record self.old { talk = record (self.old.talk) { told = [] } } }
     {

@@ -1,4 +1,4 @@
-// The text of what was told (this profile).
+// The text of what was reported (this profile).
 
 ghost use Rattle.std.specs.Prelude.{◌≡◌, ◌++◌, ◌∷◌, [], codes, OnOk};
 ghost use Rattle.dme_line.specs.Tags.{four_digits, written_tag};
@@ -167,7 +167,7 @@ fn add_broken(text: &mut Vec<u8>, rule: Rule, tag: Tag) -> Result<(), AllocError
     add_tag(text, tag)
 }
 
-/// Adds the fields of what was told other than acts whose tool and frame are known.
+/// Adds the fields of what was reported other than acts whose tool and frame are known.
 fn add_fields(text: &mut Vec<u8>, told: &Told) -> Result<(), AllocError>
     requires { (act : Act) → told.now ≡ Told.Did act → ⊥ }
     ensures { OnOk result (text.new.items
@@ -191,7 +191,7 @@ fn add_fields(text: &mut Vec<u8>, told: &Told) -> Result<(), AllocError>
     }
 }
 
-/// Adds the line of what was told on a connection, and its LF. Fails only if out of memory, and then a prefix of the line may be added.
+/// Adds the line of what was reported on a connection, and its LF. Fails only if out of memory, and then a prefix of the line may be added.
 pub fn add_told(text: &mut Vec<u8>, connection: u64, told: &Told) -> Result<(), AllocError>
     ensures { OnOk result (text.new.items
         ≡ text.old.items ++ text_of (told_line (connection, told.now) ∷ [])) }
