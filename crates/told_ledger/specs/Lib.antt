@@ -1,0 +1,7 @@
+pub mod Asking
+pub mod Judging
+pub mod Effects
+pub mod Talking
+pub mod Watching
+pub mod Texts
+pub mod Examples
