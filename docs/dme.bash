@@ -4,11 +4,11 @@ _dme()
     local word=${COMP_WORDS[COMP_CWORD]} before=${COMP_WORDS[COMP_CWORD - 1]} options
     COMPREPLY=()
     if (( COMP_CWORD == 1 )); then
-        mapfile -t COMPREPLY < <(compgen -W "check simulate audit loop serve run explain export help --help" -- "$word")
+        mapfile -t COMPREPLY < <(compgen -W "check simulate audit loop serve run explain export ledger help --help" -- "$word")
         return
     fi
     case $before in
-        --setup | --schedule | --features | --contacts | --record | --log)
+        --setup | --schedule | --features | --contacts | --record | --log | --up | --down)
             mapfile -t COMPREPLY < <(compgen -f -- "$word")
             return ;;
         --as)
@@ -17,7 +17,7 @@ _dme()
         --host | --listen)
             mapfile -t COMPREPLY < <(compgen -A hostname -- "$word")
             return ;;
-        --port | --window | --connections | --part)
+        --port | --window | --connections | --connection | --part)
             return ;;
     esac
     case ${COMP_WORDS[1]} in
@@ -27,6 +27,7 @@ _dme()
         loop) options="--setup --window --progress --trace --explain" ;;
         serve) options="--setup --listen --port --connections --contacts --progress --trace --log --explain" ;;
         run) options="--setup --host --port --window --features --record --part --progress --trace --log --explain" ;;
+        ledger) options="--up --down --connection" ;;
         export) options="--as --setup --features --record --explain" ;;
         explain)
             options="P1 P2 P3 P4 P5 P6 P7 P8 P9 P10 P11 P12 P13 P14 P15 P16 N1 N2 N3 S1 S2 S3 H1 K1 J1 J2 J3 C4"
@@ -35,12 +36,12 @@ _dme()
             [[ $word == -* ]] && options=--help
             mapfile -t COMPREPLY < <(compgen -W "$options" -- "$word")
             return ;;
-        help) options="check simulate audit loop serve run explain export" ;;
+        help) options="check simulate audit loop serve run explain export ledger" ;;
         *) return ;;
     esac
     if [[ ${COMP_WORDS[1]} == help || $word == -* ]]; then
         mapfile -t COMPREPLY < <(compgen -W "$options --help" -- "$word")
-    elif [[ ${COMP_WORDS[1]} != serve ]]; then
+    elif [[ ${COMP_WORDS[1]} != serve && ${COMP_WORDS[1]} != ledger ]]; then
         mapfile -t COMPREPLY < <(compgen -f -- "$word")
     fi
 }

@@ -11,6 +11,7 @@
 //! - `progress`: lines that report how far an order is; `tracing`: the lines of a connection to itself; `talking`: those of other
 //!   connections, shown or added to a log; `refusals`: what is reported of a server's errors
 //! - `explaining`: what is shown for an order whose files are refused
+//! - `witnessing`: what a server told, by the bytes of both ends
 //! - `faults`: what is printed on standard error, and the exit status
 #![tactic(auto)]
 
@@ -30,6 +31,7 @@ mod serving_connections;
 mod talking;
 mod text_files;
 mod tracing;
+mod witnessing;
 
 use std::process::ExitCode;
 

@@ -13,6 +13,7 @@ use crate::faults::Fault;
 use crate::files::{NamedSource, Sources};
 use crate::serving_connections::serve;
 use crate::tracing::ErrorOutput;
+use crate::witnessing::ledger;
 use byte_ports::Writing;
 use dme_orders::{
     AuditFiles, FilesFault, InputFiles, RecordFiles, SimulationFiles, audit_files, audit_record,
@@ -201,6 +202,7 @@ fn carry_out<
         Order::Explain(topic) => explain_topic(rt, topic),
         Order::Export(order) => export(rt, order),
         Order::ExportRecord(order) => export_of_record(rt, order),
+        Order::Ledger(order) => ledger(rt, order),
     }
 }
 

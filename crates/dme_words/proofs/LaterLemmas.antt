@@ -1,4 +1,4 @@
--- Which values the last four subcommands have, by their names.
+-- Which values the last five subcommands have, by their names.
 use Rattle.std.proofs.Common.{◌≡◌, ◌∙◌, List, codes, sym, inl, inr, true≢false}
 use Rattle.std.proofs.lemmas.Slice.Eq.{bytes_eq-Decides}
 use Rattle.clap.specs.Walk.{Row, Text}
@@ -8,4 +8,5 @@ pub has_run : (p : Text × List Row) → IsLaterAskable p → p.0 ≡ codes "run
 has_run p (inl (is, has)) run = absurd (true≢false (sym ((bytes_eq-Decides (codes "serve") (codes "run")).1 (sym is ∙ run))))
 has_run p (inr (inl (is, has))) run = has
 has_run p (inr (inr (inl (is, has)))) run = absurd (true≢false (sym ((bytes_eq-Decides (codes "explain") (codes "run")).1 (sym is ∙ run))))
-has_run p (inr (inr (inr (is, has)))) run = absurd (true≢false (sym ((bytes_eq-Decides (codes "export") (codes "run")).1 (sym is ∙ run))))
+has_run p (inr (inr (inr (inl (is, has))))) run = absurd (true≢false (sym ((bytes_eq-Decides (codes "export") (codes "run")).1 (sym is ∙ run))))
+has_run p (inr (inr (inr (inr (is, has))))) run = absurd (true≢false (sym ((bytes_eq-Decides (codes "ledger") (codes "run")).1 (sym is ∙ run))))

@@ -12,7 +12,7 @@ pub mod words;
 
 pub use misfits::{Lacks, Misfit};
 pub use orders::{
-    Audit, Check, Export, Loop, Order, RecordAudit, RecordExport, RecordForm, Run, Service,
+    Audit, Check, Export, Ledger, Loop, Order, RecordAudit, RecordExport, RecordForm, Run, Service,
     Simulation,
 };
 pub use words::{WordsFault, read_words};

@@ -26,6 +26,8 @@ pub enum Order {
     Export(Export),
     /// Print likewise what a record holds, or the text of one of its two ledgers.
     ExportRecord(RecordExport),
+    /// Print what a server told, by the bytes that both ends of a connection sent.
+    Ledger(Ledger),
 }
 
 /// The values of `check`.
@@ -192,4 +194,15 @@ pub struct RecordExport {
     pub explain: bool,
     /// The file of the program; `-` is standard input.
     pub program: String,
+}
+
+/// The values of `ledger`.
+#[derive(Debug, Drop)]
+pub struct Ledger {
+    /// The file of the bytes that the client sent; `-` is standard input.
+    pub up: String,
+    /// The file of the bytes that the server sent; `-` is standard input.
+    pub down: String,
+    /// The number of the connection, from 1 to 4,000,000,000.
+    pub connection: u32,
 }
