@@ -12,6 +12,7 @@
 //!   connections, shown or added to a log; `refusals`: what is reported of a server's errors
 //! - `calling`: how a server is called; `waiting`: time limits and stop files; `warning`: what a setup lacks for a program
 //! - `explaining`: what is shown for an order whose files are refused
+//! - `witnessing`: what a server told, by the bytes of both ends
 //! - `faults`: what is printed on standard error, and the exit status; `version`: which program this is
 #![tactic(auto)]
 
@@ -35,6 +36,7 @@ mod tracing;
 mod version;
 mod waiting;
 mod warning;
+mod witnessing;
 
 use std::process::ExitCode;
 

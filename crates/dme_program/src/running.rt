@@ -14,6 +14,7 @@ use crate::files::{NamedSource, Sources};
 use crate::serving_connections::serve;
 use crate::tracing::ErrorOutput;
 use crate::version;
+use crate::witnessing::ledger;
 use byte_ports::Writing;
 use dme_orders::{
     AuditFiles, FilesFault, InputFiles, RecordFiles, SimulationFiles, audit_files, audit_record,
@@ -226,6 +227,7 @@ fn carry_out<
         Order::Export(order) => export(rt, order),
         Order::ExportRecord(order) => export_of_record(rt, order),
         Order::Review(order) => review(rt, order),
+        Order::Ledger(order) => ledger(rt, order),
     }
 }
 

@@ -10,8 +10,8 @@ use Rattle.clap.specs.Walk.{Text, answers_to, nothing_held, rows_after, walk, wa
 use Rattle.clap.specs.Simple.{App, Shape, argument_words, built, built_leaf, entered, inherited, label_of, marked_built, names_of}
 use Rattle.clap.specs.Simple.{on_top, rows_at, subcommand_of, with_leaf_noted}
 use Rattle.clap.specs.Faults.{entered_fault, fault_of, level_fault, walk_fault}
-use Rattle.dme_words.specs.CommandLine.{audit_line, check_line, explain_line, export_line, loop_line, run_line, serve_line, simulate_line, whole_line}
-use Rattle.dme_words.specs.Ordered.{HasExplained, HasExport, HasLoop, HasRun, HasService, HasSimulation, HasValue, IsAskable}
+use Rattle.dme_words.specs.CommandLine.{audit_line, check_line, explain_line, export_line, ledger_line, loop_line, run_line, serve_line, simulate_line, whole_line}
+use Rattle.dme_words.specs.Ordered.{HasExplained, HasExport, HasLedger, HasLoop, HasRun, HasService, HasSimulation, HasValue, IsAskable}
 use Rattle.dme_words.proofs.HelpLemmas.{NotAtHelp, entered_there, first_none, second_none, walk_stops}
 use Rattle.dme_words.proofs.FoundLemmas.{has_flag, has_number, has_value, level_found}
 
@@ -147,6 +147,19 @@ export words none =
       explain = has_flag c _ (codes "explain") _ refl refl found.fit (found.defaulted.1.1.1.1.0 (omega arith));
     }
 
+witnessed : (words : List Text) → level_fault (leaf ledger_line) [] nothing_held words false [] ≡ []
+    → HasLedger (rows_after (leaf ledger_line).rules [] words)
+witnessed words none =
+    let c = (leaf ledger_line).rules in
+    let found = level_found (leaf ledger_line) words refl
+    ((refl, inl (refl, refl)), ((refl, inl (refl, refl)), ((refl, inr (inl (refl, omega arith))), ((refl, inr (inr refl)), tt))))
+    none in
+    record {
+      up = has_value c (codes "up") _ refl found.fit (found.needed.0 refl);
+      down = has_value c (codes "down") _ refl found.fit (found.needed.1.0 refl);
+      connection = has_number c _ (codes "connection") 4000000000 _ refl refl found.fit (found.defaulted.1.1.0 (omega arith));
+    }
+
 -- each subcommand of `dme` may be asked for, and `help` was not met
 serves : (p : Text × List Text) → NotAtHelp (Some p) → Serve p.0 p.1 (built whole_line).subs
 serves p free = (
@@ -166,8 +179,11 @@ serves p free = (
               (
                 λ answers none. inr (inr (inr (inr (inr (inr (inr (inl (refl, export p.1 none)))))))),
                 (
-                  λ answers none. inr (inr (inr (inr (inr (inr (inr (inr refl))))))),
-                  (λ answers none. absurd (no_help p.0 p.1 free answers), tt),
+                  λ answers none. inr (inr (inr (inr (inr (inr (inr (inr (inl refl)))))))),
+                  (
+                    λ answers none. inr (inr (inr (inr (inr (inr (inr (inr (inr (refl, witnessed p.1 none))))))))),
+                    (λ answers none. absurd (no_help p.0 p.1 free answers), tt),
+                  ),
                 ),
               ),
             ),

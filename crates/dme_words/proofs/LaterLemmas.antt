@@ -9,4 +9,5 @@ has_run p (inl (is, has)) run = absurd (true≢false (sym ((bytes_eq-Decides (co
 has_run p (inr (inl (is, has))) run = has
 has_run p (inr (inr (inl (is, has)))) run = absurd (true≢false (sym ((bytes_eq-Decides (codes "explain") (codes "run")).1 (sym is ∙ run))))
 has_run p (inr (inr (inr (inl (is, has))))) run = absurd (true≢false (sym ((bytes_eq-Decides (codes "export") (codes "run")).1 (sym is ∙ run))))
-has_run p (inr (inr (inr (inr is)))) run = absurd (true≢false (sym ((bytes_eq-Decides (codes "review") (codes "run")).1 (sym is ∙ run))))
+has_run p (inr (inr (inr (inr (inl is))))) run = absurd (true≢false (sym ((bytes_eq-Decides (codes "review") (codes "run")).1 (sym is ∙ run))))
+has_run p (inr (inr (inr (inr (inr (is, has)))))) run = absurd (true≢false (sym ((bytes_eq-Decides (codes "ledger") (codes "run")).1 (sym is ∙ run))))

@@ -91,6 +91,14 @@ export_line = line_of (codes "export") (needed_rule (codes "as") ∷ text_rule (
 abbrev pub review_line : App
 review_line = line_of (codes "review") (text_rule (codes "setup") ∷ program_rule ∷ [])
 
+-- the option `--connection N`: a number from 1 to 4,000,000,000, 1 if none is named
+abbrev pub connection_rule : Rule
+connection_rule = record (number_rule (codes "connection") 4000000000) { defaults = codes "1" ∷ [] }
+
+-- `ledger --up FILE --down FILE [--connection N]`
+abbrev pub ledger_line : App
+ledger_line = line_of (codes "ledger") (needed_rule (codes "up") ∷ needed_rule (codes "down") ∷ connection_rule ∷ [])
+
 -- the command without its subcommands, of which one is required
 abbrev pub bare_line : App
 bare_line = record (new_app (codes "dme")) { top = record (new_app (codes "dme")).top { subcommand_required = true } }
@@ -98,4 +106,4 @@ bare_line = record (new_app (codes "dme")) { top = record (new_app (codes "dme")
 -- `dme COMMAND ..`
 abbrev pub whole_line : App
 whole_line = fold (λ line order. with_subcommand line order.top) bare_line (check_line ∷ simulate_line ∷ audit_line ∷ loop_line
-    ∷ serve_line ∷ run_line ∷ explain_line ∷ export_line ∷ review_line ∷ [])
+    ∷ serve_line ∷ run_line ∷ explain_line ∷ export_line ∷ review_line ∷ ledger_line ∷ [])

@@ -15,6 +15,7 @@ use Rattle.dme_words.specs.CommandLine.{whole_line}
 use Rattle.dme_words.specs.declared.orders.Audit.{Audit}
 use Rattle.dme_words.specs.declared.orders.Check.{Check}
 use Rattle.dme_words.specs.declared.orders.Export.{Export}
+use Rattle.dme_words.specs.declared.orders.Ledger.{Ledger}
 use Rattle.dme_words.specs.declared.orders.Loop.{Loop}
 use Rattle.dme_words.specs.declared.orders.Order.{Order}
 use Rattle.dme_words.specs.declared.orders.Order.TheVariants as order
@@ -67,6 +68,10 @@ IsPortOf = IsNumberOf (codes "port") 65535
 -- the number is the value of `--connections`
 abbrev pub IsConnectionsOf : List Row → ℕ → Type 0
 IsConnectionsOf = IsNumberOf (codes "connections") 4000000000
+
+-- the number is the value of `--connection`
+abbrev pub IsConnectionOf : List Row → ℕ → Type 0
+IsConnectionOf = IsNumberOf (codes "connection") 4000000000
 
 -- the flag with this id is set, or it is not, as `clap` writes it
 abbrev pub IsFlagOf : Text → List Row → Bool → Type 0
@@ -181,6 +186,12 @@ IsAnyExportOf rows _ = ⊥
 abbrev pub IsReviewOf : List Row → Review → Type 0
 IsReviewOf rows o = IsMaybeOf (codes "setup") rows (option_map string_bytes o.setup) × IsProgramOf rows (string_bytes o.program)
 
+-- what a server told by the named bytes of both ends, on the connection of the named number
+abbrev pub IsLedgerOf : List Row → Ledger → Type 0
+IsLedgerOf rows o =
+    IsValueOf (codes "up") rows (string_bytes o.up) × IsValueOf (codes "down") rows (string_bytes o.down)
+    × IsConnectionOf rows o.connection
+
 -- the order of a subcommand with its values, by its name
 abbrev pub IsNamedOrderOf : Text × List Row → Order → Type 0
 IsNamedOrderOf p (order.Check o) = (p.0 ≡ codes "check") × IsCheckOf p.1 o
@@ -194,6 +205,7 @@ IsNamedOrderOf p (order.Explain topic) = (p.0 ≡ codes "explain") × IsExplainO
 IsNamedOrderOf p (order.Export o) = (p.0 ≡ codes "export") × IsExportOf p.1 o
 IsNamedOrderOf p (order.ExportRecord o) = (p.0 ≡ codes "export") × IsRecordExportOf p.1 o
 IsNamedOrderOf p (order.Review o) = (p.0 ≡ codes "review") × IsReviewOf p.1 o
+IsNamedOrderOf p (order.Ledger o) = (p.0 ≡ codes "ledger") × IsLedgerOf p.1 o
 
 -- the order of the subcommand that was found
 abbrev pub IsOrderOf : Option (Text × List Row) → Order → Type 0
@@ -221,6 +233,10 @@ HasPort = HasNumber (codes "port") 65535
 -- the count of connections has a number in its range
 abbrev pub HasConnections : List Row → Type 0
 HasConnections = HasNumber (codes "connections") 4000000000
+
+-- the connection has a number in its range
+abbrev pub HasConnection : List Row → Type 0
+HasConnection = HasNumber (codes "connection") 4000000000
 
 -- the flag with this id has a value, which is read as it is written
 pub record HasFlag (id : Text) (rows : List Row) : Type 0 where
@@ -273,17 +289,25 @@ pub record HasExport (rows : List Row) : Type 0 where
   pub form : HasValue (codes "as") rows
   pub explain : HasExplained rows
 
--- the name of one of the last five subcommands, with the values that it cannot do without
+-- the values that a ledger cannot do without are there
+pub record HasLedger (rows : List Row) : Type 0 where
+  pub up : HasValue (codes "up") rows
+  pub down : HasValue (codes "down") rows
+  pub connection : HasConnection rows
+
+-- the name of one of the last six subcommands, with the values that it cannot do without
 abbrev pub IsLaterAskable : Text × List Row → Type 0
 IsLaterAskable p = ((p.0 ≡ codes "serve") × HasService p.1) ⊎ ((p.0 ≡ codes "run") × HasRun p.1)
-    ⊎ ((p.0 ≡ codes "explain") × HasValue (codes "CODE") p.1) ⊎ ((p.0 ≡ codes "export") × HasExport p.1) ⊎ (p.0 ≡ codes "review")
+    ⊎ ((p.0 ≡ codes "explain") × HasValue (codes "CODE") p.1) ⊎ ((p.0 ≡ codes "export") × HasExport p.1)
+    ⊎ (p.0 ≡ codes "review") ⊎ ((p.0 ≡ codes "ledger") × HasLedger p.1)
 
 -- the name of a subcommand of `dme`, with the values that it cannot do without
 abbrev pub IsAskable : Text × List Row → Type 0
 IsAskable p = ((p.0 ≡ codes "check") × HasExplained p.1) ⊎ ((p.0 ≡ codes "simulate") × HasSimulation p.1) ⊎ ((p.0 ≡ codes "audit") × HasExplained p.1)
     ⊎ ((p.0 ≡ codes "loop") × HasLoop p.1) ⊎ IsLaterAskable p
 
--- the window is one that a client takes, the port is one that can be listened on, and the count is one of a server's connections
+-- the window is one that a client takes, the port is one that can be listened on, the count is one of a server's connections, and the number is
+-- one of a connection
 abbrev pub IsReady : Order → Type 0
 IsReady (order.Check o) = Unit {0}
 IsReady (order.Simulate o) = is_window o.window ≡ true
@@ -296,6 +320,7 @@ IsReady (order.Explain topic) = Unit {0}
 IsReady (order.Export o) = Unit {0}
 IsReady (order.ExportRecord o) = Unit {0}
 IsReady (order.Review o) = Unit {0}
+IsReady (order.Ledger o) = (1 ≤ o.connection) × (o.connection ≤ 4000000000)
 
 -- the words are a command line without a fault, and this is the order of the subcommand that they name, with its values
 pub record Asks (words : List Text) (asked : Order) : Type 0 where

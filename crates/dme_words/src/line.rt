@@ -5,7 +5,8 @@ ghost use Rattle.clap.specs.declared.builder.command.Command.TheViews.{out-Comma
 ghost use Rattle.clap.specs.Words.{app_of, rule_of, shape_of, with_rule, with_subcommand};
 ghost use Rattle.dme_words.specs.CommandLine.{text_rule, needed_rule, window_rule, port_rule, connections_rule, flag_rule};
 ghost use Rattle.dme_words.specs.CommandLine.{program_rule, check_line, simulate_line, audit_line, loop_line, serve_line, run_line};
-ghost use Rattle.dme_words.specs.CommandLine.{code_rule, explain_line, export_line, review_line, bare_line, whole_line};
+ghost use Rattle.dme_words.specs.CommandLine.{code_rule, connection_rule, explain_line, export_line, review_line, ledger_line};
+ghost use Rattle.dme_words.specs.CommandLine.{bare_line, whole_line};
 ghost use Rattle.dme_words.specs.Arguments.{argument_rule, kind_line, with_kind, with_next};
 
 use clap::{Arg, ArgAction, Command};
@@ -51,6 +52,12 @@ enum Argument {
     ServersPort,
     /// `--connections K`.
     Connections,
+    /// `--connection N`.
+    Connection,
+    /// `--up FILE`.
+    Up,
+    /// `--down FILE`.
+    Down,
     /// `--as FORM`.
     Form,
     /// `CODE`.
@@ -98,6 +105,8 @@ enum Kind {
     Export,
     /// `review ..`.
     Review,
+    /// `ledger ..`.
+    Ledger,
 }
 
 /// `--NAME FILE`.
@@ -195,6 +204,19 @@ fn connections_option<'a>(alloc: Global) -> Arg<'a>
         .long("connections")
         .value_name("K")
         .help("How many connections are served, one after the other, from 1 to 4000000000")
+        .value_parser(clap::value_parser!(u32).range(1..=4_000_000_000))
+        .default_value(ONE)
+}
+
+/// `--connection N`.
+fn connection_option<'a>(alloc: Global) -> Arg<'a>
+    ensures rule { rule_of result ≡ connection_rule }
+    ensures local { result.global ≡ false }
+{
+    Arg::new(alloc, "connection")
+        .long("connection")
+        .value_name("N")
+        .help("The number of the connection, from 1 to 4000000000")
         .value_parser(clap::value_parser!(u32).range(1..=4_000_000_000))
         .default_value(ONE)
 }
@@ -353,6 +375,15 @@ fn made_argument<'a>(alloc: Global, argument: Argument) -> Arg<'a>
         }
         Argument::ServersPort => port_option(alloc, "The server's port, from 1 to 65535"),
         Argument::Connections => connections_option(alloc),
+        Argument::Connection => connection_option(alloc),
+        Argument::Up => {
+            let up = "The bytes that the client sent; - is standard input";
+            needed_option(alloc, "up", up)
+        }
+        Argument::Down => {
+            let down = "The bytes that the server sent; - is standard input";
+            needed_option(alloc, "down", down)
+        }
         Argument::Form => form_option(alloc),
         Argument::Code => code_argument(alloc),
         Argument::Progress => progress_flag(alloc),
@@ -623,6 +654,21 @@ fn review_command<'a>(alloc: Global) -> Result<Command<'a>, AllocError>
     with_arguments(alloc, command, &[Argument::Setup, Argument::Program])
 }
 
+/// `ledger --up FILE --down FILE [--connection N]`.
+fn ledger_command<'a>(alloc: Global) -> Result<Command<'a>, AllocError>
+    ensures shape { IfOk result (λ command. app_of command ≡ ledger_line) }
+    ensures local { IfOk result (λ command. (out-Command command).has_globals ≡ false) }
+{
+    let command = Command::new(alloc, "ledger").about(
+        "Prints what a server told that it did, from the bytes of both ends",
+    );
+    with_arguments(
+        alloc,
+        command,
+        &[Argument::Up, Argument::Down, Argument::Connection],
+    )
+}
+
 /// `dme`, without its subcommands.
 fn bare_command<'a>(alloc: Global) -> Command<'a>
     ensures shape { app_of result ≡ bare_line }
@@ -648,6 +694,7 @@ fn order_command<'a>(alloc: Global, kind: Kind) -> Result<Command<'a>, AllocErro
         Kind::Explain => explain_command(alloc),
         Kind::Export => export_command(alloc),
         Kind::Review => review_command(alloc),
+        Kind::Ledger => ledger_command(alloc),
     }
 }
 
@@ -696,6 +743,7 @@ pub(crate) fn whole_command<'a>(alloc: Global) -> Result<Command<'a>, AllocError
             Kind::Explain,
             Kind::Export,
             Kind::Review,
+            Kind::Ledger,
         ],
     )
 }

@@ -28,6 +28,8 @@ pub enum Order {
     ExportRecord(RecordExport),
     /// List everything that stands between a program and its run.
     Review(Review),
+    /// Print what a server told, by the bytes that both ends of a connection sent.
+    Ledger(Ledger),
 }
 
 /// The values of `check`.
@@ -217,4 +219,15 @@ pub struct Review {
     pub setup: Option<String>,
     /// The file of the program; `-` is standard input.
     pub program: String,
+}
+
+/// The values of `ledger`.
+#[derive(Debug, Drop)]
+pub struct Ledger {
+    /// The file of the bytes that the client sent; `-` is standard input.
+    pub up: String,
+    /// The file of the bytes that the server sent; `-` is standard input.
+    pub down: String,
+    /// The number of the connection, from 1 to 4,000,000,000.
+    pub connection: u32,
 }

@@ -6,8 +6,8 @@ ghost use Rattle.clap.specs.Words.{first_of, found_of, rows_of, subcommand_rows_
 ghost use Rattle.client_core.specs.Clients.{is_window};
 ghost use Rattle.dme_words.specs.Ordered.{IsValueOf, IsMaybeOf, IsProgramOf, IsWindowOf, IsPortOf, IsConnectionsOf, IsFlagOf};
 ghost use Rattle.dme_words.specs.Ordered.{IsCheckOf, IsSimulateOf, IsAnyAuditOf, IsLoopOf, IsServeOf, IsRunOf, IsOrderOf};
-ghost use Rattle.dme_words.specs.Ordered.{IsExplainOf, IsAnyExportOf, HasExport, AsksForNothing, IsNoCode, IsNoForm, IsCodeOf, form_word, HasNoTopic};
-ghost use Rattle.dme_words.specs.Ordered.{HasValue, HasWindow, HasPort, HasConnections, HasFlag, HasExplained};
+ghost use Rattle.dme_words.specs.Ordered.{IsExplainOf, IsLedgerOf, IsAnyExportOf, HasExport, AsksForNothing, IsNoCode, IsNoForm, IsCodeOf, form_word, HasNoTopic};
+ghost use Rattle.dme_words.specs.Ordered.{IsConnectionOf, HasConnection, HasLedger, HasValue, HasWindow, HasPort, HasConnections, HasFlag, HasExplained};
 ghost use Rattle.dme_words.specs.Ordered.{HasSimulation, HasLoop, HasService, HasRun};
 ghost use Rattle.dme_words.specs.Ordered.{HasNone, is_lacking, AreLacking, HasNoAudit, HasNoExport, ExportMisfits};
 ghost use Rattle.dme_words.specs.Ordered.{IsLaterAskable, IsReviewOf};
@@ -16,7 +16,7 @@ ghost use Rattle.dme_words.specs.Ordered.{IsAskable, IsReady, Asks, IsRefusal, I
 use crate::line::whole_command;
 use crate::misfits::{Lacks, Misfit};
 use crate::orders::{
-    Audit, Check, Export, Loop, Order, RecordAudit, RecordExport, RecordForm, Review, Run,
+    Audit, Check, Export, Ledger, Loop, Order, RecordAudit, RecordExport, RecordForm, Review, Run,
     Service, Simulation,
 };
 use clap::error::ErrorKind;
@@ -131,6 +131,18 @@ fn connections_of(values: &ArgMatches) -> u32
 {
     match values.get_one::<u32>("connections") {
         Some(connections) => connections,
+        None => unreachable!(),
+    }
+}
+
+/// The value of `--connection`, which `clap` has found in range.
+fn connection_of(values: &ArgMatches) -> u32
+    requires { HasConnection (rows_of (found_of values.now)) }
+    ensures named { IsConnectionOf (rows_of (found_of values.now)) result }
+    ensures ready { (1 ≤ result) × (result ≤ 4000000000) }
+{
+    match values.get_one::<u32>("connection") {
+        Some(connection) => connection,
         None => unreachable!(),
     }
 }
@@ -497,7 +509,24 @@ fn review_order(alloc: Global, values: &ArgMatches) -> Result<Review, AllocError
     Ok(Review { setup, program })
 }
 
-/// The order of one of the last five subcommands, with its values.
+/// The values of `ledger`. Fails only if out of memory.
+fn ledger_order(alloc: Global, values: &ArgMatches) -> Result<Ledger, AllocError>
+    requires { HasLedger (rows_of (found_of values.now)) }
+    ensures named { IfOk result (IsLedgerOf (rows_of (found_of values.now))) }
+    ensures ready { IfOk result (λ order. (1 ≤ order.connection)
+        × (order.connection ≤ 4000000000)) }
+{
+    let up = copied_value(alloc, values, "up")?;
+    let down = copied_value(alloc, values, "down")?;
+    let connection = connection_of(values);
+    Ok(Ledger {
+        up,
+        down,
+        connection,
+    })
+}
+
+/// The order of one of the last six subcommands, with its values.
 fn later_order(alloc: Global, name: &str, values: &ArgMatches) -> Result<Order, WordsFault>
     requires { IsLaterAskable (name.now, rows_of (found_of values.now)) }
     ensures named { IfOk result (IsOrderOf (Some (name.now, rows_of (found_of values.now)))) }
@@ -511,6 +540,7 @@ fn later_order(alloc: Global, name: &str, values: &ArgMatches) -> Result<Order, 
         "explain" => Ok(Order::Explain(explain_order(alloc, values)?)),
         "export" => export_order(alloc, values),
         "review" => Ok(Order::Review(review_order(alloc, values)?)),
+        "ledger" => Ok(Order::Ledger(ledger_order(alloc, values)?)),
         _ => unreachable!(),
     }
 }
