@@ -79,7 +79,11 @@ fn count_to_touch(commands: &[Planned]) -> usize
 /// The commands up to the first touch, as a plan begins on a new connection if that many features are completed, as lines. The caller must
 /// ensure that the program has that many features. Fails only if out of memory.
 #[tactic(auto, using(crate::proofs::PlanLemmas::first_are_sendable))]
-pub fn first_lines(alloc: Global, program: &Program, completed: usize) -> Result<Vec<u8>, AllocError>
+pub fn first_lines(
+    alloc: Global,
+    program: &Program,
+    completed: usize,
+) -> Result<Vec<u8>, AllocError>
     requires { completed ≤ length program.now.features }
     ensures { IfOk result (λ text. text.items
         ≡ lines_behind 0 (first_commands program.now completed)) }

@@ -89,7 +89,11 @@ impl Refusals {
     }
 
     /// Reports the errors of bytes that were received. Lines that cannot be written change nothing.
-    pub fn hear<R: Eprint + AllocGlobal>(&mut self, rt: &R, bytes: &[u8]) -> Result<(), AllocError> {
+    pub fn hear<R: Eprint + AllocGlobal>(
+        &mut self,
+        rt: &R,
+        bytes: &[u8],
+    ) -> Result<(), AllocError> {
         let reports = self.dialogue.hear(rt.alloc(), bytes)?;
         for report in reports.iter() {
             let text = visible(rt.alloc(), report.text())?;

@@ -397,7 +397,8 @@ fn made_argument<'a>(alloc: Global, argument: Argument) -> Arg<'a>
             file_option(alloc, "contacts", reported)
         }
         Argument::Timeout => {
-            let timeout = "How long the other end may be silent if something is due from it, from 1 to 86400";
+            let timeout =
+                "How long the other end may be silent if something is due from it, from 1 to 86400";
             seconds_option(alloc, "timeout", timeout)
         }
         Argument::Wait => {
