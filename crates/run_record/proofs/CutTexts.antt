@@ -1,6 +1,6 @@
 -- The text of a record, cut anywhere.
-use Rattle.std.proofs.Common.{◌≡◌, ℕ, zero, suc, ◌+◌, ◌<◌, ◌≤◌, Bool, true, eqb, nat_le, List, [], ◌∷◌, ◌++◌, length, take, drop, map, refl, ap, sym}
-use Rattle.std.proofs.Common.{subst, ◌∙◌, arith, codes, Option, Some, None, inl, inr, append_assoc, append-nil, length-append}
+use Rattle.std.proofs.Common.{◌≡◌, ℕ, zero, suc, ◌+◌, ◌<◌, ◌≤◌, true, nat_le, List, [], ◌∷◌, ◌++◌, length, take, drop, map, refl, ap, sym}
+use Rattle.std.proofs.Common.{subst, ◌∙◌, arith, codes, Option, Some, None, inl, inr, append-nil}
 use Rattle.std.specs.List.{list_all, AllByRecursion}
 use Rattle.std.specs.Prelude.{◌⊎◌, decimal}
 use Rattle.std.proofs.lemmas.Bool.{and_parts, and_from, leb-true, le-leb}
@@ -10,14 +10,14 @@ use Rattle.contact_ledger.specs.Lines.{text_of, whole_lines, line_of}
 use Rattle.contact_ledger.specs.ContactTexts.{act_fields}
 use Rattle.contact_ledger.proofs.PlainFields.{is_plain, ArePlain, decimal_plain, name_plain}
 use Rattle.contact_ledger.proofs.EntryLines.{entry_plain}
-use Rattle.contact_ledger.proofs.TextLines.{is_text, IsText, AreTexts, Cut, cut_text, lines_back}
+use Rattle.contact_ledger.proofs.TextLines.{IsText, AreTexts, cut_text, lines_back}
 use Rattle.dmis_program.specs.declared.features.Touch.{Touch}
 use Rattle.dmis_program.specs.declared.features.Wanted.{Wanted}
-use Rattle.run_record.specs.Heads.{is_printed, IsPrinted, IsPartGiven, IsAskedTouch, IsAsked, AreAsked, header, part_lines, feature_line, touch_line}
+use Rattle.run_record.specs.Heads.{is_printed, IsPartGiven, IsAskedTouch, AreAsked, header, part_lines, touch_line}
 use Rattle.run_record.specs.Heads.{touch_fields, wanted_lines, asked_lines, head_lines}
 use Rattle.run_record.specs.Entries.{IsWrittenEntry, entry_line}
-use Rattle.run_record.specs.Records.{Kept, nothing_kept, Follows, Follow, record_lines, recorded}
-use Rattle.run_record.specs.Reading.{IsRecord, IsUnbegun, AreTornHead, BeginsHeader}
+use Rattle.run_record.specs.Records.{Kept, nothing_kept, Follow, record_lines, recorded}
+use Rattle.run_record.specs.Reading.{IsRecord, AreTornHead, BeginsHeader}
 use Rattle.run_record.specs.Cuts.{ReadsCut, unbegun, begun}
 use Rattle.run_record.specs.declared.entries.Entry.{Entry}
 use Rattle.run_record.specs.declared.entries.Entry.TheVariants.{Told, Refused, Completed}
@@ -89,7 +89,7 @@ record_texts part asked es kept h g f = texts_append (head_lines part asked) (ma
       (texts_append (asked_lines asked) (codes "END" ∷ []) (asked_text asked g) (record { all = refl }, tt)),
 ) (entries_text es asked nothing_kept kept f)
 
--- ---- a front of the entries
+-- ---- the first entries
 
 pub record IsFrontOf (asked : List Wanted) (old : Kept) (es : List Entry) (lines : List (List ℕ)) : Type 0 where
   pub count : ℕ
@@ -116,7 +116,7 @@ fewer (e0 ∷ es) asked old new (x ∷ xs) ys f e =
     same_lines : {a b : List ℕ} {k l : List (List ℕ)} → a ≡ b → k ≡ l → a ∷ k ≡ b ∷ l
     same_lines p q = λ n. p n ∷ q n
 
--- a front of two lists is one of the first, and not all of it; or the first and a front of the second
+-- the first lines of two lists are some of the first list; or all of it and some of the second
 data Sides (xs ys front : List (List ℕ)) : Type 0 where
   first : (more : List (List ℕ)) → xs ≡ front ++ more → 0 < length more → Sides xs ys front
   second : (tail more : List (List ℕ)) → front ≡ xs ++ tail → ys ≡ tail ++ more → Sides xs ys front
