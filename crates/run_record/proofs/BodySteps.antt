@@ -3,7 +3,7 @@ use Rattle.std.proofs.Common.{◌≡◌, ℕ, ◌+◌, ◌-◌, ◌<◌, ◌≤�
 use Rattle.std.proofs.Common.{length-append, Option, Some, None, Result, Ok, Err, IfOk}
 use Rattle.std.proofs.lemmas.List.{drop-append-le, drop-drop, drop_all}
 use Rattle.std.proofs.lemmas.List.Recursion.{is_count_by}
-use Rattle.std.specs.Prelude.{cond, MatchOption}
+use Rattle.std.specs.Prelude.{cond}
 use Rattle.fixed_um.specs.Calls.{Finds}
 use Rattle.fixed_um.specs.declared.lengths.Point.{Point}
 use Rattle.fixed_um.specs.declared.frames.Frame.{Frame}
@@ -11,11 +11,10 @@ use Rattle.contact_ledger.specs.Ledgers.{is_contact, contact_count}
 use Rattle.contact_ledger.specs.declared.acts.Act.{Act}
 use Rattle.contact_ledger.specs.declared.acts.Act.TheVariants as act
 use Rattle.contact_ledger.specs.declared.features.Feature.{Feature}
-use Rattle.dmis_program.specs.declared.features.Touch.{Touch}
 use Rattle.dmis_program.specs.declared.features.Wanted.{Wanted}
 use Rattle.protocol_model.specs.Claims.{MadeContact, contacts, Serves}
 use Rattle.protocol_model.specs.Client.{origin_of}
-use Rattle.run_record.specs.Records.{Kept, IsLastRun, last_frame, completed_feature, Completes}
+use Rattle.run_record.specs.Records.{Kept, IsLastRun, last_frame, Completes}
 use Rattle.run_record.specs.Serving.{CanComplete}
 
 -- ---- contacts

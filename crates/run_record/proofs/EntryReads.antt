@@ -1,6 +1,6 @@
 -- The entries that follow a head, one line more at a time.
-use Rattle.std.proofs.Common.{◌≡◌, ℕ, zero, suc, ◌+◌, ◌-◌, ◌≤◌, List, [], ◌∷◌, ◌++◌, length, take, drop, refl, ap, sym, subst, ◌∙◌, arith}
-use Rattle.std.proofs.Common.{Option, Some, None, inl, inr, length-append, Result, Ok, Err}
+use Rattle.std.proofs.Common.{◌≡◌, ℕ, ◌+◌, ◌-◌, List, [], ◌∷◌, ◌++◌, take, drop, refl, ap, sym, subst, ◌∙◌, arith}
+use Rattle.std.proofs.Common.{Option, inl, Result, Ok, Err}
 use Rattle.std.proofs.lemmas.List.{take-append-drop, drop-drop}
 use Rattle.std.proofs.Math.Seq.{take-add}
 use Rattle.std.specs.Result.{IsErr, IsErrAnd}
@@ -10,7 +10,7 @@ use Rattle.dmis_program.specs.declared.features.Wanted.{Wanted}
 use Rattle.run_record.specs.Entries.{IsWrittenEntry, entry_line}
 use Rattle.run_record.specs.Records.{Kept, nothing_kept, Follows, Recorded, recorded}
 use Rattle.run_record.specs.Reading.{IsRecord, IsDamagedRecord, ReadsRecord}
-use Rattle.run_record.specs.Stages.{Stage, start, body, Leads, Next, FollowsLine, AddsEntry, StopsAfter, HasHead, LeadsNowhere}
+use Rattle.run_record.specs.Stages.{Stage, start, body, Leads, FollowsLine, AddsEntry, StopsAfter, HasHead, LeadsNowhere}
 use Rattle.run_record.specs.Unfinished.{Asking}
 use Rattle.run_record.specs.declared.entries.Entry.{Entry}
 use Rattle.run_record.specs.declared.faults.RecordFault.{RecordFault}

@@ -1,5 +1,6 @@
 pub mod BodySteps
 pub mod ContactRuns
+pub mod CutTexts
 pub mod EntryReads
 pub mod HeadLines
 pub mod HeadSteps

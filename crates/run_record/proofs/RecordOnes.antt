@@ -1,12 +1,12 @@
 -- A text is read in one way.
 use Rattle.std.proofs.Common.{◌≡◌, ℕ, ◌<◌, List, [], ◌∷◌, ◌++◌, length, take, drop, refl, ap, sym, subst, ◌∙◌, arith}
-use Rattle.std.proofs.Common.{codes, Option, Some, None, inl, inr, append_assoc}
+use Rattle.std.proofs.Common.{codes, Option, inl, inr, append_assoc}
 use Rattle.std.proofs.lemmas.List.{take-append-drop}
 use Rattle.contact_ledger.specs.Lines.{whole_lines}
 use Rattle.dmis_program.specs.declared.features.Wanted.{Wanted}
 use Rattle.run_record.specs.Heads.{header, part_lines, asked_lines}
-use Rattle.run_record.specs.Records.{Kept, nothing_kept, Recorded, recorded, AreRecordLines, Begins}
-use Rattle.run_record.specs.Reading.{IsRecord, IsUnbegun, IsDamagedRecord, AreTornHead}
+use Rattle.run_record.specs.Records.{Kept, Recorded, recorded, AreRecordLines, Begins}
+use Rattle.run_record.specs.Reading.{IsRecord, IsUnbegun, IsDamagedRecord}
 use Rattle.run_record.specs.Stages.{Stage, start, head, within, body, Leads}
 use Rattle.run_record.proofs.StageLines.{torn_begins}
 use Rattle.run_record.proofs.StageOnes.{leads_one}

@@ -1,13 +1,12 @@
 -- The contacts that serve touches, one act after another.
-use Rattle.std.proofs.Common.{◌≡◌, ℕ, zero, suc, ◌+◌, ◌<◌, ◌≤◌, true, false, List, [], ◌∷◌, ◌++◌, length, drop, refl, ap, sym, subst, ◌∙◌, arith}
-use Rattle.std.proofs.Common.{append_assoc, append-nil, Option, Some, None}
-use Rattle.std.specs.Prelude.{slice_get}
+use Rattle.std.proofs.Common.{◌≡◌, ℕ, ◌<◌, true, false, List, [], ◌∷◌, ◌++◌, length, sym, subst, arith}
+use Rattle.std.proofs.Common.{append_assoc, append-nil}
 use Rattle.fixed_um.specs.declared.lengths.Point.{Point}
 use Rattle.contact_ledger.specs.Ledgers.{is_contact}
 use Rattle.contact_ledger.specs.declared.acts.Act.{Act}
 use Rattle.contact_ledger.specs.declared.acts.Act.TheVariants as act
 use Rattle.dmis_program.specs.declared.features.Touch.{Touch}
-use Rattle.protocol_model.specs.Claims.{MadeContact, contacts, Serves, IsServed}
+use Rattle.protocol_model.specs.Claims.{MadeContact, contacts, Serves}
 use Rattle.run_record.specs.Serving.{IsServedBy}
 use Rattle.run_record.proofs.ContactRuns.{contacts_other}
 

@@ -7,11 +7,10 @@ use Rattle.dmis_program.specs.declared.features.Touch.{Touch}
 use Rattle.dmis_program.specs.declared.features.Wanted.{Wanted}
 use Rattle.run_record.specs.Heads.{IsPartGiven, IsAskedTouch, IsAsked, AreAsked, part_lines, feature_line, touch_line}
 use Rattle.run_record.specs.Heads.{header, wanted_lines, asked_lines, head_lines}
-use Rattle.run_record.specs.Entries.{IsWrittenEntry, entry_line}
-use Rattle.run_record.specs.Records.{Kept, nothing_kept, Follows, Follow, record_lines}
+use Rattle.run_record.specs.Entries.{entry_line}
+use Rattle.run_record.specs.Records.{Kept, nothing_kept, Follow, record_lines}
 use Rattle.run_record.specs.Stages.{Stage, start, head, within, body, Leads}
 use Rattle.run_record.specs.declared.entries.Entry.{Entry}
-use Rattle.run_record.specs.declared.entries.Entry.TheVariants.{Told, Refused, Completed}
 use Rattle.run_record.proofs.StageRuns.{leads_more}
 
 -- ---- lines that were led through, cut in two

@@ -5,6 +5,7 @@ pub mod Reading
 pub mod Serving
 pub mod Messages
 pub mod Tellings
+pub mod Cuts
 pub mod Unfinished
 pub mod Stages
 pub mod Strangers

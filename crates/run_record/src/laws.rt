@@ -1,8 +1,13 @@
 // What follows from the definitions alone. Each function has laws for its contract and does nothing.
 
-ghost use Rattle.std.specs.Prelude.{◌≡◌, ℕ, List};
+ghost use Rattle.std.specs.Prelude.{◌≡◌, ◌<◌, ℕ, List, Option, length, take};
+ghost use Rattle.contact_ledger.specs.Lines.{text_of};
+ghost use Rattle.dmis_program.specs.declared.features.Wanted.{Wanted};
+ghost use Rattle.run_record.specs.Heads.{IsPartGiven, AreAsked};
 ghost use Rattle.run_record.specs.Reading.{IsRecord, IsUnbegun, IsDamagedRecord};
-ghost use Rattle.run_record.specs.Records.{Recorded, IsRecorded};
+ghost use Rattle.run_record.specs.Records.{Recorded, IsRecorded, recorded, Kept, nothing_kept, Follow, record_lines};
+ghost use Rattle.run_record.specs.Cuts.{ReadsCut};
+ghost use Rattle.run_record.specs.declared.entries.Entry.{Entry};
 
 /// A text is read in one way: it is one record, or not a record yet, or a line of it is the first that is damaged.
 pub fn records_are_read_in_one_way()
@@ -17,4 +22,17 @@ pub fn records_are_read_in_one_way()
 /// no act is on a connection after the last.
 pub fn each_record_is_sound()
     ensures { (bytes : List ℕ) (r : Recorded) → IsRecord bytes r → IsRecorded r }
+{}
+
+/// The text of a record reads as that record. Cut anywhere, as when a run is killed, it is not a record yet, or it is the record of its
+/// first entries, those whose lines are whole: no completed feature whose line is whole is lost.
+pub fn cut_records_are_read()
+    ensures whole { (part : Option (List ℕ)) (asked : List Wanted) (entries : List Entry)
+        (kept : Kept) → IsPartGiven part → AreAsked asked → Follow asked nothing_kept entries kept
+        → IsRecord (text_of (record_lines part asked entries)) (recorded part asked kept) }
+    ensures cut { (part : Option (List ℕ)) (asked : List Wanted) (entries : List Entry)
+        (kept : Kept) (count : ℕ) → IsPartGiven part → AreAsked asked
+        → Follow asked nothing_kept entries kept
+        → count < length (text_of (record_lines part asked entries))
+        → ReadsCut part asked entries (take count (text_of (record_lines part asked entries))) }
 {}

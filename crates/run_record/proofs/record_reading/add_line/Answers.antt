@@ -1,4 +1,4 @@
-use Rattle.run_record.proofs.EntryReads.{no_line, no_entry_line}
+use Rattle.run_record.proofs.EntryReads.{no_entry_line}
 use Rattle.run_record.proofs.record_reading.add_line.Goals as goal
 
 pub returns-clause-damaged : goal.returns-clause-damaged

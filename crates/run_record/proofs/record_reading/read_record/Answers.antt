@@ -1,4 +1,4 @@
-use Rattle.std.proofs.Common.{◌≡◌, sym, subst}
+use Rattle.std.proofs.Common.{sym, subst}
 use Rattle.contact_ledger.specs.Lines.{whole_lines}
 use Rattle.run_record.specs.Records.{Recorded, AreRecordLines}
 use Rattle.run_record.proofs.EntryReads.{record_after, damaged_after, fault_read}

@@ -1,4 +1,4 @@
-use Rattle.std.proofs.Common.{◌≡◌, ◌+◌, List, drop, sym, subst, ◌∙◌, ap, arith, length, ℕ, ◌<◌}
+use Rattle.std.proofs.Common.{◌+◌, List, drop, sym, subst, ◌∙◌, arith, length, ◌<◌}
 use Rattle.std.proofs.lemmas.List.{drop_all, length-drop}
 use Rattle.fixed_um.specs.declared.lengths.Point.{Point}
 use Rattle.run_record.proofs.HeadLines.{drop_item}
