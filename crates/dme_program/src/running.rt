@@ -89,7 +89,13 @@ fn review<R: Files + Input + Print + AllocGlobal>(rt: &R, order: Review) -> Resu
     let mut setup = sources.maybe(order.setup);
     let mut program = sources.file(order.program);
     let mut sink = Writing::new(io::writer(rt));
-    match review_program(rt.alloc(), name.as_str(), &mut setup, &mut program, &mut sink) {
+    match review_program(
+        rt.alloc(),
+        name.as_str(),
+        &mut setup,
+        &mut program,
+        &mut sink,
+    ) {
         Ok(status) => Ok(status),
         Err(fault) => {
             let mut files = InputFiles::unnamed(rt.alloc());

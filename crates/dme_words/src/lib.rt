@@ -12,7 +12,7 @@ pub mod words;
 
 pub use misfits::{Lacks, Misfit};
 pub use orders::{
-    Audit, Check, Export, Loop, Order, RecordAudit, RecordExport, RecordForm, Review, Run,
-    Service, Simulation,
+    Audit, Check, Export, Loop, Order, RecordAudit, RecordExport, RecordForm, Review, Run, Service,
+    Simulation,
 };
 pub use words::{WordsFault, read_words};

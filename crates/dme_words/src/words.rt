@@ -16,8 +16,8 @@ ghost use Rattle.dme_words.specs.Ordered.{IsAskable, IsReady, Asks, IsRefusal, I
 use crate::line::whole_command;
 use crate::misfits::{Lacks, Misfit};
 use crate::orders::{
-    Audit, Check, Export, Loop, Order, RecordAudit, RecordExport, RecordForm, Review, Run,
-    Service, Simulation,
+    Audit, Check, Export, Loop, Order, RecordAudit, RecordExport, RecordForm, Review, Run, Service,
+    Simulation,
 };
 use clap::error::ErrorKind;
 use clap::parser::ValueSource;
