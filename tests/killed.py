@@ -65,7 +65,7 @@ class Record:
 
     def __init__(self, text):
         lines = text.split("\n")[:-1]
-        self.asked, self.told, self.features = [], [], []
+        self.asked, self.told, self.features, self.refused = [], [], [], []
         if "END" not in lines:
             return
         end = lines.index("END")
@@ -87,8 +87,9 @@ class Record:
             for (at, _, fields), touch in zip(run, touches):
                 must(at == number and fields.startswith(touch + " "), "contact", at, fields, "not", touch)
             self.features.append((label, number, run, touches))
+        elif word == "REFUSED":
+            self.refused.append((number, rest))
         else:
-            must(word != "REFUSED", "refused", rest)
             self.told.append((number, word, rest))
 
     def contacts_text(self):
@@ -157,6 +158,7 @@ def must_be_recorded(folder):
     """The record of a run that is Done is whole, and its audit answers RUNS over both ledgers."""
     record = read(folder)
     must([it[0] for it in record.features] == [f"F{it}" for it in range(FEATURES)], "features", len(record.features))
+    must(not record.refused, "an honest machine is said to have refused", record.refused)
     (folder / "record.contacts").write_text(record.contacts_text())
     (folder / "part.features").write_text(record.features_text())
     must_be_audited(folder, "record.contacts")

@@ -6,7 +6,8 @@ not. Then it cuts a reply off at any byte and closes or resets the connection, a
 command twice, answers one that was never sent, or sends a line that is no response. Some runs are killed. After each run:
 
 - no feature whose COMPLETED line was whole is lost;
-- the contacts that the record has of a connection are those that were answered on one, in order: each contact's target was sent, and its point was the answer.
+- the contacts that the record has of a connection are those that were answered on one, in order: each contact's target was sent, and its point was the answer;
+- the errors that it has of a connection are the first of those that were answered on one, in order, with their tags and texts.
 
 In the end the record has the program's features, each with the points of its last contacts, and its audit answers RUNS.
 
@@ -42,6 +43,7 @@ class Liar(threading.Thread):
         self.listener = socket.create_server(("127.0.0.1", 0))
         self.port = self.listener.getsockname()[1]
         self.answered = []  # for each connection, the contacts that it answered: target and point
+        self.refused = []  # for each connection, the errors that it answered, as a record has them
         self.lies = 0
 
     def run(self):
@@ -51,6 +53,7 @@ class Liar(threading.Thread):
             except OSError:
                 return
             self.answered.append([])
+            self.refused.append([])
             left = self.chance.below(80)
             try:
                 self.serve(stream, left)
@@ -88,6 +91,7 @@ class Liar(threading.Thread):
     def answer(self, stream, tag, command, in_error):
         """Answers a command as the interface says. Whether the server is in its error state."""
         if in_error and tag[0] != "E" and not command.startswith("ClearAllErrors"):
+            self.refused[-1].append(f'{tag} Error(3, 9008, "", "Error state")')
             stream.sendall(f'{tag} &\r\n{tag} ! Error(3, 9008, "", "Error state")\r\n{tag} %\r\n'.encode())
             return True
         data = ""
@@ -104,6 +108,7 @@ class Liar(threading.Thread):
     def lie(self, stream, lie, tag, command):
         """A reply that is not as the interface says. Whether the connection stands."""
         if lie == "error":
+            self.refused[-1].append(f'{tag} Error(3, 1009, "{command[:6]}", "Air: \\x07 probe collision")')
             stream.sendall(f'{tag} &\r\n{tag} ! Error(3, 1009, "{command[:6]}", "Air: \x07 probe collision")\r\n{tag} %\r\n'.encode())
             return True
         data = f"{tag} # X(1.000), Y(2.000), Z(3.000)\r\n"
@@ -136,6 +141,15 @@ def must_be_answered(record, answered):
         must(any(given[: len(told)] == told for given in answered), "contacts of connection", number, "were not answered")
 
 
+def must_be_refused(record, refused):
+    """Likewise of its errors."""
+    mine = {}
+    for number, text in record.refused:
+        mine.setdefault(number, []).append(text)
+    for number, told in mine.items():
+        must(any(given[: len(told)] == told for given in refused), "errors of connection", number, "were not answered", told[:3])
+
+
 def run_once(folder, port, window, moment):
     """A run, which is killed after that many seconds if it takes longer. Whether it is Done."""
     process = dme(folder, *run_words(port, window, RECORD))
@@ -164,8 +178,10 @@ def session(chance, folder, window):
             must(len(record.features) >= held, "features are lost", held, len(record.features))
             held = len(record.features)
             must_be_answered(record, list(liar.answered))
+            must_be_refused(record, list(liar.refused))
+            refused = len(record.refused)
             if is_done:
-                return count, liar.lies
+                return count, liar.lies, refused
     finally:
         liar.close()
     raise Wrong(f"not Done after {RUNS} runs")
@@ -182,19 +198,22 @@ def must_be_sound(folder):
 
 def check_lying(sessions=SESSIONS):
     """How many windows ended well in each session, and how many did not."""
-    chance, wrong, runs, lies = Fixed(11), 0, 0, 0
+    chance, wrong, runs, lies, refused = Fixed(11), 0, 0, 0, 0
     for window in WINDOWS:
         try:
             must(PROGRAM.exists(), "no executable")
             for _ in range(sessions):
                 with tempfile.TemporaryDirectory() as folder:
-                    ran, lied = session(chance, pathlib.Path(folder), window)
-                    runs, lies = runs + ran, lies + lied
+                    ran, lied, kept = session(chance, pathlib.Path(folder), window)
+                    runs, lies, refused = runs + ran, lies + lied, refused + kept
                     must_be_sound(pathlib.Path(folder))
         except (Wrong, OSError, subprocess.SubprocessError, IndexError, ValueError) as why:
             print(f"lying server, window {window}: {str(why)[:500]}")
             wrong += 1
-    print(f"lying server: {len(WINDOWS) - wrong} of {len(WINDOWS)} windows, {sessions} sessions each, {runs} runs, {lies} lies", flush=True)
+    print(f"lying server: {len(WINDOWS) - wrong} of {len(WINDOWS)} windows, {sessions} sessions each, {runs} runs, {lies} lies, {refused} errors kept", flush=True)
+    if PROGRAM.exists() and not refused:
+        print("lying server: no error was kept")
+        wrong = max(wrong, 1)
     return len(WINDOWS) - wrong, wrong
 
 
