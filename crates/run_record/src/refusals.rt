@@ -1,6 +1,6 @@
 // Writing the errors that a server reported.
 
-ghost use Rattle.std.specs.Prelude.{◌≡◌, ◌++◌, ◌∷◌, [], OnOk};
+ghost use Rattle.std.specs.Prelude.{◌≡◌, ◌++◌, ◌∷◌, [], OnOk, take};
 ghost use Rattle.fixed_um.specs.Calls.{Writes};
 ghost use Rattle.contact_ledger.specs.Lines.{text_of};
 ghost use Rattle.run_record.specs.Entries.{kept_error, refused_line};
@@ -25,6 +25,18 @@ fn add_refused(line: &mut Vec<u8>, connection: u64, text: &[u8]) -> Result<(), A
     Ok(())
 }
 
+/// The first bytes of a text, as many as are kept.
+#[tactic(auto, using(crate::proofs::RefusedLines::short_is_whole))]
+fn beginning_of(bytes: &[u8]) -> &[u8]
+    ensures { result.now ≡ take 400 bytes.now }
+{
+    if bytes.len() <= MOST_KEPT {
+        return bytes;
+    }
+    let (kept, _) = bytes.split_at(MOST_KEPT);
+    kept
+}
+
 /// Appends the line of an error that the server reported on the connection of this number. `text` is what is kept of it: its tag and its
 /// text, as they were received. They are written as people read them, other bytes than those from 32 to 126 as `\xNN`, up to 400 bytes.
 ///
@@ -34,10 +46,8 @@ pub fn write_refused(out: &mut Vec<u8>, connection: u64, text: &[u8]) -> Result<
         (text_of (refused_line connection (kept_error text.now) ∷ [])) }
 {
     let shown = visible(*out.allocator(), text)?;
-    let bytes = shown.as_bytes();
-    let (kept, _) = bytes.split_at(bytes.len().min(MOST_KEPT));
     let mut line = Vec::new(*out.allocator());
-    add_refused(&mut line, connection, kept)?;
+    add_refused(&mut line, connection, beginning_of(shown.as_bytes()))?;
     out.extend_from_slice(line.as_slice())?;
     Ok(())
 }
