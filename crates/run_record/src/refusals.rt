@@ -26,7 +26,6 @@ fn add_refused(line: &mut Vec<u8>, connection: u64, text: &[u8]) -> Result<(), A
 }
 
 /// The first bytes of a text, as many as are kept.
-#[tactic(auto, using(crate::proofs::RefusedLines::short_is_whole))]
 fn beginning_of(bytes: &[u8]) -> &[u8]
     ensures { result.now ≡ take 400 bytes.now }
 {
