@@ -215,7 +215,8 @@ fn growing_features<R: Files<File = File> + AllocGlobal>(
     }
 }
 
-/// A client takes its turns over a connection of this number to the server that is called. `told` is what servers reported before.
+/// A client takes its turns over a connection to the server that is called. `before` is the number of the connection, and what servers
+/// reported before it.
 fn drive_client<
     R: Files<File = File>
         + Print
@@ -226,12 +227,13 @@ fn drive_client<
 >(
     rt: &R,
     client: Client,
-    told: &ServerLedger,
+    before: (u64, &ServerLedger),
     limited: (Call, &Patience<'_, R>),
     follower: &mut Follower<'_, '_, R>,
 ) -> Result<u8, Fault>
-    requires { may_connect follower.old.number client.client ≡ true }
+    requires { may_connect before.0 client.client ≡ true }
 {
+    let (number, told) = before;
     let (call, patience) = limited;
     let features = NamedFile::new(rt, call.features.as_deref())?;
     let mut outputs = RunOutputs {
@@ -246,7 +248,7 @@ fn drive_client<
     let growing = growing_features(rt, call.features.as_deref(), &client)?;
     let contacts = reported_contacts(rt, call.contacts.as_deref(), told)?;
     follower.grow(growing, contacts);
-    if client.connected(follower.number).is_err() {
+    if client.connected(number).is_err() {
         return Err(Fault::Order(OrderFault::Memory));
     }
     let result = drive_stream(rt, client, (&stream, patience), follower, &mut outputs);
@@ -290,7 +292,7 @@ fn drive_program<
     let talk = talk_of(rt, &client, 1, &mut call)?;
     let mut follower = Follower::new(rt, progress, &talk, 1, None);
     let told = ServerLedger::new(rt.alloc());
-    let verdict = drive_client(rt, client, &told, (call, patience), &mut follower);
+    let verdict = drive_client(rt, client, (1, &told), (call, patience), &mut follower);
     let unwritten = follower.finish()?;
     with_both_unwritten(rt, verdict, unwritten)
 }
@@ -335,7 +337,8 @@ fn drive_recorded<
     confirm(rt, &client, &call)?;
     let talk = talk_of(rt, &client, connection, &mut call)?;
     let mut follower = Follower::new(rt, progress, &talk, connection, Some((name, recorder)));
-    let verdict = drive_client(rt, client, &told, (call, patience), &mut follower);
+    let before = (connection, &told);
+    let verdict = drive_client(rt, client, before, (call, patience), &mut follower);
     let unwritten = follower.finish()?;
     with_both_unwritten(rt, verdict, unwritten)
 }

@@ -269,9 +269,9 @@ impl ReportedContacts {
     /// Adds the acts that a client has counted since, on its connection of this number. Fails only if out of memory.
     fn tell(&mut self, number: u64, client: &Client) -> Result<(), AllocError> {
         let acts = client.counted();
-        while self.told < acts.len() {
-            add_entry(&mut self.text, number, &acts[self.told])?;
-            self.told += 1;
+        for at in self.told..acts.len() {
+            add_entry(&mut self.text, number, &acts[at])?;
+            self.told = at + 1;
         }
         Ok(())
     }

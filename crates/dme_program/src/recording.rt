@@ -209,7 +209,7 @@ pub struct Follower<'a, 'b, R: Eprint> {
     /// The lines of the connection, with the errors of its server.
     pub talk: &'a RefCell<Talk<'b, R>>,
     /// The number of the connection.
-    pub number: u64,
+    number: u64,
     record: Option<(String, Recorder<LockedFile>)>,
     features: Option<FeaturesFile>,
     contacts: Option<ReportedContacts>,

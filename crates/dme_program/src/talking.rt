@@ -208,6 +208,9 @@ impl<'a, R: Eprint + Clock + AllocGlobal> Talk<'a, R> {
 
     /// Bytes of a side, of which the last alone may be the end of a line.
     fn keep_piece(&mut self, side: Side, piece: &[u8]) -> Result<(), AllocError> {
+        if piece.is_empty() {
+            return Ok(());
+        }
         self.refuse(side, piece)?;
         if matches!(side, Side::Server) {
             self.remember(piece)?;
@@ -223,15 +226,13 @@ impl<'a, R: Eprint + Clock + AllocGlobal> Talk<'a, R> {
 
     /// Bytes that a side has written, line by line.
     fn keep_lines(&mut self, side: Side, bytes: &[u8]) -> Result<(), AllocError> {
-        let mut rest = bytes;
-        while !rest.is_empty() {
-            let end = match rest.iter().position(|byte| *byte == b'\n') {
-                Some(at) => at + 1,
-                None => rest.len(),
-            };
-            let (piece, after) = rest.split_at(end);
+        let mut is_first = true;
+        for piece in bytes.split(|byte| *byte == b'\n') {
+            if !is_first {
+                self.keep_piece(side, b"\n")?;
+            }
             self.keep_piece(side, piece)?;
-            rest = after;
+            is_first = false;
         }
         Ok(())
     }
