@@ -1,6 +1,7 @@
 // The plan of a program on a new connection, as text.
 
-ghost use Rattle.std.specs.Prelude.{◌≡◌, ◌<◌, ◌≤◌, length, ◌++◌, All, false, OnOk, IfOk};
+ghost use Rattle.std.specs.Prelude.{◌≡◌, ◌<◌, ◌≤◌, length, ◌++◌, All, false, OnOk, IfOk, IfSome};
+ghost use Rattle.std.specs.List.{position};
 ghost use Rattle.dme_line.specs.Kinds.{kind_of, is_event_kind};
 ghost use Rattle.dme_line.specs.Written.{HasVolumeLengths};
 ghost use Rattle.resume_plan.specs.Sendable.{IsSendable};
@@ -62,15 +63,22 @@ fn is_touch(command: &Command) -> bool
     matches!(command, Command::PtMeas(_, _))
 }
 
+/// Where the first touch is.
+fn first_touch(commands: &[Planned]) -> Option<usize>
+    ensures place { result ≡ position (λ p. is_touch p.command) commands.now }
+    ensures within { IfSome result (λ at. at < length commands.now) }
+{
+    commands
+        .iter()
+        .position(|planned| is_touch(&planned.command))
+}
+
 /// How many commands there are up to the first touch; all if there is no touch.
 fn count_to_touch(commands: &[Planned]) -> usize
     ensures count { result ≡ count_to_touch commands.now }
     ensures within { result ≤ length commands.now }
 {
-    match commands
-        .iter()
-        .position(|planned| is_touch(&planned.command))
-    {
+    match first_touch(commands) {
         Some(at) => at + 1,
         None => commands.len(),
     }
