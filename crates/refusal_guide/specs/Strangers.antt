@@ -1,7 +1,7 @@
 -- How it is said that a record is not the one of a run (this profile).
 use Rattle.std.specs.Prelude.{ℕ, List, ◌++◌, codes, Option, Some, None}
 use Rattle.std.specs.List.{flat_map}
-use Rattle.refusal_guide.specs.Places.{visible}
+use Rattle.session_telling.specs.Visible.{visible}
 
 -- which part a record names, and which was given
 abbrev pub other_part_text : Option (List ℕ) → Option (List ℕ) → List ℕ
