@@ -166,6 +166,17 @@ fn confirm<R: Input + Eprint + AllocGlobal>(
     Ok(())
 }
 
+/// What a client needs before it connects: the confirmation, if it is asked for, and what is shown of the lines of its connection.
+fn prepare<'a, R: Input + Eprint + AllocGlobal>(
+    rt: &'a R,
+    client: &Client,
+    number: u64,
+    call: &mut Call,
+) -> Result<RefCell<Talk<'a, R>>, Fault> {
+    confirm(rt, client, call)?;
+    Ok(talk_of(rt, client, number, call)?)
+}
+
 /// A client that has come to its connection takes its turns over a stream, whose lines go by.
 fn drive_stream<R: Files + Eprint + Clock + AllocGlobal, F: TextFile, O: Sink>(
     rt: &R,
@@ -288,8 +299,7 @@ fn drive_program<
             client.program().features(),
         );
     }
-    confirm(rt, &client, &call)?;
-    let talk = talk_of(rt, &client, 1, &mut call)?;
+    let talk = prepare(rt, &client, 1, &mut call)?;
     let mut follower = Follower::new(rt, progress, &talk, 1, None);
     let told = ServerLedger::new(rt.alloc());
     let verdict = drive_client(rt, client, (1, &told), (call, patience), &mut follower);
@@ -334,8 +344,7 @@ fn drive_recorded<
     }
     let recorder = Recorder::new(connection, features.list().len(), text, file);
     let client = kept_client(rt.alloc(), program, features, call.window)?;
-    confirm(rt, &client, &call)?;
-    let talk = talk_of(rt, &client, connection, &mut call)?;
+    let talk = prepare(rt, &client, connection, &mut call)?;
     let mut follower = Follower::new(rt, progress, &talk, connection, Some((name, recorder)));
     let before = (connection, &told);
     let verdict = drive_client(rt, client, before, (call, patience), &mut follower);
