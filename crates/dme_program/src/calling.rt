@@ -10,6 +10,7 @@ use std::thread;
 use std::time::{Duration, Instant};
 
 /// How the call of a server has ended.
+#[derive(Drop)]
 pub enum Called {
     Connected(TcpStream),
     /// The stop file is there.

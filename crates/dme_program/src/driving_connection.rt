@@ -226,6 +226,38 @@ fn growing_features<R: Files<File = File> + AllocGlobal>(
     }
 }
 
+/// A client comes to a connection to the server that is called, whose files grow from then on. `before` is the number of the connection, and
+/// what servers reported before it.
+fn reach_server<
+    R: Files<File = File>
+        + Eprint
+        + Clock
+        + Net<Listener = TcpListener, Stream = TcpStream>
+        + AllocGlobal,
+>(
+    rt: &R,
+    client: &mut Client,
+    before: (u64, &ServerLedger),
+    limited: (&Call, &Patience<'_, R>),
+    follower: &mut Follower<'_, '_, R>,
+) -> Result<Called, Fault>
+    requires { may_connect before.0 client.old.client ≡ true }
+{
+    let (number, told) = before;
+    let (call, patience) = limited;
+    let called = call_server(rt, (call.host.as_str(), call.port), call.wait, patience)?;
+    if let Called::Stopped = called {
+        return Ok(called);
+    }
+    let growing = growing_features(rt, call.features.as_deref(), client)?;
+    let contacts = reported_contacts(rt, call.contacts.as_deref(), told)?;
+    follower.grow(growing, contacts);
+    if client.connected(number).is_err() {
+        return Err(Fault::Order(OrderFault::Memory));
+    }
+    Ok(called)
+}
+
 /// A client takes its turns over a connection to the server that is called. `before` is the number of the connection, and what servers
 /// reported before it.
 fn drive_client<
@@ -244,24 +276,17 @@ fn drive_client<
 ) -> Result<u8, Fault>
     requires { may_connect before.0 client.client ≡ true }
 {
-    let (number, told) = before;
     let (call, patience) = limited;
     let features = NamedFile::new(rt, call.features.as_deref())?;
     let mut outputs = RunOutputs {
         features,
         report: Writing::new(io::writer(rt)),
     };
-    let stream = match call_server(rt, (call.host.as_str(), call.port), call.wait, patience)? {
+    let mut client = client;
+    let stream = match reach_server(rt, &mut client, before, (&call, patience), follower)? {
         Called::Connected(stream) => stream,
         Called::Stopped => return Ok(patience.not_begun()),
     };
-    let mut client = client;
-    let growing = growing_features(rt, call.features.as_deref(), &client)?;
-    let contacts = reported_contacts(rt, call.contacts.as_deref(), told)?;
-    follower.grow(growing, contacts);
-    if client.connected(number).is_err() {
-        return Err(Fault::Order(OrderFault::Memory));
-    }
     let result = drive_stream(rt, client, (&stream, patience), follower, &mut outputs);
     drop(outputs);
     match result {
