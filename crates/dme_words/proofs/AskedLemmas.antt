@@ -152,7 +152,7 @@ witnessed : (words : List Text) → level_fault (leaf ledger_line) [] nothing_he
 witnessed words none =
     let c = (leaf ledger_line).rules in
     let found = level_found (leaf ledger_line) words refl
-    ((refl, inl (refl, refl)), ((refl, inl (refl, refl)), ((refl, inr (inl (refl, omega arith))), ((refl, inr (inr refl)), tt))))
+    ((refl, inl (refl, refl)), ((refl, inl (refl, refl)), ((refl, inl (refl, refl)), ((refl, inr (inr refl)), tt))))
     none in
     record {
       up = has_value c (codes "up") _ refl found.fit (found.needed.0 refl);
