@@ -3,7 +3,7 @@
 use dme_orders::InputFile;
 use program_review::{Lack, lacking_setup};
 use std::alloc::AllocError;
-use tool_rack::Setup;
+use tool_rack::{Setup, SetupFault};
 
 /// Reports each line of a program that selects a tool which the setup's rack lacks, or goes out of the machine's volume. Lines that cannot be
 /// written change nothing. Fails only if out of memory.
@@ -12,8 +12,13 @@ pub fn warn<R: Eprint + AllocGlobal>(
     setup: &InputFile,
     program: &InputFile,
 ) -> Result<(), AllocError> {
-    let Ok(known) = Setup::read(rt.alloc(), setup.text.as_slice()) else {
-        return Ok(());
+    if setup.is_short || program.is_short {
+        return Err(AllocError);
+    }
+    let known = match Setup::read(rt.alloc(), setup.text.as_slice()) {
+        Ok(known) => known,
+        Err(SetupFault::Memory) => return Err(AllocError),
+        Err(_) => return Ok(()),
     };
     let text = program.text.as_slice();
     let name = &setup.name;
