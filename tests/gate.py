@@ -2,8 +2,8 @@
 """Writes docs/GATE.md: how long the proof of each crate takes, from tools/times.txt, how many edits it has, and whether they were last tried
 with its present content (tools/edits.txt).
 
-tools/times.txt has lines of a crate and its seconds of processor time, as `tools/times` sampled them during a whole run of `tests/run` from
-nothing; its comments describe that run. `run` calls this; by itself: tests/gate.py, and tests/gate.py --write to write the page.
+tools/times.txt has lines of a crate, its seconds of processor time and the commit, as `tools/times` sampled them during a whole run of
+`tests/run`; its comments describe the runs. `run` calls this; by itself: tests/gate.py, and tests/gate.py --write to write the page.
 """
 
 import sys
@@ -16,24 +16,25 @@ TIMES = ROOT / "tools" / "times.txt"
 
 
 def times():
-    """The seconds of each crate, and what is recorded about the run."""
+    """The seconds of each crate with the commit that was measured, and what is recorded about the runs."""
     lines = TIMES.read_text().splitlines() if TIMES.exists() else []
-    seconds = {name: int(value) for name, value in (it.split() for it in lines if it and not it.startswith("#"))}
+    seconds = {name: (int(value), commit) for name, value, commit in (it.split() for it in lines if it and not it.startswith("#"))}
     return seconds, [it.removeprefix("# ") for it in lines if it.startswith("# ")]
 
 
 def table():
-    """What is known about the run, and a row for each crate."""
+    """What is known about the runs, and a row for each crate."""
     seconds, said = times()
     known = recorded()
-    text = "".join(f"{it}\n" for it in said)
-    text += "\n| Crate | Processor time of its proofs, seconds | Edits; * if they were last tried with other content |\n|---|---|---|\n"
+    text = "".join(f"- {it}\n" for it in said)
+    text += "\n| Crate | Processor time of its proofs, seconds | In the run of | Edits; * if no trial of this content is recorded |\n|---|---|---|---|\n"
     for crate in sorted(it for it in (ROOT / "crates").iterdir() if (it / "src").is_dir()):
         name, count = crate.name, len(edits_of(crate))
         mark = "*" if name in crates_with_edits() and known.get(name) != content_of(crate) else ""
-        text += f"| `{name}` | {seconds.get(name, '?')} | {count}{mark} |\n"
-    total = f"{sum(seconds.values())}" if seconds else "not measured"
-    return text + f"| together | {total} | {sum(len(edits_of(ROOT / 'crates' / it)) for it in crates_with_edits())} |\n"
+        time, commit = seconds.get(name, ("?", ""))
+        text += f"| `{name}` | {time} | {commit} | {count}{mark} |\n"
+    total = f"{sum(it for it, _ in seconds.values())}" if seconds else "not measured"
+    return text + f"| together | {total} | | {sum(len(edits_of(ROOT / 'crates' / it)) for it in crates_with_edits())} |\n"
 
 
 def check_gate():

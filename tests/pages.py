@@ -8,11 +8,14 @@ Each check reads one document and answers its faults. Mistakes are planted in ea
 
 import ast
 import functools
+import importlib.machinery
+import importlib.util
 import io
 import os
 import pathlib
 import re
 import sys
+import tempfile
 import tokenize
 
 ROOT = pathlib.Path(__file__).resolve().parent.parent
@@ -301,6 +304,29 @@ PLANTED = [
 ]
 
 
+def faults_of_releasing():
+    """What is wrong with how `tools/release` writes a commit into sources, tried on copies of them: what each says then, and a second time."""
+    loader = importlib.machinery.SourceFileLoader("release", str(ROOT / "tools" / "release"))
+    release = importlib.util.module_from_spec(importlib.util.spec_from_loader("release", loader))
+    loader.exec_module(release)
+    commit, faults = "0123456789abcdef0123456789abcdef01234567", []
+    with tempfile.TemporaryDirectory() as room:
+        for name in release.WHERE:
+            copy = pathlib.Path(room) / name
+            copy.parent.mkdir(parents=True)
+            copy.write_text((ROOT / name).read_text())
+        release.write_commit(pathlib.Path(room), commit)
+        for name in release.WHERE:
+            if (pathlib.Path(room) / name).read_text() != (ROOT / name).read_text().replace("not a release", commit):
+                faults.append(f"{name} is not as a release has it")
+        try:
+            release.write_commit(pathlib.Path(room), commit)
+            faults.append("a commit is written over another")
+        except SystemExit:
+            pass
+    return faults
+
+
 def texts_of(globs):
     return [(it.relative_to(ROOT).as_posix(), it.read_text()) for it in files_of(globs)]
 
@@ -312,6 +338,7 @@ def check_pages():
         tried += [(name, check(name, text)) for name, text in texts_of(globs) for check in checks]
     count = sum(len(text.split()) for _, text in texts_of(TOGETHER))
     tried.append(("README.md and docs/", [] if count <= MOST_WORDS_TOGETHER else [f"{count} words, where there may be {MOST_WORDS_TOGETHER}"]))
+    tried.append(("tools/release", faults_of_releasing()))
     for name, faults in tried:
         for fault in faults:
             print(f"{name}: {fault}")

@@ -159,6 +159,7 @@ static int take_in(struct run *run, int line)
     do {
         answer = dme_client_read(&run->client);
     } while (answer == DME_DONE);
+    keep(run);
     if (answer != DME_NOTHING) give_up("read", answer);
     return 1;
 }
@@ -174,7 +175,6 @@ static uint32_t measured_on(struct run *run, const char *port)
         state = dme_client_state(&run->client);
         if (state == DME_FINISHED || state == DME_HALTED || state == DME_FAULTED) break;
         is_up = is_up && take_in(run, line);
-        keep(run);
         if (!is_up) {
             dme_next next = dme_client_next(&run->client);
             fprintf(stderr, "measure: the connection broke off, at feature %llu\n", (unsigned long long)next.feature);

@@ -139,7 +139,8 @@ uint32_t dme_client_read(dme_client *client);
 size_t dme_client_take(dme_client *client, uint8_t *room, size_t room_length);
 /* Writes an abort; DME_NOT_NOW except in DME_RUNNING and DME_FAILING. */
 uint32_t dme_client_abort(dme_client *client);
-/* Resumes the plan after the last completed feature, on the same connection; DME_NOT_NOW except in DME_HALTED. */
+/* Resumes the plan after the last completed feature, on the same connection; DME_NOT_NOW except in DME_HALTED, and there too if the
+ * StartSession() of this connection was not completed: then leave it. */
 uint32_t dme_client_resume(dme_client *client);
 /* Leaves the connection. What is measured stays. */
 void dme_client_leave(dme_client *client);

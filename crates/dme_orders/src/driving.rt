@@ -109,7 +109,7 @@ fn turned<R: Source, W: Sink, N: Watcher, S: Steering, F: TextFile>(
 /// written also if the file could not be. `Memory` and `Write` are the only `Err`s.
 pub fn drive<R: Source, W: Sink, N: Watcher, S: Steering, F: TextFile, O: Sink>(
     alloc: Global,
-    client: Client,
+    client: &mut Client,
     ports: &mut Ports<R, W>,
     watcher: &mut N,
     steering: &mut S,
@@ -117,7 +117,7 @@ pub fn drive<R: Source, W: Sink, N: Watcher, S: Steering, F: TextFile, O: Sink>(
 ) -> Result<RunEnd, FilesFault>
     // The report of what the client has become was written, its file keeps what it then holds, and what was completed was reported to the
     // watcher; or memory ran out, or the output has failed.
-    ensures prints { Prints (LeavesRun client
+    ensures prints { Prints (LeavesRun client.old
         (run_told (R.left ports.old.source) (W.taken ports.old.sink) (N.told watcher.old)
         (S.can_have_said steering.old)
         (file_told (F.kept outputs.old.features) (F.has_failed outputs.old.features)))
@@ -128,7 +128,7 @@ pub fn drive<R: Source, W: Sink, N: Watcher, S: Steering, F: TextFile, O: Sink>(
 
     // If out of memory, nothing has moved; or what was completed was reported to the watcher, and the file is as it was or keeps what the
     // client then holds.
-    ensures stops { IsErrOf result FilesFault.Memory → StopsRun client
+    ensures stops { IsErrOf result FilesFault.Memory → StopsRun client.old
         (run_told (R.left ports.old.source) (W.taken ports.old.sink) (N.told watcher.old)
         (S.can_have_said steering.old)
         (file_told (F.kept outputs.old.features) (F.has_failed outputs.old.features)))
@@ -141,17 +141,8 @@ pub fn drive<R: Source, W: Sink, N: Watcher, S: Steering, F: TextFile, O: Sink>(
         (R.has_failed ports.old.source) (R.has_failed ports.new.source)
         (W.has_failed ports.old.sink) (W.has_failed ports.new.sink)) }
 {
-    let mut client = client;
-    let end = turned(
-        alloc,
-        &mut client,
-        ports,
-        watcher,
-        steering,
-        &mut outputs.features,
-    );
-    drop(client);
-    let (driven, text) = end?;
+    let file = &mut outputs.features;
+    let (driven, text) = turned(alloc, client, ports, watcher, steering, file)?;
     write_text(&mut outputs.report, text.as_slice())?;
     Ok(driven)
 }

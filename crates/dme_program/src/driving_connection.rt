@@ -8,10 +8,10 @@ use crate::connecting::of_output;
 use crate::explaining::refused;
 use crate::faults::Fault;
 use crate::files::Sources;
-use crate::growing_files::{FeaturesFile, ReportedContacts};
+use crate::growing_files::{FeaturesFile, LockedFile, ReportedContacts};
 use crate::keeping::{is_confirmed, tell_kept, tell_next};
 use crate::progress::Progress;
-use crate::recording::{Follower, OpenRecord, open_record, record_words};
+use crate::recording::{Follower, OpenRecord, RecordWords, open_record, record_words};
 use crate::refusals::Refusals;
 use crate::talking::{HeardPort, Log, SaidPort, Side, Talk};
 use crate::text_files::NamedFile;
@@ -27,7 +27,7 @@ use dme_orders::{
 use dme_words::Run;
 use dmis_program::Program;
 use link_world::{LoopFault, PumpFault};
-use program_review::touch_lines;
+use program_review::{TaskLine, task_lines};
 use record_keeping::{Beginning, Recorder};
 use std::alloc::{AllocError, Global};
 use std::cell::RefCell;
@@ -114,37 +114,33 @@ struct Call {
     window: u8,
     /// The file that the features are written to.
     features: Option<String>,
+    /// Which record is kept, if any.
+    record: Option<RecordWords>,
     /// The file that the contacts which the server reports are written to.
     contacts: Option<String>,
     progress: bool,
     /// Whether the lines of the connection are shown.
     trace: bool,
-    /// Where they are added, if anywhere.
-    log: Option<Log>,
+    /// The file that they are added to, if one is named.
+    log: Option<String>,
     /// How many seconds it may take to make the connection, if it is tried again and again.
     wait: Option<u32>,
     /// Whether the run waits for a confirmation before it connects.
     confirm: bool,
-    /// The lines of the program's touches.
-    lines: Vec<u64>,
-}
-
-/// What is known, for the errors of its server, of a client whose program has touches on these lines.
-fn still_wanted(alloc: Global, client: &Client, lines: &[u64]) -> Result<Refusals, AllocError> {
-    let wanted = client.program().features();
-    let held = client.features().len().min(wanted.len());
-    Refusals::new(alloc, &wanted[held..], lines)
+    /// What the program asks for, with the lines.
+    tasks: Vec<TaskLine>,
 }
 
 /// What is shown of the lines of a client's connection of this number, and of its server's errors.
-fn talk_of<'a, R: AllocGlobal>(
+fn talk_of<'a, R: Files<File = File> + Eprint + AllocGlobal>(
     rt: &'a R,
     client: &Client,
     number: u64,
     call: &mut Call,
 ) -> Result<RefCell<Talk<'a, R>>, AllocError> {
-    let wanted = still_wanted(rt.alloc(), client, call.lines.as_slice())?;
-    let mut talk = Talk::new(rt, call.trace, call.log.take());
+    let wanted = Refusals::new(rt.alloc(), client, call.tasks.as_slice())?;
+    let log = Log::named(rt, call.log.take());
+    let mut talk = Talk::new(rt, call.trace, log);
     talk.begin(number);
     talk.tell_errors(wanted);
     Ok(RefCell::new(talk))
@@ -159,7 +155,7 @@ fn confirm<R: Input + Eprint + AllocGlobal>(
     if client.features().is_empty() && !call.confirm {
         return Ok(());
     }
-    tell_next(rt, client, call.lines.as_slice())?;
+    tell_next(rt, client, call.tasks.as_slice())?;
     if call.confirm && !is_confirmed(rt) {
         return Err(Fault::NotConfirmed);
     }
@@ -167,7 +163,7 @@ fn confirm<R: Input + Eprint + AllocGlobal>(
 }
 
 /// What a client needs before it connects: the confirmation, if it is asked for, and what is shown of the lines of its connection.
-fn prepare<'a, R: Input + Eprint + AllocGlobal>(
+fn prepare<'a, R: Files<File = File> + Input + Eprint + AllocGlobal>(
     rt: &'a R,
     client: &Client,
     number: u64,
@@ -180,7 +176,7 @@ fn prepare<'a, R: Input + Eprint + AllocGlobal>(
 /// A client that has come to its connection takes its turns over a stream, whose lines go by.
 fn drive_stream<R: Files + Eprint + Clock + AllocGlobal, F: TextFile, O: Sink>(
     rt: &R,
-    client: Client,
+    client: &mut Client,
     (stream, patience): (&TcpStream, &Patience<'_, R>),
     follower: &mut Follower<'_, '_, R>,
     outputs: &mut RunOutputs<F, O>,
@@ -269,12 +265,12 @@ fn drive_client<
         + AllocGlobal,
 >(
     rt: &R,
-    client: Client,
+    client: &mut Client,
     before: (u64, &ServerLedger),
     limited: (Call, &Patience<'_, R>),
     follower: &mut Follower<'_, '_, R>,
 ) -> Result<u8, Fault>
-    requires { may_connect before.0 client.client ≡ true }
+    requires { may_connect before.0 client.old.client ≡ true }
 {
     let (call, patience) = limited;
     let features = NamedFile::new(rt, call.features.as_deref())?;
@@ -282,8 +278,7 @@ fn drive_client<
         features,
         report: Writing::new(io::writer(rt)),
     };
-    let mut client = client;
-    let stream = match reach_server(rt, &mut client, before, (&call, patience), follower)? {
+    let stream = match reach_server(rt, client, before, (&call, patience), follower)? {
         Called::Connected(stream) => stream,
         Called::Stopped => return Ok(patience.not_begun()),
     };
@@ -295,7 +290,37 @@ fn drive_client<
     }
 }
 
-/// A program on a server, and its report on standard output.
+/// A client that is made runs its program on a server, followed by its record, if there is one; its report is written on standard output.
+/// `before` is the number of its connection, and what servers reported before it.
+fn drive_made<
+    R: Files<File = File>
+        + Input
+        + Print
+        + Eprint
+        + Clock
+        + Net<Listener = TcpListener, Stream = TcpStream>
+        + AllocGlobal,
+>(
+    rt: &R,
+    client: &mut Client,
+    before: (u64, &ServerLedger),
+    record: Option<(String, Recorder<LockedFile>)>,
+    limited: (Call, &Patience<'_, R>),
+) -> Result<u8, Fault>
+    requires { may_connect before.0 client.old.client ≡ true }
+{
+    let (number, _) = before;
+    let (call, patience) = limited;
+    let mut call = call;
+    let talk = prepare(rt, client, number, &mut call)?;
+    let progress = Progress::new(rt, call.progress, client.program().features().len());
+    let mut follower = Follower::new(rt, progress, &talk, number, record);
+    let verdict = drive_client(rt, client, before, (call, patience), &mut follower);
+    let unwritten = follower.finish()?;
+    with_both_unwritten(rt, verdict, unwritten)
+}
+
+/// A program on a server, without a record.
 fn drive_program<
     R: Files<File = File>
         + Input
@@ -313,9 +338,7 @@ fn drive_program<
 ) -> Result<u8, Fault>
     requires { is_window call.window ≡ true }
 {
-    let mut call = call;
-    let progress = Progress::new(rt, call.progress, program.features().len());
-    let client = kept_client(rt.alloc(), program, kept, call.window)?;
+    let mut client = kept_client(rt.alloc(), program, kept, call.window)?;
     if let Some(name) = &call.features {
         tell_kept(
             rt,
@@ -324,12 +347,8 @@ fn drive_program<
             client.program().features(),
         );
     }
-    let talk = prepare(rt, &client, 1, &mut call)?;
-    let mut follower = Follower::new(rt, progress, &talk, 1, None);
     let told = ServerLedger::new(rt.alloc());
-    let verdict = drive_client(rt, client, (1, &told), (call, patience), &mut follower);
-    let unwritten = follower.finish()?;
-    with_both_unwritten(rt, verdict, unwritten)
+    drive_made(rt, &mut client, (1, &told), None, (call, patience))
 }
 
 /// Likewise, with a record of it. A record in which the last connection has the greatest possible number cannot be written.
@@ -350,8 +369,6 @@ fn drive_recorded<
 ) -> Result<u8, Fault>
     requires { is_window call.window ≡ true }
 {
-    let mut call = call;
-    let progress = Progress::new(rt, call.progress, program.features().len());
     let OpenRecord {
         name,
         beginning,
@@ -368,13 +385,91 @@ fn drive_recorded<
         return Err(Fault::Order(OrderFault::CannotWrite(name)));
     }
     let recorder = Recorder::new(connection, features.list().len(), text, file);
-    let client = kept_client(rt.alloc(), program, features, call.window)?;
-    let talk = prepare(rt, &client, connection, &mut call)?;
-    let mut follower = Follower::new(rt, progress, &talk, connection, Some((name, recorder)));
-    let before = (connection, &told);
-    let verdict = drive_client(rt, client, before, (call, patience), &mut follower);
-    let unwritten = follower.finish()?;
-    with_both_unwritten(rt, verdict, unwritten)
+    let mut client = kept_client(rt.alloc(), program, features, call.window)?;
+    let record = Some((name, recorder));
+    drive_made(
+        rt,
+        &mut client,
+        (connection, &told),
+        record,
+        (call, patience),
+    )
+}
+
+/// What a run has read.
+#[derive(Drop)]
+struct RunInput {
+    kept: FeatureLedger,
+    program: Program,
+    /// The name of the features file, empty if none is named.
+    features: String,
+    /// The lines of the program that commands carry out.
+    tasks: Vec<TaskLine>,
+}
+
+/// The files that a run reads, by name.
+#[derive(Drop)]
+struct RunNames {
+    setup: String,
+    features: Option<String>,
+    program: String,
+}
+
+/// Reads what a run needs, and reports what its setup lacks. The features file is read if there is such a file, and never from standard
+/// input.
+fn read_run<R: Files + Input + Eprint + AllocGlobal>(
+    rt: &R,
+    sources: &mut Sources<'_, R>,
+    names: RunNames,
+    is_explained: bool,
+) -> Result<RunInput, Fault> {
+    let mut setup = sources.file(names.setup).keeping();
+    let mut features = sources.kept(names.features);
+    let mut program = sources.file(names.program).keeping();
+    let read = features_and_program(rt.alloc(), &mut setup, &mut features, &mut program);
+    let mut files = InputFiles::unnamed(rt.alloc());
+    files.setup = setup.into_file();
+    files.features = features.into_file();
+    files.program = program.into_file();
+    let (kept, program) = match read {
+        Ok(read) => read,
+        Err(fault) => return Err(refused(rt.alloc(), fault, files, is_explained)),
+    };
+    warn(rt, &files.setup, &files.program)?;
+    let tasks = task_lines(rt.alloc(), files.program.text.as_slice())?;
+    Ok(RunInput {
+        kept,
+        program,
+        features: files.features.name,
+        tasks,
+    })
+}
+
+/// A run that has read what it needs, on a server.
+fn drive_read<
+    R: Files<File = File>
+        + Input
+        + Print
+        + Eprint
+        + Clock
+        + Net<Listener = TcpListener, Stream = TcpStream>
+        + AllocGlobal,
+>(
+    rt: &R,
+    sources: &mut Sources<'_, R>,
+    read: (FeatureLedger, Program),
+    call: Call,
+    patience: &Patience<'_, R>,
+) -> Result<u8, Fault>
+    requires { is_window call.window ≡ true }
+{
+    let (kept, program) = read;
+    let mut call = call;
+    let Some(words) = call.record.take() else {
+        return drive_program(rt, kept, program, call, patience);
+    };
+    let open = open_record(rt, sources, words, &program, &kept)?;
+    drive_recorded(rt, open, program, call, patience)
 }
 
 /// The order `run`: its exit status. Its features file and its record are read if there are such files, and never from standard input.
@@ -391,50 +486,38 @@ pub fn run_program<
 {
     let timeout = seconds_of("timeout", order.timeout)?;
     let wait = seconds_of("wait", order.wait)?;
-    let words = record_words(
+    let record = record_words(
         order.record,
         order.part,
         order.features.as_deref(),
         order.explain,
     )?;
     let is_kept = order.features.is_some();
-    let mut sources = Sources::new(rt, order.explain);
-    let mut setup = sources.file(order.setup).keeping();
-    let mut features = sources.kept(order.features);
-    let mut program = sources.file(order.program).keeping();
-    let read = features_and_program(rt.alloc(), &mut setup, &mut features, &mut program);
-    let mut files = InputFiles::unnamed(rt.alloc());
-    files.setup = setup.into_file();
-    files.features = features.into_file();
-    files.program = program.into_file();
-    let (kept, program) = match read {
-        Ok(read) => read,
-        Err(fault) => return Err(refused(rt.alloc(), fault, files, order.explain)),
+    let names = RunNames {
+        setup: order.setup,
+        features: order.features,
+        program: order.program,
     };
-    warn(rt, &files.setup, &files.program)?;
+    let mut sources = Sources::new(rt, order.explain);
+    let input = read_run(rt, &mut sources, names, order.explain)?;
     let patience = Patience::new(rt, timeout, order.stop);
     if patience.is_stopped() {
         return Ok(patience.not_begun());
     }
-    let lines = touch_lines(rt.alloc(), files.program.text.as_slice())?;
-    let features = files.features;
-    let log = Log::named(rt, order.log);
     let call = Call {
         host: order.host,
         port: order.port,
         window: order.window,
-        features: if is_kept { Some(features.name) } else { None },
+        features: if is_kept { Some(input.features) } else { None },
+        record,
         contacts: order.contacts,
         progress: order.progress,
         trace: order.trace,
-        log,
+        log: order.log,
         wait,
         confirm: order.confirm,
-        lines,
+        tasks: input.tasks,
     };
-    let Some(words) = words else {
-        return drive_program(rt, kept, program, call, &patience);
-    };
-    let open = open_record(rt, &mut sources, words, &program, &kept)?;
-    drive_recorded(rt, open, program, call, &patience)
+    let read = (input.kept, input.program);
+    drive_read(rt, &mut sources, read, call, &patience)
 }

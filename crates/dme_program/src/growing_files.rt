@@ -133,6 +133,10 @@ impl NextFile {
 }
 
 impl GrowingFile for LockedFile {
+    ghost use Rattle.std.specs.Prelude.{None};
+
+    ghost kept = { λ _. None };
+
     ghost has_failed = { λ f. f.has_failed };
 
     fn append(&mut self, bytes: &[u8], settled: bool) -> Result<(), Failed> {

@@ -5,6 +5,7 @@ use contact_ledger::Feature;
 use dme_orders::{OrderFault, first_lines};
 use dmis_program::{Touch, Wanted};
 use fixed_um::Frame;
+use program_review::{Task, TaskLine};
 use std::io::{self, Read};
 
 /// The frame of the last of touches.
@@ -61,8 +62,8 @@ pub fn tell_kept<R: Eprint>(rt: &R, name: &str, features: &[Feature], wanted: &[
     }
 }
 
-/// How many touches features have.
-fn touches_of(wanted: &[Wanted]) -> usize {
+/// How many touches these features have.
+pub fn touches_of(wanted: &[Wanted]) -> usize {
     let mut count: usize = 0;
     for feature in wanted {
         count = count.saturating_add(feature.touches.as_slice().len());
@@ -70,19 +71,33 @@ fn touches_of(wanted: &[Wanted]) -> usize {
     count
 }
 
-/// Reports the first feature that is still to be measured, with the line of its first touch, if that is known.
-fn tell_next_feature<R: Eprint>(rt: &R, wanted: &[Wanted], held: usize, lines: &[u64]) {
+/// The line of the touch of a program with this number, from 0.
+fn touch_line(tasks: &[TaskLine], number: usize) -> Option<u64> {
+    let mut left = number;
+    for task in tasks {
+        if matches!(task.task, Task::Touch) {
+            if left == 0 {
+                return Some(task.line);
+            }
+            left -= 1;
+        }
+    }
+    None
+}
+
+/// Reports the first feature that is still to be measured, and its first touch, with that one's line, if it is known.
+fn tell_next_feature<R: Eprint>(rt: &R, wanted: &[Wanted], held: usize, tasks: &[TaskLine]) {
     let Some(next) = wanted.get(held) else {
         let _ = eprintln!(rt; "dme: no feature is left to be measured");
         return;
     };
     let label = &next.label;
-    match lines.get(touches_of(&wanted[..held])) {
+    match touch_line(tasks, touches_of(&wanted[..held])) {
         Some(line) => {
-            let _ = eprintln!(rt; "dme: next is feature {label}, line {line}");
+            let _ = eprintln!(rt; "dme: next is feature {label}, touch 1, line {line}");
         }
         None => {
-            let _ = eprintln!(rt; "dme: next is feature {label}");
+            let _ = eprintln!(rt; "dme: next is feature {label}, touch 1");
         }
     }
 }
@@ -92,11 +107,11 @@ fn tell_next_feature<R: Eprint>(rt: &R, wanted: &[Wanted], held: usize, lines: &
 pub fn tell_next<R: Eprint + AllocGlobal>(
     rt: &R,
     client: &Client,
-    lines: &[u64],
+    tasks: &[TaskLine],
 ) -> Result<(), OrderFault> {
     let wanted = client.program().features();
     let held = client.features().len().min(wanted.len());
-    tell_next_feature(rt, wanted, held, lines);
+    tell_next_feature(rt, wanted, held, tasks);
     let text = first_lines(rt.alloc(), client.program(), held)?;
     let _ = eprintln!(rt; "dme: it begins from where the probe stands, with");
     for line in text.as_slice().split(|byte| *byte == b'\n') {

@@ -1,19 +1,21 @@
 // What is reported of the errors of a server: the command that each is about, with its line in the program, its feature and its touch, and
 // the error's text.
 
+use crate::keeping::touches_of;
+use client_core::Client;
 use dme_line::{Kind, Tag};
-use dmis_program::Wanted;
-use session_telling::{Dialogue, Report, Sent, place_of, visible};
+use program_review::{TaskLine, command_lines};
+use session_telling::{Dialogue, Report, Sent, line_of, place_of, visible};
 use std::alloc::{AllocError, Global};
 
 /// What is known of a connection when an error comes: the commands that were sent, and the features that were still to be measured, with
-/// their labels, how many touches each has, and the lines of these touches in the program.
+/// their labels, how many touches each has, and the line of each command that carries out a statement of the program.
 #[derive(Drop)]
 pub struct Refusals {
     dialogue: Dialogue,
     labels: Vec<String>,
     touches: Vec<usize>,
-    lines: Vec<u64>,
+    lines: Vec<Option<u64>>,
     /// The errors that were reported since they were taken last, each from its tag on.
     errors: Vec<Vec<u8>>,
 }
@@ -30,24 +32,22 @@ fn from_tag(alloc: Global, report: &Report) -> Result<Vec<u8>, AllocError> {
 }
 
 impl Refusals {
-    /// For a connection on which these features are still to be measured, which are the last of a program with touches on these lines.
-    pub fn new(alloc: Global, wanted: &[Wanted], lines: &[u64]) -> Result<Refusals, AllocError> {
+    /// For a connection to which this client comes, whose program has these tasks.
+    pub fn new(alloc: Global, client: &Client, tasks: &[TaskLine]) -> Result<Refusals, AllocError> {
+        let all = client.program().features();
+        let (kept, wanted) = all.split_at(client.features().len().min(all.len()));
         let mut labels = Vec::new(alloc);
         let mut touches = Vec::new(alloc);
-        let mut count: usize = 0;
         for feature in wanted {
             let label = &feature.label;
             labels.push(format!(in alloc; "{label}")?)?;
-            let size = feature.touches.as_slice().len();
-            touches.push(size)?;
-            count = count.saturating_add(size);
+            touches.push(feature.touches.as_slice().len())?;
         }
-        let (_, lines) = lines.split_at(lines.len() - count.min(lines.len()));
         Ok(Refusals {
             dialogue: Dialogue::new(alloc),
             labels,
             touches,
-            lines: Vec::from_slice(alloc, lines)?,
+            lines: command_lines(alloc, tasks, touches_of(kept))?,
             errors: Vec::new(alloc),
         })
     }
@@ -57,7 +57,7 @@ impl Refusals {
         self.dialogue.send(alloc, bytes)
     }
 
-    /// Reports the line, the feature and the touch that a command is, if it is a touch of one that was still to be measured.
+    /// Reports the feature and the touch that a command is, if it is a touch of one that was still to be measured.
     fn tell_touch<R: Eprint>(&self, rt: &R, sent: Sent) {
         if sent.kind != Kind::PtMeas {
             return;
@@ -68,11 +68,8 @@ impl Refusals {
         let Some((at, touch)) = place_of(self.touches.as_slice(), number) else {
             return;
         };
-        if let Some(line) = self.lines.get(number.saturating_sub(1)) {
-            let _ = eprint!(rt; "line {line}, ");
-        }
         if let Some(label) = self.labels.get(at) {
-            let _ = eprint!(rt; "{label}, touch {touch}: ");
+            let _ = eprint!(rt; ", {label}, touch {touch}");
         }
     }
 
@@ -84,7 +81,11 @@ impl Refusals {
         };
         let kind = sent.kind;
         let _ = eprint!(rt; "dme: ");
-        self.tell_touch(rt, sent);
+        if let Some(line) = line_of(self.lines.as_slice(), sent) {
+            let _ = eprint!(rt; "line {line}");
+            self.tell_touch(rt, sent);
+            let _ = eprint!(rt; ": ");
+        }
         let _ = eprint!(rt; "{kind:?} refused: ");
     }
 

@@ -243,24 +243,37 @@ impl<'a, 'b, R: Files + Clock> Steering for StopFile<'a, 'b, R> {
     }
 }
 
-/// A connection as a source, which gives one line at a time: so the line that ends a connection is the last that was given. It has failed
-/// if nothing has come for too long. A stop file, if that is looked for, is its end.
+/// A connection as a source. It has failed if nothing has come for too long.
+///
+/// That of a client gives one line at a time: so the line that ends a connection is the last that was given. That of a server gives all that
+/// has come, so that a command can wait for those before it; a stop file is its end.
 #[derive(Drop)]
 pub struct PatientSource<'a, 'b, R> {
     stream: &'a TcpStream,
     patience: &'a Patience<'b, R>,
-    ends_at_stop: bool,
+    is_server: bool,
     has_failed: bool,
 }
 
 impl<'a, 'b, R> PatientSource<'a, 'b, R> {
-    pub fn new(stream: &'a TcpStream, patience: &'a Patience<'b, R>, ends_at_stop: bool) -> Self {
+    pub fn new(stream: &'a TcpStream, patience: &'a Patience<'b, R>, is_server: bool) -> Self {
         PatientSource {
             stream,
             patience,
-            ends_at_stop,
+            is_server,
             has_failed: false,
         }
+    }
+
+    /// Reads what has come: the first line of it, or all if this is a server's.
+    fn read(&self, buf: &mut [u8]) -> io::Result<usize>
+        ensures { IfOk result (λ n. n ≤ length buf.new) }
+    {
+        if self.is_server {
+            let mut stream = self.stream;
+            return stream.read(buf);
+        }
+        read_line(self.stream, buf)
     }
 }
 
@@ -288,7 +301,7 @@ impl<'a, 'b, R: Files + Clock> Source for PatientSource<'a, 'b, R> {
         if self.has_failed {
             return Err(Failed);
         }
-        match self.patience.wait(self.stream, self.ends_at_stop) {
+        match self.patience.wait(self.stream, self.is_server) {
             Waited::Ready => {}
             Waited::Stopped => return Ok(0),
             Waited::Lapsed => {
@@ -297,7 +310,7 @@ impl<'a, 'b, R: Files + Clock> Source for PatientSource<'a, 'b, R> {
                 return Err(Failed);
             }
         }
-        match read_line(self.stream, buf) {
+        match self.read(buf) {
             Ok(count) => {
                 self.patience.begin();
                 Ok(count)

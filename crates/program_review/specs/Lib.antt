@@ -1,4 +1,5 @@
-pub mod TouchLines
+pub mod TaskLines
+pub mod BlockLines
 pub mod Refusals
 pub mod Notices
 pub mod UnderSetup

@@ -1,2 +1,3 @@
+pub mod GrowthLemmas
 pub mod Sounds
 pub mod WholeTexts

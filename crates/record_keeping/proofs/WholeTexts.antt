@@ -4,7 +4,7 @@ use Rattle.std.proofs.Common.{refl, ap, sym, subst, ◌∙◌, arith, inl, inr, 
 use Rattle.std.specs.List.{list_all}
 use Rattle.std.proofs.lemmas.Bool.{ne_eqb}
 use Rattle.std.proofs.lemmas.List.{take-append-drop, take_more, drop_all}
-use Rattle.record_keeping.specs.Beginnings.{AreWhole, EndsLine}
+use Rattle.record_keeping.specs.Beginnings.{AreWhole}
 
 -- no line feed
 pub record HasNone (torn : List ℕ) : Type 0 where

@@ -3,10 +3,12 @@
 //!
 //! - `opening`: what a record's text gives a run to continue from, or why the run may not continue it
 //! - `growing`: files that grow
+//! - `growth`: the text of a record that grows
 //! - `recorder`: appends what a client has counted
 #![tactic(auto)]
 
 mod growing;
+mod growth;
 mod opening;
 mod recorder;
 

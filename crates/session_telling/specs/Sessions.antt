@@ -1,12 +1,12 @@
 -- What a client sent on a connection, and what its server's errors are about.
-use Rattle.std.specs.Prelude.{◌≡◌, ℕ, ◌+◌, ◌-◌, ◌^◌, min, cond, List, [], ◌∷◌, ◌++◌, Option, Result, Ok, Err, find, length, reverse, slice_get}
+use Rattle.std.specs.Prelude.{◌≡◌, ℕ, Bool, true, false, if◌then◌else◌, ◌+◌, ◌-◌, ◌^◌, min, cond, List, [], ◌∷◌, ◌++◌, Option, Result, Ok, Err, find, length, reverse, slice_get}
 use Rattle.std.specs.Option.{option_map_or}
 use Rattle.dme_line.specs.Kinds.{kind_of}
 use Rattle.dme_line.specs.CommandText.{ReadsCommand}
 use Rattle.dme_line.specs.Responses.{IsResponseLine}
 use Rattle.dme_line.specs.declared.commands.Command.{Command}
 use Rattle.dme_line.specs.declared.commands.Kind.{Kind}
-use Rattle.dme_line.specs.declared.commands.Kind.TheVariants.{PtMeas}
+use Rattle.dme_line.specs.declared.commands.Kind.TheVariants.{GoTo, PtMeas, ChangeTool, SetCsyTransformation, SetCoordSystem}
 use Rattle.dme_line.specs.declared.reading.LineFault.{LineFault}
 use Rattle.dme_line.specs.declared.responses.Mark.TheVariants.{Error}
 use Rattle.dme_line.specs.declared.tags.Tag.{Tag}
@@ -22,9 +22,27 @@ abbrev pub touches_with : ℕ → Kind → ℕ
 touches_with count PtMeas = min (count + 1) (2 ^ 64 - 1)
 touches_with count _ = count
 
+-- whether a command of this kind carries out a statement of a program: a move, a touch, or the selection of a tool or a frame
+abbrev pub is_task : Kind → Bool
+is_task GoTo = true
+is_task PtMeas = true
+is_task ChangeTool = true
+is_task SetCsyTransformation = true
+is_task SetCoordSystem = true
+is_task _ = false
+
+-- how many such commands were sent, as far as 64 bits count them
+abbrev pub tasks_of : List Sent → ℕ
+tasks_of sent = option_map_or (λ s. s.tasks) (slice_get sent (length sent - 1)) 0
+
+-- one more for such a command
+abbrev pub tasks_with : ℕ → Kind → ℕ
+tasks_with count kind = if is_task kind then min (count + 1) (2 ^ 64 - 1) else count
+
 -- the commands with one more
 abbrev pub with_command : List Sent → Tag → Kind → List Sent
-with_command sent tag kind = sent ++ record { tag = tag; kind = kind; touches = touches_with (touches_of sent) kind } ∷ []
+with_command sent tag kind =
+    sent ++ record { tag = tag; kind = kind; touches = touches_with (touches_of sent) kind; tasks = tasks_with (tasks_of sent) kind } ∷ []
 
 -- the commands after a line of the client: one more if the line is a command
 abbrev pub after_line : List Sent → Result (Tag × Command) LineFault → List Sent

@@ -1,7 +1,8 @@
 // The commands that were sent on a connection, and the errors that are about them.
 
 ghost use Rattle.std.specs.Prelude.{◌≡◌, ◌-◌, ◌^◌, ◌+◌, min, [], OnOk, OnErr, IfOk, MatchOption, option_copied};
-ghost use Rattle.session_telling.specs.Sessions.{touches_of, touches_with, with_command, last_under, Adds, Reports, ReportsNothing};
+ghost use Rattle.session_telling.specs.Sessions.{is_task, touches_of, touches_with, tasks_of, tasks_with, with_command, last_under};
+ghost use Rattle.session_telling.specs.Sessions.{Adds, Reports, ReportsNothing};
 
 use dme_line::{Kind, MarkSlice, Tag, cut_response, read_command};
 use std::alloc::{AllocError, Global};
@@ -14,6 +15,8 @@ pub struct Sent {
     pub kind: Kind,
     /// How many touches were sent on its connection, this command among them.
     pub touches: u64,
+    /// Likewise, how many commands by which statements of a program are carried out (`is_task`).
+    pub tasks: u64,
 }
 
 /// A server's error.
@@ -40,6 +43,30 @@ impl Model for Session {
     ghost Value = { List Sent };
 
     ghost view = { λ s. s.sent.items };
+}
+
+/// Whether a command of this kind carries out a statement of a program: a move, a touch, or the selection of a tool or a frame.
+pub fn is_task(kind: Kind) -> bool
+    ensures { result ≡ is_task kind }
+{
+    matches!(
+        kind,
+        Kind::GoTo
+            | Kind::PtMeas
+            | Kind::ChangeTool
+            | Kind::SetCsyTransformation
+            | Kind::SetCoordSystem
+    )
+}
+
+/// One more for a command that carries out a statement.
+fn tasks_with(count: u64, kind: Kind) -> u64
+    ensures { result ≡ tasks_with count kind }
+{
+    if is_task(kind) {
+        return count.saturating_add(1);
+    }
+    count
 }
 
 /// One more for a touch.
@@ -72,13 +99,30 @@ impl Session {
         }
     }
 
+    /// How many commands that carry out statements were sent.
+    fn tasks(&self) -> u64
+        ensures { result ≡ tasks_of self.now }
+    {
+        match self.sent.last() {
+            Some(sent) => sent.tasks,
+            None => 0,
+        }
+    }
+
     /// A command was sent.
     fn add(&mut self, tag: Tag, kind: Kind) -> Result<(), AllocError>
         ensures ok { OnOk result (self.new ≡ with_command self.old tag kind) }
         ensures err { OnErr result (self.new ≡ self.old) }
     {
         let touches = touches_with(self.touches(), kind);
-        self.sent.push(Sent { tag, kind, touches })?;
+        let tasks = tasks_with(self.tasks(), kind);
+        let sent = Sent {
+            tag,
+            kind,
+            touches,
+            tasks,
+        };
+        self.sent.push(sent)?;
         Ok(())
     }
 

@@ -104,7 +104,7 @@ connected_here told n c may h =
       here = λ on. acts_none c.last n told h.up_to above;
     }
 
-done_here : (told : List (ℕ × Act)) (call : Call) (e : ClientEnd) → possible call e ≡ true → IsHere told (view e.client)
+pub done_here : (told : List (ℕ × Act)) (call : Call) (e : ClientEnd) → possible call e ≡ true → IsHere told (view e.client)
     → HereTo told (view e.client) (view (done_by call e).client)
 done_here told (Connected n) e may h =
     with_none (λ (l : List (ℕ × Act)). IsHere l (view (client_connected n e.client))) told
@@ -146,7 +146,7 @@ calls_here told (call ∷ calls) e h =
     (append_assoc told (told_by call e) (told_behind calls (behind_call call e)))
     (calls_here (told ++ told_by call e) calls (behind_call call e) (call_here told call e h))
 
-new_here : (p : Meaning) (kept : List Feature) (window : ℕ) → IsHere [] (view (new_client_end p kept window).client)
+pub new_here : (p : Meaning) (kept : List Feature) (window : ℕ) → IsHere [] (view (new_client_end p kept window).client)
 new_here p kept window = here_off [] (view (new_client_end p kept window).client) tt refl
 
 -- after every list of calls, from any program and any features
@@ -308,7 +308,7 @@ pub record IsTold (p : Meaning) (acts : List (ℕ × Act)) (c : Client) : Type 0
   pub same : c.program ≡ p
   pub tells : Tells acts (view c)
 
-is_told : (p : Meaning) (kept : List Feature) (window : ℕ) (calls : List Call) (earlier : List (ℕ × Act)) → IsProgram p
+pub is_told : (p : Meaning) (kept : List Feature) (window : ℕ) (calls : List Call) (earlier : List (ℕ × Act)) → IsProgram p
     → Sound p.features kept earlier
     → IsTold p (earlier ++ told_behind calls (new_client_end p kept window)) (client_behind calls p kept window)
 is_told p kept window calls earlier program sound =

@@ -1,0 +1,11 @@
+use Rattle.std.proofs.Common.{◌≡◌, ◌++◌, length}
+use Rattle.dmis_text.specs.Reading.{text_reading}
+use Rattle.program_review.specs.TaskLines.{task_lines_of}
+use Rattle.program_review.proofs.tasks.task_lines.Given as goal
+
+-- the tasks so far, and those of what is left
+abbrev pub invariant-loop-statement : goal.invariant-loop-statement
+invariant-loop-statement l = l.tasks.items ++ task_lines_of l.statements.left ≡ task_lines_of (text_reading l.bytes).statements
+
+abbrev pub decreases-loop-statement : goal.decreases-loop-statement
+decreases-loop-statement l = length l.statements.left

@@ -1,0 +1,162 @@
+// The statements that a client carries out by commands, and their lines.
+
+ghost use Rattle.std.specs.Prelude.{◌≡◌, ◌++◌, None, IfOk, OnOk};
+ghost use Rattle.std.specs.List.{flat_map};
+ghost use Rattle.dmis_text.specs.Reading.{text_reading};
+ghost use Rattle.program_review.specs.TaskLines.{task_lines_of, command_lines_of, lines_of, tool_with, frame_with, touches_left};
+ghost use Rattle.program_review.specs.TaskLines.{tool_line, frame_line, up_to_touch, after_touch, tool_again, frame_again};
+
+use dmis_program::{Keyword, keyword_of_word};
+use dmis_text::{Statements, TextFault};
+use std::alloc::{AllocError, Global};
+
+/// What a statement asks a client to do by commands (ISO 22093).
+#[derive(Clone, Copy, Debug)]
+pub enum Task {
+    /// A move (`GOTO`).
+    Move,
+    /// A touch (`PTMEAS`).
+    Touch,
+    /// A tool is selected (`SNSLCT`).
+    Tool,
+    /// A frame is selected (`RECALL`).
+    Frame,
+}
+
+/// A task, and the line on which its statement begins.
+#[derive(Clone, Copy, Debug)]
+pub struct TaskLine {
+    pub task: Task,
+    pub line: u64,
+}
+
+/// The tasks of a program, in order: of an accepted program each is one step, and no step but the begin and the end of a block is left out.
+/// Nothing is read after `ENDFIL`, nor after a line that cannot be read. Fails only if out of memory.
+pub fn task_lines(alloc: Global, bytes: &[u8]) -> Result<Vec<TaskLine>, AllocError>
+    ensures { IfOk result (λ tasks.
+        tasks.items ≡ task_lines_of (text_reading bytes.now).statements) }
+{
+    let mut statements = Statements::new(alloc, bytes);
+    let mut tasks = Vec::new(alloc);
+    loop {
+        let statement = match statements.next() {
+            Ok(Some(statement)) => statement,
+            Ok(None) => return Ok(tasks),
+            Err(TextFault::Memory) => return Err(AllocError),
+            Err(TextFault::LineTooLong(_) | TextFault::BadByte(_)) => return Ok(tasks),
+        };
+        let line = statement.line;
+        match keyword_of_word(&statement.word) {
+            Keyword::Goto => tasks.push(TaskLine {
+                task: Task::Move,
+                line,
+            })?,
+            Keyword::Ptmeas => tasks.push(TaskLine {
+                task: Task::Touch,
+                line,
+            })?,
+            Keyword::Snslct => tasks.push(TaskLine {
+                task: Task::Tool,
+                line,
+            })?,
+            Keyword::Recall => tasks.push(TaskLine {
+                task: Task::Frame,
+                line,
+            })?,
+            Keyword::Endfil => return Ok(tasks),
+            _ => {}
+        }
+        statements.take_back(statement);
+    }
+}
+
+/// Tasks that are left, and the lines of the tool and of the frame that are selected before them.
+#[derive(Drop)]
+struct Left<'a> {
+    tool: Option<u64>,
+    frame: Option<u64>,
+    tasks: &'a [TaskLine],
+}
+
+/// What is left after the touch of this number. Does not allocate.
+fn left_after(tasks: &[TaskLine], touches: usize) -> Left<'_>
+    ensures tool { result.tool ≡ tool_line None (up_to_touch touches tasks.now) }
+    ensures frame { result.frame ≡ frame_line None (up_to_touch touches tasks.now) }
+    ensures tasks { result.tasks.now ≡ after_touch touches tasks.now }
+{
+    let mut tool = None;
+    let mut frame = None;
+    let mut rest = tasks;
+    let mut left = touches;
+    while left > 0 {
+        let Some((first, after)) = rest.split_first() else {
+            break;
+        };
+        match first.task {
+            Task::Touch => left -= 1,
+            Task::Tool => tool = Some(first.line),
+            Task::Frame => frame = Some(first.line),
+            Task::Move => {}
+        }
+        rest = after;
+    }
+    Left {
+        tool,
+        frame,
+        tasks: rest,
+    }
+}
+
+/// Adds the lines of the commands that a task takes.
+fn push_lines(lines: &mut Vec<Option<u64>>, task: TaskLine) -> Result<(), AllocError>
+    ensures { OnOk result (lines.new.items ≡ lines.old.items ++ lines_of task) }
+{
+    lines.push(Some(task.line))?;
+    match task.task {
+        Task::Frame => lines.push(Some(task.line))?,
+        Task::Move | Task::Touch | Task::Tool => {}
+    }
+    Ok(())
+}
+
+/// Adds the lines of the commands that select the tool and the frame of these lines again.
+fn push_again(
+    lines: &mut Vec<Option<u64>>,
+    tool: Option<u64>,
+    frame: Option<u64>,
+) -> Result<(), AllocError>
+    ensures { OnOk result (lines.new.items
+        ≡ lines.old.items ++ (tool_again tool ++ frame_again frame)) }
+{
+    if tool.is_some() {
+        lines.push(tool)?;
+    }
+    if frame.is_some() {
+        lines.push(frame)?;
+    }
+    lines.push(frame)?;
+    Ok(())
+}
+
+/// The line of each command by which a client carries out the statements of a program that has these tasks, once that many touches are
+/// done: a client's plan selects the tool and the frame again first. No line for the machine's own frame, which no statement selects. Fails
+/// only if out of memory.
+pub fn command_lines(
+    alloc: Global,
+    tasks: &[TaskLine],
+    touches: usize,
+) -> Result<Vec<Option<u64>>, AllocError>
+    ensures { IfOk result (λ lines. lines.items ≡ command_lines_of touches tasks.now) }
+{
+    let Left {
+        tool,
+        frame,
+        tasks: rest,
+    } = left_after(tasks, touches);
+    let mut lines = Vec::new(alloc);
+    push_again(&mut lines, tool, frame)?;
+    for task in rest {
+        push_lines(&mut lines, *task)?;
+    }
+    Ok(lines)
+}

@@ -1,0 +1,90 @@
+-- Entries of acts that are added in pieces, and entries that follow one another.
+use Rattle.std.proofs.Common.{◌≡◌, ℕ, List, [], ◌∷◌, ◌++◌, refl, ap, sym, ◌∙◌, subst, append_assoc, append-nil}
+use Rattle.contact_ledger.specs.declared.acts.Act.{Act}
+use Rattle.contact_ledger.specs.declared.features.Feature.{Feature}
+use Rattle.dmis_program.specs.declared.features.Wanted.{Wanted}
+use Rattle.run_record.specs.Records.{Kept, Follows, Follow, completed_feature}
+use Rattle.run_record.specs.Tellings.{Counted, counted, entries_of, counted_after}
+use Rattle.run_record.specs.declared.entries.Entry.{Entry}
+use Rattle.run_record.specs.declared.entries.Entry.TheVariants.{Told, Refused, Completed}
+
+-- ---- entries of acts
+
+pub entries_more : (ws : List Wanted) (n : ℕ) (c : Counted) (xs ys : List Act)
+    → entries_of ws n c (xs ++ ys) ≡ entries_of ws n c xs ++ entries_of ws n (counted_after ws n c xs) ys
+entries_more ws n c [] ys = refl
+entries_more ws n c (a ∷ xs) ys =
+    let more : List Entry = (counted ws n a c).1 in
+    let after : Counted = (counted ws n a c).0 in
+    ap (λ (l : List Entry). Told n a ∷ l)
+    (ap (λ (l : List Entry). more ++ l) (entries_more ws n after xs ys)
+    ∙ sym (append_assoc more (entries_of ws n after xs) (entries_of ws n (counted_after ws n after xs) ys)))
+
+pub after_more : (ws : List Wanted) (n : ℕ) (c : Counted) (xs ys : List Act)
+    → counted_after ws n c (xs ++ ys) ≡ counted_after ws n (counted_after ws n c xs) ys
+after_more ws n c [] ys = refl
+after_more ws n c (a ∷ xs) ys = after_more ws n (counted ws n a c).0 xs ys
+
+-- ---- entries that follow
+
+pub follow_more : (ws : List Wanted) (xs ys : List Entry) (a b c : Kept) → Follow ws a xs b → Follow ws b ys c → Follow ws a (xs ++ ys) c
+follow_more ws [] ys a b c f g = subst (λ (k : Kept). Follow ws k ys c) f g
+follow_more ws (x ∷ xs) ys a b c f g = (f.0, f.1, follow_more ws xs ys f.0 b c f.2 g)
+
+pub record Parts (ws : List Wanted) (xs ys : List Entry) (a c : Kept) : Type 0 where
+  pub mid : Kept
+  pub front : Follow ws a xs mid
+  pub behind : Follow ws mid ys c
+
+pub follow_parts : (ws : List Wanted) (xs ys : List Entry) (a c : Kept) → Follow ws a (xs ++ ys) c → Parts ws xs ys a c
+follow_parts ws [] ys a c f = record { mid = a; front = refl; behind = f }
+follow_parts ws (x ∷ xs) ys a c f =
+    let rest : Parts ws xs ys f.0 c = follow_parts ws xs ys f.0 c f.2 in
+    record { mid = rest.mid; front = (f.0, f.1, rest.front); behind = rest.behind }
+
+-- features and acts only grow
+pub record Grown (old new : Kept) : Type 0 where
+  pub features : List Feature
+  pub features_are : new.features ≡ old.features ++ features
+  pub acts : List (ℕ × Act)
+  pub acts_are : new.told ≡ old.told ++ acts
+
+one_grown : (ws : List Wanted) (old new : Kept) (e : Entry) → Follows ws old e new → Grown old new
+one_grown ws old new (Told n a) f = record {
+  features = [];
+  features_are = ap (λ (k : Kept). k.features) f.2 ∙ sym (append-nil old.features);
+  acts = (n, a) ∷ [];
+  acts_are = ap (λ (k : Kept). k.told) f.2;
+}
+one_grown ws old new (Refused n text) f = record {
+  features = [];
+  features_are = ap (λ (k : Kept). k.features) f.2 ∙ sym (append-nil old.features);
+  acts = [];
+  acts_are = ap (λ (k : Kept). k.told) f.2 ∙ sym (append-nil old.told);
+}
+one_grown ws old new (Completed n label) f =
+    let c = f.1 in
+    record {
+      features = completed_feature n c.wanted c.points ∷ [];
+      features_are = ap (λ (k : Kept). k.features) c.more;
+      acts = [];
+      acts_are = ap (λ (k : Kept). k.told) c.more ∙ sym (append-nil old.told);
+    }
+
+pub grown_more : (a b c : Kept) → Grown a b → Grown b c → Grown a c
+grown_more a b c f g = record {
+  features = f.features ++ g.features;
+  features_are = g.features_are ∙ (ap (λ (l : List Feature). l ++ g.features) f.features_are
+      ∙ append_assoc a.features f.features g.features);
+  acts = f.acts ++ g.acts;
+  acts_are = g.acts_are ∙ (ap (λ (l : List (ℕ × Act)). l ++ g.acts) f.acts_are ∙ append_assoc a.told f.acts g.acts);
+}
+
+pub follow_grown : (ws : List Wanted) (es : List Entry) (old new : Kept) → Follow ws old es new → Grown old new
+follow_grown ws [] old new f = record {
+  features = [];
+  features_are = ap (λ (k : Kept). k.features) f ∙ sym (append-nil old.features);
+  acts = [];
+  acts_are = ap (λ (k : Kept). k.told) f ∙ sym (append-nil old.told);
+}
+follow_grown ws (e ∷ es) old new f = grown_more old f.0 new (one_grown ws old f.0 e f.1) (follow_grown ws es f.0 new f.2)

@@ -1,0 +1,4 @@
+pub mod Examples
+pub mod Recordings
+pub mod Runs
+pub mod Worlds

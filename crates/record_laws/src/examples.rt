@@ -1,0 +1,50 @@
+// Examples: what is written for clients that are written out.
+
+ghost use Rattle.std.specs.Prelude.{◌≡◌, [], ◌∷◌, codes, map};
+ghost use Rattle.contact_ledger.specs.Lines.{text_of};
+ghost use Rattle.protocol_model.specs.World.{start};
+ghost use Rattle.protocol_model.specs.declared.events.Event.TheVariants.{ClientReads};
+ghost use Rattle.client_core.specs.Calls.{Connected, Resume, Leave, Restart};
+ghost use Rattle.run_record.specs.Entries.{entry_line};
+ghost use Rattle.run_record.specs.declared.entries.Entry.TheVariants.{Told, Refused, Completed};
+ghost use Rattle.record_laws.specs.Recordings.{Calls, AreFit, behind_moments, told_now, with_errors};
+ghost use Rattle.record_laws.specs.Examples.{contact, empty, feature, halted, program};
+ghost use Rattle.record_laws.specs.Worlds.{told_in};
+
+/// The second contact completes the feature of two touches. Lines that are added in two pieces are those that are added at once. Before a
+/// new connection the lines that are due are added, under the number of the last one.
+pub fn written_rows()
+    ensures first { (told_now (halted (contact ∷ []) []) empty).text
+        ≡ text_of (map entry_line (Told 3 contact ∷ [])) }
+    ensures both { (told_now (halted (contact ∷ contact ∷ []) []) empty).text ≡ text_of (map
+        entry_line (Told 3 contact ∷ Told 3 contact ∷ Completed 3 (codes "C") ∷ [])) }
+    ensures pieces { told_now (halted (contact ∷ contact ∷ []) [])
+        (told_now (halted (contact ∷ []) []) empty)
+        ≡ told_now (halted (contact ∷ contact ∷ []) []) empty }
+    ensures connected { (behind_moments (Calls Leave ∷ Calls (Connected 4) ∷ [])
+        (record { end = halted (contact ∷ []) []; recording = empty })).recording ≡ record {
+          telling = record { connection = 4; counted = record { features = 0; points = 0 } };
+          told = 0;
+          text = text_of (map entry_line (Told 3 contact ∷ []));
+        } }
+{}
+
+/// A plan that is resumed begins its unfinished feature again. An error has its line.
+pub fn resumed_rows()
+    ensures resumed { (behind_moments (Calls Resume ∷ [])
+        (record { end = halted (contact ∷ []) []; recording = empty })).recording ≡ record {
+          telling = record { connection = 3; counted = record { features = 0; points = 0 } };
+          told = 1;
+          text = text_of (map entry_line (Told 3 contact ∷ []));
+        } }
+    ensures error { (with_errors (codes "00009 !" ∷ []) empty).text
+        ≡ text_of (map entry_line (Refused 3 (codes "00009 !") ∷ [])) }
+{}
+
+/// A connection with a number of an earlier one does not fit a record, and neither does a restart that gives a completed feature up. An
+/// event that cannot happen reports nothing.
+pub fn fit_rows()
+    ensures number { AreFit 4 (Calls (Connected 3) ∷ []) (halted [] []) → ⊥ }
+    ensures restart { AreFit 4 (Calls (Restart 0) ∷ []) (halted [] (feature ∷ [])) → ⊥ }
+    ensures event { told_in (ClientReads ∷ []) (start program [] 1) ≡ [] }
+{}
