@@ -6,31 +6,68 @@ use crate::files::{NamedSource, Sources};
 use byte_ports::{Failed, PullFault, Writing, pull_all, push_all};
 use dme_orders::{FilesFault, OrderFault};
 use dme_words::Ledger;
+use line_framing::{Lines, LinesFault};
+use std::alloc::AllocError;
 use std::io;
 use std::rt::Files;
 use told_ledger::ledger_text;
 
-/// The bytes of a file.
-fn bytes_of<R: Files + Input + AllocGlobal>(
+/// The name and the bytes of a file.
+fn recording<R: Files + Input + AllocGlobal>(
     rt: &R,
     mut source: NamedSource<'_, R>,
-) -> Result<Vec<u8>, Fault> {
-    match pull_all(rt.alloc(), &mut source, 1_000_000) {
-        Ok(bytes) => Ok(bytes),
+) -> Result<(String, Vec<u8>), Fault> {
+    let pulled = pull_all(rt.alloc(), &mut source, 1_000_000);
+    let name = source.into_file().name;
+    match pulled {
+        Ok(bytes) => Ok((name, bytes)),
         Err(PullFault::Failed | PullFault::TooMany) => {
-            Err(Fault::Order(OrderFault::CannotRead(source.into_file().name)))
+            Err(Fault::Order(OrderFault::CannotRead(name)))
         }
         Err(PullFault::Memory) => Err(Fault::Order(OrderFault::Memory)),
     }
 }
 
+/// Reports the first line of a recording that is none, if there is one: nothing is read from there on.
+fn tell_unread<R: Eprint + AllocGlobal>(
+    rt: &R,
+    name: &str,
+    bytes: &[u8],
+) -> Result<(), AllocError> {
+    let mut lines = Lines::new(rt.alloc());
+    match lines.feed(bytes) {
+        Ok(()) | Err(LinesFault::Framing(_)) => {}
+        Err(LinesFault::Memory) => return Err(AllocError),
+    }
+    for before in 0..bytes.len() {
+        match lines.next_line() {
+            Ok(Some(_)) => {}
+            Ok(None) => return Ok(()),
+            Err(LinesFault::Memory) => return Err(AllocError),
+            Err(LinesFault::Framing(_)) => {
+                let number = before + 1;
+                let _ = eprintln!(rt;
+                    "dme: {name}: nothing is read from line {number} on, which is no line"
+                );
+                return Ok(());
+            }
+        }
+    }
+    Ok(())
+}
+
 /// The order `ledger`: its exit status.
-pub fn ledger<R: Files + Input + Print + AllocGlobal>(rt: &R, order: Ledger) -> Result<u8, Fault> {
+pub fn ledger<R: Files + Input + Print + Eprint + AllocGlobal>(
+    rt: &R,
+    order: Ledger,
+) -> Result<u8, Fault> {
     let mut sources = Sources::new(rt, false);
     let up = sources.file(order.up);
     let down = sources.file(order.down);
-    let up = bytes_of(rt, up)?;
-    let down = bytes_of(rt, down)?;
+    let (up_name, up) = recording(rt, up)?;
+    let (down_name, down) = recording(rt, down)?;
+    tell_unread(rt, &up_name, up.as_slice())?;
+    tell_unread(rt, &down_name, down.as_slice())?;
     let text = ledger_text(
         rt.alloc(),
         u64::from(order.connection),
