@@ -4,7 +4,8 @@
   nothing.
 - A record in which a field is changed to each of a few other values is refused by its line (J1) or by its feature (J3), or is another whole
   record: then each of its features still has the points of its own contacts, as this script reads them. It is never changed.
-- A record that another run holds, that is a folder, a pipe or a device, or that cannot be made is refused before a connection is made.
+- A record that another run holds, that may only be read, that is a folder, a pipe or a device, or that cannot be made is refused before a
+  connection is made.
 - A link to a record is continued, and stays a link. A record that is removed during the run is whole at the end.
 
 `run` calls this; by itself: tests/records.py
@@ -12,6 +13,7 @@
 
 import os
 import pathlib
+import shutil
 import socket
 import subprocess
 import sys
@@ -117,6 +119,19 @@ def check_no_files(folder):
         must((run.returncode, run.stdout, run.stderr) == (1, "", f"dme: cannot write {name}\n"), name, run.stderr)
 
 
+def check_read_only(folder):
+    """Root may write each file, so another user asks then."""
+    (folder / "part.record").write_bytes(RECORD)
+    (folder / "part.record").chmod(0o444)
+    folder.chmod(0o755)
+    program = shutil.copy(PROGRAM, folder / "dme")
+    other = {"user": 65534} if os.geteuid() == 0 else {}
+    words = [program, *run_words(free_port())]
+    run = subprocess.run(words, cwd=folder, capture_output=True, text=True, timeout=SECONDS, **other)
+    must((run.returncode, run.stdout, run.stderr) == (1, "", "dme: cannot write part.record\n"), "read-only record", run.stderr)
+    must((folder / "part.record").read_bytes() == RECORD, "read-only record was changed")
+
+
 def check_held(folder):
     """A run whose server says nothing holds its record."""
     (folder / "part.record").write_bytes(RECORD[:400])
@@ -173,7 +188,7 @@ def check_removed(folder):
     must(len(points_of((folder / "part.record").read_text())) == 1, "removed record")
 
 
-CHECKS = (check_torn, check_edited, check_no_files, check_held, check_link, check_removed)
+CHECKS = (check_torn, check_edited, check_no_files, check_read_only, check_held, check_link, check_removed)
 
 
 def passes(check):

@@ -31,7 +31,7 @@ impl Model for Growth {
 impl Growth {
     /// The record of a run on the connection of this number, which begins with this many features complete and this text.
     pub(crate) fn new(connection: u64, features: usize, text: Vec<u8>) -> Growth
-        ensures { result ≡ begun connection features text.items }
+        ensures { result ≡ begun connection 0 features text.items }
     {
         Growth {
             telling: Telling::new(connection, features),
@@ -55,11 +55,10 @@ impl Growth {
         ensures err { OnErr result (self.new ≡ self.old) }
     {
         let acts = client.counted();
-        if self.told >= acts.len() {
-            return Ok(());
+        if self.told < acts.len() {
+            let (_, since) = acts.split_at(self.told);
+            self.telling.tell(&mut self.text, client.program(), since)?;
         }
-        let (_, since) = acts.split_at(self.told);
-        self.telling.tell(&mut self.text, client.program(), since)?;
         self.told = acts.len();
         Ok(())
     }

@@ -1,7 +1,7 @@
 // What a client has counted is appended to the record of its run.
 
 ghost use Rattle.std.specs.Prelude.{◌≡◌, ◌↔◌, true, false, map, length, take, Option};
-ghost use Rattle.record_keeping.specs.Growths.{begun, FollowsAll, FollowsSome, Saves};
+ghost use Rattle.record_keeping.specs.Growths.{begun, begun_in, FollowsTurn, Saves};
 
 use crate::growing::GrowingFile;
 use crate::growth::Growth;
@@ -47,14 +47,7 @@ impl<F> Model for Recorder<F> {
 impl<F: GrowingFile> Recorder<F> {
     /// The record of a run on the connection of this number, which begins with this many features, in a file that has this text.
     pub fn new(connection: u64, features: usize, text: Vec<u8>, file: F) -> Recorder<F>
-        ensures { result ≡ record {
-          growth = begun connection features text.items;
-          file = file;
-          filed = length text.items;
-          has_failed = false;
-          lacks_acts = false;
-          lacks_errors = false;
-        } }
+        ensures { result ≡ begun_in file (begun connection 0 features text.items) }
     {
         let filed = text.len();
         Recorder {
@@ -91,14 +84,8 @@ impl<F: GrowingFile> Recorder<F> {
     ///
     /// If memory runs out for the acts, none of them is in the text, and they follow once it is there again.
     pub fn follow(&mut self, client: &Client, errors: &[Vec<u8>])
-        ensures all { self.new.lacks_acts ≡ false → self.new.lacks_errors ≡ false
-            → FollowsAll client.now.client.program.features client.now.client.table.tally.counted
-            (map (λ e. e.items) errors.now) self.old.growth self.new.growth }
-        ensures some { FollowsSome client.now.client.program.features
-            client.now.client.table.tally.counted (map (λ e. e.items) errors.now) self.old.growth
-            self.new.growth }
-        ensures misses { self.old.lacks_errors ≡ true → self.new.lacks_errors ≡ true }
-        ensures saves { Saves F.kept self.old self.new }
+        ensures { FollowsTurn F.kept client.now.client.program.features
+            client.now.client.table.tally.counted (map (λ e. e.items) errors.now) self.old self.new }
     {
         self.lacks_acts = self.growth.tell(client).is_err();
         if self.growth.tell_errors(errors).is_err() {

@@ -1,5 +1,5 @@
 -- Entries of acts that are added in pieces, and entries that follow one another.
-use Rattle.std.proofs.Common.{◌≡◌, ℕ, List, [], ◌∷◌, ◌++◌, refl, ap, sym, ◌∙◌, subst, append_assoc, append-nil}
+use Rattle.std.proofs.Common.{◌≡◌, ℕ, ◌≤◌, List, [], ◌∷◌, ◌++◌, refl, ap, sym, ◌∙◌, subst, arith, append_assoc, append-nil}
 use Rattle.contact_ledger.specs.declared.acts.Act.{Act}
 use Rattle.contact_ledger.specs.declared.features.Feature.{Feature}
 use Rattle.dmis_program.specs.declared.features.Wanted.{Wanted}
@@ -88,3 +88,66 @@ follow_grown ws [] old new f = record {
   acts_are = ap (λ (k : Kept). k.told) f ∙ sym (append-nil old.told);
 }
 follow_grown ws (e ∷ es) old new f = grown_more old f.0 new (one_grown ws old f.0 e f.1) (follow_grown ws es f.0 new f.2)
+
+-- numbers of connections never decrease
+one_last : (ws : List Wanted) (old new : Kept) (e : Entry) → Follows ws old e new → old.last ≤ new.last
+one_last ws old new (Told n a) f =
+    let upto : old.last ≤ n = f.1 in
+    let is : new.last ≡ n = ap (λ (k : Kept). k.last) f.2 in
+    omega (arith, upto, is)
+one_last ws old new (Refused n text) f =
+    let upto : old.last ≤ n = f.1 in
+    let is : new.last ≡ n = ap (λ (k : Kept). k.last) f.2 in
+    omega (arith, upto, is)
+one_last ws old new (Completed n label) f =
+    let c = f.1 in
+    let same : n ≡ old.last = c.same in
+    let is : new.last ≡ n = ap (λ (k : Kept). k.last) c.more in
+    omega (arith, same, is)
+
+pub follow_last : (ws : List Wanted) (es : List Entry) (old new : Kept) → Follow ws old es new → old.last ≤ new.last
+follow_last ws [] old new f =
+    let is : new.last ≡ old.last = ap (λ (k : Kept). k.last) f in
+    omega (arith, is)
+follow_last ws (e ∷ es) old new f =
+    let first : old.last ≤ f.0.last = one_last ws old f.0 e f.1 in
+    let rest : f.0.last ≤ new.last = follow_last ws es f.0 new f.2 in
+    omega (arith, first, rest)
+
+-- the entries of acts follow what is kept, which has the same features and acts as something else that they follow: they leave the same, with
+-- no greater connection than theirs
+pub record Later (ws : List Wanted) (n : ℕ) (c : Counted) (mid kept : Kept) (acts : List Act) : Type 0 where
+  pub new : Kept
+  pub follow : Follow ws mid (entries_of ws n c acts) new
+  pub features : new.features ≡ kept.features
+  pub told : new.told ≡ kept.told
+  pub used : new.used ≡ kept.used
+  pub last : new.last ≤ n
+
+abbrev with_told : ℕ → Act → List Feature → List (ℕ × Act) → ℕ → Kept
+with_told n a features told used = record { features = features; told = told ++ (n, a) ∷ []; used = used; last = n }
+
+pub later : (ws : List Wanted) (n : ℕ) (c : Counted) (old mid kept : Kept) (acts : List Act) → mid.features ≡ old.features
+    → mid.told ≡ old.told → mid.used ≡ old.used → mid.last ≤ n → kept.last ≤ n → Follow ws old (entries_of ws n c acts) kept
+    → Later ws n c mid kept acts
+later ws n c old mid kept [] features told used last upto f = record {
+  new = mid;
+  follow = refl;
+  features = features ∙ ap (λ (k : Kept). k.features) (sym f);
+  told = told ∙ ap (λ (k : Kept). k.told) (sym f);
+  used = used ∙ ap (λ (k : Kept). k.used) (sym f);
+  last = last;
+}
+later ws n c old mid kept (a ∷ acts) features told used last upto f = record {
+  new = kept;
+  follow = (f.0, (f.1.0, last, f.1.2 ∙ same), f.2);
+  features = refl;
+  told = refl;
+  used = refl;
+  last = upto;
+}
+  where
+    same : with_told n a old.features old.told old.used ≡ with_told n a mid.features mid.told mid.used
+    same = ap (λ (x : List Feature). with_told n a x old.told old.used) (sym features)
+        ∙ (ap (λ (x : List (ℕ × Act)). with_told n a mid.features x old.used) (sym told)
+        ∙ ap (λ (x : ℕ). with_told n a mid.features mid.told x) (sym used))

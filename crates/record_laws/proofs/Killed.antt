@@ -34,8 +34,9 @@ use Rattle.run_record.proofs.StageOnes.{leads_one}
 use Rattle.run_record.proofs.StageReads.{record_leads}
 use Rattle.run_record.proofs.StageShapes.{Halves, leads_split}
 use Rattle.record_keeping.specs.Beginnings.{IsNew, Continues, IsSame, BeginsWith}
+use Rattle.record_keeping.specs.Growths.{Growth}
 use Rattle.record_keeping.specs.declared.opening.Beginning.{Beginning}
-use Rattle.record_laws.specs.Recordings.{Recording, told_now, Moment, behind_moments, calls_in, AreFit, AreWritten}
+use Rattle.record_laws.specs.Recordings.{told_now, Moment, behind_moments, calls_in, AreFit, AreWritten}
 use Rattle.record_laws.specs.Runs.{run_begun, IsRecordOf, IsKilledRun, AreKilledRuns, no_run, one_more, HasAllOf}
 use Rattle.record_laws.proofs.Wholes.{Found, whole_found, whole_then}
 use Rattle.record_laws.proofs.Entries.{follow_more, Parts, follow_parts, Grown, follow_grown}
@@ -199,7 +200,7 @@ says_what_was_told p part bytes b window ms program given asked begins fit writt
     let run : IsRun p part b window ms = is_run p part bytes b window ms program asked begins fit written in
     let s : Started part p.features b = IsRun.start run in
     let e : ClientEnd = (behind_moments ms (run_begun p window b)).end in
-    let r : Recording = (behind_moments ms (run_begun p window b)).recording in
+    let r : Growth = (behind_moments ms (run_begun p window b)).recording in
     let acts : List (ℕ × Act) = b.told ++ told_behind (calls_in ms) (new_client_end p b.features window) in
     let h : Stands (base_of part p.features b s) acts (view e.client) r = Reached.stands (IsRun.reached run) in
     let more : List Entry = h.done ++ due (view e.client) r in
@@ -233,7 +234,7 @@ killed_text p part bytes b window ms program asked begins fit written =
     let run : IsRun p part b window ms = is_run p part bytes b window ms program asked begins fit written in
     let s : Started part p.features b = IsRun.start run in
     let e : ClientEnd = (behind_moments ms (run_begun p window b)).end in
-    let r : Recording = (behind_moments ms (run_begun p window b)).recording in
+    let r : Growth = (behind_moments ms (run_begun p window b)).recording in
     let acts : List (ℕ × Act) = b.told ++ told_behind (calls_in ms) (new_client_end p b.features window) in
     let h : Stands (base_of part p.features b s) acts (view e.client) r = Reached.stands (IsRun.reached run) in
     let follow : Follow p.features (Started.kept s) (h.done ++ due (view e.client) r) h.kept =

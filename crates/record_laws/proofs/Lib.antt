@@ -3,4 +3,5 @@ pub mod Entries
 pub mod Moves
 pub mod Stands
 pub mod Killed
+pub mod Filed
 pub mod Worlds

@@ -46,10 +46,11 @@ use Rattle.run_record.specs.Records.{Kept, Follow}
 use Rattle.run_record.specs.Tellings.{Counted, entries_of, counted_after}
 use Rattle.run_record.specs.declared.entries.Entry.{Entry}
 use Rattle.run_record.proofs.ToldLines.{lines_more}
-use Rattle.record_laws.specs.Recordings.{Recording, told_now, with_errors, refusals, begun, recorded_by}
+use Rattle.record_keeping.specs.Growths.{Growth, refusals, with_errors, begun}
+use Rattle.record_laws.specs.Recordings.{told_now, told_unless, recorded_by}
 use Rattle.record_laws.specs.Recordings.{Moment, Calls, Tell, behind_moments}
 use Rattle.record_laws.specs.Recordings.{calls_in, Fits, AreErrors, AreFit, AreWritten}
-use Rattle.record_laws.proofs.Entries.{entries_more, after_more, follow_more}
+use Rattle.record_laws.proofs.Entries.{entries_more, after_more, follow_more, Parts, follow_parts, follow_last, Later, later}
 use Rattle.record_laws.proofs.Moves.{Moves, Rests, measured_moves}
 
 -- ---- the invariant
@@ -61,17 +62,17 @@ pub record Base : Type 0 where
   pub text : List ℕ
 
 -- the acts without lines, their entries, and what is counted after them
-abbrev pub due_acts : View → Recording → List Act
+abbrev pub due_acts : View → Growth → List Act
 due_acts v r = drop r.told v.counted
 
-abbrev pub due : View → Recording → List Entry
+abbrev pub due : View → Growth → List Entry
 due v r = entries_of v.program.features r.telling.connection r.telling.counted (due_acts v r)
 
-abbrev pub due_counted : View → Recording → Counted
+abbrev pub due_counted : View → Growth → Counted
 due_counted v r = counted_after v.program.features r.telling.connection r.telling.counted (due_acts v r)
 
 -- on a connection: it has the number under which lines are added, and as many points are counted as the client has
-pub record IsOn (v : View) (r : Recording) (kept : Kept) : Type 0 where
+pub record IsOn (v : View) (r : Growth) (kept : Kept) : Type 0 where
   pub number : r.telling.connection ≡ v.connection
   pub connection : IsConnection v.connection
   pub below : v.connection ≤ v.last
@@ -86,7 +87,7 @@ pub record IsPlaced (n last : ℕ) (kept : Kept) : Type 0 where
   pub last_line : kept.last ≤ n
 
 -- a record, once what is due is added, keeps the features that the client holds and the acts that were reported
-pub record Stands (b : Base) (acts : List (ℕ × Act)) (v : View) (r : Recording) : Type 0 where
+pub record Stands (b : Base) (acts : List (ℕ × Act)) (v : View) (r : Growth) : Type 0 where
   pub done : List Entry
   pub text : r.text ≡ b.text ++ text_of (map entry_line done)
   pub kept : Kept
@@ -104,7 +105,7 @@ pub record Stands (b : Base) (acts : List (ℕ × Act)) (v : View) (r : Recordin
 -- ---- lines are added
 
 -- the record once what is due is added
-abbrev pub all_told : View → Recording → Recording
+abbrev pub all_told : View → Growth → Growth
 all_told v r = record {
   telling = record { connection = r.telling.connection; counted = due_counted v r };
   told = length v.counted;
@@ -129,7 +130,7 @@ none_due ws n c l e = record {
   counted = ap (λ (k : List Act). counted_after ws n c k) e;
 }
 
-pub told_stands : (b : Base) (acts : List (ℕ × Act)) (v : View) (r : Recording) → Stands b acts v r → Stands b acts v (all_told v r)
+pub told_stands : (b : Base) (acts : List (ℕ × Act)) (v : View) (r : Growth) → Stands b acts v r → Stands b acts v (all_told v r)
 told_stands b acts v r h =
     let none : NoneDue v.program.features r.telling.connection (due_counted v r) (due_acts v (all_told v r)) =
     none_due v.program.features r.telling.connection (due_counted v r) (due_acts v (all_told v r)) (drop-length v.counted) in
@@ -191,10 +192,10 @@ errors_kept ws n last kept (error ∷ errors) connection above h =
       last = ErrorsKept.last rest;
     }
 
--- what is due is added, and then errors
-errors_stand : (b : Base) (acts : List (ℕ × Act)) (v : View) (r : Recording) (errors : List (List ℕ)) → r.told ≡ length v.counted
-    → AreErrors errors v.last → Stands b acts v r → Stands b acts v (with_errors errors r)
-errors_stand b acts v r [] all are h = record {
+-- errors are added; what was due before is due after them
+errors_stand : (b : Base) (acts : List (ℕ × Act)) (v : View) (r : Growth) (errors : List (List ℕ)) → AreErrors errors v.last
+    → Stands b acts v r → Stands b acts v (with_errors errors r)
+errors_stand b acts v r [] are h = record {
   done = h.done;
   text = append-nil r.text ∙ h.text;
   kept = h.kept;
@@ -216,33 +217,33 @@ errors_stand b acts v r [] all are h = record {
     unused = o.unused;
   };
 }
-errors_stand b acts v r (error ∷ errors) all are h =
+errors_stand b acts v r (error ∷ errors) are h =
+    let ws : List Wanted = v.program.features in
     let n : ℕ = r.telling.connection in
     let p : IsPlaced n v.last h.kept = h.placed are.1 in
-    let k : ErrorsKept v.program.features n h.kept (error ∷ errors) =
-    errors_kept v.program.features n v.last h.kept (error ∷ errors) p.connection p.last_line are in
+    let cut : Parts ws h.done (due v r) b.kept h.kept = follow_parts ws h.done (due v r) b.kept h.kept h.follow in
+    let grows : cut.mid.last ≤ h.kept.last = follow_last ws (due v r) cut.mid h.kept cut.behind in
+    let last_line : h.kept.last ≤ n = p.last_line in
+    let k : ErrorsKept ws n cut.mid (error ∷ errors) =
+    errors_kept ws n v.last cut.mid (error ∷ errors) p.connection (omega (arith, grows, last_line)) are in
     let more : List Entry = refusals n (error ∷ errors) in
-    let none : due v r ≡ [] =
-    NoneDue.entries (none_due v.program.features n r.telling.counted (due_acts v r)
-    (ap (λ (i : ℕ). drop i v.counted) all ∙ drop-length v.counted)) in
-    let last : (ErrorsKept.new k).last ≤ n = ErrorsKept.last k in
+    let l : Later ws n r.telling.counted (ErrorsKept.new k) h.kept (due_acts v r) =
+    later ws n r.telling.counted cut.mid (ErrorsKept.new k) h.kept (due_acts v r) (ErrorsKept.features k) (ErrorsKept.told k)
+    (ErrorsKept.used k) (ErrorsKept.last k) p.last_line cut.behind in
+    let last : l.new.last ≤ n = l.last in
     let below : n ≤ v.last = p.below in
-    let before : Follow v.program.features b.kept h.done h.kept =
-    subst (λ (l : List Entry). Follow v.program.features b.kept l h.kept)
-    (ap (λ (l : List Entry). h.done ++ l) none ∙ append-nil h.done) h.follow in
-    let used : (ErrorsKept.new k).used ≡ h.kept.used = ErrorsKept.used k in
-    let count : length (contacts (ErrorsKept.new k).told) ≡ length (contacts h.kept.told) =
-    ap (λ (l : List (ℕ × Act)). length (contacts l)) (ErrorsKept.told k) in
+    let used : l.new.used ≡ h.kept.used = l.used in
+    let count : length (contacts l.new.told) ≡ length (contacts h.kept.told) =
+    ap (λ (x : List (ℕ × Act)). length (contacts x)) l.told in
     let fits : h.kept.used ≤ length (contacts h.kept.told) = h.fits in
     record {
       done = h.done ++ more;
       text = lines_joined r.text h.done more b.text h.text;
-      kept = ErrorsKept.new k;
-      follow = subst (λ (l : List Entry). Follow v.program.features b.kept l (ErrorsKept.new k))
-          (sym (ap (λ (l : List Entry). (h.done ++ more) ++ l) none ∙ append-nil (h.done ++ more)))
-          (follow_more v.program.features h.done more b.kept h.kept (ErrorsKept.new k) before (ErrorsKept.follow k));
-      features = ErrorsKept.features k ∙ h.features;
-      told = ErrorsKept.told k ∙ h.told;
+      kept = l.new;
+      follow = follow_more ws (h.done ++ more) (due v r) b.kept (ErrorsKept.new k) l.new
+          (follow_more ws h.done more b.kept cut.mid (ErrorsKept.new k) cut.front (ErrorsKept.follow k)) l.follow;
+      features = l.features ∙ h.features;
+      told = l.told ∙ h.told;
       held = h.held;
       reach = λ m first above. omega (arith, last, below, above);
       few = h.few;
@@ -278,8 +279,8 @@ record Begins (b : Base) (v w : View) (n told : ℕ) (kept : Kept) : Type 0 wher
   below : w.on ≡ true → w.connection ≤ w.last
   last : w.on ≡ true → kept.last ≤ w.connection
 
-begun_stands : (b : Base) (acts : List (ℕ × Act)) (v w : View) (r : Recording) (n told : ℕ) → (h : Stands b acts v r)
-    → Begins b v w n told (Stands.kept h) → Stands b acts w (begun n told (length v.features) (all_told v r))
+begun_stands : (b : Base) (acts : List (ℕ × Act)) (v w : View) (r : Growth) (n told : ℕ) → (h : Stands b acts v r)
+    → Begins b v w n told (Stands.kept h) → Stands b acts w (begun n told (length v.features) (all_told v r).text)
 begun_stands b acts v w r n told h g =
     let c : Counted = record { features = length v.features; points = 0 } in
     let none : NoneDue w.program.features n c (drop told w.counted) =
@@ -319,10 +320,10 @@ begun_stands b acts v w r n told h g =
 -- ---- a reply counts acts
 
 -- what holds after a change that says these acts
-abbrev StandsTo : Base → List (ℕ × Act) → View → View → Recording → Type 0
+abbrev StandsTo : Base → List (ℕ × Act) → View → View → Growth → Type 0
 StandsTo b acts v w r = Stands b (acts ++ told_to v w) w r
 
-same_stands : (b : Base) (acts : List (ℕ × Act)) (v w : View) (r : Recording) → w ≡ v → Stands b acts v r → StandsTo b acts v w r
+same_stands : (b : Base) (acts : List (ℕ × Act)) (v w : View) (r : Growth) → w ≡ v → Stands b acts v r → StandsTo b acts v w r
 same_stands b acts v w r same h = subst (λ (x : View). StandsTo b acts v x r) (sym same)
     (with_none (λ (l : List (ℕ × Act)). Stands b l v r) acts (told_to v v) (none_told v.connection v.counted) h)
 
@@ -330,7 +331,7 @@ same_stands b acts v w r same h = subst (λ (x : View). StandsTo b acts v x r) (
 abbrev moved_on : List Wanted → ℕ → Counted → Kept → List Act → List Feature → List Point → Type 0
 moved_on ws n c kept more fs ps = Moves ws n c kept more fs ps
 
-moves_stands : (b : Base) (acts : List (ℕ × Act)) (p : Meaning) (on : Bool) (last : ℕ) (y z : Tally) (more : List Act) (r : Recording)
+moves_stands : (b : Base) (acts : List (ℕ × Act)) (p : Meaning) (on : Bool) (last : ℕ) (y z : Tally) (more : List Act) (r : Growth)
     → on ≡ true → z.counted ≡ y.counted ++ more → z.connection ≡ y.connection → (h : Stands b acts (view_by p on last y) r)
     → Moves p.features r.telling.connection (due_counted (view_by p on last y) r) (Stands.kept h) more z.features z.points
     → Stands b (acts ++ numbered y.connection more) (view_by p on last z) r
@@ -412,7 +413,7 @@ told_more p on last y z more g =
     grows_told y z (record { more = more; acts = IsCounted.acts g; number = IsCounted.number g })
 
 counted_stands : (b : Base) (acts : List (ℕ × Act)) (p : Meaning) (on : Bool) (last : ℕ) (y : Tally) (kind : Kind) (given : Option Datum)
-    (q : Planned) (rest : List Planned) (r : Recording) → on ≡ true → AreAsked p.features → y.todo ≡ q ∷ rest
+    (q : Planned) (rest : List Planned) (r : Growth) → on ≡ true → AreAsked p.features → y.todo ≡ q ∷ rest
     → IsCounted y (counted_next p.features kind given (q ∷ rest) y) (act_of q.does given)
     → IsGoing (view_by p on last y) (contacts acts) → Stands b acts (view_by p on last y) r
     → AreWritten (told_to (view_by p on last y) (view_by p on last (counted_next p.features kind given (q ∷ rest) y)))
@@ -450,7 +451,7 @@ counted_is ws kind given q rest y number = record {
   number = number;
 }
 
-effect_stands : (b : Base) (acts : List (ℕ × Act)) (p : Meaning) (on : Bool) (last : ℕ) (y : Tally) (e : Effect) (r : Recording) → on ≡ true
+effect_stands : (b : Base) (acts : List (ℕ × Act)) (p : Meaning) (on : Bool) (last : ℕ) (y : Tally) (e : Effect) (r : Growth) → on ≡ true
     → AreAsked p.features → (tallied p.features e y).connection ≡ y.connection → IsGoing (view_by p on last y) (contacts acts)
     → Stands b acts (view_by p on last y) r → AreWritten (told_to (view_by p on last y) (view_by p on last (tallied p.features e y)))
     → StandsTo b acts (view_by p on last y) (view_by p on last (tallied p.features e y)) r
@@ -469,13 +470,13 @@ effect_stands b acts p on last y (Effect.Count kind given) r is asked number goi
         acts_written
 
 -- what holds after a tally became another one, if the acts that it then says can be written
-abbrev StandsAt : Base → List (ℕ × Act) → Meaning → Bool → ℕ → Recording → Tally → Tally → Type 0
+abbrev StandsAt : Base → List (ℕ × Act) → Meaning → Bool → ℕ → Growth → Tally → Tally → Type 0
 StandsAt b acts p on last r y z = AreWritten (told_to (view_by p on last y) (view_by p on last z))
     → StandsTo b acts (view_by p on last y) (view_by p on last z) r
 
 -- an expected reply
 heard_stands : (b : Base) (acts : List (ℕ × Act)) (p : Meaning) (on : Bool) (last : ℕ) (old new : Table) (t : Tag) (m : Mark)
-    (r : Recording)
+    (r : Growth)
     → on ≡ true → AreAsked p.features → heard p.features old t m ≡ fine new → IsGoing (view_by p on last old.tally) (contacts acts)
     → Stands b acts (view_by p on last old.tally) r → StandsAt b acts p on last r old.tally new.tally
 heard_stands b acts p on last old new t m r is asked hears going h =
@@ -489,7 +490,7 @@ heard_stands b acts p on last old new t m r is asked hears going h =
     going h written))
     (λ n hs e sort other here after. subst (λ (x : Table). StandsAt b acts p on last r old.tally x.tally) (sym after) none)
 
-read_stands : (b : Base) (acts : List (ℕ × Act)) (e : ClientEnd) (r : Recording) → e.client.on ≡ true → AreAsked e.client.program.features
+read_stands : (b : Base) (acts : List (ℕ × Act)) (e : ClientEnd) (r : Growth) → e.client.on ≡ true → AreAsked e.client.program.features
     → IsGoing (view e.client) (contacts acts) → Stands b acts (view e.client) r
     → AreWritten (told_to (view e.client) (view (done_by ReadOne e).client))
     → StandsTo b acts (view e.client) (view (done_by ReadOne e).client) r
@@ -506,11 +507,11 @@ read_on : (c : Client) → may_read c ≡ true → c.on ≡ true
 read_on c e = (both c.on _ e).0
 
 -- without an act more
-quiet_stands : (b : Base) (acts : List (ℕ × Act)) (v w : View) (r : Recording) → told_to v w ≡ [] → Stands b acts w r
+quiet_stands : (b : Base) (acts : List (ℕ × Act)) (v w : View) (r : Growth) → told_to v w ≡ [] → Stands b acts w r
     → StandsTo b acts v w r
 quiet_stands b acts v w r none h = with_none (λ (l : List (ℕ × Act)). Stands b l w r) acts (told_to v w) none h
 
-connected_begins : (b : Base) (acts : List (ℕ × Act)) (n : ℕ) (c : Client) (r : Recording) → may_connect n c ≡ true → b.first ≤ n
+connected_begins : (b : Base) (acts : List (ℕ × Act)) (n : ℕ) (c : Client) (r : Growth) → may_connect n c ≡ true → b.first ≤ n
     → (h : Stands b acts (view c) r) → Begins b (view c) (view (client_connected n c)) n 0 (Stands.kept h)
 connected_begins b acts n c r may first h =
     let numbers = both (nat_lt c.last n) (nat_le n connection_most) (both (is_apart c.state) _ may).1 in
@@ -534,7 +535,7 @@ connected_begins b acts n c r may first h =
       last = λ on. h.reach n first above;
     }
 
-resumed_begins : (b : Base) (acts : List (ℕ × Act)) (e : ClientEnd) (r : Recording) → (h : Stands b acts (view e.client) r)
+resumed_begins : (b : Base) (acts : List (ℕ × Act)) (e : ClientEnd) (r : Growth) → (h : Stands b acts (view e.client) r)
     → Begins b (view e.client) (view (done_by Resume e).client) r.telling.connection (length e.client.table.tally.counted) (Stands.kept h)
 resumed_begins b acts e r h = record {
   program = refl;
@@ -550,7 +551,7 @@ resumed_begins b acts e r h = record {
   last = λ on. IsOn.last (h.on on);
 }
 
-restarted_begins : (b : Base) (acts : List (ℕ × Act)) (k : ℕ) (e : ClientEnd) (r : Recording) → length e.client.table.tally.features ≤ k
+restarted_begins : (b : Base) (acts : List (ℕ × Act)) (k : ℕ) (e : ClientEnd) (r : Growth) → length e.client.table.tally.features ≤ k
     → (h : Stands b acts (view e.client) r)
     → Begins b (view e.client) (view (done_by (Restart k) e).client) e.client.last 0 (Stands.kept h)
 restarted_begins b acts k e r all h = record {
@@ -573,7 +574,7 @@ restarted_begins b acts k e r all h = record {
         let last_line : h.kept.last ≤ r.telling.connection = p.last_line in
         record { connection = (some, h.most); below = omega arith; last_line = omega (arith, below, last_line) }
 
-left_stands : (b : Base) (acts : List (ℕ × Act)) (e : ClientEnd) (r : Recording) → Stands b acts (view e.client) r
+left_stands : (b : Base) (acts : List (ℕ × Act)) (e : ClientEnd) (r : Growth) → Stands b acts (view e.client) r
     → Stands b acts (view (done_by Leave e).client) r
 left_stands b acts e r h = record {
   done = h.done;
@@ -591,7 +592,7 @@ left_stands b acts e r h = record {
   on = λ on. absurd (false≢true on);
 }
 
-done_stands : (b : Base) (acts : List (ℕ × Act)) (call : Call) (e : ClientEnd) (r : Recording) → possible call e ≡ true
+done_stands : (b : Base) (acts : List (ℕ × Act)) (call : Call) (e : ClientEnd) (r : Growth) → possible call e ≡ true
     → AreAsked e.client.program.features → Fits b.first call e → Tells acts (view e.client) → Stands b acts (view e.client) r
     → AreWritten (told_to (view e.client) (view (done_by call e).client))
     → StandsTo b acts (view e.client) (view (done_by call e).client) (recorded_by call e r)
@@ -619,11 +620,11 @@ done_stands b acts (Restart k) e r may asked fit tells h written =
     let same : length e.client.table.tally.features ≡ k = omega (arith, most, fit) in
     quiet_stands b acts (view e.client) (view (done_by (Restart k) e).client) (recorded_by (Restart k) e r)
     (none_anew e.client.last e.client.table.tally.counted)
-    (subst (λ (i : ℕ). Stands b acts (view (done_by (Restart k) e).client) (begun e.client.last 0 i (told_now e r))) same
+    (subst (λ (i : ℕ). Stands b acts (view (done_by (Restart k) e).client) (begun e.client.last 0 i (told_now e r).text)) same
     (begun_stands b acts (view e.client) (view (done_by (Restart k) e).client) r e.client.last 0 h (restarted_begins b acts k e r fit h)))
 done_stands b acts (Sent k) e r may asked fit tells h written = same_stands b acts (view e.client) (view e.client) r refl h
 
-call_stands : (b : Base) (acts : List (ℕ × Act)) (call : Call) (e : ClientEnd) (r : Recording) → AreAsked e.client.program.features
+call_stands : (b : Base) (acts : List (ℕ × Act)) (call : Call) (e : ClientEnd) (r : Growth) → AreAsked e.client.program.features
     → Fits b.first call e → Tells acts (view e.client) → Stands b acts (view e.client) r → AreWritten (told_by call e)
     → Stands b (acts ++ told_by call e) (view (behind_call call e).client) (cond (possible call e) (recorded_by call e r) r)
 call_stands b acts call e r asked fit tells h written = go (possible call e) refl written
@@ -683,12 +684,12 @@ written_behind [] ys h = h
 written_behind (x ∷ xs) ys h = written_behind xs ys h.1
 
 -- what is known of a client and its record after moments
-pub record Reached (p : Meaning) (b : Base) (acts : List (ℕ × Act)) (e f : ClientEnd) (calls : List Call) (r : Recording) : Type 0 where
+pub record Reached (p : Meaning) (b : Base) (acts : List (ℕ × Act)) (e f : ClientEnd) (calls : List Call) (r : Growth) : Type 0 where
   pub end_is : f ≡ behind_calls calls e
   pub stands : Stands b (acts ++ told_behind calls e) (view f.client) r
 
 pub moments_stand : (p : Meaning) (kept : List Feature) (window : ℕ) (earlier : List (ℕ × Act)) (b : Base) → IsProgram p
-    → Sound p.features kept earlier → AreAsked p.features → (ms : List Moment) (acts : List (ℕ × Act)) (e : ClientEnd) (r : Recording)
+    → Sound p.features kept earlier → AreAsked p.features → (ms : List Moment) (acts : List (ℕ × Act)) (e : ClientEnd) (r : Growth)
     → IsAt p kept window earlier acts e → AreFit b.first ms e → AreWritten (told_behind (calls_in ms) e)
     → Stands b acts (view e.client) r
     → Reached p b acts e (behind_moments ms (record { end = e; recording = r })).end (calls_in ms)
@@ -697,9 +698,13 @@ moments_stand p kept window earlier b program sound asked [] acts e r at fit wri
   end_is = refl;
   stands = with_none (λ (l : List (ℕ × Act)). Stands b l (view e.client) r) acts [] refl h;
 }
-moments_stand p kept window earlier b program sound asked (Tell errors ∷ ms) acts e r at fit written h =
-    moments_stand p kept window earlier b program sound asked ms acts e (with_errors errors (told_now e r)) at fit.1 written
-    (errors_stand b acts (view e.client) (all_told (view e.client) r) errors refl fit.0 (told_stands b acts (view e.client) r h))
+moments_stand p kept window earlier b program sound asked (Tell lacks errors ∷ ms) acts e r at fit written h =
+    moments_stand p kept window earlier b program sound asked ms acts e (with_errors errors (told_unless lacks e r)) at fit.1 written
+    (errors_stand b acts (view e.client) (told_unless lacks e r) errors fit.0 (unless lacks))
+  where
+    unless : (x : Bool) → Stands b acts (view e.client) (told_unless x e r)
+    unless true = h
+    unless false = told_stands b acts (view e.client) r h
 moments_stand p kept window earlier b program sound asked (Calls call ∷ ms) acts e r at fit written h =
     let told : IsTold p acts e.client = at_told p kept window earlier acts e program sound at in
     let here : AreAsked e.client.program.features = subst (λ (q : Meaning). AreAsked q.features) (sym told.same) asked in

@@ -1,4 +1,5 @@
 pub mod Examples
+pub mod Files
 pub mod Recordings
 pub mod Runs
 pub mod Worlds

@@ -9,6 +9,7 @@ use Rattle.protocol_model.specs.Ends.{new_client_end}
 use Rattle.run_record.specs.Reading.{IsRecord}
 use Rattle.run_record.specs.Records.{Recorded}
 use Rattle.record_keeping.specs.Beginnings.{BeginsWith, IsSame}
+use Rattle.record_keeping.specs.Growths as growths
 use Rattle.record_keeping.specs.declared.opening.Beginning.{Beginning}
 use Rattle.told_acts.specs.Told.{told_behind}
 use Rattle.record_laws.specs.Recordings.{Pair, Moment, behind_moments, calls_in, AreFit, AreWritten}
@@ -17,11 +18,7 @@ use Rattle.record_laws.specs.Recordings.{Pair, Moment, behind_moments, calls_in,
 abbrev pub run_begun : Meaning → ℕ → Beginning → Pair
 run_begun p window b = record {
   end = new_client_end p b.features window;
-  recording = record {
-    telling = record { connection = b.connection; counted = record { features = length b.features; points = 0 } };
-    told = 0;
-    text = b.text.items;
-  };
+  recording = growths.begun b.connection 0 (length b.features) b.text.items;
 }
 
 -- a text is a record of a part and of these wanted features; it says that these features are complete and that these acts were reported
