@@ -305,22 +305,24 @@ PLANTED = [
 
 
 def faults_of_releasing():
-    """What is wrong with how `tools/release` writes a commit into sources, tried on copies of them: what each says then, and a second time."""
+    """What is wrong with how `tools/release` writes a commit and a toolchain into sources, tried on copies of them: what each says then, and a
+    second time."""
     loader = importlib.machinery.SourceFileLoader("release", str(ROOT / "tools" / "release"))
     release = importlib.util.module_from_spec(importlib.util.spec_from_loader("release", loader))
     loader.exec_module(release)
-    commit, faults = "0123456789abcdef0123456789abcdef01234567", []
+    commit, kit, faults = "0123456789abcdef0123456789abcdef01234567", "kit 1", []
     with tempfile.TemporaryDirectory() as room:
         for name in release.WHERE:
             copy = pathlib.Path(room) / name
             copy.parent.mkdir(parents=True)
             copy.write_text((ROOT / name).read_text())
-        release.write_commit(pathlib.Path(room), commit)
+        release.write_commit(pathlib.Path(room), commit, kit)
         for name in release.WHERE:
-            if (pathlib.Path(room) / name).read_text() != (ROOT / name).read_text().replace("not a release", commit):
+            expected = (ROOT / name).read_text().replace("not a release", commit, 1).replace("not a release", kit, 1)
+            if (pathlib.Path(room) / name).read_text() != expected:
                 faults.append(f"{name} is not as a release has it")
         try:
-            release.write_commit(pathlib.Path(room), commit)
+            release.write_commit(pathlib.Path(room), commit, kit)
             faults.append("a commit is written over another")
         except SystemExit:
             pass
