@@ -1,2 +1,3 @@
 mod Readings
 mod TextPieces
+mod Courses

@@ -4,4 +4,5 @@ pub mod Effects
 pub mod Talking
 pub mod Watching
 pub mod Texts
+pub mod Relaying
 pub mod Examples

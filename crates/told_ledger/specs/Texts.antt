@@ -61,3 +61,7 @@ told_text entries = text_of (codes "DME-TOLD 1" ∷ map told_line entries)
 -- what was reported on a connection
 abbrev pub numbered : ℕ → Told → ℕ × Told
 numbered connection told = (connection, told)
+
+-- the lines of what was reported on a connection
+abbrev pub told_lines : ℕ → List Told → List ℕ
+told_lines connection told = text_of (map told_line (map (numbered connection) told))

@@ -1,9 +1,8 @@
 // The text of what two recordings report.
 
 ghost use Rattle.std.specs.Prelude.{◌≡◌, ◌++◌, map, IfOk, OnOk};
-ghost use Rattle.contact_ledger.specs.Lines.{text_of};
 ghost use Rattle.told_ledger.specs.Watching.{Watching, AreAllRead};
-ghost use Rattle.told_ledger.specs.Texts.{told_line, told_text, numbered};
+ghost use Rattle.told_ledger.specs.Texts.{told_text, told_lines, numbered};
 
 use crate::uses::Told;
 use crate::witness::Witness;
@@ -11,9 +10,9 @@ use crate::writing::{HEADER, add_told};
 use std::alloc::{AllocError, Global};
 
 /// Adds the lines of what was reported on a connection.
-fn add_all(text: &mut Vec<u8>, connection: u64, told: &[Told]) -> Result<(), AllocError>
+pub(crate) fn add_all(text: &mut Vec<u8>, connection: u64, told: &[Told]) -> Result<(), AllocError>
     ensures { OnOk result (text.new.items ≡ text.old.items
-        ++ text_of (map told_line (map (numbered connection) told.now))) }
+        ++ told_lines connection told.now) }
 {
     for one in told {
         add_told(text, connection, one)?;

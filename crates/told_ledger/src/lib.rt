@@ -8,6 +8,7 @@
 //! - `witness`: `Witness`, the bytes of both ends
 //! - `writing`: the text of what was reported
 //! - `ledger`: the text of what two recordings report
+//! - `relay`: `Relay`, which sends on what comes, and has what is reported written first; `laws`: what follows for its whole course
 //! - `examples`: what lines report that are written out
 #![tactic(auto)]
 
@@ -15,13 +16,16 @@ mod asking;
 mod effects;
 pub mod examples;
 mod judging;
+pub mod laws;
 mod ledger;
+mod relay;
 mod talk;
 pub mod uses;
 mod witness;
 mod writing;
 
 pub use ledger::ledger_text;
+pub use relay::Relay;
 pub use talk::Talk;
 pub use uses::{Asked, Known, Rule, Side, Told, Use};
 pub use witness::Witness;
