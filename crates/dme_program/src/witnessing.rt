@@ -28,7 +28,7 @@ fn recording<R: Files + Input + AllocGlobal>(
     }
 }
 
-/// Reports the first line of a recording that is none, if there is one: nothing is read from there on.
+/// Reports where a recording has bytes that are not lines, if it has: nothing is read from there on.
 fn tell_unread<R: Eprint + AllocGlobal>(
     rt: &R,
     name: &str,
@@ -47,7 +47,7 @@ fn tell_unread<R: Eprint + AllocGlobal>(
             Err(LinesFault::Framing(_)) => {
                 let number = before + 1;
                 let _ = eprintln!(rt;
-                    "dme: {name}: nothing is read from line {number} on, which is no line"
+                    "dme: {name}: line {number} cannot be read, and nothing after it is"
                 );
                 return Ok(());
             }
