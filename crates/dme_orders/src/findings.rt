@@ -74,6 +74,10 @@ fn odd_meaning(odd: Odd) -> &'static str {
         Odd::MoreTouches => "ends a block with more touches than its MEAS names.",
         Odd::NearWord => "is not known.",
         Odd::Mark => "begins with a byte order mark.",
+        Odd::NoDefinition => "measures a feature that no FEAT above defines.",
+        Odd::OtherKind => "measures a feature as another kind than its FEAT above says.",
+        Odd::MeasuredTwice => "measures a feature whose label another MEAS above has.",
+        Odd::DefinedTwice => "defines a feature whose label another FEAT above has.",
     }
 }
 

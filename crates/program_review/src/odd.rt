@@ -2,6 +2,7 @@
 
 ghost use Rattle.std.specs.Prelude.{◌≡◌, IfOk, IfSome, ◌∷◌};
 
+use crate::labels::Labels;
 use crate::under_setup::meaning_of;
 use dmis_program::{Keyword, StatementMeaning, keyword_of_word};
 use dmis_text::{Statement, Statements, TextFault};
@@ -23,6 +24,14 @@ pub enum Odd {
     NearWord,
     /// The text begins with a byte order mark.
     Mark,
+    /// No `FEAT` above defines the feature that a `MEAS` measures.
+    NoDefinition,
+    /// A `MEAS` is of another kind than the last `FEAT` above of its label.
+    OtherKind,
+    /// A `MEAS` above measures a feature of the same label.
+    MeasuredTwice,
+    /// A `FEAT` above defines a feature of the same label.
+    DefinedTwice,
 }
 
 /// An odd statement, and the line on which it begins.
@@ -205,10 +214,26 @@ impl Course {
     }
 }
 
+/// Why a statement that says this is odd here, if it is.
+fn odd_here(
+    course: Course,
+    labels: &mut Labels,
+    keyword: Keyword,
+    statement: &Statement,
+    meaning: &StatementMeaning,
+) -> Result<Option<Odd>, AllocError> {
+    match keyword {
+        Keyword::Definition => labels.pass_definition(statement),
+        Keyword::Meas => labels.pass_measuring(&statement.params),
+        _ => Ok(course.odd(meaning)),
+    }
+}
+
 /// Adds why a statement is odd, if it is, and gives how far the program has come after it.
 fn pass(
     notices: &mut Vec<OddNotice>,
     course: Course,
+    labels: &mut Labels,
     keyword: Keyword,
     statement: &Statement,
 ) -> Result<Course, AllocError> {
@@ -223,7 +248,7 @@ fn pass(
     let Some(meaning) = meaning_of(*notices.allocator(), keyword, statement)? else {
         return Ok(course.after_refused(keyword));
     };
-    if let Some(what) = course.odd(&meaning) {
+    if let Some(what) = odd_here(course, labels, keyword, statement, &meaning)? {
         notices.push(OddNotice { what, line })?;
     }
     Ok(course.after(&meaning))
@@ -246,6 +271,7 @@ fn next_statement<'a>(statements: &mut Statements<'a>) -> Result<Option<Statemen
 pub fn odd_statements(alloc: Global, bytes: &[u8]) -> Result<Vec<OddNotice>, AllocError> {
     let mut statements = Statements::new(alloc, bytes);
     let mut course = Course::start();
+    let mut labels = Labels::new(alloc);
     let mut notices = Vec::new(alloc);
     if bytes.starts_with(b"\xEF\xBB\xBF") {
         let what = Odd::Mark;
@@ -256,7 +282,7 @@ pub fn odd_statements(alloc: Global, bytes: &[u8]) -> Result<Vec<OddNotice>, All
         if keyword == Keyword::Endfil {
             return Ok(notices);
         }
-        course = pass(&mut notices, course, keyword, &statement)?;
+        course = pass(&mut notices, course, &mut labels, keyword, &statement)?;
         statements.take_back(statement);
     }
     Ok(notices)

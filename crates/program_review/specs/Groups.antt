@@ -1,0 +1,85 @@
+-- What a refused statement is for: what deleting it would change (the words are those of ISO 22093; the groups are this profile's).
+use Rattle.std.specs.Prelude.{ℕ, Bool, true, false, ◌||◌, ◌==◌, List, [], ◌∷◌, codes, if◌then◌else◌}
+use Rattle.dmis_program.specs.Keywords.{keyword_of, is_among}
+use Rattle.dmis_program.specs.declared.faults.Refusal.{Refusal}
+use Rattle.dmis_program.specs.declared.faults.Refusal.TheVariants as refusal
+use Rattle.dmis_program.specs.declared.keywords.Keyword.{Keyword}
+use Rattle.dmis_program.specs.declared.keywords.Keyword.TheVariants as word
+use Rattle.program_review.specs.declared.groups.Group.{Group}
+use Rattle.program_review.specs.declared.groups.Group.TheVariants as group
+
+-- words that identify, print, keep or evaluate
+abbrev pub identifying : List (List ℕ)
+identifying = codes "CLMPID" ∷ (codes "DMEID" ∷ (codes "FIXTID" ∷ (codes "LOTID" ∷ (codes "OPERID"
+    ∷ (codes "PARTID" ∷ (codes "PARTRV" ∷ (codes "PARTSN" ∷ [])))))))
+
+abbrev pub reporting : List (List ℕ)
+reporting = codes "BOUND" ∷ (codes "CLOSE" ∷ (codes "CONST" ∷ (codes "DECPL" ∷ (codes "DEVICE"
+    ∷ (codes "EVAL" ∷ (codes "OPEN" ∷ (codes "REPORT" ∷ (codes "VFORM" ∷ (codes "WRITE" ∷ [])))))))))
+
+-- words that set up a coordinate system, or turn the part
+abbrev pub coordinates : List (List ℕ)
+coordinates = codes "DATDEF" ∷ (codes "DATSET" ∷ (codes "EQUATE" ∷ (codes "ITERAT" ∷ (codes "LOCATE"
+    ∷ (codes "ROTAB" ∷ (codes "ROTATE" ∷ (codes "ROTSET" ∷ (codes "SAVE" ∷ (codes "TRANS" ∷ [])))))))))
+
+-- words that measure, or calibrate
+abbrev pub measuring : List (List ℕ)
+measuring = codes "CALIB" ∷ (codes "PAMEAS" ∷ (codes "PATH" ∷ (codes "PTBUFF" ∷ (codes "RMEAS"
+    ∷ (codes "SCAN" ∷ (codes "SCNMOD" ∷ (codes "SCNSET" ∷ [])))))))
+
+-- words that decide which statements come next, or compute what they need
+abbrev pub branching : List (List ℕ)
+branching = codes "CASE" ∷ (codes "DFTCAS" ∷ (codes "DO" ∷ (codes "ELSE" ∷ (codes "ENDCAS"
+    ∷ (codes "ENDDO" ∷ (codes "ENDIF" ∷ (codes "ENDSEL" ∷ (codes "IF" ∷ (codes "JUMPTO" ∷ (codes "SELECT" ∷ []))))))))))
+
+abbrev pub calling : List (List ℕ)
+calling = codes "ASSIGN" ∷ (codes "CALL" ∷ (codes "DECL" ∷ (codes "ENDMAC" ∷ (codes "ERROR"
+    ∷ (codes "EXTFIL" ∷ (codes "INCLUD" ∷ (codes "MACRO" ∷ (codes "PROMPT" ∷ (codes "READ" ∷ (codes "VALUE" ∷ []))))))))))
+
+-- words that move the machine, or say how it moves
+abbrev pub moving : List (List ℕ)
+moving = codes "CLRSRF" ∷ (codes "CZONE" ∷ (codes "CZSLCT" ∷ (codes "ENDGO" ∷ (codes "FLY"
+    ∷ (codes "FROM" ∷ (codes "GOHOME" ∷ (codes "GOTARG" ∷ (codes "RAPID" ∷ (codes "WRIST" ∷ [])))))))))
+
+-- words that change measured lengths
+abbrev pub compensating : List (List ℕ)
+compensating = codes "GECOMP" ∷ (codes "TECOMP" ∷ [])
+
+-- a label to which a program jumps, as `(AGAIN)`; ( is 40
+abbrev pub is_jump_label : List ℕ → Bool
+is_jump_label [] = false
+is_jump_label (first ∷ rest) = first == 40
+
+-- the group of a word that this profile does not read
+unfoldable pub word_group : List ℕ → Group
+word_group text =
+    if is_among text identifying || is_among text reporting then group.Bookkeeping else
+    if is_among text coordinates then group.Coordinates else
+    if is_among text measuring then group.Measuring else
+    if is_among text branching || (is_among text calling || is_jump_label text) then group.Flow else
+    if is_among text moving then group.Motion else
+    if is_among text compensating then group.Lengths else group.Other
+
+-- of a statement that this profile does not read
+abbrev pub unsupported_group : Keyword → List ℕ → Group
+unsupported_group word.Goto text = group.Motion
+unsupported_group word.Ptmeas text = group.Measuring
+unsupported_group word.Recall text = group.Coordinates
+unsupported_group word.Dmismn text = group.Flow
+unsupported_group word.Unknown text = word_group text
+unsupported_group _ text = group.Mistake
+
+-- of a statement whose parameters are wrong: a frame that is not selected changes where positions are
+abbrev pub mistaken_group : Keyword → Group
+mistaken_group word.Recall = group.Coordinates
+mistaken_group _ = group.Mistake
+
+-- the group of a refused statement of this word
+abbrev pub group_of : Refusal → List ℕ → Group
+group_of refusal.Unsupported text = unsupported_group (keyword_of text) text
+group_of refusal.BadArguments text = mistaken_group (keyword_of text)
+group_of refusal.UnknownFrame text = group.Coordinates
+group_of refusal.TooFewPoints text = group.Measuring
+group_of refusal.NoProgMode text = group.Measuring
+group_of refusal.NotMillimetres text = group.Lengths
+group_of _ text = group.Mistake
