@@ -4,11 +4,11 @@ _dme()
     local word=${COMP_WORDS[COMP_CWORD]} before=${COMP_WORDS[COMP_CWORD - 1]} options
     COMPREPLY=()
     if (( COMP_CWORD == 1 )); then
-        mapfile -t COMPREPLY < <(compgen -W "check simulate audit loop serve run explain export review ledger help --help --version" -- "$word")
+        mapfile -t COMPREPLY < <(compgen -W "check simulate audit loop serve run explain export review ledger watch help --help --version" -- "$word")
         return
     fi
     case $before in
-        --setup | --schedule | --features | --contacts | --record | --log | --stop | --up | --down)
+        --setup | --schedule | --features | --contacts | --record | --log | --stop | --up | --down | --told | --record-bytes)
             mapfile -t COMPREPLY < <(compgen -f -- "$word")
             return ;;
         --as)
@@ -30,6 +30,7 @@ _dme()
         export) options="--as --setup --features --record --explain" ;;
         review) options="--setup" ;;
         ledger) options="--up --down --connection" ;;
+        watch) options="--listen --host --port --told --record-bytes --connections --trace --log --timeout" ;;
         explain)
             options="P1 P2 P3 P4 P5 P6 P7 P8 P9 P10 P11 P12 P13 P14 P15 P16 N1 N2 N3 S1 S2 S3 H1 K1 J1 J2 J3 C4"
             options+=" 9001 9002 9003 9004 9005 9006 9007 9008 9009 9010 9011 9012 9013 9014 9015"
@@ -37,12 +38,12 @@ _dme()
             [[ $word == -* ]] && options=--help
             mapfile -t COMPREPLY < <(compgen -W "$options" -- "$word")
             return ;;
-        help) options="check simulate audit loop serve run explain export review ledger" ;;
+        help) options="check simulate audit loop serve run explain export review ledger watch" ;;
         *) return ;;
     esac
     if [[ ${COMP_WORDS[1]} == help || $word == -* ]]; then
         mapfile -t COMPREPLY < <(compgen -W "$options --help" -- "$word")
-    elif [[ ${COMP_WORDS[1]} != serve && ${COMP_WORDS[1]} != ledger ]]; then
+    elif [[ ${COMP_WORDS[1]} != serve && ${COMP_WORDS[1]} != ledger && ${COMP_WORDS[1]} != watch ]]; then
         mapfile -t COMPREPLY < <(compgen -f -- "$word")
     fi
 }

@@ -31,7 +31,7 @@ def commands():
 
 
 def options(command):
-    return set(re.findall(r"--[a-z]+", told(command, "--help")[1].partition("Options:")[2]))
+    return set(re.findall(r"--[a-z-]+", told(command, "--help")[1].partition("Options:")[2]))
 
 
 def is_whole(name):
@@ -51,7 +51,7 @@ def is_whole(name):
 
 def check_completion():
     """How many lists are as the program reports, and how many are not."""
-    names = ["commands", "codes", "forms", "check", "simulate", "audit", "loop", "serve", "run", "explain", "export", "review", "ledger"]
+    names = ["commands", "codes", "forms", "check", "simulate", "audit", "loop", "serve", "run", "explain", "export", "review", "ledger", "watch"]
     wrong = [it for it in names if not (PROGRAM.exists() and is_whole(it))]
     for name in wrong:
         print(f"completion of {name}: not as the program says")

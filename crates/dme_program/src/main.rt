@@ -12,7 +12,7 @@
 //!   connections, shown or added to a log; `refusals`: what is reported of a server's errors
 //! - `calling`: how a server is called; `waiting`: time limits and stop files; `warning`: what a setup lacks for a program
 //! - `explaining`: what is shown for an order whose files are refused
-//! - `witnessing`: what a server told, by the bytes of both ends
+//! - `witnessing`: what a server told, by the bytes of both ends; `watching`: a relay that writes it
 //! - `faults`: what is printed on standard error, and the exit status; `version`: which program this is
 #![tactic(auto)]
 
@@ -36,6 +36,7 @@ mod tracing;
 mod version;
 mod waiting;
 mod warning;
+mod watching;
 mod witnessing;
 
 use std::process::ExitCode;

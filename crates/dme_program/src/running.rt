@@ -14,6 +14,7 @@ use crate::files::{NamedSource, Sources};
 use crate::serving_connections::serve;
 use crate::tracing::ErrorOutput;
 use crate::version;
+use crate::watching::watch;
 use crate::witnessing::ledger;
 use byte_ports::Writing;
 use dme_orders::{
@@ -234,6 +235,7 @@ fn carry_out<
         Order::ExportRecord(order) => export_of_record(rt, order),
         Order::Review(order) => review(rt, order),
         Order::Ledger(order) => ledger(rt, order),
+        Order::Watch(order) => watch(rt, order),
     }
 }
 

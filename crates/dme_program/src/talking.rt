@@ -238,7 +238,7 @@ impl<'a, R: Eprint + Clock + AllocGlobal> Talk<'a, R> {
     }
 
     /// Bytes that a side has written. If memory runs out for them, that is reported, and no more is shown.
-    fn keep_all(&mut self, side: Side, bytes: &[u8]) {
+    pub fn keep_all(&mut self, side: Side, bytes: &[u8]) {
         if !self.trace && self.log.is_none() && self.refusals.is_none() {
             return;
         }

@@ -1,4 +1,4 @@
--- Which values the last five subcommands have, by their names.
+-- Which values the last seven subcommands have, by their names.
 use Rattle.std.proofs.Common.{◌≡◌, ◌∙◌, List, codes, sym, inl, inr, true≢false}
 use Rattle.std.proofs.lemmas.Slice.Eq.{bytes_eq-Decides}
 use Rattle.clap.specs.Walk.{Row, Text}
@@ -10,4 +10,5 @@ has_run p (inr (inl (is, has))) run = has
 has_run p (inr (inr (inl (is, has)))) run = absurd (true≢false (sym ((bytes_eq-Decides (codes "explain") (codes "run")).1 (sym is ∙ run))))
 has_run p (inr (inr (inr (inl (is, has))))) run = absurd (true≢false (sym ((bytes_eq-Decides (codes "export") (codes "run")).1 (sym is ∙ run))))
 has_run p (inr (inr (inr (inr (inl is))))) run = absurd (true≢false (sym ((bytes_eq-Decides (codes "review") (codes "run")).1 (sym is ∙ run))))
-has_run p (inr (inr (inr (inr (inr (is, has)))))) run = absurd (true≢false (sym ((bytes_eq-Decides (codes "ledger") (codes "run")).1 (sym is ∙ run))))
+has_run p (inr (inr (inr (inr (inr (inl (is, has))))))) run = absurd (true≢false (sym ((bytes_eq-Decides (codes "ledger") (codes "run")).1 (sym is ∙ run))))
+has_run p (inr (inr (inr (inr (inr (inr (is, has))))))) run = absurd (true≢false (sym ((bytes_eq-Decides (codes "watch") (codes "run")).1 (sym is ∙ run))))

@@ -3,7 +3,7 @@ use Rattle.std.specs.Prelude.{codes}
 use Rattle.clap.specs.Words.{App, Rule, with_rule, with_subcommand}
 use Rattle.dme_words.specs.CommandLine.{text_rule, needed_rule, window_rule, port_rule, connections_rule, flag_rule, program_rule, code_rule}
 use Rattle.dme_words.specs.CommandLine.{check_line, simulate_line, audit_line, loop_line, serve_line, run_line, explain_line, export_line}
-use Rattle.dme_words.specs.CommandLine.{connection_rule, ledger_line, review_line}
+use Rattle.dme_words.specs.CommandLine.{connection_rule, ledger_line, listened_rule, review_line, watch_line}
 use Rattle.dme_words.specs.declared.line.Argument.{Argument}
 use Rattle.dme_words.specs.declared.line.Argument.TheVariants as argument
 use Rattle.dme_words.specs.declared.line.Kind.{Kind}
@@ -31,6 +31,9 @@ argument_rule argument.Connections = connections_rule
 argument_rule argument.Connection = connection_rule
 argument_rule argument.Up = needed_rule (codes "up")
 argument_rule argument.Down = needed_rule (codes "down")
+argument_rule argument.ListenedPort = listened_rule
+argument_rule argument.ToldFile = needed_rule (codes "told")
+argument_rule argument.RecordedBytes = text_rule (codes "record-bytes")
 argument_rule argument.Form = needed_rule (codes "as")
 argument_rule argument.Code = code_rule
 argument_rule argument.Progress = flag_rule (codes "progress")
@@ -60,6 +63,7 @@ kind_line kind.Explain = explain_line
 kind_line kind.Export = export_line
 kind_line kind.Review = review_line
 kind_line kind.Ledger = ledger_line
+kind_line kind.Watch = watch_line
 
 -- a command that has the subcommand of this kind more
 abbrev pub with_kind : App → Kind → App

@@ -99,6 +99,16 @@ connection_rule = record (number_rule (codes "connection") 4000000000) { default
 abbrev pub ledger_line : App
 ledger_line = line_of (codes "ledger") (needed_rule (codes "up") ∷ needed_rule (codes "down") ∷ connection_rule ∷ [])
 
+-- the option `--listen PORT` of a relay, which must be named: a number from 1 to 65,535
+abbrev pub listened_rule : Rule
+listened_rule = record (number_rule (codes "listen") 65535) { required = true }
+
+-- `watch --listen PORT --host H --port N --told FILE [--record-bytes FOLDER] [--connections K] [--trace] [--log FILE] [--timeout SECONDS]`
+abbrev pub watch_line : App
+watch_line = line_of (codes "watch") (listened_rule ∷ needed_rule (codes "host") ∷ port_rule ∷ needed_rule (codes "told")
+    ∷ text_rule (codes "record-bytes") ∷ connections_rule ∷ flag_rule (codes "trace") ∷ text_rule (codes "log")
+    ∷ text_rule (codes "timeout") ∷ [])
+
 -- the command without its subcommands, of which one is required
 abbrev pub bare_line : App
 bare_line = record (new_app (codes "dme")) { top = record (new_app (codes "dme")).top { subcommand_required = true } }
@@ -106,4 +116,4 @@ bare_line = record (new_app (codes "dme")) { top = record (new_app (codes "dme")
 -- `dme COMMAND ..`
 abbrev pub whole_line : App
 whole_line = fold (λ line order. with_subcommand line order.top) bare_line (check_line ∷ simulate_line ∷ audit_line ∷ loop_line
-    ∷ serve_line ∷ run_line ∷ explain_line ∷ export_line ∷ review_line ∷ ledger_line ∷ [])
+    ∷ serve_line ∷ run_line ∷ explain_line ∷ export_line ∷ review_line ∷ ledger_line ∷ watch_line ∷ [])

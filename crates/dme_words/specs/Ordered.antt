@@ -27,6 +27,7 @@ use Rattle.dme_words.specs.declared.orders.Review.{Review}
 use Rattle.dme_words.specs.declared.orders.Run.{Run}
 use Rattle.dme_words.specs.declared.orders.Service.{Service}
 use Rattle.dme_words.specs.declared.orders.Simulation.{Simulation}
+use Rattle.dme_words.specs.declared.orders.Watch.{Watch}
 use Rattle.dme_words.specs.declared.words.WordsFault.{WordsFault}
 use Rattle.dme_words.specs.declared.words.WordsFault.TheVariants.{Line, Memory, Misfits, NoCode, NoForm}
 use Rattle.dme_words.specs.declared.misfits.Misfit.{Misfit}
@@ -72,6 +73,10 @@ IsConnectionsOf = IsNumberOf (codes "connections") 4000000000
 -- the number is the value of `--connection`
 abbrev pub IsConnectionOf : List Row → ℕ → Type 0
 IsConnectionOf = IsNumberOf (codes "connection") 4000000000
+
+-- the number is the value of `--listen` of a relay
+abbrev pub IsListenedOf : List Row → ℕ → Type 0
+IsListenedOf = IsNumberOf (codes "listen") 65535
 
 -- the flag with this id is set, or it is not, as `clap` writes it
 abbrev pub IsFlagOf : Text → List Row → Bool → Type 0
@@ -192,6 +197,15 @@ IsLedgerOf rows o =
     IsValueOf (codes "up") rows (string_bytes o.up) × IsValueOf (codes "down") rows (string_bytes o.down)
     × IsConnectionOf rows o.connection
 
+-- a relay at the named port to the server at the named host and port, for that many connections, with the named file for what the server reports, and
+-- the named folder for bytes, log and time limit, if any
+abbrev pub IsWatchOf : List Row → Watch → Type 0
+IsWatchOf rows o =
+    IsListenedOf rows o.listen × IsValueOf (codes "host") rows (string_bytes o.host) × IsPortOf rows o.port
+    × IsValueOf (codes "told") rows (string_bytes o.told) × IsMaybeOf (codes "record-bytes") rows (option_map string_bytes o.record_bytes)
+    × IsConnectionsOf rows o.connections × IsFlagOf (codes "trace") rows o.trace
+    × IsMaybeOf (codes "log") rows (option_map string_bytes o.log) × IsMaybeOf (codes "timeout") rows (option_map string_bytes o.timeout)
+
 -- the order of a subcommand with its values, by its name
 abbrev pub IsNamedOrderOf : Text × List Row → Order → Type 0
 IsNamedOrderOf p (order.Check o) = (p.0 ≡ codes "check") × IsCheckOf p.1 o
@@ -206,6 +220,7 @@ IsNamedOrderOf p (order.Export o) = (p.0 ≡ codes "export") × IsExportOf p.1 o
 IsNamedOrderOf p (order.ExportRecord o) = (p.0 ≡ codes "export") × IsRecordExportOf p.1 o
 IsNamedOrderOf p (order.Review o) = (p.0 ≡ codes "review") × IsReviewOf p.1 o
 IsNamedOrderOf p (order.Ledger o) = (p.0 ≡ codes "ledger") × IsLedgerOf p.1 o
+IsNamedOrderOf p (order.Watch o) = (p.0 ≡ codes "watch") × IsWatchOf p.1 o
 
 -- the order of the subcommand that was found
 abbrev pub IsOrderOf : Option (Text × List Row) → Order → Type 0
@@ -237,6 +252,10 @@ HasConnections = HasNumber (codes "connections") 4000000000
 -- the connection has a number in its range
 abbrev pub HasConnection : List Row → Type 0
 HasConnection = HasNumber (codes "connection") 4000000000
+
+-- the port that a relay listens on has a number in its range
+abbrev pub HasListened : List Row → Type 0
+HasListened = HasNumber (codes "listen") 65535
 
 -- the flag with this id has a value, which is read as it is written
 pub record HasFlag (id : Text) (rows : List Row) : Type 0 where
@@ -295,11 +314,20 @@ pub record HasLedger (rows : List Row) : Type 0 where
   pub down : HasValue (codes "down") rows
   pub connection : HasConnection rows
 
--- the name of one of the last six subcommands, with the values that it cannot do without
+-- the values that a relay cannot do without are there
+pub record HasWatch (rows : List Row) : Type 0 where
+  pub listen : HasListened rows
+  pub host : HasValue (codes "host") rows
+  pub port : HasPort rows
+  pub told : HasValue (codes "told") rows
+  pub connections : HasConnections rows
+  pub trace : HasFlag (codes "trace") rows
+
+-- the name of one of the last seven subcommands, with the values that it cannot do without
 abbrev pub IsLaterAskable : Text × List Row → Type 0
 IsLaterAskable p = ((p.0 ≡ codes "serve") × HasService p.1) ⊎ ((p.0 ≡ codes "run") × HasRun p.1)
     ⊎ ((p.0 ≡ codes "explain") × HasValue (codes "CODE") p.1) ⊎ ((p.0 ≡ codes "export") × HasExport p.1)
-    ⊎ (p.0 ≡ codes "review") ⊎ ((p.0 ≡ codes "ledger") × HasLedger p.1)
+    ⊎ (p.0 ≡ codes "review") ⊎ ((p.0 ≡ codes "ledger") × HasLedger p.1) ⊎ ((p.0 ≡ codes "watch") × HasWatch p.1)
 
 -- the name of a subcommand of `dme`, with the values that it cannot do without
 abbrev pub IsAskable : Text × List Row → Type 0
@@ -321,6 +349,7 @@ IsReady (order.Export o) = Unit {0}
 IsReady (order.ExportRecord o) = Unit {0}
 IsReady (order.Review o) = Unit {0}
 IsReady (order.Ledger o) = (1 ≤ o.connection) × (o.connection ≤ 4000000000)
+IsReady (order.Watch o) = (1 ≤ o.listen) × (1 ≤ o.port) × (1 ≤ o.connections) × (o.connections ≤ 4000000000)
 
 -- the words are a command line without a fault, and this is the order of the subcommand that they name, with its values
 pub record Asks (words : List Text) (asked : Order) : Type 0 where

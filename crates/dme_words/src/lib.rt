@@ -13,6 +13,6 @@ pub mod words;
 pub use misfits::{Lacks, Misfit};
 pub use orders::{
     Audit, Check, Export, Ledger, Loop, Order, RecordAudit, RecordExport, RecordForm, Review, Run,
-    Service, Simulation,
+    Service, Simulation, Watch,
 };
 pub use words::{WordsFault, read_words};

@@ -6,6 +6,7 @@ ghost use Rattle.clap.specs.Words.{app_of, rule_of, shape_of, with_rule, with_su
 ghost use Rattle.dme_words.specs.CommandLine.{text_rule, needed_rule, window_rule, port_rule, connections_rule, flag_rule};
 ghost use Rattle.dme_words.specs.CommandLine.{program_rule, check_line, simulate_line, audit_line, loop_line, serve_line, run_line};
 ghost use Rattle.dme_words.specs.CommandLine.{code_rule, connection_rule, explain_line, export_line, review_line, ledger_line};
+ghost use Rattle.dme_words.specs.CommandLine.{listened_rule, watch_line};
 ghost use Rattle.dme_words.specs.CommandLine.{bare_line, whole_line};
 ghost use Rattle.dme_words.specs.Arguments.{argument_rule, kind_line, with_kind, with_next};
 
@@ -58,6 +59,12 @@ enum Argument {
     Up,
     /// `--down FILE`.
     Down,
+    /// `--listen PORT` of a relay.
+    ListenedPort,
+    /// `--told FILE`.
+    ToldFile,
+    /// `--record-bytes FOLDER`.
+    RecordedBytes,
     /// `--as FORM`.
     Form,
     /// `CODE`.
@@ -107,6 +114,8 @@ enum Kind {
     Review,
     /// `ledger ..`.
     Ledger,
+    /// `watch ..`.
+    Watch,
 }
 
 /// `--NAME FILE`.
@@ -180,6 +189,30 @@ fn listen_option<'a>(alloc: Global) -> Arg<'a>
         .long("listen")
         .value_name("ADDRESS")
         .help("The address that is listened on, 127.0.0.1 if none is named")
+}
+
+/// `--listen PORT`.
+fn listened_option<'a>(alloc: Global) -> Arg<'a>
+    ensures rule { rule_of result ≡ listened_rule }
+    ensures local { result.global ≡ false }
+{
+    Arg::new(alloc, "listen")
+        .long("listen")
+        .value_name("PORT")
+        .help("The port of 127.0.0.1 that the client is to call, from 1 to 65535")
+        .value_parser(clap::value_parser!(u16).range(1..))
+        .required(true)
+}
+
+/// `--record-bytes FOLDER`.
+fn recorded_option<'a>(alloc: Global) -> Arg<'a>
+    ensures rule { rule_of result ≡ text_rule (codes "record-bytes") }
+    ensures local { result.global ≡ false }
+{
+    Arg::new(alloc, "record-bytes")
+        .long("record-bytes")
+        .value_name("FOLDER")
+        .help("The folder that the bytes of each connection are kept in, as 1.up and 1.down")
 }
 
 /// `--port N`.
@@ -384,6 +417,12 @@ fn made_argument<'a>(alloc: Global, argument: Argument) -> Arg<'a>
             let down = "The bytes that the server sent; - is standard input";
             needed_option(alloc, "down", down)
         }
+        Argument::ListenedPort => listened_option(alloc),
+        Argument::ToldFile => {
+            let told = "The file that what the server reports is written to";
+            needed_option(alloc, "told", told)
+        }
+        Argument::RecordedBytes => recorded_option(alloc),
         Argument::Form => form_option(alloc),
         Argument::Code => code_argument(alloc),
         Argument::Progress => progress_flag(alloc),
@@ -670,6 +709,31 @@ fn ledger_command<'a>(alloc: Global) -> Result<Command<'a>, AllocError>
     )
 }
 
+/// `watch --listen PORT --host H --port N --told FILE [--record-bytes FOLDER] [--connections K] [--trace] [--log FILE] [--timeout SECONDS]`.
+fn watch_command<'a>(alloc: Global) -> Result<Command<'a>, AllocError>
+    ensures shape { IfOk result (λ command. app_of command ≡ watch_line) }
+    ensures local { IfOk result (λ command. (out-Command command).has_globals ≡ false) }
+{
+    let command = Command::new(alloc, "watch").about(
+        "Stands between a client and a server, and writes what the server reports that it did",
+    );
+    with_arguments(
+        alloc,
+        command,
+        &[
+            Argument::ListenedPort,
+            Argument::Host,
+            Argument::ServersPort,
+            Argument::ToldFile,
+            Argument::RecordedBytes,
+            Argument::Connections,
+            Argument::Trace,
+            Argument::Log,
+            Argument::Timeout,
+        ],
+    )
+}
+
 /// `dme`, without its subcommands.
 fn bare_command<'a>(alloc: Global) -> Command<'a>
     ensures shape { app_of result ≡ bare_line }
@@ -696,6 +760,7 @@ fn order_command<'a>(alloc: Global, kind: Kind) -> Result<Command<'a>, AllocErro
         Kind::Export => export_command(alloc),
         Kind::Review => review_command(alloc),
         Kind::Ledger => ledger_command(alloc),
+        Kind::Watch => watch_command(alloc),
     }
 }
 
@@ -745,6 +810,7 @@ pub(crate) fn whole_command<'a>(alloc: Global) -> Result<Command<'a>, AllocError
             Kind::Export,
             Kind::Review,
             Kind::Ledger,
+            Kind::Watch,
         ],
     )
 }

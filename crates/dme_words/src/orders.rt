@@ -30,6 +30,8 @@ pub enum Order {
     Review(Review),
     /// Print what a server told, by the bytes that both ends of a connection sent.
     Ledger(Ledger),
+    /// Stand between a client and a server, and write what the server reports.
+    Watch(Watch),
 }
 
 /// The values of `check`.
@@ -230,4 +232,27 @@ pub struct Ledger {
     pub down: String,
     /// The number of the connection, from 1 to 4,000,000,000.
     pub connection: u32,
+}
+
+/// The values of `watch`.
+#[derive(Debug, Drop)]
+pub struct Watch {
+    /// The port that is listened on, at least 1.
+    pub listen: u16,
+    /// The server's host, as a name or as an address.
+    pub host: String,
+    /// The server's port, at least 1.
+    pub port: u16,
+    /// The file that is written; `-` is a file of that name.
+    pub told: String,
+    /// The folder that the bytes of both ends of each connection are kept in.
+    pub record_bytes: Option<String>,
+    /// How many connections are relayed, one after the other, from 1 to 4,000,000,000.
+    pub connections: u32,
+    /// Whether each line that either side writes is shown.
+    pub trace: bool,
+    /// The file that these lines are added to, with their times; `-` is a file of that name.
+    pub log: Option<String>,
+    /// How many seconds both ends may be silent, as they are written; no limit if none are named.
+    pub timeout: Option<String>,
 }

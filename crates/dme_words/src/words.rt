@@ -9,6 +9,7 @@ ghost use Rattle.dme_words.specs.Ordered.{IsCheckOf, IsSimulateOf, IsAnyAuditOf,
 ghost use Rattle.dme_words.specs.Ordered.{IsExplainOf, IsLedgerOf, IsAnyExportOf, HasExport, AsksForNothing, IsNoCode, IsNoForm, IsCodeOf, form_word, HasNoTopic};
 ghost use Rattle.dme_words.specs.Ordered.{IsConnectionOf, HasConnection, HasLedger, HasValue, HasWindow, HasPort, HasConnections, HasFlag, HasExplained};
 ghost use Rattle.dme_words.specs.Ordered.{HasSimulation, HasLoop, HasService, HasRun};
+ghost use Rattle.dme_words.specs.Ordered.{IsListenedOf, HasListened, IsWatchOf, HasWatch};
 ghost use Rattle.dme_words.specs.Ordered.{HasNone, is_lacking, AreLacking, HasNoAudit, HasNoExport, ExportMisfits};
 ghost use Rattle.dme_words.specs.Ordered.{IsLaterAskable, IsReviewOf};
 ghost use Rattle.dme_words.specs.Ordered.{IsAskable, IsReady, Asks, IsRefusal, IsCalled};
@@ -17,7 +18,7 @@ use crate::line::whole_command;
 use crate::misfits::{Lacks, Misfit};
 use crate::orders::{
     Audit, Check, Export, Ledger, Loop, Order, RecordAudit, RecordExport, RecordForm, Review, Run,
-    Service, Simulation,
+    Service, Simulation, Watch,
 };
 use clap::error::ErrorKind;
 use clap::parser::ValueSource;
@@ -143,6 +144,18 @@ fn connection_of(values: &ArgMatches) -> u32
 {
     match values.get_one::<u32>("connection") {
         Some(connection) => connection,
+        None => unreachable!(),
+    }
+}
+
+/// The value of `--listen`, which `clap` has found in range.
+fn listened_of(values: &ArgMatches) -> u16
+    requires { HasListened (rows_of (found_of values.now)) }
+    ensures named { IsListenedOf (rows_of (found_of values.now)) result }
+    ensures ready { 1 ≤ result }
+{
+    match values.get_one::<u16>("listen") {
+        Some(port) => port,
         None => unreachable!(),
     }
 }
@@ -526,7 +539,36 @@ fn ledger_order(alloc: Global, values: &ArgMatches) -> Result<Ledger, AllocError
     })
 }
 
-/// The order of one of the last six subcommands, with its values.
+/// The values of `watch`. Fails only if out of memory.
+fn watch_order(alloc: Global, values: &ArgMatches) -> Result<Watch, AllocError>
+    requires { HasWatch (rows_of (found_of values.now)) }
+    ensures named { IfOk result (IsWatchOf (rows_of (found_of values.now))) }
+    ensures ready { IfOk result (λ order. (1 ≤ order.listen) × (1 ≤ order.port)
+        × (1 ≤ order.connections) × (order.connections ≤ 4000000000)) }
+{
+    let listen = listened_of(values);
+    let host = copied_value(alloc, values, "host")?;
+    let port = port_of(values);
+    let told = copied_value(alloc, values, "told")?;
+    let record_bytes = copied_maybe(alloc, values, "record-bytes")?;
+    let connections = connections_of(values);
+    let trace = flag_of(values, "trace");
+    let log = copied_maybe(alloc, values, "log")?;
+    let timeout = copied_maybe(alloc, values, "timeout")?;
+    Ok(Watch {
+        listen,
+        host,
+        port,
+        told,
+        record_bytes,
+        connections,
+        trace,
+        log,
+        timeout,
+    })
+}
+
+/// The order of one of the last seven subcommands, with its values.
 fn later_order(alloc: Global, name: &str, values: &ArgMatches) -> Result<Order, WordsFault>
     requires { IsLaterAskable (name.now, rows_of (found_of values.now)) }
     ensures named { IfOk result (IsOrderOf (Some (name.now, rows_of (found_of values.now)))) }
@@ -541,6 +583,7 @@ fn later_order(alloc: Global, name: &str, values: &ArgMatches) -> Result<Order, 
         "export" => export_order(alloc, values),
         "review" => Ok(Order::Review(review_order(alloc, values)?)),
         "ledger" => Ok(Order::Ledger(ledger_order(alloc, values)?)),
+        "watch" => Ok(Order::Watch(watch_order(alloc, values)?)),
         _ => unreachable!(),
     }
 }

@@ -1,0 +1,511 @@
+// The order `watch`, on files, sockets and standard error.
+
+ghost use Rattle.std.specs.Prelude.{◌≤◌, length, IfOk, IfSome};
+
+use crate::calling::{Called, call_server};
+use crate::connecting::no_connection;
+use crate::faults::Fault;
+use crate::growing_files::{NextTold, ToldFile};
+use crate::talking::{Log, Side, Talk};
+use crate::waiting::{LOOK_MS, Patience, seconds_of};
+use dme_orders::OrderFault;
+use dme_words::Watch;
+use mio::net::TcpStream as Socket;
+use mio::{Events, Interest, Poll, Token};
+use std::alloc::{AllocError, Global};
+use std::fs::{self, File};
+use std::io::{self, ErrorKind, Read, Write};
+use std::net::{Net, Shutdown, TcpListener, TcpStream};
+use std::rt::{Clock, Files};
+use std::time::{Duration, Instant};
+use told_ledger::Relay;
+
+/// The most bytes that are read at once.
+const PIECE: usize = 65_536;
+
+/// Why a connection is no longer relayed.
+#[derive(Drop)]
+enum Ended {
+    /// Both ends have left it.
+    Left,
+    /// It broke off.
+    Broken(io::Error),
+    /// Nothing came for too long.
+    Silent,
+    /// Out of memory.
+    Memory,
+}
+
+impl From<AllocError> for Ended {
+    ghost use Rattle.std.specs.Prelude.{◌≡◌};
+    ghost use Rattle.dme_program.specs.declared.watching.Ended.TheVariants as ended;
+
+    ghost from_gives = { λ _ e. e ≡ ended.Memory };
+
+    fn from(_error: AllocError) -> Ended {
+        Ended::Memory
+    }
+}
+
+impl From<io::Error> for Ended {
+    ghost use Rattle.std.specs.Prelude.{◌≡◌};
+    ghost use Rattle.dme_program.specs.declared.watching.Ended.TheVariants as ended;
+
+    ghost from_gives = { λ error e. e ≡ ended.Broken error };
+
+    fn from(error: io::Error) -> Ended {
+        Ended::Broken(error)
+    }
+}
+
+/// The files that the bytes of a connection are kept in, by their names.
+#[derive(Drop)]
+struct Recording {
+    up: (String, File),
+    down: (String, File),
+}
+
+/// What is kept and shown of connections.
+#[derive(Drop)]
+struct Keeper<'a, R: Eprint> {
+    rt: &'a R,
+    told: ToldFile,
+    folder: Option<String>,
+    recording: Option<Recording>,
+    talk: Talk<'a, R>,
+    has_failed: bool,
+}
+
+/// A new file of this name in a folder, with its name.
+fn file_in<R: Files<File = File> + AllocGlobal>(
+    rt: &R,
+    folder: &str,
+    number: u64,
+    end: &str,
+) -> Result<(String, File), OrderFault> {
+    let name = format!(in rt.alloc(); "{folder}/{number}.{end}")?;
+    match fs::create(rt, name.as_str()) {
+        Ok(file) => Ok((name, file)),
+        Err(_) => Err(OrderFault::CannotWrite(name)),
+    }
+}
+
+/// The files that the bytes of the connection of this number are kept in, if a folder is named.
+fn recording_of<R: Files<File = File> + AllocGlobal>(
+    rt: &R,
+    folder: Option<&str>,
+    number: u64,
+) -> Result<Option<Recording>, OrderFault> {
+    let Some(folder) = folder else {
+        return Ok(None);
+    };
+    let up = file_in(rt, folder, number, "up")?;
+    let down = file_in(rt, folder, number, "down")?;
+    Ok(Some(Recording { up, down }))
+}
+
+impl<'a, R: Files<File = File> + Eprint + Clock + AllocGlobal> Keeper<'a, R> {
+    /// A fault is shown, and nothing else stops.
+    fn fail(&mut self, fault: OrderFault) {
+        self.has_failed = true;
+        let _ = eprint!(self.rt; "{fault}");
+    }
+
+    /// The connection of this number begins.
+    fn begin(&mut self, number: u64) {
+        self.talk.begin(number);
+        if number == 1 {
+            return;
+        }
+        match recording_of(self.rt, self.folder.as_deref(), number) {
+            Ok(recording) => self.recording = recording,
+            Err(fault) => {
+                self.recording = None;
+                self.fail(fault);
+            }
+        }
+    }
+
+    /// Bytes came from a side.
+    fn hear(&mut self, side: Side, bytes: &[u8]) {
+        self.talk.keep_all(side, bytes);
+        let Some(recording) = &mut self.recording else {
+            return;
+        };
+        let (name, file) = match side {
+            Side::Client => &mut recording.up,
+            Side::Server => &mut recording.down,
+        };
+        if file.write_all(bytes).is_err() {
+            let _ = eprintln!(self.rt; "dme: cannot write {name}");
+            self.has_failed = true;
+            self.recording = None;
+        }
+    }
+
+    /// Lines are written that the server has told.
+    fn tell(&mut self, lines: &[u8]) {
+        if !lines.is_empty() && !self.told.add(lines) {
+            let name = &self.told.name;
+            let _ = eprintln!(self.rt; "dme: cannot write {name}");
+            self.has_failed = true;
+        }
+    }
+}
+
+/// Reads what has come; nothing if nothing has.
+fn read_some(stream: &Socket, piece: &mut [u8]) -> io::Result<Option<usize>>
+    ensures { IfOk result (λ found. IfSome found (λ n. n ≤ length piece.new)) }
+{
+    let mut stream = stream;
+    match stream.read(piece) {
+        Ok(count) => Ok(Some(count)),
+        Err(error) => match error.kind() {
+            ErrorKind::WouldBlock | ErrorKind::Interrupted => Ok(None),
+            _ => Err(error),
+        },
+    }
+}
+
+/// Writes as much as is taken: how many bytes.
+fn write_some(stream: &Socket, bytes: &[u8]) -> io::Result<usize>
+    ensures { IfOk result (λ n. n ≤ length bytes.now) }
+{
+    if bytes.is_empty() {
+        return Ok(0);
+    }
+    let mut stream = stream;
+    match stream.write(bytes) {
+        Ok(count) => Ok(count),
+        Err(error) => match error.kind() {
+            ErrorKind::WouldBlock | ErrorKind::Interrupted => Ok(0),
+            _ => Err(error),
+        },
+    }
+}
+
+/// A connection between a client and a server, and its relay.
+#[derive(Drop)]
+struct Link {
+    relay: Relay,
+    client: Socket,
+    server: Socket,
+    /// Whether the client has ended what it sends.
+    client_ended: bool,
+    /// Whether the server has.
+    server_ended: bool,
+    /// Whether the server was given that end.
+    up_closed: bool,
+    /// Whether the client was.
+    down_closed: bool,
+}
+
+/// A socket that is not waited for.
+fn socket_of(stream: TcpStream) -> io::Result<Socket> {
+    stream.set_nodelay(true)?;
+    stream.set_nonblocking(true)?;
+    Ok(Socket::from_std(stream))
+}
+
+impl Link {
+    fn new(
+        alloc: Global,
+        number: u64,
+        client: TcpStream,
+        server: TcpStream,
+    ) -> Result<Link, Ended> {
+        Ok(Link {
+            relay: Relay::new(alloc, number),
+            client: socket_of(client)?,
+            server: socket_of(server)?,
+            client_ended: false,
+            server_ended: false,
+            up_closed: false,
+            down_closed: false,
+        })
+    }
+
+    /// Reads from the client, if all that came from it was sent on: whether anything came.
+    fn hear_client<R: Files<File = File> + Eprint + Clock + AllocGlobal>(
+        &mut self,
+        keeper: &mut Keeper<'_, R>,
+        piece: &mut [u8],
+    ) -> Result<bool, Ended> {
+        if self.client_ended || !self.relay.to_server().is_empty() {
+            return Ok(false);
+        }
+        let Some(count) = read_some(&self.client, piece)? else {
+            return Ok(false);
+        };
+        let bytes = &piece[..count];
+        self.client_ended = bytes.is_empty();
+        keeper.hear(Side::Client, bytes);
+        self.relay.from_client(bytes)?;
+        Ok(true)
+    }
+
+    /// Reads from the server, if all that came from it was sent on: whether anything came.
+    fn hear_server<R: Files<File = File> + Eprint + Clock + AllocGlobal>(
+        &mut self,
+        keeper: &mut Keeper<'_, R>,
+        piece: &mut [u8],
+    ) -> Result<bool, Ended> {
+        if self.server_ended || !self.is_sent_to_client() {
+            return Ok(false);
+        }
+        let Some(count) = read_some(&self.server, piece)? else {
+            return Ok(false);
+        };
+        let bytes = &piece[..count];
+        self.server_ended = bytes.is_empty();
+        keeper.hear(Side::Server, bytes);
+        self.relay.from_server(bytes)?;
+        Ok(true)
+    }
+
+    /// Whether all that came from the server was sent on.
+    fn is_sent_to_client(&self) -> bool {
+        self.relay.is_all_told() && self.relay.to_client().is_empty()
+    }
+
+    /// What came is read, and what it reports is written.
+    fn tell<R: Files<File = File> + Eprint + Clock + AllocGlobal>(
+        &mut self,
+        keeper: &mut Keeper<'_, R>,
+    ) -> Result<(), Ended> {
+        self.relay.read()?;
+        self.relay.make_due()?;
+        keeper.tell(self.relay.due());
+        self.relay.clear_due();
+        Ok(())
+    }
+
+    /// Sends on to the server: whether it took anything.
+    fn send_up(&mut self) -> Result<bool, Ended> {
+        let count = write_some(&self.server, self.relay.to_server())?;
+        self.relay.sent_to_server(count);
+        if self.client_ended && !self.up_closed && self.relay.to_server().is_empty() {
+            self.up_closed = true;
+            let _ = self.server.shutdown(Shutdown::Write);
+        }
+        Ok(count > 0)
+    }
+
+    /// Sends on to the client: whether it took anything.
+    fn send_down(&mut self) -> Result<bool, Ended> {
+        if !self.relay.is_all_told() {
+            return Ok(false);
+        }
+        let count = write_some(&self.client, self.relay.to_client())?;
+        self.relay.sent_to_client(count);
+        if self.server_ended && !self.down_closed && self.is_sent_to_client() {
+            self.down_closed = true;
+            let _ = self.client.shutdown(Shutdown::Write);
+        }
+        Ok(count > 0)
+    }
+
+    /// What has come is read, told and sent on: whether anything was moved.
+    fn turn<R: Files<File = File> + Eprint + Clock + AllocGlobal>(
+        &mut self,
+        keeper: &mut Keeper<'_, R>,
+        piece: &mut [u8],
+    ) -> Result<bool, Ended> {
+        let came_up = self.hear_client(keeper, piece)?;
+        let came_down = self.hear_server(keeper, piece)?;
+        self.tell(keeper)?;
+        let sent_up = self.send_up()?;
+        let sent_down = self.send_down()?;
+        if self.up_closed && self.down_closed {
+            return Err(Ended::Left);
+        }
+        Ok(came_up || came_down || sent_up || sent_down)
+    }
+}
+
+/// How long a connection may be silent, and since when it is.
+#[derive(Drop)]
+struct Silence<'a, R> {
+    rt: &'a R,
+    most: Option<u32>,
+    since: Option<Instant>,
+}
+
+impl<'a, R: Clock> Silence<'a, R> {
+    /// Something was moved.
+    fn end(&mut self) {
+        self.since = None;
+    }
+
+    /// How long a wait may take.
+    fn look(&self) -> Option<Duration> {
+        match self.most {
+            Some(_) => Some(Duration::from_millis(LOOK_MS)),
+            None => None,
+        }
+    }
+
+    /// Whether it is too long, from its first call on. A clock that cannot be read limits nothing.
+    fn is_over(&mut self) -> bool {
+        let Some(seconds) = self.most else {
+            return false;
+        };
+        let Ok(now) = Instant::now(self.rt) else {
+            return false;
+        };
+        match self.since {
+            Some(since) => now.saturating_duration_since(since).as_secs() >= seconds as u64,
+            None => {
+                self.since = Some(now);
+                false
+            }
+        }
+    }
+}
+
+/// Relays a connection until it ends, which it gives the cause of.
+fn relay_link<R: Files<File = File> + Eprint + Clock + Net + AllocGlobal>(
+    keeper: &mut Keeper<'_, R>,
+    link: &mut Link,
+    timeout: Option<u32>,
+) -> Result<(), Ended> {
+    let rt = keeper.rt;
+    let mut piece = vec![in rt.alloc(); 0u8; PIECE]?;
+    let mut events = Events::with_capacity(rt.alloc(), 4)?;
+    let mut poll = Poll::new(rt)?;
+    let both = Interest::READABLE | Interest::WRITABLE;
+    poll.registry().register(&mut link.client, Token(0), both)?;
+    poll.registry().register(&mut link.server, Token(1), both)?;
+    let mut silence = Silence {
+        rt,
+        most: timeout,
+        since: None,
+    };
+    for _turn in 0..u64::MAX {
+        if link.turn(keeper, &mut piece)? {
+            silence.end();
+            continue;
+        }
+        if silence.is_over() {
+            return Err(Ended::Silent);
+        }
+        poll.poll(&mut events, silence.look())?;
+    }
+    Ok(())
+}
+
+/// What is shown of a connection that has ended, if it did not end as it should.
+fn shown(alloc: Global, ended: Ended, timeout: Option<u32>) -> Option<Fault> {
+    match ended {
+        Ended::Left => None,
+        Ended::Broken(error) => Some(Fault::Order(no_connection(&error, true))),
+        Ended::Memory => Some(Fault::Order(OrderFault::Memory)),
+        Ended::Silent => {
+            let seconds = timeout.unwrap_or(0);
+            match format!(in alloc; "nothing came for {seconds} s\n") {
+                Ok(line) => Some(Fault::Explained(OrderFault::ConnectionFailed(""), line)),
+                Err(_) => Some(Fault::Order(OrderFault::Memory)),
+            }
+        }
+    }
+}
+
+/// The connection of this number, which a client has made: a server is called for it, and it is relayed.
+fn relay_one<
+    R: Files<File = File>
+        + Eprint
+        + Clock
+        + Net<Listener = TcpListener, Stream = TcpStream>
+        + AllocGlobal,
+>(
+    keeper: &mut Keeper<'_, R>,
+    number: u64,
+    client: TcpStream,
+    order: &Watch,
+    patience: &Patience<'_, R>,
+) -> Result<(), Fault> {
+    let rt = keeper.rt;
+    keeper.begin(number);
+    let server = match call_server(rt, (order.host.as_str(), order.port), None, patience)? {
+        Called::Connected(server) => server,
+        Called::Stopped => return Ok(()),
+    };
+    let timeout = patience.seconds();
+    let result = match Link::new(rt.alloc(), number, client, server) {
+        Ok(mut link) => relay_link(keeper, &mut link, timeout),
+        Err(ended) => Err(ended),
+    };
+    let Err(ended) = result else {
+        return Ok(());
+    };
+    match shown(rt.alloc(), ended, timeout) {
+        Some(fault) => Err(fault),
+        None => Ok(()),
+    }
+}
+
+/// Relays that many connections, one after the other: the status. What breaks one off is shown, and the next is taken, unless out of memory.
+fn relay_all<
+    R: Files<File = File>
+        + Eprint
+        + Clock
+        + Net<Listener = TcpListener, Stream = TcpStream>
+        + AllocGlobal,
+>(
+    keeper: &mut Keeper<'_, R>,
+    listener: &TcpListener,
+    order: &Watch,
+    patience: &Patience<'_, R>,
+) -> Result<u8, Fault> {
+    let rt = keeper.rt;
+    let mut is_broken = false;
+    for count in 0..order.connections {
+        let (client, _) = match listener.accept() {
+            Ok(taken) => taken,
+            Err(error) => return Err(Fault::Order(no_connection(&error, true))),
+        };
+        match relay_one(keeper, count as u64 + 1, client, order, patience) {
+            Ok(()) => {}
+            Err(Fault::Order(OrderFault::Memory)) => return Err(Fault::Order(OrderFault::Memory)),
+            Err(fault) => {
+                is_broken = true;
+                let _ = eprint!(rt; "{fault}");
+            }
+        }
+    }
+    Ok(if is_broken || keeper.has_failed { 1 } else { 0 })
+}
+
+/// The order `watch`: its exit status. A file that cannot be written is refused before the relay listens; one that fails later is reported at
+/// once, and stops nothing.
+pub fn watch<
+    R: Files<File = File>
+        + Eprint
+        + Clock
+        + Net<Listener = TcpListener, Stream = TcpStream>
+        + AllocGlobal,
+>(rt: &R, mut order: Watch) -> Result<u8, Fault> {
+    let timeout = seconds_of("timeout", order.timeout.take())?;
+    let recording = recording_of(rt, order.record_bytes.as_deref(), 1)?;
+    let name = String::from_str(rt.alloc(), order.told.as_str())?;
+    let next = NextTold::make(rt, name)?;
+    let listener = match TcpListener::bind(rt, ("127.0.0.1", order.listen)) {
+        Ok(listener) => listener,
+        Err(error) => {
+            next.discard(rt);
+            return Err(Fault::Order(no_connection(&error, true)));
+        }
+    };
+    let told = next.begin(rt)?;
+    let log = Log::named(rt, order.log.take());
+    let mut keeper = Keeper {
+        rt,
+        told,
+        folder: order.record_bytes.take(),
+        recording,
+        talk: Talk::new(rt, order.trace, log),
+        has_failed: false,
+    };
+    let patience = Patience::new(rt, timeout, None);
+    relay_all(&mut keeper, &listener, &order, &patience)
+}

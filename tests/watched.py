@@ -1,0 +1,313 @@
+"""Connections that are relayed by `dme watch`, and what it writes of them.
+
+- A client and a server of ours, with windows of 1, 4 and 16: the report is that of a run without a relay, the told file is the server's contacts
+  but for its first line, and `dme ledger` over the recorded bytes prints it.
+- A client that is written here, and leaves after any of its lines, by an end or a reset, with or without the replies to it: what the told
+  file has is a prefix of the server's contacts; each act of a command whose end the client has read is in it.
+- Both ends written here, with bytes of a fixed sequence in pieces: each end gets the bytes of the other, as recorded; after a reset a prefix.
+- A told file that cannot be written is refused before the relay listens; one that cannot grow is reported at once, stops nothing, and the
+  status is 1. Of a server that does not listen and of two silent ends it says so.
+
+`run` calls this; by itself: tests/watched.py [BREAKS], which leaves at every BREAKS-th line (1 by default).
+"""
+
+import pathlib
+import resource
+import signal
+import socket
+import struct
+import subprocess
+import sys
+import tempfile
+import threading
+
+from growths import PROGRAM, Wrong, must
+from hostile import Fixed
+from killed import SETUP, WINDOWS, dme, program
+from listening import free_port, wait_for_listener
+
+SECONDS = 60
+BREAKS = 9
+HEADS = ("DME-CONTACTS 1\n", "DME-TOLD 1\n")
+ACTS = ("IsHomed", "Home", "GoTo", "PtMeas", "ChangeTool", "SetCoordSystem")
+
+
+def listening(folder, port, *words, limit=None):
+    """A `dme` that listens on a port; no file of it may be longer than the limit."""
+
+    def take():
+        if limit is not None:
+            signal.signal(signal.SIGXFSZ, signal.SIG_IGN)
+            resource.setrlimit(resource.RLIMIT_FSIZE, (limit, limit))
+
+    process = subprocess.Popen(
+        [str(PROGRAM), *words], cwd=folder, stdout=subprocess.PIPE, stderr=subprocess.PIPE, text=True, preexec_fn=take
+    )
+    wait_for_listener(port, lambda: process.poll() is not None, SECONDS)
+    return process
+
+
+def ended(process):
+    """Its status, standard output and standard error."""
+    out, error = process.communicate(timeout=SECONDS)
+    return process.returncode, out, error
+
+
+def watch(folder, server_port, *more, limit=None):
+    """A relay to a port, and the port that it listens on."""
+    port = free_port()
+    words = ("watch", "--listen", str(port), "--host", "127.0.0.1", "--port", str(server_port), "--told", "told", *more)
+    return listening(folder, port, *words, limit=limit), port
+
+
+def serve(folder, *more):
+    port = free_port()
+    return listening(folder, port, "serve", "--setup", "machine.setup", "--port", str(port), "--contacts", "contacts", *more), port
+
+
+def acts_of(folder, name, head):
+    """The lines of a file after its first."""
+    text = (folder / name).read_text()
+    must(text.startswith(head), name, text[:40])
+    return text[len(head):]
+
+
+def kept_bytes(folder):
+    return [(folder / name).read_bytes() for name in ("1.up", "1.down")]
+
+
+def ledger(folder):
+    return ended(dme(folder, "ledger", "--up", "1.up", "--down", "1.down"))[1]
+
+
+def prepared(room, name):
+    folder = pathlib.Path(room) / name
+    folder.mkdir()
+    (folder / "machine.setup").write_text(SETUP)
+    (folder / "part.dmis").write_text(program())
+    return folder
+
+
+# ---- both ends ours
+
+
+def run_through(folder, window):
+    server, server_port = serve(folder)
+    relay, port = watch(folder, server_port, "--record-bytes", ".")
+    words = ("run", "--setup", "machine.setup", "--host", "127.0.0.1", "--window", str(window), "part.dmis", "--port")
+    status, report, error = ended(dme(folder, *words, str(port)))
+    must(status == 0, "run", status, error)
+    must(ended(relay) == (0, "", ""), "relay")
+    must(ended(server)[0] == 0, "server")
+    told = acts_of(folder, "told", HEADS[1])
+    must(told == acts_of(folder, "contacts", HEADS[0]), "the told file is not the contacts")
+    must(told.count(" CONTACT ") == 120, "contacts", told.count(" CONTACT "))
+    must(ledger(folder) == HEADS[1] + told, "the ledger of the bytes is another")
+    again, again_port = serve(folder)
+    must(ended(dme(folder, *words, str(again_port)))[1] == report, "the report is another")
+    ended(again)
+
+
+# ---- a client that leaves
+
+
+def leave(stream, how):
+    if how == "reset":
+        stream.setsockopt(socket.SOL_SOCKET, socket.SO_LINGER, struct.pack("ii", 1, 0))
+    stream.close()
+
+
+def client_lines(folder):
+    """What a client sends for a program."""
+    return ended(dme(folder, "check", "--setup", "machine.setup", "part.dmis"))[1].splitlines()
+
+
+def send_some(port, lines, hears_last):
+    """Sends lines, and reads the replies to each but perhaps the last: the connection, and how many acts were reported on it."""
+    stream = socket.create_connection(("127.0.0.1", port), SECONDS)
+    stream.setsockopt(socket.IPPROTO_TCP, socket.TCP_NODELAY, 1)
+    stream.settimeout(SECONDS)
+    acts, came = 0, b""
+    for at, line in enumerate(lines):
+        tag, _, command = line.partition(" ")
+        stream.sendall(line.encode() + b"\r\n")
+        if at + 1 == len(lines) and not hears_last:
+            break
+        while f"{tag} %\r\n".encode() not in came:
+            more = stream.recv(4096)
+            must(more, "the relay left", line)
+            came += more
+        acts += command.startswith(ACTS)
+    return stream, acts
+
+
+def leave_after(folder, lines, how, hears_last):
+    for name in ("told", "contacts"):
+        (folder / name).unlink(missing_ok=True)
+    server, server_port = serve(folder)
+    relay, port = watch(folder, server_port, "--record-bytes", ".")
+    stream, acts = send_some(port, lines, hears_last)
+    told_then = acts_of(folder, "told", HEADS[1])
+    must(told_then.count("\n") >= acts, "reported before it was written", acts, told_then)
+    leave(stream, how)
+    status, out, error = ended(relay)
+    must(out == "" and (status == 0 or how == "reset" or not hears_last), "relay", status, error)
+    ended(server)
+    told, made = (acts_of(folder, *it) for it in (("told", HEADS[1]), ("contacts", HEADS[0])))
+    must(made.startswith(told) and told.startswith(told_then), "no prefix", told, made)
+    must(ledger(folder) == HEADS[1] + told, "the ledger of the bytes is another")
+    if hears_last and how == "end":
+        must(told == made, "less than the contacts", told, made)
+
+
+def leave_everywhere(folder, step):
+    lines = client_lines(folder)
+    count = 0
+    for how in ("end", "reset"):
+        for hears_last in (True, False):
+            for at in range(1 + count % step, len(lines) + 1, step):
+                leave_after(folder, lines[:at], how, hears_last)
+                count += 1
+    return count
+
+
+# ---- both ends of another maker
+
+
+def some_bytes(fixed):
+    """Bytes of lines and others."""
+    words = [b"00001 GoTo(X(1))\r\n", b"00001 &\r\n", b"00001 %\r\n", b"\r\n", b"\n", b"\x00\xff", b"E0000 ! Error(1)\r\n", b"x" * 70_000]
+    return b"".join(fixed.one_of(words[:6] * 3 + words[6:]) for _ in range(fixed.below(60)))
+
+
+class End(threading.Thread):
+    """An end that sends bytes in pieces, ends, and receives until its end."""
+
+    def __init__(self, stream, given, fixed, resets):
+        super().__init__(daemon=True)
+        self.stream, self.given, self.sizes, self.resets = stream, given, [1 + fixed.below(5000) for _ in range(200)], resets
+        self.heard = b""
+
+    def send(self):
+        at = 0
+        for size in self.sizes:
+            self.stream.sendall(self.given[at:at + size])
+            at += size
+        self.stream.sendall(self.given[at:])
+        if not self.resets:
+            self.stream.shutdown(socket.SHUT_WR)
+
+    def run(self):
+        self.stream.settimeout(SECONDS)
+        sender = threading.Thread(target=self.try_to, args=(self.send,), daemon=True)
+        sender.start()
+        if self.resets:
+            sender.join(SECONDS)
+            leave(self.stream, "reset")
+            return
+        self.try_to(self.hear)
+        sender.join(SECONDS)
+        self.stream.close()
+
+    def try_to(self, act):
+        try:
+            act()
+        except OSError:
+            pass
+
+    def hear(self):
+        while True:
+            came = self.stream.recv(4096)
+            if not came:
+                return
+            self.heard += came
+
+
+def forward(folder, fixed, resets):
+    with socket.create_server(("127.0.0.1", 0)) as listener:
+        relay, port = watch(folder, listener.getsockname()[1], "--record-bytes", ".")
+        near = socket.create_connection(("127.0.0.1", port), SECONDS)
+        far, _ = listener.accept()
+    up, down = some_bytes(fixed), some_bytes(fixed)
+    ends = [End(near, up, fixed, resets), End(far, down, fixed, False)]
+    for end in ends:
+        end.start()
+    for end in ends:
+        end.join(SECONDS)
+    status, out, error = ended(relay)
+    kept = kept_bytes(folder)
+    client, server = ends
+    if resets:
+        must(up.startswith(kept[0]) and kept[0].startswith(server.heard) and down.startswith(kept[1]), "no prefix")
+    else:
+        must((status, out, error) == (0, "", ""), "relay", status, out, error)
+        must(kept == [up, down] and server.heard == up and client.heard == down, "other bytes")
+
+
+# ---- what fails
+
+
+def no_file(folder):
+    """A told file that cannot be written: the relay does not listen."""
+    (folder / "told").mkdir()
+    relay, _ = watch(folder, 1)
+    must(ended(relay) == (1, "", "dme: cannot write told\n"), "folder")
+    (folder / "told").rmdir()
+
+
+def full_file(folder):
+    """A told file that cannot grow."""
+    server, server_port = serve(folder)
+    relay, port = watch(folder, server_port, limit=300)
+    words = ("run", "--setup", "machine.setup", "--host", "127.0.0.1", "--port", str(port), "part.dmis")
+    must(ended(dme(folder, *words))[0] == 0, "run")
+    must(ended(relay) == (1, "", "dme: cannot write told\n"), "relay")
+    ended(server)
+    must(len((folder / "told").read_bytes()) <= 300, "length")
+
+
+def nobody(folder):
+    """A server that does not listen, and two ends that are silent."""
+    relay, port = watch(folder, free_port())
+    with socket.create_connection(("127.0.0.1", port), SECONDS) as stream:
+        must(stream.recv(1) == b"", "an answer")
+    must(ended(relay) == (1, "", "dme: connection failed\nconnection refused\n"), "refused")
+    with socket.create_server(("127.0.0.1", 0)) as listener:
+        relay, port = watch(folder, listener.getsockname()[1], "--timeout", "1")
+        with socket.create_connection(("127.0.0.1", port), SECONDS) as stream:
+            must(stream.recv(1) == b"", "an answer")
+        must(ended(relay) == (1, "", "dme: connection failed\nnothing came for 1 s\n"), "silent")
+
+
+def check_all(room, step):
+    """How many connections were relayed."""
+    fixed, count = Fixed(38), 0
+    for window in WINDOWS:
+        run_through(prepared(room, f"window_{window}"), window)
+    folder = prepared(room, "others")
+    count += len(WINDOWS) + leave_everywhere(folder, step)
+    for at in range(60 // step + 6):
+        forward(folder, fixed, at % 3 == 2)
+        count += 1
+    for check in (no_file, full_file, nobody):
+        (folder / "told").unlink(missing_ok=True)
+        check(folder)
+        count += 1
+    return count
+
+
+def check_watched(step=BREAKS):
+    """How many checks hold, and how many do not."""
+    try:
+        with tempfile.TemporaryDirectory() as room:
+            count = check_all(room, step)
+    except (Wrong, OSError, subprocess.SubprocessError) as wrong:
+        print(f"watched: {wrong}")
+        print("connections that are watched: not as expected", flush=True)
+        return 0, 1
+    print(f"connections that are watched: {count}", flush=True)
+    return 1, 0
+
+
+if __name__ == "__main__":
+    sys.exit(1 if check_watched(int(sys.argv[1]) if sys.argv[1:] else 1)[1] else 0)
