@@ -2,7 +2,7 @@
 use Rattle.std.proofs.Common.{◌≡◌, ◌∙◌, List, codes, sym, inl, inr, true≢false}
 use Rattle.std.proofs.lemmas.Slice.Eq.{bytes_eq-Decides}
 use Rattle.clap.specs.Walk.{Row, Text}
-use Rattle.dme_words.specs.Ordered.{HasRun, IsLaterAskable}
+use Rattle.dme_words.specs.Ordered.{HasRun, HasWatch, IsLaterAskable}
 
 pub has_run : (p : Text × List Row) → IsLaterAskable p → p.0 ≡ codes "run" → HasRun p.1
 has_run p (inl (is, has)) run = absurd (true≢false (sym ((bytes_eq-Decides (codes "serve") (codes "run")).1 (sym is ∙ run))))
@@ -12,3 +12,12 @@ has_run p (inr (inr (inr (inl (is, has))))) run = absurd (true≢false (sym ((by
 has_run p (inr (inr (inr (inr (inl is))))) run = absurd (true≢false (sym ((bytes_eq-Decides (codes "review") (codes "run")).1 (sym is ∙ run))))
 has_run p (inr (inr (inr (inr (inr (inl (is, has))))))) run = absurd (true≢false (sym ((bytes_eq-Decides (codes "ledger") (codes "run")).1 (sym is ∙ run))))
 has_run p (inr (inr (inr (inr (inr (inr (is, has))))))) run = absurd (true≢false (sym ((bytes_eq-Decides (codes "watch") (codes "run")).1 (sym is ∙ run))))
+
+pub has_watch : (p : Text × List Row) → IsLaterAskable p → p.0 ≡ codes "watch" → HasWatch p.1
+has_watch p (inl (is, has)) watch = absurd (true≢false (sym ((bytes_eq-Decides (codes "serve") (codes "watch")).1 (sym is ∙ watch))))
+has_watch p (inr (inl (is, has))) watch = absurd (true≢false (sym ((bytes_eq-Decides (codes "run") (codes "watch")).1 (sym is ∙ watch))))
+has_watch p (inr (inr (inl (is, has)))) watch = absurd (true≢false (sym ((bytes_eq-Decides (codes "explain") (codes "watch")).1 (sym is ∙ watch))))
+has_watch p (inr (inr (inr (inl (is, has))))) watch = absurd (true≢false (sym ((bytes_eq-Decides (codes "export") (codes "watch")).1 (sym is ∙ watch))))
+has_watch p (inr (inr (inr (inr (inl is))))) watch = absurd (true≢false (sym ((bytes_eq-Decides (codes "review") (codes "watch")).1 (sym is ∙ watch))))
+has_watch p (inr (inr (inr (inr (inr (inl (is, has))))))) watch = absurd (true≢false (sym ((bytes_eq-Decides (codes "ledger") (codes "watch")).1 (sym is ∙ watch))))
+has_watch p (inr (inr (inr (inr (inr (inr (is, has))))))) watch = has

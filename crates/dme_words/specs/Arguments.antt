@@ -35,6 +35,7 @@ argument_rule argument.ListenedPort = listened_rule
 argument_rule argument.ToldFile = needed_rule (codes "told")
 argument_rule argument.RecordedBytes = text_rule (codes "record-bytes")
 argument_rule argument.Form = needed_rule (codes "as")
+argument_rule argument.FindingForm = text_rule (codes "as")
 argument_rule argument.Code = code_rule
 argument_rule argument.Progress = flag_rule (codes "progress")
 argument_rule argument.Trace = flag_rule (codes "trace")
