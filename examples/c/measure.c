@@ -4,7 +4,8 @@
  *     measure PORT SETUP PROGRAM RECORD [CONNECTIONS]
  *
  * If the connection breaks off, it makes a new one, CONNECTIONS in all (1 if left out), and measures what is left. Called again with the
- * same record it continues. Status: 0 all is measured, 3 the server refused a command, 4 the last connection broke off, 1 anything else.
+ * same record it continues. What the server refuses is printed on standard error. Status: 0 all is measured, 3 the server refused a command,
+ * 4 the last connection broke off, 1 anything else.
  */
 #include <arpa/inet.h>
 #include <errno.h>
@@ -24,7 +25,9 @@
 struct run {
     dme_client client;
     dme_record record;
-    int file; /* the record's */
+    dme_errors errors;
+    size_t first; /* the feature with which the present connection began */
+    int file;     /* the record's */
 };
 
 static void give_up(const char *what, unsigned number)
@@ -117,6 +120,32 @@ static void keep(struct run *run)
     if (kept && fsync(run->file) != 0) give_up("the record", (unsigned)errno);
 }
 
+static const char *const KINDS[] = {
+    "server", "StartSession", "EndSession", "ClearAllErrors", "IsHomed", "Home", "OnPtMeasReport", "GoTo", "PtMeas", "ChangeTool",
+    "SetCsyTransformation", "SetCoordSystem", "AbortE",
+};
+
+/* Prints the errors that the server has reported since: the command, the feature and the touch, and the text, with \xNN for each byte that
+ * cannot be printed. */
+static void print_errors(struct run *run)
+{
+    static uint8_t text[65536];
+    dme_error error;
+    while ((error = dme_errors_take(&run->errors, text, sizeof text)).number == DME_DONE) {
+        if (error.length > sizeof text) give_up("the text of an error", (unsigned)error.length);
+        fprintf(stderr, "measure: %s", KINDS[error.command]);
+        if (error.touch != 0) {
+            dme_place place = dme_client_touch(&run->client, run->first, error.touch);
+            if (place.number != DME_DONE) give_up("touch", place.number);
+            fprintf(stderr, ", feature %zu, touch %zu", place.feature, place.touch);
+        }
+        fprintf(stderr, ": ");
+        for (size_t at = 0; at < error.length; at++)
+            fprintf(stderr, text[at] >= 32 && text[at] <= 126 ? "%c" : "\\x%02X", text[at]);
+        fprintf(stderr, "\n");
+    }
+}
+
 static int connection_to(const char *port)
 {
     struct sockaddr_in at = {0};
@@ -142,6 +171,8 @@ static int give_out(struct run *run, int line)
         for (size_t done = 0; done < count;) {
             ssize_t sent = send(line, room + done, count - done, MSG_NOSIGNAL);
             if (sent <= 0) return 0;
+            answer = dme_errors_sent(&run->errors, room + done, (size_t)sent);
+            if (answer != DME_DONE) give_up("sent", answer);
             done += (size_t)sent;
         }
     return 1;
@@ -154,6 +185,9 @@ static int take_in(struct run *run, int line)
     uint32_t answer;
     ssize_t count = recv(line, piece, sizeof piece, 0);
     if (count <= 0) return 0;
+    answer = dme_errors_came(&run->errors, piece, (size_t)count);
+    if (answer != DME_DONE) give_up("came", answer);
+    print_errors(run);
     answer = dme_client_feed(&run->client, piece, (size_t)count);
     if (answer != DME_DONE) give_up("feed", answer);
     do {
@@ -170,6 +204,8 @@ static uint32_t measured_on(struct run *run, const char *port)
     int line = connection_to(port);
     uint32_t state, answer = dme_record_connected(&run->record, &run->client);
     if (answer != DME_DONE) give_up("connected", answer);
+    dme_errors_connected(&run->errors);
+    run->first = dme_client_next(&run->client).feature;
     for (;;) {
         int is_up = give_out(run, line);
         state = dme_client_state(&run->client);
@@ -209,11 +245,13 @@ int main(int count, char **words)
     if (count < 5 || count > 6) give_up("PORT SETUP PROGRAM RECORD [CONNECTIONS]", 0);
     connections = count == 6 ? atoi(words[5]) : 1;
     begin(&run, words);
+    if (dme_errors_new(&run.errors) != DME_DONE) give_up("errors", DME_MEMORY);
     keep(&run);
     if (dme_client_next(&run.client).feature == 0) state = DME_FINISHED;
     while (state == DME_APART && connections-- > 0) state = measured_on(&run, words[1]);
     keep(&run);
     print_features(&run.client);
+    dme_errors_free(&run.errors);
     dme_record_free(&run.record);
     dme_client_free(&run.client);
     return state == DME_FINISHED ? 0 : state == DME_APART ? 4 : 3;

@@ -12,8 +12,9 @@
  *   passed in are only read, and only during the call: they stay the caller's. Room that is passed is written only during the call; it
  *   overlaps neither the handle nor other bytes of the same call.
  * - The library allocates with the program's `malloc`, `realloc` and `free`, which must belong to one allocator. A call that runs out of
- *   memory answers DME_MEMORY and leaves the core as it was; it can be made again. Calls other than `.._new` answer DME_MEMORY only if
- *   they are possible, and a reading call only for a whole line. No call is made from a signal handler.
+ *   memory answers DME_MEMORY and leaves the core as it was, and can be made again; `dme_errors_sent` and `dme_errors_came` are exceptions.
+ *   Calls other than `.._new` answer DME_MEMORY only if they are possible, and a reading call only for a whole line. No call is made from a
+ *   signal handler.
  *
  * Lengths and positions are whole micrometres in this interface, and millimetres in the texts of programs, setups and features.
  */
@@ -29,7 +30,7 @@ extern "C" {
 
 /* Answers. */
 #define DME_DONE 0u          /* done; for a reading call: a line was read */
-#define DME_NOTHING 1u       /* only for a reading call: there is no whole line */
+#define DME_NOTHING 1u       /* only for a reading call: there is no whole line; for `dme_errors_take`: there is no error */
 #define DME_NOT_NOW 2u       /* the call is not possible now; nothing changed */
 #define DME_MEMORY 3u        /* out of memory; nothing changed */
 #define DME_BAD_SETUP 4u     /* `.._new`: the text of the setup is refused */
@@ -88,6 +89,7 @@ extern "C" {
 typedef struct { uint8_t *at; } dme_client;
 typedef struct { uint8_t *at; } dme_server;
 typedef struct { uint8_t *at; } dme_record;
+typedef struct { uint8_t *at; } dme_errors;
 
 /* A job, its place in whole micrometres in machine axes, and the outward normal of a touch, in whole millionths; zeros if it has none. */
 typedef struct { uint32_t number; int64_t x, y, z; int64_t i, j, k; } dme_job;
@@ -107,6 +109,15 @@ typedef struct { uint32_t number, cause, numeral; uint64_t line; } dme_refusal;
  * 0 if all are.
  */
 typedef struct { uint32_t command; uint64_t feature; int64_t x, y, z; int64_t i, j, k; } dme_next;
+
+/* Which touch of which feature of the program, both from 1; zeros if there is no such touch. */
+typedef struct { uint32_t number; size_t feature, touch; } dme_place;
+
+/*
+ * An error that a server reported: the kind of the command that it is about, 0 if none is known; of a touch, how many touches were sent on
+ * the connection up to this one, otherwise 0; and how many bytes its text has. All zeros if `number` is DME_NOTHING.
+ */
+typedef struct { uint32_t number, command; uint64_t touch; size_t length; } dme_error;
 
 /*
  * What a record gives: the damaged line, from 1, of DME_DAMAGED; if it is begun, the number that its next connection has, and how many of the
@@ -155,6 +166,11 @@ dme_text dme_client_features(dme_client *client, uint8_t *room, size_t room_leng
 /* What the client sends and measures next. */
 dme_next dme_client_next(dme_client *client);
 /*
+ * The touch of this number, from 1, among those of the features of the program from `first`, from 1, on: the touches of a connection, if
+ * `first` is the feature that `dme_client_next` gives when the connection begins. DME_DONE or DME_MEMORY.
+ */
+dme_place dme_client_touch(dme_client *client, size_t first, size_t touch);
+/*
  * Why the text of the program is refused, with the frames of the setup: DME_DONE if it is not, DME_BAD_SETUP, DME_BAD_PROGRAM with cause and
  * line, or DME_MEMORY instead of any.
  */
@@ -192,6 +208,31 @@ uint32_t dme_record_resume(dme_record *record, dme_client *client);
 uint32_t dme_record_follow(dme_record *record, dme_client *client);
 /* Copies as much of what is to be appended to the file as fits into the room, and forgets it. Answers how many bytes that is. */
 size_t dme_record_take(dme_record *record, uint8_t *room, size_t room_length);
+
+/*
+ * The errors that a server reports, each with the command that it is about: the last one that was sent under its tag. The handle is passed all
+ * bytes of a connection, those of both sides in the order in which they go by, however they were cut; it needs no client.
+ *
+ * Nothing went by yet, and no connection is followed. DME_DONE or DME_MEMORY.
+ */
+uint32_t dme_errors_new(dme_errors *errors);
+/* Empties the handle, also of the errors that were not taken. */
+void dme_errors_free(dme_errors *errors);
+/* There is a new connection, which is followed from now on. The errors of the last one that were not taken stay. */
+void dme_errors_connected(dme_errors *errors);
+/*
+ * These bytes were sent to the server, or came from it. DME_NOT_NOW if no connection is followed. After DME_MEMORY the errors that were not
+ * taken stay, but the connection is followed no more: the calls answer DME_NOT_NOW until the next one.
+ */
+uint32_t dme_errors_sent(dme_errors *errors, const uint8_t *piece, size_t piece_length);
+uint32_t dme_errors_came(dme_errors *errors, const uint8_t *piece, size_t piece_length);
+/*
+ * The first error that was not taken: DME_DONE, or DME_NOTHING if there is none. Each error is given once, in the order in which they came. If
+ * the length of its text, as it was received, is at most that of the room, the text is written to the start of the room, and the error is
+ * taken; otherwise nothing changes. A line of this profile has at most 65536 bytes. The text comes from the other side: it may hold any byte
+ * but a line feed.
+ */
+dme_error dme_errors_take(dme_errors *errors, uint8_t *room, size_t room_length);
 
 /*
  * A server with this setup, not homed, without a tool and never on a connection. Its machine is the caller's: see `dme_server_job`.

@@ -1,8 +1,9 @@
 //! The cores of a client and of a server, for callers in C: each function is declared in `include/dme.h`, with what its caller must ensure.
 //!
-//! - `client_handles`, `server_handles`, `record_handles`: what a caller holds, and how it is taken out and put back
-//! - `client_making`, `client_calls`, `next`, `server_calls`, `server_jobs`, `refusals`: the functions that are exported
+//! - `client_handles`, `server_handles`, `record_handles`, `error_handles`: what a caller holds, and how it is taken out and put back
+//! - `client_making`, `client_calls`, `next`, `server_calls`, `server_jobs`, `refusals`, `touches`: the functions that are exported
 //! - `record_making`, `record_calls`: likewise those of a record; `recordings`: what it holds
+//! - `error_calls`: likewise those of a server's errors; `hearings`: what follows them
 //! - `texts`: the setups, programs and features that are passed in
 //! - `room`: what is copied out
 //! - `codes`: the numbers of answers
@@ -12,6 +13,9 @@ mod client_calls;
 mod client_handles;
 mod client_making;
 mod codes;
+mod error_calls;
+mod error_handles;
+mod hearings;
 mod next;
 mod record_calls;
 mod record_handles;
@@ -23,3 +27,4 @@ mod server_calls;
 mod server_handles;
 mod server_jobs;
 mod texts;
+mod touches;
