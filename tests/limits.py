@@ -1,4 +1,4 @@
-"""Each limit, and one more: statements of a program, touches of a feature, bytes of a line.
+"""Each limit, and one more: statements of a program, touches of a feature, bytes of a line. What has to be linear is.
 
 The expected results are computed here. Rows test other limits: 64 waiting commands and one more (`homes` of test_calls), all tags held (`aborts
 9999` there, and the tests of `test_units` for standard tags), connection 4,000,000,000 and the next number (`connected`, `accept`).
@@ -139,8 +139,36 @@ def linear_work():
     must(long < 6 * short, "lines of 65,536 bytes took", long, "and the same bytes in lines of 4,096", short)
 
 
+# ---- a review of half refused statements
+
+
+def half_refused(count):
+    """A program of that many statements, about half of them refused, and how many are: blocks without a touch, each with a call in it."""
+    blocks, rest = divmod(count - 2, 4)
+    rows = "".join(f"F(A{at})=FEAT/POINT\nMEAS/POINT,F(A{at}),1\nCALL/M\nENDMES\n" for at in range(blocks))
+    return "DMISMN\n" + rows + "GOHOME\n" * rest + "ENDFIL\n", 2 * blocks + rest
+
+
+def review_seconds(count):
+    """The processor time that reviews of 10,000 statements take, as programs of that many statements."""
+    text, refused = half_refused(count)
+    before = resource.getrusage(resource.RUSAGE_CHILDREN)
+    for _ in range(10_000 // count):
+        status, found, _ = ran("review p", p=text)
+        must(status == 1 and found.count(": refused: ") == refused, count, "statements with another number of refusals")
+    after = resource.getrusage(resource.RUSAGE_CHILDREN)
+    return after.ru_utime - before.ru_utime
+
+
+def linear_review():
+    """5,000 refusals in 10,000 statements cost no more than in eight programs; likewise judged."""
+    must(half_refused(10_000)[1] == 5_000, "not half of them")
+    short, long = map(min, zip(*((review_seconds(1_250), review_seconds(10_000)) for _ in range(5))))
+    must(long < 3 * short, "a review of 10,000 statements took", long, "and eight of 1,250", short)
+
+
 ROWS = (ten_thousand_statements, one_statement_more, most_points_of_a_block, most_touches_of_a_feature, most_touches_measured, longest_line,
-        linear_work)
+        linear_work, linear_review)
 
 
 def check_limits(names=()):

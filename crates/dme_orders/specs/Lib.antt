@@ -18,3 +18,4 @@ pub mod Explaining
 pub mod Exporting
 pub mod Recorded
 pub mod OfRecords
+pub mod Findings

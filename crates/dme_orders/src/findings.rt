@@ -1,9 +1,12 @@
-// The findings of a review as lines of text.
+// The findings of a review, with their sentences.
 
+use crate::report::{FindingForm, Head, Report};
+use crate::summary::{Grouped, add_summary};
 use dmis_program::Refusal;
 use dmis_text::{Statement, Statements, TextFault, cut_line};
 use program_review::{
-    Found, Lack, Notice, Odd, OddNotice, Passed, SetupNotice, block_lines, near_word,
+    Found, Group, Lack, Notice, Odd, OddNotice, Passed, SetupNotice, Stray, block_lines, group_of,
+    near_word, stored_frame,
 };
 use refusal_guide::{Passage, write_sentence};
 use std::alloc::{AllocError, Global};
@@ -167,6 +170,15 @@ pub(crate) struct Besides<'a> {
     pub(crate) lacks: &'a [SetupNotice],
     /// What is odd.
     pub(crate) odd: &'a [OddNotice],
+    /// The touches that would be measured elsewhere without refused statements.
+    pub(crate) strays: &'a [Stray],
+}
+
+/// A text, and its name.
+#[derive(Clone, Copy)]
+pub(crate) struct NamedText<'a> {
+    pub(crate) name: &'a str,
+    pub(crate) text: &'a [u8],
 }
 
 /// A line of a text: its number, and how many bytes come before it.
@@ -225,7 +237,7 @@ fn needs_text(refusal: Refusal) -> bool {
 /// A text with the lines of its blocks, up to the finding that is written.
 #[derive(Drop)]
 struct Reviewed<'a> {
-    text: &'a [u8],
+    program: NamedText<'a>,
     blocks: Vec<u64>,
     passed: usize,
     opened: u64,
@@ -249,27 +261,29 @@ impl<'a> Reviewed<'a> {
         self.opened
     }
 
-    /// Appends the remarks up to a line, from that of this number on. How many are written then.
-    fn write_notes(
+    /// Adds the remarks up to a line, from that of this number on. How many are added then.
+    fn add_notes(
         &mut self,
-        out: &mut Vec<u8>,
-        name: &str,
+        alloc: Global,
+        report: &mut Report,
         notes: &[Note],
         from: usize,
         line: u64,
     ) -> Result<usize, AllocError> {
-        let mut written = from;
+        let mut added = from;
         for at in from..notes.len() {
             match notes.get(at) {
                 Some(note) if note.line <= line => {
-                    self.noted = self.noted.forward(self.text, note.line);
-                    write_note(out, name, note, self.noted.rest(self.text))?;
-                    written = at + 1;
+                    self.noted = self.noted.forward(self.program.text, note.line);
+                    let program = self.program;
+                    let text = self.noted.rest(program.text);
+                    add_note(alloc, report, program.name, note, text)?;
+                    added = at + 1;
                 }
                 _ => break,
             }
         }
-        Ok(written)
+        Ok(added)
     }
 
     /// The bytes from the block or from the line that was reached, as far as the statement of a finding may go.
@@ -279,8 +293,8 @@ impl<'a> Reviewed<'a> {
             .line
             .at
             .saturating_add(MOST_OF_STATEMENT)
-            .min(self.text.len());
-        let (front, _) = self.text.split_at(end);
+            .min(self.program.text.len());
+        let (front, _) = self.program.text.split_at(end);
         let (_, part) = front.split_at(start.at.min(end));
         Passage {
             text: part,
@@ -292,11 +306,11 @@ impl<'a> Reviewed<'a> {
     /// The part of the text that a finding's sentence needs. Findings come in the order of their lines.
     fn around(&mut self, refusal: Refusal, line: u64) -> Passage<'a> {
         let open = self.open_line(line);
-        self.block = self.block.forward(self.text, open);
-        self.line = self.line.forward(self.text, line);
+        self.block = self.block.forward(self.program.text, open);
+        self.line = self.line.forward(self.program.text, line);
         if needs_text(refusal) {
             return Passage {
-                text: self.text,
+                text: self.program.text,
                 first: 1,
                 line,
             };
@@ -305,20 +319,33 @@ impl<'a> Reviewed<'a> {
     }
 }
 
-/// Appends the line of a finding: `NAME:LINE: refused: `, its code and name, and the sentence.
-fn write_found(
-    out: &mut Vec<u8>,
+/// Adds a refusal with its sentence.
+fn add_found(
+    alloc: Global,
+    report: &mut Report,
     name: &str,
     found: &Found,
     passage: Passage,
 ) -> Result<(), AllocError> {
-    let refusal = found.refusal;
-    let line = found.line;
-    let front = format!(in *out.allocator(); "{name}:{line}: refused: {refusal}: ")?;
-    out.extend_from_slice(front.as_bytes())?;
-    write_sentence(out, refusal, passage)?;
-    out.push(b'\n')?;
-    Ok(())
+    let mut said = Vec::new(alloc);
+    write_sentence(&mut said, found.refusal, passage)?;
+    let head = Head {
+        file: name,
+        line: Some(found.line),
+        kind: "refused",
+        refusal: Some(found.refusal),
+    };
+    report.add(alloc, head, said.as_slice())
+}
+
+/// What the statement with which a text begins is for, which is refused so.
+fn first_group(alloc: Global, refusal: Refusal, text: &[u8]) -> Result<Group, AllocError> {
+    let mut statements = Statements::new(alloc, text);
+    match statements.next() {
+        Ok(Some(statement)) => Ok(group_of(refusal, &statement.word)),
+        Err(TextFault::Memory) => Err(AllocError),
+        Ok(None) | Err(TextFault::LineTooLong(_) | TextFault::BadByte(_)) => Ok(Group::Mistake),
+    }
 }
 
 /// Appends a byte as it can be read: from 32 to 126 as it is, any other as `\xNN`.
@@ -385,61 +412,136 @@ fn push_statement(out: &mut Vec<u8>, text: &[u8], asks_word: bool) -> Result<(),
     }
 }
 
-/// Appends the line of a text that begins with a byte order mark.
-fn write_mark(out: &mut Vec<u8>, name: &str) -> Result<(), AllocError> {
-    let line = format!(in *out.allocator();
-        "{name}:1: odd: The text begins with a byte order mark: save it without one.\n"
-    )?;
-    out.extend_from_slice(line.as_bytes())
-}
-
-/// Appends the line of a remark: `NAME:LINE: `, its kind, the statement with which the text begins, and its meaning.
-fn write_note(out: &mut Vec<u8>, name: &str, note: &Note, text: &[u8]) -> Result<(), AllocError> {
-    if let Remark::Odd(Odd::Mark) = note.remark {
-        return write_mark(out, name);
+/// Appends the sentence of a remark on the statement with which a text begins.
+fn push_remark(out: &mut Vec<u8>, remark: Remark, text: &[u8]) -> Result<(), AllocError> {
+    if let Remark::Odd(Odd::Mark) = remark {
+        return out.extend_from_slice(
+            b"The text begins with a byte order mark: save it without one.",
+        );
     }
-    let line = note.line;
-    let kind = note.remark.kind();
-    let front = format!(in *out.allocator(); "{name}:{line}: {kind}: ")?;
-    out.extend_from_slice(front.as_bytes())?;
-    let asks_word = note.remark.asks_word();
+    let asks_word = remark.asks_word();
     push_statement(out, text, asks_word)?;
     if asks_word {
-        out.push(b'\n')?;
         return Ok(());
     }
-    let meaning = note.remark.meaning();
-    let behind = format!(in *out.allocator(); " {meaning}\n")?;
-    out.extend_from_slice(behind.as_bytes())
+    out.push(b' ')?;
+    out.extend_from_slice(remark.meaning().as_bytes())
 }
 
-/// The findings in a program's text, each as a line that begins with the program's name.
-pub(crate) fn findings_text(
+/// Adds a remark on the statement with which a text begins.
+fn add_note(
     alloc: Global,
+    report: &mut Report,
     name: &str,
+    note: &Note,
     text: &[u8],
+) -> Result<(), AllocError> {
+    let mut said = Vec::new(alloc);
+    push_remark(&mut said, note.remark, text)?;
+    let head = Head {
+        file: name,
+        line: Some(note.line),
+        kind: note.remark.kind(),
+        refusal: None,
+    };
+    report.add(alloc, head, said.as_slice())
+}
+
+/// Adds all refusals and remarks, in the order of lines. What each refused statement is for.
+fn add_findings(
+    alloc: Global,
+    report: &mut Report,
+    program: NamedText,
     found: &[Found],
-    besides: Besides,
-) -> Result<Vec<u8>, AllocError> {
-    let accepted = accepted_notes(alloc, besides.notices, besides.lacks)?;
-    let notes = with_odd(alloc, accepted.as_slice(), besides.odd)?;
+    notes: &[Note],
+) -> Result<Vec<Grouped>, AllocError> {
     let mut reviewed = Reviewed {
-        text,
-        blocks: block_lines(alloc, text)?,
+        program,
+        blocks: block_lines(alloc, program.text)?,
         passed: 0,
         opened: 1,
         block: LineStart::first(),
         line: LineStart::first(),
         noted: LineStart::first(),
     };
-    let mut out = Vec::new(alloc);
-    let mut written = 0;
+    let mut grouped = Vec::new(alloc);
+    let mut added = 0;
     for one in found {
-        let above = one.line.saturating_sub(1);
-        written = reviewed.write_notes(&mut out, name, notes.as_slice(), written, above)?;
-        let passage = reviewed.around(one.refusal, one.line);
-        write_found(&mut out, name, one, passage)?;
+        let line = one.line;
+        added = reviewed.add_notes(alloc, report, notes, added, line.saturating_sub(1))?;
+        let passage = reviewed.around(one.refusal, line);
+        add_found(alloc, report, program.name, one, passage)?;
+        let rest = reviewed.line.rest(program.text);
+        let group = first_group(alloc, one.refusal, rest)?;
+        grouped.push(Grouped { group, line })?;
     }
-    reviewed.write_notes(&mut out, name, notes.as_slice(), written, u64::MAX)?;
-    Ok(out)
+    reviewed.add_notes(alloc, report, notes, added, u64::MAX)?;
+    Ok(grouped)
+}
+
+/// Adds the frame of a setup's line, which no statement of the program recalls.
+fn add_unused(
+    alloc: Global,
+    report: &mut Report,
+    name: &str,
+    line: u64,
+    text: &[u8],
+) -> Result<(), AllocError> {
+    let stored = match cut_line(text) {
+        Some((first, _)) => stored_frame(alloc, first)?,
+        None => None,
+    };
+    let Some(frame) = stored else {
+        return Ok(());
+    };
+    let said = format!(in alloc;
+        "FRAME {frame} is stored, and no RECALL of the program selects it."
+    )?;
+    let head = Head {
+        file: name,
+        line: Some(line),
+        kind: "setup",
+        refusal: None,
+    };
+    report.add(alloc, head, said.as_bytes())
+}
+
+/// Adds the frames of these lines of a setup, which no statement of the program recalls.
+fn add_unused_frames(
+    alloc: Global,
+    report: &mut Report,
+    setup: NamedText,
+    unused: &[u64],
+) -> Result<(), AllocError> {
+    let mut start = LineStart::first();
+    for line in unused {
+        start = start.forward(setup.text, *line);
+        add_unused(alloc, report, setup.name, *line, start.rest(setup.text))?;
+    }
+    Ok(())
+}
+
+/// The findings in a program's text, in the order of its lines, then those in the setup, at these lines, then the summary.
+pub(crate) fn findings_text(
+    alloc: Global,
+    form: FindingForm,
+    program: NamedText,
+    found: &[Found],
+    besides: Besides,
+    setup: NamedText,
+    unused: &[u64],
+) -> Result<Vec<u8>, AllocError> {
+    let accepted = accepted_notes(alloc, besides.notices, besides.lacks)?;
+    let notes = with_odd(alloc, accepted.as_slice(), besides.odd)?;
+    let mut report = Report::new(alloc, form)?;
+    let grouped = add_findings(alloc, &mut report, program, found, notes.as_slice())?;
+    add_unused_frames(alloc, &mut report, setup, unused)?;
+    add_summary(
+        alloc,
+        &mut report,
+        program.name,
+        grouped.as_slice(),
+        besides.strays,
+    )?;
+    report.into_text()
 }

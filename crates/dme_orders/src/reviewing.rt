@@ -1,25 +1,53 @@
 // Everything that stands between a program and its run is listed.
 
-use crate::findings::{Besides, findings_text};
-use crate::reading::{FilesFault, Role, named_setup, read_text};
+use crate::findings::{Besides, NamedText, findings_text};
+use crate::reading::{FilesFault, Role, read_text};
+use crate::report::FindingForm;
 use crate::simulating::write_text;
 use byte_ports::{Sink, Source};
 use dmis_program::Frames;
 use program_review::{
-    Found, SetupNotice, lacking_setup, odd_statements, passed_statements, review,
+    SetupNotice, lacking_setup, odd_statements, passed_statements, review, stray_touches,
+    unused_frames,
 };
 use std::alloc::{AllocError, Global};
-use tool_rack::Setup;
+use tool_rack::{Setup, SetupFault};
 
-/// Every refusal of a program's text under the frames of a setup, and under no frames without one.
-fn found_under(
+/// The names of the files of a review, as findings show them.
+#[derive(Clone, Copy)]
+pub struct ReviewNames<'a> {
+    /// The DMIS program.
+    pub program: &'a str,
+    /// The machine's setup, if one is named.
+    pub setup: &'a str,
+}
+
+/// A setup, and the text that it was read from.
+#[derive(Drop)]
+struct ReadSetup {
+    setup: Option<Setup>,
+    text: Vec<u8>,
+}
+
+/// The setup that a source gives, if one is named, with its text.
+fn read_named_setup<S: Source>(
     alloc: Global,
-    setup: &Option<Setup>,
-    text: &[u8],
-) -> Result<Vec<Found>, AllocError> {
-    match setup {
-        Some(setup) => review(alloc, text, setup.frames()),
-        None => review(alloc, text, &Frames::new(alloc)),
+    source: &mut Option<S>,
+) -> Result<ReadSetup, FilesFault> {
+    let Some(source) = source else {
+        return Ok(ReadSetup {
+            setup: None,
+            text: Vec::new(alloc),
+        });
+    };
+    let text = read_text(alloc, source, Role::Setup)?;
+    match Setup::read(alloc, text.as_slice()) {
+        Ok(setup) => Ok(ReadSetup {
+            setup: Some(setup),
+            text,
+        }),
+        Err(SetupFault::Memory) => Err(FilesFault::Memory),
+        Err(refused) => Err(FilesFault::Setup(refused)),
     }
 }
 
@@ -35,38 +63,70 @@ fn lacks_under(
     }
 }
 
-/// The exit status after findings: 1 if the program is refused.
-fn status_after(found: &[Found]) -> u8 {
-    if found.is_empty() { 0 } else { 1 }
-}
-
-/// Reads a setup if one is named, then a DMIS program, each to the end of its text, and writes what stands between the program and
-/// its run, a finding a line, in the order of the program's lines: each refusal, each statement that is passed over though it changes
-/// something, each for which the setup lacks something, and
-/// each that is odd. The exit status: 1 if the program is refused, else 0.
-///
-/// It writes only once the whole text is there, and nothing if nothing was found.
-pub fn review_program<S: Source, R: Source, W: Sink>(
+/// The findings in a program's text under a setup, in a form, and the exit status.
+fn reviewed(
     alloc: Global,
-    name: &str,
-    setup: &mut Option<S>,
-    program: &mut R,
-    sink: &mut W,
-) -> Result<u8, FilesFault> {
-    let setup = named_setup(alloc, setup)?;
-    let text = read_text(alloc, program, Role::Program)?;
-    let found = found_under(alloc, &setup, text.as_slice())?;
-    let notices = passed_statements(alloc, text.as_slice())?;
-    let lacks = lacks_under(alloc, &setup, text.as_slice())?;
-    let odd = odd_statements(alloc, text.as_slice())?;
+    form: FindingForm,
+    names: ReviewNames,
+    read: &ReadSetup,
+    text: &[u8],
+) -> Result<(Vec<u8>, u8), AllocError> {
+    let none = Frames::new(alloc);
+    let frames = match &read.setup {
+        Some(setup) => setup.frames(),
+        None => &none,
+    };
+    let found = review(alloc, text, frames)?;
+    let notices = passed_statements(alloc, text)?;
+    let lacks = lacks_under(alloc, &read.setup, text)?;
+    let odd = odd_statements(alloc, text)?;
+    let strays = stray_touches(alloc, text, frames)?;
+    let unused = unused_frames(alloc, read.text.as_slice(), text)?;
     let besides = Besides {
         notices: notices.as_slice(),
         lacks: lacks.as_slice(),
         odd: odd.as_slice(),
+        strays: strays.as_slice(),
     };
-    let report = findings_text(alloc, name, text.as_slice(), found.as_slice(), besides)?;
+    let program = NamedText {
+        name: names.program,
+        text,
+    };
+    let setup = NamedText {
+        name: names.setup,
+        text: read.text.as_slice(),
+    };
+    let report = findings_text(
+        alloc,
+        form,
+        program,
+        found.as_slice(),
+        besides,
+        setup,
+        unused.as_slice(),
+    )?;
+    Ok((report, if found.is_empty() { 0 } else { 1 }))
+}
+
+/// Reads a setup if one is named, then a DMIS program, each to the end of its text, and writes in a form what stands between the program
+/// and its run, in the order of the program's lines: each refusal, each statement that is passed over though it changes something, each for
+/// which the setup lacks something, and each that is odd; then each frame of the setup that the program does not recall; then what the
+/// refused statements are for, and what deleting them would change. The exit status: 1 if the program is refused, else 0.
+///
+/// It writes only once the whole text is there, and no line if nothing was found.
+pub fn review_program<S: Source, R: Source, W: Sink>(
+    alloc: Global,
+    form: FindingForm,
+    names: ReviewNames,
+    setup: &mut Option<S>,
+    program: &mut R,
+    sink: &mut W,
+) -> Result<u8, FilesFault> {
+    let read = read_named_setup(alloc, setup)?;
+    let text = read_text(alloc, program, Role::Program)?;
+    let (report, status) = reviewed(alloc, form, names, &read, text.as_slice())?;
     if !report.is_empty() {
         write_text(sink, report.as_slice())?;
     }
-    Ok(status_after(found.as_slice()))
+    Ok(status)
 }

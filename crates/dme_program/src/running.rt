@@ -17,8 +17,8 @@ use crate::version;
 use crate::witnessing::ledger;
 use byte_ports::Writing;
 use dme_orders::{
-    AuditFiles, FilesFault, InputFiles, RecordFiles, SimulationFiles, audit_files, audit_record,
-    check_under_setup, review_program, simulate, status,
+    AuditFiles, FilesFault, FindingForm, InputFiles, RecordFiles, ReviewNames, SimulationFiles,
+    audit_files, audit_record, check_under_setup, review_program, simulate, status,
 };
 use dme_words::{Audit, Check, Order, RecordAudit, Review, Simulation, read_words};
 use std::alloc::{AllocError, Global};
@@ -87,16 +87,30 @@ fn check<R: Files + Input + Print + AllocGlobal>(rt: &R, order: Check) -> Result
     Err(refused(rt.alloc(), fault, files, order.explain))
 }
 
+/// A copy of the name of a file, if one is named; else the empty text.
+fn name_of(alloc: Global, file: &Option<String>) -> Result<String, AllocError> {
+    match file {
+        Some(name) => String::from_str(alloc, name.as_str()),
+        None => Ok(String::new(alloc)),
+    }
+}
+
 /// The order `review`: its exit status.
 fn review<R: Files + Input + Print + AllocGlobal>(rt: &R, order: Review) -> Result<u8, Fault> {
     let mut sources = Sources::new(rt, false);
     let name = String::from_str(rt.alloc(), order.program.as_str())?;
+    let setup_name = name_of(rt.alloc(), &order.setup)?;
+    let names = ReviewNames {
+        program: name.as_str(),
+        setup: setup_name.as_str(),
+    };
     let mut setup = sources.maybe(order.setup);
     let mut program = sources.file(order.program);
     let mut sink = Writing::new(io::writer(rt));
     match review_program(
         rt.alloc(),
-        name.as_str(),
+        FindingForm::Lines,
+        names,
         &mut setup,
         &mut program,
         &mut sink,

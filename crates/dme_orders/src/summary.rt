@@ -1,0 +1,183 @@
+// What the refused statements of a program are for, in groups, and what deleting them would change.
+
+use crate::report::{Head, Report};
+use program_review::{Group, Stray};
+use std::alloc::{AllocError, Global};
+
+/// The most numbers of lines that a group shows.
+const MOST_LINES: u64 = 20;
+
+/// The line of a refused statement, and what it is for.
+#[derive(Clone, Copy)]
+pub(crate) struct Grouped {
+    pub(crate) group: Group,
+    pub(crate) line: u64,
+}
+
+/// The lines of a group: how many, and their numbers as text.
+#[derive(Drop)]
+struct Lines {
+    count: u64,
+    numbers: Vec<u8>,
+}
+
+/// The lines of a group.
+fn lines_of(alloc: Global, grouped: &[Grouped], group: Group) -> Result<Lines, AllocError> {
+    let mut count: u64 = 0;
+    let mut numbers = Vec::new(alloc);
+    for one in grouped {
+        if one.group == group {
+            push_number(&mut numbers, count, one.line)?;
+            count = count.saturating_add(1);
+        }
+    }
+    Ok(Lines { count, numbers })
+}
+
+/// Appends the number of a line after those of that many; `..` in place of the first that is too many.
+fn push_number(numbers: &mut Vec<u8>, count: u64, line: u64) -> Result<(), AllocError> {
+    if count > MOST_LINES {
+        return Ok(());
+    }
+    if count > 0 {
+        numbers.extend_from_slice(b", ")?;
+    }
+    if count == MOST_LINES {
+        return numbers.extend_from_slice(b"..");
+    }
+    let shown = format!(in *numbers.allocator(); "{line}")?;
+    numbers.extend_from_slice(shown.as_bytes())
+}
+
+/// How many touches would be measured there.
+fn strays_in(strays: &[Stray], place: Stray) -> u64 {
+    let mut count: u64 = 0;
+    for stray in strays {
+        if *stray == place {
+            count = count.saturating_add(1);
+        }
+    }
+    count
+}
+
+/// A count with its noun.
+fn counted(alloc: Global, count: u64, one: &str, many: &str) -> Result<String, AllocError> {
+    if count == 1 {
+        format!(in alloc; "1 {one}")
+    } else {
+        format!(in alloc; "{count} {many}")
+    }
+}
+
+/// What deleting the lines that set coordinates would change.
+fn strays_text(alloc: Global, strays: &[Stray]) -> Result<String, AllocError> {
+    let machine = strays_in(strays, Stray::Machine);
+    let stored = strays_in(strays, Stray::Stored);
+    let in_machine = counted(alloc, machine, "touch", "touches")?;
+    let in_stored = counted(alloc, stored, "touch", "touches")?;
+    match (machine > 0, stored > 0) {
+        (true, true) => format!(in alloc;
+            "if deleted, {in_machine} would be measured in machine coordinates, and {in_stored} in those of the frame that is recalled above."
+        ),
+        (true, false) => {
+            format!(in alloc; "if deleted, {in_machine} would be measured in machine coordinates.")
+        }
+        (false, true) => format!(in alloc;
+            "if deleted, {in_stored} would be measured in the coordinates of the frame that is recalled above."
+        ),
+        (false, false) => format!(in alloc; "if deleted, what is measured stays the same."),
+    }
+}
+
+/// The name of a group.
+fn group_name(group: Group) -> &'static str {
+    match group {
+        Group::Bookkeeping => "bookkeeping",
+        Group::Coordinates => "coordinate systems and alignment",
+        Group::Measuring => "measuring that is not carried out",
+        Group::Flow => "control flow",
+        Group::Motion => "motion",
+        Group::Lengths => "what lengths mean",
+        Group::Mistake => "mistakes",
+        Group::Other => "other statements",
+    }
+}
+
+/// What deleting the lines of a group would change.
+fn consequence(group: Group) -> &'static str {
+    match group {
+        Group::Bookkeeping => "if deleted, what is measured stays the same.",
+        Group::Measuring => "if deleted, what they ask for is not measured.",
+        Group::Flow => {
+            "if deleted, each statement is carried out once, in order, and what is measured may change."
+        }
+        Group::Motion => {
+            "if deleted, what is measured stays the same, but the machine moves otherwise and may collide."
+        }
+        Group::Lengths => "if deleted, all lengths are taken as millimetres, without compensation.",
+        Group::Mistake => "correct them; if deleted, touches or selections may be missing.",
+        Group::Other => "find out what they do before you delete them.",
+        Group::Coordinates => "",
+    }
+}
+
+/// Adds the summary of a group, if it has lines, with what deleting them would change.
+fn add_group(
+    alloc: Global,
+    report: &mut Report,
+    file: &str,
+    grouped: &[Grouped],
+    group: Group,
+    change: &str,
+) -> Result<(), AllocError> {
+    let lines = lines_of(alloc, grouped, group)?;
+    if lines.count == 0 {
+        return Ok(());
+    }
+    let name = group_name(group);
+    let count = counted(alloc, lines.count, "line", "lines")?;
+    let mut said = Vec::new(alloc);
+    let front = format!(in alloc; "{name}: {count} (")?;
+    said.extend_from_slice(front.as_bytes())?;
+    said.extend_from_slice(lines.numbers.as_slice())?;
+    let behind = format!(in alloc; "): {change}")?;
+    said.extend_from_slice(behind.as_bytes())?;
+    let head = Head {
+        file,
+        line: None,
+        kind: "summary",
+        refusal: None,
+    };
+    report.add(alloc, head, said.as_slice())
+}
+
+/// Adds the summary of a program's refusals: a finding for each group that has some.
+pub(crate) fn add_summary(
+    alloc: Global,
+    report: &mut Report,
+    file: &str,
+    grouped: &[Grouped],
+    strays: &[Stray],
+) -> Result<(), AllocError> {
+    let moved = strays_text(alloc, strays)?;
+    add_group(
+        alloc,
+        report,
+        file,
+        grouped,
+        Group::Coordinates,
+        moved.as_str(),
+    )?;
+    for group in [
+        Group::Lengths,
+        Group::Measuring,
+        Group::Flow,
+        Group::Motion,
+        Group::Mistake,
+        Group::Other,
+        Group::Bookkeeping,
+    ] {
+        add_group(alloc, report, file, grouped, group, consequence(group))?;
+    }
+    Ok(())
+}
