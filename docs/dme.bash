@@ -12,7 +12,9 @@ _dme()
             mapfile -t COMPREPLY < <(compgen -f -- "$word")
             return ;;
         --as)
-            mapfile -t COMPREPLY < <(compgen -W "csv json svg features contacts" -- "$word")
+            options="csv json svg features contacts"
+            [[ ${COMP_WORDS[1]} == review ]] && options=json
+            mapfile -t COMPREPLY < <(compgen -W "$options" -- "$word")
             return ;;
         --host | --listen)
             mapfile -t COMPREPLY < <(compgen -A hostname -- "$word")
@@ -28,7 +30,7 @@ _dme()
         serve) options="--setup --listen --port --connections --contacts --progress --trace --log --timeout --stop --explain" ;;
         run) options="--setup --host --port --window --features --record --part --contacts --progress --trace --log --timeout --wait --stop --confirm --explain" ;;
         export) options="--as --setup --features --record --explain" ;;
-        review) options="--setup" ;;
+        review) options="--as --setup" ;;
         ledger) options="--up --down --connection" ;;
         explain)
             options="P1 P2 P3 P4 P5 P6 P7 P8 P9 P10 P11 P12 P13 P14 P15 P16 N1 N2 N3 S1 S2 S3 H1 K1 J1 J2 J3 C4"

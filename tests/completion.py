@@ -34,6 +34,11 @@ def options(command):
     return set(re.findall(r"--[a-z]+", told(command, "--help")[1].partition("Options:")[2]))
 
 
+def forms_are_whole(command, *words):
+    forms = re.search(r"possible values: (.*)\]", told(command, "--as", "", *words)[1])
+    return completed(command, "--as", "") == set(forms[1].split(", "))
+
+
 def is_whole(name):
     """Whether the completion of these words is what the program reports."""
     if name == "commands":
@@ -44,8 +49,7 @@ def is_whole(name):
         known = all(told("explain", it)[0] == 0 for it in codes | small)
         return len(codes) == 43 and small == {it.lower() for it in codes if it[0] == "P"} and known
     if name == "forms":
-        forms = re.search(r"possible values: (.*)\]", told("export", "--as", "", "--features", "none")[1])
-        return completed("export", "--as", "") == set(forms[1].split(", "))
+        return forms_are_whole("export", "--features", "none") and forms_are_whole("review")
     return completed(name, "--") == options(name)
 
 

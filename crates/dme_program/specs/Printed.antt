@@ -32,6 +32,7 @@ exit_status (fault.Words error) = 2
 exit_status fault.NotUtf8 = 2
 exit_status (fault.NoCode code) = 2
 exit_status (fault.NoForm word) = 2
+exit_status (fault.NoFindingForm word) = 2
 exit_status (fault.Misfits why) = 2
 exit_status (fault.NoPart part) = 2
 exit_status fault.PartAlone = 2

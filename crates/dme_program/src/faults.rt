@@ -26,6 +26,9 @@ pub enum Fault {
     /// A word that names no form.
     #[error("error: invalid value '{0}' for '--as <FORM>'\n  [possible values: csv, json, svg, features, contacts]\n\nFor more information, try '--help'.\n")]
     NoForm(String),
+    /// Likewise, of a review.
+    #[error("error: invalid value '{0}' for '--as <FORM>'\n  [possible values: json]\n\nFor more information, try '--help'.\n")]
+    NoFindingForm(String),
     /// Options that do not go together.
     #[error("{0}")]
     Misfits(Misfit),
@@ -130,7 +133,7 @@ impl Fault {
         match self {
             Fault::Words(_) | Fault::NotUtf8 | Fault::NoCode(_) | Fault::NoForm(_) => 2,
             Fault::Misfits(_) | Fault::NoPart(_) | Fault::PartAlone | Fault::OneFile(_) => 2,
-            Fault::NoSeconds(_, _) => 2,
+            Fault::NoSeconds(_, _) | Fault::NoFindingForm(_) => 2,
             Fault::NotConfirmed | Fault::Record(_) | Fault::ExplainedRecord(_, _) => 1,
             Fault::Order(cause) | Fault::Explained(cause, _) => cause.status(),
         }

@@ -87,6 +87,17 @@ fn check<R: Files + Input + Print + AllocGlobal>(rt: &R, order: Check) -> Result
     Err(refused(rt.alloc(), fault, files, order.explain))
 }
 
+/// The form of findings that a word names; lines if there is none.
+fn finding_form(word: Option<String>) -> Result<FindingForm, Fault> {
+    let Some(word) = word else {
+        return Ok(FindingForm::Lines);
+    };
+    match word.as_str() {
+        "json" => Ok(FindingForm::Json),
+        _ => Err(Fault::NoFindingForm(word)),
+    }
+}
+
 /// A copy of the name of a file, if one is named; else the empty text.
 fn name_of(alloc: Global, file: &Option<String>) -> Result<String, AllocError> {
     match file {
@@ -97,6 +108,7 @@ fn name_of(alloc: Global, file: &Option<String>) -> Result<String, AllocError> {
 
 /// The order `review`: its exit status.
 fn review<R: Files + Input + Print + AllocGlobal>(rt: &R, order: Review) -> Result<u8, Fault> {
+    let form = finding_form(order.form)?;
     let mut sources = Sources::new(rt, false);
     let name = String::from_str(rt.alloc(), order.program.as_str())?;
     let setup_name = name_of(rt.alloc(), &order.setup)?;
@@ -107,14 +119,7 @@ fn review<R: Files + Input + Print + AllocGlobal>(rt: &R, order: Review) -> Resu
     let mut setup = sources.maybe(order.setup);
     let mut program = sources.file(order.program);
     let mut sink = Writing::new(io::writer(rt));
-    match review_program(
-        rt.alloc(),
-        FindingForm::Lines,
-        names,
-        &mut setup,
-        &mut program,
-        &mut sink,
-    ) {
+    match review_program(rt.alloc(), form, names, &mut setup, &mut program, &mut sink) {
         Ok(status) => Ok(status),
         Err(fault) => {
             let mut files = InputFiles::unnamed(rt.alloc());

@@ -32,6 +32,7 @@ argument_rule argument.Connection = connection_rule
 argument_rule argument.Up = needed_rule (codes "up")
 argument_rule argument.Down = needed_rule (codes "down")
 argument_rule argument.Form = needed_rule (codes "as")
+argument_rule argument.FindingForm = text_rule (codes "as")
 argument_rule argument.Code = code_rule
 argument_rule argument.Progress = flag_rule (codes "progress")
 argument_rule argument.Trace = flag_rule (codes "trace")

@@ -87,9 +87,9 @@ abbrev pub export_line : App
 export_line = line_of (codes "export") (needed_rule (codes "as") ∷ text_rule (codes "setup") ∷ text_rule (codes "features")
     ∷ text_rule (codes "record") ∷ flag_rule (codes "explain") ∷ program_rule ∷ [])
 
--- `review [--setup FILE] [PROGRAM]`
+-- `review [--as FORM] [--setup FILE] [PROGRAM]`
 abbrev pub review_line : App
-review_line = line_of (codes "review") (text_rule (codes "setup") ∷ program_rule ∷ [])
+review_line = line_of (codes "review") (text_rule (codes "as") ∷ text_rule (codes "setup") ∷ program_rule ∷ [])
 
 -- the option `--connection N`: a number from 1 to 4,000,000,000, 1 if none is named
 abbrev pub connection_rule : Rule

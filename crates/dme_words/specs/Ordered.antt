@@ -182,9 +182,11 @@ IsAnyExportOf rows (order.Export o) = IsExportOf rows o
 IsAnyExportOf rows (order.ExportRecord o) = IsRecordExportOf rows o
 IsAnyExportOf rows _ = ⊥
 
--- a review of the program with the named setup, or with none if none is named
+-- a review of the program with the named setup and in the named form, or without them if none are named
 abbrev pub IsReviewOf : List Row → Review → Type 0
-IsReviewOf rows o = IsMaybeOf (codes "setup") rows (option_map string_bytes o.setup) × IsProgramOf rows (string_bytes o.program)
+IsReviewOf rows o =
+    IsMaybeOf (codes "as") rows (option_map string_bytes o.form) × IsMaybeOf (codes "setup") rows (option_map string_bytes o.setup)
+    × IsProgramOf rows (string_bytes o.program)
 
 -- what a server told by the named bytes of both ends, on the connection of the named number
 abbrev pub IsLedgerOf : List Row → Ledger → Type 0

@@ -60,6 +60,8 @@ enum Argument {
     Down,
     /// `--as FORM`.
     Form,
+    /// `--as FORM` of a review.
+    FindingForm,
     /// `CODE`.
     Code,
     /// `--progress`.
@@ -323,6 +325,16 @@ fn form_option<'a>(alloc: Global) -> Arg<'a>
         .required(true)
 }
 
+/// `--as FORM` of a review.
+fn finding_form_option<'a>(alloc: Global) -> Arg<'a>
+    ensures rule { rule_of result ≡ text_rule (codes "as") }
+    ensures local { result.global ≡ false }
+{
+    Arg::new(alloc, "as").long("as").value_name("FORM").help(
+        "The form that is printed: json, for other programs; lines if none is named",
+    )
+}
+
 /// The argument of a command, as `clap` is given it.
 fn made_argument<'a>(alloc: Global, argument: Argument) -> Arg<'a>
     ensures rule { rule_of result ≡ argument_rule argument }
@@ -385,6 +397,7 @@ fn made_argument<'a>(alloc: Global, argument: Argument) -> Arg<'a>
             needed_option(alloc, "down", down)
         }
         Argument::Form => form_option(alloc),
+        Argument::FindingForm => finding_form_option(alloc),
         Argument::Code => code_argument(alloc),
         Argument::Progress => progress_flag(alloc),
         Argument::Trace => trace_flag(alloc),
@@ -644,7 +657,7 @@ fn export_command<'a>(alloc: Global) -> Result<Command<'a>, AllocError>
     )
 }
 
-/// `review [--setup FILE] [PROGRAM]`.
+/// `review [--as FORM] [--setup FILE] [PROGRAM]`.
 fn review_command<'a>(alloc: Global) -> Result<Command<'a>, AllocError>
     ensures shape { IfOk result (λ command. app_of command ≡ review_line) }
     ensures local { IfOk result (λ command. (out-Command command).has_globals ≡ false) }
@@ -652,7 +665,11 @@ fn review_command<'a>(alloc: Global) -> Result<Command<'a>, AllocError>
     let command = Command::new(alloc, "review").about(
         "Lists everything that stands between a DMIS program and its run",
     );
-    with_arguments(alloc, command, &[Argument::Setup, Argument::Program])
+    with_arguments(
+        alloc,
+        command,
+        &[Argument::FindingForm, Argument::Setup, Argument::Program],
+    )
 }
 
 /// `ledger --up FILE --down FILE [--connection N]`.

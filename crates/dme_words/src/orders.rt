@@ -215,6 +215,8 @@ pub struct RecordExport {
 /// The values of `review`.
 #[derive(Debug, Drop)]
 pub struct Review {
+    /// The form that is printed, as it is written; lines if none is named.
+    pub form: Option<String>,
     /// The file of the machine's setup, whose frames the program may recall; `-` is standard input.
     pub setup: Option<String>,
     /// The file of the program; `-` is standard input.

@@ -504,9 +504,11 @@ fn export_order(alloc: Global, values: &ArgMatches) -> Result<Order, WordsFault>
 fn review_order(alloc: Global, values: &ArgMatches) -> Result<Review, AllocError>
     ensures { IfOk result (IsReviewOf (rows_of (found_of values.now))) }
 {
-    let setup = copied_maybe(alloc, values, "setup")?;
-    let program = copied_program(alloc, values)?;
-    Ok(Review { setup, program })
+    Ok(Review {
+        form: copied_maybe(alloc, values, "as")?,
+        setup: copied_maybe(alloc, values, "setup")?,
+        program: copied_program(alloc, values)?,
+    })
 }
 
 /// The values of `ledger`. Fails only if out of memory.
