@@ -1,6 +1,7 @@
 // Findings in the form in which they are printed.
 
 ghost use Rattle.std.specs.Prelude.{◌≡◌, ◌++◌, ◌∷◌, [], codes};
+ghost use Rattle.std.specs.Option.{option_map};
 ghost use Rattle.json.specs.Token.{key, string};
 ghost use Rattle.deviations.specs.Json.{Puts};
 ghost use Rattle.dme_orders.specs.Findings.{line_member, text_or_null, finding_tokens};
@@ -55,7 +56,8 @@ fn put_line(json: &mut Writer, line: Option<u64>) -> Result<(), AllocError>
 
 /// Appends a member that is a text or null.
 fn put_text_or_null(json: &mut Writer, name: &str, text: Option<&str>) -> Result<(), AllocError>
-    ensures { Puts result json.old json.new (text_or_null name.now text.now) }
+    ensures { Puts result json.old json.new
+        (text_or_null name.now (option_map (λ v. v.now) text.entry)) }
 {
     json.key(name)?;
     match text {
@@ -73,7 +75,8 @@ fn put_finding(
     said: &str,
 ) -> Result<(), AllocError>
     ensures { Puts result json.old json.new
-        (finding_tokens head.file.now head.line head.kind.now code.now said.now) }
+        (finding_tokens head.entry.file.now head.entry.line head.entry.kind.now
+        (option_map (λ v. v.now) code.entry) said.now) }
 {
     json.begin_object()?;
     put_text(json, "file", head.file)?;
