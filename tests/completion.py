@@ -39,11 +39,6 @@ def forms_are_whole(command, *words):
     return completed(command, "--as", "") == set(forms[1].split(", "))
 
 
-def forms_are_whole(command, *words):
-    forms = re.search(r"possible values: (.*)\]", told(command, "--as", "", *words)[1])
-    return completed(command, "--as", "") == set(forms[1].split(", "))
-
-
 def is_whole(name):
     """Whether the completion of these words is what the program reports."""
     if name == "commands":
