@@ -10,6 +10,8 @@ use Rattle.deviations.specs.declared.faults.RowsFault.{RowsFault}
 use Rattle.deviations.specs.declared.faults.RowsFault.TheVariants as rows
 use Rattle.tool_rack.specs.Setups.{SetupValue, setup_of}
 use Rattle.tool_rack.specs.declared.faults.SetupFault.TheVariants as setup
+use Rattle.run_record.specs.Reading.{IsDamagedRecord}
+use Rattle.run_record.specs.Reading as texts
 use Rattle.run_record.specs.Records.{Recorded}
 use Rattle.run_record.specs.declared.faults.RecordFault.TheVariants as recorded
 use Rattle.link_world.specs.ScheduleTexts.{schedule_of}
@@ -18,7 +20,6 @@ use Rattle.link_world.specs.declared.texts.schedule_faults.ScheduleFault.TheVari
 use Rattle.dmis_program.specs.Meaning.{Meaning, program_of}
 use Rattle.dmis_program.specs.declared.faults.ProgramFault.TheVariants as program
 use Rattle.dme_orders.specs.Checked.{IsUnread}
-use Rattle.dme_orders.specs.Recorded.{IsReadAs}
 use Rattle.dme_orders.specs.declared.reading.Role.{Role}
 use Rattle.dme_orders.specs.declared.reading.Role.TheVariants as role
 use Rattle.dme_orders.specs.declared.reading.FilesFault.{FilesFault}
@@ -103,14 +104,13 @@ module _ {S : Type 0} (c : Came S) where
   WhyNoContacts (fault.Contacts (ledger.Damaged n)) = Reads c (λ text. IsDamagedContacts text n)
   WhyNoContacts given = WhyNoText role.Contacts given
 
-  -- the record of a source, if it is begun
+  -- the record of a source, or that its text is not a record yet
   abbrev pub ReadsRecord : Option Recorded → Type 0
-  ReadsRecord said = Reads c (λ text. IsReadAs text (Ok said))
+  ReadsRecord said = Reads c (λ text. texts.ReadsRecord text (Ok said))
 
-  -- why there is no such value
+  -- why there is none: this line of its text is the first that is damaged
   abbrev pub WhyNoRecord : FilesFault → Type 0
-  WhyNoRecord (fault.Record recorded.Memory) = ⊥
-  WhyNoRecord (fault.Record cause) = Reads c (λ text. IsReadAs text (Err cause))
+  WhyNoRecord (fault.Record (recorded.Damaged n)) = Reads c (λ text. IsDamagedRecord text n)
   WhyNoRecord given = WhyNoText role.Record given
 
   -- the program of a source under frames

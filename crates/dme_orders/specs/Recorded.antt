@@ -1,15 +1,10 @@
 -- What an order takes from the record of a run (this profile).
-use Rattle.std.specs.Prelude.{◌≡◌, ℕ, List, [], Option, Some, None, Result}
+use Rattle.std.specs.Prelude.{◌≡◌, ℕ, List, [], Option, Some, None}
 use Rattle.contact_ledger.specs.declared.acts.Act.{Act}
 use Rattle.contact_ledger.specs.declared.features.Feature.{Feature}
 use Rattle.dmis_program.specs.Meaning.{Meaning}
 use Rattle.run_record.specs.Records.{Recorded}
 use Rattle.run_record.specs.Strangers.{IsFirstOther}
-use Rattle.run_record.specs.declared.faults.RecordFault.{RecordFault}
-
--- what reading a text as a record answers: nothing is claimed of the answer yet, and `ReadsRecord` of `run_record` belongs here
-abbrev pub IsReadAs : List ℕ → Result (Option Recorded) RecordFault → Type 0
-IsReadAs text answer = Unit {0}
 
 -- a record asked for the features of this program; one that is not begun is of any
 abbrev pub IsOfProgram : Option Recorded → Meaning → Type 0
