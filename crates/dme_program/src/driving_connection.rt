@@ -437,10 +437,11 @@ fn read_run<R: Files + Input + Eprint + AllocGlobal>(
     };
     warn(rt, &files.setup, &files.program)?;
     let tasks = task_lines(rt.alloc(), files.program.text.as_slice())?;
+    let features = files.features;
     Ok(RunInput {
         kept,
         program,
-        features: files.features.name,
+        features: features.name,
         tasks,
     })
 }
@@ -499,7 +500,12 @@ pub fn run_program<
         program: order.program,
     };
     let mut sources = Sources::new(rt, order.explain);
-    let input = read_run(rt, &mut sources, names, order.explain)?;
+    let RunInput {
+        kept,
+        program,
+        features,
+        tasks,
+    } = read_run(rt, &mut sources, names, order.explain)?;
     let patience = Patience::new(rt, timeout, order.stop);
     if patience.is_stopped() {
         return Ok(patience.not_begun());
@@ -508,7 +514,7 @@ pub fn run_program<
         host: order.host,
         port: order.port,
         window: order.window,
-        features: if is_kept { Some(input.features) } else { None },
+        features: if is_kept { Some(features) } else { None },
         record,
         contacts: order.contacts,
         progress: order.progress,
@@ -516,8 +522,7 @@ pub fn run_program<
         log: order.log,
         wait,
         confirm: order.confirm,
-        tasks: input.tasks,
+        tasks,
     };
-    let read = (input.kept, input.program);
-    drive_read(rt, &mut sources, read, call, &patience)
+    drive_read(rt, &mut sources, (kept, program), call, &patience)
 }
