@@ -2,6 +2,8 @@
 """Reviews of generated programs, judged by a second implementation: it asks `dme check` for the first refusal, takes the refused statement
 out but for what it certainly means, and asks again, until the program is accepted. `dme review` must list the same refusals.
 
+And each finding alone, and each two of them one after the other: the lines and the literal sentences are in a table below.
+
 `run` calls this with some hundred programs, `releases.py` with 3,000; by itself: tests/reviews.py [COUNT [SEED]]
 """
 
@@ -10,6 +12,7 @@ import random
 import re
 import subprocess
 import sys
+import tempfile
 
 ROOT = pathlib.Path(__file__).resolve().parent.parent
 PROGRAM = ROOT / "crates" / "dme_program" / "out" / "dme_program"
@@ -181,6 +184,165 @@ def listed(lines, program):
     run = subprocess.run([program, "review"], input="".join(f"{it}\n" for it in lines), capture_output=True, text=True, timeout=SECONDS)
     found = re.findall(r"^-:(\d+): refused: (P\d+ \w+(?: \(N\d \w+\))?): .+$", run.stdout, re.MULTILINE)
     return [(refusal, int(line)) for line, refusal in found], run.returncode
+
+
+def block(label, kind, *touches, count=None, feature=True, moves=True):
+    """The lines of a feature: its definition, and its block with a move before these touches."""
+    lines = [f"F({label})=FEAT/{kind},CART,0,0,0,0,0,1"] if feature else []
+    lines.append(f"MEAS/POINT,F({label}),{count or len(touches)}")
+    return lines + (["GOTO/1,2,9"] if moves else []) + list(touches) + ["ENDMES"]
+
+
+TOUCH = "PTMEAS/CART,1,2,3,0,0,1"
+NOT_CARRIED_OUT = "refused: P5 Unsupported: {} is not carried out."
+SENTENCES = {  # what is found: its lines, with a label of its own, and for each sentence how many lines are above it; {} is the line there
+    "P5": lambda it: (["DECPL/ALL,3"], [(0, NOT_CARRIED_OUT.format("DECPL"))]),
+    "P6": lambda it: (["SNSLCT/T"], [(0, "refused: P6 BadArguments: T is not S(name) or SA(name).")]),
+    "P7": lambda it: (
+        ["GOTO/1,x,3"],
+        [
+            (
+                0,
+                "refused: P7 BadNumeral (N1 NotNumeral): x is not a numeral: a numeral has digits with at most one point, and optionally a sign"
+                " and an exponent of one to three digits.",
+            )
+        ],
+    ),
+    "P8": lambda it: ([TOUCH], [(0, "refused: P8 OutsideBlock: PTMEAS is outside a measurement block: no MEAS above it is open.")]),
+    "P9": lambda it: (
+        [f"F(I{it})=FEAT/POINT,CART,0,0,0,0,0,1", *block(it, "POINT", TOUCH, f"MEAS/POINT,F(I{it}),1", count=1)],
+        [(5, "refused: P9 InsideBlock: MEAS is inside the measurement block that begins at line {2}: it has no ENDMES yet.")],
+    ),
+    "P10": lambda it: (
+        block(it, "POINT", count=2),
+        [
+            (
+                3,
+                "refused: P10 TooFewPoints: The program asks for automatic measuring: MEAS at line {1} names 2 touches and its block has none,"
+                " and only programmed touches are measured.",
+            )
+        ],
+    ),
+    "P11": lambda it: (
+        ["RECALL/D(NOPE)", "RECALL/D(HERE)"],
+        [(0, "refused: P11 UnknownFrame: No frame NOPE is stored: --setup is missing, or its file has no line FRAME NOPE.")],
+    ),
+    "P12": lambda it: (["UNITS/INCH"], [(0, "refused: P12 NotMillimetres: The unit INCH is not read: lengths are in MM.")]),
+    "P13": lambda it: (
+        ["MODE/MAN"],
+        [(0, "refused: P13 NoProgMode: The mode MAN is not carried out, and PROG is not among the words of MODE.")],
+    ),
+    "P14": lambda it: (
+        block(it, "POINT", "PTMEAS/CART,1,2,3,0,0,0"),
+        [(3, "refused: P14 ZeroVector: The direction 0,0,0 is zero in all components, rounded to millionths.")],
+    ),
+    "near word": lambda it: (["PTMES/1"], [(0, NOT_CARRIED_OUT.format("PTMES")), (0, "odd: PTMES: PTMEAS?")]),
+    "direction": lambda it: (
+        block(it, "POINT", "PTMEAS/CART,1,2,3,0,0,1.002"),
+        [(3, "odd: PTMEAS/CART,1,2,3,0,0,1.002 has a direction whose length is not 1.")],
+    ),
+    "no move": lambda it: (
+        block(it, "POINT", TOUCH, moves=False),
+        [(2, f"odd: {TOUCH} is a touch before any move in its block.")],
+    ),
+    "more touches": lambda it: (
+        block(it, "POINT", TOUCH, TOUCH, count=1),
+        [(5, "odd: ENDMES ends a block with more touches than its MEAS names.")],
+    ),
+    "no definition": lambda it: (
+        block(it, "POINT", TOUCH, feature=False),
+        [(0, f"odd: MEAS/POINT,F({it}),1 measures a feature that no FEAT above defines.")],
+    ),
+    "another kind": lambda it: (
+        block(it, "PLANE", TOUCH),
+        [(1, f"odd: MEAS/POINT,F({it}),1 measures a feature as another kind than its FEAT above says.")],
+    ),
+    "measured twice": lambda it: (
+        block(it, "POINT", TOUCH) + block(it, "POINT", TOUCH, feature=False),
+        [(5, f"odd: MEAS/POINT,F({it}),1 measures a feature whose label another MEAS above has.")],
+    ),
+    "defined twice": lambda it: (
+        [f"F({it})=FEAT/POINT,CART,0,0,0,0,0,1"] * 2,
+        [(1, "odd: FEAT/POINT,CART,0,0,0,0,0,1 defines a feature whose label another FEAT above has.")],
+    ),
+    "tool": lambda it: (["SNSLCT/S(P9)", "SNSLCT/S(P1)"], [(0, "setup: SNSLCT/S(P9) selects a tool that the setup lacks.")]),
+    "volume": lambda it: (
+        ["RECALL/D(FAR)", "GOTO/2,0,0", "RECALL/D(HERE)"],
+        [(1, "setup: GOTO/2,0,0 is out of the machine's volume: an axis is more than 1,000 metres from its zero point.")],
+    ),
+    "radius": lambda it: (
+        ["PRCOMP/OFF"],
+        [
+            (
+                0,
+                "passed over: PRCOMP/OFF would say whether points are corrected by the radius of the probe: they are taken as the server"
+                " reports them.",
+            )
+        ],
+    ),
+    "standstill": lambda it: (
+        ["FINPOS/OFF"],
+        [(0, "passed over: FINPOS/OFF would say whether a move ends only when the machine stands still: the server decides.")],
+    ),
+    "approach": lambda it: (
+        ["SNSET/APPRCH,3"],
+        [
+            (
+                0,
+                "passed over: SNSET/APPRCH,3 would set how the probe approaches, searches and retracts: the machine's own settings are used.",
+            )
+        ],
+    ),
+    "plane": lambda it: (
+        ["WKPLAN/XYPLAN"],
+        [(0, "passed over: WKPLAN/XYPLAN would name the plane of later statements: positions have three coordinates here.")],
+    ),
+    "speed": lambda it: (["FEDRAT/1"], [(0, "passed over: FEDRAT/1 would set a speed: the machine's own is used.")]),
+    "acceleration": lambda it: (["ACLRAT/1"], [(0, "passed over: ACLRAT/1 would set an acceleration: the machine's own is used.")]),
+    "operator": lambda it: (
+        ["TEXT/OPER,'TURN'"],
+        [(0, "passed over: TEXT/OPER,'TURN' is a text for the operator: the machine does not wait for him.")],
+    ),
+}
+SETUP = "TOOL P1\nFRAME HERE 0 0 0\nFRAME SPARE 0 0 0\nFRAME FAR 999999 0 0\n"
+OPENED = ["DMISMN", "SNSLCT/S(P1)", "RECALL/D(FAR)", "RECALL/D(HERE)"]
+
+
+def review_of(names):
+    """The lines of a program with these findings, one after the other, and the lines of its review but for the summary."""
+    lines, due = list(OPENED), []
+    for place, name in enumerate(names):
+        chunk, sentences = SENTENCES[name](f"L{place}")
+        numbers = [len(lines) + 1 + it for it in range(len(chunk))]
+        due += [f"p:{numbers[above]}: {sentence.format(*numbers)}" for above, sentence in sentences]
+        lines += chunk
+    return [*lines, "ENDFIL"], [*due, "s:3: setup: FRAME SPARE is stored, and no RECALL of the program selects it."]
+
+
+def is_reviewed(names, folder, program):
+    """Whether a program with these findings is reviewed so, with the status, and refused by `dme check` for the first refusal."""
+    lines, due = review_of(names)
+    (folder / "p").write_text("".join(f"{it}\n" for it in lines))
+    calls = ([program, command, "--setup", "s", "p"] for command in ("review", "check"))
+    review, check = (subprocess.run(it, cwd=folder, capture_output=True, text=True, timeout=SECONDS) for it in calls)
+    found = [it for it in review.stdout.splitlines() if not it.startswith("p: summary: ")]
+    refusals = [re.match(r"p:(\d+): refused: (P\d+ \w+(?: \(N\d \w+\))?): ", it) for it in due if ": refused: " in it]
+    first = f"dme: {refusals[0][2]} at line {refusals[0][1]}\n" if refusals else ""
+    if found == due and review.returncode == (1 if refusals else 0) and check.stderr == first:
+        return True
+    print(f"review of {' and '.join(names)}: {found} with status {review.returncode} and {check.stderr!r}, not {due} and {first!r}")
+    return False
+
+
+def check_findings():
+    """How many findings, alone and each two of them, are reviewed as the table says, and how many are not."""
+    names = [(it,) for it in SENTENCES] + [(it, other) for it in SENTENCES for other in SENTENCES]
+    with tempfile.TemporaryDirectory() as room:
+        folder = pathlib.Path(room)
+        (folder / "s").write_text(SETUP)
+        passed = sum(is_reviewed(it, folder, PROGRAM) for it in names)
+    print(f"findings alone and in pairs: {passed} of {len(names)}", flush=True)
+    return passed, len(names) - passed
 
 
 def check_reviews(count=300, seed=37):
