@@ -1,3 +1,4 @@
+pub mod Confirming
 pub mod Plan
 pub mod Numbered
 pub mod Checked

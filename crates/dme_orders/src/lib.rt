@@ -10,7 +10,7 @@
 //! - `notes`: what an audit found, and in what a record differs from a program, besides what an order prints
 //! - `preparing`: the files of an order over a connection are read before there is one
 //! - `looping`: a program is run over one connection between both ends
-//! - `driving`: a program is run on a server over a connection, and its features are kept
+//! - `driving`: a program is run on a server over a connection, and its features are kept; `confirming`: the answer that begins it
 //! - `serving`: connections are served, and what was done is kept and shown
 //! - `text_files`: files that are replaced as a whole, as the orders see them
 //! - `ends`, `ended`: the two ends of a connection and their reports; how it has ended, and what is shown of that
@@ -24,6 +24,7 @@
 
 mod auditing;
 mod check;
+mod confirming;
 mod driving;
 mod ended;
 mod ends;
@@ -48,6 +49,7 @@ mod verdicts;
 
 pub use auditing::{AuditFiles, audit_files};
 pub use check::{CheckFault, check_plan};
+pub use confirming::is_confirmed;
 pub use driving::{RunEnd, RunOutputs, drive};
 pub use ended::{ConnectionEnd, shown_break};
 pub use ends::kept_client;

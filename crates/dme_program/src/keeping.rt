@@ -1,12 +1,13 @@
 // What a run reports before it connects: the features that it keeps, and what comes next. It may be asked to wait for a confirmation.
 
+use byte_ports::Reading;
 use client_core::Client;
 use contact_ledger::Feature;
 use dme_orders::{OrderFault, first_lines};
 use dmis_program::{Touch, Wanted};
 use fixed_um::Frame;
 use program_review::{Task, TaskLine};
-use std::io::{self, Read};
+use std::io;
 
 /// The frame of the last of touches.
 fn last_frame(touches: &[Touch]) -> Frame {
@@ -123,21 +124,8 @@ pub fn tell_next<R: Eprint + AllocGlobal>(
     Ok(())
 }
 
-/// The next byte of standard input, if there is one.
-fn next_byte<R: Input>(rt: &R) -> Option<u8> {
-    let mut byte = [0u8; 1];
-    match rt.reader().read(&mut byte) {
-        Ok(1) => Some(byte[0]),
-        _ => None,
-    }
-}
-
 /// Waits for a line on standard input: whether it is empty. Anything else, and the end of the input, is no confirmation.
 pub fn is_confirmed<R: Input + Eprint>(rt: &R) -> bool {
     let _ = eprintln!(rt; "dme: an empty line begins the run, anything else ends it");
-    match next_byte(rt) {
-        Some(b'\n') => true,
-        Some(b'\r') => next_byte(rt) == Some(b'\n'),
-        _ => false,
-    }
+    dme_orders::is_confirmed(&mut Reading::new(rt.reader()))
 }

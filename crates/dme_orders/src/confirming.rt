@@ -1,0 +1,29 @@
+// The answer that begins a run.
+
+ghost use Rattle.std.specs.Prelude.{◌≡◌, ◌∷◌, [], IfSome, true};
+ghost use Rattle.std.specs.Io.KnownBytes.{Consumes};
+ghost use Rattle.dme_orders.specs.Confirming.{TakesEmptyLine};
+
+use byte_ports::Source;
+
+/// The next byte of a source; nothing at its end, and if it fails.
+fn next_byte<S: Source>(source: &mut S) -> Option<u8>
+    ensures { IfSome result (λ byte. Consumes (S.left source.old) (S.left source.new) (byte ∷ [])) }
+{
+    let mut byte = [0u8; 1];
+    match source.pull(&mut byte) {
+        Ok(1) => Some(byte[0]),
+        _ => None,
+    }
+}
+
+/// Waits for a line: whether it is empty. Any other line, the end of the source and its failure confirm nothing.
+pub fn is_confirmed<S: Source>(source: &mut S) -> bool
+    ensures { result ≡ true → TakesEmptyLine (S.left source.old) (S.left source.new) }
+{
+    match next_byte(source) {
+        Some(b'\n') => true,
+        Some(b'\r') => next_byte(source) == Some(b'\n'),
+        _ => false,
+    }
+}
