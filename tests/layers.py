@@ -45,11 +45,22 @@ def faults_of(crates):
     return faults
 
 
+def all_below(name, crates):
+    """A crate and all that it stands on."""
+    found, new = {name}, [name]
+    while new:
+        new = [it for it in crates.get(new.pop(), []) if it not in found] + new
+        found |= set(new)
+    return found
+
+
 def row(name, crates):
+    """What a crate stands on, without what follows from it."""
     def joined(names):
         return " ".join(f"`{it}`" for it in names)
 
     own = [it for it in crates if it in crates[name]]
+    own = [it for it in own if not any(it in all_below(other, crates) for other in own if other != it)]
     return f"| [`{name}`](../crates/{name}/) | {joined(own)} | {joined(it for it in crates[name] if it not in crates)} |\n"
 
 
