@@ -36,6 +36,7 @@ pub mod ServerSteps
 pub mod ServerWork
 pub mod Courses
 pub mod Telling
+pub mod Showing
 pub mod Thens
 pub mod TurnJoins
 pub mod Turning

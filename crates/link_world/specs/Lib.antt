@@ -19,5 +19,6 @@ pub mod Joined
 pub mod Courses
 pub mod LinkRuns
 pub mod Watching
+pub mod Showing
 pub mod WatchingRows
 pub mod ServerWatching

@@ -3,6 +3,7 @@
 ghost use Rattle.std.specs.Prelude.{◌≡◌, ◌≤◌, ◌+◌, true, false, IfOk, OnOk, OnErr, IfErr};
 ghost use Rattle.link_world.specs.Pumps.{BlamesPorts};
 ghost use Rattle.link_world.specs.Watching.{TellsRun};
+ghost use Rattle.link_world.specs.Showing.{Shown, EndsShown};
 ghost use Rattle.link_world.specs.LinkRuns.{calls_most, client_side, server_side, are_still, PairMoved, PairStopped, LoopRan, LoopStopped};
 
 use crate::connections::links::{LoopFault, STEPS_MAX, TURNS_MAX, watched_turn};
@@ -67,6 +68,7 @@ fn pair<M: Machine, CR: Source, CW: Sink, SR: Source, SW: Sink, N: Watcher>(
         (SR.has_failed ports.old.server.source) (SR.has_failed ports.new.server.source)
         (SW.has_failed ports.old.server.sink) (SW.has_failed ports.new.server.sink) }
     ensures told { TellsRun client.old client.new (N.told watcher.old) (N.told watcher.new) }
+    ensures shown { Shown N.shows client.old watcher.old client.new watcher.new }
 {
     let by_client = match watched_turn(client, &mut ports.client, down, watcher) {
         Ok(moved) => moved,
@@ -85,11 +87,62 @@ fn pair<M: Machine, CR: Source, CW: Sink, SR: Source, SW: Sink, N: Watcher>(
     }
 }
 
+/// The pairs of turns of a client and a server, as `loop_link`, which does not show the client at the end.
+fn pairs<M: Machine, CR: Source, CW: Sink, SR: Source, SW: Sink, N: Watcher>(
+    client: &mut Client,
+    server: &mut Server,
+    machine: &mut M,
+    ports: &mut LoopPorts<CR, CW, SR, SW>,
+    watcher: &mut N,
+) -> Result<(), LoopFault>
+    ensures ran { OnOk result (LoopRan (M.answers machine.old)
+        (client_side client.old (CR.left ports.old.client.source) (CW.taken ports.old.client.sink))
+        (client_side client.new (CR.left ports.new.client.source) (CW.taken ports.new.client.sink))
+        (server_side server.old.end (SR.left ports.old.server.source) (SW.taken ports.old.server.sink))
+        (server_side server.new.end (SR.left ports.new.server.source) (SW.taken ports.new.server.sink))) }
+    ensures stopped { IfErr result (λ fault. LoopStopped (M.answers machine.old)
+        (client_side client.old (CR.left ports.old.client.source) (CW.taken ports.old.client.sink))
+        (client_side client.new (CR.left ports.new.client.source) (CW.taken ports.new.client.sink))
+        (server_side server.old.end (SR.left ports.old.server.source) (SW.taken ports.old.server.sink))
+        (server_side server.new.end (SR.left ports.new.server.source) (SW.taken ports.new.server.sink))
+        fault) }
+    ensures client_left { OnErr result (client.new.client.on ≡ false) }
+    ensures server_left { OnErr result (server.new.end.server.on ≡ false) }
+    ensures client_bounded { CR.calls ports.new.client.source + CW.calls ports.new.client.sink
+        ≤ CR.calls ports.old.client.source + CW.calls ports.old.client.sink + calls_most }
+    ensures server_bounded { SR.calls ports.new.server.source + SW.calls ports.new.server.sink
+        ≤ SR.calls ports.old.server.source + SW.calls ports.old.server.sink + calls_most }
+    ensures setup { server.new.setup ≡ server.old.setup }
+    ensures keeps { M.answers machine.new ≡ M.answers machine.old }
+    ensures client_blamed { BlamesPorts (LoopFault.Client PumpFault.ReadFailed)
+        (LoopFault.Client PumpFault.WriteFailed) result
+        (CR.has_failed ports.old.client.source) (CR.has_failed ports.new.client.source)
+        (CW.has_failed ports.old.client.sink) (CW.has_failed ports.new.client.sink) }
+    ensures server_blamed { BlamesPorts (LoopFault.Server PumpFault.ReadFailed)
+        (LoopFault.Server PumpFault.WriteFailed) result
+        (SR.has_failed ports.old.server.source) (SR.has_failed ports.new.server.source)
+        (SW.has_failed ports.old.server.sink) (SW.has_failed ports.new.server.sink) }
+    ensures told { TellsRun client.old client.new (N.told watcher.old) (N.told watcher.new) }
+    ensures shown { Shown N.shows client.old watcher.old client.new watcher.new }
+{
+    let mut down = 0;
+    for _pair in 0..TURNS_MAX {
+        let (by_client, by_server) = pair(client, server, machine, ports, down, watcher)?;
+        if are_still(by_client, by_server) {
+            return Ok(());
+        }
+        down = by_server.written;
+    }
+    client.leave();
+    server.leave();
+    Err(LoopFault::Client(PumpFault::TurnsSpent))
+}
+
 /// A client and a server take turns alternately, each over its own ports of one connection (this profile): in each pair of turns the client
 /// asks for as many bytes as the server wrote in its last turn, at first for none, and then the server for as many as the client has just
 /// written. It ends with Ok after a pair in which no byte came in and none went out. Each feature that a turn has completed is reported to
-/// the watcher, once, in order, with its number and after that turn, even if the turn stops; whatever the watcher does, all else is the
-/// same.
+/// the watcher, once, in order, with its number and after that turn, even if the turn stops. The client is shown to it after each of its
+/// turns, and at the end as the run leaves it, as by `watch_link`. Whatever the watcher does, all else is the same.
 ///
 /// If one side's turn stops, its fault is the answer, and the other side leaves its connection too. A turn may make 1,000,000 steps, and
 /// there may be 1,000,000 pairs; after them both sides leave, and the answer is that the client's turns are spent.
@@ -128,16 +181,9 @@ pub fn loop_link<M: Machine, CR: Source, CW: Sink, SR: Source, SW: Sink, N: Watc
         (SR.has_failed ports.old.server.source) (SR.has_failed ports.new.server.source)
         (SW.has_failed ports.old.server.sink) (SW.has_failed ports.new.server.sink) }
     ensures told { TellsRun client.old client.new (N.told watcher.old) (N.told watcher.new) }
+    ensures shown { EndsShown N.shows client.old client.new watcher.old watcher.new }
 {
-    let mut down = 0;
-    for _pair in 0..TURNS_MAX {
-        let (by_client, by_server) = pair(client, server, machine, ports, down, watcher)?;
-        if are_still(by_client, by_server) {
-            return Ok(());
-        }
-        down = by_server.written;
-    }
-    client.leave();
-    server.leave();
-    Err(LoopFault::Client(PumpFault::TurnsSpent))
+    let result = pairs(client, server, machine, ports, watcher);
+    watcher.turned(client);
+    result
 }

@@ -4,6 +4,7 @@ ghost use Rattle.std.specs.Prelude.{◌≡◌, ◌↔◌, ◌<◌, ◌≤◌, �
 ghost use Rattle.std.specs.Result.{IsErrOf};
 ghost use Rattle.link_world.specs.Pumps.{BlamesPorts, ClientMovedWithin, ClientStoppedWithin};
 ghost use Rattle.link_world.specs.Watching.{TellsRun};
+ghost use Rattle.link_world.specs.Showing.{Shown, EndsShown};
 ghost use Rattle.link_world.specs.ServerWatching.{EndsWith, ServerRunWatched};
 ghost use Rattle.link_world.specs.Courses.{goes_on};
 ghost use Rattle.link_world.specs.LinkRuns.{calls_most, client_calls_most, is_over, ClientRan, ClientRunStopped, ServerRunStopped};
@@ -46,7 +47,7 @@ fn is_over(state: State) -> bool
     matches!(state, State::Done | State::Halted)
 }
 
-/// One turn of a client, whose features are reported to the watcher, whether it stops or not.
+/// One turn of a client, whose features are reported to the watcher, and which is then shown to it, whether the turn stops or not.
 pub(crate) fn watched_turn<R: Source, W: Sink, N: Watcher>(
     client: &mut Client,
     ports: &mut Ports<R, W>,
@@ -67,12 +68,53 @@ pub(crate) fn watched_turn<R: Source, W: Sink, N: Watcher>(
         (R.has_failed ports.old.source) (R.has_failed ports.new.source)
         (W.has_failed ports.old.sink) (W.has_failed ports.new.sink) }
     ensures told { TellsRun client.old client.new (N.told watcher.old) (N.told watcher.new) }
+    ensures shown { N.shows client.new watcher.old watcher.new }
 {
     let held = client.features().len();
     let result = client_turns(client, ports, at_least, STEPS_MAX);
-    tell(client.features(), held, watcher);
-    watcher.turned(client);
+    tell(client, held, watcher);
     result
+}
+
+/// The rounds of a run of a client, as `watch_link`, which does not show the client at the end.
+fn rounds<R: Source, W: Sink, N: Watcher, S: Steering>(
+    client: &mut Client,
+    ports: &mut Ports<R, W>,
+    watcher: &mut N,
+    steering: &mut S,
+) -> Result<(), PumpFault<ClientFault>>
+    ensures ran { OnOk result (ClientRan client.old client.new (R.left ports.old.source)
+        (R.left ports.new.source) (W.taken ports.old.sink) (W.taken ports.new.sink)
+        (S.can_have_said steering.old) (S.can_have_said steering.new)) }
+    ensures done { OnOk result (is_over client.new.client.state ≡ true) }
+    ensures stopped { IfErr result (λ fault. ClientRunStopped client.old client.new
+        (R.left ports.old.source) (R.left ports.new.source) (W.taken ports.old.sink) (W.taken ports.new.sink)
+        (S.can_have_said steering.old) (S.can_have_said steering.new) fault) }
+    ensures left { OnErr result (client.new.client.on ≡ false) }
+    ensures bounded { R.calls ports.new.source + W.calls ports.new.sink
+        ≤ R.calls ports.old.source + W.calls ports.old.sink + client_calls_most }
+    ensures blamed { BlamesPorts PumpFault.ReadFailed PumpFault.WriteFailed result
+        (R.has_failed ports.old.source) (R.has_failed ports.new.source)
+        (W.has_failed ports.old.sink) (W.has_failed ports.new.sink) }
+    ensures told { TellsRun client.old client.new (N.told watcher.old) (N.told watcher.new) }
+    ensures shown { Shown N.shows client.old watcher.old client.new watcher.new }
+{
+    let mut turns = 0;
+    let mut has_stopped = false;
+    while !is_over(client.state()) {
+        if turns == TURNS_MAX {
+            client.leave();
+            return Err(PumpFault::TurnsSpent);
+        }
+        watched_turn(client, ports, 0, watcher)?;
+        if is_over(client.state()) {
+            return Ok(());
+        }
+        has_stopped = ask(client, steering, has_stopped)?;
+        watched_turn(client, ports, 1, watcher)?;
+        turns += 1;
+    }
+    Ok(())
 }
 
 /// A whole run of a client over the ports of its connection (this profile): rounds, until it is Done or Halted. It makes none if it is so at
@@ -81,7 +123,8 @@ pub(crate) fn watched_turn<R: Source, W: Sink, N: Watcher>(
 /// which is so in Running and Failing, it aborts: AbortE goes out, and its end is awaited.
 ///
 /// Each feature that a turn has completed is reported to the watcher, once, in order, with its number and after that turn, even if the turn
-/// stops; whatever the watcher does, the run is the same.
+/// stops. The client is shown to the watcher after each turn, and at the end as the run leaves it, whatever the answer; between that it
+/// makes calls of its own only (`EndsShown`). Whatever the watcher does, the run is the same.
 ///
 /// A fault of a turn is the answer, and the client has then left its connection; so is the refusal of an abort. A turn may make 1,000,000
 /// steps, and a run may have 1,000,000 rounds; if the client is neither Done nor Halted after them, it leaves, and the answer is
@@ -107,23 +150,11 @@ pub fn watch_link<R: Source, W: Sink, N: Watcher, S: Steering>(
         (R.has_failed ports.old.source) (R.has_failed ports.new.source)
         (W.has_failed ports.old.sink) (W.has_failed ports.new.sink) }
     ensures told { TellsRun client.old client.new (N.told watcher.old) (N.told watcher.new) }
+    ensures shown { EndsShown N.shows client.old client.new watcher.old watcher.new }
 {
-    let mut turns = 0;
-    let mut has_stopped = false;
-    while !is_over(client.state()) {
-        if turns == TURNS_MAX {
-            client.leave();
-            return Err(PumpFault::TurnsSpent);
-        }
-        watched_turn(client, ports, 0, watcher)?;
-        if is_over(client.state()) {
-            return Ok(());
-        }
-        has_stopped = ask(client, steering, has_stopped)?;
-        watched_turn(client, ports, 1, watcher)?;
-        turns += 1;
-    }
-    Ok(())
+    let result = rounds(client, ports, watcher, steering);
+    watcher.turned(client);
+    result
 }
 
 /// A whole run of a client over the ports of its connection, as `watch_link`, with no watcher. It always continues: it aborts nothing.

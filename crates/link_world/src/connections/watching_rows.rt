@@ -1,10 +1,12 @@
 // Examples: what is reported to a watcher of runs. Each function has laws for its contract and does nothing.
 
-ghost use Rattle.std.specs.Prelude.{◌≡◌, None, Some, [], ◌∷◌, codes};
+ghost use Rattle.std.specs.Prelude.{◌≡◌, None, Some, [], ◌∷◌, codes, true, false};
 ghost use Rattle.dmis_program.specs.Meaning.{Meaning};
-ghost use Rattle.protocol_model.specs.Ends.{new_client_end};
+ghost use Rattle.protocol_model.specs.Ends.{ClientEnd, new_client_end, end_left};
+ghost use Rattle.client_core.specs.Calls.{Connected, Resume, Restart};
 ghost use Rattle.link_world.specs.Watching.{Completed, notes_from, TellsRun};
-ghost use Rattle.link_world.specs.WatchingRows.{cone, disc, edge};
+ghost use Rattle.link_world.specs.Showing.{IsRunCall, EndsShown};
+ghost use Rattle.link_world.specs.WatchingRows.{cone, disc, edge, notes_on};
 
 /// What is reported of features, the first of them under a number.
 pub fn note_rows()
@@ -41,4 +43,22 @@ pub fn watcher_rows()
     ensures from_nowhere { (program : Meaning) → TellsRun (new_client_end program (cone ∷ []) 1)
         (new_client_end program (cone ∷ disc ∷ []) 1)
         None (Some (Completed 2 disc ∷ [])) → ⊥ }
+{}
+
+/// A watcher notes of each client that it is shown whether it is on a connection.
+#[tactic(auto, using(crate::proofs::Showing::shown_twice, crate::proofs::Showing::shown_left, crate::proofs::Showing::not_shown, crate::proofs::Showing::not_shown_again, crate::proofs::Showing::shown_as_it_was))]
+pub fn shown_rows()
+    // A client is shown, leaves and is shown again; or it leaves and is shown.
+    ensures twice { (e : ClientEnd) → e.client.on ≡ true
+        → EndsShown notes_on e (end_left e) [] (true ∷ false ∷ []) }
+    ensures left { (e : ClientEnd) → EndsShown notes_on e (end_left e) [] (false ∷ []) }
+    // It is not shown; nor is one that is shown before it leaves, and not after that; nor one that is shown as it was before it left.
+    ensures never { (e : ClientEnd) → EndsShown notes_on e e [] [] → ⊥ }
+    ensures before { (e : ClientEnd) → EndsShown notes_on e (end_left e) [] (true ∷ []) → ⊥ }
+    ensures as_it_was { (e : ClientEnd)
+        → EndsShown notes_on e (end_left e) [] (false ∷ true ∷ []) → ⊥ }
+    // A run makes no connection, resumes no plan and restarts no client.
+    ensures connects { IsRunCall (Connected 2) → ⊥ }
+    ensures resumes { IsRunCall Resume → ⊥ }
+    ensures restarts { IsRunCall (Restart 0) → ⊥ }
 {}

@@ -2,6 +2,8 @@ use Rattle.std.proofs.Common.{ap, arith}
 use Rattle.protocol_model.specs.Ends.{ClientEnd}
 use Rattle.server_core.specs.Serving.{ServerValue}
 use Rattle.link_world.specs.LinkRuns.{client_side, server_side, client_stops, server_stops}
+use Rattle.link_world.specs.Showing as show
+use Rattle.link_world.proofs.Showing.{left_shown, turned_shown}
 use Rattle.link_world.proofs.connections.link_runs.pair.Goals as goal
 
 pub returns-in-Err-clause-stopped : goal.returns-in-Err-clause-stopped
@@ -38,3 +40,21 @@ returns-in-Err-serve_turns-clause-client_bounded g c =
 pub returns-in-Err-serve_turns-clause-server_bounded : goal.returns-in-Err-serve_turns-clause-server_bounded
 returns-in-Err-serve_turns-clause-server_bounded g c =
     let most = c.in-Err-serve_turns.ensures.stopped.within in omega (arith, most)
+
+pub returns-in-Err-clause-shown : goal.returns-in-Err-clause-shown
+returns-in-Err-clause-shown g c = turned_shown g.N.Watcher.shows c.args.client.now c.args.watcher.now 1000000 _ _ c.args.down c.args.client.now
+    c.watched_turn.new.client _ _ _ _ c.watched_turn.result c.args.watcher.now c.watched_turn.new.watcher
+    c.watched_turn.ensures.moved c.watched_turn.ensures.stopped show.begins c.watched_turn.ensures.shown
+
+pub returns-in-Ok-serve_turns-clause-shown : goal.returns-in-Ok-serve_turns-clause-shown
+returns-in-Ok-serve_turns-clause-shown g c = turned_shown g.N.Watcher.shows c.args.client.now c.args.watcher.now 1000000 _ _ c.args.down c.args.client.now
+    c.watched_turn.new.client _ _ _ _ c.watched_turn.result c.args.watcher.now c.watched_turn.new.watcher
+    c.watched_turn.ensures.moved c.watched_turn.ensures.stopped show.begins c.watched_turn.ensures.shown
+
+pub returns-in-Err-serve_turns-clause-shown : goal.returns-in-Err-serve_turns-clause-shown
+returns-in-Err-serve_turns-clause-shown g c = left_shown g.N.Watcher.shows c.args.client.now c.args.watcher.now
+    c.watched_turn.new.client c.leave-in-Err-serve_turns.new.self c.watched_turn.new.watcher
+    (turned_shown g.N.Watcher.shows c.args.client.now c.args.watcher.now 1000000 _ _ c.args.down c.args.client.now
+    c.watched_turn.new.client _ _ _ _ c.watched_turn.result c.args.watcher.now c.watched_turn.new.watcher
+    c.watched_turn.ensures.moved c.watched_turn.ensures.stopped show.begins c.watched_turn.ensures.shown)
+    c.leave-in-Err-serve_turns.ensures

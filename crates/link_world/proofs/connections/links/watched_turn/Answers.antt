@@ -1,14 +1,12 @@
-use Rattle.std.proofs.Common.{Option, List, sym, subst}
-use Rattle.link_world.specs.Watching.{Note, TellsRun}
+use Rattle.std.proofs.Common.{refl}
 use Rattle.link_world.proofs.Telling.{turned_grows, turn_tells}
 use Rattle.link_world.proofs.connections.links.watched_turn.Goals as goal
 
 pub returns-clause-told : goal.returns-clause-told
 returns-clause-told g c =
-    subst (λ (told : Option (List Note)). TellsRun c.args.client.now c.client_turns-result.new.client
-    (g.N.Watcher.told c.args.watcher.now) told) (sym c.turned.ensures)
-    (turn_tells c.args.client.now c.client_turns-result.new.client c.features-held.result.now c.features.result.now
+    turn_tells c.args.client.now c.client_turns-result.new.client c.features-held.result.now
+    c.client_turns-result.new.client.client.table.tally.features
     (g.N.Watcher.told c.args.watcher.now) (g.N.Watcher.told c.tell.new.watcher)
     (turned_grows 1000000 _ _ c.args.at_least c.args.client.now c.client_turns-result.new.client _ _ _ _ c.client_turns-result.result
     c.client_turns-result.ensures.moved c.client_turns-result.ensures.stopped)
-    c.features-held.ensures.shown.0 c.features.ensures.shown.0 c.tell.ensures)
+    c.features-held.ensures.shown.0 refl c.tell.ensures.told

@@ -1,8 +1,9 @@
 use Rattle.std.proofs.Common.{◌≡◌, ◌≤◌, ◌+◌, ◌*◌, ◌-◌, false}
 use Rattle.link_world.specs.LinkRuns.{Fresh}
+use Rattle.link_world.specs.Showing.{Shown}
 use Rattle.link_world.specs.Watching.{TellsRun}
 use Rattle.link_world.proofs.ClientRuns.{ClientSoFar}
-use Rattle.link_world.proofs.connections.links.watch_link.Given as goal
+use Rattle.link_world.proofs.connections.links.rounds.Given as goal
 
 abbrev pub invariant-loop-client : goal.invariant-loop-client
 invariant-loop-client g l =
@@ -15,6 +16,7 @@ invariant-loop-client g l =
     × (g.R.Source.has_failed l.initial.ports.source ≡ false → g.R.Source.has_failed l.ports.source ≡ false)
     × (g.W.Sink.has_failed l.initial.ports.sink ≡ false → g.W.Sink.has_failed l.ports.sink ≡ false)
     × TellsRun l.initial.client l.client (g.N.Watcher.told l.initial.watcher) (g.N.Watcher.told l.watcher)
+    × Shown g.N.Watcher.shows l.initial.client l.initial.watcher l.client l.watcher
 
 abbrev pub decreases-loop-client : goal.decreases-loop-client
 decreases-loop-client g l = 1000000 - l.turns

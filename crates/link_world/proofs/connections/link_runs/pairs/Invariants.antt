@@ -1,7 +1,8 @@
 use Rattle.std.proofs.Common.{◌≡◌, ◌≤◌, ◌+◌, ◌*◌, false}
 use Rattle.link_world.specs.LinkRuns.{client_side, server_side, LoopRun}
+use Rattle.link_world.specs.Showing.{Shown}
 use Rattle.link_world.specs.Watching.{TellsRun}
-use Rattle.link_world.proofs.connections.link_runs.loop_link.Given as goal
+use Rattle.link_world.proofs.connections.link_runs.pairs.Given as goal
 
 abbrev pub invariant-loop-pair : goal.invariant-loop-pair
 invariant-loop-pair g l =
@@ -22,3 +23,4 @@ invariant-loop-pair g l =
     × (g.SR.Source.has_failed l.initial.ports.server.source ≡ false → g.SR.Source.has_failed l.ports.server.source ≡ false)
     × (g.SW.Sink.has_failed l.initial.ports.server.sink ≡ false → g.SW.Sink.has_failed l.ports.server.sink ≡ false)
     × TellsRun l.initial.client l.client (g.N.Watcher.told l.initial.watcher) (g.N.Watcher.told l.watcher)
+    × Shown g.N.Watcher.shows l.initial.client l.initial.watcher l.client l.watcher

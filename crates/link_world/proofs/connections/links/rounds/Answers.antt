@@ -6,7 +6,9 @@ use Rattle.link_world.proofs.ClientRuns.{client_starts, client_gives, client_rou
 use Rattle.link_world.proofs.ClientRuns.{client_stops, client_spends}
 use Rattle.link_world.proofs.Telling.{tells_none, tells_more, tells_refused}
 use Rattle.link_world.proofs.Telling.{tells_left, tells_asked}
-use Rattle.link_world.proofs.connections.links.watch_link.Goals as goal
+use Rattle.link_world.proofs.Showing.{left_shown, turned_shown, asked_shown, stop_refused_shown}
+use Rattle.link_world.specs.Showing as show
+use Rattle.link_world.proofs.connections.links.rounds.Goals as goal
 
 pub loop-client-init : goal.loop-client-init
 loop-client-init g c = (
@@ -17,6 +19,7 @@ loop-client-init g c = (
   λ works. works,
   λ works. works,
   tells_none c.args.client.now (g.N.Watcher.told c.args.watcher.now),
+  show.begins,
 )
 
 pub returns-then-turns-eq-TURNS_MAX-clause-stopped : goal.returns-then-turns-eq-TURNS_MAX-clause-stopped
@@ -165,4 +168,45 @@ loop-client-preserved g c = (
       (g.S.Steering.can_have_said c.loop-client.steering) (g.S.Steering.can_have_said c.ask.new.steering)
       (g.N.Watcher.told c.watched_turn.new.watcher) c.in_ok-has_stopped.ensures.asks))
       c.watched_turn-in-loop-client.ensures.told,
+  turned_shown g.N.Watcher.shows c.args.client.now c.args.watcher.now 1000000 _ _ 1 c.ask.new.client c.watched_turn-in-loop-client.new.client _ _ _ _
+      c.watched_turn-in-loop-client.result c.watched_turn.new.watcher c.watched_turn-in-loop-client.new.watcher c.watched_turn-in-loop-client.ensures.moved c.watched_turn-in-loop-client.ensures.stopped
+      (asked_shown g.N.Watcher.shows c.args.client.now c.args.watcher.now c.loop-client.has_stopped c.in_ok-has_stopped.has_stopped
+      c.watched_turn.new.client c.ask.new.client (g.S.Steering.can_have_said c.loop-client.steering)
+      (g.S.Steering.can_have_said c.ask.new.steering) c.watched_turn.new.watcher c.in_ok-has_stopped.ensures.asks
+      (turned_shown g.N.Watcher.shows c.args.client.now c.args.watcher.now 1000000 _ _ 0 c.loop-client.client c.watched_turn.new.client _ _ _ _
+      c.watched_turn.result c.loop-client.watcher c.watched_turn.new.watcher c.watched_turn.ensures.moved c.watched_turn.ensures.stopped
+      c.loop-client.invariant.6 c.watched_turn.ensures.shown)) c.watched_turn-in-loop-client.ensures.shown,
 )
+
+pub returns-then-turns-eq-TURNS_MAX-clause-shown : goal.returns-then-turns-eq-TURNS_MAX-clause-shown
+returns-then-turns-eq-TURNS_MAX-clause-shown g c = left_shown g.N.Watcher.shows c.args.client.now c.args.watcher.now c.loop-client.client
+    c.leave.new.self c.loop-client.watcher c.loop-client.invariant.6 c.leave.ensures
+
+pub returns-in_err-watched_turn-clause-shown : goal.returns-in_err-watched_turn-clause-shown
+returns-in_err-watched_turn-clause-shown g c = turned_shown g.N.Watcher.shows c.args.client.now c.args.watcher.now 1000000 _ _ 0 c.loop-client.client c.watched_turn.new.client _ _ _ _
+    c.watched_turn.result c.loop-client.watcher c.watched_turn.new.watcher c.watched_turn.ensures.moved c.watched_turn.ensures.stopped
+    c.loop-client.invariant.6 c.watched_turn.ensures.shown
+
+pub returns-then-is_over-clause-shown : goal.returns-then-is_over-clause-shown
+returns-then-is_over-clause-shown g c = turned_shown g.N.Watcher.shows c.args.client.now c.args.watcher.now 1000000 _ _ 0 c.loop-client.client c.watched_turn.new.client _ _ _ _
+    c.watched_turn.result c.loop-client.watcher c.watched_turn.new.watcher c.watched_turn.ensures.moved c.watched_turn.ensures.stopped
+    c.loop-client.invariant.6 c.watched_turn.ensures.shown
+
+pub returns-in_err-has_stopped-clause-shown : goal.returns-in_err-has_stopped-clause-shown
+returns-in_err-has_stopped-clause-shown g c = stop_refused_shown g.N.Watcher.shows c.args.client.now c.args.watcher.now
+    c.loop-client.has_stopped c.watched_turn.new.client c.ask.new.client (g.S.Steering.can_have_said c.loop-client.steering)
+    (g.S.Steering.can_have_said c.ask.new.steering) c.in_err-has_stopped.field-0.0 c.watched_turn.new.watcher
+    c.in_err-has_stopped.ensures.refused
+    (turned_shown g.N.Watcher.shows c.args.client.now c.args.watcher.now 1000000 _ _ 0 c.loop-client.client c.watched_turn.new.client _ _ _ _
+    c.watched_turn.result c.loop-client.watcher c.watched_turn.new.watcher c.watched_turn.ensures.moved c.watched_turn.ensures.stopped
+    c.loop-client.invariant.6 c.watched_turn.ensures.shown)
+
+pub returns-in_err-watched_turn-2-clause-shown : goal.returns-in_err-watched_turn-2-clause-shown
+returns-in_err-watched_turn-2-clause-shown g c = turned_shown g.N.Watcher.shows c.args.client.now c.args.watcher.now 1000000 _ _ 1 c.ask.new.client c.watched_turn-in-loop-client.new.client _ _ _ _
+    c.watched_turn-in-loop-client.result c.watched_turn.new.watcher c.watched_turn-in-loop-client.new.watcher c.watched_turn-in-loop-client.ensures.moved c.watched_turn-in-loop-client.ensures.stopped
+    (asked_shown g.N.Watcher.shows c.args.client.now c.args.watcher.now c.loop-client.has_stopped c.in_ok-has_stopped.has_stopped
+    c.watched_turn.new.client c.ask.new.client (g.S.Steering.can_have_said c.loop-client.steering)
+    (g.S.Steering.can_have_said c.ask.new.steering) c.watched_turn.new.watcher c.in_ok-has_stopped.ensures.asks
+    (turned_shown g.N.Watcher.shows c.args.client.now c.args.watcher.now 1000000 _ _ 0 c.loop-client.client c.watched_turn.new.client _ _ _ _
+    c.watched_turn.result c.loop-client.watcher c.watched_turn.new.watcher c.watched_turn.ensures.moved c.watched_turn.ensures.stopped
+    c.loop-client.invariant.6 c.watched_turn.ensures.shown)) c.watched_turn-in-loop-client.ensures.shown

@@ -7,7 +7,9 @@ use Rattle.link_world.specs.LinkRuns as run
 use Rattle.link_world.proofs.ClientPumps.{if_err}
 use Rattle.link_world.proofs.LoopRuns.{pair_goes, loop_stops, loop_spends}
 use Rattle.link_world.proofs.Telling.{tells_none, tells_more, tells_left}
-use Rattle.link_world.proofs.connections.link_runs.loop_link.Goals as goal
+use Rattle.link_world.specs.Showing as show
+use Rattle.link_world.proofs.Showing.{shown_more, left_shown}
+use Rattle.link_world.proofs.connections.link_runs.pairs.Goals as goal
 
 pub loop-pair-init : goal.loop-pair-init
 loop-pair-init g c = (
@@ -21,6 +23,7 @@ loop-pair-init g c = (
   λ works. works,
   λ works. works,
   tells_none c.args.client.now (g.N.Watcher.told c.args.watcher.now),
+  show.begins,
 )
 
 pub returns-in_err-by_client-clause-stopped : goal.returns-in_err-by_client-clause-stopped
@@ -56,6 +59,8 @@ loop-pair-preserved g c = (
   grind (arith, common_steps),
   tells_more c.args.client.now c.loop-pair.client c.pair.new.client (g.N.Watcher.told c.args.watcher.now)
       (g.N.Watcher.told c.loop-pair.watcher) (g.N.Watcher.told c.pair.new.watcher) c.loop-pair.invariant.9 c.pair.ensures.told,
+  shown_more g.N.Watcher.shows c.args.client.now c.loop-pair.client c.args.watcher.now
+      c.loop-pair.watcher c.pair.new.client c.pair.new.watcher c.loop-pair.invariant.10 c.pair.ensures.shown,
 )
 
 pub returns-in_err-by_client-clause-told : goal.returns-in_err-by_client-clause-told
@@ -87,3 +92,15 @@ returns-clause-stopped g c = loop_spends (g.M.Machine.answers c.args.machine.now
     (ap (λ (s : ServerValue). server_side s.end (g.SR.Source.left c.loop-pair.ports.server.source)
     (g.SW.Sink.taken c.loop-pair.ports.server.sink))
     c.leave-2.ensures)
+
+pub returns-in_err-by_client-clause-shown : goal.returns-in_err-by_client-clause-shown
+returns-in_err-by_client-clause-shown g c = shown_more g.N.Watcher.shows c.args.client.now c.loop-pair.client c.args.watcher.now
+    c.loop-pair.watcher c.pair.new.client c.pair.new.watcher c.loop-pair.invariant.10 c.pair.ensures.shown
+
+pub returns-then-are_still-clause-shown : goal.returns-then-are_still-clause-shown
+returns-then-are_still-clause-shown g c = shown_more g.N.Watcher.shows c.args.client.now c.loop-pair.client c.args.watcher.now
+    c.loop-pair.watcher c.pair.new.client c.pair.new.watcher c.loop-pair.invariant.10 c.pair.ensures.shown
+
+pub returns-clause-shown : goal.returns-clause-shown
+returns-clause-shown g c = left_shown g.N.Watcher.shows c.args.client.now c.args.watcher.now c.loop-pair.client c.leave.new.self
+    c.loop-pair.watcher c.loop-pair.invariant.10 c.leave.ensures
