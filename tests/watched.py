@@ -4,6 +4,7 @@
   but for its first line, and `dme ledger` over the recorded bytes prints it.
 - A client that is written here, and leaves after any of its lines, by an end or a reset, with or without the replies to it: what the told
   file has is a prefix of the server's contacts; each act of a command whose end the client has read is in it.
+- A client that calls the server past the relay, between two that do not: the told file has what was reported to the two, and no more.
 - Both ends written here, with bytes of a fixed sequence in pieces: each end gets the bytes of the other, as recorded; after a reset a prefix.
 - A told file that cannot be written is refused before the relay listens; one that cannot grow is reported at once, stops nothing, and the
   status is 1. Of a server that does not listen and of two silent ends it says so.
@@ -106,6 +107,22 @@ def run_through(folder, window):
     again, again_port = serve(folder)
     must(ended(dme(folder, *words, str(again_port)))[1] == report, "the report is another")
     ended(again)
+
+
+# ---- a client past the relay
+
+
+def bypass(folder):
+    server, server_port = serve(folder, "--connections", "3")
+    relay, port = watch(folder, server_port, "--connections", "2")
+    words = ("run", "--setup", "machine.setup", "--host", "127.0.0.1", "part.dmis", "--port")
+    for called in (port, server_port, port):
+        must(ended(dme(folder, *words, str(called)))[0] == 0, "run")
+    must(ended(relay) == (0, "", ""), "relay")
+    must(ended(server)[0] == 0, "server")
+    made = acts_of(folder, "contacts", HEADS[0]).splitlines(keepends=True)
+    own = [it for it in made if it.startswith("1 ")] + ["2" + it[1:] for it in made if it.startswith("3 ")]
+    must(len(own) < len(made) and acts_of(folder, "told", HEADS[1]) == "".join(own), "the told file is not what was reported to both")
 
 
 # ---- a client that leaves
@@ -289,7 +306,7 @@ def check_all(room, step):
     for at in range(60 // step + 6):
         forward(folder, fixed, at % 3 == 2)
         count += 1
-    for check in (no_file, full_file, nobody):
+    for check in (bypass, no_file, full_file, nobody):
         (folder / "told").unlink(missing_ok=True)
         check(folder)
         count += 1
