@@ -30,9 +30,9 @@ def free_port():
         return listener.getsockname()[1]
 
 
-def served(dme, folder, port):
+def served(dme, folder, port, *more):
     """A server that listens on the port, for one connection."""
-    words = [dme, "serve", "--setup", "machine.setup", "--port", str(port), "--connections", "1"]
+    words = [dme, "serve", "--setup", "machine.setup", "--port", str(port), "--connections", "1", *more]
     server = subprocess.Popen(words, cwd=folder, stdout=subprocess.DEVNULL)
     hexadecimal = f":{port:04X} "
     while not any(hexadecimal in line and " 0A " in line for line in pathlib.Path("/proc/net/tcp").read_text().splitlines()):

@@ -8,10 +8,11 @@
            refuses only the first N growths of each.
   lies     120 sessions against a server that breaks off and lies, begun again until they are Done (tests/lying.py)
   kills    runs that are killed at 2,001 moments and begun again, over a record and as many over a features file (tests/killed.py)
+  relayed  5,000 connections through `dme watch` that are cut at any byte (tests/relayed.py)
   reviews  3,000 generated programs and their reviews (tests/reviews.py)
 
 usage: tests/releases.py [PART ..]     by default all parts; a part may be limited: edits=CRATE, events=COUNT, growths=N, kills=MOMENTS, lies=SESSIONS,
-reviews=PROGRAMS
+relayed=CUTS, reviews=PROGRAMS
 
 It needs the executables that `tests/run` has built.
 """
@@ -29,6 +30,7 @@ import time
 from growths import CALLS, PROGRAM, ROOT, WANT, Refusing, Wrong, ended, must, parts_of
 from killed import WINDOWS, check_killed
 from lying import check_lying
+from relayed import CUTS, check_relayed
 from reviews import check_reviews
 
 TESTS = ROOT / "tests"
@@ -67,6 +69,10 @@ def lies(portion):
 
 def kills(portion):
     return check_killed(int(portion or KILLS) // len(WINDOWS))
+
+
+def relayed(portion):
+    return check_relayed(int(portion or CUTS))
 
 
 def reviews(portion):
@@ -186,7 +192,7 @@ def growths(portion):
     return right, len(jobs) - right
 
 
-PARTS = {"edits": edits, "events": events, "growths": growths, "kills": kills, "lies": lies, "reviews": reviews}
+PARTS = {"edits": edits, "events": events, "growths": growths, "kills": kills, "lies": lies, "relayed": relayed, "reviews": reviews}
 
 
 def main(names):
