@@ -1,0 +1,360 @@
+-- The lines of what was reported other than acts, and the fields after their words.
+use Rattle.std.proofs.Common.{◌≡◌, ◌≢◌, ℕ, ◌+◌, ◌/◌, ◌≤◌, Bool, true, false, eqb, List, [], ◌∷◌, ◌++◌, length, refl, ap, sym, subst, ◌∙◌}
+use Rattle.std.proofs.Common.{arith, codes, Option, Some, None, append-nil, slice_index}
+use Rattle.std.specs.Prelude.{decimal}
+use Rattle.std.specs.List.{list_all, slice_split}
+use Rattle.std.specs.Str.{bytes_eq}
+use Rattle.std.proofs.lemmas.Bool.{and_from, le-leb}
+use Rattle.std.proofs.lemmas.List.Splits.{length-slice_split}
+use Rattle.std.proofs.lemmas.Slice.Eq.{bytes_eq-Decides}
+use Rattle.fixed_um.specs.Names.{IsName}
+use Rattle.fixed_um.specs.Shapes.{Direction}
+use Rattle.fixed_um.specs.Written.{last_digit}
+use Rattle.fixed_um.specs.declared.lengths.Point.{Point}
+use Rattle.fixed_um.specs.declared.frames.Frame.{Frame}
+use Rattle.fixed_um.specs.declared.frames.Frame.TheVariants.{Machine, Part}
+use Rattle.dme_line.specs.Tags.{IsTag, written_tag, four_digits}
+use Rattle.dme_line.specs.declared.tags.Tag.{Tag}
+use Rattle.dme_line.specs.declared.tags.Tag.TheVariants.{Std, Event}
+use Rattle.line_framing.specs.Content.{is_content}
+use Rattle.contact_ledger.specs.Lines.{fields_of, fields_behind, line_of}
+use Rattle.contact_ledger.specs.Fields.{IsOnWire, IsFrame, point_fields, frame_fields, direction_fields}
+use Rattle.contact_ledger.specs.Ledgers.{IsConnection}
+use Rattle.contact_ledger.specs.ContactTexts.{IsEntry, IsWrittenAct, act_line}
+use Rattle.contact_ledger.specs.declared.acts.Act.{Act}
+use Rattle.contact_ledger.specs.declared.acts.Act.TheVariants as act
+use Rattle.contact_ledger.proofs.EntryLines.{kind, frame_tail, direction_tail}
+use Rattle.contact_ledger.proofs.LineFields.{line_fields, part_behind, made_of}
+use Rattle.contact_ledger.proofs.PlainFields.{is_plain, IsPlain, ArePlain, plain_fields_append, decimal_plain, name_plain, point_plain, frame_plain}
+use Rattle.contact_ledger.proofs.PlainFields.{direction_plain}
+use Rattle.told_ledger.specs.Effects.{touched}
+use Rattle.told_ledger.specs.Texts.{unknown_field, tool_field, known_frame, rule_name, side_field, told_fields, told_line}
+use Rattle.told_ledger.specs.declared.uses.Rule.{Rule}
+use Rattle.told_ledger.specs.declared.uses.Rule.TheVariants.{UnknownTag, OutOfOrder, NoData, SecondData, OtherData, TagInUse}
+use Rattle.told_ledger.specs.declared.uses.Side.{Side}
+use Rattle.told_ledger.specs.declared.uses.Side.TheVariants.{Client, Server}
+use Rattle.told_ledger.specs.declared.uses.Told.{Told}
+use Rattle.told_ledger.specs.declared.uses.Told.TheVariants as told
+use Rattle.told_files.specs.Parts.{IsOtherTold, told_parts, IsToolName}
+use Rattle.told_files.specs.ToldTexts.{IsNamed, IsPlaced, IsInDoubt, IsLineText, IsWrittenTold, IsReadTold, IsToldEntry, read_act, read_tool}
+
+-- ---- parts of a line
+
+pub some_fields : (line : List ℕ) → fields_of line ≡ [] → ⊥
+unfolding fields_of
+some_fields line e =
+    let n = length-slice_split (λ b. eqb b 32) line in
+    let zero : length (slice_split (λ b. eqb b 32) line) ≡ 0 = ap (λ (fs : List (List ℕ)). length fs) e in
+    omega (arith, n, zero)
+
+-- a line is known by its fields
+pub one_line : (a b : List ℕ) → fields_of a ≡ fields_of b → a ≡ b
+one_line a b e = made_of a (fields_of b) e ∙ sym (made_of b (fields_of b) refl)
+
+-- what follows the fields of a frame
+pub known_tail : (f g : Option Frame) (x y : List (List ℕ)) → known_frame f ++ x ≡ known_frame g ++ y → x ≡ y
+known_tail None None x y e = cc
+known_tail None (Some Machine) x y e =
+    let word : codes "?" ≡ codes "M" = cc in
+    let first : 63 ≡ 77 = ap (λ (t : List ℕ). slice_index t 0) word in
+    absurd (omega (arith, first))
+known_tail None (Some (Part o)) x y e =
+    let word : codes "?" ≡ codes "P" = cc in
+    let first : 63 ≡ 80 = ap (λ (t : List ℕ). slice_index t 0) word in
+    absurd (omega (arith, first))
+known_tail (Some Machine) None x y e =
+    let word : codes "M" ≡ codes "?" = cc in
+    let first : 77 ≡ 63 = ap (λ (t : List ℕ). slice_index t 0) word in
+    absurd (omega (arith, first))
+known_tail (Some (Part o)) None x y e =
+    let word : codes "P" ≡ codes "?" = cc in
+    let first : 80 ≡ 63 = ap (λ (t : List ℕ). slice_index t 0) word in
+    absurd (omega (arith, first))
+known_tail (Some f) (Some g) x y e = frame_tail f g x y e
+
+pub doubt_name : (tool : Option (List ℕ)) (frame : Option Frame) → IsInDoubt tool frame → IsToolName tool
+doubt_name None frame h = tt
+doubt_name (Some tool) None h = h
+doubt_name (Some tool) (Some frame) h = absurd h
+
+-- ---- fields that are not those after a word
+
+abbrev NoPoint : List (List ℕ) → Type 0
+NoPoint fields = (p : Point) (more : List (List ℕ)) → IsOnWire p → fields ≡ point_fields p ++ more → ⊥
+
+abbrev NoTool : List ℕ → Type 0
+NoTool field = (tool : Option (List ℕ)) → IsNamed tool × IsToolName tool × (field ≡ tool_field tool) → ⊥
+
+-- what the fields of a touch are
+record TouchParts (target : Point) (dir : Option Direction) (tool : Option (List ℕ)) (frame : Option Frame) (point : Point)
+    (word : List ℕ) (last : List (List ℕ)) : Type 0 where
+  named : word ≡ tool_field tool
+  ended : last ≡ point_fields point
+
+touch_parts : (fields r s t u : List (List ℕ)) (word : List ℕ) (p target point : Point) (d dir : Option Direction) (f frame : Option Frame)
+    (tool : Option (List ℕ)) → fields ≡ point_fields p ++ r → r ≡ direction_fields d ++ s → s ≡ word ∷ t → t ≡ known_frame f ++ u
+    → codes "CONTACT" ∷ fields ≡ told_parts (told.Touched target dir tool frame point)
+    → TouchParts target dir tool frame point word u
+touch_parts fields r s t u word p target point d dir f frame tool i j k l e =
+    let all : fields ≡ point_fields target ++ (direction_fields dir ++ (tool_field tool ∷ (known_frame frame ++ point_fields point))) = cc in
+    let first : point_fields p ++ r
+    ≡ point_fields target ++ (direction_fields dir ++ (tool_field tool ∷ (known_frame frame ++ point_fields point))) = sym i ∙ all in
+    let second : r ≡ direction_fields dir ++ (tool_field tool ∷ (known_frame frame ++ point_fields point)) = cc in
+    let third : s ≡ tool_field tool ∷ (known_frame frame ++ point_fields point) = direction_tail d dir s _ (sym j ∙ second) in
+    let tools : word ∷ t ≡ tool_field tool ∷ (known_frame frame ++ point_fields point) = sym k ∙ third in
+    let fourth : t ≡ known_frame frame ++ point_fields point = cc in
+    let name : word ≡ tool_field tool = cc in
+    record { named = name; ended = known_tail f frame u _ (sym l ∙ fourth) }
+
+pub no_last_point : (fields r s t u : List (List ℕ)) (p : Point) (d : Option Direction) (word : List ℕ) (f : Option Frame) (a : Told)
+    → fields ≡ point_fields p ++ r → r ≡ direction_fields d ++ s → s ≡ word ∷ t → t ≡ known_frame f ++ u → NoPoint u → IsOtherTold a
+    → codes "CONTACT" ∷ fields ≡ told_parts a → ⊥
+no_last_point fields r s t u p d word f (told.Did x) i j k l none h e = h
+no_last_point fields r s t u p d word f (told.MovedSomewhere target) i j k l none h e =
+    let n : 787 ≡ 865 = ap (λ (fs : List (List ℕ)). kind fs) e in omega (arith, n)
+no_last_point fields r s t u p d word f told.FramedSomehow i j k l none h e =
+    let n : 787 ≡ 656 = ap (λ (fs : List (List ℕ)). kind fs) e in omega (arith, n)
+no_last_point fields r s t u p d word f (told.Touched target dir tool frame point) i j k l none h e =
+    let parts = touch_parts fields r s t u word p target point d dir f frame tool i j k l e in
+    none point [] h.4 (parts.ended ∙ sym (append-nil (point_fields point)))
+no_last_point fields r s t u p d word f (told.Other side line) i j k l none h e =
+    let n : 787 ≡ 725 = ap (λ (fs : List (List ℕ)). kind fs) e in omega (arith, n)
+no_last_point fields r s t u p d word f (told.Broken rule tag) i j k l none h e =
+    let n : 787 ≡ 796 = ap (λ (fs : List (List ℕ)). kind fs) e in omega (arith, n)
+no_last_point fields r s t u p d word f told.Opened i j k l none h e =
+    let n : 787 ≡ 696 = ap (λ (fs : List (List ℕ)). kind fs) e in omega (arith, n)
+no_last_point fields r s t u p d word f told.Left i j k l none h e =
+    let n : 787 ≡ 704 = ap (λ (fs : List (List ℕ)). kind fs) e in omega (arith, n)
+
+pub no_tool : (fields r s t u : List (List ℕ)) (p : Point) (d : Option Direction) (word : List ℕ) (f : Option Frame) (a : Told)
+    → fields ≡ point_fields p ++ r → r ≡ direction_fields d ++ s → s ≡ word ∷ t → t ≡ known_frame f ++ u → NoTool word → IsOtherTold a
+    → codes "CONTACT" ∷ fields ≡ told_parts a → ⊥
+no_tool fields r s t u p d word f (told.Did x) i j k l none h e = h
+no_tool fields r s t u p d word f (told.MovedSomewhere target) i j k l none h e =
+    let n : 787 ≡ 865 = ap (λ (fs : List (List ℕ)). kind fs) e in omega (arith, n)
+no_tool fields r s t u p d word f told.FramedSomehow i j k l none h e =
+    let n : 787 ≡ 656 = ap (λ (fs : List (List ℕ)). kind fs) e in omega (arith, n)
+no_tool fields r s t u p d word f (told.Touched target dir tool frame point) i j k l none h e =
+    let parts = touch_parts fields r s t u word p target point d dir f frame tool i j k l e in
+    none tool (h.2, doubt_name tool frame h.5, parts.named)
+no_tool fields r s t u p d word f (told.Other side line) i j k l none h e =
+    let n : 787 ≡ 725 = ap (λ (fs : List (List ℕ)). kind fs) e in omega (arith, n)
+no_tool fields r s t u p d word f (told.Broken rule tag) i j k l none h e =
+    let n : 787 ≡ 796 = ap (λ (fs : List (List ℕ)). kind fs) e in omega (arith, n)
+no_tool fields r s t u p d word f told.Opened i j k l none h e =
+    let n : 787 ≡ 696 = ap (λ (fs : List (List ℕ)). kind fs) e in omega (arith, n)
+no_tool fields r s t u p d word f told.Left i j k l none h e =
+    let n : 787 ≡ 704 = ap (λ (fs : List (List ℕ)). kind fs) e in omega (arith, n)
+
+-- the parts of a line that is not known
+other_parts : (fields : List (List ℕ)) (t : Told) → IsOtherTold t → codes "OTHER" ∷ fields ≡ told_parts t
+    → (side : Side) × (line : List ℕ) × IsLineText line × (fields ≡ side_field side ∷ fields_of line)
+other_parts fields (told.Did x) h e = absurd h
+other_parts fields (told.MovedSomewhere target) h e = let n : 725 ≡ 865 = ap (λ (fs : List (List ℕ)). kind fs) e in absurd (omega (arith, n))
+other_parts fields told.FramedSomehow h e = let n : 725 ≡ 656 = ap (λ (fs : List (List ℕ)). kind fs) e in absurd (omega (arith, n))
+other_parts fields (told.Touched target dir tool frame point) h e =
+    let n : 725 ≡ 787 = ap (λ (fs : List (List ℕ)). kind fs) e in absurd (omega (arith, n))
+other_parts fields (told.Other side line) h e = let same : fields ≡ side_field side ∷ fields_of line = cc in (side, line, h, same)
+other_parts fields (told.Broken rule tag) h e = let n : 725 ≡ 796 = ap (λ (fs : List (List ℕ)). kind fs) e in absurd (omega (arith, n))
+other_parts fields told.Opened h e = let n : 725 ≡ 696 = ap (λ (fs : List (List ℕ)). kind fs) e in absurd (omega (arith, n))
+other_parts fields told.Left h e = let n : 725 ≡ 704 = ap (λ (fs : List (List ℕ)). kind fs) e in absurd (omega (arith, n))
+
+pub no_line : (fields : List (List ℕ)) (word : List ℕ) (t : Told) → fields ≡ word ∷ [] → IsOtherTold t
+    → codes "OTHER" ∷ fields ≡ told_parts t → ⊥
+no_line fields word t p h e =
+    let parts = other_parts fields t h e in
+    let both : word ∷ [] ≡ side_field parts.0 ∷ fields_of parts.1 = sym p ∙ parts.3 in
+    let none : fields_of parts.1 ≡ [] = cc in
+    some_fields parts.1 none
+
+pub no_line_text : (fields : List (List ℕ)) (word line : List ℕ) (t : Told) → fields ≡ word ∷ fields_of line
+    → (list_all is_content line ≡ true → ⊥) → IsOtherTold t → codes "OTHER" ∷ fields ≡ told_parts t → ⊥
+no_line_text fields word line t p other h e =
+    let parts = other_parts fields t h e in
+    let both : word ∷ fields_of line ≡ side_field parts.0 ∷ fields_of parts.1 = sym p ∙ parts.3 in
+    let same : fields_of line ≡ fields_of parts.1 = cc in
+    other (ap (λ (l : List ℕ). list_all is_content l) (one_line line parts.1 same) ∙ parts.2.free)
+
+-- ---- the fields of a line
+
+digit_plain : (n : ℕ) → is_plain (last_digit n) ≡ true
+digit_plain n = le-leb 33 (last_digit n) (omega arith)
+
+four_plain : (n : ℕ) → list_all is_plain (four_digits n) ≡ true
+four_plain n =
+    and_from _ _ (digit_plain (n / 1000)) (and_from _ _ (digit_plain (n / 100)) (and_from _ _ (digit_plain (n / 10))
+    (and_from _ _ (digit_plain n) refl)))
+
+tag_plain : (t : Tag) → IsPlain (written_tag t)
+tag_plain (Std n) = record { plain = and_from _ _ (digit_plain (n / 10000)) (four_plain n) }
+tag_plain (Event n) = record { plain = four_plain n }
+
+rule_plain : (r : Rule) → IsPlain (rule_name r)
+rule_plain UnknownTag = record { plain = refl }
+rule_plain OutOfOrder = record { plain = refl }
+rule_plain NoData = record { plain = refl }
+rule_plain SecondData = record { plain = refl }
+rule_plain OtherData = record { plain = refl }
+rule_plain TagInUse = record { plain = refl }
+
+side_plain : (s : Side) → list_all is_plain (side_field s) ≡ true
+side_plain Client = refl
+side_plain Server = refl
+
+tool_plain : (tool : Option (List ℕ)) → IsNamed tool → IsPlain (tool_field tool)
+tool_plain None h = record { plain = refl }
+tool_plain (Some tool) h = name_plain tool h
+
+placed_plain : (frame : Option Frame) → IsPlaced frame → ArePlain (known_frame frame)
+placed_plain None h = (record { plain = refl }, tt)
+placed_plain (Some frame) h = frame_plain frame h
+
+pub touch_plain : (target : Point) (dir : Option Direction) (tool : Option (List ℕ)) (frame : Option Frame) (point : Point)
+    → IsWrittenTold (told.Touched target dir tool frame point) → ArePlain (told_fields (told.Touched target dir tool frame point))
+touch_plain target dir tool frame point h = (
+  record { plain = refl },
+  plain_fields_append (point_fields target) _ (point_plain target h.0) (plain_fields_append (direction_fields dir) _
+      (direction_plain dir h.1) (
+        tool_plain tool h.2,
+        plain_fields_append (known_frame frame) (point_fields point) (placed_plain frame h.3) (point_plain point h.4),
+      )),
+)
+
+pub moved_plain : (target : Point) → IsOnWire target → ArePlain (told_fields (told.MovedSomewhere target))
+moved_plain target h = (
+  record { plain = refl },
+  plain_fields_append (point_fields target) (unknown_field ∷ []) (point_plain target h) (record { plain = refl }, tt),
+)
+
+pub broken_plain : (rule : Rule) (tag : Tag) → ArePlain (told_fields (told.Broken rule tag))
+broken_plain rule tag = (record { plain = refl }, (rule_plain rule, (tag_plain tag, tt)))
+
+-- a line of another maker after its connection and the way that it went
+foreign_back : (n : ℕ) (side : Side) (line : List ℕ) → IsConnection n
+    → fields_of (told_line (n, told.Other side line)) ≡ decimal n ∷ told_parts (told.Other side line)
+unfolding fields_of
+foreign_back n side line h =
+    part_behind 32 (decimal n) (line_of (codes "OTHER" ∷ side_field side ∷ line ∷ [])) (omega arith)
+    (decimal_plain n (omega (arith, h.1))).plain
+    ∙ ap (λ (fs : List (List ℕ)). decimal n ∷ fs) (part_behind 32 (codes "OTHER") (line_of (side_field side ∷ line ∷ [])) (omega arith) refl
+    ∙ ap (λ (fs : List (List ℕ)). codes "OTHER" ∷ fs) (part_behind 32 (side_field side) line (omega arith) (side_plain side)))
+
+plain_back : (n : ℕ) (fields : List (List ℕ)) → IsConnection n → ArePlain fields → fields_of (line_of (decimal n ∷ fields))
+    ≡ decimal n ∷ fields
+plain_back n fields h all = line_fields (decimal n) fields (decimal_plain n (omega (arith, h.1)), all)
+
+pub other_back : (n : ℕ) (t : Told) → IsConnection n → IsOtherTold t → fields_of (told_line (n, t)) ≡ decimal n ∷ told_parts t
+other_back n (told.Did x) c h = absurd h
+other_back n (told.MovedSomewhere target) c h = plain_back n (told_fields (told.MovedSomewhere target)) c (moved_plain target h)
+other_back n told.FramedSomehow c h = plain_back n (told_fields told.FramedSomehow) c (record { plain = refl }, (record { plain = refl }, tt))
+other_back n (told.Touched target dir tool frame point) c h =
+    plain_back n (told_fields (told.Touched target dir tool frame point)) c
+    (touch_plain target dir tool frame point (h.0, h.1, h.2, h.3, h.4))
+other_back n (told.Other side line) c h = foreign_back n side line c
+other_back n (told.Broken rule tag) c h = plain_back n (told_fields (told.Broken rule tag)) c (broken_plain rule tag)
+other_back n told.Opened c h = plain_back n (told_fields told.Opened) c (record { plain = refl }, tt)
+other_back n told.Left c h = plain_back n (told_fields told.Left) c (record { plain = refl }, tt)
+
+-- ---- the line of an act
+
+act_of_contact : (n : ℕ) (target point : Point) (dir : Option Direction) (tool : List ℕ) (frame : Frame) (line : List ℕ)
+    → IsEntry (n, act.Contact target dir tool frame point) → line ≡ act_line (n, act.Contact target dir tool frame point)
+    → IsToldEntry (n, read_act (act.Contact target dir tool frame point))
+    × (line ≡ told_line (n, read_act (act.Contact target dir tool frame point)))
+act_of_contact n target point dir tool frame line h e = go (bytes_eq tool unknown_field) refl
+  where
+    entry : Bool → Told
+    entry true = told.Touched target dir None (Some frame) point
+    entry false = told.Did (act.Contact target dir tool frame point)
+    read_as : (b : Bool) → bytes_eq tool unknown_field ≡ b → read_act (act.Contact target dir tool frame point) ≡ entry b
+    read_as true t = rw t refl
+    read_as false t = rw t refl
+    goal : Told → Type 0
+    goal t = IsToldEntry (n, t) × (line ≡ told_line (n, t))
+    of : (b : Bool) → bytes_eq tool unknown_field ≡ b → IsToldEntry (n, entry b) × (line ≡ told_line (n, entry b))
+    of true t = (
+      ((h.0, (h.1.0, h.1.1, tt, h.1.3, h.1.4)), tt),
+      e ∙ ap (λ (name : List ℕ). act_line (n, act.Contact target dir name frame point)) ((bytes_eq-Decides tool unknown_field).0 t),
+    )
+    of false t = (
+      ((h.0, h.1), λ same. let yes = (bytes_eq-Decides tool unknown_field).1 same in absurd cc),
+      e,
+    )
+    go : (b : Bool) → bytes_eq tool unknown_field ≡ b → IsToldEntry (n, read_act (act.Contact target dir tool frame point))
+        × (line ≡ told_line (n, read_act (act.Contact target dir tool frame point)))
+    go b t = subst goal (sym (read_as b t)) (of b t)
+
+pub act_read : (n : ℕ) (a : Act) (line : List ℕ) → IsEntry (n, a) → line ≡ act_line (n, a)
+    → IsToldEntry (n, read_act a) × (line ≡ told_line (n, read_act a))
+act_read n (act.HomedIs homed) line h e = (((h.0, h.1), tt), e)
+act_read n act.Homed line h e = (((h.0, h.1), tt), e)
+act_read n (act.Moved target frame) line h e = (((h.0, h.1), tt), e)
+act_read n (act.Changed tool) line h e = (((h.0, h.1), tt), e)
+act_read n (act.Framed frame) line h e = (((h.0, h.1), tt), e)
+act_read n (act.Contact target dir tool frame point) line h e = act_of_contact n target point dir tool frame line h e
+
+-- ---- a line that is none
+
+pub data View (t : Told) : Type 0 where
+  acted : (a : Act) → t ≡ told.Did a → View t
+  reported : IsOtherTold t → View t
+
+pub view : (t : Told) → IsWrittenTold t → IsReadTold t → View t
+view (told.Did a) h k = acted a refl
+view (told.MovedSomewhere target) h k = reported h
+view told.FramedSomehow h k = reported tt
+view (told.Touched target dir tool frame point) h k = reported (h.0, h.1, h.2, h.3, h.4, k)
+view (told.Other side line) h k = reported h
+view (told.Broken rule tag) h k = reported h
+view told.Opened h k = reported tt
+view told.Left h k = reported tt
+
+abbrev NoEntry : List ℕ → Type 0
+NoEntry line = (e : ℕ × Act) → IsEntry e × (line ≡ act_line e) → ⊥
+
+no_act_line : (line : List ℕ) (n : ℕ) (t : Told) (a : Act) → NoEntry line → IsToldEntry (n, t) → line ≡ told_line (n, t) → t ≡ told.Did a → ⊥
+no_act_line line n t a none h e same =
+    let written = subst (λ (x : Told). IsWrittenTold x) same h.0.1 in
+    none (n, a) ((h.0.0, written), e ∙ ap (λ (x : Told). told_line (n, x)) same)
+
+pub no_number : (line word rest : List ℕ) (n : ℕ) (t : Told) → NoEntry line → fields_of line ≡ word ∷ fields_behind rest
+    → ((m : ℕ) → (1 ≤ m) × (m ≤ 4000000000) × (word ≡ decimal m) → ⊥) → IsToldEntry (n, t) → line ≡ told_line (n, t) → ⊥
+no_number line word rest n t acts p none h e = go (view t h.0.1 h.1)
+  where
+    go : View t → ⊥
+    go (acted a same) = no_act_line line n t a acts h e same
+    go (reported other) =
+        let all : word ∷ fields_behind rest ≡ decimal n ∷ told_parts t =
+        sym p ∙ ap (λ (l : List ℕ). fields_of l) e ∙ other_back n t h.0.0 other in
+        let same : word ≡ decimal n = cc in
+        none n (h.0.0.0, h.0.0.1, same)
+
+pub no_told : (line word rest : List ℕ) (n : ℕ) (t : Told) → NoEntry line → fields_of line ≡ word ∷ fields_behind rest
+    → ((x : Told) → IsOtherTold x × (fields_behind rest ≡ told_parts x) → ⊥) → IsToldEntry (n, t) → line ≡ told_line (n, t) → ⊥
+no_told line word rest n t acts p none h e = go (view t h.0.1 h.1)
+  where
+    go : View t → ⊥
+    go (acted a same) = no_act_line line n t a acts h e same
+    go (reported other) =
+        let all : word ∷ fields_behind rest ≡ decimal n ∷ told_parts t =
+        sym p ∙ ap (λ (l : List ℕ). fields_of l) e ∙ other_back n t h.0.0 other in
+        let same : fields_behind rest ≡ told_parts t = cc in
+        none t (other, same)
+
+as_told : (t : Told) → IsOtherTold t → IsWrittenTold t × IsReadTold t
+as_told (told.Did a) h = absurd h
+as_told (told.MovedSomewhere target) h = (h, tt)
+as_told told.FramedSomehow h = (tt, tt)
+as_told (told.Touched target dir tool frame point) h = ((h.0, h.1, h.2, h.3, h.4), h.5)
+as_told (told.Other side line) h = (h, tt)
+as_told (told.Broken rule tag) h = (h, tt)
+as_told told.Opened h = (tt, tt)
+as_told told.Left h = (tt, tt)
+
+pub told_found : (line word rest : List ℕ) (n : ℕ) (t : Told) → fields_of line ≡ word ∷ fields_behind rest
+    → (1 ≤ n) × (n ≤ 4000000000) × (word ≡ decimal n) → IsOtherTold t × (fields_behind rest ≡ told_parts t)
+    → IsToldEntry (n, t) × (line ≡ told_line (n, t))
+told_found line word rest n t p q r =
+    let kinds = as_told t r.0 in
+    let fields : fields_of line ≡ decimal n ∷ told_parts t = p ∙ rw (q.2, r.1) refl in
+    ((((q.0, q.1), kinds.0), kinds.1), one_line line (told_line (n, t)) (fields ∙ sym (other_back n t (q.0, q.1) r.0)))

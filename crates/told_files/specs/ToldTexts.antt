@@ -1,0 +1,137 @@
+-- The text of what a server reported, as it is read (this profile): version 1. The lines are those of `told_ledger`.
+use Rattle.std.specs.Prelude.{◌≡◌, ◌≢◌, ℕ, ◌≤◌, true, if◌then◌else◌, List, [], ◌∷◌, map, codes, Option, Some, None}
+use Rattle.std.specs.List.{AllByRecursion, list_all}
+use Rattle.std.specs.Str.{bytes_eq}
+use Rattle.fixed_um.specs.Names.{IsName}
+use Rattle.fixed_um.specs.declared.frames.Frame.{Frame}
+use Rattle.dme_line.specs.Tags.{IsTag}
+use Rattle.line_framing.specs.Content.{is_content}
+use Rattle.contact_ledger.specs.ContactTexts.{IsWrittenAct}
+use Rattle.contact_ledger.specs.Damage.{IsDamaged}
+use Rattle.contact_ledger.specs.Fields.{IsOnWire, IsFrame, IsTouch}
+use Rattle.contact_ledger.specs.Ledgers.{IsConnection}
+use Rattle.contact_ledger.specs.Lines.{whole_lines}
+use Rattle.contact_ledger.specs.declared.acts.Act.{Act}
+use Rattle.contact_ledger.specs.declared.acts.Act.TheVariants as act
+use Rattle.told_ledger.specs.Effects.{touched}
+use Rattle.told_ledger.specs.Texts.{unknown_field, told_line}
+use Rattle.told_ledger.specs.declared.uses.Told.{Told}
+use Rattle.told_ledger.specs.declared.uses.Told.TheVariants as told
+
+-- ---- what can be written
+
+-- a tool that is not known, or the name of one
+abbrev pub IsNamed : Option (List ℕ) → Type 0
+IsNamed None = Unit {0}
+IsNamed (Some tool) = IsName tool
+
+-- a frame that is not known, or one that can be written
+abbrev pub IsPlaced : Option Frame → Type 0
+IsPlaced None = Unit {0}
+IsPlaced (Some frame) = IsFrame frame
+
+-- the bytes of a line of either end: neither CR nor LF
+pub record IsLineText (line : List ℕ) : Type 0 where
+  pub free : list_all is_content line ≡ true
+
+-- what was reported with names, points, frames, directions, lines and tags that can be written
+abbrev pub IsWrittenTold : Told → Type 0
+IsWrittenTold (told.Did a) = IsWrittenAct a
+IsWrittenTold (told.MovedSomewhere target) = IsOnWire target
+IsWrittenTold told.FramedSomehow = Unit {0}
+IsWrittenTold (told.Touched target dir tool frame point) =
+    IsOnWire target × IsTouch dir × IsNamed tool × IsPlaced frame × IsOnWire point
+IsWrittenTold (told.Other side line) = IsLineText line
+IsWrittenTold (told.Broken rule tag) = IsTag tag
+IsWrittenTold told.Opened = Unit {0}
+IsWrittenTold told.Left = Unit {0}
+
+-- what was reported that can be written next to the number of its connection
+abbrev pub IsWrittenEntry : ℕ × Told → Type 0
+IsWrittenEntry entry = IsConnection entry.0 × IsWrittenTold entry.1
+
+abbrev pub AreWrittenEntries : List (ℕ × Told) → Type 0
+AreWrittenEntries entries = AllByRecursion IsWrittenEntry entries
+
+-- ---- what can be read
+
+-- the tool of an act is not named as a tool is written that is not known
+abbrev pub HasNamedTool : Act → Type 0
+HasNamedTool (act.HomedIs homed) = Unit {0}
+HasNamedTool act.Homed = Unit {0}
+HasNamedTool (act.Moved target frame) = Unit {0}
+HasNamedTool (act.Changed tool) = Unit {0}
+HasNamedTool (act.Framed frame) = Unit {0}
+HasNamedTool (act.Contact target dir tool frame point) = tool ≢ unknown_field
+
+-- the tool or the frame of a touch is not known, and its tool is not named so
+abbrev pub IsInDoubt : Option (List ℕ) → Option Frame → Type 0
+IsInDoubt None frame = Unit {0}
+IsInDoubt (Some tool) None = tool ≢ unknown_field
+IsInDoubt (Some tool) (Some frame) = ⊥
+
+-- a ? is read as what is not known, never as the name of a tool; a touch with a tool and a frame is a contact
+abbrev pub IsReadTold : Told → Type 0
+IsReadTold (told.Did a) = HasNamedTool a
+IsReadTold (told.MovedSomewhere target) = Unit {0}
+IsReadTold told.FramedSomehow = Unit {0}
+IsReadTold (told.Touched target dir tool frame point) = IsInDoubt tool frame
+IsReadTold (told.Other side line) = Unit {0}
+IsReadTold (told.Broken rule tag) = Unit {0}
+IsReadTold told.Opened = Unit {0}
+IsReadTold told.Left = Unit {0}
+
+-- what was reported that a line can be read as
+abbrev pub IsToldEntry : ℕ × Told → Type 0
+IsToldEntry entry = IsWrittenEntry entry × IsReadTold entry.1
+
+abbrev pub AreToldEntries : List (ℕ × Told) → Type 0
+AreToldEntries entries = AllByRecursion IsToldEntry entries
+
+-- ---- a text
+
+-- the lines of what was reported
+abbrev pub told_file_lines : List (ℕ × Told) → List (List ℕ)
+told_file_lines entries = codes "DME-TOLD 1" ∷ map told_line entries
+
+-- whole lines say this: a header and a line for each, or there is no line
+pub data AreToldLines (lines : List (List ℕ)) (entries : List (ℕ × Told)) : Type 0 where
+  none : lines ≡ [] → entries ≡ [] → AreToldLines lines entries
+  some : AreToldEntries entries → lines ≡ told_file_lines entries → AreToldLines lines entries
+
+-- a text says this; what follows its last LF is not examined
+abbrev pub IsToldText : List ℕ → List (ℕ × Told) → Type 0
+IsToldText bytes entries = AreToldLines (whole_lines bytes) entries
+
+-- line n of a text is the first that is unexpected
+abbrev pub IsDamagedTold : List ℕ → ℕ → Type 0
+IsDamagedTold bytes n = IsDamaged (λ lines. (entries : List (ℕ × Told)) × AreToldLines lines entries) (whole_lines bytes) n
+
+-- ---- reading back
+
+-- a tool as it is read from its field
+abbrev pub read_tool : List ℕ → Option (List ℕ)
+read_tool tool = if bytes_eq tool unknown_field then None else Some tool
+
+-- likewise for a tool that need not be known
+abbrev pub read_known_tool : Option (List ℕ) → Option (List ℕ)
+read_known_tool None = None
+read_known_tool (Some tool) = read_tool tool
+
+-- an act as it is read from its line
+abbrev pub read_act : Act → Told
+read_act (act.HomedIs homed) = told.Did (act.HomedIs homed)
+read_act act.Homed = told.Did act.Homed
+read_act (act.Moved target frame) = told.Did (act.Moved target frame)
+read_act (act.Changed tool) = told.Did (act.Changed tool)
+read_act (act.Framed frame) = told.Did (act.Framed frame)
+read_act (act.Contact target dir tool frame point) = touched (read_tool tool) (Some frame) target dir point
+
+-- what was reported as it is read from its line: a tool of the name ? is not known
+abbrev pub read_back : Told → Told
+read_back (told.Did a) = read_act a
+read_back (told.Touched target dir tool frame point) = touched (read_known_tool tool) frame target dir point
+read_back other = other
+
+abbrev pub entry_back : ℕ × Told → ℕ × Told
+entry_back entry = (entry.0, read_back entry.1)

@@ -1,0 +1,159 @@
+// Fields that only a text of what was reported has.
+
+ghost use Rattle.std.specs.Prelude.{◌≡◌, ◌≤◌, ◌+◌, ◌++◌, ◌∷◌, ◌<◌, ◌==◌, [], ℕ, List, Option, length, IfOk, IfSome, MatchOption};
+ghost use Rattle.std.specs.List.{list_all, position};
+ghost use Rattle.fixed_um.specs.Calls.{Finds};
+ghost use Rattle.fixed_um.specs.Written.{last_digit};
+ghost use Rattle.fixed_um.specs.declared.frames.Frame.{Frame};
+ghost use Rattle.dme_line.specs.Tags.{IsTag, four_digits, five_digits, written_tag};
+ghost use Rattle.line_framing.specs.Content.{is_content};
+ghost use Rattle.contact_ledger.specs.Lines.{fields_of, fields_behind};
+ghost use Rattle.told_ledger.specs.Texts.{tool_field, known_frame, rule_name, side_field};
+ghost use Rattle.told_files.specs.Parts.{IsToolName};
+ghost use Rattle.told_files.specs.ToldTexts.{IsNamed, IsPlaced};
+
+use contact_ledger::forms::{Forms, read_name};
+use contact_ledger::lines::next_field;
+use dme_line::Tag;
+use fixed_um::{Frame, Name};
+use std::alloc::{AllocError, Global};
+use told_ledger::{Rule, Side};
+
+/// A field that is a tool: `?` is one that is not known, and never a name. Fails only if out of memory.
+pub(crate) fn read_tool(alloc: Global, field: &[u8]) -> Result<Option<Option<Name>>, AllocError>
+    ensures { IfOk result (λ found. Finds found (λ tool. IsNamed tool × IsToolName tool
+        × (field.now ≡ tool_field tool))) }
+{
+    if field == b"?".as_slice() {
+        return Ok(Some(None));
+    }
+    let Some(name) = read_name(alloc, field)? else {
+        return Ok(None);
+    };
+    Ok(Some(Some(name)))
+}
+
+/// The frame of the next fields, or that it is not known, and what follows them.
+pub(crate) fn read_frame<'a>(
+    forms: &mut Forms,
+    rest: &'a [u8],
+) -> Option<(Option<Frame>, &'a [u8])>
+    ensures { MatchOption result
+        ((f : Option Frame) (more : List (List ℕ)) → IsPlaced f
+        → fields_behind rest.now ≡ known_frame f ++ more → ⊥)
+        (λ r. IsPlaced r.0
+        × (fields_behind rest.now ≡ known_frame r.0 ++ fields_behind r.1.now)) }
+{
+    let (word, after) = next_field(rest)?;
+    if word == b"?".as_slice() {
+        return Some((None, after));
+    }
+    match forms.frame(rest) {
+        Some((frame, after)) => Some((Some(frame), after)),
+        None => None,
+    }
+}
+
+/// The rule that a field names.
+pub(crate) fn read_rule(field: &[u8]) -> Option<Rule>
+    ensures { Finds result (λ rule. field.now ≡ rule_name rule) }
+{
+    if field == b"UnknownTag".as_slice() {
+        Some(Rule::UnknownTag)
+    } else if field == b"OutOfOrder".as_slice() {
+        Some(Rule::OutOfOrder)
+    } else if field == b"NoData".as_slice() {
+        Some(Rule::NoData)
+    } else if field == b"SecondData".as_slice() {
+        Some(Rule::SecondData)
+    } else if field == b"OtherData".as_slice() {
+        Some(Rule::OtherData)
+    } else if field == b"TagInUse".as_slice() {
+        Some(Rule::TagInUse)
+    } else {
+        None
+    }
+}
+
+/// The way that a line went.
+pub(crate) fn read_side(field: &[u8]) -> Option<Side>
+    ensures { Finds result (λ side. field.now ≡ side_field side) }
+{
+    match field {
+        [b'>'] => Some(Side::Client),
+        [b'<'] => Some(Side::Server),
+        _ => None,
+    }
+}
+
+fn digit(byte: u8) -> Option<u32>
+    ensures { MatchOption result ((n : ℕ) → byte ≡ last_digit n → ⊥) (λ n. (n ≤ 9)
+        × (byte ≡ 48 + n)) }
+{
+    if byte < b'0' || byte > b'9' {
+        return None;
+    }
+    Some(u32::from(byte - b'0'))
+}
+
+/// The number that four digits write; `None` if they are not all digits.
+fn four_digits_value(a: u8, b: u8, c: u8, d: u8) -> Option<u32>
+    ensures { MatchOption result
+        ((n : ℕ) → four_digits n ≡ a ∷ b ∷ c ∷ d ∷ [] → ⊥)
+        (λ n. (n ≤ 9999) × (four_digits n ≡ a ∷ b ∷ c ∷ d ∷ [])) }
+{
+    Some(digit(a)? * 1000 + digit(b)? * 100 + digit(c)? * 10 + digit(d)?)
+}
+
+/// The number that five digits write; `None` if they are not all digits.
+fn five_digits_value(a: u8, b: u8, c: u8, d: u8, e: u8) -> Option<u32>
+    ensures { MatchOption result
+        ((n : ℕ) → five_digits n ≡ a ∷ b ∷ c ∷ d ∷ e ∷ [] → ⊥)
+        (λ n. (n ≤ 99999) × (five_digits n ≡ a ∷ b ∷ c ∷ d ∷ e ∷ [])) }
+{
+    Some(digit(a)? * 10_000 + four_digits_value(b, c, d, e)?)
+}
+
+/// The tag that a field is.
+pub(crate) fn read_tag(field: &[u8]) -> Option<Tag>
+    ensures { Finds result (λ tag. IsTag tag × (field.now ≡ written_tag tag)) }
+{
+    match field {
+        [b'E', a, b, c, d] => Some(Tag::Event(four_digits_value(*a, *b, *c, *d)? as u16)),
+        [a, b, c, d, e] => Some(Tag::Std(five_digits_value(*a, *b, *c, *d, *e)?)),
+        _ => None,
+    }
+}
+
+/// Where a space first occurs.
+fn place_of_space(bytes: &[u8]) -> Option<usize>
+    ensures place { result ≡ position (λ b. b == 32) bytes.now }
+    ensures within { IfSome result (λ at. at < length bytes.now) }
+{
+    bytes.iter().position(|byte| *byte == b' ')
+}
+
+/// What follows the first space; `None` if there is no space.
+#[tactic(auto, using(crate::proofs::Cuts::field_cuts))]
+pub(crate) fn after_space(rest: &[u8]) -> Option<&[u8]>
+    ensures { MatchOption result (fields_behind rest.now ≡ [])
+        (λ line. fields_behind rest.now ≡ fields_of line.now) }
+{
+    let at = place_of_space(rest)?;
+    let (_, after) = rest.split_at(at + 1);
+    Some(after)
+}
+
+/// Whether a byte can be in a line: it is no CR and no LF.
+fn is_content(byte: u8) -> bool
+    ensures { result ≡ is_content byte }
+{
+    byte != b'\r' && byte != b'\n'
+}
+
+/// Whether bytes can be those of a line.
+pub(crate) fn is_line_text(line: &[u8]) -> bool
+    ensures { result ≡ list_all is_content line.now }
+{
+    line.iter().all(|byte| is_content(*byte))
+}

@@ -1,0 +1,49 @@
+// What a server reported, in order.
+
+ghost use Rattle.std.specs.Prelude.{◌≡◌, [], ◌∷◌, ◌++◌};
+ghost use Rattle.fixed_um.specs.Calls.{Leads};
+
+use std::alloc::{AllocError, Global};
+use std::marker::Model;
+use told_ledger::Told;
+
+/// What a server reported, in order, each next to the number of its connection (this profile). Contracts see this list.
+#[derive(Debug, Drop)]
+pub struct ToldLedger {
+    entries: Vec<(u64, Told)>,
+}
+
+impl Model for ToldLedger {
+    ghost use Rattle.std.specs.Prelude.{ℕ, List};
+    ghost use Rattle.told_ledger.specs.declared.uses.Told.{Told};
+
+    ghost Value = { List (ℕ × Told) };
+
+    ghost view = { λ l. l.entries.items };
+}
+
+impl ToldLedger {
+    /// Nothing; does not allocate.
+    pub(crate) fn new(alloc: Global) -> ToldLedger
+        ensures { result ≡ [] }
+    {
+        ToldLedger {
+            entries: Vec::new(alloc),
+        }
+    }
+
+    /// Appends what was reported on a connection. Fails only if out of memory, and is then unchanged.
+    pub(crate) fn push(&mut self, connection: u64, told: Told) -> Result<(), AllocError>
+        ensures { Leads result self.old self.new (self.old ++ (connection, told) ∷ []) }
+    {
+        self.entries.push((connection, told))?;
+        Ok(())
+    }
+
+    /// What was reported in order, each next to the number of its connection.
+    pub fn entries(&self) -> &[(u64, Told)]
+        ensures { result.now ≡ self.now }
+    {
+        self.entries.as_slice()
+    }
+}

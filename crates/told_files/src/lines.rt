@@ -1,0 +1,228 @@
+// What a line of a text says that was reported.
+
+ghost use Rattle.std.specs.Prelude.{◌≡◌, ◌∷◌, [], codes, IfOk};
+ghost use Rattle.fixed_um.specs.Calls.{Finds};
+ghost use Rattle.contact_ledger.specs.Lines.{fields_behind};
+ghost use Rattle.told_ledger.specs.Texts.{told_line};
+ghost use Rattle.told_files.specs.Parts.{IsOtherTold, told_parts};
+ghost use Rattle.told_files.specs.ToldTexts.{IsToldEntry, read_act};
+
+use crate::fields::{
+    after_space, is_line_text, read_frame, read_rule, read_side, read_tag, read_tool,
+};
+use contact_ledger::forms::{Forms, read_number};
+use contact_ledger::lines::{first_field, next_field};
+use contact_ledger::{Act, CONNECTION_MAX, read_entry};
+use dme_line::Text;
+use std::alloc::{AllocError, Global};
+use told_ledger::Told;
+
+/// A move in a frame that is not known, after its word.
+fn read_moved(forms: &mut Forms, rest: &[u8]) -> Option<Told>
+    ensures { Finds result (λ t. IsOtherTold t
+        × (codes "MOVED" ∷ fields_behind rest.now ≡ told_parts t)) }
+{
+    let Some((target, rest)) = forms.point(rest) else {
+        return None;
+    };
+    let Some((frame, rest)) = next_field(rest) else {
+        return None;
+    };
+    if frame != b"?".as_slice() || next_field(rest).is_some() {
+        return None;
+    }
+    Some(Told::MovedSomewhere(target))
+}
+
+/// A frame that is not known, after its word.
+fn read_framed(rest: &[u8]) -> Option<Told>
+    ensures { Finds result (λ t. IsOtherTold t
+        × (codes "FRAMED" ∷ fields_behind rest.now ≡ told_parts t)) }
+{
+    let Some((frame, rest)) = next_field(rest) else {
+        return None;
+    };
+    if frame != b"?".as_slice() || next_field(rest).is_some() {
+        return None;
+    }
+    Some(Told::FramedSomehow)
+}
+
+/// A touch with a tool or in a frame that is not known, after its word. Fails only if out of memory.
+fn read_touched(alloc: Global, forms: &mut Forms, rest: &[u8]) -> Result<Option<Told>, AllocError>
+    ensures { IfOk result (λ found. Finds found (λ t. IsOtherTold t
+        × (codes "CONTACT" ∷ fields_behind rest.now ≡ told_parts t))) }
+{
+    let Some((target, rest)) = forms.point(rest) else {
+        return Ok(None);
+    };
+    let Some((dir, rest)) = forms.direction(rest) else {
+        return Ok(None);
+    };
+    let Some((tool, rest)) = next_field(rest) else {
+        return Ok(None);
+    };
+    let Some((frame, rest)) = read_frame(forms, rest) else {
+        return Ok(None);
+    };
+    let Some((point, rest)) = forms.point(rest) else {
+        return Ok(None);
+    };
+    let None = next_field(rest) else {
+        return Ok(None);
+    };
+    let Some(tool) = read_tool(alloc, tool)? else {
+        return Ok(None);
+    };
+    if tool.is_some() && frame.is_some() {
+        return Ok(None);
+    }
+    Ok(Some(Told::Touched {
+        target,
+        dir,
+        tool,
+        frame,
+        point,
+    }))
+}
+
+/// A line that is not known, after its word. Fails only if out of memory.
+fn read_other(alloc: Global, rest: &[u8]) -> Result<Option<Told>, AllocError>
+    ensures { IfOk result (λ found. Finds found (λ t. IsOtherTold t
+        × (codes "OTHER" ∷ fields_behind rest.now ≡ told_parts t))) }
+{
+    let Some((side, rest)) = next_field(rest) else {
+        return Ok(None);
+    };
+    let Some(side) = read_side(side) else {
+        return Ok(None);
+    };
+    let Some(line) = after_space(rest) else {
+        return Ok(None);
+    };
+    if !is_line_text(line) {
+        return Ok(None);
+    }
+    let text = Text::new(alloc, line)?;
+    Ok(Some(Told::Other(side, text)))
+}
+
+/// A rule that is broken and the tag, after their word.
+fn read_broken(rest: &[u8]) -> Option<Told>
+    ensures { Finds result (λ t. IsOtherTold t
+        × (codes "BROKEN" ∷ fields_behind rest.now ≡ told_parts t)) }
+{
+    let (rule, rest) = next_field(rest)?;
+    let (tag, rest) = next_field(rest)?;
+    let None = next_field(rest) else {
+        return None;
+    };
+    let rule = read_rule(rule)?;
+    let tag = read_tag(tag)?;
+    Some(Told::Broken(rule, tag))
+}
+
+/// That a connection was opened, where nothing follows the word.
+fn read_opened(rest: &[u8]) -> Option<Told>
+    ensures { Finds result (λ t. IsOtherTold t
+        × (codes "OPENED" ∷ fields_behind rest.now ≡ told_parts t)) }
+{
+    match next_field(rest) {
+        None => Some(Told::Opened),
+        Some(_) => None,
+    }
+}
+
+/// That a connection was left, where nothing follows the word.
+fn read_left(rest: &[u8]) -> Option<Told>
+    ensures { Finds result (λ t. IsOtherTold t
+        × (codes "LEFT" ∷ fields_behind rest.now ≡ told_parts t)) }
+{
+    match next_field(rest) {
+        None => Some(Told::Left),
+        Some(_) => None,
+    }
+}
+
+/// What the fields after a connection's number are, if they are not those of an act. Fails only if out of memory.
+fn read_told(alloc: Global, forms: &mut Forms, rest: &[u8]) -> Result<Option<Told>, AllocError>
+    ensures { IfOk result (λ found. Finds found (λ t. IsOtherTold t
+        × (fields_behind rest.now ≡ told_parts t))) }
+{
+    let Some((word, rest)) = next_field(rest) else {
+        return Ok(None);
+    };
+    if word == b"MOVED".as_slice() {
+        Ok(read_moved(forms, rest))
+    } else if word == b"FRAMED".as_slice() {
+        Ok(read_framed(rest))
+    } else if word == b"CONTACT".as_slice() {
+        read_touched(alloc, forms, rest)
+    } else if word == b"OTHER".as_slice() {
+        read_other(alloc, rest)
+    } else if word == b"BROKEN".as_slice() {
+        Ok(read_broken(rest))
+    } else if word == b"OPENED".as_slice() {
+        Ok(read_opened(rest))
+    } else if word == b"LEFT".as_slice() {
+        Ok(read_left(rest))
+    } else {
+        Ok(None)
+    }
+}
+
+/// What was reported by the line of an act: a contact with the tool `?` is a touch with a tool that is not known.
+fn told_of(act: Act) -> Told
+    ensures { result ≡ read_act act }
+{
+    match act {
+        Act::Contact {
+            target,
+            dir,
+            tool,
+            frame,
+            point,
+        } => {
+            if tool.as_bytes() == b"?".as_slice() {
+                Told::Touched {
+                    target,
+                    dir,
+                    tool: None,
+                    frame: Some(frame),
+                    point,
+                }
+            } else {
+                Told::Did(Act::Contact {
+                    target,
+                    dir,
+                    tool,
+                    frame,
+                    point,
+                })
+            }
+        }
+        act => Told::Did(act),
+    }
+}
+
+/// What a line says that was reported, and the number of its connection. Fails only if out of memory.
+pub(crate) fn read_line(
+    alloc: Global,
+    forms: &mut Forms,
+    line: &[u8],
+) -> Result<Option<(u64, Told)>, AllocError>
+    ensures { IfOk result (λ found. Finds found (λ e. IsToldEntry e
+        × (line.now ≡ told_line e))) }
+{
+    if let Some((connection, act)) = read_entry(alloc, forms, line)? {
+        return Ok(Some((connection, told_of(act))));
+    }
+    let (connection, rest) = first_field(line);
+    let Some(connection) = read_number(connection, CONNECTION_MAX) else {
+        return Ok(None);
+    };
+    let Some(told) = read_told(alloc, forms, rest)? else {
+        return Ok(None);
+    };
+    Ok(Some((connection, told)))
+}
