@@ -1,0 +1,4 @@
+mod Readings
+mod Lists
+mod Cuts
+mod Stages

@@ -1,0 +1,12 @@
+use Rattle.std.proofs.Common.{ℕ, ◌++◌, List, length, Option}
+use Rattle.line_framing.specs.Stream.{IsStream}
+use Rattle.line_framing.specs.declared.faults.FramingFault.{FramingFault}
+use Rattle.line_judge.proofs.reading.cut_lines.Given as goal
+
+-- the lines that were cut off, and those of what is left, are those of the bytes
+abbrev pub invariant-loop-line : goal.invariant-loop-line
+invariant-loop-line l = (lines : List (List ℕ)) (rest : List ℕ) (fault : Option FramingFault) → IsStream l.lines.rest lines rest fault
+    → IsStream l.fn.bytes (l.all.items ++ lines) rest fault
+
+abbrev pub decreases-loop-line : goal.decreases-loop-line
+decreases-loop-line l = length l.lines.rest

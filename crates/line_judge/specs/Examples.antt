@@ -1,0 +1,53 @@
+-- Examples: lines of both ends as values, and the first break that is found (this profile). No contract but theirs cites these definitions.
+use Rattle.std.specs.Prelude.{ℕ, List, [], ◌∷◌, Option, Some, None}
+use Rattle.dme_line.specs.declared.commands.Kind.{Kind}
+use Rattle.dme_line.specs.declared.commands.Kind.TheVariants as kind
+use Rattle.dme_line.specs.declared.tags.Tag.TheVariants.{Std}
+use Rattle.line_judge.specs.Judging.{client_found, server_found}
+use Rattle.line_judge.specs.declared.lines.Data.{Data}
+use Rattle.line_judge.specs.declared.lines.Heard.{Heard}
+use Rattle.line_judge.specs.declared.lines.Heard.TheVariants.{Response}
+use Rattle.line_judge.specs.declared.lines.Reply.TheVariants as reply
+use Rattle.line_judge.specs.declared.lines.Sent.{Sent}
+use Rattle.line_judge.specs.declared.lines.Sent.TheVariants.{Command}
+use Rattle.line_judge.specs.declared.rules.Found.{Found}
+use Rattle.line_judge.specs.declared.rules.Rule.{Rule}
+
+-- a line breaks a rule
+abbrev pub breaks : ℕ → Rule → Option Found
+breaks number rule = Some (record { number = number; rule = rule })
+
+-- a command under a standard tag
+abbrev pub asks : ℕ → Kind → Sent
+asks n k = Command (Std n) k
+
+-- a session begins under the tag 1
+abbrev pub begun : List Sent
+begun = asks 1 kind.StartSession ∷ []
+
+-- marks under a standard tag
+abbrev pub received : ℕ → Heard
+received n = Response (Std n) reply.Received
+
+abbrev pub given : ℕ → Data → Heard
+given n d = Response (Std n) (reply.Given d)
+
+abbrev pub complete : ℕ → Heard
+complete n = Response (Std n) reply.Complete
+
+abbrev pub error : ℕ → Heard
+error n = Response (Std n) reply.Error
+
+-- what is found in the lines of the client, and in those of the server
+abbrev pub client_breaks : List Sent → List Heard → Option Found
+client_breaks up down = client_found up None down
+
+abbrev pub server_breaks : List Sent → List Heard → Option Found
+server_breaks up down = server_found up down None
+
+-- a touch, and two moves
+abbrev pub touch : List Sent
+touch = asks 1 kind.PtMeas ∷ []
+
+abbrev pub moves : List Sent
+moves = asks 1 kind.GoTo ∷ asks 2 kind.GoTo ∷ []

@@ -1,0 +1,155 @@
+// Lines of bytes, and what each line is.
+
+ghost use Rattle.std.specs.Prelude.{◌≡◌, ℕ, List, map, drop, IfOk};
+ghost use Rattle.fixed_um.specs.declared.lengths.Point.{Point};
+ghost use Rattle.dme_line.specs.Responses.{the_mark};
+ghost use Rattle.line_framing.specs.Stream.{IsStream};
+ghost use Rattle.protocol_model.specs.Readings.{command_of, response_of};
+ghost use Rattle.told_ledger.specs.Asking as asking;
+ghost use Rattle.line_judge.specs.Lines as spec;
+
+use crate::lines::{Data, Heard, Reply, Sent};
+use dme_line::{LineFault, MarkSlice, cut_response, read_command, read_homed, read_point};
+use line_framing::{FramingFault, Line, Lines, LinesFault};
+use std::alloc::{AllocError, Global};
+
+/// Whether a text begins with a command that asks for values.
+fn asks_value(text: &[u8]) -> bool
+    ensures { result ≡ asking.asks_value text.now }
+{
+    text.starts_with(b"Get(".as_slice())
+        || text.starts_with(b"GetProp(".as_slice())
+        || text.starts_with(b"GetPropE(".as_slice())
+        || text.starts_with(b"EnumProp(".as_slice())
+}
+
+/// Whether a text begins with a command that asks what a server is.
+fn asks_state(text: &[u8]) -> bool
+    ensures { result ≡ asking.asks_state text.now }
+{
+    text.starts_with(b"EnumAllProp(".as_slice())
+        || text.starts_with(b"EnumTools(".as_slice())
+        || text.starts_with(b"GetErrStatusE(".as_slice())
+        || text.starts_with(b"GetXtdErrStatus(".as_slice())
+}
+
+/// Whether a text begins with another command that moves nothing.
+fn asks_more(text: &[u8]) -> bool
+    ensures { result ≡ asking.asks_more text.now }
+{
+    text.starts_with(b"GetDMEVersion(".as_slice()) || text.starts_with(b"OnMoveReportE(".as_slice())
+}
+
+/// Whether a text after a tag and its space is a command of the interface that changes neither tool nor frame.
+fn is_harmless(text: &[u8]) -> bool
+    ensures { result ≡ asking.is_harmless text.now }
+{
+    asks_value(text) || asks_state(text) || asks_more(text)
+}
+
+/// What follows a tag and its space.
+fn behind_tag(line: &[u8]) -> &[u8]
+    ensures { result.now ≡ drop 6 line.now }
+{
+    let (_, text) = line.split_at(line.len().min(6));
+    text
+}
+
+/// What a line of the client is, given without its end. Fails only if out of memory.
+#[tactic(auto, using(crate::proofs::Readings::one_command))]
+fn sent_of(alloc: Global, line: &[u8]) -> Result<Sent, AllocError>
+    ensures { IfOk result (λ sent. sent ≡ spec.sent_of line.now) }
+{
+    match read_command(alloc, line)? {
+        Ok((tag, command)) => Ok(Sent::Command(tag, command.kind())),
+        Err(LineFault::NoTag) => Ok(Sent::Untagged),
+        Err(LineFault::UnknownCommand(tag)) => if is_harmless(behind_tag(line)) {
+            Ok(Sent::Standard(tag))
+        } else {
+            Ok(Sent::Unknown(tag))
+        }
+        Err(LineFault::BadArguments(tag, kind)) => Ok(Sent::Unread(tag, kind)),
+    }
+}
+
+/// What a data text reads as.
+#[tactic(auto, using(crate::proofs::Readings::one_point, crate::proofs::Readings::one_homed))]
+fn data_of(text: &[u8]) -> Data
+    ensures { result ≡ spec.data_of text.now }
+{
+    if read_point(text).is_ok() {
+        return Data::Point;
+    }
+    if read_homed(text).is_ok() {
+        return Data::Homed;
+    }
+    Data::Other
+}
+
+/// The mark of a response, with what its data are.
+fn reply_as(mark: MarkSlice<'_>) -> Reply
+    ensures { result ≡ spec.reply_as (the_mark mark.entry) }
+{
+    match mark {
+        MarkSlice::Ack => Reply::Received,
+        MarkSlice::Given(text) => Reply::Given(data_of(text)),
+        MarkSlice::Done => Reply::Complete,
+        MarkSlice::Error(_) => Reply::Error,
+    }
+}
+
+/// What a line of the server is, given without its end.
+#[tactic(auto, using(crate::proofs::Readings::one_response))]
+fn heard_of(line: &[u8]) -> Heard
+    ensures { result ≡ spec.heard_of line.now }
+{
+    match cut_response(line) {
+        Ok(response) => Heard::Response(response.tag, reply_as(response.mark)),
+        Err(_) => Heard::Other,
+    }
+}
+
+/// The lines of bytes, and what is wrong after them. Fails only if out of memory.
+pub(crate) fn cut_lines(
+    alloc: Global,
+    bytes: &[u8],
+) -> Result<(Vec<Line>, Option<FramingFault>), AllocError>
+    ensures { IfOk result (λ cut. (rest : List ℕ) × IsStream bytes.now cut.0.items rest cut.1) }
+{
+    let mut lines = Lines::new(alloc);
+    match lines.feed(bytes) {
+        Ok(()) | Err(LinesFault::Framing(_)) => {}
+        Err(LinesFault::Memory) => return Err(AllocError),
+    }
+    let mut all = Vec::new(alloc);
+    loop {
+        match lines.next_line() {
+            Ok(Some(line)) => all.push(line)?,
+            Ok(None) => return Ok((all, None)),
+            Err(LinesFault::Framing(fault)) => return Ok((all, Some(fault))),
+            Err(LinesFault::Memory) => return Err(AllocError),
+        }
+    }
+}
+
+/// What each line of the client is. Fails only if out of memory.
+pub(crate) fn sent_lines(alloc: Global, lines: &[Line]) -> Result<Vec<Sent>, AllocError>
+    ensures { IfOk result (λ all. all.items ≡ map spec.sent_of lines.now) }
+{
+    let mut all = Vec::with_capacity(alloc, lines.len())?;
+    for line in lines {
+        all.push(sent_of(alloc, line.as_slice())?)?;
+    }
+    Ok(all)
+}
+
+/// What each line of the server is. Fails only if out of memory.
+pub(crate) fn heard_lines(alloc: Global, lines: &[Line]) -> Result<Vec<Heard>, AllocError>
+    ensures { IfOk result (λ all. all.items ≡ map spec.heard_of lines.now) }
+{
+    let mut all = Vec::with_capacity(alloc, lines.len())?;
+    for line in lines {
+        all.push(heard_of(line.as_slice()))?;
+    }
+    Ok(all)
+}

@@ -1,0 +1,66 @@
+// The rules, and how far a command is.
+
+/// A rule of the interface, as this profile reads it, that a line breaks.
+#[derive(Clone, Copy, Debug, PartialEq, Eq)]
+pub enum Rule {
+    /// A line of the client begins with no tag that a command can have.
+    NoTag,
+    /// The tag of a line of the client was used before, and not each of its uses has ended.
+    TagInUse,
+    /// The interface has no such command, as far as this profile knows.
+    UnknownCommand,
+    /// A command under an event tag, or an event command under another.
+    WrongTag,
+    /// The arguments of a command do not read.
+    BadArguments,
+    /// A command before a session begins, or after it has ended.
+    NoSession,
+    /// A session begins inside a session.
+    SessionOpen,
+    /// A line of the server is no response.
+    NotResponse,
+    /// No command is open under the tag.
+    UnknownTag,
+    /// The mark is unexpected there.
+    OutOfOrder,
+    /// A command that asks for data is complete, and they did not come.
+    NoData,
+    /// Data once more.
+    SecondData,
+    /// Data that the command does not ask for, or that do not read.
+    OtherData,
+    /// Data or the end of a command, with an earlier command still open.
+    NotInTurn,
+    /// More than 65,536 bytes come before the next CR or LF.
+    LineTooLong,
+    /// LF without CR, or CR followed by something other than LF.
+    BadByte,
+}
+
+/// How far a command is, by the marks that its server sent.
+#[derive(Clone, Copy, Debug, PartialEq, Eq)]
+pub enum Stage {
+    Sent,
+    Received,
+    Given,
+    Failed,
+    Ended,
+}
+
+/// What data a command asks for.
+#[derive(Clone, Copy, Debug, PartialEq, Eq)]
+pub enum Asks {
+    Nothing,
+    Point,
+    Homed,
+    /// It is not known what it asks for.
+    Anything,
+}
+
+/// A line that breaks a rule.
+#[derive(Clone, Copy, Debug, PartialEq, Eq)]
+pub struct Found {
+    /// Its number, counted from 1.
+    pub number: usize,
+    pub rule: Rule,
+}
