@@ -30,7 +30,7 @@ abbrev pub framing_rule : FramingFault → Rule
 framing_rule framing.LineTooLong = rule.LineTooLong
 framing_rule framing.BadByte = rule.BadByte
 
--- bytes that are not lines after so many lines
+-- bytes that are not lines after `count` lines
 abbrev pub fault_found : ℕ → Option FramingFault → Option Found
 fault_found count None = None
 fault_found count (Some fault) = Some (record { number = count + 1; rule = framing_rule fault })
@@ -51,7 +51,7 @@ server_found up down fault = end_break (first_break (server_rule up) [] down) (l
 abbrev pub shown : List (List ℕ) → Found → Break
 shown lines found = record { number = found.number; rule = found.rule; line = get_or lines (found.number - 1) [] }
 
--- what is said of two recordings
+-- what two recordings show
 pub record Judged : Type 0 where
   pub client : Option Break
   pub server : Option Break

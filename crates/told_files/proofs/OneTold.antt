@@ -144,7 +144,7 @@ contact_apart t u d e m n f g p q named b same =
 
 -- ---- what was reported
 
--- an act, and what is none, have different fields
+-- an act, and what is not an act, have different fields
 apart : (a : Act) (t : Told) → HasNamedTool a → IsOtherTold t → act_fields a ≡ told_parts t → ⊥
 apart (act.HomedIs ah) (told.Did b) g h e = h
 apart (act.HomedIs ah) (told.MovedSomewhere t2) g h e =
