@@ -112,7 +112,7 @@ def runs_table(dme, runs):
 
 # ---- a gigabyte
 
-TAGS = range(1, 10_000)
+TAGS = range(1, 101)  # that many commands are open at most
 UP = "".join(f"{tag:05} GoTo(X(1.000), Y(2.000), Z(3.000))\r\n" for tag in TAGS).encode()
 DOWN = "".join(f"{tag:05} &\r\n{tag:05} %\r\n" for tag in TAGS).encode()
 
