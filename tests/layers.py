@@ -20,10 +20,10 @@ LAYERS = {
     "the two ends": "command_queue dme_tags resume_plan server_core client_core told_acts",
     "both ends together, and results": "link_world ledger_audit run_record record_keeping record_laws deviations drawings refusal_guide program_review",
     "orders": "dme_words dme_orders",
-    "the edge": "dme_program dme_c",
+    "the edge": "dme_files dme_sockets dme_run dme_serve dme_watch dme_program dme_c",
     "tests and measuring": "test_texts test_calls test_units bench_world",
 }
-USED_BY_NONE = {"protocol_examples", "record_laws"} | {it for name in ("the edge", "tests and measuring") for it in LAYERS[name].split()}
+USED_BY_NONE = {"protocol_examples", "record_laws", "dme_program", "dme_c"} | set(LAYERS["tests and measuring"].split())
 
 
 def read(text):
@@ -45,11 +45,23 @@ def faults_of(crates):
     return faults
 
 
+def all_below(name, crates):
+    """All crates that a crate stands on, also through others."""
+    below, added = set(), [name]
+    while added:
+        added = [it for above in added for it in crates.get(above, []) if it not in below]
+        below.update(added)
+    return below
+
+
 def row(name, crates):
+    """What a crate uses, without the crates that another one of these stands on."""
+
     def joined(names):
         return " ".join(f"`{it}`" for it in names)
 
-    own = [it for it in crates if it in crates[name]]
+    implied = {it for used in crates[name] for it in all_below(used, crates)}
+    own = [it for it in crates if it in crates[name] and it not in implied]
     return f"| [`{name}`](../crates/{name}/) | {joined(own)} | {joined(it for it in crates[name] if it not in crates)} |\n"
 
 

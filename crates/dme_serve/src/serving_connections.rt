@@ -2,18 +2,16 @@
 
 ghost use Rattle.std.specs.Prelude.{None};
 
-use crate::connecting::{no_connection, of_output};
-use crate::explaining::refused;
-use crate::faults::Fault;
-use crate::files::Sources;
-use crate::growing_files::{ContactsFile, NextContacts};
-use crate::talking::{HeardPort, Log, SaidPort, Side, Talk};
-use crate::text_files::NamedFile;
-use crate::waiting::{LOOK_MS, Patience, PatientSink, PatientSource, seconds_of};
+use crate::contacts_file::{ContactsFile, NextContacts};
 use byte_ports::{Ports, Writing};
 use contact_ledger::ServerLedger;
+use dme_files::{Fault, NamedFile, Sources, of_output, refused};
 use dme_orders::{
     InputFiles, OrderFault, close_service, read_setup, serve_one, shown_break, with_break,
+};
+use dme_sockets::{
+    HeardPort, LOOK_MS, Log, Patience, PatientSink, PatientSource, SaidPort, Side, Talk,
+    no_connection, seconds_of,
 };
 use dme_words::Service;
 use link_world::{LoopFault, PumpFault, ServerWatcher, Simulated};

@@ -1,7 +1,7 @@
 // What is printed on standard error, and the status that goes with it.
 
 ghost use Rattle.std.specs.Prelude.{◌≡◌, ◌≢◌, ◌↔◌};
-ghost use Rattle.dme_program.specs.Printed.{exit_status, short};
+ghost use Rattle.dme_files.specs.Printed.{exit_status, short};
 
 use clap::Error as WordsError;
 use dme_orders::OrderFault;
@@ -63,7 +63,7 @@ pub enum Fault {
 
 impl From<WordsFault> for Fault {
     ghost use Rattle.std.specs.Prelude.{◌≡◌};
-    ghost use Rattle.dme_program.specs.Printed.{words_shown};
+    ghost use Rattle.dme_files.specs.Printed.{words_shown};
 
     ghost from_gives = { λ fault e. e ≡ words_shown fault };
 
@@ -80,7 +80,7 @@ impl From<WordsFault> for Fault {
 
 impl From<AllocError> for Fault {
     ghost use Rattle.std.specs.Prelude.{◌≡◌};
-    ghost use Rattle.dme_program.specs.Printed.{short};
+    ghost use Rattle.dme_files.specs.Printed.{short};
 
     ghost from_gives = { λ _ e. e ≡ short };
 
@@ -91,7 +91,7 @@ impl From<AllocError> for Fault {
 
 impl From<RecordRefusal> for Fault {
     ghost use Rattle.std.specs.Prelude.{◌≡◌};
-    ghost use Rattle.dme_program.specs.Printed.{record_shown};
+    ghost use Rattle.dme_files.specs.Printed.{record_shown};
 
     ghost from_gives = { λ refusal e. e ≡ record_shown refusal };
 
@@ -105,7 +105,7 @@ impl From<RecordRefusal> for Fault {
 
 impl From<OrderFault> for Fault {
     ghost use Rattle.std.specs.Prelude.{◌≡◌};
-    ghost use Rattle.dme_program.specs.declared.faults.Fault.TheVariants as fault;
+    ghost use Rattle.dme_files.specs.declared.faults.Fault.TheVariants as fault;
 
     ghost from_gives = { λ cause e. e ≡ fault.Order cause };
 

@@ -2,18 +2,15 @@
 
 ghost use Rattle.std.specs.Prelude.{None};
 
-use crate::explaining::text_of;
-use crate::faults::Fault;
-use crate::files::Sources;
-use crate::growing_files::{FeaturesFile, LockedFile, ReportedContacts};
+use crate::growing_files::{FeaturesFile, ReportedContacts};
 use crate::keeping::tell_kept;
 use crate::progress::Progress;
-use crate::talking::Talk;
-use crate::text_files::{NamedFile, is_whole};
 use byte_ports::{PullFault, pull_all};
 use client_core::Client;
 use contact_ledger::{Feature, FeatureLedger};
+use dme_files::{Fault, LockedFile, NamedFile, Sources, is_whole, text_of};
 use dme_orders::{OrderFault, TextFile};
+use dme_sockets::Talk;
 use dmis_program::Program;
 use link_world::Watcher;
 use record_keeping::{Beginning, RecordRefusal, Recorder, begin_record};

@@ -3,26 +3,22 @@
 ghost use Rattle.std.specs.Prelude.{◌≡◌, true};
 ghost use Rattle.client_core.specs.Clients.{is_window, may_connect};
 
-use crate::calling::{Called, call_server};
-use crate::connecting::of_output;
-use crate::explaining::refused;
-use crate::faults::Fault;
-use crate::files::Sources;
-use crate::growing_files::{FeaturesFile, LockedFile, ReportedContacts};
+use crate::growing_files::{FeaturesFile, ReportedContacts};
 use crate::keeping::{is_confirmed, tell_kept, tell_next};
 use crate::progress::Progress;
 use crate::recording::{Follower, OpenRecord, RecordWords, open_record, record_words};
-use crate::refusals::Refusals;
-use crate::talking::{HeardPort, Log, SaidPort, Side, Talk};
-use crate::text_files::NamedFile;
-use crate::waiting::{Patience, PatientSink, PatientSource, StopFile, seconds_of};
 use crate::warning::warn;
 use byte_ports::{Ports, Sink, Writing};
 use client_core::{Client, ClientFault};
 use contact_ledger::{CONNECTION_MAX, FeatureLedger, ServerLedger};
+use dme_files::{Fault, LockedFile, NamedFile, Sources, of_output, refused};
 use dme_orders::{
     FilesFault, InputFiles, OrderFault, RunEnd, RunOutputs, TextFile, drive, features_and_program,
     kept_client,
+};
+use dme_sockets::{
+    Called, HeardPort, Log, Patience, PatientSink, PatientSource, Refusals, SaidPort, Side,
+    StopFile, Talk, call_server, seconds_of,
 };
 use dme_words::Run;
 use dmis_program::Program;
