@@ -20,6 +20,13 @@ fn acts_after(alloc: Global, ledger: &ServerLedger, held: usize) -> Result<Vec<u
     Ok(text)
 }
 
+/// The text of a contacts file with no act.
+fn empty_text(alloc: Global) -> Result<Vec<u8>, AllocError> {
+    let mut text = Vec::new(alloc);
+    write_contacts(&mut text, &ServerLedger::new(alloc))?;
+    Ok(text)
+}
+
 /// A contacts file that can be written, and is as it was until the server listens.
 #[derive(Drop)]
 pub struct NextContacts {
@@ -37,12 +44,25 @@ impl NextContacts {
         if !may_be_replaced(rt, name) {
             return Ok(None);
         }
+        let text = empty_text(rt.alloc())?;
+        let made = NextContacts::with(rt, name, text.as_slice());
+        drop(text);
+        match made {
+            Ok(next) => Ok(Some(next)),
+            Err(fault) => Err(fault),
+        }
+    }
+
+    /// Likewise, with this text, of a file that may be replaced.
+    fn with<R: Files<File = File> + AllocGlobal>(
+        rt: &R,
+        name: &str,
+        text: &[u8],
+    ) -> Result<NextContacts, OrderFault> {
         let name = String::from_str(rt.alloc(), name)?;
         let beside = beside(rt.alloc(), name.as_str())?;
-        let mut text = Vec::new(rt.alloc());
-        write_contacts(&mut text, &ServerLedger::new(rt.alloc()))?;
-        match NextFile::make(rt, name.as_str(), beside.as_str(), text.as_slice()) {
-            Ok(next) => Ok(Some(NextContacts { name, beside, next })),
+        match NextFile::make(rt, name.as_str(), beside.as_str(), text) {
+            Ok(next) => Ok(NextContacts { name, beside, next }),
             Err(_) => Err(OrderFault::CannotWrite(name)),
         }
     }
