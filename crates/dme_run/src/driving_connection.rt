@@ -84,47 +84,46 @@ fn with_line<R: AllocGlobal>(
     }
 }
 
-/// What is shown of a run whose features were to be written to a file of this name, if any.
-fn client_verdict<R: Eprint + AllocGlobal>(
-    rt: &R,
+/// What is shown of the end of a run.
+fn client_verdict<R: AllocGlobal>(
+    alloc: Global,
     driven: RunEnd,
-    features: Option<String>,
     (patience, talk): (&Patience<'_, R>, &RefCell<Talk<'_, R>>),
 ) -> Result<u8, Fault> {
-    let verdict = match driven.ended.verdict(true) {
+    match driven.ended.verdict(true) {
         Ok(status) => Ok(status),
-        Err(fault) if is_unexpected(driven.ended.broken) => Err(with_line(rt.alloc(), fault, talk)),
-        Err(fault) => Err(patience.shown(rt.alloc(), fault, "server")),
-    };
+        Err(fault) if is_unexpected(driven.ended.broken) => Err(with_line(alloc, fault, talk)),
+        Err(fault) => Err(patience.shown(alloc, fault, "server")),
+    }
+}
+
+/// What is shown of the end of a run whose features were to be written to the file that a call names, if any.
+fn shown_end<R: Eprint + AllocGlobal>(
+    rt: &R,
+    driven: RunEnd,
+    call: &mut Call<'_>,
+    known: (&Patience<'_, R>, &RefCell<Talk<'_, R>>),
+) -> Result<u8, Fault> {
+    let verdict = client_verdict(rt.alloc(), driven, known);
     if driven.is_kept {
         return verdict;
     }
-    with_unwritten(rt, verdict, features)
+    with_unwritten(rt, verdict, call.features.take())
 }
 
 /// How a run calls its server, and what it keeps and shows.
 #[derive(Drop)]
-struct Call {
-    host: String,
-    port: u16,
+struct Call<'a> {
+    order: &'a Run,
     window: u8,
     /// The file that the features are written to.
     features: Option<String>,
-    /// Which record is kept, if any.
-    record: Option<RecordWords>,
-    /// The file that the contacts which the server reports are written to.
-    contacts: Option<String>,
-    progress: bool,
-    /// Whether the lines of the connection are shown.
-    trace: bool,
-    /// The file that they are added to, if one is named.
+    /// The file that the lines of the connection are added to, if one is named.
     log: Option<String>,
     /// How many seconds it may take to make the connection, if it is tried again and again.
     wait: Option<u32>,
-    /// Whether the run waits for a confirmation before it connects.
-    confirm: bool,
     /// What the program asks for, with the lines.
-    tasks: Vec<TaskLine>,
+    tasks: &'a [TaskLine],
 }
 
 /// What is shown of the lines of a client's connection of this number, and of its server's errors.
@@ -132,11 +131,11 @@ fn talk_of<'a, R: Files<File = File> + Eprint + AllocGlobal>(
     rt: &'a R,
     client: &Client,
     number: u64,
-    call: &mut Call,
+    call: &mut Call<'_>,
 ) -> Result<RefCell<Talk<'a, R>>, AllocError> {
-    let wanted = Refusals::new(rt.alloc(), client, call.tasks.as_slice())?;
+    let wanted = Refusals::new(rt.alloc(), client, call.tasks)?;
     let log = Log::named(rt, call.log.take());
-    let mut talk = Talk::new(rt, call.trace, log);
+    let mut talk = Talk::new(rt, call.order.trace, log);
     talk.begin(number);
     talk.tell_errors(wanted);
     Ok(RefCell::new(talk))
@@ -146,13 +145,14 @@ fn talk_of<'a, R: Files<File = File> + Eprint + AllocGlobal>(
 fn confirm<R: Input + Eprint + AllocGlobal>(
     rt: &R,
     client: &Client,
-    call: &Call,
+    call: &Call<'_>,
 ) -> Result<(), Fault> {
-    if client.features().is_empty() && !call.confirm {
+    let must_wait = call.order.confirm;
+    if client.features().is_empty() && !must_wait {
         return Ok(());
     }
-    tell_next(rt, client, call.tasks.as_slice())?;
-    if call.confirm && !is_confirmed(rt) {
+    tell_next(rt, client, call.tasks)?;
+    if must_wait && !is_confirmed(rt) {
         return Err(Fault::NotConfirmed);
     }
     Ok(())
@@ -163,7 +163,7 @@ fn prepare<'a, R: Files<File = File> + Input + Eprint + AllocGlobal>(
     rt: &'a R,
     client: &Client,
     number: u64,
-    call: &mut Call,
+    call: &mut Call<'_>,
 ) -> Result<RefCell<Talk<'a, R>>, Fault> {
     confirm(rt, client, call)?;
     Ok(talk_of(rt, client, number, call)?)
@@ -218,40 +218,89 @@ fn growing_features<R: Files<File = File> + AllocGlobal>(
     }
 }
 
-/// A client comes to a connection to the server that is called, whose files grow from then on. `before` is the number of the connection, and
-/// what servers reported before it.
-fn reach_server<
+/// A client comes to a connection, and its files grow from then on. `before` is the number of the connection, and what servers reported
+/// before it.
+fn begin_connection<R: Files<File = File> + Eprint + AllocGlobal>(
+    rt: &R,
+    client: &mut Client,
+    before: (u64, &ServerLedger),
+    call: &Call<'_>,
+    follower: &mut Follower<'_, '_, R>,
+) -> Result<(), Fault>
+    requires { may_connect before.0 client.old.client ≡ true }
+{
+    let (number, told) = before;
+    let growing = growing_features(rt, call.features.as_deref(), client)?;
+    let contacts = reported_contacts(rt, call.order.contacts.as_deref(), told)?;
+    follower.grow(growing, contacts);
+    match client.connected(number) {
+        Ok(()) => Ok(()),
+        Err(_) => Err(Fault::Order(OrderFault::Memory)),
+    }
+}
+
+/// A client takes its turns over a connection that is made. `before` is the number of the connection, and what servers reported before it.
+fn drive_connection<R: Files<File = File> + Eprint + Clock + AllocGlobal, F: TextFile, O: Sink>(
+    rt: &R,
+    client: &mut Client,
+    before: (u64, &ServerLedger),
+    limited: (&TcpStream, &Call<'_>, &Patience<'_, R>),
+    follower: &mut Follower<'_, '_, R>,
+    outputs: &mut RunOutputs<F, O>,
+) -> Result<RunEnd, Fault>
+    requires { may_connect before.0 client.old.client ≡ true }
+{
+    let (stream, call, patience) = limited;
+    begin_connection(rt, client, before, call, follower)?;
+    match drive_stream(rt, client, (stream, patience), follower, outputs) {
+        Ok(driven) => Ok(driven),
+        Err(fault) => Err(Fault::Order(of_output(rt, fault))),
+    }
+}
+
+/// A client takes its turns over a connection to the server that is called; nothing if the stop file has kept it from beginning. `before` is
+/// the number of the connection, and what servers reported before it.
+fn drive_called<
     R: Files<File = File>
         + Eprint
         + Clock
         + Net<Listener = TcpListener, Stream = TcpStream>
         + AllocGlobal,
+    F: TextFile,
+    O: Sink,
 >(
     rt: &R,
     client: &mut Client,
     before: (u64, &ServerLedger),
-    limited: (&Call, &Patience<'_, R>),
+    limited: (&Call<'_>, &Patience<'_, R>),
     follower: &mut Follower<'_, '_, R>,
-) -> Result<Called, Fault>
+    outputs: &mut RunOutputs<F, O>,
+) -> Result<Option<RunEnd>, Fault>
     requires { may_connect before.0 client.old.client ≡ true }
 {
-    let (number, told) = before;
     let (call, patience) = limited;
-    let called = call_server(rt, (call.host.as_str(), call.port), call.wait, patience)?;
-    if let Called::Stopped = called {
-        return Ok(called);
+    let address = (call.order.host.as_str(), call.order.port);
+    let stream = match call_server(rt, address, call.wait, patience)? {
+        Called::Connected(stream) => stream,
+        Called::Stopped => return Ok(None),
+    };
+    let driven = drive_connection(
+        rt,
+        client,
+        before,
+        (&stream, call, patience),
+        follower,
+        outputs,
+    );
+    drop(stream);
+    match driven {
+        Ok(driven) => Ok(Some(driven)),
+        Err(fault) => Err(fault),
     }
-    let growing = growing_features(rt, call.features.as_deref(), client)?;
-    let contacts = reported_contacts(rt, call.contacts.as_deref(), told)?;
-    follower.grow(growing, contacts);
-    if client.connected(number).is_err() {
-        return Err(Fault::Order(OrderFault::Memory));
-    }
-    Ok(called)
 }
 
-/// A client takes its turns over a connection to the server that is called. `before` is the number of the connection, and what servers
-/// reported before it.
+/// A client runs its program on the server that is called, and leaves what it has measured; what is shown of that. `before` is the number of
+/// the connection, and what servers reported before it.
 fn drive_client<
     R: Files<File = File>
         + Print
@@ -263,7 +312,7 @@ fn drive_client<
     rt: &R,
     client: &mut Client,
     before: (u64, &ServerLedger),
-    limited: (Call, &Patience<'_, R>),
+    limited: (&mut Call<'_>, &Patience<'_, R>),
     follower: &mut Follower<'_, '_, R>,
 ) -> Result<u8, Fault>
     requires { may_connect before.0 client.old.client ≡ true }
@@ -274,15 +323,45 @@ fn drive_client<
         features,
         report: Writing::new(io::writer(rt)),
     };
-    let stream = match reach_server(rt, client, before, (&call, patience), follower)? {
-        Called::Connected(stream) => stream,
-        Called::Stopped => return Ok(patience.not_begun()),
-    };
-    let result = drive_stream(rt, client, (&stream, patience), follower, &mut outputs);
+    let driven = drive_called(rt, client, before, (&*call, patience), follower, &mut outputs);
     drop(outputs);
-    match result {
-        Ok(driven) => client_verdict(rt, driven, call.features, (patience, follower.talk)),
-        Err(fault) => Err(Fault::Order(of_output(rt, fault))),
+    match driven {
+        Ok(Some(driven)) => shown_end(rt, driven, call, (patience, follower.talk)),
+        Ok(None) => Ok(patience.not_begun()),
+        Err(fault) => Err(fault),
+    }
+}
+
+/// A client runs its program on a server, followed by its record, if there is one, and the lines of its connection. `before` is the number of
+/// the connection, and what servers reported before it.
+fn drive_followed<
+    'b,
+    R: Files<File = File>
+        + Print
+        + Eprint
+        + Clock
+        + Net<Listener = TcpListener, Stream = TcpStream>
+        + AllocGlobal,
+>(
+    rt: &'b R,
+    client: &mut Client,
+    before: (u64, &ServerLedger),
+    record: Option<(String, Recorder<LockedFile>)>,
+    limited: (&mut Call<'_>, &Patience<'_, R>),
+    talk: &RefCell<Talk<'b, R>>,
+) -> Result<u8, Fault>
+    requires { may_connect before.0 client.old.client ≡ true }
+{
+    let (call, patience) = limited;
+    let (number, _) = before;
+    let progress = Progress::new(rt, call.order.progress, client.program().features().len());
+    let mut follower = Follower::new(rt, progress, talk, number, record);
+    let verdict = drive_client(rt, client, before, (call, patience), &mut follower);
+    let ended = follower.end();
+    drop(follower);
+    match ended {
+        Ok(unwritten) => with_both_unwritten(rt, verdict, unwritten),
+        Err(fault) => Err(Fault::Order(fault)),
     }
 }
 
@@ -301,19 +380,16 @@ fn drive_made<
     client: &mut Client,
     before: (u64, &ServerLedger),
     record: Option<(String, Recorder<LockedFile>)>,
-    limited: (Call, &Patience<'_, R>),
+    limited: (&mut Call<'_>, &Patience<'_, R>),
 ) -> Result<u8, Fault>
     requires { may_connect before.0 client.old.client ≡ true }
 {
-    let (number, _) = before;
     let (call, patience) = limited;
-    let mut call = call;
-    let talk = prepare(rt, client, number, &mut call)?;
-    let progress = Progress::new(rt, call.progress, client.program().features().len());
-    let mut follower = Follower::new(rt, progress, &talk, number, record);
-    let verdict = drive_client(rt, client, before, (call, patience), &mut follower);
-    let unwritten = follower.finish()?;
-    with_both_unwritten(rt, verdict, unwritten)
+    let (number, _) = before;
+    let talk = prepare(rt, client, number, call)?;
+    let done = drive_followed(rt, client, before, record, (call, patience), &talk);
+    drop(talk);
+    done
 }
 
 /// A program on a server, without a record.
@@ -327,13 +403,13 @@ fn drive_program<
         + AllocGlobal,
 >(
     rt: &R,
-    kept: FeatureLedger,
-    program: Program,
-    call: Call,
+    read: (FeatureLedger, Program),
+    call: &mut Call<'_>,
     patience: &Patience<'_, R>,
 ) -> Result<u8, Fault>
-    requires { is_window call.window ≡ true }
+    requires { is_window call.old.window ≡ true }
 {
+    let (kept, program) = read;
     let mut client = kept_client(rt.alloc(), program, kept, call.window)?;
     if let Some(name) = &call.features {
         tell_kept(
@@ -344,7 +420,10 @@ fn drive_program<
         );
     }
     let told = ServerLedger::new(rt.alloc());
-    drive_made(rt, &mut client, (1, &told), None, (call, patience))
+    let done = drive_made(rt, &mut client, (1, &told), None, (call, patience));
+    drop(told);
+    drop(client);
+    done
 }
 
 /// Likewise, with a record of it. A record in which the last connection has the greatest possible number cannot be written.
@@ -360,11 +439,15 @@ fn drive_recorded<
     rt: &R,
     open: OpenRecord,
     program: Program,
-    call: Call,
+    call: &mut Call<'_>,
     patience: &Patience<'_, R>,
 ) -> Result<u8, Fault>
-    requires { is_window call.window ≡ true }
+    requires { is_window call.old.window ≡ true }
 {
+    let connection = open.beginning.connection;
+    if connection < 1 || connection > CONNECTION_MAX {
+        return Err(Fault::Order(OrderFault::CannotWrite(open.name)));
+    }
     let OpenRecord {
         name,
         beginning,
@@ -373,32 +456,30 @@ fn drive_recorded<
     let Beginning {
         features,
         told,
-        connection,
         text,
         ..
     } = beginning;
-    if connection < 1 || connection > CONNECTION_MAX {
-        return Err(Fault::Order(OrderFault::CannotWrite(name)));
-    }
     let recorder = Recorder::new(connection, features.list().len(), text, file);
-    let mut client = kept_client(rt.alloc(), program, features, call.window)?;
     let record = Some((name, recorder));
-    drive_made(
+    let mut client = kept_client(rt.alloc(), program, features, call.window)?;
+    let done = drive_made(
         rt,
         &mut client,
         (connection, &told),
         record,
         (call, patience),
-    )
+    );
+    drop(client);
+    drop(told);
+    done
 }
 
 /// What a run has read.
 #[derive(Drop)]
 struct RunInput {
-    kept: FeatureLedger,
-    program: Program,
-    /// The name of the features file, empty if none is named.
-    features: String,
+    read: (FeatureLedger, Program),
+    /// The name of the features file, if one is named.
+    features: Option<String>,
     /// The lines of the program that commands carry out.
     tasks: Vec<TaskLine>,
 }
@@ -411,38 +492,79 @@ struct RunNames {
     program: String,
 }
 
-/// Reads what a run needs, and reports what its setup lacks. The features file is read if there is such a file, and never from standard
-/// input.
+/// Takes the names of the files that a run reads.
+fn take_names(alloc: Global, order: &mut Run) -> RunNames
+    ensures { order.new.window ≡ order.old.window }
+{
+    RunNames {
+        setup: std::mem::replace(&mut order.setup, String::new(alloc)),
+        features: order.features.take(),
+        program: std::mem::replace(&mut order.program, String::new(alloc)),
+    }
+}
+
+/// Reads the files of a run, and keeps their texts. The features file is read if there is such a file, and never from standard input.
+fn read_sources<R: Files + Input + AllocGlobal>(
+    alloc: Global,
+    sources: &mut Sources<'_, R>,
+    names: RunNames,
+    files: &mut InputFiles,
+) -> Result<(FeatureLedger, Program), FilesFault> {
+    let mut setup = sources.file(names.setup).keeping();
+    let mut features = sources.kept(names.features);
+    let mut program = sources.file(names.program).keeping();
+    let read = features_and_program(alloc, &mut setup, &mut features, &mut program);
+    files.setup = setup.into_file();
+    files.features = features.into_file();
+    files.program = program.into_file();
+    read
+}
+
+/// Reports what the setup of a run lacks; the lines of its program that commands carry out. Fails only if out of memory.
+fn told_tasks<R: Eprint + AllocGlobal>(
+    rt: &R,
+    files: &InputFiles,
+) -> Result<Vec<TaskLine>, AllocError> {
+    warn(rt, &files.setup, &files.program)?;
+    task_lines(rt.alloc(), files.program.text.as_slice())
+}
+
+/// Takes the name of the features file, if it is one that is kept.
+fn features_name(alloc: Global, files: &mut InputFiles, is_kept: bool) -> Option<String> {
+    if is_kept {
+        Some(std::mem::replace(&mut files.features.name, String::new(alloc)))
+    } else {
+        None
+    }
+}
+
+/// Reads what a run needs, and reports what its setup lacks.
 fn read_run<R: Files + Input + Eprint + AllocGlobal>(
     rt: &R,
     sources: &mut Sources<'_, R>,
     names: RunNames,
     is_explained: bool,
 ) -> Result<RunInput, Fault> {
-    let mut setup = sources.file(names.setup).keeping();
-    let mut features = sources.kept(names.features);
-    let mut program = sources.file(names.program).keeping();
-    let read = features_and_program(rt.alloc(), &mut setup, &mut features, &mut program);
+    let is_kept = names.features.is_some();
     let mut files = InputFiles::unnamed(rt.alloc());
-    files.setup = setup.into_file();
-    files.features = features.into_file();
-    files.program = program.into_file();
-    let (kept, program) = match read {
+    let read = match read_sources(rt.alloc(), sources, names, &mut files) {
         Ok(read) => read,
         Err(fault) => return Err(refused(rt.alloc(), fault, files, is_explained)),
     };
-    warn(rt, &files.setup, &files.program)?;
-    let tasks = task_lines(rt.alloc(), files.program.text.as_slice())?;
-    let features = files.features;
-    Ok(RunInput {
-        kept,
-        program,
-        features: features.name,
-        tasks,
-    })
+    let told = told_tasks(rt, &files);
+    let features = features_name(rt.alloc(), &mut files, is_kept);
+    drop(files);
+    match told {
+        Ok(tasks) => Ok(RunInput {
+            read,
+            features,
+            tasks,
+        }),
+        Err(AllocError) => Err(Fault::Order(OrderFault::Memory)),
+    }
 }
 
-/// A run that has read what it needs, on a server.
+/// A run that has read what it needs, on a server, with a record of it, if one is named.
 fn drive_read<
     R: Files<File = File>
         + Input
@@ -455,18 +577,118 @@ fn drive_read<
     rt: &R,
     sources: &mut Sources<'_, R>,
     read: (FeatureLedger, Program),
-    call: Call,
+    record: Option<RecordWords>,
+    call: &mut Call<'_>,
     patience: &Patience<'_, R>,
 ) -> Result<u8, Fault>
-    requires { is_window call.window ≡ true }
+    requires { is_window call.old.window ≡ true }
 {
-    let (kept, program) = read;
-    let mut call = call;
-    let Some(words) = call.record.take() else {
-        return drive_program(rt, kept, program, call, patience);
+    let Some(words) = record else {
+        return drive_program(rt, read, call, patience);
     };
-    let open = open_record(rt, sources, words, &program, &kept)?;
-    drive_recorded(rt, open, program, call, patience)
+    let (kept, program) = read;
+    let opened = open_record(rt, sources, words, &program, &kept);
+    drop(kept);
+    match opened {
+        Ok(open) => drive_recorded(rt, open, program, call, patience),
+        Err(fault) => Err(fault),
+    }
+}
+
+/// A run that has read what it needs, on a server, unless the stop file is there.
+fn drive_input<
+    R: Files<File = File>
+        + Input
+        + Print
+        + Eprint
+        + Clock
+        + Net<Listener = TcpListener, Stream = TcpStream>
+        + AllocGlobal,
+>(
+    rt: &R,
+    sources: &mut Sources<'_, R>,
+    order: &mut Run,
+    given: (RunInput, Option<RecordWords>),
+    limited: (Option<u32>, &Patience<'_, R>),
+) -> Result<u8, Fault>
+    requires { is_window order.old.window ≡ true }
+{
+    let (input, record) = given;
+    let (wait, patience) = limited;
+    if patience.is_stopped() {
+        return Ok(patience.not_begun());
+    }
+    let RunInput {
+        read,
+        features,
+        tasks,
+    } = input;
+    let log = order.log.take();
+    let window = order.window;
+    let mut call = Call {
+        order: &*order,
+        window,
+        features,
+        log,
+        wait,
+        tasks: tasks.as_slice(),
+    };
+    let done = drive_read(rt, sources, read, record, &mut call, patience);
+    drop(call);
+    drop(tasks);
+    done
+}
+
+/// A run within limits of time, with its record, if one is named.
+fn run_limited<
+    R: Files<File = File>
+        + Input
+        + Print
+        + Eprint
+        + Clock
+        + Net<Listener = TcpListener, Stream = TcpStream>
+        + AllocGlobal,
+>(
+    rt: &R,
+    order: &mut Run,
+    record: Option<RecordWords>,
+    limits: (Option<u32>, &Patience<'_, R>),
+) -> Result<u8, Fault>
+    requires { is_window order.old.window ≡ true }
+{
+    let is_explained = order.explain;
+    let mut sources = Sources::new(rt, is_explained);
+    let names = take_names(rt.alloc(), order);
+    match read_run(rt, &mut sources, names, is_explained) {
+        Ok(input) => drive_input(rt, &mut sources, order, (input, record), limits),
+        Err(fault) => Err(fault),
+    }
+}
+
+/// Carries out a run: its exit status.
+fn run_order<
+    R: Files<File = File>
+        + Input
+        + Print
+        + Eprint
+        + Clock
+        + Net<Listener = TcpListener, Stream = TcpStream>
+        + AllocGlobal,
+>(rt: &R, order: &mut Run) -> Result<u8, Fault>
+    requires { is_window order.old.window ≡ true }
+{
+    let timeout = seconds_of("timeout", order.timeout.take())?;
+    let wait = seconds_of("wait", order.wait.take())?;
+    let record = record_words(
+        order.record.take(),
+        order.part.take(),
+        order.features.as_deref(),
+        order.explain,
+    )?;
+    let patience = Patience::new(rt, timeout, order.stop.take());
+    let done = run_limited(rt, order, record, (wait, &patience));
+    drop(patience);
+    done
 }
 
 /// The order `run`: its exit status. Its features file and its record are read if there are such files, and never from standard input.
@@ -478,47 +700,10 @@ pub fn run_program<
         + Clock
         + Net<Listener = TcpListener, Stream = TcpStream>
         + AllocGlobal,
->(rt: &R, order: Run) -> Result<u8, Fault>
+>(rt: &R, mut order: Run) -> Result<u8, Fault>
     requires { is_window order.window ≡ true }
 {
-    let timeout = seconds_of("timeout", order.timeout)?;
-    let wait = seconds_of("wait", order.wait)?;
-    let record = record_words(
-        order.record,
-        order.part,
-        order.features.as_deref(),
-        order.explain,
-    )?;
-    let is_kept = order.features.is_some();
-    let names = RunNames {
-        setup: order.setup,
-        features: order.features,
-        program: order.program,
-    };
-    let mut sources = Sources::new(rt, order.explain);
-    let RunInput {
-        kept,
-        program,
-        features,
-        tasks,
-    } = read_run(rt, &mut sources, names, order.explain)?;
-    let patience = Patience::new(rt, timeout, order.stop);
-    if patience.is_stopped() {
-        return Ok(patience.not_begun());
-    }
-    let call = Call {
-        host: order.host,
-        port: order.port,
-        window: order.window,
-        features: if is_kept { Some(features) } else { None },
-        record,
-        contacts: order.contacts,
-        progress: order.progress,
-        trace: order.trace,
-        log: order.log,
-        wait,
-        confirm: order.confirm,
-        tasks,
-    };
-    drive_read(rt, &mut sources, (kept, program), call, &patience)
+    let done = run_order(rt, &mut order);
+    drop(order);
+    done
 }

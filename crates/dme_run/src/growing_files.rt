@@ -26,6 +26,48 @@ fn text_after(alloc: Global, client: &Client, held: usize) -> Result<Vec<u8>, Al
     Ok(text)
 }
 
+/// A new file with this text in the place of that of this name, with its name. That must be one that may be replaced.
+fn made_file<R: Files<File = File> + AllocGlobal>(
+    rt: &R,
+    name: &str,
+    text: &[u8],
+) -> Result<(String, LockedFile), OrderFault> {
+    let name = String::from_str(rt.alloc(), name)?;
+    let beside = beside(rt.alloc(), name.as_str())?;
+    let made = NextFile::replacing(rt, name.as_str(), beside.as_str(), text);
+    drop(beside);
+    match made {
+        Ok(file) => Ok((name, file)),
+        Err(_) => Err(OrderFault::CannotWrite(name)),
+    }
+}
+
+/// Likewise, without a file if that of this name may not be replaced.
+fn maybe_made_file<R: Files<File = File> + AllocGlobal>(
+    rt: &R,
+    name: &str,
+    text: &[u8],
+) -> Result<(String, Option<LockedFile>), OrderFault> {
+    if may_be_replaced(rt, name) {
+        let (name, file) = made_file(rt, name, text)?;
+        Ok((name, Some(file)))
+    } else {
+        Ok((String::from_str(rt.alloc(), name)?, None))
+    }
+}
+
+/// Puts a whole text in the place of the file of this name: whether that was possible. Fails only if out of memory.
+pub fn replace_whole<R: Files + AllocGlobal>(
+    rt: &R,
+    name: &str,
+    text: &[u8],
+) -> Result<bool, AllocError> {
+    let mut whole = NamedFile::new(rt, Some(name))?;
+    let is_replaced = whole.replace(text).is_ok();
+    drop(whole);
+    Ok(is_replaced)
+}
+
 /// A features file that grows: each completed feature is appended to it, and forced to the device.
 ///
 /// A file that fails stops nothing, and is not written any more.
@@ -49,19 +91,17 @@ impl FeaturesFile {
         if !may_be_replaced(rt, name) {
             return Ok(None);
         }
-        let name = String::from_str(rt.alloc(), name)?;
-        let beside = beside(rt.alloc(), name.as_str())?;
         let mut text = Vec::new(rt.alloc());
         write_features(&mut text, client.features())?;
-        match NextFile::replacing(rt, name.as_str(), beside.as_str(), text.as_slice()) {
-            Ok(file) => Ok(Some(FeaturesFile {
-                name,
-                file,
-                held: client.features().len(),
-                has_failed: false,
-            })),
-            Err(_) => Err(OrderFault::CannotWrite(name)),
-        }
+        let made = made_file(rt, name, text.as_slice());
+        drop(text);
+        let (name, file) = made?;
+        Ok(Some(FeaturesFile {
+            name,
+            file,
+            held: client.features().len(),
+            has_failed: false,
+        }))
     }
 
     /// Appends what a client has completed since; false if that could not be written for the first time. If memory runs out, it is appended
@@ -105,18 +145,10 @@ impl ReportedContacts {
         name: &str,
         ledger: &ServerLedger,
     ) -> Result<ReportedContacts, OrderFault> {
-        let name = String::from_str(rt.alloc(), name)?;
-        let beside = beside(rt.alloc(), name.as_str())?;
         let mut text = Vec::new(rt.alloc());
         write_contacts(&mut text, ledger)?;
-        let mut file = None;
-        if may_be_replaced(rt, name.as_str()) {
-            match NextFile::replacing(rt, name.as_str(), beside.as_str(), text.as_slice()) {
-                Ok(made) => file = Some(made),
-                Err(_) => return Err(OrderFault::CannotWrite(name)),
-            }
-        }
         let filed = text.len();
+        let (name, file) = maybe_made_file(rt, name, text.as_slice())?;
         Ok(ReportedContacts {
             name,
             text,
@@ -158,26 +190,17 @@ impl ReportedContacts {
     }
 
     /// Ends the file, once the run has ended: its name if it cannot be written. Fails only if memory ran out for an act.
-    pub fn finish<R: Files + AllocGlobal>(self, rt: &R) -> Result<Option<String>, OrderFault> {
-        let ReportedContacts {
-            name,
-            text,
-            file,
-            is_short,
-            ..
-        } = self;
-        if is_short {
+    pub fn end<R: Files + AllocGlobal>(&mut self, rt: &R) -> Result<Option<String>, OrderFault> {
+        if self.is_short {
             return Err(OrderFault::Memory);
         }
-        if file.is_some() && is_whole(rt, name.as_str(), text.len()) {
+        if self.file.is_some() && is_whole(rt, self.name.as_str(), self.text.len()) {
             return Ok(None);
         }
-        let mut whole = NamedFile::new(rt, Some(name.as_str()))?;
-        let result = whole.replace(text.as_slice());
-        drop(whole);
-        match result {
-            Ok(()) => Ok(None),
-            Err(_) => Ok(Some(name)),
+        if replace_whole(rt, self.name.as_str(), self.text.as_slice())? {
+            return Ok(None);
         }
+        let name = std::mem::replace(&mut self.name, String::new(rt.alloc()));
+        Ok(Some(name))
     }
 }
