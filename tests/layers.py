@@ -20,10 +20,10 @@ LAYERS = {
     "the two ends": "command_queue dme_tags resume_plan server_core client_core told_acts",
     "both ends together, and results": "link_world ledger_audit told_files line_judge run_record record_keeping record_laws deviations drawings refusal_guide program_review",
     "orders": "dme_words dme_orders",
-    "the edge": "dme_program dme_c",
+    "the edge": "dme_files dme_sockets dme_run dme_serve dme_watch dme_program dme_c",
     "tests and measuring": "test_texts test_calls test_units bench_world",
 }
-USED_BY_NONE = {"protocol_examples", "record_laws"} | {it for name in ("the edge", "tests and measuring") for it in LAYERS[name].split()}
+USED_BY_NONE = {"protocol_examples", "record_laws", "dme_program", "dme_c"} | set(LAYERS["tests and measuring"].split())
 
 
 def read(text):

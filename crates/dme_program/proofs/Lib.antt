@@ -1,2 +1,1 @@
 pub mod Blaming
-pub mod Growing

@@ -1,42 +1,21 @@
-// The order `loop`, on files, sockets and the standard streams, and what is shown of connections.
+// The order `loop`, on files, sockets and the standard streams.
 
 ghost use Rattle.std.specs.Prelude.{◌≡◌, true};
 ghost use Rattle.client_core.specs.Clients.{is_window};
 
-use crate::explaining::refused;
-use crate::faults::Fault;
-use crate::files::Sources;
-use crate::progress::Progress;
 use crate::tracing::TracingPort;
-use crate::warning::warn;
 use byte_ports::{Ports, Reading, Writing};
+use dme_files::{Fault, Sources, of_output, refused};
 use dme_orders::{
     ConnectionEnd, FilesFault, InputFiles, LoopTask, OrderFault, loop_over, setup_and_program,
-    shown_fault,
 };
+use dme_run::{Progress, warn};
+use dme_sockets::no_connection;
 use dme_words::Loop;
 use link_world::LoopPorts;
-use std::io::{self, ErrorKind};
+use std::io;
 use std::net::{Net, TcpListener, TcpStream};
 use std::rt::Files;
-
-/// Why a connection is not made, as a line.
-fn cause(kind: ErrorKind) -> &'static str {
-    match kind {
-        ErrorKind::ConnectionRefused => "connection refused\n",
-        ErrorKind::ConnectionReset => "connection reset\n",
-        ErrorKind::AddrInUse => "port in use\n",
-        ErrorKind::TimedOut => "connection timed out\n",
-        ErrorKind::HostUnreachable | ErrorKind::NetworkUnreachable => "host unreachable\n",
-        ErrorKind::PermissionDenied => "permission denied\n",
-        _ => "no connection\n",
-    }
-}
-
-/// What is shown for a connection that is not made, with its cause if more is asked for.
-pub(crate) fn no_connection(error: &io::Error, is_told: bool) -> OrderFault {
-    OrderFault::ConnectionFailed(if is_told { cause(error.kind()) } else { "" })
-}
 
 /// A connection of this process to itself, both ends.
 fn own_connection<R: Net<Listener = TcpListener, Stream = TcpStream>>(
@@ -47,11 +26,6 @@ fn own_connection<R: Net<Listener = TcpListener, Stream = TcpStream>>(
     let near = TcpStream::connect(rt, ("127.0.0.1", port))?;
     let (far, _) = listener.accept()?;
     Ok((near, far))
-}
-
-/// What is shown for a fault of no file.
-pub(crate) fn of_output<R: AllocGlobal>(rt: &R, fault: FilesFault) -> OrderFault {
-    shown_fault(fault, InputFiles::unnamed(rt.alloc()))
 }
 
 /// What is run over one connection, and what is shown of it.

@@ -1,10 +1,7 @@
 // The orders `export` and `explain`, on files and the standard streams.
 
-use crate::connecting::of_output;
-use crate::explaining::refused;
-use crate::faults::Fault;
-use crate::files::{NamedSource, Sources};
 use byte_ports::Writing;
+use dme_files::{Fault, NamedSource, Sources, of_output, refused};
 use dme_orders::{
     ExportFiles, InputFiles, RecordFiles, RecordText, explain, export_files, export_record,
 };

@@ -6,21 +6,18 @@ ghost use Rattle.dme_words.specs.Ordered.{IsReady};
 ghost use Rattle.dme_program.specs.Blamed.{OnSetup};
 
 use crate::connecting::loop_program;
-use crate::driving_connection::run_program;
-use crate::explaining::{refused, tell_audit};
 use crate::exporting::{explain_topic, export, export_of_record, record_files};
-use crate::faults::Fault;
-use crate::files::{NamedSource, Sources};
-use crate::serving_connections::serve;
 use crate::tracing::ErrorOutput;
 use crate::version;
-use crate::watching::watch;
-use crate::witnessing::ledger;
 use byte_ports::Writing;
+use dme_files::{Fault, NamedSource, Sources, refused, tell_audit};
 use dme_orders::{
     AuditFiles, FilesFault, FindingForm, InputFiles, RecordFiles, ReviewNames, SimulationFiles,
     audit_files, audit_record, check_under_setup, review_program, simulate, status,
 };
+use dme_run::run_program;
+use dme_serve::serve;
+use dme_watch::{ledger, watch};
 use dme_words::{Audit, Check, Order, RecordAudit, Review, Simulation, read_words};
 use std::alloc::{AllocError, Global};
 use std::env::{self, Env};

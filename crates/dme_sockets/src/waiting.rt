@@ -2,9 +2,9 @@
 
 ghost use Rattle.std.specs.Prelude.{◌≤◌, length, IfOk};
 
-use crate::faults::Fault;
 use byte_ports::{Failed, Sink, Source};
 use client_core::Client;
+use dme_files::Fault;
 use dme_orders::OrderFault;
 use link_world::{Course, Steering};
 use std::alloc::{AllocError, Global};

@@ -2,18 +2,16 @@
 
 ghost use Rattle.std.specs.Prelude.{None};
 
-use crate::connecting::{no_connection, of_output};
-use crate::explaining::refused;
-use crate::faults::Fault;
-use crate::files::Sources;
-use crate::growing_files::{ContactsFile, NextContacts};
-use crate::talking::{HeardPort, Log, SaidPort, Side, Talk};
-use crate::text_files::NamedFile;
-use crate::waiting::{LOOK_MS, Patience, PatientSink, PatientSource, seconds_of};
+use crate::contacts_file::{ContactsFile, NextContacts};
 use byte_ports::{Ports, Writing};
 use contact_ledger::ServerLedger;
+use dme_files::{Fault, NamedFile, Sources, of_output, refused};
 use dme_orders::{
-    InputFiles, OrderFault, close_service, read_setup, serve_one, shown_break, with_break,
+    InputFiles, OrderFault, TextFile, close_service, read_setup, serve_one, shown_break, with_break,
+};
+use dme_sockets::{
+    HeardPort, LOOK_MS, Log, Patience, PatientSink, PatientSource, SaidPort, Side, Talk,
+    no_connection, seconds_of,
 };
 use dme_words::Service;
 use link_world::{LoopFault, PumpFault, ServerWatcher, Simulated};
@@ -26,20 +24,6 @@ use std::rt::{Clock, Files};
 use std::thread;
 use std::time::Duration;
 use tool_rack::Setup;
-
-/// Where a server listens, for how many connections, and whether it reports how far it is.
-#[derive(Drop)]
-struct Post {
-    /// The address, if it is named.
-    listen: Option<String>,
-    port: u16,
-    connections: u32,
-    progress: bool,
-    /// Whether the lines of its connections are shown.
-    trace: bool,
-    /// The file that the contacts are written to, if one is named.
-    contacts: Option<String>,
-}
 
 /// Keeps what a server does in its contacts file, turn by turn, if that grows.
 #[derive(Drop)]
@@ -80,13 +64,13 @@ fn tell<R: Eprint>(rt: &R, is_told: bool, number: u64, what: &str) {
 /// The listener of a server: on 127.0.0.1 unless another address is named, which is then reported.
 fn listener_of<R: Eprint + Net<Listener = TcpListener, Stream = TcpStream>>(
     rt: &R,
-    post: &Post,
+    order: &Service,
 ) -> Result<TcpListener, OrderFault> {
-    let address = match &post.listen {
+    let address = match &order.listen {
         Some(address) => address.as_str(),
         None => "127.0.0.1",
     };
-    match TcpListener::bind(rt, (address, post.port)) {
+    match TcpListener::bind(rt, (address, order.port)) {
         Ok(listener) => {
             if address != "127.0.0.1" {
                 let _ = eprintln!(rt; "dme: listening on {address}");
@@ -161,27 +145,27 @@ fn serve_connections<
 >(
     listener: &TcpListener,
     serving: &mut Serving<'_, R>,
-    post: &Post,
+    order: &Service,
     talk: &RefCell<Talk<'_, R>>,
     patience: &Patience<'_, R>,
 ) -> Option<PumpFault<ServerFault>> {
     let rt = serving.keeper.rt;
     let mut broken = None;
-    for count in 0..post.connections {
+    for count in 0..order.connections {
         let number = count as u64 + 1;
         let stream = match next_connection(rt, listener, patience) {
             Ok(Some(stream)) => stream,
             Ok(None) => return broken,
             Err(_) => return with_break(broken, Err(PumpFault::ReadFailed)),
         };
-        tell(rt, post.progress, number, "taken");
+        tell(rt, order.progress, number, "taken");
         let lapse = patience.lapse();
         let result = serve_stream(serving, number, &stream, talk, patience);
         if broken.is_some() {
             patience.keep(lapse);
         }
         broken = with_break(broken, result);
-        tell(rt, post.progress, number, "left");
+        tell(rt, order.progress, number, "left");
     }
     broken
 }
@@ -221,25 +205,116 @@ fn next_contacts<R: Files<File = File> + AllocGlobal>(
     }
 }
 
+/// From now on the contacts file grows, if it is one that does.
+fn begin<R: Files<File = File>>(
+    rt: &R,
+    next: Option<NextContacts>,
+) -> Result<Option<ContactsFile>, OrderFault> {
+    match next {
+        Some(next) => Ok(Some(next.begin(rt)?)),
+        None => Ok(None),
+    }
+}
+
 /// Listens, and from then on the contacts file grows. If it cannot listen, that file is as it was.
 fn listen<R: Files<File = File> + Eprint + Net<Listener = TcpListener, Stream = TcpStream>>(
     rt: &R,
-    post: &Post,
+    order: &Service,
     next: Option<NextContacts>,
 ) -> Result<(TcpListener, Option<ContactsFile>), OrderFault> {
-    match (listener_of(rt, post), next) {
-        (Ok(listener), None) => Ok((listener, None)),
-        (Ok(listener), Some(next)) => Ok((listener, Some(next.begin(rt)?))),
-        (Err(fault), None) => Err(fault),
-        (Err(fault), Some(next)) => {
-            next.discard(rt);
+    match listener_of(rt, order) {
+        Ok(listener) => {
+            let growing = begin(rt, next)?;
+            Ok((listener, growing))
+        }
+        Err(fault) => {
+            if let Some(next) = next {
+                next.discard(rt);
+            }
             Err(fault)
         }
     }
 }
 
-/// The server of a setup, whose contacts are written to a file, if one is named, and to standard output. A file that cannot be written is
-/// refused before the server listens, and grows while it serves.
+/// What a service has done is kept and shown, and then what is shown of it: why connections were broken off, if any was.
+fn close<R: Print + Eprint + AllocGlobal, F: TextFile>(
+    rt: &R,
+    broken: Option<PumpFault<ServerFault>>,
+    serving: &Serving<'_, R>,
+    order: &mut Service,
+    patience: &Patience<'_, R>,
+    file: &mut F,
+) -> Result<u8, Fault> {
+    let result = close_service(
+        rt.alloc(),
+        serving.server.ledger(),
+        file,
+        &mut Writing::new(io::writer(rt)),
+    );
+    match result {
+        Ok(is_kept) => {
+            let unwritten = if is_kept { None } else { order.contacts.take() };
+            service_verdict(rt, broken, unwritten, patience)
+        }
+        Err(fault) => Err(Fault::Order(of_output(rt, fault))),
+    }
+}
+
+/// A server that is made listens and serves. A contacts file that cannot be written is refused before it listens, and grows while it serves.
+fn serve_made<
+    R: Files<File = File>
+        + Print
+        + Eprint
+        + Clock
+        + Net<Listener = TcpListener, Stream = TcpStream>
+        + AllocGlobal,
+    F: TextFile,
+>(
+    serving: &mut Serving<'_, R>,
+    order: &mut Service,
+    talk: &RefCell<Talk<'_, R>>,
+    patience: &Patience<'_, R>,
+    file: &mut F,
+) -> Result<u8, Fault> {
+    let rt = serving.keeper.rt;
+    let next = next_contacts(rt, order.contacts.as_deref())?;
+    let (listener, growing) = listen(rt, order, next)?;
+    serving.keeper.file = growing;
+    let broken = serve_connections(&listener, serving, order, talk, patience);
+    let done = close(rt, broken, serving, order, patience, file);
+    drop(listener);
+    done
+}
+
+/// The server of a setup, whose contacts are written to a file, and to standard output.
+fn serve_file<
+    R: Files<File = File>
+        + Print
+        + Eprint
+        + Clock
+        + Net<Listener = TcpListener, Stream = TcpStream>
+        + AllocGlobal,
+    F: TextFile,
+>(
+    rt: &R,
+    setup: Setup,
+    order: &mut Service,
+    (talk, patience): (&RefCell<Talk<'_, R>>, &Patience<'_, R>),
+    file: &mut F,
+) -> Result<u8, Fault> {
+    let machine = Simulated::new(rt.alloc(), &setup)?;
+    let server = Server::new(rt.alloc(), setup)?;
+    let mut serving = Serving {
+        server,
+        machine,
+        keeper: Keeper { rt, file: None },
+    };
+    let done = serve_made(&mut serving, order, talk, patience, file);
+    drop(serving);
+    done
+}
+
+/// The server of a setup, whose contacts are written to a file, if one is named, and to standard output.
 fn serve_setup<
     R: Files<File = File>
         + Print
@@ -250,36 +325,50 @@ fn serve_setup<
 >(
     rt: &R,
     setup: Setup,
-    post: Post,
-    log: Option<Log>,
-    patience: &Patience<'_, R>,
+    order: &mut Service,
+    shown: (&RefCell<Talk<'_, R>>, &Patience<'_, R>),
 ) -> Result<u8, Fault> {
-    let mut file = NamedFile::new(rt, post.contacts.as_deref())?;
-    let machine = Simulated::new(rt.alloc(), &setup)?;
-    let server = Server::new(rt.alloc(), setup)?;
-    let next = next_contacts(rt, post.contacts.as_deref())?;
-    let (listener, growing) = listen(rt, &post, next)?;
-    let mut serving = Serving {
-        server,
-        machine,
-        keeper: Keeper { rt, file: growing },
-    };
-    let talk = RefCell::new(Talk::new(rt, post.trace, log));
-    let broken = serve_connections(&listener, &mut serving, &post, &talk, patience);
-    let result = close_service(
-        rt.alloc(),
-        serving.server.ledger(),
-        &mut file,
-        &mut Writing::new(io::writer(rt)),
-    );
+    let mut file = NamedFile::new(rt, order.contacts.as_deref())?;
+    let done = serve_file(rt, setup, order, shown, &mut file);
     drop(file);
-    match result {
-        Ok(is_kept) => {
-            let unwritten = if is_kept { None } else { post.contacts };
-            service_verdict(rt, broken, unwritten, patience)
+    done
+}
+
+/// Reads the setup of a service.
+fn setup_of<R: Files + Input + AllocGlobal>(rt: &R, order: &mut Service) -> Result<Setup, Fault> {
+    let name = std::mem::replace(&mut order.setup, String::new(rt.alloc()));
+    let mut source = Sources::new(rt, order.explain).file(name);
+    let read = read_setup(rt.alloc(), &mut source);
+    let file = source.into_file();
+    match read {
+        Ok(setup) => Ok(setup),
+        Err(fault) => {
+            let mut files = InputFiles::unnamed(rt.alloc());
+            files.setup = file;
+            Err(refused(rt.alloc(), fault, files, order.explain))
         }
-        Err(fault) => Err(Fault::Order(of_output(rt, fault))),
     }
+}
+
+/// Carries out a service: its exit status.
+fn serve_order<
+    R: Files<File = File>
+        + Input
+        + Print
+        + Eprint
+        + Clock
+        + Net<Listener = TcpListener, Stream = TcpStream>
+        + AllocGlobal,
+>(rt: &R, order: &mut Service) -> Result<u8, Fault> {
+    let timeout = seconds_of("timeout", order.timeout.take())?;
+    let setup = setup_of(rt, order)?;
+    let log = Log::named(rt, order.log.take());
+    let talk = RefCell::new(Talk::new(rt, order.trace, log));
+    let patience = Patience::new(rt, timeout, order.stop.take());
+    let done = serve_setup(rt, setup, order, (&talk, &patience));
+    drop(talk);
+    drop(patience);
+    done
 }
 
 /// The order `serve`: its exit status.
@@ -291,27 +380,8 @@ pub fn serve<
         + Clock
         + Net<Listener = TcpListener, Stream = TcpStream>
         + AllocGlobal,
->(rt: &R, order: Service) -> Result<u8, Fault> {
-    let timeout = seconds_of("timeout", order.timeout)?;
-    let mut source = Sources::new(rt, order.explain).file(order.setup);
-    let setup = match read_setup(rt.alloc(), &mut source) {
-        Ok(setup) => setup,
-        Err(fault) => {
-            let mut files = InputFiles::unnamed(rt.alloc());
-            files.setup = source.into_file();
-            return Err(refused(rt.alloc(), fault, files, order.explain));
-        }
-    };
-    drop(source);
-    let log = Log::named(rt, order.log);
-    let post = Post {
-        listen: order.listen,
-        port: order.port,
-        connections: order.connections,
-        progress: order.progress,
-        trace: order.trace,
-        contacts: order.contacts,
-    };
-    let patience = Patience::new(rt, timeout, order.stop);
-    serve_setup(rt, setup, post, log, &patience)
+>(rt: &R, mut order: Service) -> Result<u8, Fault> {
+    let done = serve_order(rt, &mut order);
+    drop(order);
+    done
 }

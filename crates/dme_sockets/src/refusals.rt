@@ -1,9 +1,9 @@
 // What is reported of the errors of a server: the command that each is about, with its line in the program, its feature and its touch, and
 // the error's text.
 
-use crate::keeping::touches_of;
 use client_core::Client;
 use dme_line::{Kind, Tag};
+use dmis_program::Wanted;
 use program_review::{TaskLine, command_lines};
 use session_telling::{Dialogue, Report, Sent, line_of, place_of, visible};
 use std::alloc::{AllocError, Global};
@@ -18,6 +18,15 @@ pub struct Refusals {
     lines: Vec<Option<u64>>,
     /// The errors that were reported since they were taken last, each from its tag on.
     errors: Vec<Vec<u8>>,
+}
+
+/// How many touches these features have.
+pub fn touches_of(wanted: &[Wanted]) -> usize {
+    let mut count: usize = 0;
+    for feature in wanted {
+        count = count.saturating_add(feature.touches.as_slice().len());
+    }
+    count
 }
 
 /// The text of an error from its tag on.

@@ -2,18 +2,15 @@
 
 ghost use Rattle.std.specs.Prelude.{None};
 
-use crate::explaining::text_of;
-use crate::faults::Fault;
-use crate::files::Sources;
-use crate::growing_files::{FeaturesFile, LockedFile, ReportedContacts};
+use crate::growing_files::{FeaturesFile, ReportedContacts, replace_whole};
 use crate::keeping::tell_kept;
 use crate::progress::Progress;
-use crate::talking::Talk;
-use crate::text_files::{NamedFile, is_whole};
 use byte_ports::{PullFault, pull_all};
 use client_core::Client;
 use contact_ledger::{Feature, FeatureLedger};
-use dme_orders::{OrderFault, TextFile};
+use dme_files::{Fault, LockedFile, Sources, is_whole, text_of};
+use dme_orders::OrderFault;
+use dme_sockets::Talk;
 use dmis_program::Program;
 use link_world::Watcher;
 use record_keeping::{Beginning, RecordRefusal, Recorder, begin_record};
@@ -158,47 +155,83 @@ fn refused_record(
     Fault::ExplainedRecord(refusal, note)
 }
 
-/// Reads and opens the record of a run of a program. It is refused, and left as it is, if it is damaged, or is of another part or program.
-/// Features of a file that it does not give back are `NotOurs`: the run would put others in their place.
-pub fn open_record<R: Files<File = File> + Input + Eprint + AllocGlobal>(
+/// How a run continues from a record's text. It is refused if it is damaged, or is of another part or program. Features of a file that it
+/// does not give back are `NotOurs`: the run would put others in their place.
+fn beginning_of(
+    alloc: Global,
+    text: &[u8],
+    words: &RecordWords,
+    program: &Program,
+    features: &FeatureLedger,
+) -> Result<Beginning, Fault> {
+    let part = words.part.as_ref().map(|part| part.as_bytes());
+    match begin_record(alloc, text, program, part) {
+        Ok(beginning) => {
+            if are_first(features.list(), beginning.features.list()) {
+                Ok(beginning)
+            } else {
+                Err(Fault::Order(OrderFault::NotOurs))
+            }
+        }
+        Err(refusal) => Err(refused_record(alloc, refusal, words, text, program)),
+    }
+}
+
+/// Opens the file of a record of that many bytes, and gives it the text that a run continues from; none if that is not possible.
+fn locked_record<R: Files<File = File>>(
     rt: &R,
-    sources: &mut Sources<'_, R>,
-    words: RecordWords,
+    name: &str,
+    length: usize,
+    beginning: &Beginning,
+) -> Option<LockedFile> {
+    let mut file = LockedFile::open(rt, name, length).ok()?;
+    match file.begin(beginning.text.as_slice(), beginning.held, length) {
+        Ok(()) => Some(file),
+        Err(_) => None,
+    }
+}
+
+/// Opens the record whose text was read, and reports what it gives back.
+fn open_text<R: Files<File = File> + Eprint + AllocGlobal>(
+    rt: &R,
+    text: &[u8],
+    words: &mut RecordWords,
     program: &Program,
     features: &FeatureLedger,
 ) -> Result<OpenRecord, Fault> {
-    let text = read_whole(rt, sources, &words)?;
-    let part = words.part.as_ref().map(|part| part.as_bytes());
-    let beginning = match begin_record(rt.alloc(), text.as_slice(), program, part) {
-        Ok(beginning) => beginning,
-        Err(refusal) => {
-            return Err(refused_record(rt.alloc(), refusal, &words, text.as_slice(), program));
-        }
+    let beginning = beginning_of(rt.alloc(), text, words, program, features)?;
+    let opened = locked_record(rt, words.name.as_str(), text.len(), &beginning);
+    let name = std::mem::replace(&mut words.name, String::new(rt.alloc()));
+    let Some(file) = opened else {
+        return Err(Fault::Order(OrderFault::CannotWrite(name)));
     };
-    if !are_first(features.list(), beginning.features.list()) {
-        return Err(Fault::Order(OrderFault::NotOurs));
-    }
-    let length = text.len();
-    let Ok(mut file) = LockedFile::open(rt, words.name.as_str(), length) else {
-        return Err(Fault::Order(OrderFault::CannotWrite(words.name)));
-    };
-    if file
-        .begin(beginning.text.as_slice(), beginning.held, length)
-        .is_err()
-    {
-        return Err(Fault::Order(OrderFault::CannotWrite(words.name)));
-    }
     tell_kept(
         rt,
-        words.name.as_str(),
+        name.as_str(),
         beginning.features.list(),
         program.features(),
     );
     Ok(OpenRecord {
-        name: words.name,
+        name,
         beginning,
         file,
     })
+}
+
+/// Reads and opens the record of a run of a program. It is refused, and left as it is, if it is damaged, or is of another part or program,
+/// or does not give back these features.
+pub fn open_record<R: Files<File = File> + Input + Eprint + AllocGlobal>(
+    rt: &R,
+    sources: &mut Sources<'_, R>,
+    mut words: RecordWords,
+    program: &Program,
+    features: &FeatureLedger,
+) -> Result<OpenRecord, Fault> {
+    let text = read_whole(rt, sources, &words)?;
+    let opened = open_text(rt, text.as_slice(), &mut words, program, features);
+    drop(text);
+    drop(words);
+    opened
 }
 
 /// Who follows a run: reports its progress, and keeps its record, its features file and the contacts that its server reports.
@@ -273,10 +306,10 @@ impl<'a, 'b, R: Eprint + AllocGlobal> Follower<'a, 'b, R> {
 }
 
 /// Ends a record: its name if its file has failed, or is gone or cut, and cannot be replaced by the whole text. Fails only if out of memory.
-fn finish_record<R: Files + AllocGlobal>(
+fn end_record<R: Files + AllocGlobal>(
     rt: &R,
-    name: String,
-    recorder: Recorder<LockedFile>,
+    name: &mut String,
+    recorder: &Recorder<LockedFile>,
 ) -> Result<Option<String>, OrderFault> {
     if !recorder.is_whole() {
         return Err(OrderFault::Memory);
@@ -284,31 +317,22 @@ fn finish_record<R: Files + AllocGlobal>(
     if !recorder.has_failed() && is_whole(rt, name.as_str(), recorder.text().len()) {
         return Ok(None);
     }
-    let mut file = NamedFile::new(rt, Some(name.as_str()))?;
-    let result = file.replace(recorder.text());
-    drop(file);
-    match result {
-        Ok(()) => Ok(None),
-        Err(_) => Ok(Some(name)),
+    if replace_whole(rt, name.as_str(), recorder.text())? {
+        return Ok(None);
     }
+    Ok(Some(std::mem::replace(name, String::new(rt.alloc()))))
 }
 
 impl<'a, 'b, R: Files + Eprint + AllocGlobal> Follower<'a, 'b, R> {
     /// Ends the record and the file of contacts, once the run has ended. A file that has failed is replaced by the whole text; the names of
     /// those for which that is not possible either. Fails only if out of memory: what was counted is not all written then.
-    pub fn finish(self) -> Result<(Option<String>, Option<String>), OrderFault> {
-        let Follower {
-            rt,
-            record,
-            contacts,
-            ..
-        } = self;
-        let record = match record {
-            Some((name, recorder)) => finish_record(rt, name, recorder)?,
+    pub fn end(&mut self) -> Result<(Option<String>, Option<String>), OrderFault> {
+        let record = match &mut self.record {
+            Some((name, recorder)) => end_record(self.rt, name, recorder)?,
             None => None,
         };
-        let contacts = match contacts {
-            Some(contacts) => contacts.finish(rt)?,
+        let contacts = match &mut self.contacts {
+            Some(contacts) => contacts.end(self.rt)?,
             None => None,
         };
         Ok((record, contacts))

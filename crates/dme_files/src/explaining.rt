@@ -1,7 +1,9 @@
 // What is shown for an order whose files are refused.
 
 use crate::faults::Fault;
-use dme_orders::{FilesFault, InputFiles, audit_notes, other_program_notes, place_of, shown_fault};
+use dme_orders::{
+    FilesFault, InputFiles, OrderFault, audit_notes, other_program_notes, place_of, shown_fault,
+};
 use std::alloc::{AllocError, Global};
 
 /// Bytes as text; nothing if memory ran out for them.
@@ -38,4 +40,9 @@ pub fn refused(alloc: Global, fault: FilesFault, files: InputFiles, is_explained
     }
     let place = place(alloc, &fault, &files);
     Fault::Explained(shown_fault(fault, files), place)
+}
+
+/// What is shown for a fault of no file.
+pub fn of_output<R: AllocGlobal>(rt: &R, fault: FilesFault) -> OrderFault {
+    shown_fault(fault, InputFiles::unnamed(rt.alloc()))
 }

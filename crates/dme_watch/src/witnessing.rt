@@ -1,9 +1,7 @@
 // The order `ledger`, on files and standard output.
 
-use crate::connecting::of_output;
-use crate::faults::Fault;
-use crate::files::{NamedSource, Sources};
 use byte_ports::{Failed, PullFault, Writing, pull_all, push_all};
+use dme_files::{Fault, NamedSource, Sources, of_output};
 use dme_orders::{FilesFault, OrderFault};
 use dme_words::Ledger;
 use line_framing::{Lines, LinesFault};

@@ -2,13 +2,12 @@
 
 ghost use Rattle.std.specs.Prelude.{◌≤◌, length, IfOk, IfSome};
 
-use crate::calling::{Called, call_server};
-use crate::connecting::no_connection;
-use crate::faults::Fault;
-use crate::growing_files::{NextTold, ToldFile};
-use crate::talking::{Log, Side, Talk};
-use crate::waiting::{LOOK_MS, Patience, seconds_of};
+use crate::told_file::{NextTold, ToldFile};
+use dme_files::Fault;
 use dme_orders::OrderFault;
+use dme_sockets::{
+    Called, LOOK_MS, Log, Patience, Side, Talk, call_server, no_connection, seconds_of,
+};
 use dme_words::Watch;
 use mio::net::TcpStream as Socket;
 use mio::{Events, Interest, Poll, Token};
@@ -38,7 +37,7 @@ enum Ended {
 
 impl From<AllocError> for Ended {
     ghost use Rattle.std.specs.Prelude.{◌≡◌};
-    ghost use Rattle.dme_program.specs.declared.watching.Ended.TheVariants as ended;
+    ghost use Rattle.dme_watch.specs.declared.watching.Ended.TheVariants as ended;
 
     ghost from_gives = { λ _ e. e ≡ ended.Memory };
 
@@ -49,7 +48,7 @@ impl From<AllocError> for Ended {
 
 impl From<io::Error> for Ended {
     ghost use Rattle.std.specs.Prelude.{◌≡◌};
-    ghost use Rattle.dme_program.specs.declared.watching.Ended.TheVariants as ended;
+    ghost use Rattle.dme_watch.specs.declared.watching.Ended.TheVariants as ended;
 
     ghost from_gives = { λ error e. e ≡ ended.Broken error };
 

@@ -1,6 +1,5 @@
 // A server is called, for as long as that is allowed.
 
-use crate::connecting::no_connection;
 use crate::waiting::{LOOK_MS, Patience};
 use dme_orders::OrderFault;
 use std::io::{self, Error, ErrorKind};
@@ -15,6 +14,24 @@ pub enum Called {
     Connected(TcpStream),
     /// The stop file is there.
     Stopped,
+}
+
+/// Why a connection is not made, as a line.
+fn cause(kind: ErrorKind) -> &'static str {
+    match kind {
+        ErrorKind::ConnectionRefused => "connection refused\n",
+        ErrorKind::ConnectionReset => "connection reset\n",
+        ErrorKind::AddrInUse => "port in use\n",
+        ErrorKind::TimedOut => "connection timed out\n",
+        ErrorKind::HostUnreachable | ErrorKind::NetworkUnreachable => "host unreachable\n",
+        ErrorKind::PermissionDenied => "permission denied\n",
+        _ => "no connection\n",
+    }
+}
+
+/// What is shown for a connection that is not made, with its cause if more is asked for.
+pub fn no_connection(error: &io::Error, is_told: bool) -> OrderFault {
+    OrderFault::ConnectionFailed(if is_told { cause(error.kind()) } else { "" })
 }
 
 /// How long an attempt may take if a stop file is looked for between two, in milliseconds.

@@ -1,69 +1,148 @@
 // What is printed on standard error, and the status that goes with it.
 
 ghost use Rattle.std.specs.Prelude.{◌≡◌, ◌≢◌, ◌↔◌};
-ghost use Rattle.dme_program.specs.Printed.{exit_status, short};
+ghost use Rattle.dme_files.specs.Printed.{exit_status, short};
 
 use clap::Error as WordsError;
 use dme_orders::OrderFault;
 use dme_words::{Misfit, WordsFault};
 use record_keeping::RecordRefusal;
 use std::alloc::AllocError;
+use std::fmt;
 use std::io::ErrorKind;
-use thiserror::Error;
+
+/// The forms of what was measured, as `clap` would list them.
+const FORMS: &str = "\n  [possible values: csv, json, svg, features, contacts]";
+
+/// Likewise, of a review's findings.
+const FINDING_FORMS: &str = "\n  [possible values: json]";
 
 /// Why the program ends with another status than 0.
-#[derive(Debug, Drop, Error)]
+#[derive(Drop)]
 pub enum Fault {
     /// A bad command line or a call for help: `clap`'s own text.
-    #[error("{0}")]
     Words(WordsError),
     /// A word that is not UTF-8.
-    #[error("error: invalid UTF-8 was detected in one or more arguments\n\nFor more information, try '--help'.\n")]
     NotUtf8,
     /// A code that no refusal has.
-    #[error("error: invalid value '{0}' for '<CODE>': no refusal has this code\n\nFor more information, try '--help'.\n")]
     NoCode(String),
     /// A word that names no form.
-    #[error("error: invalid value '{0}' for '--as <FORM>'\n  [possible values: csv, json, svg, features, contacts]\n\nFor more information, try '--help'.\n")]
     NoForm(String),
     /// Likewise, of a review.
-    #[error("error: invalid value '{0}' for '--as <FORM>'\n  [possible values: json]\n\nFor more information, try '--help'.\n")]
     NoFindingForm(String),
     /// Options that do not go together.
-    #[error("{0}")]
     Misfits(Misfit),
     /// A text that may not be a part.
-    #[error("error: invalid value '{0}' for '--part <TEXT>': 1 to 64 printable bytes\n\nFor more information, try '--help'.\n")]
     NoPart(String),
     /// A part without a record.
-    #[error("error: the argument '--part <TEXT>' requires '--record <FILE>'\n\nFor more information, try '--help'.\n")]
     PartAlone,
     /// The same file for features and for a record.
-    #[error("error: '--features' and '--record' name one file, '{0}'\n\nFor more information, try '--help'.\n")]
     OneFile(String),
     /// A number of seconds that an option does not take.
-    #[error("error: invalid value '{1}' for '--{0} <SECONDS>': a number from 1 to 86400\n\nFor more information, try '--help'.\n")]
     NoSeconds(&'static str, String),
     /// A run that is not confirmed.
-    #[error("dme: not confirmed, nothing has moved\n")]
     NotConfirmed,
     /// A record that the run may not continue; never because memory ran out.
-    #[error("dme: {0} in record\n")]
     Record(RecordRefusal),
     /// Likewise, and then what is wrong with the record.
-    #[error("dme: {0} in record\n{1}")]
     ExplainedRecord(RecordRefusal, String),
     /// An order that was not carried out.
-    #[error("{0}")]
     Order(OrderFault),
     /// An order that was not carried out, and then where its file is refused and what is wrong there.
-    #[error("{0}{1}")]
     Explained(OrderFault, String),
+}
+
+/// Writes why a command line is refused, as `clap` writes it.
+fn write_refusal<W: fmt::Write>(f: &mut fmt::Formatter<W>, why: &str) -> fmt::Result {
+    write!(f, "error: {why}\n\nFor more information, try '--help'.\n")
+}
+
+/// Likewise, for a value that an option does not take.
+fn write_value<W: fmt::Write>(
+    f: &mut fmt::Formatter<W>,
+    value: &str,
+    option: &str,
+    why: &str,
+) -> fmt::Result {
+    write!(f, "error: invalid value '{value}' for '{option}'")?;
+    write!(f, "{why}\n\nFor more information, try '--help'.\n")
+}
+
+/// Likewise, for a number of seconds.
+fn write_seconds<W: fmt::Write>(
+    f: &mut fmt::Formatter<W>,
+    option: &str,
+    value: &str,
+) -> fmt::Result {
+    write!(
+        f,
+        "error: invalid value '{value}' for '--{option} <SECONDS>'"
+    )?;
+    write!(
+        f,
+        ": a number from 1 to 86400\n\nFor more information, try '--help'.\n"
+    )
+}
+
+/// Likewise, for features and a record that are one file.
+fn write_one_file<W: fmt::Write>(f: &mut fmt::Formatter<W>, name: &str) -> fmt::Result {
+    write!(
+        f,
+        "error: '--features' and '--record' name one file, '{name}'"
+    )?;
+    write!(f, "\n\nFor more information, try '--help'.\n")
+}
+
+/// Writes what is shown for a record.
+fn write_record<W: fmt::Write>(
+    f: &mut fmt::Formatter<W>,
+    refusal: &RecordRefusal,
+    note: &str,
+) -> fmt::Result {
+    write!(f, "dme: {refusal} in record\n{note}")
+}
+
+/// Writes what is shown for an order, and then a text.
+fn write_order<W: fmt::Write>(
+    f: &mut fmt::Formatter<W>,
+    cause: &OrderFault,
+    place: &str,
+) -> fmt::Result {
+    write!(f, "{cause}{place}")
+}
+
+impl fmt::Display for Fault {
+    fn fmt<W: fmt::Write>(&self, f: &mut fmt::Formatter<W>) -> fmt::Result {
+        match self {
+            Fault::Words(error) => write!(f, "{error}"),
+            Fault::NotUtf8 => {
+                write_refusal(f, "invalid UTF-8 was detected in one or more arguments")
+            }
+            Fault::NoCode(code) => write_value(f, code, "<CODE>", ": no refusal has this code"),
+            Fault::NoForm(word) => write_value(f, word, "--as <FORM>", FORMS),
+            Fault::NoFindingForm(word) => write_value(f, word, "--as <FORM>", FINDING_FORMS),
+            Fault::Misfits(why) => write!(f, "{why}"),
+            Fault::NoPart(part) => {
+                write_value(f, part, "--part <TEXT>", ": 1 to 64 printable bytes")
+            }
+            Fault::PartAlone => write_refusal(
+                f,
+                "the argument '--part <TEXT>' requires '--record <FILE>'",
+            ),
+            Fault::OneFile(name) => write_one_file(f, name),
+            Fault::NoSeconds(option, text) => write_seconds(f, option, text),
+            Fault::NotConfirmed => write!(f, "dme: not confirmed, nothing has moved\n"),
+            Fault::Record(refusal) => write_record(f, refusal, ""),
+            Fault::ExplainedRecord(refusal, note) => write_record(f, refusal, note),
+            Fault::Order(cause) => write_order(f, cause, ""),
+            Fault::Explained(cause, place) => write_order(f, cause, place),
+        }
+    }
 }
 
 impl From<WordsFault> for Fault {
     ghost use Rattle.std.specs.Prelude.{◌≡◌};
-    ghost use Rattle.dme_program.specs.Printed.{words_shown};
+    ghost use Rattle.dme_files.specs.Printed.{words_shown};
 
     ghost from_gives = { λ fault e. e ≡ words_shown fault };
 
@@ -80,7 +159,7 @@ impl From<WordsFault> for Fault {
 
 impl From<AllocError> for Fault {
     ghost use Rattle.std.specs.Prelude.{◌≡◌};
-    ghost use Rattle.dme_program.specs.Printed.{short};
+    ghost use Rattle.dme_files.specs.Printed.{short};
 
     ghost from_gives = { λ _ e. e ≡ short };
 
@@ -91,7 +170,7 @@ impl From<AllocError> for Fault {
 
 impl From<RecordRefusal> for Fault {
     ghost use Rattle.std.specs.Prelude.{◌≡◌};
-    ghost use Rattle.dme_program.specs.Printed.{record_shown};
+    ghost use Rattle.dme_files.specs.Printed.{record_shown};
 
     ghost from_gives = { λ refusal e. e ≡ record_shown refusal };
 
@@ -105,7 +184,7 @@ impl From<RecordRefusal> for Fault {
 
 impl From<OrderFault> for Fault {
     ghost use Rattle.std.specs.Prelude.{◌≡◌};
-    ghost use Rattle.dme_program.specs.declared.faults.Fault.TheVariants as fault;
+    ghost use Rattle.dme_files.specs.declared.faults.Fault.TheVariants as fault;
 
     ghost from_gives = { λ cause e. e ≡ fault.Order cause };
 

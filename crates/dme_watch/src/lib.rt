@@ -1,0 +1,13 @@
+//! The witness of a server (this profile): `dme watch`, a relay that writes what the server told, and `dme ledger`, which reads that from two
+//! recordings.
+//!
+//! - `watching`: the relay; `told_file`: the file that it writes, which grows
+//! - `witnessing`: what two recordings report
+#![tactic(auto)]
+
+mod told_file;
+mod watching;
+mod witnessing;
+
+pub use watching::watch;
+pub use witnessing::ledger;
