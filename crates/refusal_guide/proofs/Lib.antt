@@ -1,3 +1,5 @@
 pub mod TopicLemmas
+pub mod Feeds
 pub mod LineSteps
 pub mod PlaceLemmas
+pub mod Searches

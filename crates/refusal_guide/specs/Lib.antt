@@ -1,5 +1,9 @@
 pub mod Titles
 pub mod Pages
+pub mod Windows
+pub mod Words
+pub mod Spots
+pub mod Sentences
 pub mod Places
 pub mod Lengths
 pub mod Strangers

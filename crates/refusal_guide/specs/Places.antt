@@ -1,5 +1,5 @@
 -- Where a text is refused, as it is shown (this profile).
-use Rattle.std.specs.Prelude.{◌≡◌, ℕ, ◌+◌, ◌-◌, ◌≤◌, List, [], ◌∷◌, ◌++◌, length, take, drop, codes, decimal, Option, Some, None, nat_le, nat_lt}
+use Rattle.std.specs.Prelude.{◌≡◌, ℕ, zero, suc, ◌+◌, ◌-◌, ◌≤◌, List, [], ◌∷◌, ◌++◌, length, take, drop, codes, decimal, Option, Some, None, nat_le, nat_lt}
 use Rattle.std.specs.Prelude.{◌==◌, min, if◌then◌else◌}
 use Rattle.std.specs.List.{flat_map}
 use Rattle.std.specs.Str.Lines.{lines}
@@ -32,6 +32,16 @@ number_of (Record recorded.Memory) = None
 -- the lines of a text from number n on, counted from 1; from the last one on if it has fewer
 abbrev pub lines_from : ℕ → List ℕ → List (List ℕ)
 lines_from n bytes = drop (min (n - 1) (length (lines bytes) - 1)) (lines bytes)
+
+-- what follows n line feeds; LF is 10
+abbrev pub after_feeds : ℕ → List ℕ → List ℕ
+after_feeds zero bytes = bytes
+after_feeds (suc n) [] = []
+after_feeds (suc n) (c ∷ cs) = if c == 10 then after_feeds n cs else after_feeds (suc n) cs
+
+-- the bytes of a text from line n on; from the last one on if it has fewer
+abbrev pub bytes_from : ℕ → List ℕ → List ℕ
+bytes_from n bytes = after_feeds (min (n - 1) (length (lines bytes) - 1)) bytes
 
 -- the first of some lines; empty if there is none
 abbrev pub first_of : List (List ℕ) → List ℕ

@@ -1,6 +1,8 @@
 // What is above a statement that is refused.
 
-ghost use Rattle.std.specs.Prelude.{◌≡◌, ◌∷◌, IfOk, IfSome};
+ghost use Rattle.std.specs.Prelude.{◌≡◌, ◌∷◌, IfOk, IfSome, None};
+ghost use Rattle.std.specs.List.{last_or};
+ghost use Rattle.dmis_text.specs.Reading.{text_reading};
 
 use crate::lines::Place;
 use crate::statements::next_statement;
@@ -94,7 +96,9 @@ pub(crate) fn open_line(alloc: Global, place: Place) -> Result<Option<u64>, Allo
 }
 
 /// The last of the statements that can be read.
-fn last_of<'a>(statements: &mut Statements<'a>) -> Result<Option<Statement<'a>>, AllocError> {
+fn last_of<'a>(statements: &mut Statements<'a>) -> Result<Option<Statement<'a>>, AllocError>
+    ensures { IfOk result (λ last. last ≡ last_or None statements.old.left) }
+{
     let mut last = None;
     while let Some(statement) = next_statement(statements)? {
         last = Some(statement);
@@ -106,6 +110,8 @@ fn last_of<'a>(statements: &mut Statements<'a>) -> Result<Option<Statement<'a>>,
 pub(crate) fn last_statement(
     alloc: Global,
     text: &[u8],
-) -> Result<Option<Statement<'_>>, AllocError> {
+) -> Result<Option<Statement<'_>>, AllocError>
+    ensures { IfOk result (λ last. last ≡ last_or None (text_reading text.now).statements) }
+{
     last_of(&mut Statements::new(alloc, text))
 }
