@@ -6,7 +6,7 @@ use Rattle.std.proofs.lemmas.Bool.{ltb-false}
 use Rattle.std.proofs.lemmas.Option.{cond_some}
 use Rattle.std.proofs.lemmas.List.{drop_all}
 use Rattle.dmis_text.proofs.LineEnds.{lines_at, lines_one}
-use Rattle.refusal_guide.specs.Places.{after_feeds}
+use Rattle.refusal_guide.specs.Lines.{after_feeds}
 
 more_step : (n c : ℕ) (cs : List ℕ) (b : Bool) → eqb c 10 ≡ b → after_feeds (suc n) cs ≡ after_feeds 1 (after_feeds n cs)
     → after_feeds (suc (suc n)) cs ≡ after_feeds 1 (after_feeds (suc n) cs)

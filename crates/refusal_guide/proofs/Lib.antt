@@ -3,3 +3,4 @@ pub mod Feeds
 pub mod LineSteps
 pub mod PlaceLemmas
 pub mod Searches
+pub mod BlockLemmas

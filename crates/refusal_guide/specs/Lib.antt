@@ -1,9 +1,14 @@
 pub mod Titles
 pub mod Pages
+pub mod Lines
 pub mod Windows
 pub mod Words
 pub mod Spots
+pub mod Blocks
 pub mod Sentences
+pub mod Reasons
+pub mod Passages
 pub mod Places
 pub mod Lengths
 pub mod Strangers
+pub mod Examples

@@ -7,6 +7,7 @@ use Rattle.dmis_text.specs.declared.elements.Statement.{Statement}
 use Rattle.dmis_program.specs.declared.faults.Refusal.{Refusal}
 use Rattle.dmis_program.specs.declared.faults.Refusal.TheVariants as refusal
 use Rattle.refusal_guide.specs.Lines.{first_of, bytes_from}
+use Rattle.refusal_guide.specs.declared.lines.Place.{Place}
 use Rattle.refusal_guide.specs.Words.{Said}
 use Rattle.refusal_guide.specs.Sentences as said
 
@@ -16,6 +17,10 @@ pub record Spot : Type 0 where
   pub rest : List ℕ
   pub number : ℕ
   pub above : ℕ
+
+-- how the code keeps it
+abbrev pub spot_at : Place → Spot
+spot_at place = record { text = place.text.now; rest = place.rest.now; number = place.number; above = place.above }
 
 -- line n of a text with that many lines above
 abbrev pub spot_of : List ℕ → ℕ → ℕ → Spot
@@ -35,8 +40,8 @@ IsOfStatement refusal.Unsupported p s o = o ≡ Some (said.unsupported_said p.re
 IsOfStatement refusal.BadArguments p s o = ⊤
 IsOfStatement (refusal.BadNumeral cause) p s o = ⊤
 IsOfStatement refusal.OutsideBlock p s o = o ≡ Some (said.outside_said p.rest s)
-IsOfStatement refusal.InsideBlock p s o = ⊤
-IsOfStatement refusal.TooFewPoints p s o = ⊤
+IsOfStatement refusal.InsideBlock p s o = o ≡ said.inside_block_said p.text p.rest p.number p.above s
+IsOfStatement refusal.TooFewPoints p s o = o ≡ said.too_few_points_said p.text p.rest p.number p.above s
 IsOfStatement refusal.UnknownFrame p s o = o ≡ said.frame_said_of p.rest s
 IsOfStatement refusal.NotMillimetres p s o = o ≡ said.millimetres_said p.rest s
 IsOfStatement refusal.NoProgMode p s o = o ≡ said.prog_mode_said p.rest s

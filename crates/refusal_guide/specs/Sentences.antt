@@ -1,13 +1,15 @@
 -- What is said of a statement for which a program is refused (this profile). `rest` are the bytes from its line on.
-use Rattle.std.specs.Prelude.{ℕ, zero, suc, ◌+◌, Bool, List, [], ◌∷◌, ◌++◌, length, codes, decimal, Option, Some, None, ◌||◌}
+use Rattle.std.specs.Prelude.{ℕ, ◌+◌, Bool, List, [], ◌∷◌, ◌++◌, length, codes, decimal, Option, Some, None, ◌||◌}
 use Rattle.std.specs.Prelude.{◌-◌, ◌==◌, if◌then◌else◌, slice_get, slice_index, slice_index_or, take, drop, nat_le}
 use Rattle.std.specs.List.{flat_map, last_or}
 use Rattle.std.specs.Option.{option_map}
 use Rattle.std.specs.Str.{bytes_eq}
 use Rattle.dmis_text.specs.declared.elements.Statement.{Statement}
 use Rattle.dmis_text.specs.Reading.{text_reading}
+use Rattle.dmis_program.specs.Parameters.{begins, before_close}
 use Rattle.session_telling.specs.Visible.{visible}
 use Rattle.refusal_guide.specs.Words.{Named, Said, between, naming, plain, said_of}
+use Rattle.refusal_guide.specs.Blocks.{in_64_bits, open_block}
 use Rattle.refusal_guide.specs.Spots.{word_spot, param_spot}
 
 -- it is not the first of a program
@@ -39,16 +41,19 @@ bad_byte_cause b = if nat_le 128 b then codes "is allowed only in texts and in c
 -- the byte after this many of its line
 abbrev pub column_said : ℕ → ℕ → Said
 column_said at b = record {
-  text = codes "The byte " ++ (flat_map visible (b ∷ []) ++ (codes " in column " ++ (decimal (at + 1) ++ (codes " " ++ bad_byte_cause b))));
+  text = codes "The byte " ++ (flat_map visible (b ∷ []) ++ (codes " in column " ++ (decimal (in_64_bits (at + 1)) ++ (codes " " ++ bad_byte_cause b))));
   at = at;
   len = 1;
 }
 
+-- why a minor word is not carried out
+abbrev pub minor_cause : List ℕ → List ℕ
+minor_cause word = if bytes_eq word (codes "RECALL") then codes " is not carried out: RECALL/D(name) selects a stored frame." else
+    codes " is not carried out: only CART coordinates are."
+
 -- a minor word that is not carried out
 abbrev pub minor_said : List ℕ → Statement → List ℕ → Said
-minor_said rest s minor = naming (between [] (word_spot rest s) (codes "/")) (param_spot rest s 0 minor)
-    (if bytes_eq s.word (codes "RECALL") then codes " is not carried out: RECALL/D(name) selects a stored frame." else
-    codes " is not carried out: only CART coordinates are.")
+minor_said rest s minor = naming (between [] (word_spot rest s) (codes "/")) (param_spot rest s 0 minor) (minor_cause s.word)
 
 -- a major word that is not
 abbrev pub major_said : List ℕ → Statement → Said
@@ -77,33 +82,38 @@ inside_said rest s line = naming [] (word_spot rest s) (codes " is inside the me
 
 -- a block that names this count has this many touches
 abbrev pub touches_text : ℕ → List ℕ → ℕ → List ℕ
-touches_text line wanted zero = codes "The program asks for automatic measuring: MEAS at line " ++ (decimal line ++ (codes " names " ++ (wanted
-    ++ codes " touches and its block has none, and only programmed touches are measured.")))
-touches_text line wanted (suc n) = codes "MEAS at line " ++ (decimal line ++ (codes " names " ++ (wanted ++ (codes " touches, and its block has "
-    ++ (decimal (suc n) ++ codes ".")))))
+touches_text line wanted touches = if touches == 0 then codes "The program asks for automatic measuring: MEAS at line " ++ (decimal line ++ (codes " names "
+    ++ (wanted ++ codes " touches and its block has none, and only programmed touches are measured."))) else
+    codes "MEAS at line " ++ (decimal line ++ (codes " names " ++ (wanted ++ (codes " touches, and its block has " ++ (decimal touches ++ codes ".")))))
 
 abbrev pub too_few_said : List ℕ → Statement → ℕ → List ℕ → ℕ → Said
 too_few_said rest s line wanted touches = said_of (touches_text line wanted touches) (word_spot rest s)
+
+-- likewise of the block that is open before line n of a text with that many lines above
+abbrev pub inside_block_said : List ℕ → List ℕ → ℕ → ℕ → Statement → Option Said
+inside_block_said text rest n above s = option_map (λ line. inside_said rest s (in_64_bits (line + above))) (option_map (λ b. b.line) (open_block text n))
+
+abbrev pub too_few_points_said : List ℕ → List ℕ → ℕ → ℕ → Statement → Option Said
+too_few_points_said text rest n above s = option_map (λ b. too_few_said rest s (in_64_bits (b.line + above)) b.wanted b.touches) (open_block text n)
 
 -- a frame is not stored
 abbrev pub frame_said : Named → Said
 frame_said name = naming (codes "No frame ") name (between (codes " is stored: --setup is missing, or its file has no line FRAME ") name (codes "."))
 
--- what is before a `)` at the end; ) is 41
-abbrev pub before_end : List ℕ → Option (List ℕ)
-before_end bytes = if slice_index bytes (length bytes - 1) == 41 then Some (take (length bytes - 1) bytes) else None
-
 -- what is between this prefix and a `)` at the end
-abbrev pub within_ends : List ℕ → List ℕ → Option (List ℕ)
-within_ends front bytes = if bytes_eq (take (length front) bytes) front then before_end (drop (length front) bytes) else None
+unfoldable pub within_ends : List ℕ → List ℕ → Option (List ℕ)
+within_ends front bytes = if begins front bytes then before_close (drop (length front) bytes) else None
 
--- the frame that the first parameter names
-abbrev pub frame_named : List ℕ → Statement → Option (List ℕ) → Option Said
-frame_named rest s None = None
-frame_named rest s (Some first) = option_map (λ name. frame_said (param_spot rest s 0 name)) (within_ends (codes "D(") first)
+-- the frame that a first parameter names
+abbrev pub frame_named : List ℕ → Statement → List ℕ → Option Said
+frame_named rest s first = option_map (λ name. frame_said (param_spot rest s 0 name)) (within_ends (codes "D(") first)
+
+abbrev pub frame_said_in : List ℕ → Statement → Option (List ℕ) → Option Said
+frame_said_in rest s None = None
+frame_said_in rest s (Some first) = frame_named rest s first
 
 abbrev pub frame_said_of : List ℕ → Statement → Option Said
-frame_said_of rest s = frame_named rest s (slice_get s.params 0)
+frame_said_of rest s = frame_said_in rest s (slice_get s.params 0)
 
 -- the first parameter, between two texts
 abbrev pub first_said : List ℕ → Statement → List ℕ → List ℕ → Option Said

@@ -26,6 +26,7 @@ pub(crate) fn count_before(params: &[Text]) -> usize
 }
 
 /// The bytes between this prefix and a `)` at the end.
+#[tactic(auto, unfolding(crate::specs::Sentences::within_ends))]
 pub(crate) fn within<'a>(front: &[u8], text: &'a [u8]) -> Option<&'a [u8]>
     ensures { option_map (λ inner. inner.now) result ≡ within_ends front.now text.now }
 {

@@ -4,7 +4,7 @@ ghost use Rattle.std.specs.Prelude.{◌≡◌, ◌==◌, ◌<◌, ◌≤◌, ◌
 ghost use Rattle.std.specs.List.{flat_map, position};
 ghost use Rattle.std.specs.Str.Lines.{lines};
 ghost use Rattle.refusal_guide.specs.Windows.{shown_start};
-ghost use Rattle.refusal_guide.specs.Places.{lines_from, bytes_from, after_feeds, first_of, visible_in_line, shown_front, shown_from};
+ghost use Rattle.refusal_guide.specs.Lines.{lines_from, bytes_from, after_feeds, first_of, visible_in_line, shown_front, shown_from};
 
 use dmis_text::cut_line;
 use session_telling::push_visible;

@@ -1,14 +1,16 @@
 // Why a program is refused, in a sentence.
 
-ghost use Rattle.std.specs.Prelude.{◌≡◌, ◌+◌, ◌^◌, ◌<◌, length, IfOk};
+ghost use Rattle.std.specs.Prelude.{◌≡◌, ◌+◌, ◌^◌, ◌<◌, length, IfOk, string_bytes};
 ghost use Rattle.std.specs.Option.{option_map};
 ghost use Rattle.std.specs.Str.Lines.{lines};
-ghost use Rattle.refusal_guide.specs.Places.{first_of};
+ghost use Rattle.refusal_guide.specs.Lines.{first_of};
 ghost use Rattle.refusal_guide.specs.Words.{named_by, said_by};
 ghost use Rattle.refusal_guide.specs.Sentences.{not_dmis_said, no_statement_said, ended_said, truncated_said, too_long_said, column_said};
-ghost use Rattle.refusal_guide.specs.Sentences.{minor_said, major_said, has_minor, unsupported_said, direction_said, zero_vector_said};
-ghost use Rattle.refusal_guide.specs.Sentences.{outside_said, inside_said, frame_said, frame_said_of, first_said, millimetres_said, prog_mode_said};
-ghost use Rattle.refusal_guide.specs.Sentences.{no_tool_said, too_large_said};
+ghost use Rattle.refusal_guide.specs.Sentences.{minor_cause, minor_said, major_said, has_minor, unsupported_said, direction_said, zero_vector_said};
+ghost use Rattle.refusal_guide.specs.Sentences.{outside_said, inside_said, frame_said, frame_named, frame_said_of, first_said, millimetres_said, prog_mode_said};
+ghost use Rattle.refusal_guide.specs.Reasons.{spot_at, IsOfStatement, IsOfLine, IsOfPlace, IsProgramReason};
+ghost use Rattle.refusal_guide.specs.Sentences.{no_tool_said, too_large_said, touches_text, inside_block_said, too_few_points_said};
+ghost use Rattle.refusal_guide.specs.Blocks.{in_64_bits};
 
 use crate::arguments::{argument_reason, count_before, within};
 use crate::bad_bytes::bad_byte;
@@ -93,7 +95,6 @@ fn too_long(alloc: Global, place: Place) -> Result<Reason, AllocError>
 
 /// That this byte is not allowed in this column.
 fn column_reason(alloc: Global, at: usize, byte: u8) -> Result<Reason, AllocError>
-    requires { at + 1 < 2 ^ 64 }
     ensures { IfOk result (λ reason. said_by reason ≡ column_said at byte) }
 {
     let column = at.saturating_add(1);
@@ -115,16 +116,23 @@ fn byte_reason(alloc: Global, place: Place) -> Result<Option<Reason>, AllocError
     }
 }
 
+/// Why a minor word is not carried out.
+fn minor_cause(found: Found) -> &'static str
+    ensures { result.now ≡ minor_cause found.entry.statement.now.word }
+{
+    if found.is(b"RECALL") {
+        " is not carried out: RECALL/D(name) selects a stored frame."
+    } else {
+        " is not carried out: only CART coordinates are."
+    }
+}
+
 /// What is not carried out: a major word with its minor word.
 fn unsupported_minor(alloc: Global, found: Found, minor: &[u8]) -> Result<Reason, AllocError>
     ensures { IfOk result (λ reason. said_by reason
         ≡ minor_said found.entry.rest.now found.entry.statement.now minor.now) }
 {
-    let behind = if found.is(b"RECALL") {
-        " is not carried out: RECALL/D(name) selects a stored frame."
-    } else {
-        " is not carried out: only CART coordinates are."
-    };
+    let behind = minor_cause(found);
     let major = found.word().between(alloc, "", "/")?;
     found.in_param(0, minor).reason(alloc, &major, behind)
 }
@@ -283,7 +291,11 @@ fn inside_reason(alloc: Global, found: Found, line: u64) -> Result<Reason, Alloc
 }
 
 /// Why a statement may not be inside a block.
-fn inside_block(alloc: Global, place: Place, found: Found) -> Result<Option<Reason>, AllocError> {
+fn inside_block(alloc: Global, place: Place, found: Found) -> Result<Option<Reason>, AllocError>
+    ensures { IfOk result (λ reason. option_map said_by reason
+        ≡ inside_block_said place.entry.text.now found.entry.rest.now
+        place.entry.number place.entry.above found.entry.statement.now) }
+{
     match open_line(alloc, place)? {
         Some(line) => {
             let line = line.saturating_add(place.above);
@@ -294,7 +306,10 @@ fn inside_block(alloc: Global, place: Place, found: Found) -> Result<Option<Reas
 }
 
 /// How many touches this block lacks, in a sentence, where that many lines come before the text.
-fn touches_sentence(alloc: Global, block: &Block, above: u64) -> Result<String, AllocError> {
+fn touches_sentence(alloc: Global, block: &Block, above: u64) -> Result<String, AllocError>
+    ensures { IfOk result (λ text. string_bytes text ≡ touches_text
+        (in_64_bits (block.now.line + above)) (string_bytes block.now.wanted) block.now.touches) }
+{
     let line = block.line.saturating_add(above);
     let wanted: &str = &block.wanted;
     let touches = block.touches;
@@ -307,7 +322,11 @@ fn touches_sentence(alloc: Global, block: &Block, above: u64) -> Result<String, 
 }
 
 /// How many touches a block lacks. If it has none, the program asks for automatic measuring.
-fn too_few(alloc: Global, place: Place, found: Found) -> Result<Option<Reason>, AllocError> {
+fn too_few(alloc: Global, place: Place, found: Found) -> Result<Option<Reason>, AllocError>
+    ensures { IfOk result (λ reason. option_map said_by reason
+        ≡ too_few_points_said place.entry.text.now found.entry.rest.now
+        place.entry.number place.entry.above found.entry.statement.now) }
+{
     let Some(block) = open_block(alloc, place)? else {
         return Ok(None);
     };
@@ -328,6 +347,17 @@ fn frame_reason(alloc: Global, name: Word) -> Result<Reason, AllocError>
     name.reason(alloc, "No frame ", &behind)
 }
 
+/// Which frame, of those that a first parameter can name, is not stored.
+fn frame_named(alloc: Global, found: Found, first: &[u8]) -> Result<Option<Reason>, AllocError>
+    ensures { IfOk result (λ reason. option_map said_by reason
+        ≡ frame_named found.entry.rest.now found.entry.statement.now first.now) }
+{
+    match within(b"D(", first) {
+        Some(name) => Ok(Some(frame_reason(alloc, found.in_param(0, name))?)),
+        None => Ok(None),
+    }
+}
+
 /// Which frame is not stored.
 fn unknown_frame(alloc: Global, found: Found) -> Result<Option<Reason>, AllocError>
     ensures { IfOk result (λ reason. option_map said_by reason
@@ -336,10 +366,7 @@ fn unknown_frame(alloc: Global, found: Found) -> Result<Option<Reason>, AllocErr
     let Some((first, _)) = found.statement.params.split_first() else {
         return Ok(None);
     };
-    match within(b"D(", first) {
-        Some(name) => Ok(Some(frame_reason(alloc, found.in_param(0, name))?)),
-        None => Ok(None),
-    }
+    frame_named(alloc, found, first)
 }
 
 /// Why the first parameter is not one of those allowed there, in a sentence that has it between these texts; none if there is none.
@@ -416,7 +443,11 @@ fn statement_reason(
     refusal: Refusal,
     place: Place,
     found: Found,
-) -> Result<Option<Reason>, AllocError> {
+) -> Result<Option<Reason>, AllocError>
+    requires rest { found.rest.now ≡ place.rest.now }
+    ensures { IfOk result (λ reason. IsOfStatement refusal (spot_at place.entry)
+        found.entry.statement.now (option_map said_by reason)) }
+{
     match refusal {
         Refusal::NotDmis => Ok(Some(not_dmis(alloc, found)?)),
         Refusal::Truncated => truncated(alloc, place),
@@ -438,11 +469,10 @@ fn statement_reason(
 }
 
 /// Likewise if no statement that can be read begins on the line.
-fn line_reason(
-    alloc: Global,
-    refusal: Refusal,
-    place: Place,
-) -> Result<Option<Reason>, AllocError> {
+fn line_reason(alloc: Global, refusal: Refusal, place: Place) -> Result<Option<Reason>, AllocError>
+    ensures { IfOk result (λ reason. IsOfLine refusal (spot_at place.entry)
+        (option_map said_by reason)) }
+{
     match refusal {
         Refusal::NotDmis => Ok(Some(no_statement(alloc)?)),
         Refusal::Truncated => truncated(alloc, place),
@@ -464,11 +494,10 @@ fn line_reason(
 }
 
 /// Why a program is refused in this place; none if no text in this place is refused for this.
-fn place_reason(
-    alloc: Global,
-    refusal: Refusal,
-    place: Place,
-) -> Result<Option<Reason>, AllocError> {
+fn place_reason(alloc: Global, refusal: Refusal, place: Place) -> Result<Option<Reason>, AllocError>
+    ensures { IfOk result (λ reason. IsOfPlace refusal (spot_at place.entry)
+        (option_map said_by reason)) }
+{
     match first_statement(alloc, place.rest)? {
         Some(statement) => {
             let found = Found {
@@ -486,7 +515,10 @@ pub(crate) fn program_reason(
     alloc: Global,
     refusal: Refusal,
     place: Place,
-) -> Result<Reason, AllocError> {
+) -> Result<Reason, AllocError>
+    ensures { IfOk result (λ reason. IsProgramReason refusal (spot_at place.entry)
+        (said_by reason)) }
+{
     let topic = Topic::of_refusal(refusal);
     Reason::or_topic(alloc, place_reason(alloc, refusal, place)?, topic)
 }
