@@ -4,3 +4,4 @@ pub mod LineSteps
 pub mod PlaceLemmas
 pub mod Searches
 pub mod BlockLemmas
+pub mod ReasonLemmas

@@ -6,6 +6,7 @@ pub mod Words
 pub mod Spots
 pub mod Blocks
 pub mod Sentences
+pub mod BadBytes
 pub mod Reasons
 pub mod Passages
 pub mod Places

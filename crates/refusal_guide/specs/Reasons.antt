@@ -9,6 +9,7 @@ use Rattle.dmis_program.specs.declared.faults.Refusal.TheVariants as refusal
 use Rattle.refusal_guide.specs.Lines.{first_of, bytes_from}
 use Rattle.refusal_guide.specs.declared.lines.Place.{Place}
 use Rattle.refusal_guide.specs.Words.{Said}
+use Rattle.refusal_guide.specs.BadBytes.{IsByteReason}
 use Rattle.refusal_guide.specs.Sentences as said
 
 -- what the sentences on a program are made of
@@ -35,7 +36,7 @@ abbrev pub IsOfStatement : Refusal → Spot → Statement → Option Said → Ty
 IsOfStatement refusal.NotDmis p s o = o ≡ Some (said.not_dmis_said p.rest s)
 IsOfStatement refusal.Truncated p s o = o ≡ said.truncated_said p.text
 IsOfStatement refusal.LineTooLong p s o = o ≡ Some (long_line p)
-IsOfStatement refusal.BadByte p s o = ⊤
+IsOfStatement refusal.BadByte p s o = IsByteReason p.text p.rest o
 IsOfStatement refusal.Unsupported p s o = o ≡ Some (said.unsupported_said p.rest s)
 IsOfStatement refusal.BadArguments p s o = ⊤
 IsOfStatement (refusal.BadNumeral cause) p s o = ⊤
@@ -54,7 +55,7 @@ abbrev pub IsOfLine : Refusal → Spot → Option Said → Type 0
 IsOfLine refusal.NotDmis p o = o ≡ Some said.no_statement_said
 IsOfLine refusal.Truncated p o = o ≡ said.truncated_said p.text
 IsOfLine refusal.LineTooLong p o = o ≡ Some (long_line p)
-IsOfLine refusal.BadByte p o = ⊤
+IsOfLine refusal.BadByte p o = IsByteReason p.text p.rest o
 IsOfLine refusal.Unsupported p o = o ≡ None
 IsOfLine refusal.BadArguments p o = o ≡ None
 IsOfLine (refusal.BadNumeral cause) p o = o ≡ None

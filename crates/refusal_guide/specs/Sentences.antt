@@ -1,4 +1,4 @@
--- What is said of a statement for which a program is refused (this profile). `rest` are the bytes from its line on.
+-- What is said about a statement for which a program is refused (this profile). `rest` are the bytes from its line on.
 use Rattle.std.specs.Prelude.{ℕ, ◌+◌, Bool, List, [], ◌∷◌, ◌++◌, length, codes, decimal, Option, Some, None, ◌||◌}
 use Rattle.std.specs.Prelude.{◌-◌, ◌==◌, if◌then◌else◌, slice_get, slice_index, slice_index_or, take, drop, nat_le}
 use Rattle.std.specs.List.{flat_map, last_or}
@@ -9,7 +9,7 @@ use Rattle.dmis_text.specs.Reading.{text_reading}
 use Rattle.dmis_program.specs.Parameters.{begins, before_close}
 use Rattle.session_telling.specs.Visible.{visible}
 use Rattle.refusal_guide.specs.Words.{Named, Said, between, naming, plain, said_of}
-use Rattle.refusal_guide.specs.Blocks.{in_64_bits, open_block}
+use Rattle.refusal_guide.specs.Blocks.{OpenBlock, in_64_bits, open_block}
 use Rattle.refusal_guide.specs.Spots.{word_spot, param_spot}
 
 -- it is not the first of a program
@@ -81,20 +81,28 @@ inside_said rest s line = naming [] (word_spot rest s) (codes " is inside the me
     ++ (decimal line ++ codes ": it has no ENDMES yet."))
 
 -- a block that names this count has this many touches
-abbrev pub touches_text : ℕ → List ℕ → ℕ → List ℕ
-touches_text line wanted touches = if touches == 0 then codes "The program asks for automatic measuring: MEAS at line " ++ (decimal line ++ (codes " names "
-    ++ (wanted ++ codes " touches and its block has none, and only programmed touches are measured."))) else
-    codes "MEAS at line " ++ (decimal line ++ (codes " names " ++ (wanted ++ (codes " touches, and its block has " ++ (decimal touches ++ codes ".")))))
+abbrev pub few_text : ℕ → List ℕ → ℕ → List ℕ
+few_text line wanted touches = codes "MEAS at line " ++ (decimal line ++ (codes " names " ++ (wanted ++ (codes " touches, and its block has "
+    ++ (decimal touches ++ codes ".")))))
 
-abbrev pub too_few_said : List ℕ → Statement → ℕ → List ℕ → ℕ → Said
-too_few_said rest s line wanted touches = said_of (touches_text line wanted touches) (word_spot rest s)
+-- or none at all
+abbrev pub automatic_text : ℕ → List ℕ → List ℕ
+automatic_text line wanted = codes "The program asks for automatic measuring: MEAS at line " ++ (decimal line ++ (codes " names " ++ (wanted
+    ++ codes " touches and its block has none, and only programmed touches are measured.")))
+
+abbrev pub touches_text : ℕ → List ℕ → ℕ → List ℕ
+touches_text line wanted touches = if touches == 0 then automatic_text line wanted else few_text line wanted touches
+
+-- likewise of an open block, where that many lines come before the text
+abbrev pub block_said : List ℕ → Statement → ℕ → OpenBlock → Said
+block_said rest s above b = said_of (touches_text (in_64_bits (b.line + above)) b.wanted b.touches) (word_spot rest s)
 
 -- likewise of the block that is open before line n of a text with that many lines above
 abbrev pub inside_block_said : List ℕ → List ℕ → ℕ → ℕ → Statement → Option Said
 inside_block_said text rest n above s = option_map (λ line. inside_said rest s (in_64_bits (line + above))) (option_map (λ b. b.line) (open_block text n))
 
 abbrev pub too_few_points_said : List ℕ → List ℕ → ℕ → ℕ → Statement → Option Said
-too_few_points_said text rest n above s = option_map (λ b. too_few_said rest s (in_64_bits (b.line + above)) b.wanted b.touches) (open_block text n)
+too_few_points_said text rest n above s = option_map (block_said rest s above) (open_block text n)
 
 -- a frame is not stored
 abbrev pub frame_said : Named → Said

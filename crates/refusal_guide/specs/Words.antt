@@ -1,4 +1,4 @@
--- The word that a sentence names, and where it is (this profile).
+-- The word that a sentence names, and its place (this profile).
 use Rattle.std.specs.Prelude.{ℕ, ◌+◌, ◌-◌, Bool, List, [], ◌∷◌, ◌++◌, length, take, drop, map, find, fold, codes, nat_le, Option, Some, None}
 use Rattle.std.specs.Prelude.{if◌then◌else◌, string_bytes}
 use Rattle.std.specs.List.{flat_map, range_with_len}

@@ -1,11 +1,12 @@
 // Examples: where words are, how lines are shown, and what is said.
 
-ghost use Rattle.std.specs.Prelude.{◌≡◌, [], ◌∷◌, ◌++◌, codes, replicate, Some, None};
+ghost use Rattle.std.specs.Prelude.{◌≡◌, [], ◌∷◌, ◌++◌, codes, decimal, replicate, Some, None, true, false};
 ghost use Rattle.refusal_guide.specs.Lines.{bytes_from, line_of, shown_from};
 ghost use Rattle.refusal_guide.specs.Windows.{shown_start};
 ghost use Rattle.refusal_guide.specs.Words.{first_place, word_in, shown_word, naming};
 ghost use Rattle.refusal_guide.specs.Spots.{word_spot, param_spot};
 ghost use Rattle.refusal_guide.specs.Blocks.{open_block};
+ghost use Rattle.refusal_guide.specs.BadBytes.{has_bad_byte, near, line_bytes};
 ghost use Rattle.refusal_guide.specs.Sentences as said;
 ghost use Rattle.refusal_guide.specs.Places.{place_text};
 ghost use Rattle.refusal_guide.specs.Examples.{going, labelled, ending, one_of_two};
@@ -83,17 +84,20 @@ pub fn refusals_have_their_sentences()
       len = 6;
     } }
     ensures ended { said.ended_said ending ≡ record {
-      text = codes "The file ends after this line without ENDFIL: its last statement is ENDMES at line 1.";
+      text = codes "The file ends after this line without ENDFIL: its last statement is ENDMES at line "
+          ++ (decimal 1 ++ codes ".");
       at = 0;
       len = 0;
     } }
     ensures control { said.column_said 4 7 ≡ record {
-      text = codes "The byte \\x07 in column 5 is a control character, and only tabs are allowed.";
+      text = codes "The byte \\x07 in column " ++ (decimal 5
+          ++ codes " is a control character, and only tabs are allowed.");
       at = 4;
       len = 1;
     } }
     ensures beyond { said.column_said 0 252 ≡ record {
-      text = codes "The byte \\xFC in column 1 is allowed only in texts and in comments.";
+      text = codes "The byte \\xFC in column " ++ (decimal 1
+          ++ codes " is allowed only in texts and in comments.");
       at = 0;
       len = 1;
     } }
@@ -108,14 +112,17 @@ pub fn refusals_have_their_sentences()
       len = 6;
     } }
     ensures inside { said.inside_said (codes "ENDMES") ending 7 ≡ record {
-      text = codes "ENDMES is inside the measurement block that begins at line 7: it has no ENDMES yet.";
+      text = codes "ENDMES is inside the measurement block that begins at line "
+          ++ (decimal 7 ++ codes ": it has no ENDMES yet.");
       at = 0;
       len = 6;
     } }
     ensures few { said.touches_text 7 (codes "2") 1
-        ≡ codes "MEAS at line 7 names 2 touches, and its block has 1." }
+        ≡ codes "MEAS at line " ++ (decimal 7 ++ (codes " names 2 touches, and its block has "
+        ++ (decimal 1 ++ codes "."))) }
     ensures automatic { said.touches_text 7 (codes "2") 0
-        ≡ codes "The program asks for automatic measuring: MEAS at line 7 names 2 touches and its block has none, and only programmed touches are measured." }
+        ≡ codes "The program asks for automatic measuring: MEAS at line " ++ (decimal 7
+        ++ codes " names 2 touches and its block has none, and only programmed touches are measured.") }
     ensures millimetres { said.millimetres_said (codes "GOTO/1") going ≡ Some (record {
       text = codes "The unit 1 is not read: lengths are in MM.";
       at = 5;
@@ -143,8 +150,16 @@ pub fn refusals_have_their_sentences()
     } }
 {}
 
+/// A byte is not allowed if the text up to it is not read.
+pub fn bytes_that_are_not_allowed()
+    ensures control { has_bad_byte (65 ∷ 7 ∷ []) ≡ true }
+    ensures tab { has_bad_byte (65 ∷ 9 ∷ []) ≡ false }
+    ensures near_the_last { near (codes "A\nB\nC") ≡ codes "C" }
+    ensures line { line_bytes (codes "AB\r\nC") ≡ codes "AB" }
+{}
+
 /// A place is the file's name with the number, the line, and the sentence.
 pub fn places_have_two_lines()
     ensures whole { place_text (codes "a.dmis") 3 (codes "GOTO") (codes "No.")
-        ≡ codes "a.dmis:3: GOTO\nNo.\n" }
+        ≡ codes "a.dmis:" ++ (decimal 3 ++ codes ": GOTO\nNo.\n") }
 {}

@@ -5,12 +5,13 @@ ghost use Rattle.std.specs.Option.{option_map};
 ghost use Rattle.std.specs.Str.Lines.{lines};
 ghost use Rattle.refusal_guide.specs.Lines.{first_of};
 ghost use Rattle.refusal_guide.specs.Words.{named_by, said_by};
+ghost use Rattle.refusal_guide.specs.BadBytes.{IsByteReason};
 ghost use Rattle.refusal_guide.specs.Sentences.{not_dmis_said, no_statement_said, ended_said, truncated_said, too_long_said, column_said};
 ghost use Rattle.refusal_guide.specs.Sentences.{minor_cause, minor_said, major_said, has_minor, unsupported_said, direction_said, zero_vector_said};
 ghost use Rattle.refusal_guide.specs.Sentences.{outside_said, inside_said, frame_said, frame_named, frame_said_of, first_said, millimetres_said, prog_mode_said};
 ghost use Rattle.refusal_guide.specs.Reasons.{spot_at, IsOfStatement, IsOfLine, IsOfPlace, IsProgramReason};
-ghost use Rattle.refusal_guide.specs.Sentences.{no_tool_said, too_large_said, touches_text, inside_block_said, too_few_points_said};
-ghost use Rattle.refusal_guide.specs.Blocks.{in_64_bits};
+ghost use Rattle.refusal_guide.specs.Sentences.{no_tool_said, too_large_said, automatic_text, few_text, touches_text, block_said, inside_block_said, too_few_points_said};
+ghost use Rattle.refusal_guide.specs.Blocks.{opened_by};
 
 use crate::arguments::{argument_reason, count_before, within};
 use crate::bad_bytes::bad_byte;
@@ -109,7 +110,10 @@ fn column_reason(alloc: Global, at: usize, byte: u8) -> Result<Reason, AllocErro
 }
 
 /// Which byte is not allowed where it is.
-fn byte_reason(alloc: Global, place: Place) -> Result<Option<Reason>, AllocError> {
+fn byte_reason(alloc: Global, place: Place) -> Result<Option<Reason>, AllocError>
+    ensures { IfOk result (λ reason. IsByteReason place.entry.text.now place.entry.rest.now
+        (option_map said_by reason)) }
+{
     match bad_byte(alloc, place)? {
         Some((at, byte)) => Ok(Some(column_reason(alloc, at, byte)?)),
         None => Ok(None),
@@ -305,20 +309,50 @@ fn inside_block(alloc: Global, place: Place, found: Found) -> Result<Option<Reas
     }
 }
 
-/// How many touches this block lacks, in a sentence, where that many lines come before the text.
-fn touches_sentence(alloc: Global, block: &Block, above: u64) -> Result<String, AllocError>
-    ensures { IfOk result (λ text. string_bytes text ≡ touches_text
-        (in_64_bits (block.now.line + above)) (string_bytes block.now.wanted) block.now.touches) }
+/// That the block of a `MEAS` at this line has no touch.
+fn automatic_sentence(alloc: Global, line: u64, wanted: &str) -> Result<String, AllocError>
+    ensures { IfOk result (λ text. string_bytes text ≡ automatic_text line wanted.now) }
+{
+    format!(in alloc;
+        "The program asks for automatic measuring: MEAS at line {line} names {wanted} touches and its block has none, and only programmed touches are measured."
+    )
+}
+
+/// That the block of a `MEAS` at this line has too few touches.
+fn few_sentence(alloc: Global, line: u64, wanted: &str, touches: u64) -> Result<String, AllocError>
+    ensures { IfOk result (λ text. string_bytes text ≡ few_text line wanted.now touches) }
+{
+    format!(in alloc; "MEAS at line {line} names {wanted} touches, and its block has {touches}.")
+}
+
+/// How many touches the block of a `MEAS` at this line lacks, in a sentence.
+fn touches_sentence(
+    alloc: Global,
+    line: u64,
+    wanted: &str,
+    touches: u64,
+) -> Result<String, AllocError>
+    ensures { IfOk result (λ text. string_bytes text ≡ touches_text line wanted.now touches) }
+{
+    if touches == 0 {
+        return automatic_sentence(alloc, line, wanted);
+    }
+    few_sentence(alloc, line, wanted, touches)
+}
+
+/// How many touches this block lacks, where that many lines come before the text.
+fn block_reason(
+    alloc: Global,
+    block: &Block,
+    above: u64,
+    found: Found,
+) -> Result<Reason, AllocError>
+    ensures { IfOk result (λ reason. said_by reason ≡ block_said found.entry.rest.now
+        found.entry.statement.now above (opened_by block.now)) }
 {
     let line = block.line.saturating_add(above);
-    let wanted: &str = &block.wanted;
-    let touches = block.touches;
-    if touches == 0 {
-        return format!(in alloc;
-            "The program asks for automatic measuring: MEAS at line {line} names {wanted} touches and its block has none, and only programmed touches are measured."
-        );
-    }
-    format!(in alloc; "MEAS at line {line} names {wanted} touches, and its block has {touches}.")
+    let said = touches_sentence(alloc, line, &block.wanted, block.touches)?;
+    Ok(Reason::of_word(said, found.word()))
 }
 
 /// How many touches a block lacks. If it has none, the program asks for automatic measuring.
@@ -330,8 +364,7 @@ fn too_few(alloc: Global, place: Place, found: Found) -> Result<Option<Reason>, 
     let Some(block) = open_block(alloc, place)? else {
         return Ok(None);
     };
-    let said = touches_sentence(alloc, &block, place.above)?;
-    Ok(Some(Reason::of_word(said, found.word())))
+    Ok(Some(block_reason(alloc, &block, place.above, found)?))
 }
 
 /// That a frame of this name is not stored.

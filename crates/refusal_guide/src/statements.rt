@@ -24,6 +24,8 @@ pub(crate) fn next_statement<'a>(
     ensures next { IfOk result (λ given. IfSome given
         (λ s. statements.old.left ≡ s ∷ statements.new.left)) }
     ensures end { IfOk result (λ given. IfNone given (statements.old.left ≡ [])) }
+    ensures passed { IfOk result (λ given. IfNone given (statements.new.left ≡ [])) }
+    ensures fault { statements.new.fault ≡ statements.old.fault }
 {
     match statements.next() {
         Ok(statement) => Ok(statement),
