@@ -8,7 +8,7 @@ use Rattle.refusal_guide.specs.declared.places.Refused.{Refused}
 
 -- what is written of the first of the lines that begin with a number is the place of that number
 pub placed : (refused : Refused) (name bytes line shown written : List ℕ) (said : Said) (rest : List (List ℕ)) (number start : ℕ)
-    → rest ≡ lines_from number bytes → line ≡ first_of rest → IsReason refused bytes said → start ≡ shown_start (length line) said.at said.len
+    → rest ≡ lines_from number bytes → line ≡ first_of rest → IsReason refused bytes number said → start ≡ shown_start (length line) said.at said.len
     → shown ≡ shown_from start line → written ≡ place_text name number shown said.text → IsPlace refused name bytes number written
 placed refused name bytes line shown written said rest number start e f r w g h =
     let k : line ≡ line_of number bytes = f ∙ ap first_of e in

@@ -34,14 +34,14 @@ abbrev pub place_text : List ℕ → ℕ → List ℕ → List ℕ → List ℕ
 place_text name number line said = name ++ (codes ":" ++ (decimal number ++ (codes ": " ++ (line ++ (codes "\n" ++ (said ++ codes "\n"))))))
 
 -- the sentence on a refusal of line n, and the word that it is about
-abbrev pub IsReason : Refused → List ℕ → Said → Type 0
-IsReason (Program (program.Refused refusal line)) bytes said = IsProgramReason refusal (spot_of bytes line 0) said
-IsReason (Program program.Memory) bytes said = ⊤
-IsReason (Setup fault) bytes said = ⊤
-IsReason (Schedule fault) bytes said = ⊤
-IsReason (Features fault) bytes said = ⊤
-IsReason (Contacts fault) bytes said = ⊤
-IsReason (Record fault) bytes said = ⊤
+abbrev pub IsReason : Refused → List ℕ → ℕ → Said → Type 0
+IsReason (Program (program.Refused refusal line)) bytes n said = IsProgramReason refusal (spot_of bytes n 0) said
+IsReason (Program program.Memory) bytes n said = ⊤
+IsReason (Setup fault) bytes n said = ⊤
+IsReason (Schedule fault) bytes n said = ⊤
+IsReason (Features fault) bytes n said = ⊤
+IsReason (Contacts fault) bytes n said = ⊤
+IsReason (Record fault) bytes n said = ⊤
 
 -- what is shown of a line, so that the word of the sentence is seen
 abbrev pub shown_for : Said → List ℕ → List ℕ
@@ -50,7 +50,7 @@ shown_for said line = shown_from (shown_start (length line) said.at said.len) li
 -- what is shown is the line of this number, with its file's name and the sentence
 pub record IsPlace (refused : Refused) (name : List ℕ) (bytes : List ℕ) (number : ℕ) (shown : List ℕ) : Type 0 where
   pub said : Said
-  pub is_reason : IsReason refused bytes said
+  pub is_reason : IsReason refused bytes number said
   pub whole : shown ≡ place_text name number (shown_for said (line_of number bytes)) said.text
 
 -- likewise for the line that is refused; nothing if out of memory

@@ -3,13 +3,13 @@
 ghost use Rattle.std.specs.Prelude.{◌≡◌, ◌+◌, ◌^◌, ◌<◌, length, IfOk, string_bytes};
 ghost use Rattle.std.specs.Option.{option_map};
 ghost use Rattle.std.specs.Str.Lines.{lines};
-ghost use Rattle.refusal_guide.specs.Lines.{first_of};
+ghost use Rattle.refusal_guide.specs.Lines.{first_of, bytes_from};
 ghost use Rattle.refusal_guide.specs.Words.{named_by, said_by};
 ghost use Rattle.refusal_guide.specs.BadBytes.{IsByteReason};
 ghost use Rattle.refusal_guide.specs.Sentences.{not_dmis_said, no_statement_said, ended_said, truncated_said, too_long_said, column_said};
 ghost use Rattle.refusal_guide.specs.Sentences.{minor_cause, minor_said, major_said, has_minor, unsupported_said, direction_said, zero_vector_said};
 ghost use Rattle.refusal_guide.specs.Sentences.{outside_said, inside_said, frame_said, frame_named, frame_said_of, first_said, millimetres_said, prog_mode_said};
-ghost use Rattle.refusal_guide.specs.Reasons.{spot_at, IsOfStatement, IsOfLine, IsOfPlace, IsProgramReason};
+ghost use Rattle.refusal_guide.specs.Reasons.{spot_at, spot_of, IsOfStatement, IsOfLine, IsOfPlace, IsProgramReason};
 ghost use Rattle.refusal_guide.specs.Sentences.{no_tool_said, too_large_said, automatic_text, few_text, touches_text, block_said, inside_block_said, too_few_points_said};
 ghost use Rattle.refusal_guide.specs.Blocks.{opened_by};
 
@@ -361,10 +361,10 @@ fn too_few(alloc: Global, place: Place, found: Found) -> Result<Option<Reason>, 
         ≡ too_few_points_said place.entry.text.now found.entry.rest.now
         place.entry.number place.entry.above found.entry.statement.now) }
 {
-    let Some(block) = open_block(alloc, place)? else {
-        return Ok(None);
-    };
-    Ok(Some(block_reason(alloc, &block, place.above, found)?))
+    match open_block(alloc, place)? {
+        Some(block) => Ok(Some(block_reason(alloc, &block, place.above, found)?)),
+        None => Ok(None),
+    }
 }
 
 /// That a frame of this name is not stored.
@@ -475,12 +475,15 @@ fn statement_reason(
     alloc: Global,
     refusal: Refusal,
     place: Place,
-    found: Found,
+    statement: &Statement,
 ) -> Result<Option<Reason>, AllocError>
-    requires rest { found.rest.now ≡ place.rest.now }
     ensures { IfOk result (λ reason. IsOfStatement refusal (spot_at place.entry)
-        found.entry.statement.now (option_map said_by reason)) }
+        statement.now (option_map said_by reason)) }
 {
+    let found = Found {
+        rest: place.rest,
+        statement,
+    };
     match refusal {
         Refusal::NotDmis => Ok(Some(not_dmis(alloc, found)?)),
         Refusal::Truncated => truncated(alloc, place),
@@ -532,13 +535,7 @@ fn place_reason(alloc: Global, refusal: Refusal, place: Place) -> Result<Option<
         (option_map said_by reason)) }
 {
     match first_statement(alloc, place.rest)? {
-        Some(statement) => {
-            let found = Found {
-                rest: place.rest,
-                statement: &statement,
-            };
-            statement_reason(alloc, refusal, place, found)
-        }
+        Some(statement) => statement_reason(alloc, refusal, place, &statement),
         None => line_reason(alloc, refusal, place),
     }
 }
@@ -554,4 +551,18 @@ pub(crate) fn program_reason(
 {
     let topic = Topic::of_refusal(refusal);
     Reason::or_topic(alloc, place_reason(alloc, refusal, place)?, topic)
+}
+
+/// Likewise for a line of a whole program.
+pub(crate) fn whole_reason(
+    alloc: Global,
+    refusal: Refusal,
+    place: Place,
+) -> Result<Reason, AllocError>
+    requires rest { place.rest.now ≡ bytes_from place.number place.text.now }
+    requires above { place.above ≡ 0 }
+    ensures { IfOk result (λ reason. IsProgramReason refusal
+        (spot_of place.entry.text.now place.entry.number 0) (said_by reason)) }
+{
+    program_reason(alloc, refusal, place)
 }

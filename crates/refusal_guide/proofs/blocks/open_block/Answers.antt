@@ -9,5 +9,5 @@ use Rattle.refusal_guide.proofs.blocks.open_block.Goals as goal
 pub loop-block-preserved : goal.loop-block-preserved
 loop-block-preserved c =
     block_step c.args.place.number (option_map opened_by c.loop-block.block) _ _ c.in-Some.statement c.loop-block.statements.left _
-    (rw c.in-Some.is at c.in_ok-statement.ensures.next ∙ ap (λ (u : Unread). c.in-Some.statement ∷ u.left) (sym c.take_back.ensures))
+    ((rw c.in-Some.is at c.in_ok-statement.ensures.next) ∙ ap (λ (u : Unread). c.in-Some.statement ∷ u.left) (sym c.take_back.ensures))
     (rw c.in-Some.is at c.in_ok-statement.ensures.above) c.in_ok-block.ensures c.loop-block.invariant

@@ -8,4 +8,4 @@ pub returns-in_ok-frame_reason-in-Some : goal.returns-in_ok-frame_reason-in-Some
 returns-in_ok-frame_reason-in-Some c =
     ap Some (c.in_ok-frame_reason-in-Some.ensures ∙ ap frame_said c.in_param.ensures)
     ∙ ap (option_map (λ (n : List ℕ). frame_said (param_spot c.args.found.rest.now c.args.found.statement.now 0 n)))
-    (rw c.in-Some.is at c.within.ensures)
+    c.in-Some.ensures
