@@ -471,11 +471,11 @@ fn too_large(alloc: Global, found: Found) -> Result<Reason, AllocError>
 }
 
 /// Why a statement is refused; none if no statement in this place is refused for this.
-fn statement_reason(
+fn statement_reason<'a>(
     alloc: Global,
     refusal: Refusal,
-    place: Place,
-    statement: &Statement,
+    place: Place<'a>,
+    statement: &Statement<'a>,
 ) -> Result<Option<Reason>, AllocError>
     ensures { IfOk result (λ reason. IsOfStatement refusal (spot_at place.entry)
         statement.now (option_map said_by reason)) }
