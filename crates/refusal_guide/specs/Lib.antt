@@ -1,5 +1,15 @@
 pub mod Titles
 pub mod Pages
+pub mod Lines
+pub mod Windows
+pub mod Words
+pub mod Spots
+pub mod Blocks
+pub mod Sentences
+pub mod BadBytes
+pub mod Reasons
+pub mod Passages
 pub mod Places
 pub mod Lengths
 pub mod Strangers
+pub mod Examples

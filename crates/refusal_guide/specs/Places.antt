@@ -1,14 +1,14 @@
 -- Where a text is refused, as it is shown (this profile).
-use Rattle.std.specs.Prelude.{◌≡◌, ℕ, ◌+◌, ◌-◌, ◌≤◌, List, [], ◌∷◌, ◌++◌, length, take, drop, codes, decimal, Option, Some, None, nat_le, nat_lt}
-use Rattle.std.specs.Prelude.{◌==◌, min, if◌then◌else◌}
-use Rattle.std.specs.List.{flat_map}
-use Rattle.std.specs.Str.Lines.{lines}
+use Rattle.std.specs.Prelude.{◌≡◌, ℕ, ⊤, List, [], ◌++◌, length, codes, decimal, Option, Some, None}
 use Rattle.dmis_program.specs.declared.faults.ProgramFault.TheVariants as program
-use Rattle.session_telling.specs.Visible.{visible}
 use Rattle.tool_rack.specs.declared.faults.SetupFault.TheVariants as setup
 use Rattle.link_world.specs.declared.texts.schedule_faults.ScheduleFault.TheVariants as schedule
 use Rattle.contact_ledger.specs.declared.faults.TextFault.TheVariants as text
 use Rattle.run_record.specs.declared.faults.RecordFault.TheVariants as recorded
+use Rattle.refusal_guide.specs.Lines.{line_of, shown_from}
+use Rattle.refusal_guide.specs.Windows.{shown_start}
+use Rattle.refusal_guide.specs.Words.{Said}
+use Rattle.refusal_guide.specs.Reasons.{spot_of, IsProgramReason}
 use Rattle.refusal_guide.specs.declared.places.Refused.{Refused}
 use Rattle.refusal_guide.specs.declared.places.Refused.TheVariants.{Program, Setup, Schedule, Features, Contacts, Record}
 
@@ -29,48 +29,35 @@ number_of (Contacts text.Memory) = None
 number_of (Record (recorded.Damaged line)) = Some line
 number_of (Record recorded.Memory) = None
 
--- the lines of a text from number n on, counted from 1; from the last one on if it has fewer
-abbrev pub lines_from : ℕ → List ℕ → List (List ℕ)
-lines_from n bytes = drop (min (n - 1) (length (lines bytes) - 1)) (lines bytes)
-
--- the first of some lines; empty if there is none
-abbrev pub first_of : List (List ℕ) → List ℕ
-first_of [] = []
-first_of (line ∷ more) = line
-
--- line n of a text; its last one if it has fewer
-abbrev pub line_of : ℕ → List ℕ → List ℕ
-line_of n bytes = first_of (lines_from n bytes)
-
--- a byte of a line: a tab as it is
-abbrev pub visible_in_line : ℕ → List ℕ
-visible_in_line b = if b == 9 then b ∷ [] else visible b
-
--- the beginning of a line, at most 200 bytes of it
-abbrev pub shown_front : List ℕ → List ℕ
-shown_front bytes = if nat_le (length bytes) 200 then flat_map visible_in_line bytes else flat_map visible_in_line (take 200 bytes)
-    ++ codes " .."
-
--- a line from this byte on, which is the first if it has at most 200
-abbrev pub shown_from : ℕ → List ℕ → List ℕ
-shown_from start line = (if nat_lt 0 start then codes ".. " else []) ++ shown_front (drop start line)
-
 -- a file's name with a number, what is shown of the line, and a sentence about it
 abbrev pub place_text : List ℕ → ℕ → List ℕ → List ℕ → List ℕ
 place_text name number line said = name ++ (codes ":" ++ (decimal number ++ (codes ": " ++ (line ++ (codes "\n" ++ (said ++ codes "\n"))))))
 
--- what is shown is the line of this number, with its file's name and a sentence
-pub record IsPlace (name : List ℕ) (bytes : List ℕ) (number : ℕ) (shown : List ℕ) : Type 0 where
-  pub start : ℕ
-  pub said : List ℕ
-  pub within : start ≤ length (line_of number bytes) - 200
-  pub whole : shown ≡ place_text name number (shown_from start (line_of number bytes)) said
+-- the sentence on a refusal of line n, and the word that it is about
+abbrev pub IsReason : Refused → List ℕ → ℕ → Said → Type 0
+IsReason (Program (program.Refused refusal line)) bytes n said = IsProgramReason refusal (spot_of bytes n 0) said
+IsReason (Program program.Memory) bytes n said = ⊤
+IsReason (Setup fault) bytes n said = ⊤
+IsReason (Schedule fault) bytes n said = ⊤
+IsReason (Features fault) bytes n said = ⊤
+IsReason (Contacts fault) bytes n said = ⊤
+IsReason (Record fault) bytes n said = ⊤
+
+-- what is shown of a line, so that the word of the sentence is seen
+abbrev pub shown_for : Said → List ℕ → List ℕ
+shown_for said line = shown_from (shown_start (length line) said.at said.len) line
+
+-- what is shown is the line of this number, with its file's name and the sentence
+pub record IsPlace (refused : Refused) (name : List ℕ) (bytes : List ℕ) (number : ℕ) (shown : List ℕ) : Type 0 where
+  pub said : Said
+  pub is_reason : IsReason refused bytes number said
+  pub whole : shown ≡ place_text name number (shown_for said (line_of number bytes)) said.text
 
 -- likewise for the line that is refused; nothing if out of memory
-abbrev pub IsPlaceOf : Option ℕ → List ℕ → List ℕ → List ℕ → Type 0
-IsPlaceOf None name bytes shown = shown ≡ []
-IsPlaceOf (Some number) name bytes shown = IsPlace name bytes number shown
+abbrev pub IsPlaceOf : Option ℕ → Refused → List ℕ → List ℕ → List ℕ → Type 0
+IsPlaceOf None refused name bytes shown = shown ≡ []
+IsPlaceOf (Some number) refused name bytes shown = IsPlace refused name bytes number shown
 
 -- what was there, followed by the place of the line that is refused
 abbrev pub Places : Refused → List ℕ → List ℕ → List ℕ → List ℕ → Type 0
-Places refused name bytes old new = (shown : List ℕ) × (new ≡ old ++ shown) × IsPlaceOf (number_of refused) name bytes shown
+Places refused name bytes old new = (shown : List ℕ) × (new ≡ old ++ shown) × IsPlaceOf (number_of refused) refused name bytes shown

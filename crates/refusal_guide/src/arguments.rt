@@ -1,6 +1,8 @@
 // Which parameter of a statement does not fit, or how many there are.
 
-ghost use Rattle.std.specs.Prelude.{◌≤◌, length};
+ghost use Rattle.std.specs.Prelude.{◌≡◌, ◌≤◌, length};
+ghost use Rattle.std.specs.Option.{option_map};
+ghost use Rattle.refusal_guide.specs.Sentences.{within_ends};
 
 use crate::names::name_reason;
 use crate::statements::Found;
@@ -24,7 +26,10 @@ pub(crate) fn count_before(params: &[Text]) -> usize
 }
 
 /// The bytes between this prefix and a `)` at the end.
-pub(crate) fn within<'a>(front: &[u8], text: &'a [u8]) -> Option<&'a [u8]> {
+#[tactic(auto, unfolding(crate::specs::Sentences::within_ends))]
+pub(crate) fn within<'a>(front: &[u8], text: &'a [u8]) -> Option<&'a [u8]>
+    ensures { option_map (λ inner. inner.now) result ≡ within_ends front.now text.now }
+{
     match text.strip_prefix(front)? {
         [inner @ .., b')'] => Some(inner),
         _ => None,
@@ -59,7 +64,7 @@ fn parenthesis_reason(
     };
     match within(front, param) {
         Some(name) => name_reason(alloc, name, found.in_param(index, name)),
-        None => Reason::given(found.in_param(index, param).reason(alloc, "", behind)),
+        None => Ok(Some(found.in_param(index, param).reason(alloc, "", behind)?)),
     }
 }
 
@@ -103,7 +108,7 @@ fn ptmeas_reason(alloc: Global, found: Found) -> Result<Reason, AllocError> {
 fn snslct_reason(alloc: Global, found: Found) -> Result<Option<Reason>, AllocError> {
     let params: &[Text] = &found.statement.params;
     let [first] = params else {
-        return Reason::given(count_reason(alloc, found, "1, S(name) or SA(name)"));
+        return Ok(Some(count_reason(alloc, found, "1, S(name) or SA(name)")?));
     };
     let front = if first.starts_with(b"SA(") {
         b"SA(".as_slice()
@@ -117,7 +122,7 @@ fn snslct_reason(alloc: Global, found: Found) -> Result<Option<Reason>, AllocErr
 fn recall_reason(alloc: Global, found: Found) -> Result<Option<Reason>, AllocError> {
     let params: &[Text] = &found.statement.params;
     let [_] = params else {
-        return Reason::given(count_reason(alloc, found, "1, D(name), or more after S( and SA("));
+        return Ok(Some(count_reason(alloc, found, "1, D(name), or more after S( and SA(")?));
     };
     parenthesis_reason(alloc, found, 0, b"D(", " is not D(name).")
 }
@@ -174,11 +179,11 @@ fn is_definition(found: Found) -> bool {
 fn head_reason(alloc: Global, found: Found) -> Result<Option<Reason>, AllocError> {
     match &found.statement.label {
         Some(label) if !is_definition(found) => {
-            Reason::given(label_reason(alloc, found, found.label(label)))
+            Ok(Some(label_reason(alloc, found, found.label(label))?))
         }
         _ if found.statement.is_open() => {
             let text = open_text(found);
-            Reason::given(text.reason(alloc, "The text ", " is not closed by an apostrophe."))
+            Ok(Some(text.reason(alloc, "The text ", " is not closed by an apostrophe.")?))
         }
         _ => Ok(None),
     }
@@ -202,9 +207,9 @@ fn counted(found: Found) -> Option<&'static str> {
 /// Why the parameters of a statement that are more than counted do not fit; none if it takes any parameters.
 fn formed_reason(alloc: Global, found: Found) -> Result<Option<Reason>, AllocError> {
     if found.is(b"MEAS") {
-        Reason::given(meas_reason(alloc, found))
+        Ok(Some(meas_reason(alloc, found)?))
     } else if found.is(b"PTMEAS") {
-        Reason::given(ptmeas_reason(alloc, found))
+        Ok(Some(ptmeas_reason(alloc, found)?))
     } else if found.is(b"SNSLCT") {
         snslct_reason(alloc, found)
     } else if found.is(b"RECALL") {
@@ -220,7 +225,7 @@ pub(crate) fn argument_reason(alloc: Global, found: Found) -> Result<Option<Reas
         return Ok(Some(reason));
     }
     match counted(found) {
-        Some(wanted) => Reason::given(count_reason(alloc, found, wanted)),
+        Some(wanted) => Ok(Some(count_reason(alloc, found, wanted)?)),
         None => formed_reason(alloc, found),
     }
 }

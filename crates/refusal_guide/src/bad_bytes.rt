@@ -1,7 +1,8 @@
 // Which byte of a line is not allowed where it is. The reader of statements reports only the line, so it is given longer and longer
 // prefixes of the text, each of which ends within that line.
 
-ghost use Rattle.std.specs.Prelude.{◌≤◌, ◌+◌, length};
+ghost use Rattle.std.specs.Prelude.{◌≡◌, ◌≤◌, ◌+◌, [], length, IfOk, OnOk};
+ghost use Rattle.refusal_guide.specs.BadBytes.{is_bad_byte, has_bad_byte, line_of_last, near, Turns, IsBadByteOf};
 
 use crate::lines::{Place, first_line, from_line};
 use crate::statements::next_statement;
@@ -9,7 +10,12 @@ use dmis_text::{Statements, TextFault};
 use std::alloc::{AllocError, Global};
 
 /// Passes the statements that can be read, and returns the line of the last one; 1 if there is none.
-fn last_line(statements: &mut Statements) -> Result<u64, AllocError> {
+fn last_line(statements: &mut Statements) -> Result<u64, AllocError>
+    ensures line { IfOk result (λ line. line
+        ≡ line_of_last 1 statements.old.left) }
+    ensures passed { OnOk result (statements.new.left ≡ []) }
+    ensures fault { statements.new.fault ≡ statements.old.fault }
+{
     let mut line = 1;
     while let Some(statement) = next_statement(statements)? {
         line = statement.line;
@@ -19,7 +25,10 @@ fn last_line(statements: &mut Statements) -> Result<u64, AllocError> {
 }
 
 /// Whether the next statement has a byte that is not allowed where it is.
-fn is_next_bad(statements: &mut Statements) -> Result<bool, AllocError> {
+fn is_next_bad(statements: &mut Statements) -> Result<bool, AllocError>
+    requires { statements.old.left ≡ [] }
+    ensures { IfOk result (λ bad. bad ≡ is_bad_byte statements.old.fault) }
+{
     match statements.next() {
         Err(TextFault::BadByte(_)) => Ok(true),
         Err(TextFault::LineTooLong(_)) => Ok(false),
@@ -29,14 +38,18 @@ fn is_next_bad(statements: &mut Statements) -> Result<bool, AllocError> {
 }
 
 /// Whether a text has a byte that is not allowed where it is.
-fn has_bad_byte(alloc: Global, text: &[u8]) -> Result<bool, AllocError> {
+fn has_bad_byte(alloc: Global, text: &[u8]) -> Result<bool, AllocError>
+    ensures { IfOk result (λ bad. bad ≡ has_bad_byte text.now) }
+{
     let mut statements = Statements::new(alloc, text);
     last_line(&mut statements)?;
     is_next_bad(&mut statements)
 }
 
 /// The text from the last statement that can be read on: what is above it is not part of the line's statement.
-fn near(alloc: Global, text: &[u8]) -> Result<&[u8], AllocError> {
+fn near(alloc: Global, text: &[u8]) -> Result<&[u8], AllocError>
+    ensures { IfOk result (λ rest. rest.now ≡ near text.now) }
+{
     let line = last_line(&mut Statements::new(alloc, text))?;
     Ok(from_line(text, line))
 }
@@ -45,6 +58,7 @@ fn near(alloc: Global, text: &[u8]) -> Result<&[u8], AllocError> {
 /// last if all are allowed.
 fn count_good(alloc: Global, text: &[u8], start: usize, count: usize) -> Result<usize, AllocError>
     requires { start + count ≤ length text.now }
+    ensures { IfOk result (λ before. Turns text.now start count before) }
 {
     let mut before = 0;
     let mut behind = count;
@@ -61,7 +75,9 @@ fn count_good(alloc: Global, text: &[u8], start: usize, count: usize) -> Result<
 }
 
 /// The leftmost byte of a line that is not allowed where it is, and how many bytes of the line precede it; none if all are allowed.
-pub(crate) fn bad_byte(alloc: Global, place: Place) -> Result<Option<(usize, u8)>, AllocError> {
+pub(crate) fn bad_byte(alloc: Global, place: Place) -> Result<Option<(usize, u8)>, AllocError>
+    ensures { IfOk result (λ found. IsBadByteOf place.entry.text.now place.entry.rest.now found) }
+{
     let text = near(alloc, place.text)?;
     let (line, _) = place
         .rest

@@ -1,6 +1,10 @@
 // What is above a statement that is refused.
 
-ghost use Rattle.std.specs.Prelude.{◌≡◌, ◌∷◌, IfOk, IfSome};
+ghost use Rattle.std.specs.Prelude.{◌≡◌, ◌∷◌, [], IfOk, IfSome, IfNone, None, nat_lt, true};
+ghost use Rattle.std.specs.Option.{option_map};
+ghost use Rattle.refusal_guide.specs.Blocks.{opened_by, begun, one_touch_more, block_after, above_line, open_block};
+ghost use Rattle.std.specs.List.{last_or};
+ghost use Rattle.dmis_text.specs.Reading.{text_reading};
 
 use crate::lines::Place;
 use crate::statements::next_statement;
@@ -17,7 +21,9 @@ pub(crate) struct Block {
 }
 
 /// The block that a `MEAS` begins.
-fn begun(alloc: Global, statement: &Statement) -> Result<Option<Block>, AllocError> {
+fn begun(alloc: Global, statement: &Statement) -> Result<Option<Block>, AllocError>
+    ensures { IfOk result (λ block. option_map opened_by block ≡ begun statement.now) }
+{
     let Some(count) = statement.params.get(2) else {
         return Ok(None);
     };
@@ -33,7 +39,10 @@ fn begun(alloc: Global, statement: &Statement) -> Result<Option<Block>, AllocErr
 }
 
 /// The open block after a touch, if this one is open before it.
-fn touched(block: Option<Block>) -> Option<Block> {
+fn touched(block: Option<Block>) -> Option<Block>
+    ensures { option_map opened_by result
+        ≡ option_map one_touch_more (option_map opened_by block) }
+{
     let block = block?;
     Some(Block {
         line: block.line,
@@ -47,7 +56,10 @@ fn followed(
     alloc: Global,
     block: Option<Block>,
     statement: &Statement,
-) -> Result<Option<Block>, AllocError> {
+) -> Result<Option<Block>, AllocError>
+    ensures { IfOk result (λ after. option_map opened_by after
+        ≡ block_after (option_map opened_by block) statement.now) }
+{
     let word: &[u8] = &statement.word;
     if word == b"MEAS".as_slice() {
         begun(alloc, statement)
@@ -65,8 +77,10 @@ fn next_above<'a>(
     statements: &mut Statements<'a>,
     number: u64,
 ) -> Result<Option<Statement<'a>>, AllocError>
-    ensures { IfOk result (λ given. IfSome given
+    ensures next { IfOk result (λ given. IfSome given
         (λ s. statements.old.left ≡ s ∷ statements.new.left)) }
+    ensures above { IfOk result (λ given. IfSome given (λ s. nat_lt s.line number ≡ true)) }
+    ensures end { IfOk result (λ given. IfNone given (above_line number statements.old.left ≡ [])) }
 {
     match next_statement(statements)? {
         Some(statement) if statement.line < number => Ok(Some(statement)),
@@ -75,7 +89,11 @@ fn next_above<'a>(
 }
 
 /// The block that is open before a line.
-pub(crate) fn open_block(alloc: Global, place: Place) -> Result<Option<Block>, AllocError> {
+#[tactic(auto, unfolding(crate::specs::Blocks::open_block))]
+pub(crate) fn open_block(alloc: Global, place: Place) -> Result<Option<Block>, AllocError>
+    ensures { IfOk result (λ block. option_map opened_by block
+        ≡ open_block place.entry.text.now place.entry.number) }
+{
     let mut statements = Statements::new(alloc, place.text);
     let mut block = None;
     while let Some(statement) = next_above(&mut statements, place.number)? {
@@ -86,7 +104,10 @@ pub(crate) fn open_block(alloc: Global, place: Place) -> Result<Option<Block>, A
 }
 
 /// The line of the block that is open before a line.
-pub(crate) fn open_line(alloc: Global, place: Place) -> Result<Option<u64>, AllocError> {
+pub(crate) fn open_line(alloc: Global, place: Place) -> Result<Option<u64>, AllocError>
+    ensures { IfOk result (λ line. line
+        ≡ option_map (λ b. b.line) (open_block place.entry.text.now place.entry.number)) }
+{
     match open_block(alloc, place)? {
         Some(block) => Ok(Some(block.line)),
         None => Ok(None),
@@ -94,7 +115,9 @@ pub(crate) fn open_line(alloc: Global, place: Place) -> Result<Option<u64>, Allo
 }
 
 /// The last of the statements that can be read.
-fn last_of<'a>(statements: &mut Statements<'a>) -> Result<Option<Statement<'a>>, AllocError> {
+fn last_of<'a>(statements: &mut Statements<'a>) -> Result<Option<Statement<'a>>, AllocError>
+    ensures { IfOk result (λ last. last ≡ last_or None statements.old.left) }
+{
     let mut last = None;
     while let Some(statement) = next_statement(statements)? {
         last = Some(statement);
@@ -106,6 +129,8 @@ fn last_of<'a>(statements: &mut Statements<'a>) -> Result<Option<Statement<'a>>,
 pub(crate) fn last_statement(
     alloc: Global,
     text: &[u8],
-) -> Result<Option<Statement<'_>>, AllocError> {
+) -> Result<Option<Statement<'_>>, AllocError>
+    ensures { IfOk result (λ last. last ≡ last_or None (text_reading text.now).statements) }
+{
     last_of(&mut Statements::new(alloc, text))
 }

@@ -14,6 +14,7 @@
 //! - `strangers`: why a record is of another part or program; `touches`: in what two touches differ
 //! - `audits`: what an audit found; `contacts`: the contacts of a ledger; `nearest`: the one
 //!   that is nearest to a touch without one
+//! - `examples`: places and sentences that are written out
 #![tactic(auto)]
 
 mod arguments;
@@ -21,6 +22,7 @@ mod audits;
 mod bad_bytes;
 mod blocks;
 mod contacts;
+pub mod examples;
 mod faults;
 mod ledgers;
 mod lines;

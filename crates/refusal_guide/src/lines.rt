@@ -1,9 +1,10 @@
 // The line of a number, and how it is shown.
 
-ghost use Rattle.std.specs.Prelude.{◌≡◌, ◌≤◌, ◌-◌, ◌++◌, length, OnOk, IfOk, string_bytes};
-ghost use Rattle.std.specs.List.{flat_map};
+ghost use Rattle.std.specs.Prelude.{◌≡◌, ◌==◌, ◌<◌, ◌≤◌, ◌+◌, ◌-◌, ◌++◌, length, drop, OnOk, IfOk, IfSome, string_bytes};
+ghost use Rattle.std.specs.List.{flat_map, position};
 ghost use Rattle.std.specs.Str.Lines.{lines};
-ghost use Rattle.refusal_guide.specs.Places.{lines_from, first_of, visible_in_line, shown_front, shown_from};
+ghost use Rattle.refusal_guide.specs.Windows.{shown_start};
+ghost use Rattle.refusal_guide.specs.Lines.{lines_from, bytes_from, after_feeds, first_of, visible_in_line, shown_front, shown_from};
 
 use dmis_text::cut_line;
 use session_telling::push_visible;
@@ -22,19 +23,43 @@ pub(crate) struct Place<'a> {
     pub(crate) above: u64,
 }
 
+/// Where the first LF is.
+fn end_of(bytes: &[u8]) -> Option<usize>
+    ensures place { result ≡ position (λ b. b == 10) bytes.now }
+    ensures within { IfSome result (λ at. at < length bytes.now) }
+{
+    bytes.iter().position(|byte| *byte == b'\n')
+}
+
+/// The bytes after the first LF; none if there is no LF.
+fn after_feed(bytes: &[u8]) -> &[u8]
+    ensures after { result.now ≡ after_feeds 1 bytes.now }
+    ensures others { lines result.now ≡ drop 1 (lines bytes.now) }
+{
+    match end_of(bytes) {
+        Some(at) => {
+            let (_, after) = bytes.split_at(at + 1);
+            after
+        }
+        None => {
+            let (_, after) = bytes.split_at(bytes.len());
+            after
+        }
+    }
+}
+
 /// The bytes of a text from the line of this number on; from its last line on if it has fewer.
 pub(crate) fn from_line(text: &[u8], number: u64) -> &[u8]
-    ensures { lines result.now ≡ lines_from number text.now }
+    ensures bytes { result.now ≡ bytes_from number text.now }
+    ensures lines { lines result.now ≡ lines_from number text.now }
 {
     let mut rest = text;
     let mut left = number;
     while left > 1 {
-        let Some((_, after)) = cut_line(rest) else {
+        let after = after_feed(rest);
+        if after.is_empty() {
             return rest;
-        };
-        let Some(_) = cut_line(after) else {
-            return rest;
-        };
+        }
         rest = after;
         left -= 1;
     }
@@ -89,7 +114,9 @@ fn push_front(text: &mut String, bytes: &[u8]) -> Result<(), AllocError>
 /// The byte from which a line is shown, so that the word of this place and length is among the 200 bytes that are shown, if it fits: the
 /// first byte if the word is then shown, else a byte that puts the word in their middle.
 pub(crate) fn shown_start(line: &[u8], at: usize, len: usize) -> usize
-    ensures { result ≤ length line.now - 200 }
+    ensures start { result ≡ shown_start (length line.now) at len }
+    ensures within { result ≤ length line.now - 200 }
+    ensures seen { len ≤ 200 → at + len ≤ length line.now → (result ≤ at) × (at + len ≤ result + 200) }
 {
     if line.len() <= MOST_SHOWN || (at < MOST_SHOWN && len <= MOST_SHOWN - at) {
         return 0;

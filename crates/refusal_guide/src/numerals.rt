@@ -146,12 +146,12 @@ pub(crate) fn field_reason(
         return Ok(None);
     };
     match length_fault(numeral) {
-        Some(fault) => Reason::given(numeral_reason(
+        Some(fault) => Ok(Some(numeral_reason(
             alloc,
             Word::found(line, from, numeral),
             fault,
             Measure::Length,
-        )),
+        )?)),
         None => Ok(None),
     }
 }

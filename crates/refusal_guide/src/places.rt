@@ -1,11 +1,13 @@
 // A refused text: the line, and what is wrong with it.
 
 ghost use Rattle.std.specs.Prelude.{◌≡◌, OnOk, OnErr, IfOk, string_bytes};
-ghost use Rattle.refusal_guide.specs.Places.{number_of, place_text, IsPlace, IsPlaceOf, Places};
+ghost use Rattle.refusal_guide.specs.Lines.{bytes_from};
+ghost use Rattle.refusal_guide.specs.Words.{said_by};
+ghost use Rattle.refusal_guide.specs.Places.{number_of, place_text, IsReason, IsPlace, IsPlaceOf, Places};
 
 use crate::ledgers::{Ledger, ledger_reason};
 use crate::lines::{Place, first_line, from_line, shown_line, shown_start};
-use crate::programs::program_reason;
+use crate::programs::whole_reason;
 use crate::records::record_reason;
 use crate::schedules::schedule_reason;
 use crate::setups::{setup_line_reason, setup_numeral_reason, setup_twice_reason};
@@ -57,10 +59,15 @@ fn line_number(refused: Refused) -> Option<u64>
 }
 
 /// What is wrong with the line of this place; nothing if out of memory.
-fn reason(alloc: Global, refused: Refused, place: Place) -> Result<Reason, AllocError> {
+fn reason(alloc: Global, refused: Refused, place: Place) -> Result<Reason, AllocError>
+    requires rest { place.rest.now ≡ bytes_from place.number place.text.now }
+    requires above { place.above ≡ 0 }
+    ensures { IfOk result (λ reason. IsReason refused place.entry.text.now
+        place.entry.number (said_by reason)) }
+{
     match refused {
         Refused::Program(ProgramFault::Refused(refusal, _)) => {
-            program_reason(alloc, refusal, place)
+            whole_reason(alloc, refusal, place)
         }
         Refused::Setup(SetupFault::BadLine(_)) => setup_line_reason(alloc, place),
         Refused::Setup(SetupFault::Twice(_)) => setup_twice_reason(alloc, place),
@@ -100,7 +107,8 @@ fn numbered_place(
     number: u64,
     text: &[u8],
 ) -> Result<String, AllocError>
-    ensures { IfOk result (λ shown. IsPlace name.now text.now number (string_bytes shown)) }
+    ensures { IfOk result (λ shown.
+        IsPlace refused name.now text.now number (string_bytes shown)) }
 {
     let rest = from_line(text, number);
     let place = Place {
@@ -119,7 +127,7 @@ fn numbered_place(
 /// The place of the line that is refused; nothing if out of memory.
 fn place(alloc: Global, refused: Refused, name: &str, text: &[u8]) -> Result<String, AllocError>
     ensures { IfOk result (λ shown.
-        IsPlaceOf (number_of refused) name.now text.now (string_bytes shown)) }
+        IsPlaceOf (number_of refused) refused name.now text.now (string_bytes shown)) }
 {
     match line_number(refused) {
         Some(number) => numbered_place(alloc, refused, name, number, text),

@@ -1,5 +1,18 @@
 // Why a program is refused, in a sentence.
 
+ghost use Rattle.std.specs.Prelude.{◌≡◌, ◌+◌, ◌^◌, ◌<◌, length, IfOk, string_bytes};
+ghost use Rattle.std.specs.Option.{option_map};
+ghost use Rattle.std.specs.Str.Lines.{lines};
+ghost use Rattle.refusal_guide.specs.Lines.{first_of, bytes_from};
+ghost use Rattle.refusal_guide.specs.Words.{named_by, said_by};
+ghost use Rattle.refusal_guide.specs.BadBytes.{IsByteReason};
+ghost use Rattle.refusal_guide.specs.Sentences.{not_dmis_said, no_statement_said, ended_said, truncated_said, too_long_said, column_said};
+ghost use Rattle.refusal_guide.specs.Sentences.{minor_cause, minor_said, major_said, has_minor, unsupported_said, direction_said, zero_vector_said};
+ghost use Rattle.refusal_guide.specs.Sentences.{outside_said, inside_said, frame_said, frame_named, frame_said_of, first_said, millimetres_said, prog_mode_said};
+ghost use Rattle.refusal_guide.specs.Reasons.{spot_at, spot_of, IsOfStatement, IsOfLine, IsOfPlace, IsProgramReason};
+ghost use Rattle.refusal_guide.specs.Sentences.{no_tool_said, too_large_said, automatic_text, few_text, touches_text, block_said, inside_block_said, too_few_points_said};
+ghost use Rattle.refusal_guide.specs.Blocks.{opened_by};
+
 use crate::arguments::{argument_reason, count_before, within};
 use crate::bad_bytes::bad_byte;
 use crate::blocks::{Block, last_statement, open_block, open_line};
@@ -17,7 +30,10 @@ use session_telling::visible;
 use std::alloc::{AllocError, Global};
 
 /// Why a program cannot begin with this statement.
-fn not_dmis(alloc: Global, found: Found) -> Result<Reason, AllocError> {
+fn not_dmis(alloc: Global, found: Found) -> Result<Reason, AllocError>
+    ensures { IfOk result (λ reason. said_by reason
+        ≡ not_dmis_said found.entry.rest.now found.entry.statement.now) }
+{
     let word = found.word();
     word.reason(
         alloc,
@@ -27,7 +43,10 @@ fn not_dmis(alloc: Global, found: Found) -> Result<Reason, AllocError> {
 }
 
 /// Why a text without a statement is not a program.
-fn no_statement(alloc: Global) -> Result<Reason, AllocError> {
+fn no_statement(alloc: Global) -> Result<Reason, AllocError>
+    ensures { IfOk result (λ reason. said_by reason
+        ≡ no_statement_said) }
+{
     Reason::of_text(
         alloc,
         "The file has no statement, and a program begins with DMISMN.",
@@ -35,7 +54,10 @@ fn no_statement(alloc: Global) -> Result<Reason, AllocError> {
 }
 
 /// That the end is missing after this statement.
-fn ended_reason(alloc: Global, last: &Statement) -> Result<Reason, AllocError> {
+fn ended_reason(alloc: Global, last: &Statement) -> Result<Reason, AllocError>
+    ensures { IfOk result (λ reason. said_by reason
+        ≡ ended_said last.now) }
+{
     let word = Word {
         bytes: &last.word,
         at: None,
@@ -50,15 +72,21 @@ fn ended_reason(alloc: Global, last: &Statement) -> Result<Reason, AllocError> {
 }
 
 /// That the end is missing.
-fn truncated(alloc: Global, place: Place) -> Result<Option<Reason>, AllocError> {
+fn truncated(alloc: Global, place: Place) -> Result<Option<Reason>, AllocError>
+    ensures { IfOk result (λ reason. option_map said_by reason
+        ≡ truncated_said place.entry.text.now) }
+{
     match last_statement(alloc, place.text)? {
-        Some(last) => Reason::given(ended_reason(alloc, &last)),
+        Some(last) => Ok(Some(ended_reason(alloc, &last)?)),
         None => Ok(None),
     }
 }
 
 /// How long a line is that is too long.
-fn too_long(alloc: Global, place: Place) -> Result<Reason, AllocError> {
+fn too_long(alloc: Global, place: Place) -> Result<Reason, AllocError>
+    ensures { IfOk result (λ reason. said_by reason
+        ≡ too_long_said (length (first_of (lines place.entry.rest.now)))) }
+{
     let count = first_line(place.rest).len();
     let said = format!(in alloc;
         "The line has {count} bytes before its end, and at most 4096 are allowed."
@@ -67,7 +95,9 @@ fn too_long(alloc: Global, place: Place) -> Result<Reason, AllocError> {
 }
 
 /// That this byte is not allowed in this column.
-fn column_reason(alloc: Global, at: usize, byte: u8) -> Result<Reason, AllocError> {
+fn column_reason(alloc: Global, at: usize, byte: u8) -> Result<Reason, AllocError>
+    ensures { IfOk result (λ reason. said_by reason ≡ column_said at byte) }
+{
     let column = at.saturating_add(1);
     let why = if byte >= 128 {
         "is allowed only in texts and in comments."
@@ -80,26 +110,42 @@ fn column_reason(alloc: Global, at: usize, byte: u8) -> Result<Reason, AllocErro
 }
 
 /// Which byte is not allowed where it is.
-fn byte_reason(alloc: Global, place: Place) -> Result<Option<Reason>, AllocError> {
+fn byte_reason(alloc: Global, place: Place) -> Result<Option<Reason>, AllocError>
+    ensures { IfOk result (λ reason. IsByteReason place.entry.text.now place.entry.rest.now
+        (option_map said_by reason)) }
+{
     match bad_byte(alloc, place)? {
-        Some((at, byte)) => Reason::given(column_reason(alloc, at, byte)),
+        Some((at, byte)) => Ok(Some(column_reason(alloc, at, byte)?)),
         None => Ok(None),
     }
 }
 
-/// What is not carried out: a major word with its minor word.
-fn unsupported_minor(alloc: Global, found: Found, minor: &[u8]) -> Result<Reason, AllocError> {
-    let behind = if found.is(b"RECALL") {
+/// Why a minor word is not carried out.
+fn minor_cause(found: Found) -> &'static str
+    ensures { result.now ≡ minor_cause found.entry.statement.now.word }
+{
+    if found.is(b"RECALL") {
         " is not carried out: RECALL/D(name) selects a stored frame."
     } else {
         " is not carried out: only CART coordinates are."
-    };
+    }
+}
+
+/// What is not carried out: a major word with its minor word.
+fn unsupported_minor(alloc: Global, found: Found, minor: &[u8]) -> Result<Reason, AllocError>
+    ensures { IfOk result (λ reason. said_by reason
+        ≡ minor_said found.entry.rest.now found.entry.statement.now minor.now) }
+{
+    let behind = minor_cause(found);
     let major = found.word().between(alloc, "", "/")?;
     found.in_param(0, minor).reason(alloc, &major, behind)
 }
 
 /// What is not carried out: a major word.
-fn unsupported_major(alloc: Global, found: Found) -> Result<Reason, AllocError> {
+fn unsupported_major(alloc: Global, found: Found) -> Result<Reason, AllocError>
+    ensures { IfOk result (λ reason. said_by reason
+        ≡ major_said found.entry.rest.now found.entry.statement.now) }
+{
     let (before, behind) = if found.is(b"DMISMN") {
         (
             "This is a second ",
@@ -112,12 +158,17 @@ fn unsupported_major(alloc: Global, found: Found) -> Result<Reason, AllocError> 
 }
 
 /// Whether a minor word may follow the major word.
-fn has_minor(found: Found) -> bool {
+fn has_minor(found: Found) -> bool
+    ensures { result ≡ has_minor found.entry.statement.now.word }
+{
     found.is(b"GOTO") || found.is(b"PTMEAS") || found.is(b"RECALL")
 }
 
 /// What is not carried out: a major word, or its minor word.
-fn unsupported(alloc: Global, found: Found) -> Result<Reason, AllocError> {
+fn unsupported(alloc: Global, found: Found) -> Result<Reason, AllocError>
+    ensures { IfOk result (λ reason. said_by reason
+        ≡ unsupported_said found.entry.rest.now found.entry.statement.now) }
+{
     match found.statement.params.split_first() {
         Some((minor, _)) if has_minor(found) => unsupported_minor(alloc, found, minor),
         _ => unsupported_major(alloc, found),
@@ -169,9 +220,9 @@ fn parameter_reason(
     };
     let word = found.in_param(index, numeral);
     if word.bytes.is_empty() {
-        return Reason::given(empty_reason(alloc, found, index.saturating_add(1), word));
+        return Ok(Some(empty_reason(alloc, found, index.saturating_add(1), word)?));
     }
-    Reason::given(numeral_reason(alloc, word, fault, measure))
+    Ok(Some(numeral_reason(alloc, word, fault, measure)?))
 }
 
 /// Which numeral does not read, and why.
@@ -189,7 +240,10 @@ fn bad_numeral(alloc: Global, found: Found) -> Result<Option<Reason>, AllocError
 }
 
 /// That a direction of these components is zero.
-fn direction_reason(alloc: Global, i: Word, j: Word, k: Word) -> Result<Reason, AllocError> {
+fn direction_reason(alloc: Global, i: Word, j: Word, k: Word) -> Result<Reason, AllocError>
+    ensures { IfOk result (λ reason. said_by reason
+        ≡ direction_said (named_by i.entry) (named_by j.entry) (named_by k.entry)) }
+{
     let second = j.between(alloc, ",", ",")?;
     let behind = k.between(
         alloc,
@@ -200,21 +254,27 @@ fn direction_reason(alloc: Global, i: Word, j: Word, k: Word) -> Result<Reason, 
 }
 
 /// Why three components are not a direction.
-fn zero_vector(alloc: Global, found: Found) -> Result<Option<Reason>, AllocError> {
+fn zero_vector(alloc: Global, found: Found) -> Result<Option<Reason>, AllocError>
+    ensures { IfOk result (λ reason. option_map said_by reason
+        ≡ zero_vector_said found.entry.rest.now found.entry.statement.now) }
+{
     let params: &[Text] = &found.statement.params;
     let [_, _, _, _, i, j, k] = params else {
         return Ok(None);
     };
-    Reason::given(direction_reason(
+    Ok(Some(direction_reason(
         alloc,
         found.in_param(4, i),
         found.in_param(5, j),
         found.in_param(6, k),
-    ))
+    )?))
 }
 
 /// Why a statement may not be outside a block.
-fn outside_block(alloc: Global, found: Found) -> Result<Reason, AllocError> {
+fn outside_block(alloc: Global, found: Found) -> Result<Reason, AllocError>
+    ensures { IfOk result (λ reason. said_by reason
+        ≡ outside_said found.entry.rest.now found.entry.statement.now) }
+{
     let word = found.word();
     word.reason(
         alloc,
@@ -224,7 +284,10 @@ fn outside_block(alloc: Global, found: Found) -> Result<Reason, AllocError> {
 }
 
 /// That a statement may not be inside the block that begins at this line.
-fn inside_reason(alloc: Global, found: Found, line: u64) -> Result<Reason, AllocError> {
+fn inside_reason(alloc: Global, found: Found, line: u64) -> Result<Reason, AllocError>
+    ensures { IfOk result (λ reason. said_by reason
+        ≡ inside_said found.entry.rest.now found.entry.statement.now line) }
+{
     let behind = format!(in alloc;
         " is inside the measurement block that begins at line {line}: it has no ENDMES yet."
     )?;
@@ -232,40 +295,83 @@ fn inside_reason(alloc: Global, found: Found, line: u64) -> Result<Reason, Alloc
 }
 
 /// Why a statement may not be inside a block.
-fn inside_block(alloc: Global, place: Place, found: Found) -> Result<Option<Reason>, AllocError> {
+fn inside_block(alloc: Global, place: Place, found: Found) -> Result<Option<Reason>, AllocError>
+    ensures { IfOk result (λ reason. option_map said_by reason
+        ≡ inside_block_said place.entry.text.now found.entry.rest.now
+        place.entry.number place.entry.above found.entry.statement.now) }
+{
     match open_line(alloc, place)? {
         Some(line) => {
             let line = line.saturating_add(place.above);
-            Reason::given(inside_reason(alloc, found, line))
+            Ok(Some(inside_reason(alloc, found, line)?))
         }
         None => Ok(None),
     }
 }
 
-/// How many touches this block lacks, in a sentence, where that many lines come before the text.
-fn touches_sentence(alloc: Global, block: &Block, above: u64) -> Result<String, AllocError> {
-    let line = block.line.saturating_add(above);
-    let wanted: &str = &block.wanted;
-    let touches = block.touches;
-    if touches == 0 {
-        return format!(in alloc;
-            "The program asks for automatic measuring: MEAS at line {line} names {wanted} touches and its block has none, and only programmed touches are measured."
-        );
-    }
+/// That the block of a `MEAS` at this line has no touch.
+fn automatic_sentence(alloc: Global, line: u64, wanted: &str) -> Result<String, AllocError>
+    ensures { IfOk result (λ text. string_bytes text ≡ automatic_text line wanted.now) }
+{
+    format!(in alloc;
+        "The program asks for automatic measuring: MEAS at line {line} names {wanted} touches and its block has none, and only programmed touches are measured."
+    )
+}
+
+/// That the block of a `MEAS` at this line has too few touches.
+fn few_sentence(alloc: Global, line: u64, wanted: &str, touches: u64) -> Result<String, AllocError>
+    ensures { IfOk result (λ text. string_bytes text ≡ few_text line wanted.now touches) }
+{
     format!(in alloc; "MEAS at line {line} names {wanted} touches, and its block has {touches}.")
 }
 
+/// How many touches the block of a `MEAS` at this line lacks, in a sentence.
+fn touches_sentence(
+    alloc: Global,
+    line: u64,
+    wanted: &str,
+    touches: u64,
+) -> Result<String, AllocError>
+    ensures { IfOk result (λ text. string_bytes text ≡ touches_text line wanted.now touches) }
+{
+    if touches == 0 {
+        return automatic_sentence(alloc, line, wanted);
+    }
+    few_sentence(alloc, line, wanted, touches)
+}
+
+/// How many touches this block lacks, where that many lines come before the text.
+fn block_reason(
+    alloc: Global,
+    block: &Block,
+    above: u64,
+    found: Found,
+) -> Result<Reason, AllocError>
+    ensures { IfOk result (λ reason. said_by reason ≡ block_said found.entry.rest.now
+        found.entry.statement.now above (opened_by block.now)) }
+{
+    let line = block.line.saturating_add(above);
+    let said = touches_sentence(alloc, line, &block.wanted, block.touches)?;
+    Ok(Reason::of_word(said, found.word()))
+}
+
 /// How many touches a block lacks. If it has none, the program asks for automatic measuring.
-fn too_few(alloc: Global, place: Place, found: Found) -> Result<Option<Reason>, AllocError> {
-    let Some(block) = open_block(alloc, place)? else {
-        return Ok(None);
-    };
-    let said = touches_sentence(alloc, &block, place.above)?;
-    Ok(Some(Reason::of_word(said, found.word())))
+fn too_few(alloc: Global, place: Place, found: Found) -> Result<Option<Reason>, AllocError>
+    ensures { IfOk result (λ reason. option_map said_by reason
+        ≡ too_few_points_said place.entry.text.now found.entry.rest.now
+        place.entry.number place.entry.above found.entry.statement.now) }
+{
+    match open_block(alloc, place)? {
+        Some(block) => Ok(Some(block_reason(alloc, &block, place.above, found)?)),
+        None => Ok(None),
+    }
 }
 
 /// That a frame of this name is not stored.
-fn frame_reason(alloc: Global, name: Word) -> Result<Reason, AllocError> {
+fn frame_reason(alloc: Global, name: Word) -> Result<Reason, AllocError>
+    ensures { IfOk result (λ reason. said_by reason
+        ≡ frame_said (named_by name.entry)) }
+{
     let behind = name.between(
         alloc,
         " is stored: --setup is missing, or its file has no line FRAME ",
@@ -274,15 +380,26 @@ fn frame_reason(alloc: Global, name: Word) -> Result<Reason, AllocError> {
     name.reason(alloc, "No frame ", &behind)
 }
 
+/// Which frame, of those that a first parameter can name, is not stored.
+fn frame_named(alloc: Global, found: Found, first: &[u8]) -> Result<Option<Reason>, AllocError>
+    ensures { IfOk result (λ reason. option_map said_by reason
+        ≡ frame_named found.entry.rest.now found.entry.statement.now first.now) }
+{
+    match within(b"D(", first) {
+        Some(name) => Ok(Some(frame_reason(alloc, found.in_param(0, name))?)),
+        None => Ok(None),
+    }
+}
+
 /// Which frame is not stored.
-fn unknown_frame(alloc: Global, found: Found) -> Result<Option<Reason>, AllocError> {
+fn unknown_frame(alloc: Global, found: Found) -> Result<Option<Reason>, AllocError>
+    ensures { IfOk result (λ reason. option_map said_by reason
+        ≡ frame_said_of found.entry.rest.now found.entry.statement.now) }
+{
     let Some((first, _)) = found.statement.params.split_first() else {
         return Ok(None);
     };
-    match within(b"D(", first) {
-        Some(name) => Reason::given(frame_reason(alloc, found.in_param(0, name))),
-        None => Ok(None),
-    }
+    frame_named(alloc, found, first)
 }
 
 /// Why the first parameter is not one of those allowed there, in a sentence that has it between these texts; none if there is none.
@@ -291,15 +408,21 @@ fn first_reason(
     found: Found,
     before: &str,
     behind: &str,
-) -> Result<Option<Reason>, AllocError> {
+) -> Result<Option<Reason>, AllocError>
+    ensures { IfOk result (λ reason. option_map said_by reason
+        ≡ first_said found.entry.rest.now found.entry.statement.now before.now behind.now) }
+{
     match found.statement.params.split_first() {
-        Some((first, _)) => Reason::given(found.in_param(0, first).reason(alloc, before, behind)),
+        Some((first, _)) => Ok(Some(found.in_param(0, first).reason(alloc, before, behind)?)),
         None => Ok(None),
     }
 }
 
 /// Which unit is not the millimetre.
-fn not_millimetres(alloc: Global, found: Found) -> Result<Option<Reason>, AllocError> {
+fn not_millimetres(alloc: Global, found: Found) -> Result<Option<Reason>, AllocError>
+    ensures { IfOk result (λ reason. option_map said_by reason
+        ≡ millimetres_said found.entry.rest.now found.entry.statement.now) }
+{
     first_reason(
         alloc,
         found,
@@ -309,7 +432,10 @@ fn not_millimetres(alloc: Global, found: Found) -> Result<Option<Reason>, AllocE
 }
 
 /// Which mode is not the programmed one.
-fn no_prog_mode(alloc: Global, found: Found) -> Result<Option<Reason>, AllocError> {
+fn no_prog_mode(alloc: Global, found: Found) -> Result<Option<Reason>, AllocError>
+    ensures { IfOk result (λ reason. option_map said_by reason
+        ≡ prog_mode_said found.entry.rest.now found.entry.statement.now) }
+{
     first_reason(
         alloc,
         found,
@@ -319,7 +445,10 @@ fn no_prog_mode(alloc: Global, found: Found) -> Result<Option<Reason>, AllocErro
 }
 
 /// Which touch has no tool.
-fn no_tool(alloc: Global, found: Found) -> Result<Reason, AllocError> {
+fn no_tool(alloc: Global, found: Found) -> Result<Reason, AllocError>
+    ensures { IfOk result (λ reason. said_by reason
+        ≡ no_tool_said found.entry.rest.now found.entry.statement.now) }
+{
     let word = found.word();
     word.reason(
         alloc,
@@ -329,7 +458,10 @@ fn no_tool(alloc: Global, found: Found) -> Result<Reason, AllocError> {
 }
 
 /// Which statement is one too many.
-fn too_large(alloc: Global, found: Found) -> Result<Reason, AllocError> {
+fn too_large(alloc: Global, found: Found) -> Result<Reason, AllocError>
+    ensures { IfOk result (λ reason. said_by reason
+        ≡ too_large_said found.entry.rest.now found.entry.statement.now) }
+{
     let word = found.word();
     word.reason(
         alloc,
@@ -339,42 +471,48 @@ fn too_large(alloc: Global, found: Found) -> Result<Reason, AllocError> {
 }
 
 /// Why a statement is refused; none if no statement in this place is refused for this.
-fn statement_reason(
+fn statement_reason<'a>(
     alloc: Global,
     refusal: Refusal,
-    place: Place,
-    found: Found,
-) -> Result<Option<Reason>, AllocError> {
+    place: Place<'a>,
+    statement: &Statement<'a>,
+) -> Result<Option<Reason>, AllocError>
+    ensures { IfOk result (λ reason. IsOfStatement refusal (spot_at place.entry)
+        statement.now (option_map said_by reason)) }
+{
+    let found = Found {
+        rest: place.rest,
+        statement,
+    };
     match refusal {
-        Refusal::NotDmis => Reason::given(not_dmis(alloc, found)),
+        Refusal::NotDmis => Ok(Some(not_dmis(alloc, found)?)),
         Refusal::Truncated => truncated(alloc, place),
-        Refusal::LineTooLong => Reason::given(too_long(alloc, place)),
+        Refusal::LineTooLong => Ok(Some(too_long(alloc, place)?)),
         Refusal::BadByte => byte_reason(alloc, place),
-        Refusal::Unsupported => Reason::given(unsupported(alloc, found)),
+        Refusal::Unsupported => Ok(Some(unsupported(alloc, found)?)),
         Refusal::BadArguments => argument_reason(alloc, found),
         Refusal::BadNumeral(_) => bad_numeral(alloc, found),
-        Refusal::OutsideBlock => Reason::given(outside_block(alloc, found)),
+        Refusal::OutsideBlock => Ok(Some(outside_block(alloc, found)?)),
         Refusal::InsideBlock => inside_block(alloc, place, found),
         Refusal::TooFewPoints => too_few(alloc, place, found),
         Refusal::UnknownFrame => unknown_frame(alloc, found),
         Refusal::NotMillimetres => not_millimetres(alloc, found),
         Refusal::NoProgMode => no_prog_mode(alloc, found),
         Refusal::ZeroVector => zero_vector(alloc, found),
-        Refusal::NoTool => Reason::given(no_tool(alloc, found)),
-        Refusal::TooLarge => Reason::given(too_large(alloc, found)),
+        Refusal::NoTool => Ok(Some(no_tool(alloc, found)?)),
+        Refusal::TooLarge => Ok(Some(too_large(alloc, found)?)),
     }
 }
 
 /// Likewise if no statement that can be read begins on the line.
-fn line_reason(
-    alloc: Global,
-    refusal: Refusal,
-    place: Place,
-) -> Result<Option<Reason>, AllocError> {
+fn line_reason(alloc: Global, refusal: Refusal, place: Place) -> Result<Option<Reason>, AllocError>
+    ensures { IfOk result (λ reason. IsOfLine refusal (spot_at place.entry)
+        (option_map said_by reason)) }
+{
     match refusal {
-        Refusal::NotDmis => Reason::given(no_statement(alloc)),
+        Refusal::NotDmis => Ok(Some(no_statement(alloc)?)),
         Refusal::Truncated => truncated(alloc, place),
-        Refusal::LineTooLong => Reason::given(too_long(alloc, place)),
+        Refusal::LineTooLong => Ok(Some(too_long(alloc, place)?)),
         Refusal::BadByte => byte_reason(alloc, place),
         Refusal::Unsupported
         | Refusal::BadArguments
@@ -392,19 +530,12 @@ fn line_reason(
 }
 
 /// Why a program is refused in this place; none if no text in this place is refused for this.
-fn place_reason(
-    alloc: Global,
-    refusal: Refusal,
-    place: Place,
-) -> Result<Option<Reason>, AllocError> {
+fn place_reason(alloc: Global, refusal: Refusal, place: Place) -> Result<Option<Reason>, AllocError>
+    ensures { IfOk result (λ reason. IsOfPlace refusal (spot_at place.entry)
+        (option_map said_by reason)) }
+{
     match first_statement(alloc, place.rest)? {
-        Some(statement) => {
-            let found = Found {
-                rest: place.rest,
-                statement: &statement,
-            };
-            statement_reason(alloc, refusal, place, found)
-        }
+        Some(statement) => statement_reason(alloc, refusal, place, &statement),
         None => line_reason(alloc, refusal, place),
     }
 }
@@ -414,7 +545,24 @@ pub(crate) fn program_reason(
     alloc: Global,
     refusal: Refusal,
     place: Place,
-) -> Result<Reason, AllocError> {
+) -> Result<Reason, AllocError>
+    ensures { IfOk result (λ reason. IsProgramReason refusal (spot_at place.entry)
+        (said_by reason)) }
+{
     let topic = Topic::of_refusal(refusal);
-    Reason::or_topic(alloc, place_reason(alloc, refusal, place), topic)
+    Reason::or_topic(alloc, place_reason(alloc, refusal, place)?, topic)
+}
+
+/// Likewise for a line of a whole program.
+pub(crate) fn whole_reason(
+    alloc: Global,
+    refusal: Refusal,
+    place: Place,
+) -> Result<Reason, AllocError>
+    requires rest { place.rest.now ≡ bytes_from place.number place.text.now }
+    requires above { place.above ≡ 0 }
+    ensures { IfOk result (λ reason. IsProgramReason refusal
+        (spot_of place.entry.text.now place.entry.number 0) (said_by reason)) }
+{
+    program_reason(alloc, refusal, place)
 }

@@ -162,7 +162,7 @@ impl<'a> Entry<'a> {
         let behind = format!(in alloc;
             " has {count} {touches}, and the number of unused contacts above is {unused}."
         )?;
-        Reason::given(label.reason(alloc, "", &behind))
+        Ok(Some(label.reason(alloc, "", &behind)?))
     }
 
     /// Why the contacts above do not complete a feature.

@@ -58,7 +58,7 @@ fn touched_reason(alloc: Global, line: &[u8], values: &[u8]) -> Result<Option<Re
         Some(fields) => {
             numeral_reason(alloc, line, line.len().saturating_sub(values.len()), fields)
         }
-        None => Reason::given(count_reason(alloc, values)),
+        None => Ok(Some(count_reason(alloc, values)?)),
     }
 }
 
@@ -95,7 +95,7 @@ fn third_reason(alloc: Global, line: &[u8], rest: &[u8]) -> Result<Option<Reason
     };
     let from = line.len().saturating_sub(rest.len());
     let third = Word::found(line, from, third);
-    Reason::given(third.reason(alloc, "", " is one field too many."))
+    Ok(Some(third.reason(alloc, "", " is one field too many.")?))
 }
 
 /// Why what follows a word is not valid, if the word takes this.
@@ -107,13 +107,13 @@ fn behind_word(
     taken: &str,
 ) -> Result<Option<Reason>, AllocError> {
     let Some((field, rest)) = cut_field(rest) else {
-        return Reason::given(nothing_reason(alloc, Word::found(line, 0, word), taken));
+        return Ok(Some(nothing_reason(alloc, Word::found(line, 0, word), taken)?));
     };
     if is_word(b"machine", word) && is_word(b"touched", field) {
         return touched_reason(alloc, line, rest);
     }
     if !asks(alloc, word, field)? {
-        return Reason::given(field_reason(alloc, line, word, field, taken));
+        return Ok(Some(field_reason(alloc, line, word, field, taken)?));
     }
     third_reason(alloc, line, rest)
 }
@@ -121,7 +121,7 @@ fn behind_word(
 /// Why a line is not an instruction; none if it is one.
 fn bad_line(alloc: Global, line: &[u8]) -> Result<Option<Reason>, AllocError> {
     if has_outer_space(line) {
-        return Reason::given(space_reason(alloc, line));
+        return Ok(Some(space_reason(alloc, line)?));
     }
     let Some((field, rest)) = cut_field(line) else {
         return Ok(None);
@@ -130,11 +130,11 @@ fn bad_line(alloc: Global, line: &[u8]) -> Result<Option<Reason>, AllocError> {
         return behind_word(alloc, line, field, rest, taken);
     }
     let word = Word::found(line, 0, field);
-    Reason::given(word.reason(alloc, "", " is not a word of a schedule."))
+    Ok(Some(word.reason(alloc, "", " is not a word of a schedule.")?))
 }
 
 /// Why a line of a schedule is not an instruction. If the text is not one that is refused for this, what the refusal means.
 pub(crate) fn schedule_reason(alloc: Global, place: Place) -> Result<Reason, AllocError> {
     let reason = bad_line(alloc, first_line(place.rest));
-    Reason::or_topic(alloc, reason, Topic::ScheduleLine)
+    Reason::or_topic(alloc, reason?, Topic::ScheduleLine)
 }

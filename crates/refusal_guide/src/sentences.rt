@@ -1,6 +1,8 @@
 // The sentence on a refusal by itself, without its line.
 
-ghost use Rattle.std.specs.Prelude.{◌≡◌, ◌++◌, List, ℕ, OnOk, OnErr, string_bytes};
+ghost use Rattle.std.specs.Prelude.{◌≡◌, OnOk, OnErr, IfOk, string_bytes};
+ghost use Rattle.refusal_guide.specs.Reasons.{spot_at};
+ghost use Rattle.refusal_guide.specs.Passages.{spot_in, IsSentence, Tells};
 
 use crate::lines::{Place, from_line};
 use crate::programs::program_reason;
@@ -20,7 +22,9 @@ pub struct Passage<'a> {
 }
 
 /// The passage as a place of its own text.
-fn place_of(passage: Passage) -> Place {
+fn place_of(passage: Passage) -> Place
+    ensures { spot_at result ≡ spot_in passage.entry }
+{
     let above = passage.first.saturating_sub(1);
     let number = passage.line.saturating_sub(above);
     Place {
@@ -32,8 +36,11 @@ fn place_of(passage: Passage) -> Place {
 }
 
 /// The sentence on a refusal.
-fn sentence(alloc: Global, refusal: Refusal, passage: Passage) -> Result<String, AllocError> {
-    Ok(program_reason(alloc, refusal, place_of(passage))?.said)
+fn sentence(alloc: Global, refusal: Refusal, passage: Passage) -> Result<String, AllocError>
+    ensures { IfOk result (λ text. IsSentence refusal (spot_in passage.entry) (string_bytes text)) }
+{
+    let reason = program_reason(alloc, refusal, place_of(passage))?;
+    Ok(reason.said)
 }
 
 /// Appends the sentence on a refusal of a program that `write_place` has below the line. Fails only if out of memory, and then nothing is
@@ -43,7 +50,7 @@ pub fn write_sentence(
     refusal: Refusal,
     passage: Passage,
 ) -> Result<(), AllocError>
-    ensures ok { OnOk result ((said : List ℕ) × (out.new.items ≡ out.old.items ++ said)) }
+    ensures ok { OnOk result (Tells refusal (spot_in passage.entry) out.old.items out.new.items) }
     ensures err { OnErr result (out.new.items ≡ out.old.items) }
 {
     let said = sentence(*out.allocator(), refusal, passage)?;

@@ -64,7 +64,7 @@ fn values_reason(
     values: &[u8],
 ) -> Result<Option<Reason>, AllocError> {
     if let Some(wanted) = wanted(word.bytes, count_fields(values)) {
-        return Reason::given(count_reason(alloc, word, values, wanted));
+        return Ok(Some(count_reason(alloc, word, values, wanted)?));
     }
     match cut_field(values) {
         Some((name, _)) => name_reason(alloc, name, Word::found(line, 1, name)),
@@ -80,7 +80,7 @@ fn is_known(word: &[u8]) -> bool {
 /// Why a line is not one of a setup; none if it is one.
 fn bad_line(alloc: Global, line: &[u8]) -> Result<Option<Reason>, AllocError> {
     if has_outer_space(line) {
-        return Reason::given(space_reason(alloc, line));
+        return Ok(Some(space_reason(alloc, line)?));
     }
     let Some((field, values)) = cut_field(line) else {
         return Ok(None);
@@ -89,11 +89,11 @@ fn bad_line(alloc: Global, line: &[u8]) -> Result<Option<Reason>, AllocError> {
     if is_known(field) {
         return values_reason(alloc, line, word, values);
     }
-    Reason::given(word.reason(
+    Ok(Some(word.reason(
         alloc,
         "",
         " is not TOOL, FRAME or SHIFT: a line begins with one of these and a space.",
-    ))
+    )?))
 }
 
 /// The word and the name of a line, which a line above it may also have.
@@ -141,7 +141,7 @@ fn twice(alloc: Global, place: Place) -> Result<Option<Reason>, AllocError> {
         "The frame "
     };
     let name = Word::found(line, word.len(), name);
-    Reason::given(twice_at(alloc, before, name, first))
+    Ok(Some(twice_at(alloc, before, name, first)?))
 }
 
 /// The part of a line where its numerals should be.
@@ -174,16 +174,16 @@ fn bad_numeral(alloc: Global, line: &[u8]) -> Result<Option<Reason>, AllocError>
 /// Why a line is not one of a setup. If the text is not one that is refused for this, what the refusal means.
 pub(crate) fn setup_line_reason(alloc: Global, place: Place) -> Result<Reason, AllocError> {
     let reason = bad_line(alloc, first_line(place.rest));
-    Reason::or_topic(alloc, reason, Topic::SetupLine)
+    Reason::or_topic(alloc, reason?, Topic::SetupLine)
 }
 
 /// Which name of a setup is given twice, and where it was given first.
 pub(crate) fn setup_twice_reason(alloc: Global, place: Place) -> Result<Reason, AllocError> {
-    Reason::or_topic(alloc, twice(alloc, place), Topic::SetupTwice)
+    Reason::or_topic(alloc, twice(alloc, place)?, Topic::SetupTwice)
 }
 
 /// Which numeral of a setup does not read, and why.
 pub(crate) fn setup_numeral_reason(alloc: Global, place: Place) -> Result<Reason, AllocError> {
     let reason = bad_numeral(alloc, first_line(place.rest));
-    Reason::or_topic(alloc, reason, Topic::SetupNumeral)
+    Reason::or_topic(alloc, reason?, Topic::SetupNumeral)
 }

@@ -1,6 +1,10 @@
 // The statement that is refused, and where its words are.
 
-ghost use Rattle.std.specs.Prelude.{◌≡◌, ◌∷◌, IfOk, IfSome};
+ghost use Rattle.std.specs.Prelude.{◌≡◌, ◌∷◌, [], IfOk, IfSome, IfNone, Some, slice_get};
+ghost use Rattle.std.specs.Str.{bytes_eq};
+ghost use Rattle.dmis_text.specs.Reading.{text_reading};
+ghost use Rattle.refusal_guide.specs.Words.{named_by};
+ghost use Rattle.refusal_guide.specs.Spots.{after_word, after_label, after_params, word_from, label_spot, part_spot, word_spot, param_spot};
 
 use crate::words::{Word, place_from};
 use dmis_text::{Statement, Statements, Text, TextFault};
@@ -17,8 +21,11 @@ pub(crate) struct Found<'s, 'a> {
 pub(crate) fn next_statement<'a>(
     statements: &mut Statements<'a>,
 ) -> Result<Option<Statement<'a>>, AllocError>
-    ensures { IfOk result (λ given. IfSome given
+    ensures next { IfOk result (λ given. IfSome given
         (λ s. statements.old.left ≡ s ∷ statements.new.left)) }
+    ensures end { IfOk result (λ given. IfNone given (statements.old.left ≡ [])) }
+    ensures passed { IfOk result (λ given. IfNone given (statements.new.left ≡ [])) }
+    ensures fault { statements.new.fault ≡ statements.old.fault }
 {
     match statements.next() {
         Ok(statement) => Ok(statement),
@@ -32,25 +39,33 @@ pub(crate) fn next_statement<'a>(
 pub(crate) fn first_statement(
     alloc: Global,
     text: &[u8],
-) -> Result<Option<Statement<'_>>, AllocError> {
+) -> Result<Option<Statement<'_>>, AllocError>
+    ensures { IfOk result (λ given. given ≡ slice_get (text_reading text.now).statements 0) }
+{
     next_statement(&mut Statements::new(alloc, text))
 }
 
 /// The place after these bytes, which are searched for from this place on.
-fn behind(text: &[u8], from: Option<usize>, wanted: &[u8]) -> Option<usize> {
+fn behind(text: &[u8], from: Option<usize>, wanted: &[u8]) -> Option<usize>
+    ensures { result ≡ after_word text.now from wanted.now }
+{
     let at = place_from(text, from?, wanted)?;
     Some(at + wanted.len())
 }
 
 impl<'s, 'a> Found<'s, 'a> {
     /// Whether this is the major word.
-    pub(crate) fn is(&self, word: &[u8]) -> bool {
+    pub(crate) fn is(&self, word: &[u8]) -> bool
+        ensures { result ≡ bytes_eq self.now.statement.now.word word.now }
+    {
         let major: &[u8] = &self.statement.word;
         major == word
     }
 
     /// The place after the label; the start if there is none.
-    fn behind_label(&self) -> Option<usize> {
+    fn behind_label(&self) -> Option<usize>
+        ensures { result ≡ after_label self.now.rest.now self.now.statement.now.label }
+    {
         match &self.statement.label {
             Some(label) => behind(self.rest, Some(0), label),
             None => Some(0),
@@ -58,16 +73,22 @@ impl<'s, 'a> Found<'s, 'a> {
     }
 
     /// The place after the first `count` parameters.
-    fn behind_params(&self, count: usize) -> Option<usize> {
+    fn behind_params(&self, count: usize) -> Option<usize>
+        ensures { result ≡ after_params self.now.rest.now self.now.statement.now count }
+    {
         let mut place = behind(self.rest, self.behind_label(), &self.statement.word);
-        for param in self.statement.params.iter().take(count) {
+        let params: &[Text] = &self.statement.params;
+        let (front, _) = params.split_at(count.min(params.len()));
+        for param in front {
             place = behind(self.rest, place, param);
         }
         place
     }
 
     /// The word of these bytes, searched for from this place on.
-    fn word_from(&self, place: Option<usize>, wanted: &'s [u8]) -> Word<'s> {
+    fn word_from(&self, place: Option<usize>, wanted: &'s [u8]) -> Word<'s>
+        ensures { named_by result ≡ word_from self.now.rest.now place wanted.now }
+    {
         match place {
             Some(place) => Word::found(self.rest, place, wanted),
             None => Word {
@@ -78,22 +99,31 @@ impl<'s, 'a> Found<'s, 'a> {
     }
 
     /// This label.
-    pub(crate) fn label(&self, label: &'s Text<'a>) -> Word<'s> {
+    pub(crate) fn label(&self, label: &'s Text<'a>) -> Word<'s>
+        ensures { named_by result ≡ label_spot self.now.rest.now label.now }
+    {
         self.word_from(Some(0), label)
     }
 
     /// The major word.
-    pub(crate) fn word(&self) -> Word<'s> {
+    pub(crate) fn word(&self) -> Word<'s>
+        ensures { named_by result ≡ word_spot self.now.rest.now self.now.statement.now }
+    {
         self.word_from(self.behind_label(), &self.statement.word)
     }
 
     /// A part of the major word.
-    pub(crate) fn in_word(&self, part: &'s [u8]) -> Word<'s> {
+    pub(crate) fn in_word(&self, part: &'s [u8]) -> Word<'s>
+        ensures { named_by result ≡ part_spot self.now.rest.now self.now.statement.now part.now }
+    {
         self.word_from(self.behind_label(), part)
     }
 
     /// A part of the parameter of this number, counted from 0.
-    pub(crate) fn in_param(&self, index: usize, part: &'s [u8]) -> Word<'s> {
+    pub(crate) fn in_param(&self, index: usize, part: &'s [u8]) -> Word<'s>
+        ensures { named_by result
+            ≡ param_spot self.now.rest.now self.now.statement.now index part.now }
+    {
         self.word_from(self.behind_params(index), part)
     }
 }

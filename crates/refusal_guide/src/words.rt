@@ -1,6 +1,7 @@
 // The word of a line that a sentence names.
 
-ghost use Rattle.std.specs.Prelude.{◌≡◌, ◌≤◌, ◌+◌, length, take, drop, IfSome};
+ghost use Rattle.std.specs.Prelude.{◌≡◌, ◌≤◌, ◌+◌, ◌<◌, ℕ, false, true, length, IfOk, IfSome, string_bytes};
+ghost use Rattle.refusal_guide.specs.Words.{first_place, is_at, word_in, shown_word, between, naming, said_of, plain, named_by, said_by};
 
 use crate::topics::Topic;
 use session_telling::visible;
@@ -20,8 +21,7 @@ impl<'a> Word<'a> {
     /// The word of these bytes in a text, its letters in any case: the first from this place on, as it is written there. If it is not
     /// found, it is the bytes themselves.
     pub(crate) fn found(text: &'a [u8], from: usize, wanted: &'a [u8]) -> Word<'a>
-        ensures { IfSome result.at (λ at. result.bytes.now
-            ≡ take (length wanted.now) (drop at text.now)) }
+        ensures { named_by result ≡ word_in text.now from wanted.now }
     {
         match place_from(text, from, wanted) {
             Some(at) => {
@@ -40,7 +40,9 @@ impl<'a> Word<'a> {
     }
 
     /// The word as a sentence shows it: with at most 100 of its bytes.
-    pub(crate) fn shown(&self, alloc: Global) -> Result<String, AllocError> {
+    pub(crate) fn shown(&self, alloc: Global) -> Result<String, AllocError>
+        ensures { IfOk result (λ text. string_bytes text ≡ shown_word self.now.bytes.now) }
+    {
         if self.bytes.is_empty() {
             return String::from_str(alloc, "(nothing)");
         }
@@ -58,7 +60,10 @@ impl<'a> Word<'a> {
         alloc: Global,
         before: &str,
         behind: &str,
-    ) -> Result<String, AllocError> {
+    ) -> Result<String, AllocError>
+        ensures { IfOk result (λ text. string_bytes text
+            ≡ between before.now (named_by self.now) behind.now) }
+    {
         let shown = self.shown(alloc)?;
         format!(in alloc; "{before}{shown}{behind}")
     }
@@ -69,7 +74,10 @@ impl<'a> Word<'a> {
         alloc: Global,
         before: &str,
         behind: &str,
-    ) -> Result<Reason, AllocError> {
+    ) -> Result<Reason, AllocError>
+        ensures { IfOk result (λ reason. said_by reason
+            ≡ naming before.now (named_by self.now) behind.now) }
+    {
         let said = self.between(alloc, before, behind)?;
         Ok(Reason::of_word(said, *self))
     }
@@ -77,7 +85,11 @@ impl<'a> Word<'a> {
 
 /// The first place from this one on at which these bytes are found, letters in any case.
 pub(crate) fn place_from(text: &[u8], from: usize, wanted: &[u8]) -> Option<usize>
-    ensures { IfSome result (λ at. at + length wanted.now ≤ length text.now) }
+    ensures place { result ≡ first_place text.now from wanted.now }
+    ensures least { IfSome result (λ at. (k : ℕ) → from ≤ k → k < at
+        → is_at text.now wanted.now k ≡ false) }
+    ensures found { IfSome result (λ at. is_at text.now wanted.now at ≡ true) }
+    ensures within { IfSome result (λ at. at + length wanted.now ≤ length text.now) }
 {
     if wanted.len() > text.len() {
         return None;
@@ -103,7 +115,9 @@ pub(crate) struct Reason {
 
 impl Reason {
     /// A sentence that names this word.
-    pub(crate) fn of_word(said: String, word: Word) -> Reason {
+    pub(crate) fn of_word(said: String, word: Word) -> Reason
+        ensures { said_by result ≡ said_of (string_bytes said) (named_by word.entry) }
+    {
         match word.at {
             Some(at) => Reason {
                 said,
@@ -115,7 +129,9 @@ impl Reason {
     }
 
     /// A sentence of these words, which names no word of its line.
-    pub(crate) fn of_text(alloc: Global, text: &str) -> Result<Reason, AllocError> {
+    pub(crate) fn of_text(alloc: Global, text: &str) -> Result<Reason, AllocError>
+        ensures { IfOk result (λ reason. said_by reason ≡ plain text.now) }
+    {
         Ok(Reason::of_line(String::from_str(alloc, text)?))
     }
 
@@ -127,22 +143,21 @@ impl Reason {
     /// This reason, or what the refusal of a topic means if there is none.
     pub(crate) fn or_topic(
         alloc: Global,
-        reason: Result<Option<Reason>, AllocError>,
+        reason: Option<Reason>,
         topic: Topic,
-    ) -> Result<Reason, AllocError> {
-        match reason? {
+    ) -> Result<Reason, AllocError>
+        ensures { IfOk result (λ given. IfSome reason (λ wanted. given ≡ wanted)) }
+    {
+        match reason {
             Some(reason) => Ok(reason),
             None => Reason::of_topic(alloc, topic),
         }
     }
 
-    /// A reason that always exists.
-    pub(crate) fn given(reason: Result<Reason, AllocError>) -> Result<Option<Reason>, AllocError> {
-        Ok(Some(reason?))
-    }
-
     /// A sentence that names no word of its line.
-    pub(crate) fn of_line(said: String) -> Reason {
+    pub(crate) fn of_line(said: String) -> Reason
+        ensures { said_by result ≡ plain (string_bytes said) }
+    {
         Reason {
             said,
             at: 0,

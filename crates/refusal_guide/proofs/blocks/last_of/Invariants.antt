@@ -1,5 +1,10 @@
-use Rattle.std.proofs.Common.{length}
+use Rattle.std.proofs.Common.{◌≡◌, length, None}
+use Rattle.std.specs.List.{last_or}
 use Rattle.refusal_guide.proofs.blocks.last_of.Given as goal
+
+-- the last so far and those that are left are all of them
+abbrev pub invariant-loop-last : goal.invariant-loop-last
+invariant-loop-last l = last_or l.last l.statements.left ≡ last_or None l.fn.statements.left
 
 abbrev pub decreases-loop-last : goal.decreases-loop-last
 decreases-loop-last l = length l.statements.left

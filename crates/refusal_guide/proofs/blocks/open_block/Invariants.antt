@@ -1,5 +1,13 @@
-use Rattle.std.proofs.Common.{length}
+use Rattle.std.proofs.Common.{◌≡◌, length, None}
+use Rattle.std.specs.Prelude.{fold}
+use Rattle.std.specs.Option.{option_map}
+use Rattle.refusal_guide.specs.Blocks.{opened_by, block_after, above_line, open_block}
 use Rattle.refusal_guide.proofs.blocks.open_block.Given as goal
+
+-- the block so far, followed by the statements that are left
+abbrev pub invariant-loop-block : goal.invariant-loop-block
+invariant-loop-block l = fold block_after (option_map opened_by l.block) (above_line l.place.number l.statements.left)
+    ≡ open_block l.place.text.now l.place.number
 
 abbrev pub decreases-loop-block : goal.decreases-loop-block
 decreases-loop-block l = length l.statements.left

@@ -1,18 +1,31 @@
-use Rattle.std.proofs.Common.{◌∷◌, ◌∙◌, ap}
+use Rattle.std.proofs.Common.{◌≡◌, ◌<◌, ℕ, ◌-◌, ◌+◌, suc, length, sym, ◌∙◌, ap, rules, arith}
 use Rattle.std.specs.Str.Lines.{lines}
-use Rattle.refusal_guide.proofs.LineSteps.{at_number, at_none, at_last, one_more}
+use Rattle.refusal_guide.specs.Lines.{after_feeds}
+use Rattle.refusal_guide.proofs.Feeds.{one_feed_more, some_line, last_line}
+use Rattle.refusal_guide.proofs.LineSteps.{at_last, asked_there, one_more}
 use Rattle.refusal_guide.proofs.lines.from_line.Goals as goal
 
-pub returns-in_default : goal.returns-in_default
-returns-in_default c = at_none _ _ _ _ c.loop-left.invariant (ap lines c.in_default.ensures.cut)
+pub returns-then-is_empty-clause-bytes : goal.returns-then-is_empty-clause-bytes
+returns-then-is_empty-clause-bytes c =
+    let z : length c.after_feed-after.result.now ≡ 0 = search rules in
+    c.loop-left.invariant.behind ∙ ap (λ (k : ℕ). after_feeds k c.args.text.now)
+    (at_last _ _ _ _ c.loop-left.invariant.passed c.loop-left-test.true (last_line c.loop-left.rest.now c.after_feed-after.result.now c.after_feed-after.ensures.others z))
 
-pub returns-in_default-cut_line : goal.returns-in_default-cut_line
-returns-in_default-cut_line c = at_last _ _ _ _ c.in-Some.field-0-0.now c.loop-left.invariant c.loop-left-test.true
-    (c.in-Some.ensures.cut ∙ ap (λ m. c.in-Some.field-0-0.now ∷ lines m) c.in_default-cut_line.ensures.cut)
-
-pub returns : goal.returns
-returns c = at_number _ _ _ _ c.loop-left.invariant c.loop-left-test.false
+pub returns-then-is_empty-clause-lines : goal.returns-then-is_empty-clause-lines
+returns-then-is_empty-clause-lines c =
+    let z : length c.after_feed-after.result.now ≡ 0 = search rules in
+    asked_there _ _ _ _ c.loop-left.invariant.passed
+    (at_last _ _ _ _ c.loop-left.invariant.passed c.loop-left-test.true (last_line c.loop-left.rest.now c.after_feed-after.result.now c.after_feed-after.ensures.others z))
 
 pub loop-left-preserved : goal.loop-left-preserved
-loop-left-preserved c = one_more _ _ _ _ _ _ _ _ c.loop-left.invariant c.loop-left-test.true c.in-Some.ensures.cut
-    c.in-Some-cut_line.ensures.cut
+loop-left-preserved c =
+    let z : 0 < length c.after_feed-after.result.now = search rules in
+    let p = c.loop-left.invariant.passed in
+    let d = p.down in
+    let t = c.loop-left-test.true in
+    let k : suc (c.args.number - c.loop-left.left) ≡ c.args.number - (c.loop-left.left - 1) = omega arith in
+    record {
+      passed = one_more _ _ _ _ _ p t c.after_feed-after.ensures.others (some_line c.after_feed-after.result.now z);
+      behind = c.after_feed-after.ensures.after ∙ (ap (after_feeds 1) c.loop-left.invariant.behind
+          ∙ (sym (one_feed_more (c.args.number - c.loop-left.left) c.args.text.now) ∙ ap (λ (j : ℕ). after_feeds j c.args.text.now) k));
+    }

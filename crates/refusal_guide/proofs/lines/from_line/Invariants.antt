@@ -1,9 +1,11 @@
+use Rattle.std.proofs.Common.{◌≡◌, ◌-◌}
 use Rattle.std.specs.Str.Lines.{lines}
+use Rattle.refusal_guide.specs.Lines.{after_feeds}
 use Rattle.refusal_guide.proofs.LineSteps.{IsPassed}
 use Rattle.refusal_guide.proofs.lines.from_line.Given as goal
 
 abbrev pub invariant-loop-left : goal.invariant-loop-left
-invariant-loop-left l = IsPassed l.number l.left (lines l.text) (lines l.rest)
+invariant-loop-left l = record { passed : IsPassed l.number l.left (lines l.text) (lines l.rest); behind : l.rest ≡ after_feeds (l.number - l.left) l.text }
 
 abbrev pub decreases-loop-left : goal.decreases-loop-left
 decreases-loop-left l = l.left

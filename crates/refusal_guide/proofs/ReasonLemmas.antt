@@ -1,0 +1,35 @@
+-- The sentence of a place, from that of its statement or of its line.
+use Rattle.std.proofs.Common.{◌≡◌, Option, Some, None, IfSome, refl, ap, subst}
+use Rattle.std.specs.Prelude.{slice_get}
+use Rattle.std.specs.Option.{option_map}
+use Rattle.dmis_text.specs.Reading.{text_reading}
+use Rattle.dmis_text.specs.declared.elements.Statement.{Statement}
+use Rattle.dmis_program.specs.declared.faults.Refusal.{Refusal}
+use Rattle.refusal_guide.specs.declared.words.Reason.{Reason}
+use Rattle.refusal_guide.specs.declared.lines.Place.{Place}
+use Rattle.refusal_guide.specs.Lines.{bytes_from}
+use Rattle.refusal_guide.specs.Words.{Said, said_by}
+use Rattle.refusal_guide.specs.Reasons.{Spot, spot_at, spot_of, IsOfStatement, IsOfLine, IsOfEither, IsOfPlace, IsProgramReason}
+
+shown_given : (r : Option Reason) (g : Reason) → IfSome r (λ w. g ≡ w) → IfSome (option_map said_by r) (λ s. said_by g ≡ s)
+shown_given None g h = tt
+shown_given (Some w) g h = ap said_by h
+
+pub reasoned : (refusal : Refusal) (p : Spot) (r : Option Reason) (g : Reason) → IsOfPlace refusal p (option_map said_by r)
+    → IfSome r (λ w. g ≡ w) → IsProgramReason refusal p (said_by g)
+reasoned refusal p r g h e = record { given = option_map said_by r; on_place = h; is_shown = shown_given r g e }
+
+-- a statement begins on the line
+pub on_statement : (refusal : Refusal) (p : Spot) (s : Statement) (o : Option Said) → Some s ≡ slice_get (text_reading p.rest).statements 0
+    → IsOfStatement refusal p s o → IsOfPlace refusal p o
+on_statement refusal p s o e h = subst (λ (x : Option Statement). IsOfEither refusal p x o) e h
+
+-- none does
+pub on_line : (refusal : Refusal) (p : Spot) (o : Option Said) → None ≡ slice_get (text_reading p.rest).statements 0
+    → IsOfLine refusal p o → IsOfPlace refusal p o
+on_line refusal p o e h = subst (λ (x : Option Statement). IsOfEither refusal p x o) e h
+
+-- a line of a whole text
+pub spot_is : (place : Place) → place.rest.now ≡ bytes_from place.number place.text.now → place.above ≡ 0
+    → spot_at place ≡ spot_of place.text.now place.number 0
+spot_is place e f = rw (e, f) refl

@@ -1,0 +1,13 @@
+use Rattle.std.proofs.Common.{◌∷◌, sym, ◌∙◌, ap}
+use Rattle.std.specs.Option.{option_map}
+use Rattle.dmis_text.specs.Reading.{Unread}
+use Rattle.refusal_guide.specs.Blocks.{opened_by}
+use Rattle.refusal_guide.proofs.BlockLemmas.{block_step}
+use Rattle.refusal_guide.proofs.blocks.open_block.Goals as goal
+
+pub loop-block-preserved : goal.loop-block-preserved
+loop-block-preserved c =
+    block_step c.args.place.number (option_map opened_by c.loop-block.block) (option_map opened_by c.in_ok-block.block) _ c.in-Some.statement
+    c.loop-block.statements.left c.take_back.new.self.left
+    ((rw c.in-Some.is at c.in_ok-statement.ensures.next) ∙ ap (λ (u : Unread). c.in-Some.statement ∷ u.left) (sym c.take_back.ensures))
+    (rw c.in-Some.is at c.in_ok-statement.ensures.above) c.in_ok-block.ensures c.loop-block.invariant

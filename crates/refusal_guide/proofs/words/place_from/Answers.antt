@@ -1,0 +1,15 @@
+use Rattle.std.proofs.Common.{◌≡◌, true, rules, sym, arith}
+use Rattle.refusal_guide.specs.Words.{is_at}
+use Rattle.refusal_guide.proofs.Searches.{found_first, found_none}
+use Rattle.refusal_guide.proofs.words.place_from.Goals as goal
+
+pub returns-then-eq_ignore_ascii_case-clause-place : goal.returns-then-eq_ignore_ascii_case-clause-place
+returns-then-eq_ignore_ascii_case-clause-place c =
+    let t : is_at c.args.text.now c.args.wanted.now c.loop-at.at ≡ true = search rules in
+    sym (found_first (is_at c.args.text.now c.args.wanted.now) _ c.args.from c.loop-at.at (omega arith) (omega arith)
+    c.loop-at.invariant t)
+
+pub returns-clause-place : goal.returns-clause-place
+returns-clause-place c =
+    sym (found_none (is_at c.args.text.now c.args.wanted.now) _ c.args.from
+    (λ k a b. c.loop-at.invariant k a (omega arith)))

@@ -1,0 +1,20 @@
+-- Examples of statements (ISO 22093). No contract cites these definitions.
+use Rattle.std.specs.Prelude.{[], ◌∷◌, codes, Some, None}
+use Rattle.dmis_text.specs.declared.elements.Statement.{Statement}
+use Rattle.refusal_guide.specs.Blocks.{OpenBlock}
+
+-- `GOTO/1,1,1`
+abbrev pub going : Statement
+going = record { line = 1; label = None; word = codes "GOTO"; params = codes "1" ∷ (codes "1" ∷ (codes "1" ∷ [])) }
+
+-- `FEAT=FEAT/1`
+abbrev pub labelled : Statement
+labelled = record { line = 1; label = Some (codes "FEAT"); word = codes "FEAT"; params = codes "1" ∷ [] }
+
+-- `ENDMES`
+abbrev pub ending : Statement
+ending = record { line = 1; label = None; word = codes "ENDMES"; params = [] }
+
+-- a block that begins on the first line, and has one of two touches
+abbrev pub one_of_two : OpenBlock
+one_of_two = record { line = 1; wanted = codes "2"; touches = 1 }
