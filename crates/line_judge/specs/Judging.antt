@@ -1,5 +1,5 @@
 -- What two recordings of a connection say of either end (this profile).
-use Rattle.std.specs.Prelude.{◌≡◌, ℕ, ◌+◌, ◌-◌, List, [], ◌∷◌, length, map, get_or, Option, Some, None}
+use Rattle.std.specs.Prelude.{◌≡◌, ℕ, ◌+◌, ◌-◌, List, [], ◌∷◌, length, take, reverse, map, get_or, slice_get, Option, Some, None}
 use Rattle.std.specs.Option.{option_map}
 use Rattle.line_framing.specs.Stream.{IsStream}
 use Rattle.line_framing.specs.declared.faults.FramingFault.{FramingFault}
@@ -25,12 +25,18 @@ abbrev pub first_break : {X : Type 0} → (List X → X → Option Rule) → Lis
 first_break rule above [] = None
 first_break rule above (x ∷ xs) = found_at (length above + 1) (rule above x) (first_break rule (x ∷ above) xs)
 
+-- the line at a place, counted from 0, breaks a rule under the lines above it
+pub record BreaksAt {X : Type 0} (rule : List X → X → Option Rule) (lines : List X) (at : ℕ) (broken : Rule) : Type 0 where
+  pub line : X
+  pub there : slice_get lines at ≡ Some line
+  pub breaks : rule (reverse (take at lines)) line ≡ Some broken
+
 -- bytes that are not lines
 abbrev pub framing_rule : FramingFault → Rule
 framing_rule framing.LineTooLong = rule.LineTooLong
 framing_rule framing.BadByte = rule.BadByte
 
--- bytes that are not lines after `count` lines
+-- bytes that are not lines, after that many lines
 abbrev pub fault_found : ℕ → Option FramingFault → Option Found
 fault_found count None = None
 fault_found count (Some fault) = Some (record { number = count + 1; rule = framing_rule fault })
@@ -51,7 +57,7 @@ server_found up down fault = end_break (first_break (server_rule up) [] down) (l
 abbrev pub shown : List (List ℕ) → Found → Break
 shown lines found = record { number = found.number; rule = found.rule; line = get_or lines (found.number - 1) [] }
 
--- what two recordings show
+-- the first break of each end, and the counts of their lines
 pub record Judged : Type 0 where
   pub client : Option Break
   pub server : Option Break

@@ -9,13 +9,14 @@
 //! - `counts`: how many lines of each sort there are
 //! - `judgement`: `judge`, and its `Judgement`
 //! - `writing`: what is printed of a judgement
-//! - `examples`: lines that are written out as values
+//! - `laws`: what is found is the first; `examples`: lines that are written out as values
 #![tactic(auto)]
 
 mod client;
 pub mod counts;
 pub mod examples;
 pub mod judgement;
+pub mod laws;
 pub mod lines;
 mod reading;
 pub mod rules;

@@ -156,8 +156,10 @@ fn text_of(alloc: Global, judgement: &Judgement) -> Result<String, AllocError>
 
 /// Appends what is printed of a judgement, and answers the exit status: the first line of either end that breaks a rule, the client's first, 3;
 /// or that no line does, and the counts that are not 0, 0 (this profile). Fails only if out of memory, and then appends nothing.
+#[tactic(auto, using(crate::proofs::TextLemmas::some_text))]
 pub fn write_judgement(out: &mut Vec<u8>, judgement: &Judgement) -> Result<u8, AllocError>
     ensures text { Writes result out.old out.new (spec.judgement_text judgement.now) }
+    ensures some { 0 < length (spec.judgement_text judgement.now) }
     ensures status { IfOk result (λ status. status ≡ spec.judgement_status judgement.now) }
 {
     let text = text_of(*out.allocator(), judgement)?;
