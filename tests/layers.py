@@ -18,12 +18,12 @@ LAYERS = {
     "values and texts": "fixed_um dmis_text dmis_program dme_line line_framing byte_ports contact_ledger tool_rack",
     "the model": "protocol_model protocol_examples session_telling told_ledger",
     "the two ends": "command_queue dme_tags resume_plan server_core client_core told_acts",
-    "both ends together, and results": "link_world ledger_audit told_files line_judge run_record record_keeping record_laws deviations drawings refusal_guide program_review",
+    "both ends together, and results": "link_world ledger_audit told_files line_judge run_record record_keeping record_laws recorded_runs deviations drawings refusal_guide program_review",
     "orders": "dme_words dme_orders",
     "the edge": "dme_files dme_sockets dme_run dme_serve dme_watch dme_program dme_c",
     "tests and measuring": "test_texts test_calls test_units bench_world",
 }
-USED_BY_NONE = {"protocol_examples", "record_laws", "dme_program", "dme_c"} | set(LAYERS["tests and measuring"].split())
+USED_BY_NONE = {"protocol_examples", "dme_program", "dme_c"} | set(LAYERS["tests and measuring"].split())
 
 
 def read(text):

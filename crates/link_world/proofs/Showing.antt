@@ -1,10 +1,10 @@
 -- What the watcher of a run of a client is shown.
-use Rattle.std.proofs.Common.{◌≡◌, inl, inr, ℕ, ◌+◌, Bool, true, false, cond, List, [], ◌∷◌, ◌++◌, length, refl, sym, ap, ◌∙◌}
+use Rattle.std.proofs.Common.{◌≡◌, inl, inr, ℕ, Bool, true, false, cond, List, [], ◌∷◌, ◌++◌, length, refl, sym, ap, ◌∙◌}
 use Rattle.std.proofs.Common.{subst, arith, length-append, Option, Result, Ok, Err, IfOk, IfErr}
 use Rattle.std.proofs.lemmas.Bool.{false≢true, le-leb}
 use Rattle.protocol_model.specs.Client.{may_abort}
 use Rattle.protocol_model.specs.Ends.{ClientEnd, end_aborted, end_left}
-use Rattle.client_core.specs.Calls.{Call, Send, Abort, Feed, ReadOne, Leave, Sent, possible, done_by, behind_call}
+use Rattle.client_core.specs.Calls.{Call, Send, Abort, Feed, ReadOne, Leave, Sent, possible, done_by}
 use Rattle.client_core.specs.Refusals.{IsSendRefused}
 use Rattle.client_core.specs.declared.faults.ClientFault.{ClientFault}
 use Rattle.client_core.specs.declared.faults.ClientFault.TheVariants as client_fault
@@ -13,8 +13,8 @@ use Rattle.link_world.specs.declared.connections.pumps.PumpFault.{PumpFault}
 use Rattle.link_world.specs.declared.connections.steering.Course.{Course}
 use Rattle.link_world.specs.declared.connections.steering.Course.TheVariants as course
 use Rattle.link_world.specs.Pumps.{Stage, Sending, Writing, Taking, Reading, ClientTurn, begins, sends, writes, takes, has, reads}
-use Rattle.link_world.specs.Pumps.{ClientMoved, ClientStopped, ClientMovedWithin, ClientStoppedWithin}
-use Rattle.link_world.specs.Courses.{steered, course_of, Asks, AbortRefused, StopRefused}
+use Rattle.link_world.specs.Pumps.{ClientMovedWithin, ClientStoppedWithin}
+use Rattle.link_world.specs.Courses.{steered, course_of, Asks, StopRefused}
 use Rattle.link_world.specs.Showing.{IsRunCall, Shown, EndsShown}
 use Rattle.link_world.specs.Showing as show
 use Rattle.link_world.specs.WatchingRows.{notes_on}

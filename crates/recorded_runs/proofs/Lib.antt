@@ -1,0 +1,4 @@
+pub mod Errors
+pub mod Kept
+pub mod Holding
+pub mod Rows
