@@ -1,6 +1,10 @@
+pub mod Connections
 pub mod Cuts
+pub mod EitherText
+pub mod NextContacts
 pub mod OneTold
 pub mod OtherLines
+pub mod SameRuns
 pub mod ToldFronts
 pub mod ToldLaws
 pub mod ToldReads

@@ -1,2 +1,5 @@
+pub mod Either
+pub mod Numbering
 pub mod Parts
+pub mod Runs
 pub mod ToldTexts

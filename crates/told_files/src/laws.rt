@@ -1,8 +1,15 @@
-// What follows from the definitions of the text. Each function has laws for its contract and does nothing.
+// What follows from the definitions. Each function has laws for its contract and does nothing.
 
-ghost use Rattle.std.specs.Prelude.{◌≡◌, ◌≤◌, ◌<◌, ◌+◌, ℕ, List, [], length, map, take};
+ghost use Rattle.std.specs.Prelude.{◌≡◌, ◌≤◌, ◌<◌, ◌+◌, ◌↔◌, ℕ, List, [], length, map, take};
+ghost use Rattle.contact_ledger.specs.ContactTexts.{IsContacts};
+ghost use Rattle.contact_ledger.specs.declared.acts.Act.{Act};
+ghost use Rattle.contact_ledger.specs.declared.features.Feature.{Feature};
+ghost use Rattle.dmis_program.specs.declared.features.Wanted.{Wanted};
+ghost use Rattle.protocol_model.specs.Claims.{contacts, IsRun, Sound};
 ghost use Rattle.told_ledger.specs.Texts.{told_text};
 ghost use Rattle.told_ledger.specs.declared.uses.Told.{Told};
+ghost use Rattle.told_files.specs.Either.{AreAudited};
+ghost use Rattle.told_files.specs.Runs.{AreRunContacts, IsToldRun, SoundByTold};
 ghost use Rattle.told_files.specs.ToldTexts.{AreWrittenEntries, AreToldEntries, IsToldText, IsDamagedTold, entry_back};
 
 /// What is written is read back, with a `?` for a tool of that name; and what can be read, as it is (this profile).
@@ -29,4 +36,22 @@ pub fn fronts_are_read()
         → n < length entries → length (told_text (take n entries)) ≤ count
         → count < length (told_text (take (n + 1) entries))
         → IsToldText (take count (told_text entries)) (map entry_back (take n entries)) }
+{}
+
+/// A run in the ledger of the contacts of runs is a run of known contacts of one connection, between which lie no other contact and nothing
+/// of that connection that ends runs; and features are true of that ledger exactly if they are true of what was reported (this profile).
+pub fn runs_are_those_of_what_was_reported()
+    ensures run { (entries : List (ℕ × Told)) (ledger : List (ℕ × Act)) (wanted : Wanted)
+        (feature : Feature) (start : ℕ) → AreRunContacts entries ledger
+        → IsRun wanted feature start (contacts ledger) ↔ IsToldRun wanted feature start entries }
+    ensures sound { (entries : List (ℕ × Told)) (ledger : List (ℕ × Act))
+        (wanted : List Wanted) (features : List Feature) → AreRunContacts entries ledger
+        → Sound wanted features ledger ↔ SoundByTold wanted features entries }
+{}
+
+/// The text of a server's acts is audited as these acts (this profile).
+#[tactic(auto, using(crate::proofs::EitherText::contacts_audited))]
+pub fn contacts_are_audited()
+    ensures { (bytes : List ℕ) (entries : List (ℕ × Act)) → IsContacts bytes entries
+        → AreAudited bytes entries }
 {}

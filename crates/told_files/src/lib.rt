@@ -1,17 +1,29 @@
-//! What a server reported, read from its text.
+//! What a server reported, read from its text, and what the runs of features may be made of in it.
 //!
 //! - `ledger`: `ToldLedger`, what was reported, in order
 //! - `fields`: the fields that only such a text has
 //! - `lines`: what a line says
 //! - `texts`: the text
+//! - `runs`: the contacts that runs may be made of
+//! - `auditing`: the audit of features by them
+//! - `doubts`: which contacts have a tool or a frame that is not known, and on which connections the others are
+//! - `either`: a text of contacts for an audit, of either kind
 //! - `laws`: what follows from the definitions
 #![tactic(auto)]
 
+mod auditing;
+mod doubts;
+mod either;
 mod fields;
 pub mod laws;
 pub mod ledger;
 mod lines;
+mod runs;
 mod texts;
 
+pub use auditing::audit_told;
+pub use doubts::{Doubts, contact_connections, doubts_of};
+pub use either::{is_told_file, read_audited};
 pub use ledger::ToldLedger;
+pub use runs::run_contacts;
 pub use texts::read_told;

@@ -1,0 +1,10 @@
+use Rattle.std.proofs.Common.{◌≡◌, ◌++◌, drop, true, Option, None, ℕ}
+use Rattle.told_files.specs.Numbering.{numbered_from}
+use Rattle.told_files.specs.Runs.{parts_of}
+use Rattle.told_files.proofs.runs.run_contacts.Given as goal
+
+-- the contacts so far, and those of the lines that are left
+abbrev pub invariant-loop-connection : goal.invariant-loop-connection
+invariant-loop-connection l = l.numbering.ledger
+    ++ numbered_from l.numbering.second l.numbering.open_on (parts_of (drop l.connection-index l.entries))
+    ≡ numbered_from true None (parts_of l.entries)

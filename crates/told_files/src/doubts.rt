@@ -1,0 +1,102 @@
+// Which contacts have a tool or a frame that is not known.
+
+ghost use Rattle.std.specs.Prelude.{◌≡◌, count_by, map, IfOk};
+ghost use Rattle.std.specs.List.{position};
+ghost use Rattle.told_files.specs.Runs.{part_of, parts_of, known_contacts, is_made, is_touch, is_doubtful};
+
+use crate::ledger::ToldLedger;
+use contact_ledger::Act;
+use std::alloc::{AllocError, Global};
+use told_ledger::Told;
+
+/// The contacts that were reported, and those of them whose tool or frame is not known.
+#[derive(Clone, Copy, Debug, PartialEq, Eq)]
+pub struct Doubts {
+    /// How many contacts were reported.
+    pub contacts: usize,
+    /// How many of them have a tool or a frame that is not known.
+    pub doubtful: usize,
+    /// The place of the first of these among what was reported, from 0 on: its line is two more.
+    pub first: Option<usize>,
+}
+
+/// Whether this is a contact, with its tool and frame known or not.
+fn is_touch(told: &Told) -> bool
+    ensures { result ≡ is_touch (part_of told.now) }
+{
+    match told {
+        Told::Did(Act::Contact { .. }) | Told::Touched { .. } => true,
+        Told::Did(
+            Act::HomedIs(_) | Act::Homed | Act::Moved(_, _) | Act::Changed(_) | Act::Framed(_),
+        )
+        | Told::MovedSomewhere(_)
+        | Told::FramedSomehow
+        | Told::Other(_, _)
+        | Told::Broken(_, _)
+        | Told::Opened
+        | Told::Left => false,
+    }
+}
+
+/// Whether this is a contact whose tool or frame is not known.
+fn is_doubtful(told: &Told) -> bool
+    ensures { result ≡ is_doubtful (part_of told.now) }
+{
+    match told {
+        Told::Touched { .. } => true,
+        Told::Did(
+            Act::HomedIs(_)
+            | Act::Homed
+            | Act::Moved(_, _)
+            | Act::Changed(_)
+            | Act::Framed(_)
+            | Act::Contact { .. },
+        )
+        | Told::MovedSomewhere(_)
+        | Told::FramedSomehow
+        | Told::Other(_, _)
+        | Told::Broken(_, _)
+        | Told::Opened
+        | Told::Left => false,
+    }
+}
+
+/// Whether this is a contact whose tool and frame are known.
+fn is_made(told: &Told) -> bool
+    ensures { result ≡ is_made (part_of told.now) }
+{
+    is_touch(told) && !is_doubtful(told)
+}
+
+/// The connections of the contacts whose tool and frame are known, in order. Fails only if out of memory.
+#[tactic(auto, using(crate::proofs::Connections::connections))]
+pub fn contact_connections(alloc: Global, told: &ToldLedger) -> Result<Vec<u64>, AllocError>
+    ensures { IfOk result (λ all. all.items
+        ≡ map (λ m. m.connection) (known_contacts (parts_of told.now))) }
+{
+    let mut all = Vec::new(alloc);
+    let entries = told.entries();
+    for (connection, one) in entries {
+        if is_made(one) {
+            all.push(*connection)?;
+        }
+    }
+    Ok(all)
+}
+
+/// How many contacts were reported, how many of them have a tool or a frame that is not known, and the place of the first of these.
+pub fn doubts_of(told: &ToldLedger) -> Doubts
+    ensures contacts { result.contacts ≡ count_by (λ e. is_touch (part_of e.1)) told.now }
+    ensures doubtful { result.doubtful ≡ count_by (λ e. is_doubtful (part_of e.1)) told.now }
+    ensures first { result.first ≡ position (λ e. is_doubtful (part_of e.1)) told.now }
+{
+    let entries = told.entries();
+    let contacts = entries.iter().filter(|entry| is_touch(&entry.1)).count();
+    let doubtful = entries.iter().filter(|entry| is_doubtful(&entry.1)).count();
+    let first = entries.iter().position(|entry| is_doubtful(&entry.1));
+    Doubts {
+        contacts,
+        doubtful,
+        first,
+    }
+}

@@ -1,0 +1,102 @@
+// The contacts that runs of features may be made of.
+
+ghost use Rattle.std.specs.Prelude.{◌≡◌, ◌++◌, true, None, OnOk, IfOk};
+ghost use Rattle.told_files.specs.Numbering.{is_joined, number_of, second_after, open_after, pushed};
+ghost use Rattle.told_files.specs.Runs.{part_of, AreRunContacts};
+
+use crate::ledger::ToldLedger;
+use contact_ledger::{Act, ServerLedger};
+use std::alloc::{AllocError, Global};
+use told_ledger::Told;
+
+/// Whether a contact on a connection is next to the one before it, by the connection on which the next one would be so.
+fn is_joined(open_on: Option<u64>, connection: u64) -> bool
+    ensures { result ≡ is_joined open_on connection }
+{
+    match open_on {
+        None => false,
+        Some(open) => connection == open,
+    }
+}
+
+/// The number of a contact: only that of its neighbours matters.
+fn number_of(second: bool) -> u64
+    ensures { result ≡ number_of second }
+{
+    if second { 2 } else { 1 }
+}
+
+/// The contacts so far, whether the number of the last one is the second of the two, and the connection on which the next one is next to it.
+#[derive(Drop)]
+struct Numbering {
+    ledger: ServerLedger,
+    second: bool,
+    open_on: Option<u64>,
+}
+
+impl Numbering {
+    /// Reads one line. Fails only if out of memory.
+    fn add(&mut self, alloc: Global, connection: u64, told: &Told) -> Result<(), AllocError>
+        ensures ledger { OnOk result (self.new.ledger ≡ self.old.ledger
+            ++ pushed self.old.second self.old.open_on connection (part_of told.now)) }
+        ensures second { OnOk result (self.new.second
+            ≡ second_after self.old.second self.old.open_on connection (part_of told.now)) }
+        ensures open { OnOk result (self.new.open_on
+            ≡ open_after self.old.open_on connection (part_of told.now)) }
+    {
+        match told {
+            Told::Did(Act::Contact {
+                target,
+                dir,
+                tool,
+                frame,
+                point,
+            }) => {
+                let joined = is_joined(self.open_on, connection);
+                let second = if joined { self.second } else { !self.second };
+                let act = Act::Contact {
+                    target: *target,
+                    dir: *dir,
+                    tool: tool.copy(alloc)?,
+                    frame: *frame,
+                    point: *point,
+                };
+                self.ledger.push(number_of(second), act)?;
+                self.second = second;
+                self.open_on = Some(connection);
+            }
+            Told::Did(
+                Act::HomedIs(_) | Act::Homed | Act::Moved(_, _) | Act::Changed(_) | Act::Framed(_),
+            )
+            | Told::MovedSomewhere(_)
+            | Told::FramedSomehow => {}
+            Told::Touched { .. } => self.open_on = None,
+            Told::Other(_, _) | Told::Broken(_, _) | Told::Opened | Told::Left => {
+                if is_joined(self.open_on, connection) {
+                    self.open_on = None;
+                }
+            }
+        }
+        Ok(())
+    }
+}
+
+/// The contacts whose tool and frame are known, as a ledger in which two that follow one another have one connection exactly if a run may
+/// have both: they are on one connection, no contact lies between them, and on their connection nothing that ends runs (this profile). The
+/// connection numbers of this ledger mean nothing else. A contact with a tool or a frame that is not known is left out.
+///
+/// Fails only if out of memory.
+pub fn run_contacts(alloc: Global, told: &ToldLedger) -> Result<ServerLedger, AllocError>
+    ensures { IfOk result (AreRunContacts told.now) }
+{
+    let mut numbering = Numbering {
+        ledger: ServerLedger::new(alloc),
+        second: true,
+        open_on: None,
+    };
+    let entries = told.entries();
+    for (connection, one) in entries {
+        numbering.add(alloc, *connection, one)?;
+    }
+    Ok(numbering.ledger)
+}
