@@ -144,7 +144,7 @@ contact_apart t u d e m n f g p q named b same =
 
 -- ---- what was reported
 
--- an act, and what is not an act, have different fields
+-- an act and another report have different fields
 apart : (a : Act) (t : Told) → HasNamedTool a → IsOtherTold t → act_fields a ≡ told_parts t → ⊥
 apart (act.HomedIs ah) (told.Did b) g h e = h
 apart (act.HomedIs ah) (told.MovedSomewhere t2) g h e =
@@ -281,7 +281,7 @@ one_rule TagInUse SecondData e = let n : 8408 ≡ 8310 = ap rule_number e in abs
 one_rule TagInUse OtherData e = let n : 8408 ≡ 7909 = ap rule_number e in absurd (omega (arith, n))
 one_rule TagInUse TagInUse e = refl
 
--- what is no act's is known by its fields
+-- what was reported other than acts is known by its fields
 one_parts : (a b : Told) → IsOtherTold a → IsOtherTold b → told_parts a ≡ told_parts b → a ≡ b
 one_parts (told.Did a) b g h e = absurd g
 one_parts (told.MovedSomewhere t1) (told.Did b) g h e = absurd h

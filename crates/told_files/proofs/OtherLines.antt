@@ -293,7 +293,7 @@ act_read n (act.Changed tool) line h e = (((h.0, h.1), tt), e)
 act_read n (act.Framed frame) line h e = (((h.0, h.1), tt), e)
 act_read n (act.Contact target dir tool frame point) line h e = act_of_contact n target point dir tool frame line h e
 
--- ---- a line that is not an act
+-- ---- lines without an entry
 
 pub data View (t : Told) : Type 0 where
   acted : (a : Act) → t ≡ told.Did a → View t
