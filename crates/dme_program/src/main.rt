@@ -13,6 +13,7 @@
 //! - `calling`: how a server is called; `waiting`: time limits and stop files; `warning`: what a setup lacks for a program
 //! - `explaining`: what is shown for an order whose files are refused
 //! - `witnessing`: what a server told, by the bytes of both ends; `watching`: a relay that writes it
+//! - `judging`: which line of either end breaks a rule, by the bytes of both
 //! - `faults`: what is printed on standard error, and the exit status; `version`: which program this is
 #![tactic(auto)]
 
@@ -24,6 +25,7 @@ mod exporting;
 mod faults;
 mod files;
 mod growing_files;
+mod judging;
 mod keeping;
 mod progress;
 mod recording;

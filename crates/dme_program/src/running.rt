@@ -11,6 +11,7 @@ use crate::explaining::{refused, tell_audit};
 use crate::exporting::{explain_topic, export, export_of_record, record_files};
 use crate::faults::Fault;
 use crate::files::{NamedSource, Sources};
+use crate::judging::judge;
 use crate::serving_connections::serve;
 use crate::tracing::ErrorOutput;
 use crate::version;
@@ -254,6 +255,7 @@ fn carry_out<
         Order::ExportRecord(order) => export_of_record(rt, order),
         Order::Review(order) => review(rt, order),
         Order::Ledger(order) => ledger(rt, order),
+        Order::Judge(order) => judge(rt, order),
         Order::Watch(order) => watch(rt, order),
     }
 }
