@@ -4,7 +4,7 @@ _dme()
     local word=${COMP_WORDS[COMP_CWORD]} before=${COMP_WORDS[COMP_CWORD - 1]} options
     COMPREPLY=()
     if (( COMP_CWORD == 1 )); then
-        mapfile -t COMPREPLY < <(compgen -W "check simulate audit loop serve run explain export review ledger watch help --help --version" -- "$word")
+        mapfile -t COMPREPLY < <(compgen -W "check simulate audit loop serve run explain export review ledger judge watch help --help --version" -- "$word")
         return
     fi
     case $before in
@@ -32,6 +32,7 @@ _dme()
         export) options="--as --setup --features --record --explain" ;;
         review) options="--as --setup" ;;
         ledger) options="--up --down --connection" ;;
+        judge) options="--up --down" ;;
         watch) options="--listen --host --port --told --record-bytes --connections --trace --log --timeout" ;;
         explain)
             options="P1 P2 P3 P4 P5 P6 P7 P8 P9 P10 P11 P12 P13 P14 P15 P16 N1 N2 N3 S1 S2 S3 H1 K1 J1 J2 J3 C4"
@@ -40,12 +41,12 @@ _dme()
             [[ $word == -* ]] && options=--help
             mapfile -t COMPREPLY < <(compgen -W "$options" -- "$word")
             return ;;
-        help) options="check simulate audit loop serve run explain export review ledger watch" ;;
+        help) options="check simulate audit loop serve run explain export review ledger judge watch" ;;
         *) return ;;
     esac
     if [[ ${COMP_WORDS[1]} == help || $word == -* ]]; then
         mapfile -t COMPREPLY < <(compgen -W "$options --help" -- "$word")
-    elif [[ ${COMP_WORDS[1]} != serve && ${COMP_WORDS[1]} != ledger && ${COMP_WORDS[1]} != watch ]]; then
+    elif [[ ${COMP_WORDS[1]} != serve && ${COMP_WORDS[1]} != ledger && ${COMP_WORDS[1]} != judge && ${COMP_WORDS[1]} != watch ]]; then
         mapfile -t COMPREPLY < <(compgen -f -- "$word")
     fi
 }

@@ -1,7 +1,7 @@
 """Connections that are relayed by `dme watch`, and what it writes of them.
 
 - A client and a server of ours, with windows of 1, 4 and 16: the report is that of a run without a relay, the told file is the server's contacts
-  but for its first line, and `dme ledger` over the recorded bytes prints it.
+  but for its first line, and `dme ledger` over the recorded bytes prints it. `dme judge` finds no line that breaks a rule.
 - A client that is written here, and leaves after any of its lines, by an end or a reset, with or without the replies to it: what the told
   file has is a prefix of the server's contacts; each act of a command whose end the client has read is in it.
 - A client that calls the server past the relay, between two that do not: the told file has what was reported to the two, and no more.
@@ -81,6 +81,12 @@ def ledger(folder):
     return ended(dme(folder, "ledger", "--up", "1.up", "--down", "1.down"))[1]
 
 
+def must_not_be_blamed(folder):
+    """No line of either end breaks a rule."""
+    status, out, error = ended(dme(folder, "judge", "--up", "1.up", "--down", "1.down"))
+    must((status, out.partition("\n")[0], error) == (0, "dme: no line breaks the rules", ""), "one of our ends is blamed", out, error)
+
+
 def prepared(room, name):
     folder = pathlib.Path(room) / name
     folder.mkdir()
@@ -104,6 +110,7 @@ def run_through(folder, window):
     must(told == acts_of(folder, "contacts", HEADS[0]), "the told file is not the contacts")
     must(told.count(" CONTACT ") == 120, "contacts", told.count(" CONTACT "))
     must(ledger(folder) == HEADS[1] + told, "the ledger of the bytes is another")
+    must_not_be_blamed(folder)
     again, again_port = serve(folder)
     must(ended(dme(folder, *words, str(again_port)))[1] == report, "the report is another")
     ended(again)
@@ -173,6 +180,7 @@ def leave_after(folder, lines, how, hears_last):
     told, made = (acts_of(folder, *it) for it in (("told", HEADS[1]), ("contacts", HEADS[0])))
     must(made.startswith(told) and told.startswith(told_then), "no prefix", told, made)
     must(ledger(folder) == HEADS[1] + told, "the ledger of the bytes is another")
+    must_not_be_blamed(folder)
     if hears_last and how == "end":
         must(told == made, "less than the contacts", told, made)
 

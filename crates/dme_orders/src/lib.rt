@@ -8,6 +8,7 @@
 //! - `exporting`: what was measured is put next to what a program asks for; `explaining`: what a refusal means
 //! - `of_records`: a record is audited and exported
 //! - `notes`: what an audit found, and in what a record differs from a program, besides what an order prints
+//! - `judging`: the recordings of both ends of a connection are judged
 //! - `preparing`: the files of an order over a connection are read before there is one
 //! - `looping`: a program is run over one connection between both ends
 //! - `driving`: a program is run on a server over a connection, and its features are kept; `confirming`: the answer that begins it
@@ -32,6 +33,7 @@ mod explaining;
 mod exporting;
 mod faults;
 mod findings;
+mod judging;
 mod looping;
 mod notes;
 mod of_records;
@@ -56,6 +58,7 @@ pub use ends::kept_client;
 pub use explaining::explain;
 pub use exporting::{ExportFiles, export_files};
 pub use faults::{InputFile, InputFiles, OrderFault, place_of, shown_fault};
+pub use judging::{Recordings, RecordingsFault, judge_recordings};
 pub use looping::{LoopTask, loop_over};
 pub use notes::{audit_notes, other_program_notes};
 pub use of_records::{RecordFiles, RecordText, audit_record, export_record};

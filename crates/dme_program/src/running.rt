@@ -7,6 +7,7 @@ ghost use Rattle.dme_program.specs.Blamed.{OnSetup};
 
 use crate::connecting::loop_program;
 use crate::exporting::{explain_topic, export, export_of_record, record_files};
+use crate::judging::judge;
 use crate::tracing::ErrorOutput;
 use crate::version;
 use byte_ports::Writing;
@@ -251,6 +252,7 @@ fn carry_out<
         Order::ExportRecord(order) => export_of_record(rt, order),
         Order::Review(order) => review(rt, order),
         Order::Ledger(order) => ledger(rt, order),
+        Order::Judge(order) => judge(rt, order),
         Order::Watch(order) => watch(rt, order),
     }
 }

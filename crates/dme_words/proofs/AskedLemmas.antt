@@ -10,8 +10,8 @@ use Rattle.clap.specs.Walk.{Text, answers_to, nothing_held, rows_after, walk, wa
 use Rattle.clap.specs.Simple.{App, Shape, argument_words, built, built_leaf, entered, inherited, label_of, marked_built, names_of}
 use Rattle.clap.specs.Simple.{on_top, rows_at, subcommand_of, with_leaf_noted}
 use Rattle.clap.specs.Faults.{entered_fault, fault_of, level_fault, walk_fault}
-use Rattle.dme_words.specs.CommandLine.{audit_line, check_line, explain_line, export_line, ledger_line, loop_line, run_line, serve_line, simulate_line, watch_line, whole_line}
-use Rattle.dme_words.specs.Ordered.{HasExplained, HasExport, HasLedger, HasLoop, HasRun, HasService, HasSimulation, HasValue, HasWatch, IsAskable}
+use Rattle.dme_words.specs.CommandLine.{audit_line, check_line, explain_line, export_line, judge_line, ledger_line, loop_line, run_line, serve_line, simulate_line, watch_line, whole_line}
+use Rattle.dme_words.specs.Ordered.{HasExplained, HasExport, HasJudge, HasLedger, HasLoop, HasRun, HasService, HasSimulation, HasValue, HasWatch, IsAskable}
 use Rattle.dme_words.proofs.HelpLemmas.{NotAtHelp, entered_there, first_none, second_none, walk_stops}
 use Rattle.dme_words.proofs.FoundLemmas.{has_flag, has_number, has_value, level_found}
 
@@ -160,6 +160,18 @@ witnessed words none =
       connection = has_number c _ (codes "connection") 4000000000 _ refl refl found.fit (found.defaulted.1.1.0 (omega arith));
     }
 
+judged : (words : List Text) → level_fault (leaf judge_line) [] nothing_held words false [] ≡ []
+    → HasJudge (rows_after (leaf judge_line).rules [] words)
+judged words none =
+    let c = (leaf judge_line).rules in
+    let found = level_found (leaf judge_line) words refl
+    ((refl, inl (refl, refl)), ((refl, inl (refl, refl)), ((refl, inr (inr refl)), tt)))
+    none in
+    record {
+      up = has_value c (codes "up") _ refl found.fit (found.needed.0 refl);
+      down = has_value c (codes "down") _ refl found.fit (found.needed.1.0 refl);
+    }
+
 relayed : (words : List Text) → level_fault (leaf watch_line) [] nothing_held words false [] ≡ []
     → HasWatch (rows_after (leaf watch_line).rules [] words)
 relayed words none =
@@ -199,8 +211,11 @@ serves p free = (
                   (
                     λ answers none. inr (inr (inr (inr (inr (inr (inr (inr (inr (inl (refl, witnessed p.1 none)))))))))),
                     (
-                      λ answers none. inr (inr (inr (inr (inr (inr (inr (inr (inr (inr (refl, relayed p.1 none)))))))))),
-                      (λ answers none. absurd (no_help p.0 p.1 free answers), tt),
+                      λ answers none. inr (inr (inr (inr (inr (inr (inr (inr (inr (inr (inl (refl, judged p.1 none))))))))))),
+                      (
+                        λ answers none. inr (inr (inr (inr (inr (inr (inr (inr (inr (inr (inr (refl, relayed p.1 none))))))))))),
+                        (λ answers none. absurd (no_help p.0 p.1 free answers), tt),
+                      ),
                     ),
                   ),
                 ),

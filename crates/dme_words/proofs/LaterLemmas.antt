@@ -1,4 +1,4 @@
--- Which values the last seven subcommands have, by their names.
+-- Which values the last eight subcommands have, by their names.
 use Rattle.std.proofs.Common.{◌≡◌, ◌∙◌, List, codes, sym, inl, inr, true≢false}
 use Rattle.std.proofs.lemmas.Slice.Eq.{bytes_eq-Decides}
 use Rattle.clap.specs.Walk.{Row, Text}
@@ -11,7 +11,8 @@ has_run p (inr (inr (inl (is, has)))) run = absurd (true≢false (sym ((bytes_eq
 has_run p (inr (inr (inr (inl (is, has))))) run = absurd (true≢false (sym ((bytes_eq-Decides (codes "export") (codes "run")).1 (sym is ∙ run))))
 has_run p (inr (inr (inr (inr (inl is))))) run = absurd (true≢false (sym ((bytes_eq-Decides (codes "review") (codes "run")).1 (sym is ∙ run))))
 has_run p (inr (inr (inr (inr (inr (inl (is, has))))))) run = absurd (true≢false (sym ((bytes_eq-Decides (codes "ledger") (codes "run")).1 (sym is ∙ run))))
-has_run p (inr (inr (inr (inr (inr (inr (is, has))))))) run = absurd (true≢false (sym ((bytes_eq-Decides (codes "watch") (codes "run")).1 (sym is ∙ run))))
+has_run p (inr (inr (inr (inr (inr (inr (inl (is, has)))))))) run = absurd (true≢false (sym ((bytes_eq-Decides (codes "judge") (codes "run")).1 (sym is ∙ run))))
+has_run p (inr (inr (inr (inr (inr (inr (inr (is, has)))))))) run = absurd (true≢false (sym ((bytes_eq-Decides (codes "watch") (codes "run")).1 (sym is ∙ run))))
 
 pub has_watch : (p : Text × List Row) → IsLaterAskable p → p.0 ≡ codes "watch" → HasWatch p.1
 has_watch p (inl (is, has)) watch = absurd (true≢false (sym ((bytes_eq-Decides (codes "serve") (codes "watch")).1 (sym is ∙ watch))))
@@ -20,4 +21,5 @@ has_watch p (inr (inr (inl (is, has)))) watch = absurd (true≢false (sym ((byte
 has_watch p (inr (inr (inr (inl (is, has))))) watch = absurd (true≢false (sym ((bytes_eq-Decides (codes "export") (codes "watch")).1 (sym is ∙ watch))))
 has_watch p (inr (inr (inr (inr (inl is))))) watch = absurd (true≢false (sym ((bytes_eq-Decides (codes "review") (codes "watch")).1 (sym is ∙ watch))))
 has_watch p (inr (inr (inr (inr (inr (inl (is, has))))))) watch = absurd (true≢false (sym ((bytes_eq-Decides (codes "ledger") (codes "watch")).1 (sym is ∙ watch))))
-has_watch p (inr (inr (inr (inr (inr (inr (is, has))))))) watch = has
+has_watch p (inr (inr (inr (inr (inr (inr (inl (is, has)))))))) watch = absurd (true≢false (sym ((bytes_eq-Decides (codes "judge") (codes "watch")).1 (sym is ∙ watch))))
+has_watch p (inr (inr (inr (inr (inr (inr (inr (is, has)))))))) watch = has

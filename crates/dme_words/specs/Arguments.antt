@@ -3,7 +3,7 @@ use Rattle.std.specs.Prelude.{codes}
 use Rattle.clap.specs.Words.{App, Rule, with_rule, with_subcommand}
 use Rattle.dme_words.specs.CommandLine.{text_rule, needed_rule, window_rule, port_rule, connections_rule, flag_rule, program_rule, code_rule}
 use Rattle.dme_words.specs.CommandLine.{check_line, simulate_line, audit_line, loop_line, serve_line, run_line, explain_line, export_line}
-use Rattle.dme_words.specs.CommandLine.{connection_rule, ledger_line, listened_rule, review_line, watch_line}
+use Rattle.dme_words.specs.CommandLine.{connection_rule, judge_line, ledger_line, listened_rule, review_line, watch_line}
 use Rattle.dme_words.specs.declared.line.Argument.{Argument}
 use Rattle.dme_words.specs.declared.line.Argument.TheVariants as argument
 use Rattle.dme_words.specs.declared.line.Kind.{Kind}
@@ -64,6 +64,7 @@ kind_line kind.Explain = explain_line
 kind_line kind.Export = export_line
 kind_line kind.Review = review_line
 kind_line kind.Ledger = ledger_line
+kind_line kind.Judge = judge_line
 kind_line kind.Watch = watch_line
 
 -- a command that has the subcommand of this kind more

@@ -99,6 +99,10 @@ connection_rule = record (number_rule (codes "connection") 4000000000) { default
 abbrev pub ledger_line : App
 ledger_line = line_of (codes "ledger") (needed_rule (codes "up") ∷ needed_rule (codes "down") ∷ connection_rule ∷ [])
 
+-- `judge --up FILE --down FILE`
+abbrev pub judge_line : App
+judge_line = line_of (codes "judge") (needed_rule (codes "up") ∷ needed_rule (codes "down") ∷ [])
+
 -- the option `--listen PORT` of a relay, which must be named: a number from 1 to 65,535
 abbrev pub listened_rule : Rule
 listened_rule = record (number_rule (codes "listen") 65535) { required = true }
@@ -116,4 +120,4 @@ bare_line = record (new_app (codes "dme")) { top = record (new_app (codes "dme")
 -- `dme COMMAND ..`
 abbrev pub whole_line : App
 whole_line = fold (λ line order. with_subcommand line order.top) bare_line (check_line ∷ simulate_line ∷ audit_line ∷ loop_line
-    ∷ serve_line ∷ run_line ∷ explain_line ∷ export_line ∷ review_line ∷ ledger_line ∷ watch_line ∷ [])
+    ∷ serve_line ∷ run_line ∷ explain_line ∷ export_line ∷ review_line ∷ ledger_line ∷ judge_line ∷ watch_line ∷ [])

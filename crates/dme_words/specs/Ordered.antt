@@ -15,6 +15,7 @@ use Rattle.dme_words.specs.CommandLine.{whole_line}
 use Rattle.dme_words.specs.declared.orders.Audit.{Audit}
 use Rattle.dme_words.specs.declared.orders.Check.{Check}
 use Rattle.dme_words.specs.declared.orders.Export.{Export}
+use Rattle.dme_words.specs.declared.orders.Judge.{Judge}
 use Rattle.dme_words.specs.declared.orders.Ledger.{Ledger}
 use Rattle.dme_words.specs.declared.orders.Loop.{Loop}
 use Rattle.dme_words.specs.declared.orders.Order.{Order}
@@ -199,6 +200,10 @@ IsLedgerOf rows o =
     IsValueOf (codes "up") rows (string_bytes o.up) × IsValueOf (codes "down") rows (string_bytes o.down)
     × IsConnectionOf rows o.connection
 
+-- a judgement on the named bytes of both ends
+abbrev pub IsJudgeOf : List Row → Judge → Type 0
+IsJudgeOf rows o = IsValueOf (codes "up") rows (string_bytes o.up) × IsValueOf (codes "down") rows (string_bytes o.down)
+
 -- a relay at the named port to the server at the named host and port, for that many connections, with the named file for what the server reports, and
 -- the named folder for bytes, log and time limit, if any
 abbrev pub IsWatchOf : List Row → Watch → Type 0
@@ -222,6 +227,7 @@ IsNamedOrderOf p (order.Export o) = (p.0 ≡ codes "export") × IsExportOf p.1 o
 IsNamedOrderOf p (order.ExportRecord o) = (p.0 ≡ codes "export") × IsRecordExportOf p.1 o
 IsNamedOrderOf p (order.Review o) = (p.0 ≡ codes "review") × IsReviewOf p.1 o
 IsNamedOrderOf p (order.Ledger o) = (p.0 ≡ codes "ledger") × IsLedgerOf p.1 o
+IsNamedOrderOf p (order.Judge o) = (p.0 ≡ codes "judge") × IsJudgeOf p.1 o
 IsNamedOrderOf p (order.Watch o) = (p.0 ≡ codes "watch") × IsWatchOf p.1 o
 
 -- the order of the subcommand that was found
@@ -316,6 +322,11 @@ pub record HasLedger (rows : List Row) : Type 0 where
   pub down : HasValue (codes "down") rows
   pub connection : HasConnection rows
 
+-- the values that a judgement cannot do without are there
+pub record HasJudge (rows : List Row) : Type 0 where
+  pub up : HasValue (codes "up") rows
+  pub down : HasValue (codes "down") rows
+
 -- the values that a relay cannot do without are there
 pub record HasWatch (rows : List Row) : Type 0 where
   pub listen : HasListened rows
@@ -325,11 +336,12 @@ pub record HasWatch (rows : List Row) : Type 0 where
   pub connections : HasConnections rows
   pub trace : HasFlag (codes "trace") rows
 
--- the name of one of the last seven subcommands, with the values that it cannot do without
+-- the name of one of the last eight subcommands, with the values that it cannot do without
 abbrev pub IsLaterAskable : Text × List Row → Type 0
 IsLaterAskable p = ((p.0 ≡ codes "serve") × HasService p.1) ⊎ ((p.0 ≡ codes "run") × HasRun p.1)
     ⊎ ((p.0 ≡ codes "explain") × HasValue (codes "CODE") p.1) ⊎ ((p.0 ≡ codes "export") × HasExport p.1)
-    ⊎ (p.0 ≡ codes "review") ⊎ ((p.0 ≡ codes "ledger") × HasLedger p.1) ⊎ ((p.0 ≡ codes "watch") × HasWatch p.1)
+    ⊎ (p.0 ≡ codes "review") ⊎ ((p.0 ≡ codes "ledger") × HasLedger p.1) ⊎ ((p.0 ≡ codes "judge") × HasJudge p.1)
+    ⊎ ((p.0 ≡ codes "watch") × HasWatch p.1)
 
 -- the name of a subcommand of `dme`, with the values that it cannot do without
 abbrev pub IsAskable : Text × List Row → Type 0
@@ -351,6 +363,7 @@ IsReady (order.Export o) = Unit {0}
 IsReady (order.ExportRecord o) = Unit {0}
 IsReady (order.Review o) = Unit {0}
 IsReady (order.Ledger o) = (1 ≤ o.connection) × (o.connection ≤ 4000000000)
+IsReady (order.Judge o) = Unit {0}
 IsReady (order.Watch o) = (1 ≤ o.listen) × (1 ≤ o.port) × (1 ≤ o.connections) × (o.connections ≤ 4000000000)
 
 -- the words are a command line without a fault, and this is the order of the subcommand that they name, with its values

@@ -6,7 +6,7 @@ ghost use Rattle.clap.specs.Words.{app_of, rule_of, shape_of, with_rule, with_su
 ghost use Rattle.dme_words.specs.CommandLine.{text_rule, needed_rule, window_rule, port_rule, connections_rule, flag_rule};
 ghost use Rattle.dme_words.specs.CommandLine.{program_rule, check_line, simulate_line, audit_line, loop_line, serve_line, run_line};
 ghost use Rattle.dme_words.specs.CommandLine.{code_rule, connection_rule, explain_line, export_line, review_line, ledger_line};
-ghost use Rattle.dme_words.specs.CommandLine.{listened_rule, watch_line};
+ghost use Rattle.dme_words.specs.CommandLine.{judge_line, listened_rule, watch_line};
 ghost use Rattle.dme_words.specs.CommandLine.{bare_line, whole_line};
 ghost use Rattle.dme_words.specs.Arguments.{argument_rule, kind_line, with_kind, with_next};
 
@@ -116,6 +116,8 @@ enum Kind {
     Review,
     /// `ledger ..`.
     Ledger,
+    /// `judge ..`.
+    Judge,
     /// `watch ..`.
     Watch,
 }
@@ -726,6 +728,17 @@ fn ledger_command<'a>(alloc: Global) -> Result<Command<'a>, AllocError>
     )
 }
 
+/// `judge --up FILE --down FILE`.
+fn judge_command<'a>(alloc: Global) -> Result<Command<'a>, AllocError>
+    ensures shape { IfOk result (λ command. app_of command ≡ judge_line) }
+    ensures local { IfOk result (λ command. (out-Command command).has_globals ≡ false) }
+{
+    let command = Command::new(alloc, "judge").about(
+        "Shows which line of a client or a server first breaks a rule, from the bytes of both ends",
+    );
+    with_arguments(alloc, command, &[Argument::Up, Argument::Down])
+}
+
 /// `watch --listen PORT --host H --port N --told FILE [--record-bytes FOLDER] [--connections K] [--trace] [--log FILE] [--timeout SECONDS]`.
 fn watch_command<'a>(alloc: Global) -> Result<Command<'a>, AllocError>
     ensures shape { IfOk result (λ command. app_of command ≡ watch_line) }
@@ -777,6 +790,7 @@ fn order_command<'a>(alloc: Global, kind: Kind) -> Result<Command<'a>, AllocErro
         Kind::Export => export_command(alloc),
         Kind::Review => review_command(alloc),
         Kind::Ledger => ledger_command(alloc),
+        Kind::Judge => judge_command(alloc),
         Kind::Watch => watch_command(alloc),
     }
 }
@@ -827,6 +841,7 @@ pub(crate) fn whole_command<'a>(alloc: Global) -> Result<Command<'a>, AllocError
             Kind::Export,
             Kind::Review,
             Kind::Ledger,
+            Kind::Judge,
             Kind::Watch,
         ],
     )

@@ -30,6 +30,8 @@ pub enum Order {
     Review(Review),
     /// Print what a server told, by the bytes that both ends of a connection sent.
     Ledger(Ledger),
+    /// Print which line of either end first breaks a rule of the interface, by the bytes that both sent.
+    Judge(Judge),
     /// Stand between a client and a server, and write what the server reports.
     Watch(Watch),
 }
@@ -234,6 +236,15 @@ pub struct Ledger {
     pub down: String,
     /// The number of the connection, from 1 to 4,000,000,000.
     pub connection: u32,
+}
+
+/// The values of `judge`.
+#[derive(Debug, Drop)]
+pub struct Judge {
+    /// The file of the bytes that the client sent; `-` is standard input.
+    pub up: String,
+    /// The file of the bytes that the server sent; `-` is standard input.
+    pub down: String,
 }
 
 /// The values of `watch`.

@@ -9,7 +9,7 @@ ghost use Rattle.dme_words.specs.Ordered.{IsCheckOf, IsSimulateOf, IsAnyAuditOf,
 ghost use Rattle.dme_words.specs.Ordered.{IsExplainOf, IsLedgerOf, IsAnyExportOf, HasExport, AsksForNothing, IsNoCode, IsNoForm, IsCodeOf, form_word, HasNoTopic};
 ghost use Rattle.dme_words.specs.Ordered.{IsConnectionOf, HasConnection, HasLedger, HasValue, HasWindow, HasPort, HasConnections, HasFlag, HasExplained};
 ghost use Rattle.dme_words.specs.Ordered.{HasSimulation, HasLoop, HasService, HasRun};
-ghost use Rattle.dme_words.specs.Ordered.{IsListenedOf, HasListened, IsWatchOf, HasWatch};
+ghost use Rattle.dme_words.specs.Ordered.{IsListenedOf, HasListened, IsWatchOf, HasWatch, IsJudgeOf, HasJudge};
 ghost use Rattle.dme_words.specs.Ordered.{HasNone, is_lacking, AreLacking, HasNoAudit, HasNoExport, ExportMisfits};
 ghost use Rattle.dme_words.specs.Ordered.{IsLaterAskable, IsReviewOf};
 ghost use Rattle.dme_words.specs.Ordered.{IsAskable, IsReady, Asks, IsRefusal, IsCalled};
@@ -17,7 +17,7 @@ ghost use Rattle.dme_words.specs.Ordered.{IsAskable, IsReady, Asks, IsRefusal, I
 use crate::line::whole_command;
 use crate::misfits::{Lacks, Misfit};
 use crate::orders::{
-    Audit, Check, Export, Ledger, Loop, Order, RecordAudit, RecordExport, RecordForm, Review, Run,
+    Audit, Check, Export, Judge, Ledger, Loop, Order, RecordAudit, RecordExport, RecordForm, Review, Run,
     Service, Simulation, Watch,
 };
 use clap::error::ErrorKind;
@@ -541,6 +541,16 @@ fn ledger_order(alloc: Global, values: &ArgMatches) -> Result<Ledger, AllocError
     })
 }
 
+/// The values of `judge`. Fails only if out of memory.
+fn judge_order(alloc: Global, values: &ArgMatches) -> Result<Judge, AllocError>
+    requires { HasJudge (rows_of (found_of values.now)) }
+    ensures { IfOk result (IsJudgeOf (rows_of (found_of values.now))) }
+{
+    let up = copied_value(alloc, values, "up")?;
+    let down = copied_value(alloc, values, "down")?;
+    Ok(Judge { up, down })
+}
+
 /// The values of `watch`. Fails only if out of memory.
 fn watch_order(alloc: Global, values: &ArgMatches) -> Result<Watch, AllocError>
     requires { HasWatch (rows_of (found_of values.now)) }
@@ -570,7 +580,7 @@ fn watch_order(alloc: Global, values: &ArgMatches) -> Result<Watch, AllocError>
     })
 }
 
-/// The order of one of the last seven subcommands, with its values.
+/// The order of one of the last eight subcommands, with its values.
 fn later_order(alloc: Global, name: &str, values: &ArgMatches) -> Result<Order, WordsFault>
     requires { IsLaterAskable (name.now, rows_of (found_of values.now)) }
     ensures named { IfOk result (IsOrderOf (Some (name.now, rows_of (found_of values.now)))) }
@@ -585,6 +595,7 @@ fn later_order(alloc: Global, name: &str, values: &ArgMatches) -> Result<Order, 
         "export" => export_order(alloc, values),
         "review" => Ok(Order::Review(review_order(alloc, values)?)),
         "ledger" => Ok(Order::Ledger(ledger_order(alloc, values)?)),
+        "judge" => Ok(Order::Judge(judge_order(alloc, values)?)),
         "watch" => Ok(Order::Watch(watch_order(alloc, values)?)),
         _ => unreachable!(),
     }
