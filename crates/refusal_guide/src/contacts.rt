@@ -5,11 +5,13 @@ use contact_ledger::{Act, ServerLedger};
 use fixed_um::{Dir, Frame, Name, Point};
 use std::alloc::{AllocError, Global};
 
-/// A contact of a ledger: its number among the contacts, counted from 0, its connection, what was asked for, and the point reported.
+/// A contact of a ledger: its number among the contacts, counted from 0, its connection and the one that it is shown with, what was asked for,
+/// and the point reported.
 #[derive(Drop)]
 pub(crate) struct Contact<'a> {
     pub(crate) number: usize,
     pub(crate) connection: u64,
+    pub(crate) shown_on: u64,
     pub(crate) target: Point,
     pub(crate) dir: Option<Dir>,
     pub(crate) tool: &'a Name,
@@ -30,11 +32,17 @@ pub(crate) struct Contacts<'a> {
     acts: &'a [(u64, Act)],
     /// Where among the acts each of them is.
     places: Vec<usize>,
+    /// The connections that they are shown with, if these are not those of the ledger.
+    connections: &'a [u64],
 }
 
 impl<'a> Contacts<'a> {
-    /// The contacts of a ledger. Fails only if out of memory.
-    pub(crate) fn of(alloc: Global, ledger: &'a ServerLedger) -> Result<Contacts<'a>, AllocError> {
+    /// The contacts of a ledger, shown with these connections, or with those of the ledger if there are none. Fails only if out of memory.
+    pub(crate) fn of(
+        alloc: Global,
+        ledger: &'a ServerLedger,
+        connections: &'a [u64],
+    ) -> Result<Contacts<'a>, AllocError> {
         let acts = ledger.acts();
         let mut places = Vec::new(alloc);
         for place in 0..acts.len() {
@@ -42,7 +50,11 @@ impl<'a> Contacts<'a> {
                 places.push(place)?;
             }
         }
-        Ok(Contacts { acts, places })
+        Ok(Contacts {
+            acts,
+            places,
+            connections,
+        })
     }
 
     /// How many they are.
@@ -54,6 +66,10 @@ impl<'a> Contacts<'a> {
     pub(crate) fn get(&self, number: usize) -> Option<Contact<'a>> {
         let place = self.places.get(number)?;
         let (connection, act) = self.acts.get(*place)?;
+        let shown_on = match self.connections.get(number) {
+            Some(shown_on) => *shown_on,
+            None => *connection,
+        };
         match act {
             Act::Contact {
                 target,
@@ -64,6 +80,7 @@ impl<'a> Contacts<'a> {
             } => Some(Contact {
                 number,
                 connection: *connection,
+                shown_on,
                 target: *target,
                 dir: *dir,
                 tool,
