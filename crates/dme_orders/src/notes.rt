@@ -63,68 +63,37 @@ fn add_doubts(text: &mut String, told: &ToldLedger) -> Result<(), AllocError> {
     )
 }
 
-/// The number of a contact that the last word of a text is.
-fn last_number(text: &str) -> Option<usize> {
-    let (_, word) = text.rsplit_once(" ")?;
-    word.parse::<usize>().ok()
-}
-
-/// Appends what an audit found in a ledger whose connection numbers only tell neighbours apart, with the connections of the contacts in
-/// their place. The ledger's numbers have one digit.
-fn add_on_connections(
-    text: &mut String,
-    found: &str,
-    connections: &[u64],
-) -> Result<(), AllocError> {
-    let mut number = None;
-    for (index, piece) in found.split(" on connection ").enumerate() {
-        let mut rest = piece;
-        if index > 0 {
-            let connection = match number {
-                Some(contact) => connections.get(contact).copied().unwrap_or(0),
-                None => 0,
-            };
-            write!(text, " on connection {connection}")?;
-            rest = piece.trim_start_matches(|c: char| c.is_ascii_digit());
-        }
-        text.push_str(rest)?;
-        number = last_number(rest);
-    }
-    Ok(())
-}
-
-/// Appends what an audit by what a server reported found. How many contacts have a tool or a frame that is not known comes first.
-fn add_told_notes(
+/// Appends what an audit of these files found, as `write_audit` says it: the contacts are shown with these connections, if there are any.
+fn add_audit(
     alloc: Global,
     text: &mut Vec<u8>,
-    told: &ToldLedger,
-    found: &[u8],
+    files: &InputFiles,
+    connections: &[u64],
 ) -> Result<(), AllocError> {
-    let mut notes = String::new(alloc);
-    add_doubts(&mut notes, told)?;
-    let connections = contact_connections(alloc, told)?;
-    let found = str::from_utf8(found).unwrap_or("");
-    add_on_connections(&mut notes, found, connections.as_slice())?;
-    text.extend_from_slice(notes.as_bytes())
+    let Some(program) = program_of(alloc, files) else {
+        return Ok(());
+    };
+    let Some((features, ledger)) = audited_of(alloc, files) else {
+        return Ok(());
+    };
+    write_audit(text, &program, features.list(), &ledger, connections)
 }
 
-/// What an audit of these files found, as `write_audit` says it; by what a server reported, also how many contacts have a tool or a
+/// What an audit of these files found, as `write_audit` says it; by what a server reported, first how many contacts have a tool or a
 /// frame that is not known. Nothing if memory ran out for their texts. Fails only if out of memory.
 pub fn audit_notes(alloc: Global, files: &InputFiles) -> Result<Vec<u8>, AllocError> {
     let mut text = Vec::new(alloc);
     if files.is_short() {
         return Ok(text);
     }
-    if let Some(program) = program_of(alloc, files) {
-        if let Some((features, ledger)) = audited_of(alloc, files) {
-            write_audit(&mut text, &program, features.list(), &ledger)?;
-        }
-    }
+    let mut connections = Vec::new(alloc);
     if let Some(told) = told_of(alloc, files) {
-        let mut notes = Vec::new(alloc);
-        add_told_notes(alloc, &mut notes, &told, text.as_slice())?;
-        return Ok(notes);
+        let mut doubts = String::new(alloc);
+        add_doubts(&mut doubts, &told)?;
+        text.extend_from_slice(doubts.as_bytes())?;
+        connections = contact_connections(alloc, &told)?;
     }
+    add_audit(alloc, &mut text, files, connections.as_slice())?;
     Ok(text)
 }
 

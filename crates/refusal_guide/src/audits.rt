@@ -23,7 +23,7 @@ fn add_unserving(
     };
     let target = point_text(alloc, contact.target)?;
     let point = point_text(alloc, contact.point)?;
-    let connection = contact.connection;
+    let connection = contact.shown_on;
     writeln!(
         text,
         "dme: contact {number} on connection {connection} serves no feature: target {target}, point {point}"
@@ -124,6 +124,7 @@ fn audit_text(
     program: &Program,
     features: &[Feature],
     ledger: &ServerLedger,
+    connections: &[u64],
 ) -> Result<String, AllocError> {
     let mut text = String::new(alloc);
     let sound = add_count(alloc, &mut text, program, features, ledger)?;
@@ -131,7 +132,7 @@ fn audit_text(
     let Verdict::Starts(starts) = audit(alloc, program, first, ledger)? else {
         return Ok(text);
     };
-    let contacts = Contacts::of(alloc, ledger)?;
+    let contacts = Contacts::of(alloc, ledger, connections)?;
     let passed = add_between(alloc, &mut text, first, starts.as_slice(), &contacts)?;
     if let Some(feature) = features.get(sound) {
         let wanted = program.features().get(sound);
@@ -143,15 +144,17 @@ fn audit_text(
 
 /// Appends what an audit of features by a ledger found, a line each: how many of the program's features were audited; if one has no run,
 /// which touch of the first of these has no contact, and in what the nearest contact differs; and the contacts that serve no feature, with
-/// their numbers, counted from 0, and their connections. Fails only if out of memory, and then nothing is appended.
+/// their numbers, counted from 0, and their connections: these, if there are any, or else those of the ledger. Fails only if out of memory,
+/// and then nothing is appended.
 pub fn write_audit(
     out: &mut Vec<u8>,
     program: &Program,
     features: &[Feature],
     ledger: &ServerLedger,
+    connections: &[u64],
 ) -> Result<(), AllocError>
     ensures err { OnErr result (out.new.items ≡ out.old.items) }
 {
-    let text = audit_text(*out.allocator(), program, features, ledger)?;
+    let text = audit_text(*out.allocator(), program, features, ledger, connections)?;
     out.extend_from_slice(text.as_bytes())
 }

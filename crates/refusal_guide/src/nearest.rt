@@ -130,7 +130,7 @@ fn add_contact(
     point: Point,
 ) -> Result<(), AllocError> {
     let number = contact.number;
-    let connection = contact.connection;
+    let connection = contact.shown_on;
     write!(
         text,
         "the nearest contact, {number} on connection {connection}, "
@@ -142,7 +142,7 @@ fn add_contact(
 fn add_lack(text: &mut String, contacts: &Contacts, number: usize) -> Result<(), AllocError> {
     match contacts.get(number) {
         Some(contact) => {
-            let connection = contact.connection;
+            let connection = contact.shown_on;
             writeln!(
                 text,
                 "connection {connection} has no contact after {number}"
