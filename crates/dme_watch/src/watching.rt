@@ -213,10 +213,12 @@ impl Link {
         client: TcpStream,
         server: TcpStream,
     ) -> Result<Link, Ended> {
+        let client = socket_of(client)?;
+        let server = socket_of(server)?;
         Ok(Link {
             relay: Relay::new(alloc, number),
-            client: socket_of(client)?,
-            server: socket_of(server)?,
+            client,
+            server,
             client_ended: false,
             server_ended: false,
             up_closed: false,
@@ -362,6 +364,56 @@ impl<'a, R: Clock> Silence<'a, R> {
     }
 }
 
+/// Both ends of a connection are waited for.
+fn register(poll: &mut Poll, link: &mut Link) -> io::Result<()> {
+    let both = Interest::READABLE | Interest::WRITABLE;
+    poll.registry().register(&mut link.client, Token(0), both)?;
+    poll.registry().register(&mut link.server, Token(1), both)
+}
+
+/// Relays a connection, whose both ends are waited for, until it ends, which it gives the cause of.
+fn relay_turns<R: Files<File = File> + Eprint + Clock + AllocGlobal>(
+    keeper: &mut Keeper<'_, R>,
+    link: &mut Link,
+    silence: &mut Silence<'_, R>,
+    polled: (&mut Poll, &mut Events),
+    piece: &mut [u8],
+) -> Result<(), Ended> {
+    let (poll, events) = polled;
+    for _turn in 0..u64::MAX {
+        if link.turn(keeper, piece)? {
+            silence.end();
+            continue;
+        }
+        if silence.is_over() {
+            return Err(Ended::Silent);
+        }
+        poll.poll(events, silence.look())?;
+    }
+    Ok(())
+}
+
+/// Likewise, of a connection whose ends are not waited for yet.
+fn relay_polled<R: Files<File = File> + Eprint + Clock + Net + AllocGlobal>(
+    keeper: &mut Keeper<'_, R>,
+    link: &mut Link,
+    timeout: Option<u32>,
+    events: &mut Events,
+    piece: &mut [u8],
+) -> Result<(), Ended> {
+    let rt = keeper.rt;
+    let mut poll = Poll::new(rt)?;
+    register(&mut poll, link)?;
+    let mut silence = Silence {
+        rt,
+        most: timeout,
+        since: None,
+    };
+    let ended = relay_turns(keeper, link, &mut silence, (&mut poll, events), piece);
+    drop(poll);
+    ended
+}
+
 /// Relays a connection until it ends, which it gives the cause of.
 fn relay_link<R: Files<File = File> + Eprint + Clock + Net + AllocGlobal>(
     keeper: &mut Keeper<'_, R>,
@@ -371,26 +423,24 @@ fn relay_link<R: Files<File = File> + Eprint + Clock + Net + AllocGlobal>(
     let rt = keeper.rt;
     let mut piece = vec![in rt.alloc(); 0u8; PIECE]?;
     let mut events = Events::with_capacity(rt.alloc(), 4)?;
-    let mut poll = Poll::new(rt)?;
-    let both = Interest::READABLE | Interest::WRITABLE;
-    poll.registry().register(&mut link.client, Token(0), both)?;
-    poll.registry().register(&mut link.server, Token(1), both)?;
-    let mut silence = Silence {
-        rt,
-        most: timeout,
-        since: None,
-    };
-    for _turn in 0..u64::MAX {
-        if link.turn(keeper, &mut piece)? {
-            silence.end();
-            continue;
-        }
-        if silence.is_over() {
-            return Err(Ended::Silent);
-        }
-        poll.poll(&mut events, silence.look())?;
-    }
-    Ok(())
+    let ended = relay_polled(keeper, link, timeout, &mut events, &mut piece);
+    drop(events);
+    drop(piece);
+    ended
+}
+
+/// Likewise, of a connection with both ends.
+fn relay_ends<R: Files<File = File> + Eprint + Clock + Net + AllocGlobal>(
+    keeper: &mut Keeper<'_, R>,
+    number: u64,
+    ends: (TcpStream, TcpStream),
+    timeout: Option<u32>,
+) -> Result<(), Ended> {
+    let (client, server) = ends;
+    let mut link = Link::new(keeper.rt.alloc(), number, client, server)?;
+    let ended = relay_link(keeper, &mut link, timeout);
+    drop(link);
+    ended
 }
 
 /// What is shown of a connection that has ended, if it did not end as it should.
@@ -430,17 +480,18 @@ fn relay_one<
         Called::Stopped => return Ok(()),
     };
     let timeout = patience.seconds();
-    let result = match Link::new(rt.alloc(), number, client, server) {
-        Ok(mut link) => relay_link(keeper, &mut link, timeout),
-        Err(ended) => Err(ended),
-    };
-    let Err(ended) = result else {
+    let Err(ended) = relay_ends(keeper, number, (client, server), timeout) else {
         return Ok(());
     };
     match shown(rt.alloc(), ended, timeout) {
         Some(fault) => Err(fault),
         None => Ok(()),
     }
+}
+
+/// Whether a fault is that memory ran out.
+fn is_memory(fault: &Fault) -> bool {
+    matches!(fault, Fault::Order(OrderFault::Memory))
 }
 
 /// Relays that many connections, one after the other: the status. What breaks one off is shown, and the next is taken, unless out of memory.
@@ -465,7 +516,7 @@ fn relay_all<
         };
         match relay_one(keeper, count as u64 + 1, client, order, patience) {
             Ok(()) => {}
-            Err(Fault::Order(OrderFault::Memory)) => return Err(Fault::Order(OrderFault::Memory)),
+            Err(fault) if is_memory(&fault) => return Err(fault),
             Err(fault) => {
                 is_broken = true;
                 let _ = eprint!(rt; "{fault}");
@@ -473,6 +524,53 @@ fn relay_all<
         }
     }
     Ok(if is_broken || keeper.has_failed { 1 } else { 0 })
+}
+
+/// Listens, and from then on the told file grows. If it cannot listen, that file is as it was.
+fn listen<R: Files<File = File> + Net<Listener = TcpListener, Stream = TcpStream> + AllocGlobal>(
+    rt: &R,
+    order: &Watch,
+) -> Result<(TcpListener, ToldFile), Fault> {
+    let name = String::from_str(rt.alloc(), order.told.as_str())?;
+    let next = NextTold::make(rt, name)?;
+    match TcpListener::bind(rt, ("127.0.0.1", order.listen)) {
+        Ok(listener) => match next.begin(rt) {
+            Ok(told) => Ok((listener, told)),
+            Err(fault) => Err(Fault::Order(fault)),
+        },
+        Err(error) => {
+            next.discard(rt);
+            Err(Fault::Order(no_connection(&error, true)))
+        }
+    }
+}
+
+/// Carries out a relay: its exit status.
+fn watch_order<
+    R: Files<File = File>
+        + Eprint
+        + Clock
+        + Net<Listener = TcpListener, Stream = TcpStream>
+        + AllocGlobal,
+>(rt: &R, order: &mut Watch) -> Result<u8, Fault> {
+    let timeout = seconds_of("timeout", order.timeout.take())?;
+    let recording = recording_of(rt, order.record_bytes.as_deref(), 1)?;
+    let (listener, told) = listen(rt, order)?;
+    let log = Log::named(rt, order.log.take());
+    let mut keeper = Keeper {
+        rt,
+        told,
+        folder: order.record_bytes.take(),
+        recording,
+        talk: Talk::new(rt, order.trace, log),
+        has_failed: false,
+    };
+    let patience = Patience::new(rt, timeout, None);
+    let done = relay_all(&mut keeper, &listener, order, &patience);
+    drop(patience);
+    drop(keeper);
+    drop(listener);
+    done
 }
 
 /// The order `watch`: its exit status. A file that cannot be written is refused before the relay listens; one that fails later is reported at
@@ -484,27 +582,7 @@ pub fn watch<
         + Net<Listener = TcpListener, Stream = TcpStream>
         + AllocGlobal,
 >(rt: &R, mut order: Watch) -> Result<u8, Fault> {
-    let timeout = seconds_of("timeout", order.timeout.take())?;
-    let recording = recording_of(rt, order.record_bytes.as_deref(), 1)?;
-    let name = String::from_str(rt.alloc(), order.told.as_str())?;
-    let next = NextTold::make(rt, name)?;
-    let listener = match TcpListener::bind(rt, ("127.0.0.1", order.listen)) {
-        Ok(listener) => listener,
-        Err(error) => {
-            next.discard(rt);
-            return Err(Fault::Order(no_connection(&error, true)));
-        }
-    };
-    let told = next.begin(rt)?;
-    let log = Log::named(rt, order.log.take());
-    let mut keeper = Keeper {
-        rt,
-        told,
-        folder: order.record_bytes.take(),
-        recording,
-        talk: Talk::new(rt, order.trace, log),
-        has_failed: false,
-    };
-    let patience = Patience::new(rt, timeout, None);
-    relay_all(&mut keeper, &listener, &order, &patience)
+    let done = watch_order(rt, &mut order);
+    drop(order);
+    done
 }
