@@ -2,7 +2,6 @@
 use Rattle.std.specs.Prelude.{◌≡◌, ℕ, List, [], Bool, false, Option, Some, Ok, Err, IfSome}
 use Rattle.fixed_um.specs.declared.lengths.Point.{Point}
 use Rattle.contact_ledger.specs.FeatureTexts.{IsFeatures, IsDamagedFeatures}
-use Rattle.contact_ledger.specs.ContactTexts.{IsContacts, IsDamagedContacts}
 use Rattle.contact_ledger.specs.declared.acts.Act.{Act}
 use Rattle.contact_ledger.specs.declared.features.Feature.{Feature}
 use Rattle.contact_ledger.specs.declared.faults.TextFault.TheVariants as ledger
@@ -17,6 +16,7 @@ use Rattle.run_record.specs.declared.faults.RecordFault.TheVariants as recorded
 use Rattle.link_world.specs.ScheduleTexts.{schedule_of}
 use Rattle.link_world.specs.declared.texts.schedules.Instruction.{Instruction}
 use Rattle.link_world.specs.declared.texts.schedule_faults.ScheduleFault.TheVariants as schedule
+use Rattle.told_files.specs.Either.{AreAudited, IsDamagedAudited}
 use Rattle.dmis_program.specs.Meaning.{Meaning, program_of}
 use Rattle.dmis_program.specs.declared.faults.ProgramFault.TheVariants as program
 use Rattle.dme_orders.specs.Checked.{IsUnread}
@@ -95,13 +95,13 @@ module _ {S : Type 0} (c : Came S) where
   WhyNoFeatures (fault.Features (ledger.Damaged n)) = Reads c (λ text. IsDamagedFeatures text n)
   WhyNoFeatures given = WhyNoText role.Features given
 
-  -- the acts of a source
+  -- the acts of a source: those of a server, or those of runs in what it reported, by the first line of the text
   abbrev pub ReadsContacts : List (ℕ × Act) → Type 0
-  ReadsContacts said = Reads c (λ text. IsContacts text said)
+  ReadsContacts said = Reads c (λ text. AreAudited text said)
 
   -- why there are no such values
   abbrev pub WhyNoContacts : FilesFault → Type 0
-  WhyNoContacts (fault.Contacts (ledger.Damaged n)) = Reads c (λ text. IsDamagedContacts text n)
+  WhyNoContacts (fault.Contacts (ledger.Damaged n)) = Reads c (λ text. IsDamagedAudited text n)
   WhyNoContacts given = WhyNoText role.Contacts given
 
   -- the record of a source, or that its text is not a record yet

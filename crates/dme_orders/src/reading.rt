@@ -6,13 +6,14 @@ ghost use Rattle.dme_orders.specs.Reading.{ReadsFeatures, WhyNoFeatures, ReadsCo
 ghost use Rattle.dme_orders.specs.Input.{named, ReadsNamed, WhyNoNamed, frames_under};
 
 use byte_ports::{PullFault, Source, pull_all};
-use contact_ledger::{FeatureLedger, ServerLedger, TextFault, read_contacts, read_features};
+use contact_ledger::{FeatureLedger, ServerLedger, TextFault, read_features};
 use deviations::RowsFault;
 use dmis_program::{Frames, Program, ProgramFault};
 use fixed_um::Name;
 use link_world::{Schedule, ScheduleFault};
 use run_record::{Record, RecordFault, read_record};
 use std::alloc::{AllocError, Global};
+use told_files::read_audited;
 use tool_rack::{Setup, SetupFault};
 
 /// What a file is to an order.
@@ -153,7 +154,7 @@ pub(crate) fn features_from<S: Source>(
     }
 }
 
-/// The contacts that a source gives, among a server's other acts.
+/// The contacts that a source gives: among a server's other acts, or as a server reported them, by the first line of the text.
 pub(crate) fn contacts_from<S: Source>(
     alloc: Global,
     source: &mut S,
@@ -162,7 +163,7 @@ pub(crate) fn contacts_from<S: Source>(
     ensures err { IfErr result (WhyNoContacts (came S.left S.has_failed source.old source.new)) }
 {
     let text = read_text(alloc, source, Role::Contacts)?;
-    let read = read_contacts(alloc, text.as_slice());
+    let read = read_audited(alloc, text.as_slice());
     drop(text);
     match read {
         Ok(ledger) => Ok(ledger),
