@@ -89,6 +89,7 @@ ends_goes s n m ls e none some = go (m == n) refl
   where
     starts : Option ℕ → Type 0
     starts o = connection_at (numbers s o ls) 0 ≡ Some (number_of s)
+
     go : (b : Bool) → (m == n) ≡ b → Goes n ((m, Ends) ∷ ls)
     go true t = absurd (none (subst starts (ended n m t) e))
     go false t = goes_more n (m, Ends) ls (other_ends n m t) (some (subst starts (kept n m t) e))
@@ -275,9 +276,9 @@ numbered_all entries ledger e = subst (λ (l : List (ℕ × Act)). AreRunContact
   alike = alike true None (parts_of entries);
   joined = λ k within. (
     (λ same. to_next true None (parts_of entries) k (omega (arith, within)) (same ∙ ap (λ (j : ℕ).
-    connection_at (numbers true None (parts_of entries)) j) (plus_one k))),
+        connection_at (numbers true None (parts_of entries)) j) (plus_one k))),
     (λ next. next_from true None (parts_of entries) k next ∙ ap (λ (j : ℕ). connection_at (numbers true None (parts_of entries)) j)
-    (sym (plus_one k))),
+        (sym (plus_one k))),
   );
 })
 

@@ -266,11 +266,14 @@ act_of_contact n target point dir tool frame line h e = go (bytes_eq tool unknow
     entry : Bool → Told
     entry true = told.Touched target dir None (Some frame) point
     entry false = told.Did (act.Contact target dir tool frame point)
+
     read_as : (b : Bool) → bytes_eq tool unknown_field ≡ b → read_act (act.Contact target dir tool frame point) ≡ entry b
     read_as true t = rw t refl
     read_as false t = rw t refl
+
     goal : Told → Type 0
     goal t = IsToldEntry (n, t) × (line ≡ told_line (n, t))
+
     of : (b : Bool) → bytes_eq tool unknown_field ≡ b → IsToldEntry (n, entry b) × (line ≡ told_line (n, entry b))
     of true t = (
       ((h.0, (h.1.0, h.1.1, tt, h.1.3, h.1.4)), tt),
@@ -280,6 +283,7 @@ act_of_contact n target point dir tool frame line h e = go (bytes_eq tool unknow
       ((h.0, h.1), λ same. let yes = (bytes_eq-Decides tool unknown_field).1 same in absurd cc),
       e,
     )
+
     go : (b : Bool) → bytes_eq tool unknown_field ≡ b → IsToldEntry (n, read_act (act.Contact target dir tool frame point))
         × (line ≡ told_line (n, read_act (act.Contact target dir tool frame point)))
     go b t = subst goal (sym (read_as b t)) (of b t)

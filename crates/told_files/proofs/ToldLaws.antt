@@ -96,12 +96,16 @@ tool_back tool frame target point dir h = go (bytes_eq tool unknown_field) refl 
   where
     goal : Option Frame → Option (List ℕ) → Type 0
     goal frame read = IsBack (told.Touched target dir (Some tool) frame point) (touched read frame target dir point)
+
     is_unknown : bytes_eq tool unknown_field ≡ true → read_tool tool ≡ None
     is_unknown t = rw t refl
+
     is_known : bytes_eq tool unknown_field ≡ false → read_tool tool ≡ Some tool
     is_known t = rw t refl
+
     other : bytes_eq tool unknown_field ≡ false → tool ≢ unknown_field
     other t same = let yes = (bytes_eq-Decides tool unknown_field).1 same in absurd cc
+
     of_unknown : (frame : Option Frame) → bytes_eq tool unknown_field ≡ true
         → IsWrittenTold (told.Touched target dir (Some tool) frame point) → goal frame None
     of_unknown frame t h = record {
@@ -110,10 +114,12 @@ tool_back tool frame target point dir h = go (bytes_eq tool unknown_field) refl 
       fields = ap (λ (name : List ℕ). told_fields (told.Touched target dir (Some name) frame point))
           (sym ((bytes_eq-Decides tool unknown_field).0 t));
     }
+
     of_known : (frame : Option Frame) → bytes_eq tool unknown_field ≡ false
         → IsWrittenTold (told.Touched target dir (Some tool) frame point) → goal frame (Some tool)
     of_known None t h = record { written = h; known = other t; fields = refl }
     of_known (Some frame) t h = record { written = h; known = other t; fields = refl }
+
     go : (b : Bool) → bytes_eq tool unknown_field ≡ b → (frame : Option Frame)
         → IsWrittenTold (told.Touched target dir (Some tool) frame point) → goal frame (read_tool tool)
     go true t frame h = subst (goal frame) (sym (is_unknown t)) (of_unknown frame t h)
@@ -232,6 +238,7 @@ told_inner e h = go e.1 h.1
   where
     number : IsPlain (decimal e.0)
     number = decimal_plain e.0 (omega (arith, h.0.1))
+
     go : (t : Told) → IsWrittenTold t → IsInner (told_line (e.0, t))
     go (told.Did a) w = line_inner (decimal e.0) (act_fields a) (entry_plain (e.0, a) (h.0, w))
     go (told.MovedSomewhere target) w = line_inner (decimal e.0) (told_fields (told.MovedSomewhere target))

@@ -34,10 +34,7 @@ pub(crate) fn read_tool(alloc: Global, field: &[u8]) -> Result<Option<Option<Nam
 }
 
 /// The frame of the next fields, or that it is not known, and what follows them.
-pub(crate) fn read_frame<'a>(
-    forms: &mut Forms,
-    rest: &'a [u8],
-) -> Option<(Option<Frame>, &'a [u8])>
+pub(crate) fn read_frame<'a>(forms: &mut Forms, rest: &'a [u8]) -> Option<(Option<Frame>, &'a [u8])>
     ensures { MatchOption result
         ((f : Option Frame) (more : List (List ℕ)) → IsPlaced f
         → fields_behind rest.now ≡ known_frame f ++ more → ⊥)

@@ -45,13 +45,15 @@ impl Numbering {
             ≡ open_after self.old.open_on connection (part_of told.now)) }
     {
         match told {
-            Told::Did(Act::Contact {
-                target,
-                dir,
-                tool,
-                frame,
-                point,
-            }) => {
+            Told::Did(
+                Act::Contact {
+                    target,
+                    dir,
+                    tool,
+                    frame,
+                    point,
+                },
+            ) => {
                 let joined = is_joined(self.open_on, connection);
                 let second = if joined { self.second } else { !self.second };
                 let act = Act::Contact {
