@@ -17,8 +17,8 @@ ghost use Rattle.dme_words.specs.Ordered.{IsAskable, IsReady, Asks, IsRefusal, I
 use crate::line::whole_command;
 use crate::misfits::{Lacks, Misfit};
 use crate::orders::{
-    Audit, Check, Export, Judge, Ledger, Loop, Order, RecordAudit, RecordExport, RecordForm, Review, Run,
-    Service, Simulation, Watch,
+    Audit, Check, Export, Judge, Ledger, Loop, Order, RecordAudit, RecordExport, RecordForm,
+    Review, Run, Service, Simulation, Watch,
 };
 use clap::error::ErrorKind;
 use clap::parser::ValueSource;

@@ -1,5 +1,5 @@
 -- What is printed of a judgement is never empty.
-use Rattle.std.proofs.Common.{ℕ, ◌<◌, length, Option, Some, None, arith}
+use Rattle.std.proofs.Common.{◌<◌, length, Option, Some, None, arith}
 use Rattle.line_judge.specs.Judging.{Judged}
 use Rattle.line_judge.specs.Texts.{ends_text, judgement_text}
 use Rattle.line_judge.specs.declared.judgement.Break.{Break}
