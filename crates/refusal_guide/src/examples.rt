@@ -69,6 +69,7 @@ pub fn words_follow_one_another()
 {}
 
 /// A block is open from its `MEAS` to its `ENDMES`.
+#[tactic(auto, unfolding(crate::specs::Blocks::open_block))]
 pub fn blocks_are_open_up_to_their_end()
     ensures open { open_block (codes "MEAS/POINT,F(A),2\nPTMEAS/CART,1,2,3\nENDMES") 3
         ≡ Some one_of_two }

@@ -2,4 +2,4 @@ use Rattle.std.proofs.Common.{refl}
 use Rattle.refusal_guide.proofs.examples.places_have_two_lines.Goals as goal
 
 pub returns : goal.returns
-returns c = refl
+returns c = record { whole = refl }
