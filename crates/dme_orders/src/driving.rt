@@ -1,6 +1,7 @@
 // A program is run on a server over a connection, over ports.
 
 ghost use Rattle.std.specs.Prelude.{◌≡◌, ◌<◌, length, Some, OnOk, OnErr, IfOk, IsErrOf};
+ghost use Rattle.link_world.specs.Showing.{EndsShown};
 ghost use Rattle.dme_orders.specs.Broken.{BlamesClient};
 ghost use Rattle.dme_orders.specs.Driving.{file_told, run_told, IsFeaturesText, RunCame, Keeps, LeavesRun, StopsRun};
 ghost use Rattle.dme_orders.specs.Orders.{went, Prints};
@@ -91,6 +92,7 @@ fn turned<R: Source, W: Sink, N: Watcher, S: Steering, F: TextFile>(
     ensures blamed { IfOk result (λ end. BlamesClient end.0.ended.broken
         (R.has_failed ports.old.source) (R.has_failed ports.new.source)
         (W.has_failed ports.old.sink) (W.has_failed ports.new.sink)) }
+    ensures shown { EndsShown N.shows client.old client.new watcher.old watcher.new }
 {
     let broken = match watch_link(client, ports, watcher, steering) {
         Ok(()) => None,
@@ -140,6 +142,9 @@ pub fn drive<R: Source, W: Sink, N: Watcher, S: Steering, F: TextFile, O: Sink>(
     ensures blamed { IfOk result (λ driven. BlamesClient driven.ended.broken
         (R.has_failed ports.old.source) (R.has_failed ports.new.source)
         (W.has_failed ports.old.sink) (W.has_failed ports.new.sink)) }
+
+    // Whatever the answer: the watcher was shown the client after each turn, and last as it is now.
+    ensures shown { EndsShown N.shows client.old client.new watcher.old watcher.new }
 {
     let file = &mut outputs.features;
     let (driven, text) = turned(alloc, client, ports, watcher, steering, file)?;
