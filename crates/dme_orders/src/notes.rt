@@ -69,6 +69,17 @@ fn last_number(text: &str) -> Option<usize> {
     word.parse::<usize>().ok()
 }
 
+/// The connection of the contact of this number, if there is one; else 0.
+fn connection_of(connections: &[u64], number: Option<usize>) -> u64 {
+    let Some(contact) = number else {
+        return 0;
+    };
+    match connections.get(contact) {
+        Some(connection) => *connection,
+        None => 0,
+    }
+}
+
 /// Appends what an audit found in a ledger whose connection numbers only tell neighbours apart, with the connections of the contacts in
 /// their place. The ledger's numbers have one digit.
 fn add_on_connections(
@@ -80,10 +91,7 @@ fn add_on_connections(
     for (index, piece) in found.split(" on connection ").enumerate() {
         let mut rest = piece;
         if index > 0 {
-            let connection = match number {
-                Some(contact) => connections.get(contact).copied().unwrap_or(0),
-                None => 0,
-            };
+            let connection = connection_of(connections, number);
             write!(text, " on connection {connection}")?;
             rest = piece.trim_start_matches(|c: char| c.is_ascii_digit());
         }
