@@ -323,7 +323,14 @@ fn drive_client<
         features,
         report: Writing::new(io::writer(rt)),
     };
-    let driven = drive_called(rt, client, before, (&*call, patience), follower, &mut outputs);
+    let driven = drive_called(
+        rt,
+        client,
+        before,
+        (&*call, patience),
+        follower,
+        &mut outputs,
+    );
     drop(outputs);
     match driven {
         Ok(Some(driven)) => shown_end(rt, driven, call, (patience, follower.talk)),
