@@ -6,7 +6,7 @@ ghost use Rattle.client_core.specs.Clients.{is_window, may_connect};
 use crate::growing_files::{FeaturesFile, ReportedContacts};
 use crate::keeping::{is_confirmed, tell_kept, tell_next};
 use crate::progress::Progress;
-use crate::recording::{Follower, OpenRecord, RecordWords, open_record, record_words};
+use crate::recording::{Follower, Lent, OpenRecord, RecordWords, open_record, record_words};
 use crate::warning::warn;
 use byte_ports::{Ports, Sink, Writing};
 use client_core::{Client, ClientFault};
@@ -22,9 +22,10 @@ use dme_sockets::{
 };
 use dme_words::Run;
 use dmis_program::Program;
-use link_world::{LoopFault, PumpFault};
+use link_world::{LoopFault, PumpFault, Watcher};
 use program_review::{TaskLine, task_lines};
 use record_keeping::{Beginning, Recorder};
+use recorded_runs::RecordedRun;
 use std::alloc::{AllocError, Global};
 use std::cell::RefCell;
 use std::fs::File;
@@ -170,14 +171,13 @@ fn prepare<'a, R: Files<File = File> + Input + Eprint + AllocGlobal>(
 }
 
 /// A client that has come to its connection takes its turns over a stream, whose lines go by.
-fn drive_stream<R: Files + Eprint + Clock + AllocGlobal, F: TextFile, O: Sink>(
+fn drive_stream<R: Files + Eprint + Clock + AllocGlobal, N: Watcher, F: TextFile, O: Sink>(
     rt: &R,
     client: &mut Client,
     (stream, patience): (&TcpStream, &Patience<'_, R>),
-    follower: &mut Follower<'_, '_, R>,
+    (talk, watcher): (&RefCell<Talk<'_, R>>, &mut N),
     outputs: &mut RunOutputs<F, O>,
 ) -> Result<RunEnd, FilesFault> {
-    let talk = follower.talk;
     let source = PatientSource::new(stream, patience, false);
     let mut ports = Ports {
         source: HeardPort::new(source, Side::Server, talk),
@@ -188,10 +188,29 @@ fn drive_stream<R: Files + Eprint + Clock + AllocGlobal, F: TextFile, O: Sink>(
         rt.alloc(),
         client,
         &mut ports,
-        follower,
+        watcher,
         &mut steering,
         outputs,
     )
+}
+
+/// Likewise, with the record of the run, if there is one.
+fn drive_watched<R: Files + Eprint + Clock + AllocGlobal, F: TextFile, O: Sink>(
+    rt: &R,
+    client: &mut Client,
+    limited: (&TcpStream, &Patience<'_, R>),
+    follower: &mut Follower<'_, '_, R>,
+    outputs: &mut RunOutputs<F, O>,
+) -> Result<RunEnd, FilesFault> {
+    let talk = follower.talk;
+    let Some(recorder) = follower.take_recorder() else {
+        return drive_stream(rt, client, limited, (talk, follower), outputs);
+    };
+    let mut run = RecordedRun::new(recorder, Lent::new(follower));
+    let result = drive_stream(rt, client, limited, (talk, &mut run), outputs);
+    let (recorder, _) = run.into_parts();
+    follower.give_back(recorder);
+    result
 }
 
 /// The file of contacts of this name, if one is named, which begins with these acts.
@@ -252,7 +271,7 @@ fn drive_connection<R: Files<File = File> + Eprint + Clock + AllocGlobal, F: Tex
 {
     let (stream, call, patience) = limited;
     begin_connection(rt, client, before, call, follower)?;
-    match drive_stream(rt, client, (stream, patience), follower, outputs) {
+    match drive_watched(rt, client, (stream, patience), follower, outputs) {
         Ok(driven) => Ok(driven),
         Err(fault) => Err(Fault::Order(of_output(rt, fault))),
     }

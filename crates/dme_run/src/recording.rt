@@ -14,6 +14,7 @@ use dme_sockets::Talk;
 use dmis_program::Program;
 use link_world::Watcher;
 use record_keeping::{Beginning, RecordRefusal, Recorder, begin_record};
+use recorded_runs::Reports;
 use refusal_guide::{Refused, write_other_part, write_other_program, write_place};
 use run_record::{RecordFault, is_part, read_record};
 use std::alloc::{AllocError, Global};
@@ -234,7 +235,8 @@ pub fn open_record<R: Files<File = File> + Input + Eprint + AllocGlobal>(
     opened
 }
 
-/// Who follows a run: reports its progress, and keeps its record, its features file and the contacts that its server reports.
+/// Who follows a run: reports its progress, and keeps its features file and the contacts that its server reports. It has the recorder of
+/// the run's record, if there is one, before the run and after it; during the run `RecordedRun` has it.
 #[derive(Drop)]
 pub struct Follower<'a, 'b, R: Eprint> {
     rt: &'b R,
@@ -243,7 +245,9 @@ pub struct Follower<'a, 'b, R: Eprint> {
     pub talk: &'a RefCell<Talk<'b, R>>,
     /// The number of the connection.
     number: u64,
-    record: Option<(String, Recorder<LockedFile>)>,
+    /// The name of the record, if there is one.
+    name: Option<String>,
+    recorder: Option<Recorder<LockedFile>>,
     features: Option<FeaturesFile>,
     contacts: Option<ReportedContacts>,
     is_told: bool,
@@ -257,12 +261,17 @@ impl<'a, 'b, R: Eprint> Follower<'a, 'b, R> {
         number: u64,
         record: Option<(String, Recorder<LockedFile>)>,
     ) -> Self {
+        let (name, recorder) = match record {
+            Some((name, recorder)) => (Some(name), Some(recorder)),
+            None => (None, None),
+        };
         Follower {
             rt,
             progress,
             talk,
             number,
-            record,
+            name,
+            recorder,
             features: None,
             contacts: None,
             is_told: false,
@@ -274,21 +283,34 @@ impl<'a, 'b, R: Eprint> Follower<'a, 'b, R> {
         self.features = features;
         self.contacts = contacts;
     }
+
+    /// The recorder goes to the run that it records.
+    pub fn take_recorder(&mut self) -> Option<Recorder<LockedFile>> {
+        self.recorder.take()
+    }
+
+    /// It comes back from there.
+    pub fn give_back(&mut self, recorder: Recorder<LockedFile>) {
+        self.recorder = Some(recorder);
+    }
 }
 
 impl<'a, 'b, R: Eprint + AllocGlobal> Follower<'a, 'b, R> {
-    /// Appends to the record what a client has counted, and the errors of its server. A file that could not be written is reported once.
-    fn record(&mut self, client: &Client) {
-        let errors = match self.talk.try_borrow_mut() {
+    /// The errors that the server has reported since this was called last.
+    fn errors(&mut self) -> Vec<Vec<u8>> {
+        match self.talk.try_borrow_mut() {
             Ok(mut talk) => talk.take_errors(),
             Err(_) => Vec::new(self.rt.alloc()),
-        };
-        let Some((name, recorder)) = &mut self.record else {
+        }
+    }
+
+    /// Reports once that the record could not be written.
+    fn tell_unwritten(&mut self) {
+        if self.is_told {
             return;
-        };
-        recorder.follow(client, errors.as_slice());
-        if recorder.has_failed() && !self.is_told {
-            self.is_told = true;
+        }
+        self.is_told = true;
+        if let Some(name) = &self.name {
             let _ = eprintln!(self.rt; "dme: cannot write {name}");
         }
     }
@@ -327,9 +349,9 @@ impl<'a, 'b, R: Files + Eprint + AllocGlobal> Follower<'a, 'b, R> {
     /// Ends the record and the file of contacts, once the run has ended. A file that has failed is replaced by the whole text; the names of
     /// those for which that is not possible either. Fails only if out of memory: what was counted is not all written then.
     pub fn end(&mut self) -> Result<(Option<String>, Option<String>), OrderFault> {
-        let record = match &mut self.record {
-            Some((name, recorder)) => end_record(self.rt, name, recorder)?,
-            None => None,
+        let record = match (&mut self.name, &self.recorder) {
+            (Some(name), Some(recorder)) => end_record(self.rt, name, recorder)?,
+            _ => None,
         };
         let contacts = match &mut self.contacts {
             Some(contacts) => contacts.end(self.rt)?,
@@ -347,7 +369,7 @@ impl<'a, 'b, R: Eprint + AllocGlobal> Watcher for Follower<'a, 'b, R> {
     }
 
     fn turned(&mut self, client: &Client) {
-        self.record(client);
+        self.errors();
         self.add_contacts(client);
         let Some(file) = &mut self.features else {
             return;
@@ -356,5 +378,41 @@ impl<'a, 'b, R: Eprint + AllocGlobal> Watcher for Follower<'a, 'b, R> {
             let name = &file.name;
             let _ = eprintln!(self.rt; "dme: cannot write {name}");
         }
+    }
+}
+
+/// Who follows a run, lent to the run that is recorded.
+#[derive(Drop)]
+pub struct Lent<'c, 'a, 'b, R: Eprint> {
+    follower: &'c mut Follower<'a, 'b, R>,
+}
+
+impl<'c, 'a, 'b, R: Eprint> Lent<'c, 'a, 'b, R> {
+    pub fn new(follower: &'c mut Follower<'a, 'b, R>) -> Self {
+        Lent { follower }
+    }
+}
+
+impl<'c, 'a, 'b, R: Eprint + AllocGlobal> Reports for Lent<'c, 'a, 'b, R> {
+    fn take_errors(&mut self) -> Vec<Vec<u8>> {
+        self.follower.errors()
+    }
+
+    fn followed(&mut self, has_failed: bool) {
+        if has_failed {
+            self.follower.tell_unwritten();
+        }
+    }
+}
+
+impl<'c, 'a, 'b, R: Eprint + AllocGlobal> Watcher for Lent<'c, 'a, 'b, R> {
+    ghost told = { λ _. None };
+
+    fn completed(&mut self, number: usize, feature: &Feature) {
+        self.follower.completed(number, feature);
+    }
+
+    fn turned(&mut self, client: &Client) {
+        self.follower.turned(client);
     }
 }
