@@ -4,3 +4,4 @@ pub mod OrderLemmas
 pub mod PlanLemmas
 pub mod ReadingLemmas
 pub mod RecordLemmas
+pub mod TextReads
