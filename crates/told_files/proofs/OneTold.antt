@@ -1,7 +1,7 @@
 -- What was reported has its line alone.
 use Rattle.std.proofs.Common.{◌≡◌, ◌≢◌, ℕ, ◌+◌, ◌*◌, List, [], ◌∷◌, ◌++◌, length, refl, ap, sym, subst, ◌∙◌, arith, codes, Option, Some, None}
 use Rattle.std.proofs.Common.{append-nil, slice_index}
-use Rattle.std.specs.Prelude.{decimal}
+use Rattle.std.specs.Prelude.{decimal, ◌==◌, if◌then◌else◌}
 use Rattle.std.proofs.lemmas.Fmt.{decimal_injective}
 use Rattle.fixed_um.specs.Shapes.{Direction}
 use Rattle.fixed_um.specs.Written.{written_component}
@@ -23,7 +23,7 @@ use Rattle.contact_ledger.proofs.Leaves.{direction_read}
 use Rattle.contact_ledger.proofs.OneEntry.{one_entry}
 use Rattle.told_ledger.specs.Texts.{unknown_field, tool_field, known_frame, rule_name, side_field, told_fields, told_line}
 use Rattle.told_ledger.specs.declared.uses.Rule.{Rule}
-use Rattle.told_ledger.specs.declared.uses.Rule.TheVariants.{UnknownTag, OutOfOrder, NoData, SecondData, OtherData, TagInUse}
+use Rattle.told_ledger.specs.declared.uses.Rule.TheVariants.{UnknownTag, OutOfOrder, NoData, SecondData, OtherData, TagInUse, NotInTurn}
 use Rattle.told_ledger.specs.declared.uses.Side.{Side}
 use Rattle.told_ledger.specs.declared.uses.Side.TheVariants.{Client, Server}
 use Rattle.told_ledger.specs.declared.uses.Told.{Told}
@@ -243,43 +243,23 @@ apart (act.Contact t1 ad an af p1) told.Left g h e =
 abbrev rule_number : List ℕ → ℕ
 rule_number name = slice_index name 0 * 100 + length name
 
+-- and the rule of that number
+rule_at : ℕ → Rule
+rule_at n =
+    if n == 8510 then UnknownTag else if n == 7910 then OutOfOrder else if n == 7806 then NoData else if n == 8310 then SecondData
+    else if n == 7909 then OtherData else if n == 8408 then TagInUse else NotInTurn
+
+rule_back : (r : Rule) → rule_at (rule_number (rule_name r)) ≡ r
+rule_back UnknownTag = refl
+rule_back OutOfOrder = refl
+rule_back NoData = refl
+rule_back SecondData = refl
+rule_back OtherData = refl
+rule_back TagInUse = refl
+rule_back NotInTurn = refl
+
 one_rule : (r s : Rule) → rule_name r ≡ rule_name s → r ≡ s
-one_rule UnknownTag UnknownTag e = refl
-one_rule UnknownTag OutOfOrder e = let n : 8510 ≡ 7910 = ap rule_number e in absurd (omega (arith, n))
-one_rule UnknownTag NoData e = let n : 8510 ≡ 7806 = ap rule_number e in absurd (omega (arith, n))
-one_rule UnknownTag SecondData e = let n : 8510 ≡ 8310 = ap rule_number e in absurd (omega (arith, n))
-one_rule UnknownTag OtherData e = let n : 8510 ≡ 7909 = ap rule_number e in absurd (omega (arith, n))
-one_rule UnknownTag TagInUse e = let n : 8510 ≡ 8408 = ap rule_number e in absurd (omega (arith, n))
-one_rule OutOfOrder UnknownTag e = let n : 7910 ≡ 8510 = ap rule_number e in absurd (omega (arith, n))
-one_rule OutOfOrder OutOfOrder e = refl
-one_rule OutOfOrder NoData e = let n : 7910 ≡ 7806 = ap rule_number e in absurd (omega (arith, n))
-one_rule OutOfOrder SecondData e = let n : 7910 ≡ 8310 = ap rule_number e in absurd (omega (arith, n))
-one_rule OutOfOrder OtherData e = let n : 7910 ≡ 7909 = ap rule_number e in absurd (omega (arith, n))
-one_rule OutOfOrder TagInUse e = let n : 7910 ≡ 8408 = ap rule_number e in absurd (omega (arith, n))
-one_rule NoData UnknownTag e = let n : 7806 ≡ 8510 = ap rule_number e in absurd (omega (arith, n))
-one_rule NoData OutOfOrder e = let n : 7806 ≡ 7910 = ap rule_number e in absurd (omega (arith, n))
-one_rule NoData NoData e = refl
-one_rule NoData SecondData e = let n : 7806 ≡ 8310 = ap rule_number e in absurd (omega (arith, n))
-one_rule NoData OtherData e = let n : 7806 ≡ 7909 = ap rule_number e in absurd (omega (arith, n))
-one_rule NoData TagInUse e = let n : 7806 ≡ 8408 = ap rule_number e in absurd (omega (arith, n))
-one_rule SecondData UnknownTag e = let n : 8310 ≡ 8510 = ap rule_number e in absurd (omega (arith, n))
-one_rule SecondData OutOfOrder e = let n : 8310 ≡ 7910 = ap rule_number e in absurd (omega (arith, n))
-one_rule SecondData NoData e = let n : 8310 ≡ 7806 = ap rule_number e in absurd (omega (arith, n))
-one_rule SecondData SecondData e = refl
-one_rule SecondData OtherData e = let n : 8310 ≡ 7909 = ap rule_number e in absurd (omega (arith, n))
-one_rule SecondData TagInUse e = let n : 8310 ≡ 8408 = ap rule_number e in absurd (omega (arith, n))
-one_rule OtherData UnknownTag e = let n : 7909 ≡ 8510 = ap rule_number e in absurd (omega (arith, n))
-one_rule OtherData OutOfOrder e = let n : 7909 ≡ 7910 = ap rule_number e in absurd (omega (arith, n))
-one_rule OtherData NoData e = let n : 7909 ≡ 7806 = ap rule_number e in absurd (omega (arith, n))
-one_rule OtherData SecondData e = let n : 7909 ≡ 8310 = ap rule_number e in absurd (omega (arith, n))
-one_rule OtherData OtherData e = refl
-one_rule OtherData TagInUse e = let n : 7909 ≡ 8408 = ap rule_number e in absurd (omega (arith, n))
-one_rule TagInUse UnknownTag e = let n : 8408 ≡ 8510 = ap rule_number e in absurd (omega (arith, n))
-one_rule TagInUse OutOfOrder e = let n : 8408 ≡ 7910 = ap rule_number e in absurd (omega (arith, n))
-one_rule TagInUse NoData e = let n : 8408 ≡ 7806 = ap rule_number e in absurd (omega (arith, n))
-one_rule TagInUse SecondData e = let n : 8408 ≡ 8310 = ap rule_number e in absurd (omega (arith, n))
-one_rule TagInUse OtherData e = let n : 8408 ≡ 7909 = ap rule_number e in absurd (omega (arith, n))
-one_rule TagInUse TagInUse e = refl
+one_rule r s e = sym (rule_back r) ∙ (ap (λ (name : List ℕ). rule_at (rule_number name)) e ∙ rule_back s)
 
 -- what was reported other than acts is known by its fields
 one_parts : (a b : Told) → IsOtherTold a → IsOtherTold b → told_parts a ≡ told_parts b → a ≡ b

@@ -30,7 +30,7 @@ use Rattle.contact_ledger.proofs.PlainFields.{direction_plain}
 use Rattle.told_ledger.specs.Effects.{touched}
 use Rattle.told_ledger.specs.Texts.{unknown_field, tool_field, known_frame, rule_name, side_field, told_fields, told_line}
 use Rattle.told_ledger.specs.declared.uses.Rule.{Rule}
-use Rattle.told_ledger.specs.declared.uses.Rule.TheVariants.{UnknownTag, OutOfOrder, NoData, SecondData, OtherData, TagInUse}
+use Rattle.told_ledger.specs.declared.uses.Rule.TheVariants.{UnknownTag, OutOfOrder, NoData, SecondData, OtherData, TagInUse, NotInTurn}
 use Rattle.told_ledger.specs.declared.uses.Side.{Side}
 use Rattle.told_ledger.specs.declared.uses.Side.TheVariants.{Client, Server}
 use Rattle.told_ledger.specs.declared.uses.Told.{Told}
@@ -196,6 +196,7 @@ rule_plain NoData = record { plain = refl }
 rule_plain SecondData = record { plain = refl }
 rule_plain OtherData = record { plain = refl }
 rule_plain TagInUse = record { plain = refl }
+rule_plain NotInTurn = record { plain = refl }
 
 side_plain : (s : Side) → list_all is_plain (side_field s) ≡ true
 side_plain Client = refl

@@ -67,6 +67,8 @@ pub(crate) fn read_rule(field: &[u8]) -> Option<Rule>
         Some(Rule::OtherData)
     } else if field == b"TagInUse".as_slice() {
         Some(Rule::TagInUse)
+    } else if field == b"NotInTurn".as_slice() {
+        Some(Rule::NotInTurn)
     } else {
         None
     }

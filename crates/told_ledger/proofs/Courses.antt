@@ -24,7 +24,7 @@ use Rattle.told_ledger.specs.Relaying.{Course, with_move, Relays, begun, moved, 
 use Rattle.told_ledger.specs.Relaying.{Reads, none, client, server, IsClientRead, IsAllTold, IsToldOf}
 use Rattle.told_ledger.specs.Relaying.{IsHeard, silent, came_up, came_down, read}
 use Rattle.told_ledger.specs.Talking.{Talking, asking, answering, unasked, refusing, with_told}
-use Rattle.told_ledger.specs.Talking.{heard_under, heard_at, heard_for}
+use Rattle.told_ledger.specs.Talking.{turn_of, heard_under, heard_at, heard_for}
 use Rattle.told_ledger.specs.Texts.{told_line, told_lines, numbered}
 use Rattle.told_ledger.specs.Watching.{Watching, unwatched, client_front, server_front, client_read, server_read, client_times, server_times}
 use Rattle.told_ledger.specs.Watching.{ReadsClient, ReadsServer, AreAllRead, came}
@@ -203,10 +203,7 @@ for_after : (before : List Told) (t : Talking) (at : ℕ) (u : Use) (h : Heard)
     → heard_for (talk_after before t) at u h ≡ talk_after before (heard_for t at u h)
 for_after before t at u h =
     ap (λ (l : List Told). record (heard_for t at u h) { told = l })
-    (with_more before t.told ((heard_told t u h)))
-  where
-    heard_told : Talking → Use → Heard → Option Told
-    heard_told t u h = told_by (u.doubtful && t.refused) t.known u h
+    (with_more before t.told (told_by (turn_of t at u) t.known u h))
 
 at_after : (before : List Told) (t : Talking) (at : ℕ) (m : Mark) (u : Option Use)
     → heard_at (talk_after before t) at m u ≡ talk_after before (heard_at t at m u)

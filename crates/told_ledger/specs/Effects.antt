@@ -5,7 +5,8 @@ use Rattle.fixed_um.specs.Shapes.{Direction}
 use Rattle.fixed_um.specs.declared.lengths.Point.{Point}
 use Rattle.fixed_um.specs.declared.frames.Frame.{Frame}
 use Rattle.fixed_um.specs.declared.frames.Frame.TheVariants.{Machine, Part}
-use Rattle.dme_line.specs.Kinds.{kind_of}
+use Rattle.dme_line.specs.Kinds.{kind_of, is_event_kind}
+use Rattle.dme_line.specs.declared.commands.Kind.{Kind}
 use Rattle.dme_line.specs.declared.commands.Command.{Command}
 use Rattle.dme_line.specs.declared.commands.Command.TheVariants as command
 use Rattle.dme_line.specs.declared.commands.Csy.{Csy}
@@ -17,7 +18,7 @@ use Rattle.protocol_model.specs.declared.held.Datum.{Datum}
 use Rattle.protocol_model.specs.declared.held.Datum.TheVariants as datum
 use Rattle.protocol_model.specs.declared.held.Stage.{Stage}
 use Rattle.protocol_model.specs.declared.held.Stage.TheVariants as stage
-use Rattle.told_ledger.specs.Judging.{step}
+use Rattle.told_ledger.specs.Judging.{step, in_turn}
 use Rattle.told_ledger.specs.declared.uses.Asked.{Asked}
 use Rattle.told_ledger.specs.declared.uses.Asked.TheVariants as asks
 use Rattle.told_ledger.specs.declared.uses.Change.{Change}
@@ -31,6 +32,8 @@ use Rattle.told_ledger.specs.declared.uses.Step.{Step}
 use Rattle.told_ledger.specs.declared.uses.Step.TheVariants.{Stays, Comes, Fails, Breaks, Counts}
 use Rattle.told_ledger.specs.declared.uses.Told.{Told}
 use Rattle.told_ledger.specs.declared.uses.Told.TheVariants as told
+use Rattle.told_ledger.specs.declared.uses.Turn.{Turn}
+use Rattle.told_ledger.specs.declared.uses.Turn.TheVariants.{InTurn, Early, Doubtful}
 use Rattle.told_ledger.specs.declared.uses.Use.{Use}
 
 -- ---- what is known
@@ -137,27 +140,32 @@ lost_at tag _ = None
 
 -- ---- one mark
 
--- the step that a mark is for a command of this profile
-abbrev pub step_of : Command → Stage → Heard → Step
-step_of c s h = step (asks_data (kind_of c)) s h
+-- a command's data and end may come in its turn, those of an AbortE at any time
+abbrev pub may_come : Turn → Kind → Bool
+may_come Early kind = is_event_kind kind
+may_come _ kind = true
 
--- what is reported by a mark of a command that was asked alone under its tag
-abbrev pub told_alone : Known → Use → Heard → Asked → Option Told
-told_alone known u h (asks.Known c) = told_of known u.tag c (step_of c u.stage h)
-told_alone known u h asks.Harmless = None
-told_alone known u h (asks.Foreign line) = other_at line u.stage
+-- the step that a mark is for a command of this profile
+abbrev pub step_of : Turn → Command → Stage → Heard → Step
+step_of turn c s h = in_turn (may_come turn (kind_of c)) (step (asks_data (kind_of c)) s h)
+
+-- what is reported by a mark that is for this command
+abbrev pub told_alone : Turn → Known → Use → Heard → Asked → Option Told
+told_alone turn known u h (asks.Known c) = told_of known u.tag c (step_of turn c u.stage h)
+told_alone turn known u h asks.Harmless = None
+told_alone turn known u h (asks.Foreign line) = other_at line u.stage
 
 -- and what it changes
-abbrev pub changed_alone : Known → Stage → Heard → Asked → Change
-changed_alone known s h (asks.Known c) = changed_by known c (step_of c s h)
-changed_alone known s h asks.Harmless = change.Keeps
-changed_alone known s h (asks.Foreign line) = change.Forgets
+abbrev pub changed_alone : Turn → Known → Stage → Heard → Asked → Change
+changed_alone turn known s h (asks.Known c) = changed_by known c (step_of turn c s h)
+changed_alone turn known s h asks.Harmless = change.Keeps
+changed_alone turn known s h (asks.Foreign line) = change.Forgets
 
--- the same for any command; the first argument: it is not known whether the mark is for this command
-abbrev pub told_by : Bool → Known → Use → Heard → Option Told
-told_by true known u h = lost_at u.tag h
-told_by false known u h = told_alone known u h u.asked
+-- the same for any command
+abbrev pub told_by : Turn → Known → Use → Heard → Option Told
+told_by Doubtful known u h = lost_at u.tag h
+told_by turn known u h = told_alone turn known u h u.asked
 
-abbrev pub change_by : Bool → Known → Use → Heard → Change
-change_by true known u h = change.Forgets
-change_by false known u h = changed_alone known u.stage h u.asked
+abbrev pub change_by : Turn → Known → Use → Heard → Change
+change_by Doubtful known u h = change.Forgets
+change_by turn known u h = changed_alone turn known u.stage h u.asked

@@ -54,6 +54,10 @@ at x = record { x = pos x; y = pos 0; z = pos 0 }
 abbrev pub changes : ℕ → List Said
 changes n = Asks n (asks.Known (command.ChangeTool (codes "P1"))) ∷ Hears n heard.Received ∷ Hears n heard.Complete ∷ []
 
+-- another change is asked for
+abbrev pub change : ℕ → Said
+change n = Asks n (asks.Known (command.ChangeTool (codes "P2")))
+
 -- the machine's frame is selected
 abbrev pub frames : ℕ → List Said
 frames n = Asks n (asks.Known (command.SetCoordSystem MachineCsy)) ∷ Hears n heard.Received ∷ Hears n heard.Complete ∷ []
@@ -62,5 +66,8 @@ frames n = Asks n (asks.Known (command.SetCoordSystem MachineCsy)) ∷ Hears n h
 abbrev pub touch : ℕ → ℕ → Said
 touch n x = Asks n (asks.Known (command.PtMeas (at x) None))
 
+abbrev pub point : ℕ → ℕ → Said
+point n x = Hears n (heard.Given (datum.Point (at x)))
+
 abbrev pub touched : ℕ → ℕ → List Said
-touched n x = Hears n heard.Received ∷ Hears n (heard.Given (datum.Point (at x))) ∷ Hears n heard.Complete ∷ []
+touched n x = Hears n heard.Received ∷ point n x ∷ Hears n heard.Complete ∷ []

@@ -16,7 +16,7 @@ use Rattle.told_ledger.specs.declared.uses.Asked.{Asked}
 use Rattle.told_ledger.specs.declared.uses.Asked.TheVariants.{Known, Harmless, Foreign}
 use Rattle.told_ledger.specs.declared.uses.Heard.{Heard}
 use Rattle.told_ledger.specs.declared.uses.Heard.TheVariants as heard
-use Rattle.told_ledger.specs.declared.uses.Rule.TheVariants.{OutOfOrder, NoData, SecondData, OtherData}
+use Rattle.told_ledger.specs.declared.uses.Rule.TheVariants.{OutOfOrder, NoData, SecondData, OtherData, NotInTurn}
 use Rattle.told_ledger.specs.declared.uses.Step.{Step}
 use Rattle.told_ledger.specs.declared.uses.Step.TheVariants.{Stays, Comes, Fails, Breaks, Counts}
 
@@ -65,6 +65,13 @@ step asks (stage.Given e) (heard.Given d) = Breaks SecondData
 step asks (stage.Given e) heard.Unread = Breaks OtherData
 step asks (stage.Given e) heard.Complete = Counts (Some e)
 step asks (stage.Given e) heard.Failed = Fails
+
+-- neither data nor the end of a command may come before its turn; the first argument: it may come
+abbrev pub in_turn : Bool → Step → Step
+in_turn true s = s
+in_turn false (Counts given) = Breaks NotInTurn
+in_turn false (Comes (stage.Given d)) = Breaks NotInTurn
+in_turn false s = s
 
 -- the stage after a step
 abbrev pub stage_behind : Stage → Step → Stage

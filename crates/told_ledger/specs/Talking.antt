@@ -1,7 +1,8 @@
 -- The lines of both ends of a connection, one at a time, and what they report (this profile).
-use Rattle.std.specs.Prelude.{ℕ, Bool, true, false, ◌&&◌, if◌then◌else◌, List, [], ◌∷◌, ◌++◌, position, remove, slice_get, slice_set}
+use Rattle.std.specs.Prelude.{ℕ, Bool, true, false, ◌&&◌, not, if◌then◌else◌, List, [], ◌∷◌, ◌++◌, position, remove, slice_get, slice_set, take}
 use Rattle.std.specs.Prelude.{Option, Some, None, Result, Ok, Err}
 use Rattle.std.specs.List.{list_any}
+use Rattle.dme_line.specs.Kinds.{kind_of, is_event_kind}
 use Rattle.dme_line.specs.declared.tags.Tag.{Tag}
 use Rattle.dme_line.specs.declared.tags.Tag.TheVariants.{Std, Event}
 use Rattle.dme_line.specs.declared.responses.Mark.{Mark}
@@ -23,6 +24,8 @@ use Rattle.told_ledger.specs.declared.uses.Rule.TheVariants.{UnknownTag}
 use Rattle.told_ledger.specs.declared.uses.Side.TheVariants.{Server}
 use Rattle.told_ledger.specs.declared.uses.Told.{Told}
 use Rattle.told_ledger.specs.declared.uses.Told.TheVariants as told
+use Rattle.told_ledger.specs.declared.uses.Turn.{Turn}
+use Rattle.told_ledger.specs.declared.uses.Turn.TheVariants.{InTurn, Early, Doubtful}
 use Rattle.told_ledger.specs.declared.uses.Use.{Use}
 
 -- the commands that were sent and whose end was not read, in order; whether the server refused a line without naming its tag, or sent one
@@ -63,26 +66,47 @@ abbrev pub with_told : List Told → Option Told → List Told
 with_told so_far None = so_far
 with_told so_far (Some more) = so_far ++ more ∷ []
 
+-- a command whose turn comes in the order in which commands were sent: any but an AbortE and one that only asks
+abbrev pub is_queued : Asked → Bool
+is_queued (asks.Known c) = not (is_event_kind (kind_of c))
+is_queued asks.Harmless = false
+is_queued (asks.Foreign line) = true
+
+-- such a command waits until it has failed or ended
+abbrev pub is_failed : Stage → Bool
+is_failed stage.Failed = true
+is_failed _ = false
+
+abbrev pub waits : Use → Bool
+waits u = is_queued u.asked && not (is_failed u.stage)
+
+-- whether it is a command's turn; whether a mark is for it is not known if another was open under its tag when it was sent, and the server
+-- refused something
+abbrev pub turn_of : Talking → ℕ → Use → Turn
+turn_of t at u = if u.doubtful && t.refused then Doubtful else (if list_any waits (take at t.uses) then Early else InTurn)
+
 -- the stage of a command after a mark
-abbrev pub stage_in : Asked → Stage → Heard → Stage
-stage_in (asks.Known c) s h = stage_behind s (step_of c s h)
-stage_in asks.Harmless s h = marked s
-stage_in (asks.Foreign line) s h = marked s
+abbrev pub stage_in : Turn → Asked → Stage → Heard → Stage
+stage_in turn (asks.Known c) s h = stage_behind s (step_of turn c s h)
+stage_in turn asks.Harmless s h = marked s
+stage_in turn (asks.Foreign line) s h = marked s
 
 -- the commands after a mark of one of them: it is gone, or at another stage
-abbrev pub uses_behind : List Use → ℕ → Use → Heard → List Use
-uses_behind uses at u h =
-    if ends h then remove uses at else slice_set uses at (record u { stage = stage_in u.asked u.stage h })
+abbrev pub uses_behind : List Use → Turn → ℕ → Use → Heard → List Use
+uses_behind uses turn at u h =
+    if ends h then remove uses at else slice_set uses at (record u { stage = stage_in turn u.asked u.stage h })
 
--- a mark is heard for the command at a place; whether it is for this one is not known if another was open under its tag when it was sent,
--- and the server refused something
-abbrev pub heard_for : Talking → ℕ → Use → Heard → Talking
-heard_for t at u h = record {
-  uses = uses_behind t.uses at u h;
+-- a mark is heard for the command at a place
+abbrev pub heard_in : Turn → Talking → ℕ → Use → Heard → Talking
+heard_in turn t at u h = record {
+  uses = uses_behind t.uses turn at u h;
   refused = t.refused;
-  known = changed t.known (change_by (u.doubtful && t.refused) t.known u h);
-  told = with_told t.told (told_by (u.doubtful && t.refused) t.known u h);
+  known = changed t.known (change_by turn t.known u h);
+  told = with_told t.told (told_by turn t.known u h);
 }
+
+abbrev pub heard_for : Talking → ℕ → Use → Heard → Talking
+heard_for t at u h = heard_in (turn_of t at u) t at u h
 
 -- the command at a place
 abbrev pub heard_at : Talking → ℕ → Mark → Option Use → Talking

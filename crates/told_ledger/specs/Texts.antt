@@ -6,7 +6,7 @@ use Rattle.contact_ledger.specs.Lines.{text_of, line_of}
 use Rattle.contact_ledger.specs.Fields.{point_fields, frame_fields, direction_fields}
 use Rattle.contact_ledger.specs.ContactTexts.{act_fields}
 use Rattle.told_ledger.specs.declared.uses.Rule.{Rule}
-use Rattle.told_ledger.specs.declared.uses.Rule.TheVariants.{UnknownTag, OutOfOrder, NoData, SecondData, OtherData, TagInUse}
+use Rattle.told_ledger.specs.declared.uses.Rule.TheVariants.{UnknownTag, OutOfOrder, NoData, SecondData, OtherData, TagInUse, NotInTurn}
 use Rattle.told_ledger.specs.declared.uses.Side.{Side}
 use Rattle.told_ledger.specs.declared.uses.Side.TheVariants.{Client, Server}
 use Rattle.told_ledger.specs.declared.uses.Told.{Told}
@@ -32,6 +32,7 @@ rule_name NoData = codes "NoData"
 rule_name SecondData = codes "SecondData"
 rule_name OtherData = codes "OtherData"
 rule_name TagInUse = codes "TagInUse"
+rule_name NotInTurn = codes "NotInTurn"
 
 -- the way that a line went
 abbrev pub side_field : Side → List ℕ

@@ -4,7 +4,7 @@ ghost use Rattle.std.specs.Prelude.{◌≡◌, option_map, IfOk};
 ghost use Rattle.told_ledger.specs.Effects as spec;
 
 use crate::judging::step_of;
-use crate::uses::{Asked, Change, Heard, Known, Rule, Side, Step, Told, Use};
+use crate::uses::{Asked, Change, Heard, Known, Rule, Side, Step, Told, Turn, Use};
 use contact_ledger::Act;
 use dme_line::{Command, Csy, Tag, Text};
 use fixed_um::{Dir, Frame, Name, Point};
@@ -218,17 +218,17 @@ fn other_at(alloc: Global, line: &Text, stage: Stage) -> Result<Option<Told>, Al
 
 // ---- one mark
 
-/// What a mark reports of a command. `lost`: it is not known whether it is for this command.
+/// What a mark reports of a command.
 pub(crate) fn told_by(
     alloc: Global,
-    lost: bool,
+    turn: Turn,
     known: &Known,
     used: &Use,
     heard: &Heard,
 ) -> Result<Option<Told>, AllocError>
-    ensures { IfOk result (λ told. told ≡ spec.told_by lost known.now used.now heard.now) }
+    ensures { IfOk result (λ told. told ≡ spec.told_by turn known.now used.now heard.now) }
 {
-    if lost {
+    if turn == Turn::Doubtful {
         return match heard {
             Heard::Complete => Ok(Some(Told::Broken(Rule::TagInUse, used.tag))),
             _ => Ok(None),
@@ -236,7 +236,7 @@ pub(crate) fn told_by(
     }
     match &used.asked {
         Asked::Known(command) => {
-            let step = step_of(command, used.stage, *heard);
+            let step = step_of(turn, command, used.stage, *heard);
             told_of(alloc, known, used.tag, command, step)
         }
         Asked::Harmless => Ok(None),
@@ -247,19 +247,19 @@ pub(crate) fn told_by(
 /// What a mark changes.
 pub(crate) fn change_by(
     alloc: Global,
-    lost: bool,
+    turn: Turn,
     known: &Known,
     used: &Use,
     heard: &Heard,
 ) -> Result<Change, AllocError>
-    ensures { IfOk result (λ change. change ≡ spec.change_by lost known.now used.now heard.now) }
+    ensures { IfOk result (λ change. change ≡ spec.change_by turn known.now used.now heard.now) }
 {
-    if lost {
+    if turn == Turn::Doubtful {
         return Ok(Change::Forgets);
     }
     match &used.asked {
         Asked::Known(command) => {
-            let step = step_of(command, used.stage, *heard);
+            let step = step_of(turn, command, used.stage, *heard);
             changed_by(alloc, known, command, step)
         }
         Asked::Harmless => Ok(Change::Keeps),

@@ -5,10 +5,10 @@ ghost use Rattle.dme_line.specs.Kinds.{kind_of};
 ghost use Rattle.dme_line.specs.Responses.{the_mark};
 ghost use Rattle.protocol_model.specs.Open.{asks_data};
 ghost use Rattle.told_ledger.specs.Judging as spec;
-ghost use Rattle.told_ledger.specs.Effects.{step_of};
+ghost use Rattle.told_ledger.specs.Effects.{may_come, step_of};
 ghost use Rattle.told_ledger.specs.Talking.{stage_in};
 
-use crate::uses::{Asked, Heard, Rule, Step};
+use crate::uses::{Asked, Heard, Rule, Step, Turn};
 use dme_line::{Command, Kind, MarkSlice, read_homed, read_point};
 use protocol_model::{Datum, Stage};
 
@@ -86,18 +86,48 @@ fn given_step(asks: bool, datum: Datum, heard: Heard) -> Step
     }
 }
 
-/// The step that a mark is for a command of this profile.
-pub(crate) fn step_of(command: &Command, stage: Stage, heard: Heard) -> Step
-    ensures { result ≡ step_of command.now stage heard }
+/// A mark for a command at a stage.
+fn step(asks: bool, stage: Stage, heard: Heard) -> Step
+    ensures { result ≡ spec.step asks stage heard }
 {
     match (stage, heard) {
         (Stage::Failed, _) => Step::Stays,
         (Stage::Sent, Heard::Received) => Step::Comes(Stage::Received),
         (Stage::Sent, Heard::Failed) => Step::Fails,
         (Stage::Sent, _) => Step::Breaks(Rule::OutOfOrder),
-        (Stage::Received, heard) => received_step(asks_data(command), heard),
-        (Stage::Given(datum), heard) => given_step(asks_data(command), datum, heard),
+        (Stage::Received, heard) => received_step(asks, heard),
+        (Stage::Given(datum), heard) => given_step(asks, datum, heard),
     }
+}
+
+/// Whether the data and the end of a command may come.
+fn may_come(turn: Turn, kind: Kind) -> bool
+    ensures { result ≡ may_come turn kind }
+{
+    match turn {
+        Turn::Early => matches!(kind, Kind::AbortE),
+        Turn::InTurn | Turn::Doubtful => true,
+    }
+}
+
+/// A step, where neither data nor an end may come before the command's turn.
+fn in_turn(may_come: bool, step: Step) -> Step
+    ensures { result ≡ spec.in_turn may_come step }
+{
+    match step {
+        Step::Counts(_) | Step::Comes(Stage::Given(_)) if !may_come => {
+            Step::Breaks(Rule::NotInTurn)
+        }
+        step => step,
+    }
+}
+
+/// The step that a mark is for a command of this profile.
+pub(crate) fn step_of(turn: Turn, command: &Command, stage: Stage, heard: Heard) -> Step
+    ensures { result ≡ step_of turn command.now stage heard }
+{
+    let may_come = may_come(turn, command.kind());
+    in_turn(may_come, step(asks_data(command), stage, heard))
 }
 
 /// The stage after a step.
@@ -122,12 +152,12 @@ fn marked(stage: Stage) -> Stage
 }
 
 /// The stage of what was asked after a mark.
-pub(crate) fn stage_in(asked: &Asked, stage: &Stage, heard: &Heard) -> Stage
-    ensures { result ≡ stage_in asked.now stage.now heard.now }
+pub(crate) fn stage_in(turn: Turn, asked: &Asked, stage: &Stage, heard: &Heard) -> Stage
+    ensures { result ≡ stage_in turn asked.now stage.now heard.now }
 {
     match asked {
         Asked::Known(command) => {
-            let step = step_of(command, *stage, *heard);
+            let step = step_of(turn, command, *stage, *heard);
             stage_behind(*stage, step)
         }
         Asked::Harmless | Asked::Foreign(_) => marked(*stage),

@@ -1,6 +1,6 @@
 // The lines of both ends of a connection, one at a time.
 
-ghost use Rattle.std.specs.Prelude.{◌≡◌, ◌<◌, ◌++◌, ◌∷◌, [], ◌&&◌, true, length, position, slice_get, OnOk, OnErr, IfSome, Some};
+ghost use Rattle.std.specs.Prelude.{◌≡◌, ◌<◌, ◌++◌, ◌∷◌, [], ◌&&◌, true, length, take, position, slice_get, OnOk, OnErr, IfSome, Some};
 ghost use Rattle.std.specs.List.{list_any};
 ghost use Rattle.fixed_um.specs.Calls.{Leads};
 ghost use Rattle.dme_line.specs.Responses.{the_mark};
@@ -11,8 +11,8 @@ ghost use Rattle.told_ledger.specs.Talking as spec;
 use crate::asking::asked;
 use crate::effects::{change, change_by, nothing, told_by};
 use crate::judging::{ends, heard_as, stage_in};
-use crate::uses::{Asked, Heard, Known, Rule, Side, Told, Use};
-use dme_line::{MarkSlice, NotResponse, Tag, Text, cut_response};
+use crate::uses::{Asked, Heard, Known, Rule, Side, Told, Turn, Use};
+use dme_line::{Command, MarkSlice, NotResponse, Tag, Text, cut_response};
 use protocol_model::Stage;
 use std::alloc::{AllocError, Global};
 use std::marker::Model;
@@ -34,6 +34,24 @@ impl Model for Talk {
     ghost Value = { Talking };
 
     ghost view = { λ t. record { uses = t.uses.items; refused = t.refused; known = t.known; told = t.told.items } };
+}
+
+/// Whether what was asked has its turn in the order in which commands were sent.
+fn is_queued(asked: &Asked) -> bool
+    ensures { result ≡ spec.is_queued asked.now }
+{
+    match asked {
+        Asked::Known(command) => !matches!(command, Command::AbortE),
+        Asked::Harmless => false,
+        Asked::Foreign(_) => true,
+    }
+}
+
+/// Whether a command waits for its end.
+fn waits(used: &Use) -> bool
+    ensures { result ≡ spec.waits used.now }
+{
+    is_queued(&used.asked) && used.stage != Stage::Failed
 }
 
 impl Talk {
@@ -105,17 +123,42 @@ impl Talk {
         self.uses.iter().position(|used| used.tag == tag)
     }
 
+    /// Whether a command before a place waits.
+    fn some_wait(&self, at: usize) -> bool
+        requires { at < length self.now.uses }
+        ensures { result ≡ list_any spec.waits (take at self.now.uses) }
+    {
+        let (before, _) = self.uses.as_slice().split_at(at);
+        before.iter().any(|used| waits(used))
+    }
+
+    /// Whether it is the turn of the command at a place.
+    fn turn_of(&self, at: usize) -> Turn
+        requires { at < length self.now.uses }
+        ensures { (u : Use) → slice_get self.now.uses at ≡ Some u
+            → result ≡ spec.turn_of self.now at u }
+    {
+        let used = &self.uses[at];
+        if used.doubtful && self.refused {
+            return Turn::Doubtful;
+        }
+        if self.some_wait(at) {
+            return Turn::Early;
+        }
+        Turn::InTurn
+    }
+
     /// A command is gone after a mark, or at another stage.
-    fn settle(&mut self, at: usize, heard: &Heard)
+    fn settle(&mut self, turn: Turn, at: usize, heard: &Heard)
         requires { at < length self.old.uses }
         ensures { (u : Use) → slice_get self.old.uses at ≡ Some u
-            → self.new ≡ record self.old { uses = spec.uses_behind self.old.uses at u heard.now } }
+            → self.new ≡ record self.old { uses = spec.uses_behind self.old.uses turn at u heard.now } }
     {
         if ends(heard) {
             let _ended = self.uses.remove(at);
         } else {
             let used = &self.uses[at];
-            let stage = stage_in(&used.asked, &used.stage, heard);
+            let stage = stage_in(turn, &used.asked, &used.stage, heard);
             self.uses[at].stage = stage;
         }
     }
@@ -127,15 +170,15 @@ impl Talk {
             (spec.heard_at self.old at (the_mark mark.entry) (slice_get self.old.uses at)) }
     {
         let alloc = self.alloc;
+        let turn = self.turn_of(at);
         let used = &self.uses[at];
         let heard = heard_as(&used.asked, mark);
-        let lost = used.doubtful && self.refused;
-        let told = told_by(alloc, lost, &self.known, used, &heard)?;
-        let changes = change_by(alloc, lost, &self.known, used, &heard)?;
+        let told = told_by(alloc, turn, &self.known, used, &heard)?;
+        let changes = change_by(alloc, turn, &self.known, used, &heard)?;
         if let Some(told) = told {
             self.told.push(told)?;
         }
-        self.settle(at, &heard);
+        self.settle(turn, at, &heard);
         change(&mut self.known, changes);
         Ok(())
     }

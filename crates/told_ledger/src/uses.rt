@@ -54,6 +54,8 @@ pub enum Rule {
     /// Another command was open under the tag when it was sent, and the server refused something without a tag: which of the two it is that
     /// ends is not known.
     TagInUse,
+    /// Data or the end of a command, while one that was sent before it waits.
+    NotInTurn,
 }
 
 /// One of the two ends of a connection.
@@ -99,6 +101,17 @@ pub(crate) enum Heard {
     Unread,
     Complete,
     Failed,
+}
+
+/// Whether it is the turn of a command for which a mark is read.
+#[derive(Clone, Copy, Debug, PartialEq, Eq)]
+pub(crate) enum Turn {
+    /// No command that was sent before it waits.
+    InTurn,
+    /// One that was sent before it waits.
+    Early,
+    /// It is not known whether the mark is for this command.
+    Doubtful,
 }
 
 /// What a mark does to a command of this profile.

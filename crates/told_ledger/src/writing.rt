@@ -57,6 +57,7 @@ fn rule_name(rule: Rule) -> &'static [u8]
         Rule::SecondData => b"SecondData",
         Rule::OtherData => b"OtherData",
         Rule::TagInUse => b"TagInUse",
+        Rule::NotInTurn => b"NotInTurn",
     }
 }
 
