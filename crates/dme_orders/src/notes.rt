@@ -7,7 +7,7 @@ use refusal_guide::{write_audit, write_other_program};
 use run_record::{Record, read_record};
 use std::alloc::{AllocError, Global};
 use told_files::{
-    ToldLedger, contact_connections, doubts_of, is_told_file, read_audited, read_told,
+    ToldLedger, contact_connections, doubts_of, ends_runs, is_told_file, read_audited, read_told,
 };
 use tool_rack::Setup;
 
@@ -63,6 +63,22 @@ fn add_doubts(text: &mut String, told: &ToldLedger) -> Result<(), AllocError> {
     )
 }
 
+/// Appends which lines other than contacts end runs.
+fn add_ends(text: &mut String, told: &ToldLedger) -> Result<(), AllocError> {
+    let mut line: usize = 1;
+    let entries = told.entries();
+    for (connection, one) in entries {
+        line = line.saturating_add(1);
+        if ends_runs(one) {
+            writeln!(
+                text,
+                "dme: line {line} ends the runs of connection {connection}"
+            )?;
+        }
+    }
+    Ok(())
+}
+
 /// Appends what an audit of these files found, as `write_audit` says it: the contacts are shown with these connections, if there are any.
 fn add_audit(
     alloc: Global,
@@ -80,7 +96,7 @@ fn add_audit(
 }
 
 /// What an audit of these files found, as `write_audit` says it; by what a server reported, first how many contacts have a tool or a
-/// frame that is not known. Nothing if memory ran out for their texts. Fails only if out of memory.
+/// frame that is not known, and which other lines end runs. Nothing if memory ran out for their texts. Fails only if out of memory.
 pub fn audit_notes(alloc: Global, files: &InputFiles) -> Result<Vec<u8>, AllocError> {
     let mut text = Vec::new(alloc);
     if files.is_short() {
@@ -90,6 +106,7 @@ pub fn audit_notes(alloc: Global, files: &InputFiles) -> Result<Vec<u8>, AllocEr
     if let Some(told) = told_of(alloc, files) {
         let mut doubts = String::new(alloc);
         add_doubts(&mut doubts, &told)?;
+        add_ends(&mut doubts, &told)?;
         text.extend_from_slice(doubts.as_bytes())?;
         connections = contact_connections(alloc, &told)?;
     }

@@ -73,24 +73,53 @@ fn cut_first(line: &[u8]) -> (&[u8], &[u8]) {
     }
 }
 
-/// Why what follows the number of a connection is not an act.
-fn fields_reason(alloc: Global, act: Word) -> Result<Reason, AllocError> {
-    let (before, behind) = if is_act_word(act.bytes) {
+/// How a file of contacts begins, or of reports, as this text seems to be.
+fn head_of(text: &[u8]) -> &'static str {
+    if text.starts_with(b"DME-TOLD".as_slice()) {
+        "A file of reports begins with the line DME-TOLD 1."
+    } else {
+        "A file of contacts begins with the line DME-CONTACTS 1."
+    }
+}
+
+/// Whether a text is what a server reported.
+fn is_report(text: &[u8]) -> bool {
+    text.starts_with(b"DME-TOLD 1\n".as_slice())
+}
+
+/// Whether a word is that of a report which is not an act.
+fn is_report_word(word: &[u8]) -> bool {
+    word == b"OTHER".as_slice()
+        || word == b"BROKEN".as_slice()
+        || word == b"OPENED".as_slice()
+        || word == b"LEFT".as_slice()
+}
+
+/// What is said behind a word that is none of an act, or of a report.
+fn not_a_word(report: bool) -> &'static str {
+    if report {
+        " is not HOMEDIS, HOMED, MOVED, CHANGED, FRAMED, CONTACT, OTHER, BROKEN, OPENED or LEFT."
+    } else {
+        " is not HOMEDIS, HOMED, MOVED, CHANGED, FRAMED or CONTACT."
+    }
+}
+
+/// Why what follows the number of a connection is not an act, nor a report where one may be.
+fn fields_reason(alloc: Global, act: Word, report: bool) -> Result<Reason, AllocError> {
+    let is_known = is_act_word(act.bytes) || (report && is_report_word(act.bytes));
+    let (before, behind) = if is_known {
         (
             "The fields of ",
             " are not in the form in which they are written, with one space before each.",
         )
     } else {
-        (
-            "",
-            " is not HOMEDIS, HOMED, MOVED, CHANGED, FRAMED or CONTACT.",
-        )
+        ("", not_a_word(report))
     };
     act.reason(alloc, before, behind)
 }
 
-/// Why a line of contacts is not an act.
-fn act_reason(alloc: Global, line: &[u8]) -> Result<Reason, AllocError> {
+/// Why a line of contacts is not an act, nor a report where one may be.
+fn act_reason(alloc: Global, line: &[u8], report: bool) -> Result<Reason, AllocError> {
     let (connection, rest) = cut_first(line);
     let connection = Word::found(line, 0, connection);
     if !is_act(alloc, connection.bytes, b" HOMED\n")? {
@@ -101,7 +130,8 @@ fn act_reason(alloc: Global, line: &[u8]) -> Result<Reason, AllocError> {
         );
     }
     let (act, _) = cut_first(rest);
-    fields_reason(alloc, Word::found(line, connection.bytes.len(), act))
+    let act = Word::found(line, connection.bytes.len(), act);
+    fields_reason(alloc, act, report)
 }
 
 /// Whether a line ends with CR LF.
@@ -138,11 +168,8 @@ pub(crate) fn ledger_reason(
             alloc,
             "A file of features begins with the line DME-FEATURES 2, or DME-FEATURES 1.",
         ),
-        Ledger::Contacts if place.number == 1 => Reason::of_text(
-            alloc,
-            "A file of contacts begins with the line DME-CONTACTS 1.",
-        ),
+        Ledger::Contacts if place.number == 1 => Reason::of_text(alloc, head_of(place.text)),
         Ledger::Features => feature_reason(alloc, place),
-        Ledger::Contacts => act_reason(alloc, first_line(place.rest)),
+        Ledger::Contacts => act_reason(alloc, first_line(place.rest), is_report(place.text)),
     }
 }

@@ -1,5 +1,5 @@
 -- Which of both texts a text is.
-use Rattle.std.proofs.Common.{◌≡◌, ℕ, List, [], ◌∷◌, map, ap, sym, ◌∙◌, arith, codes, Result, Ok, Err, slice_index}
+use Rattle.std.proofs.Common.{◌≡◌, ℕ, List, [], ◌∷◌, ap, sym, ◌∙◌, arith, codes, Result, Ok, Err, slice_index}
 use Rattle.contact_ledger.specs.ContactTexts.{IsContacts, IsDamagedContacts, AreContactLines, none, some}
 use Rattle.contact_ledger.specs.Damage.{ReadsText, ReadsFault}
 use Rattle.contact_ledger.specs.Lines.{whole_lines}

@@ -1,12 +1,12 @@
 -- Two contacts have one number exactly if they are next to one another.
-use Rattle.std.proofs.Common.{◌≡◌, ◌≢◌, ℕ, zero, suc, ◌+◌, ◌<◌, Bool, true, false, not, Option, Some, None, List, [], ◌∷◌, ◌++◌}
+use Rattle.std.proofs.Common.{◌≡◌, ℕ, zero, suc, ◌+◌, ◌<◌, Bool, true, false, not, Option, Some, None, List, [], ◌∷◌, ◌++◌}
 use Rattle.std.proofs.Common.{length, map, drop, refl, ap, sym, subst, ◌∙◌, arith, append-nil}
 use Rattle.std.specs.Prelude.{◌==◌, if◌then◌else◌}
 use Rattle.std.specs.List.{list_all}
 use Rattle.std.proofs.lemmas.Bool.{and_parts, and_from, eqb-true, eq-eqb}
 use Rattle.contact_ledger.specs.declared.acts.Act.{Act}
 use Rattle.protocol_model.specs.Claims.{MadeContact, contacts}
-use Rattle.told_files.specs.Numbering.{is_joined, second_for, number_of, second_after, open_after, numbered_from}
+use Rattle.told_files.specs.Numbering.{is_joined, second_for, number_of, open_after, numbered_from}
 use Rattle.told_ledger.specs.declared.uses.Told.{Told}
 use Rattle.told_files.specs.Runs.{Part, Made, Doubtful, Ends, Passes, parts_of, known_contacts, is_made, lies_between, AreNext}
 use Rattle.told_files.specs.Runs.{connection_at, unnumbered, AreRunContacts}

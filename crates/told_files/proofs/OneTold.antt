@@ -17,11 +17,11 @@ use Rattle.contact_ledger.specs.Fields.{IsFrame, IsTouch, point_fields, frame_fi
 use Rattle.contact_ledger.specs.ContactTexts.{act_fields, act_line}
 use Rattle.contact_ledger.specs.declared.acts.Act.{Act}
 use Rattle.contact_ledger.specs.declared.acts.Act.TheVariants as act
-use Rattle.contact_ledger.proofs.EntryLines.{kind, frame_tail, direction_tail, entry_back}
+use Rattle.contact_ledger.proofs.EntryLines.{kind, direction_tail, entry_back}
 use Rattle.contact_ledger.proofs.FeatureRuns.{one_place}
 use Rattle.contact_ledger.proofs.Leaves.{direction_read}
 use Rattle.contact_ledger.proofs.OneEntry.{one_entry}
-use Rattle.told_ledger.specs.Texts.{unknown_field, tool_field, known_frame, rule_name, side_field, told_fields, told_line}
+use Rattle.told_ledger.specs.Texts.{unknown_field, tool_field, known_frame, rule_name, side_field, told_line}
 use Rattle.told_ledger.specs.declared.uses.Rule.{Rule}
 use Rattle.told_ledger.specs.declared.uses.Rule.TheVariants.{UnknownTag, OutOfOrder, NoData, SecondData, OtherData, TagInUse, NotInTurn}
 use Rattle.told_ledger.specs.declared.uses.Side.{Side}
@@ -29,7 +29,7 @@ use Rattle.told_ledger.specs.declared.uses.Side.TheVariants.{Client, Server}
 use Rattle.told_ledger.specs.declared.uses.Told.{Told}
 use Rattle.told_ledger.specs.declared.uses.Told.TheVariants as told
 use Rattle.told_files.specs.Parts.{IsOtherTold, told_parts, IsToolName}
-use Rattle.told_files.specs.ToldTexts.{IsNamed, IsPlaced, IsInDoubt, HasNamedTool, IsToldEntry}
+use Rattle.told_files.specs.ToldTexts.{IsPlaced, IsInDoubt, HasNamedTool, IsToldEntry}
 use Rattle.told_files.proofs.OtherLines.{one_line, known_tail, doubt_name, other_back, View, acted, reported, view}
 
 -- ---- fields that are known by what they are of
@@ -244,7 +244,7 @@ abbrev rule_number : List ℕ → ℕ
 rule_number name = slice_index name 0 * 100 + length name
 
 -- and the rule of that number
-rule_at : ℕ → Rule
+abbrev rule_at : ℕ → Rule
 rule_at n =
     if n == 8510 then UnknownTag else if n == 7910 then OutOfOrder else if n == 7806 then NoData else if n == 8310 then SecondData
     else if n == 7909 then OtherData else if n == 8408 then TagInUse else NotInTurn

@@ -1,5 +1,5 @@
 -- The lines of what was reported other than acts, and the fields after their words.
-use Rattle.std.proofs.Common.{◌≡◌, ◌≢◌, ℕ, ◌+◌, ◌/◌, ◌≤◌, Bool, true, false, eqb, List, [], ◌∷◌, ◌++◌, length, refl, ap, sym, subst, ◌∙◌}
+use Rattle.std.proofs.Common.{◌≡◌, ℕ, ◌/◌, ◌≤◌, Bool, true, false, eqb, List, [], ◌∷◌, ◌++◌, length, refl, ap, sym, subst, ◌∙◌}
 use Rattle.std.proofs.Common.{arith, codes, Option, Some, None, append-nil, slice_index}
 use Rattle.std.specs.Prelude.{decimal}
 use Rattle.std.specs.List.{list_all, slice_split}
@@ -7,27 +7,25 @@ use Rattle.std.specs.Str.{bytes_eq}
 use Rattle.std.proofs.lemmas.Bool.{and_from, le-leb}
 use Rattle.std.proofs.lemmas.List.Splits.{length-slice_split}
 use Rattle.std.proofs.lemmas.Slice.Eq.{bytes_eq-Decides}
-use Rattle.fixed_um.specs.Names.{IsName}
 use Rattle.fixed_um.specs.Shapes.{Direction}
 use Rattle.fixed_um.specs.Written.{last_digit}
 use Rattle.fixed_um.specs.declared.lengths.Point.{Point}
 use Rattle.fixed_um.specs.declared.frames.Frame.{Frame}
 use Rattle.fixed_um.specs.declared.frames.Frame.TheVariants.{Machine, Part}
-use Rattle.dme_line.specs.Tags.{IsTag, written_tag, four_digits}
+use Rattle.dme_line.specs.Tags.{written_tag, four_digits}
 use Rattle.dme_line.specs.declared.tags.Tag.{Tag}
 use Rattle.dme_line.specs.declared.tags.Tag.TheVariants.{Std, Event}
 use Rattle.line_framing.specs.Content.{is_content}
 use Rattle.contact_ledger.specs.Lines.{fields_of, fields_behind, line_of}
-use Rattle.contact_ledger.specs.Fields.{IsOnWire, IsFrame, point_fields, frame_fields, direction_fields}
+use Rattle.contact_ledger.specs.Fields.{IsOnWire, point_fields, direction_fields}
 use Rattle.contact_ledger.specs.Ledgers.{IsConnection}
-use Rattle.contact_ledger.specs.ContactTexts.{IsEntry, IsWrittenAct, act_line}
+use Rattle.contact_ledger.specs.ContactTexts.{IsEntry, act_line}
 use Rattle.contact_ledger.specs.declared.acts.Act.{Act}
 use Rattle.contact_ledger.specs.declared.acts.Act.TheVariants as act
 use Rattle.contact_ledger.proofs.EntryLines.{kind, frame_tail, direction_tail}
 use Rattle.contact_ledger.proofs.LineFields.{line_fields, part_behind, made_of}
 use Rattle.contact_ledger.proofs.PlainFields.{is_plain, IsPlain, ArePlain, plain_fields_append, decimal_plain, name_plain, point_plain, frame_plain}
 use Rattle.contact_ledger.proofs.PlainFields.{direction_plain}
-use Rattle.told_ledger.specs.Effects.{touched}
 use Rattle.told_ledger.specs.Texts.{unknown_field, tool_field, known_frame, rule_name, side_field, told_fields, told_line}
 use Rattle.told_ledger.specs.declared.uses.Rule.{Rule}
 use Rattle.told_ledger.specs.declared.uses.Rule.TheVariants.{UnknownTag, OutOfOrder, NoData, SecondData, OtherData, TagInUse, NotInTurn}
@@ -36,7 +34,7 @@ use Rattle.told_ledger.specs.declared.uses.Side.TheVariants.{Client, Server}
 use Rattle.told_ledger.specs.declared.uses.Told.{Told}
 use Rattle.told_ledger.specs.declared.uses.Told.TheVariants as told
 use Rattle.told_files.specs.Parts.{IsOtherTold, told_parts, IsToolName}
-use Rattle.told_files.specs.ToldTexts.{IsNamed, IsPlaced, IsInDoubt, IsLineText, IsWrittenTold, IsReadTold, IsToldEntry, read_act, read_tool}
+use Rattle.told_files.specs.ToldTexts.{IsNamed, IsPlaced, IsInDoubt, IsLineText, IsWrittenTold, IsReadTold, IsToldEntry, read_act}
 
 -- ---- parts of a line
 

@@ -1,17 +1,15 @@
 -- A run in the numbered ledger is one in what was reported.
-use Rattle.std.proofs.Common.{◌≡◌, ℕ, zero, suc, ◌+◌, ◌<◌, ◌≤◌, Option, Some, None, List, [], ◌∷◌, length, map, take, drop, refl, ap, sym, subst, ◌∙◌}
+use Rattle.std.proofs.Common.{◌≡◌, ℕ, zero, suc, ◌+◌, ◌<◌, ◌≤◌, Some, None, List, [], ◌∷◌, length, map, take, drop, refl, ap, sym, subst, ◌∙◌}
 use Rattle.std.proofs.Common.{arith, Result, Ok, Err}
 use Rattle.std.specs.Prelude.{IfOk}
 use Rattle.std.proofs.lemmas.List.{drop-map, take-map, length-map}
-use Rattle.fixed_um.specs.Shapes.{Direction}
-use Rattle.fixed_um.specs.declared.frames.Frame.{Frame}
 use Rattle.fixed_um.specs.declared.lengths.Point.{Point}
 use Rattle.contact_ledger.specs.declared.acts.Act.{Act}
 use Rattle.contact_ledger.specs.declared.features.Feature.{Feature}
 use Rattle.dmis_program.specs.declared.features.Touch.{Touch}
 use Rattle.dmis_program.specs.declared.features.Wanted.{Wanted}
 use Rattle.protocol_model.specs.Claims.{MadeContact, contacts, IsServed, Serves, IsRun, AreRuns, Sound}
-use Rattle.ledger_audit.specs.Verdicts.{AreLeast, AreFewestUnsound, IfStarts, IfNoRun, TellsStarts, TellsNoRun}
+use Rattle.ledger_audit.specs.Verdicts.{AreLeast, AreFewestUnsound, IfStarts, IfNoRun}
 use Rattle.ledger_audit.specs.declared.verdicts.Verdict.{Verdict}
 use Rattle.ledger_audit.specs.declared.verdicts.Verdict.TheVariants as verdict
 use Rattle.told_ledger.specs.declared.uses.Told.{Told}

@@ -1,7 +1,7 @@
 -- A text is read in one way, and a written one is read back.
 use Rattle.std.proofs.Common.{◌≡◌, ◌≢◌, ℕ, zero, suc, ◌≤◌, Bool, true, false, not, eqb, List, [], ◌∷◌, ◌++◌, length, take, map, refl}
 use Rattle.std.proofs.Common.{ap, sym, subst, ◌∙◌, arith, codes, Option, Some, None}
-use Rattle.std.specs.Prelude.{decimal, ◌&&◌}
+use Rattle.std.specs.Prelude.{decimal}
 use Rattle.std.specs.List.{list_all, slice_split, AllByRecursion}
 use Rattle.std.specs.Str.{bytes_eq}
 use Rattle.std.proofs.lemmas.Bool.{and_parts, and_from, leb-true, ne_eqb}
@@ -25,9 +25,9 @@ use Rattle.told_ledger.specs.declared.uses.Side.{Side}
 use Rattle.told_ledger.specs.declared.uses.Side.TheVariants.{Client, Server}
 use Rattle.told_ledger.specs.declared.uses.Told.{Told}
 use Rattle.told_ledger.specs.declared.uses.Told.TheVariants as told
-use Rattle.told_files.specs.ToldTexts.{IsNamed, IsPlaced, IsWrittenTold, IsWrittenEntry, AreWrittenEntries, IsReadTold, IsToldEntry, AreToldEntries}
+use Rattle.told_files.specs.ToldTexts.{IsWrittenTold, IsWrittenEntry, AreWrittenEntries, IsReadTold, AreToldEntries}
 use Rattle.told_files.specs.ToldTexts.{told_file_lines, AreToldLines, IsToldText, IsDamagedTold, none, some}
-use Rattle.told_files.specs.ToldTexts.{read_tool, read_known_tool, read_act, read_back, entry_back}
+use Rattle.told_files.specs.ToldTexts.{read_tool, read_act, read_back, entry_back}
 use Rattle.told_files.proofs.OneTold.{one_told}
 use Rattle.told_files.proofs.OtherLines.{touch_plain, moved_plain, broken_plain}
 

@@ -71,6 +71,13 @@ is_doubtful Doubtful = true
 is_doubtful Ends = false
 is_doubtful Passes = false
 
+-- a line that ends the runs on its connection
+abbrev pub is_end : Part → Bool
+is_end (Made target dir tool frame point) = false
+is_end Doubtful = false
+is_end Ends = true
+is_end Passes = false
+
 abbrev pub is_made : Part → Bool
 is_made (Made target dir tool frame point) = true
 is_made Doubtful = false

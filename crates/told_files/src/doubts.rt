@@ -1,8 +1,8 @@
-// Which contacts have a tool or a frame that is not known.
+// What was reported that no feature can have: contacts whose tool or frame is not known, and lines that end runs.
 
 ghost use Rattle.std.specs.Prelude.{◌≡◌, count_by, map, IfOk};
 ghost use Rattle.std.specs.List.{position};
-ghost use Rattle.told_files.specs.Runs.{part_of, parts_of, known_contacts, is_made, is_touch, is_doubtful};
+ghost use Rattle.told_files.specs.Runs.{part_of, parts_of, known_contacts, is_made, is_touch, is_doubtful, is_end};
 
 use crate::ledger::ToldLedger;
 use contact_ledger::Act;
@@ -58,6 +58,26 @@ fn is_doubtful(told: &Told) -> bool
         | Told::Broken(_, _)
         | Told::Opened
         | Told::Left => false,
+    }
+}
+
+/// Whether this line, which is no contact, ends the runs of its connection.
+pub fn ends_runs(told: &Told) -> bool
+    ensures { result ≡ is_end (part_of told.now) }
+{
+    match told {
+        Told::Other(_, _) | Told::Broken(_, _) | Told::Opened | Told::Left => true,
+        Told::Did(
+            Act::HomedIs(_)
+            | Act::Homed
+            | Act::Moved(_, _)
+            | Act::Changed(_)
+            | Act::Framed(_)
+            | Act::Contact { .. },
+        )
+        | Told::MovedSomewhere(_)
+        | Told::FramedSomehow
+        | Told::Touched { .. } => false,
     }
 }
 

@@ -22,7 +22,7 @@ mod runs;
 mod texts;
 
 pub use auditing::audit_told;
-pub use doubts::{Doubts, contact_connections, doubts_of};
+pub use doubts::{Doubts, contact_connections, doubts_of, ends_runs};
 pub use either::{is_told_file, read_audited};
 pub use ledger::ToldLedger;
 pub use runs::run_contacts;

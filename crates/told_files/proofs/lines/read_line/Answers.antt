@@ -1,4 +1,4 @@
-use Rattle.std.proofs.Common.{◌≡◌, ap, sym, subst, ℕ}
+use Rattle.std.proofs.Common.{◌≡◌, sym, subst}
 use Rattle.told_ledger.specs.Texts.{told_line}
 use Rattle.told_ledger.specs.declared.uses.Told.{Told}
 use Rattle.told_files.specs.ToldTexts.{IsToldEntry}

@@ -1,4 +1,4 @@
-use Rattle.std.proofs.Common.{◌∙◌, ap, List, ℕ, ◌∷◌, arith}
+use Rattle.std.proofs.Common.{◌∙◌, ap, List, ℕ, ◌∷◌}
 use Rattle.told_files.proofs.OtherLines.{no_line, no_line_text}
 use Rattle.told_files.proofs.lines.read_other.Goals as goal
 

@@ -1,4 +1,4 @@
-use Rattle.std.proofs.Common.{◌≡◌, ◌++◌, drop, true, Option, None, ℕ}
+use Rattle.std.proofs.Common.{◌≡◌, ◌++◌, drop, true, None}
 use Rattle.told_files.specs.Numbering.{numbered_from}
 use Rattle.told_files.specs.Runs.{parts_of}
 use Rattle.told_files.proofs.runs.run_contacts.Given as goal
