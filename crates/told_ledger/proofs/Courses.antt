@@ -3,7 +3,7 @@ use Rattle.std.proofs.Common.{◌≡◌, ℕ, zero, suc, true, List, [], ◌∷�
 use Rattle.std.proofs.Common.{OnOk, refl, ap, sym, ◌∙◌, subst, append_assoc, append-nil}
 use Rattle.std.proofs.lemmas.List.{take-append-drop}
 use Rattle.std.proofs.lemmas.List.{map-append}
-use Rattle.std.specs.Prelude.{◌&&◌, slice_get, position}
+use Rattle.std.specs.Prelude.{slice_get, position}
 use Rattle.contact_ledger.specs.Lines.{text_of}
 use Rattle.contact_ledger.proofs.WrittenTexts.{text_more}
 use Rattle.dme_line.specs.declared.responses.Mark.{Mark}

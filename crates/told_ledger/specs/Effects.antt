@@ -1,5 +1,5 @@
 -- What a command reports that a server has completed, and what is known of the machine after each mark (this profile).
-use Rattle.std.specs.Prelude.{ℕ, Bool, true, false, List, Option, Some, None}
+use Rattle.std.specs.Prelude.{ℕ, Bool, true, List, Option, Some, None}
 use Rattle.fixed_um.specs.Points.{point_opposite}
 use Rattle.fixed_um.specs.Shapes.{Direction}
 use Rattle.fixed_um.specs.declared.lengths.Point.{Point}
@@ -33,7 +33,7 @@ use Rattle.told_ledger.specs.declared.uses.Step.TheVariants.{Stays, Comes, Fails
 use Rattle.told_ledger.specs.declared.uses.Told.{Told}
 use Rattle.told_ledger.specs.declared.uses.Told.TheVariants as told
 use Rattle.told_ledger.specs.declared.uses.Turn.{Turn}
-use Rattle.told_ledger.specs.declared.uses.Turn.TheVariants.{InTurn, Early, Doubtful}
+use Rattle.told_ledger.specs.declared.uses.Turn.TheVariants.{Early, Doubtful}
 use Rattle.told_ledger.specs.declared.uses.Use.{Use}
 
 -- ---- what is known

@@ -94,7 +94,7 @@ pub enum Told {
 
 /// What a response is for the command under its tag.
 #[derive(Clone, Copy, Debug, PartialEq, Eq)]
-pub(crate) enum Heard {
+pub enum Heard {
     Received,
     Given(Datum),
     /// Data that the command does not ask for, or that do not read.
@@ -105,7 +105,7 @@ pub(crate) enum Heard {
 
 /// Whether it is the turn of a command for which a mark is read.
 #[derive(Clone, Copy, Debug, PartialEq, Eq)]
-pub(crate) enum Turn {
+pub enum Turn {
     /// No command that was sent before it waits.
     InTurn,
     /// One that was sent before it waits.
@@ -116,7 +116,7 @@ pub(crate) enum Turn {
 
 /// What a mark does to a command of this profile.
 #[derive(Clone, Copy, Debug, PartialEq, Eq)]
-pub(crate) enum Step {
+pub enum Step {
     /// Nothing: an error of it was read before.
     Stays,
     /// It is at this stage.
@@ -131,7 +131,7 @@ pub(crate) enum Step {
 
 /// What becomes of what is known of the machine.
 #[derive(Debug, Drop)]
-pub(crate) enum Change {
+pub enum Change {
     Keeps,
     Forgets,
     Tool(Option<Name>),
