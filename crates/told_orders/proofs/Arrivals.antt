@@ -31,7 +31,7 @@ whole_is bytes lines rest fault stream =
     (one_stream bytes (whole_lines bytes) lines all.0 rest all.1 fault all.2 stream).lines_are
 
 -- lines before bytes
-whole_after : (bytes more : List ℕ) (lines : List (List ℕ)) (left : List ℕ) → bytes ≡ line_bytes lines ++ left → AreLines lines
+pub whole_after : (bytes more : List ℕ) (lines : List (List ℕ)) (left : List ℕ) → bytes ≡ line_bytes lines ++ left → AreLines lines
     → whole_lines (bytes ++ more) ≡ lines ++ whole_lines (left ++ more)
 whole_after bytes more lines left parts whole =
     let all = are_whole_lines (left ++ more) in

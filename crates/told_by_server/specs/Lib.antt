@@ -1,0 +1,4 @@
+pub mod Reports
+pub mod Lockstep
+pub mod Examples
+pub mod Transit

@@ -1,0 +1,5 @@
+pub mod Acts
+pub mod Ahead
+pub mod Examples
+pub mod Lines
+pub mod Visits
