@@ -95,7 +95,7 @@ fn is_report_word(word: &[u8]) -> bool {
         || word == b"LEFT".as_slice()
 }
 
-/// What is said behind a word that is none of an act, or of a report.
+/// What is said after a word that is not one of an act or of a report.
 fn not_a_word(report: bool) -> &'static str {
     if report {
         " is not HOMEDIS, HOMED, MOVED, CHANGED, FRAMED, CONTACT, OTHER, BROKEN, OPENED or LEFT."

@@ -132,7 +132,7 @@ queued_follows s tag reading asked t error one h =
       said = (IsSent.room h, tt);
     }
 
--- ---- what waits fails, and what runs goes on
+-- ---- what waits fails, and what runs continues
 
 -- the open commands: that which runs, and those that wait
 record IsSplit (running : Option Line) (ws : List Waiting) (us : List Use) : Type 0 where

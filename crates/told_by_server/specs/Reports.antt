@@ -1,4 +1,4 @@
--- What a report of a witness says of an act of a server (this profile).
+-- Which report of a witness is that of an act of a server (this profile).
 use Rattle.std.specs.Prelude.{◌≡◌, ℕ, Bool, true, false, if◌then◌else◌, Option, Some, None, List, [], ◌∷◌}
 use Rattle.fixed_um.specs.declared.frames.Frame.{Frame}
 use Rattle.contact_ledger.specs.declared.acts.Act.{Act}

@@ -36,7 +36,7 @@ impl Model for Talk {
     ghost view = { λ t. record { uses = t.uses.items; refused = t.refused; known = t.known; told = t.told.items } };
 }
 
-/// Whether what was asked has its turn in the order in which commands were sent.
+/// Whether what was asked is processed in the order in which commands were sent.
 fn is_queued(asked: &Asked) -> bool
     ensures { result ≡ spec.is_queued asked.now }
 {

@@ -91,7 +91,7 @@ agrees_framing known (Part p) ps h =
       ),
     )
 
--- a tool is known where one is selected
+-- a tool is known if one is selected
 abbrev KnowsTool : Known → Option (List ℕ) → Type 0
 KnowsTool known tool = (n : List ℕ) → tool ≡ Some n → known.tool ≡ Some n
 

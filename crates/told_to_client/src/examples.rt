@@ -45,7 +45,7 @@ pub fn line_rows()
 {}
 
 /// A line that the witness reads ahead is ahead until the client reads it, and is not read again. It must be read ahead, and no command is
-/// written that it answers; other calls than those on the connection are none of its turns.
+/// written that it answers; calls that are not on the connection are not causal.
 pub fn ahead_rows()
     ensures ahead { (after_turns (Comes completed ∷ []) relayed).ahead ≡ completed ∷ [] }
     ensures read { (after_turns (Comes completed ∷ Calls ReadOne ∷ []) relayed).ahead ≡ [] }
