@@ -1,13 +1,25 @@
 """Ports of 127.0.0.1: a free one, and one that a process listens on."""
 
 import pathlib
+import random
 import socket
 import time
 
+LOWEST = 10_000
+
 
 def free_port():
-    with socket.create_server(("127.0.0.1", 0)) as listener:
-        return listener.getsockname()[1]
+    """A port that no socket has, nor had a minute ago. It is below those that the system gives to sockets by itself, so that none of them takes
+    it before it is used."""
+    above = int(pathlib.Path("/proc/sys/net/ipv4/ip_local_port_range").read_text().split()[0])
+    while True:
+        port = random.randrange(LOWEST, above)
+        with socket.socket() as tried:
+            try:
+                tried.bind(("127.0.0.1", port))
+                return port
+            except OSError:
+                continue
 
 
 def is_listened_on(port):
