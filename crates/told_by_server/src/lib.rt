@@ -1,4 +1,4 @@
-//! What a witness reports of a server of this repository is what that server did, whatever its client sends. No code.
+//! What a witness reports of a server of this repository is what that server did, as long as no line comes under a tag in use. No code.
 //!
 //! - `specs/Reports.antt`: which reports are those of which acts
 //! - `specs/Lockstep.antt`: a witness that reads each line as soon as the server has read or answered it

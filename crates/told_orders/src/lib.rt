@@ -2,7 +2,8 @@
 //! read before its command. No code.
 //!
 //! - `specs/Orders.antt`: lines in the order in which they are read, and what is asked of such an order
-//! - `laws`: what follows
+//! - `specs/Courses.antt`: the order in which lines come to a relay, and in which it reads them
+//! - `laws`: what follows; `examples`: orders that report something else
 #![tactic(auto)]
 
 pub mod examples;
