@@ -17,7 +17,7 @@ use crate::reading::{FilesFault, read_program, read_schedule, read_setup};
 use byte_ports::{Failed, Sink, Source, push_all};
 use client_core::State;
 use dmis_program::Program;
-use link_world::{NewFault, Schedule, World, write_report};
+use link_world::{NewFault, Schedule, Trace, World, write_report};
 use std::alloc::{AllocError, Global};
 use tool_rack::Setup;
 
@@ -45,6 +45,7 @@ fn new_world(alloc: Global, program: Program, setup: Setup, window: u8) -> Resul
 /// Plays a schedule in a world. If there is a sink for them, the lines that both sides write are written to it. A sink that takes no line
 /// changes nothing. Fails only if out of memory.
 fn play<L: Sink>(
+    alloc: Global,
     schedule: &Schedule,
     world: &mut World,
     lines: &mut Option<L>,
@@ -55,10 +56,10 @@ fn play<L: Sink>(
     let Some(sink) = lines else {
         return schedule.play(world);
     };
-    world.trace();
-    schedule.play(world)?;
-    world.end_trace();
-    let _ = push_all(sink, world.traced()?);
+    let mut trace = Trace::new(alloc);
+    schedule.play_traced(world, &mut trace)?;
+    trace.end(world);
+    let _ = push_all(sink, trace.text()?);
     Ok(())
 }
 
@@ -74,7 +75,7 @@ fn played<L: Sink>(
         end.world) }
 {
     let mut world = new_world(alloc, input.program, input.setup, window)?;
-    match play(&input.schedule, &mut world, lines) {
+    match play(alloc, &input.schedule, &mut world, lines) {
         Ok(()) => Ok(world),
         Err(error) => {
             drop(world);
@@ -168,7 +169,7 @@ pub(crate) fn write_text<W: Sink>(sink: &mut W, text: &[u8]) -> Result<(), Files
 /// Reads a setup, then a schedule, then a program under the setup's frames, each to the end of its text and understood before the next is
 /// read; plays the schedule in a new world of the program and the setup, with this window; and writes the world's report. The answer
 /// is the last state of the client. If there is a sink for them, the lines that both sides write are written to it before the report, as
-/// `World::traced` has them; a sink that takes no line changes nothing.
+/// `Trace::text` has them; a sink that takes no line changes nothing.
 ///
 /// It writes only once the whole report is there. A file is blamed only for its own first refusal, or because it could not be read.
 pub fn simulate<S: Source, C: Source, R: Source, L: Sink, W: Sink>(

@@ -3,16 +3,16 @@ use Rattle.std.proofs.Common.{◌≡◌, inl, inr, ℕ, ◌-◌, ◌<◌, Bool, 
 use Rattle.std.proofs.Common.{refl, sym, ◌∙◌, ap, subst, is_none, arith}
 use Rattle.std.proofs.Common.{Option, Some, None, Result, Ok, Err, IfOk, OnOk, OnErr}
 use Rattle.std.proofs.lemmas.Bool.{and_parts}
-use Rattle.protocol_model.specs.World.{World, can, after, server_link, client_link, Link, no_link, has_some}
+use Rattle.protocol_model.specs.World.{World, can, server_link, client_link, Link, no_link, has_some}
 use Rattle.protocol_model.specs.declared.events.Event.{Event}
 use Rattle.protocol_model.specs.declared.events.Event.TheVariants as event
 use Rattle.protocol_model.specs.Ends.{ClientEnd}
 use Rattle.server_core.specs.Serving.{ServerValue}
 use Rattle.link_world.specs.declared.worlds.connection.Connection.{Connection}
-use Rattle.link_world.specs.Links.{WorldValue, with_world, seen, links_of, IsReached}
+use Rattle.link_world.specs.Links.{WorldValue, seen, links_of, IsReached}
 use Rattle.protocol_model.specs.Rounds.{IsOne, possible, all_up, all_down}
-use Rattle.link_world.specs.Parts.{Makes, Tells}
-use Rattle.link_world.proofs.EventLists.{not_done}
+use Rattle.link_world.specs.Parts.{Makes, Tells, Staged, Leading}
+use Rattle.link_world.proofs.EventLists.{leads_none, leads_still}
 use Rattle.link_world.proofs.Linking.{links_get}
 use Rattle.link_world.proofs.Reached.{made}
 
@@ -31,14 +31,14 @@ pub one_cut : (o : Option Event) → IsOne o true []
 one_cut None = refl
 one_cut (Some e) = inr (refl, refl)
 
-abbrev pub Attempted : {E : Type 0} → Result Bool E → Event → WorldValue → WorldValue → Type 0
+abbrev pub Attempted : {E : Type 0} → Result Bool E → Event → Staged → Staged → Type 0
 Attempted r e l m =
     IfOk r (λ happened. happened ≡ can e l.world)
-    × OnOk r (m ≡ with_world l (after e l.world)) × OnErr r (m ≡ l)
+    × OnOk r (Leading (e ∷ []) l m) × OnErr r (m ≡ l)
 
-attempted_if : (e : Event) (some : World → Option Event) (l m : WorldValue) (b : Bool) → (can e l.world ≡ true → some l.world ≡ Some e)
+attempted_if : (e : Event) (some : World → Option Event) (l m : Staged) (b : Bool) → (can e l.world ≡ true → some l.world ≡ Some e)
     → (can e l.world ≡ false → some l.world ≡ None) → b ≡ can e l.world
-    → (m ≡ with_world l (after e l.world))
+    → Leading (e ∷ []) l m
     → Makes (λ cut w. IsOne (some w) cut) false (Some b) l m
 attempted_if e some l m true known never is leads = record {
   events = e ∷ [];
@@ -49,18 +49,18 @@ attempted_if e some l m true known never is leads = record {
 attempted_if e some l m false known never is leads = record {
   events = [];
   made = subst (λ (o : Option Event). IsOne o false []) (sym (never (sym is))) refl;
-  leads = leads ∙ ap (λ (w : World). with_world l w) (not_done e l.world (sym is));
+  leads = leads_still e l m (sym is) leads;
   told_is = refl;
 }
 
-pub attempted : {E : Type 0} (e : Event) (some : World → Option Event) (l m : WorldValue) (r : Result Bool E)
+pub attempted : {E : Type 0} (e : Event) (some : World → Option Event) (l m : Staged) (r : Result Bool E)
     → (can e l.world ≡ true → some l.world ≡ Some e) → (can e l.world ≡ false → some l.world ≡ None) → Attempted r e l m
     → Tells r (λ cut w. IsOne (some w) cut) l m
 attempted e some l m (Ok b) known never h = attempted_if e some l m b known never h.0 h.1
 attempted e some l m (Err fault) known never h = record {
   events = [];
   made = one_cut (some l.world);
-  leads = h.2;
+  leads = subst (λ (x : Staged). Leading [] l x) (sym h.2) (leads_none l);
   told_is = tt;
 }
 
@@ -80,13 +80,13 @@ up_no count w false off is never =
     possible_by (event.Up (length (server_link w).up)) (can (event.Up (length (server_link w).up)) w) false
     (ap (λ (b : Bool). b && (is_none w.server.input.fault && has_some (length (server_link w).up) (server_link w).up)) off)
 
-pub up_done : {E : Type 0} (count : ℕ) (l m : WorldValue) (r : Result Bool E)
+pub up_done : {E : Type 0} (count : ℕ) (l m : Staged) (r : Result Bool E)
     → (l.world.server.server.on ≡ true → count ≡ length (server_link l.world).up) → Attempted r (event.Up count) l m
     → Tells r (λ cut w. IsOne (all_up w) cut) l m
 up_done count l m r is h = attempted (event.Up count) all_up l m r (up_yes count l.world is)
     (up_no count l.world l.world.server.server.on refl is) h
 
-pub down_done : {E : Type 0} (count : ℕ) (l m : WorldValue) (r : Result Bool E)
+pub down_done : {E : Type 0} (count : ℕ) (l m : Staged) (r : Result Bool E)
     → count ≡ length (client_link l.world).down → Attempted r (event.Down count) l m
     → Tells r (λ cut w. IsOne (all_down w) cut) l m
 down_done count l m r is h = attempted (event.Down count) all_down l m r

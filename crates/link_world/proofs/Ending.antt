@@ -14,8 +14,9 @@ use Rattle.link_world.specs.Finishing.{commands_most, IsSameKind, AreFirstOfJoin
 use Rattle.link_world.specs.declared.worlds.faults.WorldFault.{WorldFault}
 use Rattle.link_world.specs.declared.worlds.faults.WorldFault.TheVariants as fault
 use Rattle.link_world.specs.Links.{WorldValue, with_world, IsReached}
-use Rattle.link_world.specs.Parts.{Makes}
-use Rattle.link_world.proofs.EventLists.{run_append}
+use Rattle.link_world.specs.Parts.{Makes, unwatched}
+use Rattle.link_world.specs.Traces.{no_trace}
+use Rattle.link_world.proofs.EventLists.{run_append, leads_value, leads_world}
 use Rattle.link_world.proofs.Rejoining.{IsJoined, joined_at, joined_due, left_few}
 use Rattle.link_world.proofs.SameKind.{same_run, same_then}
 
@@ -47,47 +48,47 @@ few_behind l k turns joined may fits few =
     subst (λ (n : ℕ). turns ≤ n) (ap length (behind_joining l k joined may fits).unsent) few
 
 pub finished : (answer : Job → ℕ → Outcome) (turns : ℕ) (l k m : WorldValue) → Joined l k
-    → Makes (AreTurns answer turns) false None k m → Finishes answer turns l.world m.world
+    → Makes (AreTurns answer turns) false None (unwatched k) (unwatched m) → Finishes answer turns l.world m.world
 finished answer turns l k m joined h =
     let there : k.world ≡ rejoined l.world = joined_world l k (joined) in record {
       events = h.events;
       made = subst (λ (w : World). AreTurns answer turns false w h.events) there h.made;
       leads =
-          ap (λ (x : WorldValue). x.world) h.leads
+          leads_world h.events (unwatched k) (unwatched m) h.leads
           ∙ (ap (λ (w : World). run_of h.events w) there ∙ sym (run_append (rejoining l.world) h.events l.world));
     }
 
 pub stopped_turning : (answer : Job → ℕ → Outcome) (l k m : WorldValue) → Joined l k
-    → Makes (AreTurns answer 0) true None k m → Stops answer l.world m.world
+    → Makes (AreTurns answer 0) true None (unwatched k) (unwatched m) → Stops answer l.world m.world
 stopped_turning answer l k m joined h =
     let there : k.world ≡ rejoined l.world = joined_world l k (joined) in record {
       joins = rejoining l.world;
       events = h.events;
       made = inr (refl, subst (λ (w : World). AreTurns answer 0 true w h.events) there h.made);
       leads =
-          ap (λ (x : WorldValue). x.world) h.leads
+          leads_world h.events (unwatched k) (unwatched m) h.leads
           ∙ (ap (λ (w : World). run_of h.events w) there ∙ sym (run_append (rejoining l.world) h.events l.world));
     }
 
-pub stopped_joining : (answer : Job → ℕ → Outcome) (l m : WorldValue) → Makes AreFirstOfJoining true None l m
+pub stopped_joining : (answer : Job → ℕ → Outcome) (l m : WorldValue) → Makes AreFirstOfJoining true None (unwatched l) (unwatched m)
     → Stops answer l.world m.world
 stopped_joining answer l m h = record {
   joins = h.events;
   events = [];
   made = inl (h.made, refl);
-  leads = ap (λ (x : WorldValue). x.world) h.leads ∙ sym (run_append h.events [] l.world);
+  leads = leads_world h.events (unwatched l) (unwatched m) h.leads ∙ sym (run_append h.events [] l.world);
 }
 
 pub same_made : (are : Bool → World → List Event → Type 0) (cut : Bool) (told : Option Bool) (l m : WorldValue)
-    → Makes are cut told l m → IsSameKind l m
+    → Makes are cut told (unwatched l) (unwatched m) → IsSameKind l m
 same_made are cut told l m h =
-    let one = h in same_run one.events l m one.leads
+    same_run h.events l m (leads_value h.events l m no_trace no_trace h.leads)
 
 pub same_joined : (l k : WorldValue) → Joined l k → IsSameKind l k
 same_joined l k joined = same_run (rejoining l.world) l k (joined)
 
 pub same_turned : (are : Bool → World → List Event → Type 0) (cut : Bool) (told : Option Bool) (l k m : WorldValue) → Joined l k
-    → Makes are cut told k m → IsSameKind l m
+    → Makes are cut told (unwatched k) (unwatched m) → IsSameKind l m
 same_turned are cut told l k m joined h = same_then l k m (same_joined l k joined) (same_made are cut told k m h)
 
 -- what holds of each answer holds of all

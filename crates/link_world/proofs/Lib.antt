@@ -43,3 +43,4 @@ pub mod Turning
 pub mod Undisturbed
 pub mod Unsent
 pub mod WorkLists
+pub mod Tracing

@@ -28,8 +28,8 @@ use Rattle.server_core.specs.Serving.{ServerValue}
 use Rattle.link_world.specs.declared.worlds.connection.Connection.{Connection}
 use Rattle.link_world.specs.Finishing.{commands_most, AreFirstOfJoining}
 use Rattle.link_world.specs.Links.{WorldValue, seen, with_world, IsReached}
-use Rattle.link_world.specs.Parts.{Makes}
-use Rattle.link_world.proofs.EventLists.{leads_more, done_now}
+use Rattle.link_world.specs.Parts.{Makes, unwatched}
+use Rattle.link_world.proofs.EventLists.{run_append, leads_unwatched, done_now}
 use Rattle.link_world.proofs.Reached.{made}
 use Rattle.link_world.proofs.Undisturbed.{program_is}
 
@@ -54,7 +54,9 @@ finish_at l client server cs written n view h long undone =
 
 joins_one : (e : Event) (l k m : WorldValue) (es : List Event) → k ≡ with_world l (run_of es l.world)
     → m ≡ with_world k (after e k.world) → m ≡ with_world l (run_of (es ++ e ∷ []) l.world)
-joins_one e l k m es first then = leads_more l k m es (e ∷ []) first then
+joins_one e l k m es first then =
+    then ∙ (ap (λ (x : WorldValue). with_world x (after e x.world)) first
+    ∙ ap (λ (x : World). with_world l x) (sym (run_append es (e ∷ []) l.world)))
 
 -- each of them happened
 pub joins_all : (l a b c m : WorldValue) (n : ℕ) → n ≡ suc l.world.client.client.last
@@ -70,30 +72,30 @@ joins_all l a b c m n is first second third fourth =
 
 -- the first of them happened, and the next ran out of memory
 pub joins_cut : (l k m : WorldValue) (es more : List Event) → k ≡ with_world l (run_of es l.world) → m ≡ k
-    → es ++ more ≡ rejoining l.world → Makes AreFirstOfJoining true None l m
+    → es ++ more ≡ rejoining l.world → Makes AreFirstOfJoining true None (unwatched l) (unwatched m)
 joins_cut l k m es more leads same parts = record {
   events = es;
   made = record { more = more; parts = parts };
-  leads = same ∙ leads;
+  leads = leads_unwatched es l m (same ∙ leads);
   told_is = tt;
 }
 
-pub joins_none : (l m : WorldValue) → m ≡ l → Makes AreFirstOfJoining true None l m
+pub joins_none : (l m : WorldValue) → m ≡ l → Makes AreFirstOfJoining true None (unwatched l) (unwatched m)
 joins_none l m same = joins_cut l l m [] (rejoining l.world) refl same refl
 
 pub joins_client : (l a m : WorldValue) → a ≡ with_world l (after event.ClientLeaves l.world) → m ≡ a
-    → Makes AreFirstOfJoining true None l m
+    → Makes AreFirstOfJoining true None (unwatched l) (unwatched m)
 joins_client l a m first same = joins_cut l a m (event.ClientLeaves ∷ []) _ first same refl
 
 pub joins_server : (l a b m : WorldValue) → a ≡ with_world l (after event.ClientLeaves l.world)
-    → b ≡ with_world a (after event.ServerLeaves a.world) → m ≡ b → Makes AreFirstOfJoining true None l m
+    → b ≡ with_world a (after event.ServerLeaves a.world) → m ≡ b → Makes AreFirstOfJoining true None (unwatched l) (unwatched m)
 joins_server l a b m first second same =
     joins_cut l b m (event.ClientLeaves ∷ event.ServerLeaves ∷ []) _
     (joins_one event.ServerLeaves l a b (event.ClientLeaves ∷ []) first second) same refl
 
 pub joins_connect : (l a b c m : WorldValue) → a ≡ with_world l (after event.ClientLeaves l.world)
     → b ≡ with_world a (after event.ServerLeaves a.world) → c ≡ with_world b (after event.Connect b.world) → m ≡ c
-    → Makes AreFirstOfJoining true None l m
+    → Makes AreFirstOfJoining true None (unwatched l) (unwatched m)
 joins_connect l a b c m first second third same =
     joins_cut l c m (event.ClientLeaves ∷ event.ServerLeaves ∷ event.Connect ∷ []) _
     (joins_one event.Connect l b c (event.ClientLeaves ∷ event.ServerLeaves ∷ [])

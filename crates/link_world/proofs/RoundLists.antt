@@ -9,12 +9,11 @@ use Rattle.protocol_model.specs.World.{World, run_of}
 use Rattle.protocol_model.specs.declared.machine.Job.{Job}
 use Rattle.protocol_model.specs.declared.machine.Outcome.{Outcome}
 use Rattle.protocol_model.specs.declared.events.Event.{Event}
-use Rattle.link_world.specs.Links.{WorldValue, with_world}
 use Rattle.protocol_model.specs.Rounds.{IsRound, AreRounds, all_of}
 use Rattle.link_world.specs.Schedules.{AreCounted, AreQuiet, rounds_most}
 use Rattle.link_world.specs.Finishing.{AreTurns}
-use Rattle.link_world.specs.Parts.{is_any, Makes}
-use Rattle.link_world.proofs.EventLists.{run_append, leads_more, none_there}
+use Rattle.link_world.specs.Parts.{is_any, Makes, Staged, Leading}
+use Rattle.link_world.proofs.EventLists.{run_append, leads_more, leads_none, leads_end, leads_world, none_there}
 
 -- n whole rounds; each of them did something if that is required
 pub record SoMany (answer : Job → ℕ → Outcome) (must : Bool) (n : ℕ) (cut : Bool) (w : World) (events : List Event)
@@ -46,23 +45,23 @@ any_is es is none = false≢true (sym (is ∙ ap is_any none))
 abbrev Behind : (Job → ℕ → Outcome) → Bool → World → List (List Event) → List Event → Type 0
 Behind answer cut w rounds r = IsRound answer cut (run_of (all_of rounds) w) r
 
-behind : (answer : Job → ℕ → Outcome) (cut : Bool) (l k : WorldValue) (es : List Event) (rounds : List (List Event))
-    (r : List Event) → k ≡ with_world l (run_of es l.world) → es ≡ all_of rounds → IsRound answer cut k.world r
+behind : (answer : Job → ℕ → Outcome) (cut : Bool) (l k : Staged) (es : List Event) (rounds : List (List Event))
+    (r : List Event) → Leading es l k → es ≡ all_of rounds → IsRound answer cut k.world r
     → Behind answer cut l.world rounds r
 behind answer cut l k es rounds r leads whole h =
     subst (λ (v : World). IsRound answer cut v r)
-    (ap (λ (x : WorldValue). x.world) leads ∙ ap (λ (x : List Event). run_of x l.world) whole) h
+    (leads_world es l k leads ∙ ap (λ (x : List Event). run_of x l.world) whole) h
 
-pub none_yet : (answer : Job → ℕ → Outcome) (must : Bool) (l : WorldValue)
+pub none_yet : (answer : Job → ℕ → Outcome) (must : Bool) (l : Staged)
     → Makes (SoMany answer must 0) false None l l
 none_yet answer must l = record {
   events = [];
   made = record { rounds = []; whole = refl; are = tt; busy = λ e. search rules; count = refl };
-  leads = refl;
+  leads = leads_none l;
   told_is = tt;
 }
 
-pub round_more : (answer : Job → ℕ → Outcome) (must : Bool) (n : ℕ) (b : Bool) (l k m : WorldValue)
+pub round_more : (answer : Job → ℕ → Outcome) (must : Bool) (n : ℕ) (b : Bool) (l k m : Staged)
     → Makes (SoMany answer must n) false None l k → Makes (IsRound answer) false (Some b) k m
     → (must ≡ true → b ≡ true) → Makes (SoMany answer must (n + 1)) false None l m
 round_more answer must n b l k m h one busy = record {
@@ -81,7 +80,7 @@ round_more answer must n b l k m h one busy = record {
 
 -- ---- a number of rounds
 
-pub counted_whole : (answer : Job → ℕ → Outcome) (n : ℕ) (l k : WorldValue)
+pub counted_whole : (answer : Job → ℕ → Outcome) (n : ℕ) (l k : Staged)
     → Makes (SoMany answer false n) false None l k → Makes (AreCounted answer n) false None l k
 counted_whole answer n l k h = record {
   events = h.events;
@@ -96,7 +95,7 @@ counted_whole answer n l k h = record {
   told_is = tt;
 }
 
-pub counted_cut : (answer : Job → ℕ → Outcome) (i n : ℕ) (l k m : WorldValue)
+pub counted_cut : (answer : Job → ℕ → Outcome) (i n : ℕ) (l k m : Staged)
     → Makes (SoMany answer false i) false None l k → i < n → Makes (IsRound answer) true None k m
     → Makes (AreCounted answer n) true None l m
 counted_cut answer i n l k m h few one = record {
@@ -118,7 +117,7 @@ counted_cut answer i n l k m h few one = record {
 
 -- ---- until one does nothing
 
-pub quiet_whole : (answer : Job → ℕ → Outcome) (l k : WorldValue)
+pub quiet_whole : (answer : Job → ℕ → Outcome) (l k : Staged)
     → Makes (SoMany answer true rounds_most) false None l k → Makes (AreQuiet answer) false None l k
 quiet_whole answer l k h = record {
   events = h.events;
@@ -135,7 +134,7 @@ quiet_whole answer l k h = record {
   told_is = tt;
 }
 
-pub quiet_stops : (answer : Job → ℕ → Outcome) (i : ℕ) (b : Bool) (l k m : WorldValue)
+pub quiet_stops : (answer : Job → ℕ → Outcome) (i : ℕ) (b : Bool) (l k m : Staged)
     → Makes (SoMany answer true i) false None l k → i < rounds_most
     → Makes (IsRound answer) false (Some b) k m → b ≡ false → Makes (AreQuiet answer) false None l m
 quiet_stops answer i b l k m h few one still =
@@ -154,11 +153,11 @@ quiet_stops answer i b l k m h few one still =
               (subst (λ (es : List Event). IsRound answer false k.world es) none one.made)),
         );
       };
-      leads = one.leads ∙ (ap (λ (es : List Event). with_world k (run_of es k.world)) none ∙ h.leads);
+      leads = leads_end l k m h.events h.leads (subst (λ (es : List Event). Leading es k m) none one.leads);
       told_is = tt;
     }
 
-pub quiet_cut : (answer : Job → ℕ → Outcome) (i : ℕ) (l k m : WorldValue)
+pub quiet_cut : (answer : Job → ℕ → Outcome) (i : ℕ) (l k m : Staged)
     → Makes (SoMany answer true i) false None l k → i < rounds_most → Makes (IsRound answer) true None k m
     → Makes (AreQuiet answer) true None l m
 quiet_cut answer i l k m h few one = record {
@@ -182,7 +181,7 @@ quiet_cut answer i l k m h few one = record {
 
 -- ---- while a command is due
 
-pub turns_whole : (answer : Job → ℕ → Outcome) (n : ℕ) (l k : WorldValue)
+pub turns_whole : (answer : Job → ℕ → Outcome) (n : ℕ) (l k : Staged)
     → Makes (SoMany answer true n) false None l k → IsRound answer false k.world []
     → Makes (AreTurns answer n) false None l k
 turns_whole answer n l k h still = record {
@@ -204,7 +203,7 @@ turns_whole answer n l k h still = record {
   told_is = tt;
 }
 
-pub turns_cut : (answer : Job → ℕ → Outcome) (n : ℕ) (l k m : WorldValue)
+pub turns_cut : (answer : Job → ℕ → Outcome) (n : ℕ) (l k m : Staged)
     → Makes (SoMany answer true n) false None l k → Makes (IsRound answer) true None k m
     → Makes (AreTurns answer 0) true None l m
 turns_cut answer n l k m h one = record {
@@ -225,10 +224,10 @@ turns_cut answer n l k m h one = record {
 
 -- ---- as a machine answered at first
 
-pub round_as : (now first : Job → ℕ → Outcome) (cut : Bool) (told : Option Bool) (k m : WorldValue) → now ≡ first
+pub round_as : (now first : Job → ℕ → Outcome) (cut : Bool) (told : Option Bool) (k m : Staged) → now ≡ first
     → Makes (IsRound now) cut told k m → Makes (IsRound first) cut told k m
 round_as now first cut told k m same h = subst (λ (a : Job → ℕ → Outcome). Makes (IsRound a) cut told k m) same h
 
-pub many_at : (answer : Job → ℕ → Outcome) (must : Bool) (i n : ℕ) (l k : WorldValue) → i ≡ n
+pub many_at : (answer : Job → ℕ → Outcome) (must : Bool) (i n : ℕ) (l k : Staged) → i ≡ n
     → Makes (SoMany answer must i) false None l k → Makes (SoMany answer must n) false None l k
 many_at answer must i n l k same h = subst (λ (j : ℕ). Makes (SoMany answer must j) false None l k) same h

@@ -4,9 +4,8 @@ use Rattle.std.proofs.Common.{Ok, Err, IfSome, IsErr, rules}
 use Rattle.std.proofs.lemmas.Bool.{false≢true}
 use Rattle.protocol_model.specs.World.{World}
 use Rattle.protocol_model.specs.declared.events.Event.{Event}
-use Rattle.link_world.specs.Links.{WorldValue}
 use Rattle.protocol_model.specs.Rounds.{Then}
-use Rattle.link_world.specs.Parts.{is_any, Makes, Tells, PlaysPart}
+use Rattle.link_world.specs.Parts.{is_any, Makes, Tells, PlaysPart, Staged}
 use Rattle.link_world.proofs.EventLists.{leads_more, any_append}
 
 -- whether there was any event in two parts
@@ -20,7 +19,7 @@ either_told a None es fs first then = tt
 either_told a (Some b) es fs first then =
     ap (λ (x : Bool). x || b) first ∙ (ap (λ (x : Bool). is_any es || x) then ∙ sym (any_append es fs))
 
-pub then_more : (A B : Bool → World → List Event → Type 0) (cut a : Bool) (told : Option Bool) (l k m : WorldValue)
+pub then_more : (A B : Bool → World → List Event → Type 0) (cut a : Bool) (told : Option Bool) (l k m : Staged)
     → Makes A false (Some a) l k → Makes B cut told k m → Makes (Then A B) cut (either a told) l m
 then_more A B cut a told l k m first then = record {
   events = first.events ++ then.events;
@@ -28,13 +27,13 @@ then_more A B cut a told l k m first then = record {
     front = first.events;
     back = then.events;
     whole = refl;
-    parts = inl (first.made, subst (λ (x : WorldValue). B cut x.world then.events) first.leads then.made);
+    parts = inl (first.made, subst (λ (x : Staged). B cut x.world then.events) first.leads.is then.made);
   };
   leads = leads_more l k m first.events then.events first.leads then.leads;
   told_is = either_told a told first.events then.events first.told_is then.told_is;
 }
 
-pub then_cut : (A B : Bool → World → List Event → Type 0) (l m : WorldValue) → Makes A true None l m
+pub then_cut : (A B : Bool → World → List Event → Type 0) (l m : Staged) → Makes A true None l m
     → Makes (Then A B) true None l m
 then_cut A B l m h = record {
   events = h.events;
@@ -48,12 +47,12 @@ then_cut A B l m h = record {
 
 -- ---- a call that was cut
 
-pub tells_cut : {E : Type 0} (r : Result Bool E) (are : Bool → World → List Event → Type 0) (l m : WorldValue) → IsErr r
+pub tells_cut : {E : Type 0} (r : Result Bool E) (are : Bool → World → List Event → Type 0) (l m : Staged) → IsErr r
     → Makes are true None l m → Tells r are l m
 tells_cut (Ok b) are l m is h = absurd (false≢true is)
 tells_cut (Err fault) are l m is h = h
 
-pub part_cut : {E : Type 0} (r : Result (Unit {0}) E) (are : Bool → World → List Event → Type 0) (l m : WorldValue) → IsErr r
+pub part_cut : {E : Type 0} (r : Result (Unit {0}) E) (are : Bool → World → List Event → Type 0) (l m : Staged) → IsErr r
     → Makes are true None l m → PlaysPart r are l m
 part_cut (Ok b) are l m is h = absurd (false≢true is)
 part_cut (Err fault) are l m is h = h

@@ -8,8 +8,10 @@ use Rattle.protocol_model.specs.declared.events.Event.{Event}
 use Rattle.protocol_model.specs.declared.events.Event.TheVariants as event
 use Rattle.protocol_model.specs.declared.machine.Job.{Job}
 use Rattle.protocol_model.specs.declared.machine.Outcome.{Outcome}
-use Rattle.link_world.specs.Links.{WorldValue, IsReached, with_world}
-use Rattle.link_world.specs.Parts.{is_any, Makes}
+use Rattle.link_world.specs.Links.{WorldValue, IsReached}
+use Rattle.link_world.specs.Traces.{TraceValue}
+use Rattle.link_world.specs.Parts.{is_any, Makes, staged, unwatched}
+use Rattle.link_world.proofs.EventLists.{leads_unwatched, leads_value, leads_world}
 use Rattle.link_world.proofs.Reached.{never_faulted_behind}
 use Rattle.link_world.proofs.Resting.{round_still, round_fewer}
 use Rattle.link_world.proofs.Unsent.{unsent}
@@ -19,35 +21,45 @@ any_there [] some = absurd (some refl)
 any_there (e ∷ es) some = refl
 
 -- a round that was made when something was due did something
-pub turn_made : (answer : Job → ℕ → Outcome) (told : Option Bool) (l m : WorldValue) → IsReached l
-    → is_some (due l.world.client.client) ≡ true → Makes (IsRound answer) false told l m
-    → Makes (IsRound answer) false (Some true) l m
-turn_made answer told l m reached some h = record {
+pub turn_made : (answer : Job → ℕ → Outcome) (told : Option Bool) (l m : WorldValue) (t u : TraceValue) → IsReached l
+    → is_some (due l.world.client.client) ≡ true → Makes (IsRound answer) false told (staged l t) (staged m u)
+    → Makes (IsRound answer) false (Some true) (unwatched l) (unwatched m)
+turn_made answer told l m t u reached some h = record {
   events = h.events;
   made = h.made;
-  leads = h.leads;
+  leads = leads_unwatched h.events l m (leads_value h.events l m t u h.leads);
   told_is = any_there h.events
       (round_fewer answer l.world h.events h.made some (never_faulted_behind l event.ClientSends reached some)).0;
 }
 
 -- and left less to be sent
-pub turn_fewer : (answer : Job → ℕ → Outcome) (told : Option Bool) (l m : WorldValue) → IsReached l
+pub turn_fewer : (answer : Job → ℕ → Outcome) (told : Option Bool) (l m : WorldValue) (t u : TraceValue) → IsReached l
     → is_some (due l.world.client.client) ≡ true
-    → (Makes (IsRound answer) false told l m)
+    → (Makes (IsRound answer) false told (staged l t) (staged m u))
     → unsent m.world < unsent l.world
-turn_fewer answer told l m reached some made =
+turn_fewer answer told l m t u reached some made =
     let h = made in
-    subst (λ (k : WorldValue). unsent k.world < unsent l.world) (sym h.leads)
+    subst (λ (k : WorldValue). unsent k.world < unsent l.world) (sym (leads_value h.events l m t u h.leads))
     (round_fewer answer l.world h.events h.made some
     (never_faulted_behind l event.ClientSends reached some)).1
 
 -- if nothing is due after it, the next does nothing
-pub turn_still : (answer : Job → ℕ → Outcome) (told : Option Bool) (l m : WorldValue)
-    → Makes (IsRound answer) false told l m → due m.world.client.client ≡ None → IsRound answer false m.world []
-turn_still answer told l m h none =
-    let same : m.world ≡ run_of h.events l.world = ap (λ (k : WorldValue). k.world) h.leads in
+pub turn_still : (answer : Job → ℕ → Outcome) (told : Option Bool) (l m : WorldValue) (t u : TraceValue)
+    → Makes (IsRound answer) false told (staged l t) (staged m u) → due m.world.client.client ≡ None → IsRound answer false m.world []
+turn_still answer told l m t u h none =
+    let same : m.world ≡ run_of h.events l.world = leads_world h.events (staged l t) (staged m u) h.leads in
     subst (λ (w : World). IsRound answer false w []) (sym same)
     (round_still answer l.world h.events h.made (subst (λ (w : World). due w.client.client ≡ None) same none))
+
+-- cut
+pub turn_cut : (answer : Job → ℕ → Outcome) (told : Option Bool) (l m : WorldValue) (t u : TraceValue)
+    → Makes (IsRound answer) true told (staged l t) (staged m u) → Makes (IsRound answer) true told (unwatched l) (unwatched m)
+turn_cut answer told l m t u h = record {
+  events = h.events;
+  made = h.made;
+  leads = leads_unwatched h.events l m (leads_value h.events l m t u h.leads);
+  told_is = h.told_is;
+}
 
 -- ---- one after another
 

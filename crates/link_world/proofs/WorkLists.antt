@@ -11,7 +11,7 @@ use Rattle.protocol_model.specs.declared.events.Event.TheVariants as event
 use Rattle.server_core.specs.Steady.{IsRunnable}
 use Rattle.link_world.specs.Links.{WorldValue, with_world}
 use Rattle.protocol_model.specs.Rounds.{AreWork, ending, ended, working}
-use Rattle.link_world.specs.Parts.{Makes}
+use Rattle.link_world.specs.Parts.{Makes, Staged, Leading}
 use Rattle.link_world.proofs.EventLists.{any_more, leads_more, done_now}
 use Rattle.link_world.proofs.ServerWork.{work_left, turn_less, machine_less}
 
@@ -33,22 +33,22 @@ work_ends : (answer : Job → ℕ → Outcome) (w : World) (es : List Event) →
 work_ends answer w [] h is = is
 work_ends answer w (f ∷ fs) h is = (h.0, work_ends answer (after f w) fs h.1 is)
 
-pub working_more : (answer : Job → ℕ → Outcome) (e : Event) (b : Bool) (l k m : WorldValue)
+pub working_more : (answer : Job → ℕ → Outcome) (e : Event) (b : Bool) (l k m : Staged)
     → Makes (Working answer) false (Some b) l k → next answer k.world ≡ Some e
-    → m ≡ with_world k (after e k.world) → Makes (Working answer) false (Some true) l m
+    → Leading (e ∷ []) k m → Makes (Working answer) false (Some true) l m
 working_more answer e b l k m h is leads = record {
   events = h.events ++ e ∷ [];
-  made = work_more answer e l.world h.events h.made (subst (λ (x : WorldValue). next answer x.world ≡ Some e) h.leads is);
+  made = work_more answer e l.world h.events h.made (subst (λ (x : Staged). next answer x.world ≡ Some e) h.leads.is is);
   leads = leads_more l k m h.events (e ∷ []) h.leads leads;
   told_is = any_more h.events e;
 }
 
-pub working_ends : (answer : Job → ℕ → Outcome) (b : Bool) (l k : WorldValue)
+pub working_ends : (answer : Job → ℕ → Outcome) (b : Bool) (l k : Staged)
     → Makes (Working answer) false (Some b) l k → next answer k.world ≡ None
     → Makes (AreWork answer) false (Some b) l k
 working_ends answer b l k h is = record {
   events = h.events;
-  made = work_ends answer l.world h.events h.made (subst (λ (x : WorldValue). next answer x.world ≡ None) h.leads is);
+  made = work_ends answer l.world h.events h.made (subst (λ (x : Staged). next answer x.world ≡ None) h.leads.is is);
   leads = h.leads;
   told_is = h.told_is;
 }

@@ -22,3 +22,5 @@ pub mod Watching
 pub mod Showing
 pub mod WatchingRows
 pub mod ServerWatching
+pub mod Traces
+pub mod TraceRows

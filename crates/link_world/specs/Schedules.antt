@@ -7,6 +7,7 @@ use Rattle.protocol_model.specs.declared.events.Event.{Event}
 use Rattle.protocol_model.specs.declared.events.Event.TheVariants as event
 use Rattle.protocol_model.specs.declared.machine.Job.{Job}
 use Rattle.protocol_model.specs.declared.machine.Outcome.{Outcome}
+use Rattle.link_world.specs.Traces.{TraceValue, Traces}
 use Rattle.link_world.specs.declared.texts.schedules.Instruction.{Instruction}
 use Rattle.link_world.specs.declared.texts.schedules.Instruction.TheVariants as instruction
 
@@ -56,3 +57,11 @@ pub record Plays (answer : Job → ℕ → Outcome) (played : List Instruction) 
   pub events : List Event
   pub made : ArePlayed answer played cut w events
   pub leads : v ≡ run_of events w
+
+-- likewise, and the rows of the events follow the text of a trace
+pub record PlaysTraced (answer : Job → ℕ → Outcome) (played : List Instruction) (cut : Bool) (w v : World) (old new : TraceValue) : Type 0
+  where
+    pub events : List Event
+    pub made : ArePlayed answer played cut w events
+    pub leads : v ≡ run_of events w
+    pub traces : Traces events w old new

@@ -31,4 +31,5 @@ pub use texts::schedules::{Instruction, Schedule};
 pub use worlds::faults::{NewFault, WorldFault};
 pub use worlds::finishing::{Quiet, quiet_run};
 pub use worlds::laws::homed_servers_are_not_homed_again;
+pub use worlds::traces::Trace;
 pub use worlds::world::{RunCount, World};

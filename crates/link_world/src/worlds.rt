@@ -4,7 +4,8 @@
 //! - `client_events`, `server_events`: what each event does to its side
 //! - `connection`: the bytes that are on their way, both ways
 //! - `finishing`, `playing`, `rounds`: events that a world chooses itself, to its end or by a schedule
-//! - `traces`: the lines that both sides write, as text
+//! - `standing`: both sides before an event
+//! - `traces`: the lines that both sides write, as text, with examples in `trace_rows`
 //! - `faults`: why an event does not happen
 //! - `laws`: what follows for every list of events
 
@@ -16,5 +17,7 @@ pub mod laws;
 pub(crate) mod playing;
 pub(crate) mod rounds;
 pub(crate) mod server_events;
+pub(crate) mod standing;
+pub mod trace_rows;
 pub(crate) mod traces;
 pub(crate) mod world;

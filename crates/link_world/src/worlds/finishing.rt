@@ -13,13 +13,14 @@ ghost use Rattle.protocol_model.specs.declared.states.State.TheVariants as state
 ghost use Rattle.client_core.specs.Always.{FitsState};
 ghost use Rattle.client_core.specs.Clients.{is_window};
 ghost use Rattle.link_world.specs.Links.{with_world};
-ghost use Rattle.link_world.specs.Parts.{Makes};
+ghost use Rattle.link_world.specs.Parts.{Makes, unwatched};
 ghost use Rattle.link_world.specs.Finishing.{commands_most, IsSameKind, AreFirstOfJoining, AreTurns, Finishes, Stops, IsFinish, IsQuietRun};
 ghost use Rattle.link_world.specs.Claims.{Headline, HandsBack, IsWant};
 
 use crate::connections::machines::Machine;
 use crate::texts::reports::report_of;
 use crate::worlds::faults::{NewFault, WorldFault};
+use crate::worlds::traces::Trace;
 use crate::worlds::world::World;
 use client_core::State;
 use contact_ledger::{CONNECTION_MAX, FeatureLedger};
@@ -54,13 +55,15 @@ impl World {
     /// Both ends leave, each if it is on a connection, and come to the next. Fails only if out of memory.
     fn rejoin(&mut self) -> Result<(), AllocError>
         ensures joined { OnOk result (self.new ≡ with_world self.old (rejoined self.old.world)) }
-        ensures cut { OnErr result (Makes AreFirstOfJoining true None self.old self.new) }
+        ensures cut { OnErr result (Makes AreFirstOfJoining true None
+            (unwatched self.old) (unwatched self.new)) }
     {
         let number = self.connections.len() as u64 + 1;
-        self.attempt(Event::ClientLeaves)?;
-        self.attempt(Event::ServerLeaves)?;
-        self.attempt(Event::Connect)?;
-        self.attempt(Event::Accept(number))?;
+        let mut silent = Trace::silent(self.alloc);
+        self.attempt(Event::ClientLeaves, &mut silent)?;
+        self.attempt(Event::ServerLeaves, &mut silent)?;
+        self.attempt(Event::Connect, &mut silent)?;
+        self.attempt(Event::Accept(number), &mut silent)?;
         Ok(())
     }
 
@@ -75,9 +78,9 @@ impl World {
     fn turn<M: Machine>(&mut self, machine: &mut M) -> Result<(), AllocError>
         requires due { is_some (due self.old.world.client.client) ≡ true }
         ensures made { OnOk result (Makes (IsRound (M.answers machine.old)) false (Some true)
-            self.old self.new) }
+            (unwatched self.old) (unwatched self.new)) }
         ensures cut { OnErr result (Makes (IsRound (M.answers machine.old)) true None
-            self.old self.new) }
+            (unwatched self.old) (unwatched self.new)) }
         ensures fewer { OnOk result (length self.new.world.client.client.table.tally.unsent
             < length self.old.world.client.client.table.tally.unsent) }
         ensures still { OnOk result (due self.new.world.client.client ≡ None
@@ -85,7 +88,8 @@ impl World {
         ensures keeps { M.answers machine.new ≡ M.answers machine.old }
     {
         let _known = &self.alloc;
-        self.quiet_round(machine)?;
+        let mut silent = Trace::silent(self.alloc);
+        self.quiet_round(machine, &mut silent)?;
         Ok(())
     }
 
@@ -94,9 +98,10 @@ impl World {
         requires due { is_some (due self.old.world.client.client) ≡ true }
         requires short { length self.old.world.client.client.table.tally.unsent ≤ commands_most }
         ensures made { IfOk result (λ turns.
-            Makes (AreTurns (M.answers machine.old) turns) false None self.old self.new) }
+            Makes (AreTurns (M.answers machine.old) turns) false None
+            (unwatched self.old) (unwatched self.new)) }
         ensures cut { OnErr result (Makes (AreTurns (M.answers machine.old) 0) true None
-            self.old self.new) }
+            (unwatched self.old) (unwatched self.new)) }
         ensures few { IfOk result (λ turns.
             turns ≤ length self.old.world.client.client.table.tally.unsent) }
         ensures keeps { M.answers machine.new ≡ M.answers machine.old }

@@ -1,11 +1,11 @@
 // Parts of schedules, each as one call of a world.
 
-ghost use Rattle.std.specs.Prelude.{◌≡◌, true, false, length, Some, OnOk, OnErr, IfOk, IfSome, is_ok};
+ghost use Rattle.std.specs.Prelude.{◌≡◌, [], ◌∷◌, true, false, length, Some, OnOk, OnErr, IfOk, IfSome, is_ok};
 ghost use Rattle.protocol_model.specs.World.{can, after, client_link, server_link};
 ghost use Rattle.link_world.specs.Links.{with_world};
 ghost use Rattle.protocol_model.specs.Rounds.{AreWhile, IsOne, all_up, all_down, ending};
-ghost use Rattle.link_world.specs.Schedules.{AreMade, ArePlayed, Plays};
-ghost use Rattle.link_world.specs.Parts.{repeats, Tells, PlaysPart};
+ghost use Rattle.link_world.specs.Schedules.{AreMade, ArePlayed, Plays, PlaysTraced};
+ghost use Rattle.link_world.specs.Parts.{repeats, Leading, Tells, PlaysPart, staged};
 ghost use Rattle.link_world.specs.Claims.{Headline};
 ghost use Rattle.link_world.specs.Finishing.{IsSameKind};
 ghost use Rattle.link_world.specs.Machines.{simulated};
@@ -14,18 +14,22 @@ use crate::connections::machines::{Machine, Simulated};
 use crate::texts::schedules::{Instruction, Schedule};
 use crate::worlds::faults::WorldFault;
 use crate::worlds::server_events::server_place;
+use crate::worlds::traces::Trace;
 use crate::worlds::world::World;
 use protocol_model::Event;
 use std::alloc::AllocError;
 
 impl World {
     /// An event happens, if it can; returns whether it did. Fails only if out of memory, and then nothing has changed.
-    pub(crate) fn attempt(&mut self, event: Event) -> Result<bool, AllocError>
+    pub(crate) fn attempt(&mut self, event: Event, trace: &mut Trace) -> Result<bool, AllocError>
         ensures told { IfOk result (λ happened. happened ≡ can event self.old.world) }
         ensures ok { OnOk result (self.new ≡ with_world self.old (after event self.old.world)) }
         ensures err { OnErr result (self.new ≡ self.old) }
+        ensures leads { OnOk result (Leading (event ∷ []) (staged self.old trace.old)
+            (staged self.new trace.new)) }
+        ensures stays { OnErr result (staged self.new trace.new ≡ staged self.old trace.old) }
     {
-        match self.step(event) {
+        match trace.step(self, event) {
             Ok(()) => Ok(true),
             Err(WorldFault::NotNow) => Ok(false),
             Err(WorldFault::Memory) => Err(AllocError),
@@ -33,13 +37,14 @@ impl World {
     }
 
     /// An event that is repeated happens while it can: a client sends, a server reads, or a client reads.
-    pub(crate) fn repeat(&mut self, event: Event) -> Result<bool, AllocError>
+    pub(crate) fn repeat(&mut self, event: Event, trace: &mut Trace) -> Result<bool, AllocError>
         requires { repeats event ≡ true }
-        ensures { Tells result (AreWhile event) self.old self.new }
+        ensures { Tells result (AreWhile event) (staged self.old trace.old)
+            (staged self.new trace.new) }
     {
         let mut busy = false;
         loop {
-            if !self.attempt(event)? {
+            if !self.attempt(event, trace)? {
                 return Ok(busy);
             }
             busy = true;
@@ -68,21 +73,21 @@ impl World {
     }
 
     /// All bytes that wait for the server move up to it.
-    pub(crate) fn up_all(&mut self) -> Result<bool, AllocError>
+    pub(crate) fn up_all(&mut self, trace: &mut Trace) -> Result<bool, AllocError>
         ensures { Tells result (λ cut world. IsOne (all_up world) cut)
-            self.old self.new }
+            (staged self.old trace.old) (staged self.new trace.new) }
     {
         let count = self.waiting_up();
-        self.attempt(Event::Up(count))
+        self.attempt(Event::Up(count), trace)
     }
 
     /// All bytes that wait for the client move down to it.
-    pub(crate) fn down_all(&mut self) -> Result<bool, AllocError>
+    pub(crate) fn down_all(&mut self, trace: &mut Trace) -> Result<bool, AllocError>
         ensures { Tells result (λ cut world. IsOne (all_down world) cut)
-            self.old self.new }
+            (staged self.old trace.old) (staged self.new trace.new) }
     {
         let count = self.waiting_down();
-        self.attempt(Event::Down(count))
+        self.attempt(Event::Down(count), trace)
     }
 
     /// How what runs ends, if something runs: as the machine answers its job, at the number of the next contact.
@@ -97,22 +102,23 @@ impl World {
     }
 
     /// An event happens, if it can.
-    fn once(&mut self, event: Event) -> Result<(), AllocError>
+    fn once(&mut self, event: Event, trace: &mut Trace) -> Result<(), AllocError>
         ensures { PlaysPart result (λ cut world. IsOne (Some event) cut)
-            self.old self.new }
+            (staged self.old trace.old) (staged self.new trace.new) }
     {
-        self.attempt(event)?;
+        self.attempt(event, trace)?;
         Ok(())
     }
 
     /// What runs ends as the machine answers, if something runs.
-    fn auto<M: Machine>(&mut self, machine: &mut M) -> Result<(), AllocError>
+    fn auto<M: Machine>(&mut self, machine: &mut M, trace: &mut Trace) -> Result<(), AllocError>
         ensures made { PlaysPart result (λ cut world.
-            IsOne (ending (M.answers machine.old) world) cut) self.old self.new }
+            IsOne (ending (M.answers machine.old) world) cut)
+            (staged self.old trace.old) (staged self.new trace.new) }
         ensures keeps { M.answers machine.new ≡ M.answers machine.old }
     {
         match self.ending(machine) {
-            Some(event) => self.once(event),
+            Some(event) => self.once(event, trace),
             None => Ok(()),
         }
     }
@@ -122,20 +128,21 @@ impl World {
         &mut self,
         instruction: Instruction,
         machine: &mut M,
+        trace: &mut Trace,
     ) -> Result<(), AllocError>
         ensures made { PlaysPart result (AreMade (M.answers machine.old) instruction)
-            self.old self.new }
+            (staged self.old trace.old) (staged self.new trace.new) }
         ensures keeps { M.answers machine.new ≡ M.answers machine.old }
     {
         match instruction {
-            Instruction::Once(event) => self.once(event),
-            Instruction::Auto => self.auto(machine),
-            Instruction::UpAll => untold(self.up_all()),
-            Instruction::DownAll => untold(self.down_all()),
-            Instruction::ServerReadsAll => untold(self.repeat(Event::ServerReads)),
-            Instruction::ClientReadsAll => untold(self.repeat(Event::ClientReads)),
-            Instruction::Rounds(count) => self.quiet_rounds(count, machine),
-            Instruction::Quiet => self.quiet(machine),
+            Instruction::Once(event) => self.once(event, trace),
+            Instruction::Auto => self.auto(machine, trace),
+            Instruction::UpAll => untold(self.up_all(trace)),
+            Instruction::DownAll => untold(self.down_all(trace)),
+            Instruction::ServerReadsAll => untold(self.repeat(Event::ServerReads, trace)),
+            Instruction::ClientReadsAll => untold(self.repeat(Event::ClientReads, trace)),
+            Instruction::Rounds(count) => self.quiet_rounds(count, machine, trace),
+            Instruction::Quiet => self.quiet(machine, trace),
         }
     }
 
@@ -144,13 +151,14 @@ impl World {
         &mut self,
         instructions: &[Instruction],
         machine: &mut M,
+        trace: &mut Trace,
     ) -> Result<(), AllocError>
         ensures made { PlaysPart result (ArePlayed (M.answers machine.old) instructions.now)
-            self.old self.new }
+            (staged self.old trace.old) (staged self.new trace.new) }
         ensures keeps { M.answers machine.new ≡ M.answers machine.old }
     {
         for instruction in instructions {
-            self.follow(*instruction, machine)?;
+            self.follow(*instruction, machine, trace)?;
         }
         Ok(())
     }
@@ -169,8 +177,34 @@ fn untold(told: Result<bool, AllocError>) -> Result<(), AllocError>
 impl Schedule {
     /// Plays the instructions in order, as events of a world. If an instruction leaves the end of what runs to the machine, it ends as the
     /// simulated machine of the world's own setup answers. An event that cannot happen changes nothing, and the next is played. Fails only
-    /// if out of memory: the playing then ends with the world as the events before have left it.
+    /// if out of memory: the playing then ends with the world as the events before have left it. The lines that both sides write follow the
+    /// text of the trace.
     #[tactic(auto, using(crate::proofs::Instructions::played_behind))]
+    pub fn play_traced(&self, world: &mut World, trace: &mut Trace) -> Result<(), AllocError>
+        // What the instructions made of the world.
+        ensures ok { OnOk result (Plays (simulated world.old.setup.shifts) self.now false
+            world.old.world world.new.world) }
+        ensures memory { OnErr result (Plays (simulated world.old.setup.shifts) self.now true
+            world.old.world world.new.world) }
+
+        // What was written of the same events.
+        ensures traced { OnOk result (PlaysTraced (simulated world.old.setup.shifts) self.now false
+            world.old.world world.new.world trace.old trace.new) }
+        ensures traced_memory { OnErr result (PlaysTraced (simulated world.old.setup.shifts)
+            self.now true world.old.world world.new.world trace.old trace.new) }
+
+        // What no event changes, and what holds after any events.
+        ensures fixed { IsSameKind world.old world.new }
+        ensures always { Headline world.new.world }
+    {
+        let _known = &world.alloc;
+        let mut machine = Simulated::new(world.alloc, world.setup())?;
+        world.follow_all(self.instructions.as_slice(), &mut machine, trace)
+    }
+
+    /// Plays the instructions in order, as events of a world. If an instruction leaves the end of what runs to the machine, it ends as the
+    /// simulated machine of the world's own setup answers. An event that cannot happen changes nothing, and the next is played. Fails only
+    /// if out of memory: the playing then ends with the world as the events before have left it.
     pub fn play(&self, world: &mut World) -> Result<(), AllocError>
         // What the instructions made of the world.
         ensures ok { OnOk result (Plays (simulated world.old.setup.shifts) self.now false
@@ -182,8 +216,7 @@ impl Schedule {
         ensures fixed { IsSameKind world.old world.new }
         ensures always { Headline world.new.world }
     {
-        let _known = &world.alloc;
-        let mut machine = Simulated::new(world.alloc, world.setup())?;
-        world.follow_all(self.instructions.as_slice(), &mut machine)
+        let mut silent = Trace::silent(world.alloc);
+        self.play_traced(world, &mut silent)
     }
 }

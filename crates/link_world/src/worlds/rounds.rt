@@ -6,9 +6,10 @@ ghost use Rattle.protocol_model.specs.declared.lines.Line.{Line as OneLine};
 ghost use Rattle.server_core.specs.Steady.{IsRunnable};
 ghost use Rattle.protocol_model.specs.Rounds.{AreWork, IsRound, ending, working};
 ghost use Rattle.link_world.specs.Schedules.{AreCounted, AreQuiet};
-ghost use Rattle.link_world.specs.Parts.{Tells, PlaysPart};
+ghost use Rattle.link_world.specs.Parts.{Tells, PlaysPart, staged};
 
 use crate::connections::machines::Machine;
+use crate::worlds::traces::Trace;
 use crate::worlds::world::World;
 use protocol_model::Event;
 use std::alloc::AllocError;
@@ -39,14 +40,18 @@ impl World {
     }
 
     /// The server does all that it has to do: it processes commands and ends jobs while there are any.
-    pub(crate) fn work<M: Machine>(&mut self, machine: &mut M) -> Result<bool, AllocError>
+    pub(crate) fn work<M: Machine>(
+        &mut self,
+        machine: &mut M,
+        trace: &mut Trace,
+    ) -> Result<bool, AllocError>
         ensures made { Tells result (AreWork (M.answers machine.old))
-            self.old self.new }
+            (staged self.old trace.old) (staged self.new trace.new) }
         ensures keeps { M.answers machine.new ≡ M.answers machine.old }
     {
         let mut busy = false;
         while let Some(event) = self.next_work(machine) {
-            self.attempt(event)?;
+            self.attempt(event, trace)?;
             busy = true;
         }
         Ok(busy)
@@ -54,17 +59,21 @@ impl World {
 
     /// A quiet round: the client sends all that is due, all of it comes to the server, which reads it all and does it all, and all answers
     /// come to the client, which reads them all. Returns whether anything was done.
-    pub(crate) fn quiet_round<M: Machine>(&mut self, machine: &mut M) -> Result<bool, AllocError>
+    pub(crate) fn quiet_round<M: Machine>(
+        &mut self,
+        machine: &mut M,
+        trace: &mut Trace,
+    ) -> Result<bool, AllocError>
         ensures made { Tells result (IsRound (M.answers machine.old))
-            self.old self.new }
+            (staged self.old trace.old) (staged self.new trace.new) }
         ensures keeps { M.answers machine.new ≡ M.answers machine.old }
     {
-        let sent = self.repeat(Event::ClientSends)?;
-        let raised = self.up_all()?;
-        let read = self.repeat(Event::ServerReads)?;
-        let worked = self.work(machine)?;
-        let lowered = self.down_all()?;
-        let heard = self.repeat(Event::ClientReads)?;
+        let sent = self.repeat(Event::ClientSends, trace)?;
+        let raised = self.up_all(trace)?;
+        let read = self.repeat(Event::ServerReads, trace)?;
+        let worked = self.work(machine, trace)?;
+        let lowered = self.down_all(trace)?;
+        let heard = self.repeat(Event::ClientReads, trace)?;
         Ok(sent | raised | read | worked | lowered | heard)
     }
 
@@ -73,25 +82,30 @@ impl World {
         &mut self,
         count: u32,
         machine: &mut M,
+        trace: &mut Trace,
     ) -> Result<(), AllocError>
         ensures made { PlaysPart result (AreCounted (M.answers machine.old) count)
-            self.old self.new }
+            (staged self.old trace.old) (staged self.new trace.new) }
         ensures keeps { M.answers machine.new ≡ M.answers machine.old }
     {
         for _round in 0..count {
-            self.quiet_round(machine)?;
+            self.quiet_round(machine, trace)?;
         }
         Ok(())
     }
 
     /// Quiet rounds until one does nothing, at most `ROUNDS_MAX`. Fails only if out of memory.
-    pub(crate) fn quiet<M: Machine>(&mut self, machine: &mut M) -> Result<(), AllocError>
+    pub(crate) fn quiet<M: Machine>(
+        &mut self,
+        machine: &mut M,
+        trace: &mut Trace,
+    ) -> Result<(), AllocError>
         ensures made { PlaysPart result (AreQuiet (M.answers machine.old))
-            self.old self.new }
+            (staged self.old trace.old) (staged self.new trace.new) }
         ensures keeps { M.answers machine.new ≡ M.answers machine.old }
     {
         for _round in 0..ROUNDS_MAX {
-            if !self.quiet_round(machine)? {
+            if !self.quiet_round(machine, trace)? {
                 return Ok(());
             }
         }

@@ -17,7 +17,6 @@ ghost use Rattle.link_world.specs.Finishing.{IsSameKind};
 
 use crate::worlds::connection::Connection;
 use crate::worlds::faults::{NewFault, WorldFault};
-use crate::worlds::traces::Trace;
 use client_core::{Client, State};
 use contact_ledger::{Act, Feature, FeatureLedger, ServerLedger};
 use dmis_program::Program;
@@ -40,7 +39,6 @@ pub struct World {
     pub(crate) server: Server,
     pub(crate) connections: Vec<Connection>,
     pub(crate) written: Vec<u8>,
-    pub(crate) trace: Trace,
 }
 
 /// How many events of a list happened, could not happen, and ran out of memory.
@@ -88,7 +86,6 @@ impl World {
                     server,
                     connections: Vec::new(alloc),
                     written: Vec::new(alloc),
-                    trace: Trace::silent(alloc),
                 }),
                 Err(AllocError) => Err(NewFault::Memory),
             },
@@ -125,22 +122,6 @@ impl World {
         }
     }
 
-    /// An event happens, if it can, and what it wrote is kept, if that is asked for.
-    fn happen_traced(&mut self, event: Event) -> Result<(), WorldFault>
-        ensures can { HappensIf result (can event self.old.world) }
-        ensures takes { IsErrOf result WorldFault.Memory → takes_memory event ≡ true }
-        ensures world { Leads result self.old self.new
-            (with_world self.old (happens event self.old.world)) }
-    {
-        if !self.trace.is_on() {
-            return self.happen(event);
-        }
-        let before = self.standing();
-        self.happen(event)?;
-        self.note(&event, &before);
-        Ok(())
-    }
-
     /// An event happens, if it can. `NotNow` exactly if it cannot; `Memory` only if it can; neither changes anything. Taking or leaving a
     /// connection and beginning again do not allocate.
     ///
@@ -155,7 +136,7 @@ impl World {
             (with_world self.old (happens event self.old.world)) }
         ensures fixed { IsSameKind self.old self.new }
     {
-        let done = self.happen_traced(event);
+        let done = self.happen(event);
         let _known = &self.alloc;
         done
     }

@@ -1,10 +1,10 @@
 use Rattle.std.proofs.Common.{◌≡◌, take, false, None}
-use Rattle.link_world.specs.Parts.{Makes}
+use Rattle.link_world.specs.Parts.{Makes, staged}
 use Rattle.link_world.specs.Schedules.{ArePlayed}
 use Rattle.link_world.proofs.worlds.world.World.follow_all.Given as goal
 
 abbrev pub invariant-loop-instruction : goal.invariant-loop-instruction
 invariant-loop-instruction g l =
     (Makes (ArePlayed (g.M.Machine.answers l.fn.machine) (take l.instruction-index l.instructions)) false None
-    l.fn.self l.self)
+    (staged l.fn.self l.fn.trace) (staged l.self l.trace))
     × (g.M.Machine.answers l.machine ≡ g.M.Machine.answers l.fn.machine)

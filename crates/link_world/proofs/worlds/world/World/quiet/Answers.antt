@@ -2,48 +2,49 @@ use Rattle.std.proofs.Common.{rules, arith, false, true, None, Some, refl, ◌�
 use Rattle.link_world.specs.Schedules.{AreQuiet, rounds_most}
 use Rattle.link_world.proofs.RoundLists.{none_yet, round_more, quiet_whole, quiet_stops, quiet_cut, round_as, many_at}
 use Rattle.link_world.proofs.Thens.{part_cut}
+use Rattle.link_world.specs.Parts.{staged}
 use Rattle.link_world.proofs.worlds.world.World.quiet.Goals as goal
 
 pub loop-round-init : goal.loop-round-init
-loop-round-init g c = ((none_yet (g.M.Machine.answers c.args.machine.now) true c.args.self.now), refl)
+loop-round-init g c = ((none_yet (g.M.Machine.answers c.args.machine.now) true (staged c.args.self.now c.args.trace.now)), refl)
 
 pub loop-round-preserved : goal.loop-round-preserved
 loop-round-preserved g c = (
   round_more (g.M.Machine.answers c.args.machine.now) true c.loop-round._round c.in_ok-quiet_round.field-0
-      c.args.self.now c.loop-round.self c.quiet_round.new.self (c.loop-round.invariant.0)
+      (staged c.args.self.now c.args.trace.now) (staged c.loop-round.self c.loop-round.trace) (staged c.quiet_round.new.self c.quiet_round.new.trace) (c.loop-round.invariant.0)
       (round_as (g.M.Machine.answers c.loop-round.machine) (g.M.Machine.answers c.args.machine.now) false
-      (Some c.in_ok-quiet_round.field-0) c.loop-round.self c.quiet_round.new.self c.loop-round.invariant.1
+      (Some c.in_ok-quiet_round.field-0) (staged c.loop-round.self c.loop-round.trace) (staged c.quiet_round.new.self c.quiet_round.new.trace) c.loop-round.invariant.1
       (c.in_ok-quiet_round.ensures.made)) (λ e. search rules),
   c.quiet_round.ensures.keeps ∙ c.loop-round.invariant.1,
 )
 
 pub returns-in_err-quiet_round-clause-made : goal.returns-in_err-quiet_round-clause-made
 returns-in_err-quiet_round-clause-made g c = part_cut c.from_residual.result
-    (AreQuiet (g.M.Machine.answers c.args.machine.now)) c.args.self.now c.quiet_round.new.self
+    (AreQuiet (g.M.Machine.answers c.args.machine.now)) (staged c.args.self.now c.args.trace.now) (staged c.quiet_round.new.self c.quiet_round.new.trace)
     c.from_residual.ensures.0
     (quiet_cut (g.M.Machine.answers c.args.machine.now) c.loop-round._round
-    c.args.self.now c.loop-round.self c.quiet_round.new.self (c.loop-round.invariant.0) c.loop-round-test.true
+    (staged c.args.self.now c.args.trace.now) (staged c.loop-round.self c.loop-round.trace) (staged c.quiet_round.new.self c.quiet_round.new.trace) (c.loop-round.invariant.0) c.loop-round-test.true
     (round_as (g.M.Machine.answers c.loop-round.machine) (g.M.Machine.answers c.args.machine.now) true None
-    c.loop-round.self c.quiet_round.new.self c.loop-round.invariant.1 (c.in_err-quiet_round.ensures.made)))
+    (staged c.loop-round.self c.loop-round.trace) (staged c.quiet_round.new.self c.quiet_round.new.trace) c.loop-round.invariant.1 (c.in_err-quiet_round.ensures.made)))
 
 pub returns-in_err-quiet_round-clause-keeps : goal.returns-in_err-quiet_round-clause-keeps
 returns-in_err-quiet_round-clause-keeps g c = c.quiet_round.ensures.keeps ∙ c.loop-round.invariant.1
 
 pub returns-then-not-branch-clause-made : goal.returns-then-not-branch-clause-made
 returns-then-not-branch-clause-made g c = quiet_stops (g.M.Machine.answers c.args.machine.now) c.loop-round._round
-    c.in_ok-quiet_round.field-0 c.args.self.now c.loop-round.self c.quiet_round.new.self (c.loop-round.invariant.0)
+    c.in_ok-quiet_round.field-0 (staged c.args.self.now c.args.trace.now) (staged c.loop-round.self c.loop-round.trace) (staged c.quiet_round.new.self c.quiet_round.new.trace) (c.loop-round.invariant.0)
     c.loop-round-test.true
     (round_as (g.M.Machine.answers c.loop-round.machine) (g.M.Machine.answers c.args.machine.now) false
-    (Some c.in_ok-quiet_round.field-0) c.loop-round.self c.quiet_round.new.self c.loop-round.invariant.1
+    (Some c.in_ok-quiet_round.field-0) (staged c.loop-round.self c.loop-round.trace) (staged c.quiet_round.new.self c.quiet_round.new.trace) c.loop-round.invariant.1
     (c.in_ok-quiet_round.ensures.made)) (search rules)
 
 pub returns-then-not-branch-clause-keeps : goal.returns-then-not-branch-clause-keeps
 returns-then-not-branch-clause-keeps g c = c.quiet_round.ensures.keeps ∙ c.loop-round.invariant.1
 
 pub returns-clause-made : goal.returns-clause-made
-returns-clause-made g c = quiet_whole (g.M.Machine.answers c.args.machine.now) c.args.self.now
-    c.loop-round.self (many_at (g.M.Machine.answers c.args.machine.now) true c.loop-round._round rounds_most
-    c.args.self.now c.loop-round.self (omega (arith, c.loop-round-test.false, c.loop-round.auto)) (c.loop-round.invariant.0))
+returns-clause-made g c = quiet_whole (g.M.Machine.answers c.args.machine.now) (staged c.args.self.now c.args.trace.now)
+    (staged c.loop-round.self c.loop-round.trace) (many_at (g.M.Machine.answers c.args.machine.now) true c.loop-round._round rounds_most
+    (staged c.args.self.now c.args.trace.now) (staged c.loop-round.self c.loop-round.trace) (omega (arith, c.loop-round-test.false, c.loop-round.auto)) (c.loop-round.invariant.0))
 
 pub returns-clause-keeps : goal.returns-clause-keeps
 returns-clause-keeps g c = c.loop-round.invariant.1

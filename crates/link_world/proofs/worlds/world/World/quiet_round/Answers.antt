@@ -1,25 +1,25 @@
 use Rattle.std.proofs.Common.{true, false, None, Some, Bool, subst}
 use Rattle.protocol_model.specs.Rounds.{IsRound}
-use Rattle.link_world.specs.Parts.{Makes}
+use Rattle.link_world.specs.Parts.{Makes, staged}
 use Rattle.link_world.proofs.Thens.{then_more, then_cut, tells_cut, any_of_six}
 use Rattle.link_world.proofs.worlds.world.World.quiet_round.Goals as goal
 
 pub returns-in_err-raised-clause-made : goal.returns-in_err-raised-clause-made
 returns-in_err-raised-clause-made g c = tells_cut c.from_residual-in_err-raised.result
-    (IsRound (g.M.Machine.answers c.args.machine.now)) c.args.self.now c.up_all.new.self
+    (IsRound (g.M.Machine.answers c.args.machine.now)) (staged c.args.self.now c.args.trace.now) (staged c.up_all.new.self c.up_all.new.trace)
     c.from_residual-in_err-raised.ensures.0 (then_more _ _ true _ None _ _ _ (c.in_ok-sent.ensures)
     (then_cut _ _ _ _ (c.in_err-raised.ensures)))
 
 pub returns-in_err-read-clause-made : goal.returns-in_err-read-clause-made
 returns-in_err-read-clause-made g c = tells_cut c.from_residual-in_err-read.result
-    (IsRound (g.M.Machine.answers c.args.machine.now)) c.args.self.now c.repeat-2.new.self
+    (IsRound (g.M.Machine.answers c.args.machine.now)) (staged c.args.self.now c.args.trace.now) (staged c.repeat-2.new.self c.repeat-2.new.trace)
     c.from_residual-in_err-read.ensures.0 (then_more _ _ true _ None _ _ _ (c.in_ok-sent.ensures)
     (then_more _ _ true _ None _ _ _ (c.in_ok-raised.ensures)
     (then_cut _ _ _ _ (c.in_err-read.ensures))))
 
 pub returns-in_err-worked-clause-made : goal.returns-in_err-worked-clause-made
 returns-in_err-worked-clause-made g c = tells_cut c.from_residual-in_err-worked.result
-    (IsRound (g.M.Machine.answers c.args.machine.now)) c.args.self.now c.work.new.self
+    (IsRound (g.M.Machine.answers c.args.machine.now)) (staged c.args.self.now c.args.trace.now) (staged c.work.new.self c.work.new.trace)
     c.from_residual-in_err-worked.ensures.0 (then_more _ _ true _ None _ _ _ (c.in_ok-sent.ensures)
     (then_more _ _ true _ None _ _ _ (c.in_ok-raised.ensures)
     (then_more _ _ true _ None _ _ _ (c.in_ok-read.ensures)
@@ -27,7 +27,7 @@ returns-in_err-worked-clause-made g c = tells_cut c.from_residual-in_err-worked.
 
 pub returns-in_err-lowered-clause-made : goal.returns-in_err-lowered-clause-made
 returns-in_err-lowered-clause-made g c = tells_cut c.from_residual-in_err-lowered.result
-    (IsRound (g.M.Machine.answers c.args.machine.now)) c.args.self.now c.down_all.new.self
+    (IsRound (g.M.Machine.answers c.args.machine.now)) (staged c.args.self.now c.args.trace.now) (staged c.down_all.new.self c.down_all.new.trace)
     c.from_residual-in_err-lowered.ensures.0 (then_more _ _ true _ None _ _ _ (c.in_ok-sent.ensures)
     (then_more _ _ true _ None _ _ _ (c.in_ok-raised.ensures)
     (then_more _ _ true _ None _ _ _ (c.in_ok-read.ensures)
@@ -36,7 +36,7 @@ returns-in_err-lowered-clause-made g c = tells_cut c.from_residual-in_err-lowere
 
 pub returns-in_err-heard-clause-made : goal.returns-in_err-heard-clause-made
 returns-in_err-heard-clause-made g c = tells_cut c.from_residual-in_err-heard.result
-    (IsRound (g.M.Machine.answers c.args.machine.now)) c.args.self.now c.repeat-3.new.self
+    (IsRound (g.M.Machine.answers c.args.machine.now)) (staged c.args.self.now c.args.trace.now) (staged c.repeat-3.new.self c.repeat-3.new.trace)
     c.from_residual-in_err-heard.ensures.0 (then_more _ _ true _ None _ _ _ (c.in_ok-sent.ensures)
     (then_more _ _ true _ None _ _ _ (c.in_ok-raised.ensures)
     (then_more _ _ true _ None _ _ _ (c.in_ok-read.ensures)
@@ -46,7 +46,7 @@ returns-in_err-heard-clause-made g c = tells_cut c.from_residual-in_err-heard.re
 
 pub returns-clause-made : goal.returns-clause-made
 returns-clause-made g c = subst (λ (b : Bool).
-    Makes (IsRound (g.M.Machine.answers c.args.machine.now)) false (Some b) c.args.self.now c.repeat-3.new.self)
+    Makes (IsRound (g.M.Machine.answers c.args.machine.now)) false (Some b) (staged c.args.self.now c.args.trace.now) (staged c.repeat-3.new.self c.repeat-3.new.trace))
     (any_of_six c.in_ok-sent.sent c.in_ok-raised.raised c.in_ok-read.read
     c.in_ok-worked.worked c.in_ok-lowered.lowered c.in_ok-heard.heard)
     (then_more _ _ false _ _ _ _ _ (c.in_ok-sent.ensures)

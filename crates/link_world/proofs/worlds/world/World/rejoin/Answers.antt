@@ -1,7 +1,11 @@
 use Rattle.std.proofs.Common.{rules, ◌+◌}
-use Rattle.link_world.proofs.Rejoining.{joins_all, joins_client, joins_server, joins_connect, next_at}
+use Rattle.link_world.proofs.Rejoining.{joins_all, joins_none, joins_client, joins_server, joins_connect, next_at}
 use Rattle.link_world.proofs.Turning.{on_err}
 use Rattle.link_world.proofs.worlds.world.World.rejoin.Goals as goal
+
+pub returns-in_err-attempt-clause-cut : goal.returns-in_err-attempt-clause-cut
+returns-in_err-attempt-clause-cut c = on_err c.from_residual.result _ (joins_none c.args.self.now c.attempt.new.self
+    c.in_err-attempt.ensures.err)
 
 pub returns-in_err-attempt-2-clause-cut : goal.returns-in_err-attempt-2-clause-cut
 returns-in_err-attempt-2-clause-cut c = on_err c.from_residual-in_err-attempt-2.result _ (joins_client c.args.self.now c.attempt.new.self c.attempt-2.new.self (c.in_ok-attempt.ensures.ok)

@@ -1,12 +1,13 @@
 use Rattle.std.proofs.Common.{arith, false, true, None, Some, refl, ◌∙◌, rules}
 use Rattle.protocol_model.specs.Client.{due}
+use Rattle.link_world.specs.Parts.{unwatched}
 use Rattle.link_world.proofs.RoundLists.{none_yet, round_more, turns_whole, turns_cut, round_as}
 use Rattle.link_world.proofs.Turning.{due_there, none_due, still_as, on_err}
 use Rattle.link_world.proofs.worlds.world.World.turns.Goals as goal
 
 pub loop-self-init : goal.loop-self-init
 loop-self-init g c = (
-  (none_yet (g.M.Machine.answers c.args.machine.now) true c.args.self.now),
+  (none_yet (g.M.Machine.answers c.args.machine.now) true (unwatched c.args.self.now)),
   refl,
   omega arith,
   λ none. absurd (due_there _ c.requires.due none),
@@ -15,9 +16,9 @@ loop-self-init g c = (
 pub loop-self-preserved : goal.loop-self-preserved
 loop-self-preserved g c = (
   round_more (g.M.Machine.answers c.args.machine.now) true c.loop-self.turns true
-      c.args.self.now c.loop-self.self c.turn.new.self (c.loop-self.invariant.0)
+      (unwatched c.args.self.now) (unwatched c.loop-self.self) (unwatched c.turn.new.self) (c.loop-self.invariant.0)
       (round_as (g.M.Machine.answers c.loop-self.machine) (g.M.Machine.answers c.args.machine.now) false
-      (Some true) c.loop-self.self c.turn.new.self c.loop-self.invariant.1
+      (Some true) (unwatched c.loop-self.self) (unwatched c.turn.new.self) c.loop-self.invariant.1
       (c.in_ok-turn.ensures.made)) (λ e. refl),
   c.turn.ensures.keeps ∙ c.loop-self.invariant.1,
   (let before = c.loop-self.invariant.2 in let less = c.in_ok-turn.ensures.fewer in omega (arith, before, less)),
@@ -26,12 +27,12 @@ loop-self-preserved g c = (
 )
 
 pub returns-in_err-turn-clause-cut : goal.returns-in_err-turn-clause-cut
-returns-in_err-turn-clause-cut g c = on_err c.from_residual.result _ (turns_cut (g.M.Machine.answers c.args.machine.now) c.loop-self.turns c.args.self.now c.loop-self.self c.turn.new.self
+returns-in_err-turn-clause-cut g c = on_err c.from_residual.result _ (turns_cut (g.M.Machine.answers c.args.machine.now) c.loop-self.turns (unwatched c.args.self.now) (unwatched c.loop-self.self) (unwatched c.turn.new.self)
     (c.loop-self.invariant.0)
-    (round_as (g.M.Machine.answers c.loop-self.machine) (g.M.Machine.answers c.args.machine.now) true None c.loop-self.self
-    c.turn.new.self c.loop-self.invariant.1 (c.in_err-turn.ensures.cut)))
+    (round_as (g.M.Machine.answers c.loop-self.machine) (g.M.Machine.answers c.args.machine.now) true None (unwatched c.loop-self.self)
+    (unwatched c.turn.new.self) c.loop-self.invariant.1 (c.in_err-turn.ensures.cut)))
 
 pub returns-clause-made : goal.returns-clause-made
-returns-clause-made g c = turns_whole (g.M.Machine.answers c.args.machine.now) c.loop-self.turns c.args.self.now
-    c.loop-self.self (c.loop-self.invariant.0)
+returns-clause-made g c = turns_whole (g.M.Machine.answers c.args.machine.now) c.loop-self.turns (unwatched c.args.self.now)
+    (unwatched c.loop-self.self) (c.loop-self.invariant.0)
     (c.loop-self.invariant.3 (none_due (due c.loop-self.self.world.client.client) (search rules)))

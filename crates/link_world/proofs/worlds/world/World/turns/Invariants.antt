@@ -1,14 +1,14 @@
 use Rattle.std.proofs.Common.{◌≡◌, ◌+◌, ◌≤◌, true, false, None, []}
 use Rattle.protocol_model.specs.Client.{due}
 use Rattle.protocol_model.specs.Rounds.{IsRound}
-use Rattle.link_world.specs.Parts.{Makes}
+use Rattle.link_world.specs.Parts.{Makes, unwatched}
 use Rattle.link_world.proofs.RoundLists.{SoMany}
 use Rattle.link_world.proofs.Unsent.{unsent}
 use Rattle.link_world.proofs.worlds.world.World.turns.Given as goal
 
 abbrev pub invariant-loop-self : goal.invariant-loop-self
 invariant-loop-self g l =
-    (Makes (SoMany (g.M.Machine.answers l.fn.machine) true l.turns) false None l.fn.self l.self)
+    (Makes (SoMany (g.M.Machine.answers l.fn.machine) true l.turns) false None (unwatched l.fn.self) (unwatched l.self))
     × (g.M.Machine.answers l.machine ≡ g.M.Machine.answers l.fn.machine)
     × (l.turns + unsent l.self.world ≤ unsent l.fn.self.world)
     × (due l.self.world.client.client ≡ None → IsRound (g.M.Machine.answers l.fn.machine) false l.self.world [])
