@@ -5,3 +5,5 @@ pub mod PlaceLemmas
 pub mod Searches
 pub mod BlockLemmas
 pub mod ReasonLemmas
+pub mod ArgumentLemmas
+pub mod NumeralLemmas

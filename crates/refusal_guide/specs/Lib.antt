@@ -7,9 +7,12 @@ pub mod Spots
 pub mod Blocks
 pub mod Sentences
 pub mod BadBytes
+pub mod BadNames
 pub mod Reasons
 pub mod Passages
 pub mod Places
 pub mod Lengths
+pub mod Numerals
+pub mod Arguments
 pub mod Strangers
 pub mod Examples

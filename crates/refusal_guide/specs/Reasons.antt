@@ -1,6 +1,6 @@
 -- Which sentence belongs to which refusal of a program, and which word it is about (this profile): a table. `text` is the text, `rest` its bytes
 -- from the refused line on, `number` the number of that line, and `above` how many lines are above the text.
-use Rattle.std.specs.Prelude.{◌≡◌, ℕ, ⊤, List, [], ◌∷◌, length, Option, Some, None, IfSome, slice_get}
+use Rattle.std.specs.Prelude.{◌≡◌, ℕ, List, [], ◌∷◌, length, Option, Some, None, IfSome, slice_get}
 use Rattle.std.specs.Str.Lines.{lines}
 use Rattle.dmis_text.specs.Reading.{text_reading}
 use Rattle.dmis_text.specs.declared.elements.Statement.{Statement}
@@ -11,6 +11,8 @@ use Rattle.refusal_guide.specs.declared.lines.Place.{Place}
 use Rattle.refusal_guide.specs.Words.{Said}
 use Rattle.refusal_guide.specs.BadBytes.{IsByteReason}
 use Rattle.refusal_guide.specs.Sentences as said
+use Rattle.refusal_guide.specs.Numerals.{bad_numeral_said}
+use Rattle.refusal_guide.specs.Arguments.{argument_said}
 
 -- what the sentences on a program are made of
 pub record Spot : Type 0 where
@@ -38,8 +40,8 @@ IsOfStatement refusal.Truncated p s o = o ≡ said.truncated_said p.text
 IsOfStatement refusal.LineTooLong p s o = o ≡ Some (long_line p)
 IsOfStatement refusal.BadByte p s o = IsByteReason p.text p.rest o
 IsOfStatement refusal.Unsupported p s o = o ≡ Some (said.unsupported_said p.rest s)
-IsOfStatement refusal.BadArguments p s o = ⊤
-IsOfStatement (refusal.BadNumeral cause) p s o = ⊤
+IsOfStatement refusal.BadArguments p s o = o ≡ argument_said p.rest s
+IsOfStatement (refusal.BadNumeral cause) p s o = o ≡ bad_numeral_said p.rest s
 IsOfStatement refusal.OutsideBlock p s o = o ≡ Some (said.outside_said p.rest s)
 IsOfStatement refusal.InsideBlock p s o = o ≡ said.inside_block_said p.text p.rest p.number p.above s
 IsOfStatement refusal.TooFewPoints p s o = o ≡ said.too_few_points_said p.text p.rest p.number p.above s

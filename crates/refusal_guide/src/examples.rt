@@ -9,7 +9,11 @@ ghost use Rattle.refusal_guide.specs.Blocks.{open_block};
 ghost use Rattle.refusal_guide.specs.BadBytes.{has_bad_byte, near, line_bytes};
 ghost use Rattle.refusal_guide.specs.Sentences as said;
 ghost use Rattle.refusal_guide.specs.Places.{place_text};
-ghost use Rattle.refusal_guide.specs.Examples.{going, labelled, ending, one_of_two};
+ghost use Rattle.refusal_guide.specs.BadNames.{not_name_text, name_said};
+ghost use Rattle.refusal_guide.specs.Numerals.{digits_before, digits_text, limit_text, not_numeral_text, leftmost, bad_numeral_said};
+ghost use Rattle.refusal_guide.specs.Arguments.{count_text, last_text, argument_said};
+ghost use Rattle.refusal_guide.specs.declared.numerals.Measure.TheVariants.{Length, Component};
+ghost use Rattle.refusal_guide.specs.Examples.{going, labelled, ending, one_of_two, unlabelled, moving, gap, measuring};
 
 /// A text is shown from the line of a number on, from its last line on if it has fewer.
 pub fn lines_are_counted_from_one()
@@ -149,6 +153,121 @@ pub fn refusals_have_their_sentences()
       at = 9;
       len = 1;
     } }
+{}
+
+/// A name has 1 to 64 bytes, each of which can be in one.
+pub fn texts_that_are_not_names()
+    ensures name { name_said (codes "A") (record { bytes = codes "a"; at = Some 2 }) ≡ None }
+    ensures empty { name_said [] (record { bytes = []; at = Some 2 }) ≡ Some (record {
+      text = codes "There is no name between the parentheses.";
+      at = 2;
+      len = 0;
+    }) }
+    ensures long { not_name_text (record { bytes = replicate 65 65; at = None })
+        ≡ replicate 65 65 ++ (codes " is not a name: it has " ++ (decimal 65
+        ++ codes " bytes, and a name has at most 64.")) }
+    ensures longest { name_said (replicate 64 65) (record { bytes = []; at = None }) ≡ None }
+    ensures space { not_name_text (record { bytes = codes "A B"; at = None })
+        ≡ codes "A B is not a name: a space is not allowed in one." }
+    ensures leftmost { not_name_text (record { bytes = codes "A)("; at = None })
+        ≡ codes "A)( is not a name: ) is not allowed in one." }
+{}
+
+/// Of the numerals of a statement the leftmost that does not read is named. The first three are lengths, the others components.
+pub fn numerals_that_do_not_read()
+    ensures length { leftmost (codes "1" ∷ codes "1001" ∷ codes "x" ∷ codes "y" ∷ [])
+        ≡ Some (2, Length) }
+    ensures component { leftmost (codes "1" ∷ codes "2" ∷ codes "3" ∷ codes "1" ∷ codes "1001" ∷ [])
+        ≡ Some (4, Component) }
+    ensures none { leftmost (codes "1" ∷ codes "2" ∷ codes "3" ∷ []) ≡ None }
+    ensures after_cart { bad_numeral_said (codes "GOTO/CART,1,x,y") moving ≡ Some (record {
+      text = not_numeral_text (record { bytes = codes "x"; at = None });
+      at = 12;
+      len = 1;
+    }) }
+    ensures empty { bad_numeral_said (codes "GOTO/1,,3") gap ≡ Some (record {
+      text = (codes "Parameter " ++ (decimal 2 ++ codes " of "))
+          ++ codes "GOTO is empty, and a numeral is expected.";
+      at = 6;
+      len = 0;
+    }) }
+    ensures not_numeral { not_numeral_text (record { bytes = codes "x"; at = None })
+        ≡ codes "x is not a numeral: a numeral has digits with at most one point, and optionally a sign and an exponent of one to three digits." }
+    ensures digits { digits_before (codes "-12.5E34") ≡ 3 }
+    ensures many { digits_text (record { bytes = codes "1.5e7"; at = None })
+        ≡ codes "The numeral 1.5e7 has " ++ (decimal 2
+        ++ codes " digits before its exponent, and at most 30 are read.") }
+    ensures limit { limit_text Length (record { bytes = codes "1e9"; at = None })
+        ≡ codes "The numeral 1e9, rounded to micrometres, is beyond the limit of 1000000 millimetres." }
+    ensures limit_of_component { limit_text Component (record { bytes = codes "1e9"; at = None })
+        ≡ codes "The numeral 1e9, rounded to millionths, is beyond the limit of 1000 for a component of a direction." }
+{}
+
+/// What does not fit in the parameters of a statement.
+#[tactic(auto, unfolding(crate::specs::Sentences::within_ends))]
+pub fn parameters_that_do_not_fit()
+    ensures one { count_text 0 1 (codes "3") ≡ codes " has " ++ (decimal 1
+        ++ codes " parameter, and takes 3.") }
+    ensures after_cart { count_text 1 2 (codes "3") ≡ codes " has " ++ (decimal 2
+        ++ codes " parameters after CART, and takes 3.") }
+    ensures counted { argument_said (codes "GOTO/1,1,1") going ≡ Some (record {
+      text = codes "GOTO" ++ count_text 0 3 (codes "3");
+      at = 0;
+      len = 4;
+    }) }
+    ensures feature { argument_said (codes "MEAS/POINT,F(A B),x") measuring ≡ Some (record {
+      text = codes "A B is not a name: a space is not allowed in one.";
+      at = 13;
+      len = 3;
+    }) }
+    ensures kind { argument_said (codes "MEAS/1,A,x") (unlabelled (codes "MEAS")
+        (codes "1" ∷ codes "A" ∷ codes "x" ∷ [])) ≡ Some (record {
+          text = codes "1 is not a kind: a kind is a word of letters.";
+          at = 5;
+          len = 1;
+        }) }
+    ensures touches { argument_said (codes "MEAS/P,F(A),x") (unlabelled (codes "MEAS")
+        (codes "P" ∷ codes "F(A)" ∷ codes "x" ∷ [])) ≡ Some (record {
+          text = codes "x is not a count of touches from 1 to 10000.";
+          at = 12;
+          len = 1;
+        }) }
+    ensures cart { argument_said (codes "PTMEAS/1") (unlabelled (codes "PTMEAS") (codes "1" ∷ []))
+        ≡ Some (record {
+          text = codes "1 is not CART, which comes first in PTMEAS.";
+          at = 7;
+          len = 1;
+        }) }
+    ensures tool { argument_said (codes "SNSLCT/A") (unlabelled (codes "SNSLCT") (codes "A" ∷ []))
+        ≡ Some (record {
+          text = codes "A is not S(name) or SA(name).";
+          at = 7;
+          len = 1;
+        }) }
+    ensures frame { argument_said (codes "RECALL/D(A") (unlabelled (codes "RECALL")
+        (codes "D(A" ∷ [])) ≡ Some (record {
+          text = codes "D(A is not D(name).";
+          at = 7;
+          len = 3;
+        }) }
+    ensures open { argument_said (codes "TEXT/B,'A") (unlabelled (codes "TEXT")
+        (codes "B" ∷ codes "'A" ∷ [])) ≡ Some (record {
+          text = codes "The text 'A is not closed by an apostrophe.";
+          at = 7;
+          len = 2;
+        }) }
+    ensures last { last_text (codes "'a''b") ≡ codes "'b" }
+    ensures label { argument_said (codes "A=GOTO/1") (record {
+      line = 1;
+      label = Some (codes "A");
+      word = codes "GOTO";
+      params = codes "1" ∷ [];
+    }) ≡ Some (record {
+      text = codes "The label A comes before GOTO: of the statements that are read, only FEAT, TOL and SNSDEF have labels.";
+      at = 0;
+      len = 1;
+    }) }
+    ensures any { argument_said (codes "FEAT=FEAT/1") labelled ≡ None }
 {}
 
 /// A byte is not allowed if the text up to it is not read.

@@ -1,9 +1,12 @@
 // Which numeral does not read, and why.
 
-ghost use Rattle.std.specs.Prelude.{◌≡◌, ◌<◌, ◌∷◌, [], length, IfSome};
+ghost use Rattle.std.specs.Prelude.{◌≡◌, ◌<◌, ◌∷◌, [], length, IfOk, IfSome, string_bytes};
 ghost use Rattle.std.specs.List.{position, find};
 ghost use Rattle.std.specs.Option.{option_map};
+ghost use Rattle.refusal_guide.specs.Words.{between, named_by, said_by};
 ghost use Rattle.refusal_guide.specs.Lengths.{length_fault, is_no_length};
+ghost use Rattle.refusal_guide.specs.Numerals.{component_fault, is_no_component, measure_fault, is_exponent, digits_before};
+ghost use Rattle.refusal_guide.specs.Numerals.{digits_text, limit_cause, limit_text, numeral_text, numeral_said};
 
 use crate::words::{Reason, Word};
 use dmis_text::Text;
@@ -18,7 +21,7 @@ pub(crate) enum Measure {
 }
 
 /// Why a text is not read as a length within the machine's volume; none if it is.
-pub(crate) fn length_fault(text: &[u8]) -> Option<NumeralFault>
+fn length_fault(text: &[u8]) -> Option<NumeralFault>
     ensures { result ≡ length_fault text.now }
 {
     match read_um(text, Um::volume_limit()) {
@@ -35,10 +38,29 @@ fn is_no_length(text: &[u8]) -> bool
 }
 
 /// Why a text is not read as a component of a direction; none if it is.
-pub(crate) fn component_fault(text: &[u8]) -> Option<NumeralFault> {
+fn component_fault(text: &[u8]) -> Option<NumeralFault>
+    ensures { result ≡ component_fault text.now }
+{
     match read_dir(text, b"0", b"0") {
         Ok(_) => None,
         Err(fault) => Some(fault),
+    }
+}
+
+/// Whether a text is not read as a component of a direction.
+fn is_no_component(text: &[u8]) -> bool
+    ensures { result ≡ is_no_component text.now }
+{
+    component_fault(text).is_some()
+}
+
+/// Why a text is not read as what it should be; none if it is.
+pub(crate) fn measure_fault(text: &[u8], measure: Measure) -> Option<NumeralFault>
+    ensures { result ≡ measure_fault measure text.now }
+{
+    match measure {
+        Measure::Length => length_fault(text),
+        Measure::Component => component_fault(text),
     }
 }
 
@@ -52,9 +74,10 @@ pub(crate) fn leftmost_length(params: &[Text]) -> Option<usize>
 
 /// The number of the leftmost parameter that is not read as a component of a direction.
 pub(crate) fn leftmost_component(params: &[Text]) -> Option<usize>
-    ensures { IfSome result (λ index. index < length params.now) }
+    ensures leftmost { result ≡ position is_no_component params.now }
+    ensures within { IfSome result (λ index. index < length params.now) }
 {
-    params.iter().position(|p| component_fault(p).is_some())
+    params.iter().position(|p| is_no_component(p))
 }
 
 /// The leftmost of three fields that is not read as a length; none if all are.
@@ -75,12 +98,16 @@ fn leftmost_field<'a>(x: &'a [u8], y: &'a [u8], z: &'a [u8]) -> Option<&'a [u8]>
 }
 
 /// Whether an exponent begins at the byte.
-fn is_exponent(byte: u8) -> bool {
+fn is_exponent(byte: u8) -> bool
+    ensures { result ≡ is_exponent byte }
+{
     byte == b'E' || byte == b'e'
 }
 
 /// How many digits precede an exponent.
-fn count_digits(numeral: &[u8]) -> usize {
+fn count_digits(numeral: &[u8]) -> usize
+    ensures { result ≡ digits_before numeral.now }
+{
     numeral
         .iter()
         .take_while(|b| !is_exponent(**b))
@@ -89,12 +116,26 @@ fn count_digits(numeral: &[u8]) -> usize {
 }
 
 /// That a numeral has too many digits.
-fn digits_sentence(alloc: Global, numeral: Word) -> Result<String, AllocError> {
+fn digits_sentence(alloc: Global, numeral: Word) -> Result<String, AllocError>
+    ensures { IfOk result (λ text. string_bytes text ≡ digits_text (named_by numeral.entry)) }
+{
     let count = count_digits(numeral.bytes);
     let behind = format!(in alloc;
         " has {count} digits before its exponent, and at most 30 are read."
     )?;
     numeral.between(alloc, "The numeral ", &behind)
+}
+
+/// Which limit a numeral is past.
+fn limit_cause(measure: Measure) -> &'static str
+    ensures { result.now ≡ limit_cause measure }
+{
+    match measure {
+        Measure::Length => ", rounded to micrometres, is beyond the limit of 1000000 millimetres.",
+        Measure::Component => {
+            ", rounded to millionths, is beyond the limit of 1000 for a component of a direction."
+        }
+    }
 }
 
 /// Why a numeral does not read, in a sentence that names it.
@@ -103,24 +144,18 @@ fn numeral_sentence(
     numeral: Word,
     fault: NumeralFault,
     measure: Measure,
-) -> Result<String, AllocError> {
-    match (fault, measure) {
-        (NumeralFault::NotNumeral, _) => numeral.between(
+) -> Result<String, AllocError>
+    ensures { IfOk result (λ text. string_bytes text
+        ≡ numeral_text fault measure (named_by numeral.entry)) }
+{
+    match fault {
+        NumeralFault::NotNumeral => numeral.between(
             alloc,
             "",
             " is not a numeral: a numeral has digits with at most one point, and optionally a sign and an exponent of one to three digits.",
         ),
-        (NumeralFault::TooManyDigits, _) => digits_sentence(alloc, numeral),
-        (NumeralFault::TooLarge, Measure::Length) => numeral.between(
-            alloc,
-            "The numeral ",
-            ", rounded to micrometres, is beyond the limit of 1000000 millimetres.",
-        ),
-        (NumeralFault::TooLarge, Measure::Component) => numeral.between(
-            alloc,
-            "The numeral ",
-            ", rounded to millionths, is beyond the limit of 1000 for a component of a direction.",
-        ),
+        NumeralFault::TooManyDigits => digits_sentence(alloc, numeral),
+        NumeralFault::TooLarge => numeral.between(alloc, "The numeral ", limit_cause(measure)),
     }
 }
 
@@ -130,7 +165,10 @@ pub(crate) fn numeral_reason(
     numeral: Word,
     fault: NumeralFault,
     measure: Measure,
-) -> Result<Reason, AllocError> {
+) -> Result<Reason, AllocError>
+    ensures { IfOk result (λ reason. said_by reason
+        ≡ numeral_said fault measure (named_by numeral.entry)) }
+{
     let said = numeral_sentence(alloc, numeral, fault, measure)?;
     Ok(Reason::of_word(said, numeral))
 }

@@ -12,13 +12,16 @@ ghost use Rattle.refusal_guide.specs.Sentences.{outside_said, inside_said, frame
 ghost use Rattle.refusal_guide.specs.Reasons.{spot_at, spot_of, IsOfStatement, IsOfLine, IsOfPlace, IsProgramReason};
 ghost use Rattle.refusal_guide.specs.Sentences.{no_tool_said, too_large_said, automatic_text, few_text, touches_text, block_said, inside_block_said, too_few_points_said};
 ghost use Rattle.refusal_guide.specs.Blocks.{opened_by};
+ghost use Rattle.refusal_guide.specs.Numerals.{leftmost, empty_text, empty_said, fault_said, parameter_said, bad_numeral_said};
+ghost use Rattle.refusal_guide.specs.Arguments.{argument_said};
+ghost use Rattle.refusal_guide.specs.Spots.{word_spot};
 
 use crate::arguments::{argument_reason, count_before, within};
 use crate::bad_bytes::bad_byte;
 use crate::blocks::{Block, last_statement, open_block, open_line};
 use crate::lines::{Place, first_line};
 use crate::numerals::{
-    Measure, component_fault, leftmost_component, leftmost_length, length_fault, numeral_reason,
+    Measure, leftmost_component, leftmost_length, measure_fault, numeral_reason,
 };
 use crate::statements::{Found, first_statement};
 use crate::topics::Topic;
@@ -176,7 +179,9 @@ fn unsupported(alloc: Global, found: Found) -> Result<Reason, AllocError>
 }
 
 /// The number of the leftmost numeral that does not read, among the parameters after `CART`, and what it should be.
-fn leftmost(numerals: &[Text]) -> Option<(usize, Measure)> {
+fn leftmost(numerals: &[Text]) -> Option<(usize, Measure)>
+    ensures { result ≡ leftmost numerals.now }
+{
     let (lengths, components) = numerals.split_at(numerals.len().min(3));
     if let Some(index) = leftmost_length(lengths) {
         return Some((index, Measure::Length));
@@ -185,48 +190,71 @@ fn leftmost(numerals: &[Text]) -> Option<(usize, Measure)> {
     Some((index + 3, Measure::Component))
 }
 
-/// Why a numeral does not read as what it should be; none if it does.
-fn fault_of(numeral: &[u8], measure: Measure) -> Option<NumeralFault> {
-    match measure {
-        Measure::Length => length_fault(numeral),
-        Measure::Component => component_fault(numeral),
-    }
+/// That a parameter is empty where a numeral is expected; `number` counts parameters from 1.
+fn empty_sentence(alloc: Global, found: Found, number: usize) -> Result<String, AllocError>
+    ensures { IfOk result (λ text. string_bytes text
+        ≡ empty_text (word_spot found.entry.rest.now found.entry.statement.now) number) }
+{
+    let before = format!(in alloc; "Parameter {number} of ")?;
+    let word = found.word();
+    word.between(alloc, &before, " is empty, and a numeral is expected.")
 }
 
-/// That a parameter is empty where a numeral is expected; `number` counts parameters from 1.
+/// Likewise; the parameter is this word.
 fn empty_reason(
     alloc: Global,
     found: Found,
     number: usize,
     word: Word,
-) -> Result<Reason, AllocError> {
-    let before = format!(in alloc; "Parameter {number} of ")?;
-    let said = found
-        .word()
-        .between(alloc, &before, " is empty, and a numeral is expected.")?;
+) -> Result<Reason, AllocError>
+    ensures { IfOk result (λ reason. said_by reason ≡ empty_said found.entry.rest.now
+        found.entry.statement.now number (named_by word.entry)) }
+{
+    let said = empty_sentence(alloc, found, number)?;
     Ok(Reason::of_word(said, word))
 }
 
-/// Why the parameter of this number, counted from 0, is not a numeral; none if it is one.
+/// Why the parameter of this number, counted from 0, is not a numeral.
+fn fault_reason(
+    alloc: Global,
+    found: Found,
+    index: usize,
+    measure: Measure,
+    word: Word,
+    fault: NumeralFault,
+) -> Result<Reason, AllocError>
+    ensures { IfOk result (λ reason. said_by reason ≡ fault_said found.entry.rest.now
+        found.entry.statement.now index measure (named_by word.entry) fault) }
+{
+    if word.bytes.is_empty() {
+        return empty_reason(alloc, found, index.saturating_add(1), word);
+    }
+    numeral_reason(alloc, word, fault, measure)
+}
+
+/// Likewise; none if it is one.
 fn parameter_reason(
     alloc: Global,
     found: Found,
     index: usize,
-    numeral: &[u8],
     measure: Measure,
-) -> Result<Option<Reason>, AllocError> {
-    let Some(fault) = fault_of(numeral, measure) else {
+    numeral: &[u8],
+) -> Result<Option<Reason>, AllocError>
+    ensures { IfOk result (λ reason. option_map said_by reason ≡ parameter_said
+        found.entry.rest.now found.entry.statement.now index measure numeral.now) }
+{
+    let Some(fault) = measure_fault(numeral, measure) else {
         return Ok(None);
     };
     let word = found.in_param(index, numeral);
-    if word.bytes.is_empty() {
-        return Ok(Some(empty_reason(alloc, found, index.saturating_add(1), word)?));
-    }
-    Ok(Some(numeral_reason(alloc, word, fault, measure)?))
+    Ok(Some(fault_reason(alloc, found, index, measure, word, fault)?))
 }
 
 /// Which numeral does not read, and why.
-fn bad_numeral(alloc: Global, found: Found) -> Result<Option<Reason>, AllocError> {
+fn bad_numeral(alloc: Global, found: Found) -> Result<Option<Reason>, AllocError>
+    ensures { IfOk result (λ reason. option_map said_by reason
+        ≡ bad_numeral_said found.entry.rest.now found.entry.statement.now) }
+{
     let params: &[Text] = &found.statement.params;
     let before = count_before(params);
     let (_, numerals) = params.split_at(before);
@@ -234,7 +262,7 @@ fn bad_numeral(alloc: Global, found: Found) -> Result<Option<Reason>, AllocError
         return Ok(None);
     };
     match numerals.get(index) {
-        Some(numeral) => parameter_reason(alloc, found, before + index, numeral, measure),
+        Some(numeral) => parameter_reason(alloc, found, before + index, measure, numeral),
         None => Ok(None),
     }
 }

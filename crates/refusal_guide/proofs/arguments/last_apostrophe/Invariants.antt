@@ -1,5 +1,13 @@
-use Rattle.std.proofs.Common.{◌≤◌, length}
+use Rattle.std.proofs.Common.{◌≡◌, ℕ, ◌<◌, ◌≤◌, ◌≢◌, length}
+use Rattle.std.specs.Prelude.{slice_index}
 use Rattle.refusal_guide.proofs.arguments.last_apostrophe.Given as goal
 
-abbrev pub invariant-loop-at : goal.invariant-loop-at
-invariant-loop-at l = l.last ≤ length l.text
+-- the bytes from `end` on are no apostrophes
+abbrev pub invariant-loop-end : goal.invariant-loop-end
+invariant-loop-end l = record {
+  within : l.end ≤ length l.text;
+  none : (k : ℕ) → l.end ≤ k → k < length l.text → slice_index l.text k ≢ 39;
+}
+
+abbrev pub decreases-loop-end : goal.decreases-loop-end
+decreases-loop-end l = l.end
