@@ -1,3 +1,4 @@
+pub mod LinesShown
 pub mod LoopingLemmas
 pub mod NumberedLines
 pub mod OrderLemmas

@@ -11,7 +11,7 @@ ghost use Rattle.link_world.specs.Schedules.{Plays};
 ghost use Rattle.dme_orders.specs.Input.{ReadsSimulation, WhyNoSimulation};
 ghost use Rattle.dme_orders.specs.Orders.{went};
 ghost use Rattle.dme_orders.specs.Reading.{came};
-ghost use Rattle.dme_orders.specs.Simulating.{IsPlayed, shown_of, LeavesReport, Simulates};
+ghost use Rattle.dme_orders.specs.Simulating.{IsPlayed, shown_of, LeavesReport, Simulates, AreTraced, IsShown, ShowsLines, LeavesLines, SimulatesLines};
 
 use crate::reading::{FilesFault, read_program, read_schedule, read_setup};
 use byte_ports::{Failed, Sink, Source, push_all};
@@ -42,8 +42,30 @@ fn new_world(alloc: Global, program: Program, setup: Setup, window: u8) -> Resul
     }
 }
 
-/// Plays a schedule in a world. If there is a sink for them, the lines that both sides write are written to it. A sink that takes no line
-/// changes nothing. Fails only if out of memory.
+/// Plays a schedule in a world, and writes the lines that both sides write to a sink. A sink that takes no line changes nothing. Fails only
+/// if out of memory.
+fn play_shown<L: Sink>(
+    alloc: Global,
+    schedule: &Schedule,
+    world: &mut World,
+    sink: &mut L,
+) -> Result<(), AllocError>
+    ensures ok { OnOk result (Plays (simulated world.old.setup.shifts) schedule.now false
+        world.old.world world.new.world) }
+    ensures lines { OnOk result (0 ≡ world.old.world.server.server.last
+        → IsShown (went L.taken L.has_failed sink.old sink.new)
+        (AreTraced (simulated world.old.setup.shifts) schedule.now world.old.world
+        world.new.world)) }
+{
+    let mut trace = Trace::new(alloc);
+    schedule.play_traced(world, &mut trace)?;
+    trace.end(world);
+    let _ = push_all(sink, trace.text()?);
+    Ok(())
+}
+
+/// Plays a schedule in a world. If there is a sink for them, the lines that both sides write are written to it. Fails only if out of
+/// memory.
 fn play<L: Sink>(
     alloc: Global,
     schedule: &Schedule,
@@ -52,15 +74,15 @@ fn play<L: Sink>(
 ) -> Result<(), AllocError>
     ensures ok { OnOk result (Plays (simulated world.old.setup.shifts) schedule.now false
         world.old.world world.new.world) }
+    ensures lines { OnOk result (0 ≡ world.old.world.server.server.last
+        → ShowsLines L.taken L.has_failed lines.old lines.new
+        (AreTraced (simulated world.old.setup.shifts) schedule.now world.old.world
+        world.new.world)) }
 {
-    let Some(sink) = lines else {
-        return schedule.play(world);
-    };
-    let mut trace = Trace::new(alloc);
-    schedule.play_traced(world, &mut trace)?;
-    trace.end(world);
-    let _ = push_all(sink, trace.text()?);
-    Ok(())
+    match lines {
+        Some(sink) => play_shown(alloc, schedule, world, sink),
+        None => schedule.play(world),
+    }
 }
 
 /// Plays the schedule of a simulation in a new world. Fails only if out of memory.
@@ -71,8 +93,11 @@ fn played<L: Sink>(
     lines: &mut Option<L>,
 ) -> Result<World, AllocError>
     requires { is_window window ≡ true }
-    ensures { IfOk result (λ end. IsPlayed window input.setup input.schedule input.program
+    ensures played { IfOk result (λ end. IsPlayed window input.setup input.schedule input.program
         end.world) }
+    ensures lines { IfOk result (λ end. ShowsLines L.taken L.has_failed lines.old lines.new
+        (AreTraced (simulated input.setup.shifts) input.schedule
+        (start input.program input.setup.tools window) end.world)) }
 {
     let mut world = new_world(alloc, input.program, input.setup, window)?;
     match play(alloc, &input.schedule, &mut world, lines) {
@@ -107,6 +132,8 @@ fn simulated_report<L: Sink>(
     ensures leaves { IfOk result (λ end. LeavesReport window input.setup input.schedule
         input.program end.0 end.1.items) }
     ensures some { IfOk result (λ end. 0 < length end.1.items) }
+    ensures lines { IfOk result (λ end. LeavesLines L.taken L.has_failed lines.old lines.new window
+        input.setup input.schedule input.program end.0 end.1.items) }
 {
     let world = played(alloc, input, window, lines)?;
     let end = reported(alloc, &world);
@@ -180,10 +207,15 @@ pub fn simulate<S: Source, C: Source, R: Source, L: Sink, W: Sink>(
     sink: &mut W,
 ) -> Result<State, FilesFault>
     requires { is_window window ≡ true }
-    ensures { Simulates window (came S.left S.has_failed files.old.setup files.new.setup)
+    ensures simulates { Simulates window (came S.left S.has_failed files.old.setup files.new.setup)
         (came C.left C.has_failed files.old.schedule files.new.schedule)
         (came R.left R.has_failed files.old.program files.new.program)
         (went W.taken W.has_failed sink.old sink.new) result }
+    ensures lines { IfOk result (SimulatesLines window
+        (came S.left S.has_failed files.old.setup files.new.setup)
+        (came C.left C.has_failed files.old.schedule files.new.schedule)
+        (came R.left R.has_failed files.old.program files.new.program)
+        L.taken L.has_failed lines.old lines.new (went W.taken W.has_failed sink.old sink.new)) }
 {
     let input = simulation_input(alloc, files)?;
     let (state, text) = simulated_report(alloc, input, window, lines)?;

@@ -1,10 +1,16 @@
-use Rattle.std.proofs.Common.{false, subst}
+use Rattle.std.proofs.Common.{false, subst, sym, ap}
 use Rattle.link_world.specs.Links.{WorldValue}
 use Rattle.link_world.specs.Machines.{simulated}
 use Rattle.link_world.specs.Schedules.{Plays}
+use Rattle.dme_orders.specs.Simulating.{AreTraced, ShowsLines}
 use Rattle.dme_orders.proofs.simulating.played.Goals as goal
 
-pub returns-in-Ok : goal.returns-in-Ok
-returns-in-Ok g c = subst (λ (w : WorldValue). Plays
+pub returns-in-Ok-clause-played : goal.returns-in-Ok-clause-played
+returns-in-Ok-clause-played g c = subst (λ (w : WorldValue). Plays
     (simulated w.setup.shifts) c.args.input.schedule false w.world c.play.new.world.world)
     c.in_ok-world.ensures (c.in-Ok.ensures.ok)
+
+pub returns-in-Ok-clause-lines : goal.returns-in-Ok-clause-lines
+returns-in-Ok-clause-lines g c = subst (λ (w : WorldValue). ShowsLines g.L.Sink.taken g.L.Sink.has_failed c.args.lines.now c.play.new.lines
+    (AreTraced (simulated w.setup.shifts) c.args.input.schedule w.world c.play.new.world.world))
+    c.in_ok-world.ensures (c.in-Ok.ensures.lines (ap (λ (w : WorldValue). w.world.server.server.last) (sym c.in_ok-world.ensures)))
