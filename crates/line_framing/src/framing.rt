@@ -40,8 +40,17 @@ impl Model for Lines {
     ghost invariant = { λ l. IsKept l.buffer.items l.searched l.fault };
 }
 
+/// Reserves room for that many bytes more, or for more than that. Fails only if out of memory.
+#[inline(never)]
+fn grow(buffer: &mut BytesMut, count: usize) -> Result<(), AllocError>
+    ensures items { buffer.new.items ≡ buffer.old.items }
+    ensures room { OnOk result (count ≤ buffer.new.spare) }
+{
+    buffer.reserve(count.max(LEAST_ROOM))
+}
+
 /// Makes room for that many bytes more. Fails only if out of memory.
-#[inline]
+#[inline(always)]
 fn make_room(buffer: &mut BytesMut, count: usize) -> Result<(), AllocError>
     ensures items { buffer.new.items ≡ buffer.old.items }
     ensures room { OnOk result (count ≤ buffer.new.spare) }
@@ -49,7 +58,7 @@ fn make_room(buffer: &mut BytesMut, count: usize) -> Result<(), AllocError>
     if count <= buffer.capacity() - buffer.len() {
         return Ok(());
     }
-    buffer.reserve(count.max(LEAST_ROOM))
+    grow(buffer, count)
 }
 
 impl Lines {
@@ -94,7 +103,7 @@ impl Lines {
     /// It answers the fault that was met, if any; `Memory` where room was wanting. After each the buffer is as
     /// before.
     #[tactic(auto, using(crate::proofs::Buffers::longer_content))]
-    #[inline]
+    #[inline(always)]
     pub fn feed(&mut self, piece: &[u8]) -> Result<(), LinesFault>
         ensures kept { IfSome self.old.fault (λ fault. result ≡ Err (LinesFault.Framing fault)) }
         ensures ok { OnOk result (self.new ≡ fed self.old piece.now) }
@@ -119,7 +128,7 @@ impl Lines {
     /// is there yet. The line stays, so that it can be read in place before `drop_line` takes it.
     ///
     /// It answers `LineTooLong` or `BadByte` where that is at the front, and keeps it. It does not allocate.
-    #[inline]
+    #[inline(always)]
     pub fn first_line(&mut self) -> Result<Option<usize>, FramingFault>
         // The answer is what is at the start of the rest, and from a fault on the same fault.
         ensures found { IfOk result (λ found. MatchOption found (next_of self.old.rest ≡ Ok None)
