@@ -12,7 +12,7 @@ use Rattle.dmis_text.specs.Contents.{lacks}
 use Rattle.dmis_text.specs.Reading.{line_role}
 use Rattle.dmis_text.specs.Reading.Role.{Last}
 use Rattle.dmis_text.specs.Ends.{IsBehindEnd, IsCommentEnd}
-use Rattle.dmis_text.specs.Runs.{is_bare, is_plain, is_settled, is_in_comment}
+use Rattle.dmis_text.specs.Runs.{is_bare, is_plain, is_settled, is_unquoted, is_in_comment}
 use Rattle.dmis_text.proofs.CommentLaws.{nothing_before}
 use Rattle.dmis_text.proofs.LineLaws.{lacks_more, line_in_front}
 use Rattle.dmis_text.proofs.Skipping.{copies_content, drops_clean, kept_byte}
@@ -37,6 +37,10 @@ all_also : (p q : ℕ → Bool) → ((c : ℕ) → p c ≡ true → q c ≡ true
 all_also p q h [] e = refl
 all_also p q h (c ∷ cs) e =
     let both = and_parts (p c) (list_all p cs) e in and_from (q c) (list_all q cs) (h c both.0) (all_also p q h cs both.1)
+
+-- bare bytes neither open nor close a text
+pub bare_unquoted : (content : List ℕ) → list_all is_bare content ≡ true → list_all is_unquoted content ≡ true
+bare_unquoted content e = all_also is_bare is_unquoted (bare_is is_unquoted refl) content e
 
 -- a run is all of its class
 pub run_is_all : (p : ℕ → Bool) (d : List ℕ) → list_all p (take (prefix_len p d) d) ≡ true

@@ -4,6 +4,8 @@ pub mod Capitals
 pub mod Comments
 pub mod Splitting
 pub mod Continued
+pub mod Commas
+pub mod Whole
 pub mod Readings
 pub mod SplittingLaws
 pub mod CommentLaws

@@ -6,7 +6,7 @@ ghost use Rattle.dmis_text.specs.Elements.{cut_at, folded};
 ghost use Rattle.dmis_text.specs.Texts.{turned, inside_after, is_blank, all_blank, begins_comment, may_stand, without_front_blanks, without_end_blanks};
 
 use crate::runs::{
-    InComment, Settled, Unmarked, Unquoted, is_filled_to_end, long_run_end, run_end,
+    InComment, Settled, Uncut, Unmarked, Unquoted, is_filled_to_end, long_run_end, run_end,
     run_end_by_last_block,
 };
 
@@ -198,6 +198,39 @@ pub(crate) fn cut_at(bytes: &[u8], mark: u8) -> Option<(&[u8], &[u8])>
     ensures shorter { IfSome result (λ p. length p.1.now < length bytes.now) }
 {
     cut_from(bytes, mark, first_mark(bytes))
+}
+
+/// What is before and after the first comma outside texts. The caller may have seen that there is no text.
+#[inline(always)]
+pub(crate) fn cut_comma(bytes: &[u8], bare: bool) -> Option<(&[u8], &[u8])>
+    requires { IsTrue bare → list_all is_unquoted bytes.now ≡ true }
+    ensures cut { MatchOption result (cut_at 44 false bytes.now ≡ None)
+        (λ p. cut_at 44 false bytes.now ≡ Some (p.0.now, p.1.now)) }
+    ensures shorter { IfSome result (λ p. length p.1.now < length bytes.now) }
+{
+    if bare {
+        cut_bare(bytes)
+    } else {
+        cut_at(bytes, b',')
+    }
+}
+
+/// What is before and after the first comma of bytes without texts.
+#[tactic(auto, using(crate::proofs::Commas::commas))]
+#[inline(always)]
+fn cut_bare(bytes: &[u8]) -> Option<(&[u8], &[u8])>
+    requires { list_all is_unquoted bytes.now ≡ true }
+    ensures cut { MatchOption result (cut_at 44 false bytes.now ≡ None)
+        (λ p. cut_at 44 false bytes.now ≡ Some (p.0.now, p.1.now)) }
+    ensures shorter { IfSome result (λ p. length p.1.now < length bytes.now) }
+{
+    let at = run_end(&Uncut, bytes, 0);
+    if at >= bytes.len() {
+        return None;
+    }
+    let (front, rest) = bytes.split_at(at);
+    let (_, behind) = rest.split_at(1);
+    Some((front, behind))
 }
 
 /// The end of the bytes from this place on that are handed out as they are, where a text is open there or not.

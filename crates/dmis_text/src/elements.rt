@@ -1,9 +1,11 @@
 ghost use Rattle.std.specs.Prelude.{◌≡◌, ℕ, Bool, true, false, List, [], ◌∷◌, ◌++◌, map, None, IfOk, IsTrue, length};
+ghost use Rattle.std.specs.List.{list_all};
 ghost use Rattle.dmis_text.specs.Texts.{inside_after};
+ghost use Rattle.dmis_text.specs.Runs.{is_bare, is_unquoted};
 ghost use Rattle.dmis_text.specs.Elements.{cut_at, element_of, folded, pieces};
 
 use crate::bytes::{
-    cut_at, cut_from, ends_inside, first_mark, is_all_blank, is_folded, trimmed, turned,
+    cut_at, cut_comma, cut_from, ends_inside, first_mark, is_all_blank, is_folded, trimmed, turned,
 };
 use std::alloc::{AllocError, Global};
 use std::marker::Model;
@@ -131,15 +133,17 @@ fn owned_texts<'b>(
 }
 
 /// These texts, and after them the pieces up to the last comma outside texts; and the piece after that comma, with which what follows
-/// the bytes continues.
+/// the bytes continues. The caller may have seen that the bytes are without small letters outside texts, or without texts.
 #[inline(always)]
 fn cut_pieces<'a>(
     alloc: Global,
     texts: Vec<Text<'a>>,
     bytes: &'a [u8],
     capitals: bool,
+    bare: bool,
 ) -> Result<(Vec<Text<'a>>, &'a [u8]), AllocError>
-    requires { IsTrue capitals → folded false bytes.now ≡ bytes.now }
+    requires capitals { IsTrue capitals → folded false bytes.now ≡ bytes.now }
+    requires bare { IsTrue bare → list_all is_unquoted bytes.now ≡ true }
     ensures pieces { (more : List ℕ) → IfOk result (λ p.
         p.0.items ++ map element_of (pieces false (p.1.now ++ more))
         ≡ texts.entry.items ++ map element_of (pieces false (bytes.now ++ more))) }
@@ -148,7 +152,7 @@ fn cut_pieces<'a>(
 {
     let mut made = texts;
     let mut rest = bytes;
-    while let Some((piece, behind)) = cut_at(rest, b',') {
+    while let Some((piece, behind)) = cut_comma(rest, bare) {
         made.push(Text::element(alloc, piece, capitals)?)?;
         rest = behind;
     }
@@ -199,12 +203,14 @@ impl<'a> Params<'a> {
         texts: Vec<Text<'a>>,
         bytes: &'a [u8],
         capitals: bool,
+        bare: bool,
     ) -> Result<Params<'a>, AllocError>
-        requires { IsTrue capitals → folded false bytes.now ≡ bytes.now }
+        requires capitals { IsTrue capitals → folded false bytes.now ≡ bytes.now }
+        requires bare { IsTrue bare → list_all is_unquoted bytes.now ≡ true }
         ensures { IfOk result (λ params.
             params ≡ texts.entry.items ++ map element_of (pieces false bytes.now)) }
     {
-        let (mut made, last) = cut_pieces(alloc, texts, bytes, capitals)?;
+        let (mut made, last) = cut_pieces(alloc, texts, bytes, capitals, bare)?;
         made.push(Text::element(alloc, last, capitals)?)?;
         Ok(Params { texts: made })
     }
@@ -221,7 +227,7 @@ impl<'a> Params<'a> {
             params ≡ texts.entry.items ++ map element_of (pieces false (front.now ++ behind.now))) }
     {
         let joined = join(alloc, front, behind)?;
-        let lent = Params::split(alloc, Vec::new(alloc), joined.as_slice(), false)?;
+        let lent = Params::split(alloc, Vec::new(alloc), joined.as_slice(), false, false)?;
         let texts = owned_texts(alloc, texts, lent.texts.as_slice())?;
         Ok(Params { texts })
     }
@@ -233,14 +239,16 @@ impl<'a> Params<'a> {
         memory: Vec<Text<'a>>,
         bytes: &'a [u8],
         capitals: bool,
+        bare: bool,
     ) -> Result<Params<'a>, AllocError>
         requires empty { memory.items ≡ [] }
         requires capitals { IsTrue capitals → folded false bytes.now ≡ bytes.now }
+        requires bare { IsTrue bare → list_all is_unquoted bytes.now ≡ true }
         ensures { IfOk result (λ params. params ≡ map element_of (pieces false bytes.now)) }
     {
         let mut texts = memory;
         texts.reserve(USUAL_PARAMS)?;
-        Params::with_pieces(alloc, texts, bytes, capitals)
+        Params::with_pieces(alloc, texts, bytes, capitals, bare)
     }
 
     /// Likewise for bytes that continue after a line, without small letters outside texts. What ends on its line is lent by it, and a line
@@ -259,9 +267,9 @@ impl<'a> Params<'a> {
     {
         let mut texts = memory;
         texts.reserve(USUAL_PARAMS)?;
-        let (made, last) = cut_pieces(alloc, texts, front, true)?;
+        let (made, last) = cut_pieces(alloc, texts, front, true, false)?;
         if is_all_blank(last) {
-            return Params::with_pieces(alloc, made, behind, true);
+            return Params::with_pieces(alloc, made, behind, true, false);
         }
         Params::with_joined_pieces(alloc, made, last, behind)
     }
@@ -296,6 +304,7 @@ impl<'a> Statement<'a> {
 
     /// Whether a text that was opened in the statement was not closed. Who reads the statement may refuse it for that.
     #[tactic(auto, using(crate::proofs::Splitting::last_element_at))]
+    #[inline(always)]
     pub fn is_open(&self) -> bool
         ensures { result ≡ has_open_text self.now }
     {
@@ -319,7 +328,7 @@ impl<'a> Statement<'a> {
         ensures { IfOk result (λ statement. statement ≡ statement_of line text.now) }
     {
         if is_as_handed_out(text, capitals) {
-            return Statement::split_as(alloc, memory, line, text, true);
+            return Statement::split_as(alloc, memory, line, text, true, false);
         }
         Statement::split_with_small_letters(alloc, memory, line, text)
     }
@@ -335,10 +344,11 @@ impl<'a> Statement<'a> {
         requires { memory.items ≡ [] }
         ensures { IfOk result (λ statement. statement ≡ statement_of line text.now) }
     {
-        Statement::split_as(alloc, memory, line, text, false)
+        Statement::split_as(alloc, memory, line, text, false, false)
     }
 
-    /// The same where the caller may have seen that no small letter stands outside texts. It has a body of its own for each.
+    /// The same where the caller may have seen that no small letter stands outside texts, or that there is no text. It has a body of its
+    /// own for each.
     #[inline(always)]
     fn split_as(
         alloc: Global,
@@ -346,9 +356,11 @@ impl<'a> Statement<'a> {
         line: u64,
         text: &'a [u8],
         capitals: bool,
+        bare: bool,
     ) -> Result<Statement<'a>, AllocError>
         requires empty { memory.items ≡ [] }
         requires capitals { IsTrue capitals → folded false text.now ≡ text.now }
+        requires bare { IsTrue bare → list_all is_unquoted text.now ≡ true }
         ensures { IfOk result (λ statement. statement ≡ statement_of line text.now) }
     {
         let first = first_mark(text);
@@ -361,7 +373,7 @@ impl<'a> Statement<'a> {
                 params: Params { texts: memory },
             });
         };
-        let params = Params::split(alloc, memory, behind, capitals)?;
+        let params = Params::split(alloc, memory, behind, capitals, bare)?;
         if first == head.len() {
             // No mark stands before the `/`.
             let word = Text::element(alloc, head, capitals)?;
@@ -373,6 +385,21 @@ impl<'a> Statement<'a> {
             });
         }
         Statement::headed(alloc, line, head, capitals, params)
+    }
+
+    /// The statement of bare bytes that begins on this line. Its parameters take the memory that is handed in.
+    #[inline(always)]
+    pub(crate) fn split_bare(
+        alloc: Global,
+        memory: Vec<Text<'a>>,
+        line: u64,
+        text: &'a [u8],
+    ) -> Result<Statement<'a>, AllocError>
+        requires empty { memory.items ≡ [] }
+        requires bare { list_all is_bare text.now ≡ true }
+        ensures { IfOk result (λ statement. statement ≡ statement_of line text.now) }
+    {
+        Statement::split_as(alloc, memory, line, text, true, true)
     }
 
     /// The statement with these parameters and what is before the `/`: the word, or the label and the word.

@@ -103,7 +103,7 @@ fn examine_content(content: &[u8], inside: bool) -> Look<'_>
 }
 
 /// Whether a line has more bytes than it may.
-fn is_too_long(line: &[u8]) -> bool
+pub(crate) fn is_too_long(line: &[u8]) -> bool
     ensures { result ≡ nat_lt 4096 (length line.now) }
 {
     line.len() > LONGEST_LINE
@@ -175,8 +175,36 @@ pub(crate) struct First<'a> {
     pub(crate) look: Look<'a>,
 }
 
+/// A line of which all that stands before its comment is bare, and what follows its end.
+pub(crate) struct BareLine<'a> {
+    pub(crate) line: &'a [u8],
+    pub(crate) content: &'a [u8],
+    pub(crate) after: &'a [u8],
+}
+
 /// The first line of a text, where no text is open before it, by one pass over bare bytes and one over a comment after them; none where
 /// it has other bytes or no end.
+#[inline(always)]
+pub(crate) fn bare_line(bytes: &[u8]) -> Option<BareLine<'_>>
+    ensures cut { IfSome result (λ f. lines bytes.now ≡ f.line.now ∷ lines f.after.now) }
+    ensures shorter { IfSome result (λ f. length f.after.now < length bytes.now) }
+    ensures bare { IfSome result (λ f. list_all is_bare f.content.now ≡ true) }
+    ensures content { IfSome result (λ f. f.content.now ≡ before_comment false f.line.now) }
+    ensures clean { IfSome result (λ f. is_clean false f.line.now ≡ true) }
+{
+    let bare = run_end(&Bare, bytes, 0);
+    let end = comment_end(bytes, bare);
+    let (line, rest) = bytes.split_at(end);
+    let after = behind_end(rest)?;
+    let (content, _) = line.split_at(bare);
+    Some(BareLine {
+        line,
+        content,
+        after,
+    })
+}
+
+/// The first line of a text, where no text is open before it, if all that stands before its comment is bare.
 #[inline(always)]
 fn first_bare_line(bytes: &[u8]) -> Option<First<'_>>
     ensures cut { IfSome result (λ f. lines bytes.now ≡ f.line.now ∷ lines f.after.now) }
@@ -184,11 +212,11 @@ fn first_bare_line(bytes: &[u8]) -> Option<First<'_>>
     ensures role { IfSome result (λ f. role_of f.look ≡ line_role false f.line.now) }
     ensures flag { IfSome result (λ f. TellsFlag false f.look) }
 {
-    let bare = run_end(&Bare, bytes, 0);
-    let end = comment_end(bytes, bare);
-    let (line, rest) = bytes.split_at(end);
-    let after = behind_end(rest)?;
-    let (content, _) = line.split_at(bare);
+    let BareLine {
+        line,
+        content,
+        after,
+    } = bare_line(bytes)?;
     Some(First {
         line,
         after,

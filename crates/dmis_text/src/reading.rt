@@ -1,11 +1,15 @@
-ghost use Rattle.std.specs.Prelude.{◌≡◌, ℕ, ◌+◌, ◌-◌, ◌<◌, ◌≤◌, ◌^◌, List, [], ◌∷◌, ◌++◌, Some, None, IfOk, IfErr, OnErr, IfSome, IfNone, length};
+ghost use Rattle.std.specs.Prelude.{◌≡◌, ℕ, ◌+◌, ◌-◌, ◌<◌, ◌≤◌, ◌^◌, true, List, [], ◌∷◌, ◌++◌, Some, None, IfOk, IfErr, OnErr, IfSome, IfNone, length};
+ghost use Rattle.std.specs.List.{list_all};
 ghost use Rattle.std.specs.Str.Lines.{lines};
-ghost use Rattle.dmis_text.specs.Reading.{reading_of};
+ghost use Rattle.dmis_text.specs.Reading.{reading_of, with_first};
+ghost use Rattle.dmis_text.specs.Runs.{is_bare};
+ghost use Rattle.dmis_text.specs.Statements.{statement_of};
 ghost use Rattle.dmis_text.specs.Found.{Leaves, Refuses};
 
+use crate::bytes::is_all_blank;
 use crate::elements::{Statement, Text};
 use crate::joined::Joined;
-use crate::lines::{First, Look, count_lines, first_line};
+use crate::lines::{BareLine, First, Look, bare_line, count_lines, first_line, is_too_long};
 use std::alloc::{AllocError, Global};
 use std::marker::Model;
 
@@ -40,6 +44,54 @@ struct Found<'a> {
     statement: Option<Statement<'a>>,
     rest: &'a [u8],
     number: u64,
+}
+
+/// A statement that is on one line: the line's number, what is before its comment, and the bytes after its end.
+struct Whole<'a> {
+    number: u64,
+    content: &'a [u8],
+    after: &'a [u8],
+}
+
+/// The first statement of the lines from this number on, if it is on one line and bare, and the lines before it are blank or comments.
+#[tactic(auto, using(crate::proofs::Whole::whole_lines))]
+#[inline(always)]
+fn whole_statement(bytes: &[u8], first: u64) -> Option<Whole<'_>>
+    requires { first + length bytes.now < 2 ^ 64 }
+    ensures reading { IfSome result (λ w. reading_of first (lines bytes.now)
+        ≡ with_first (statement_of w.number w.content.now)
+        (reading_of (w.number + 1) (lines w.after.now))) }
+    ensures bare { IfSome result (λ w. list_all is_bare w.content.now ≡ true) }
+    ensures count { IfSome result (λ w.
+        first + length (lines bytes.now) ≡ w.number + 1 + length (lines w.after.now)) }
+    ensures forward { IfSome result (λ w. first ≤ w.number) }
+    ensures within { IfSome result (λ w.
+        w.number + 1 + length w.after.now ≤ first + length bytes.now) }
+{
+    let mut rest = bytes;
+    let mut number = first;
+    while let Some(
+        BareLine {
+            line,
+            content,
+            after,
+        },
+    ) = bare_line(rest)
+    {
+        if is_too_long(line) {
+            return None;
+        }
+        if !is_all_blank(content) {
+            return Some(Whole {
+                number,
+                content,
+                after,
+            });
+        }
+        rest = after;
+        number += 1;
+    }
+    None
 }
 
 /// The first statement of the lines from this number on. Its parameters may take the memory that is handed in.
@@ -146,6 +198,7 @@ impl<'a> Statements<'a> {
     /// `LineTooLong` and `BadByte` come where no statement is left that ends before that line; one that reaches it is not
     /// given. After them, and after none, the next call answers the same. `Memory` comes where a growth was refused, and
     /// changes nothing.
+    #[inline(always)]
     pub fn next(&mut self) -> Result<Option<Statement<'a>>, TextFault>
         ensures statement { IfOk result (λ given.
             IfSome given (λ s. self.old.left ≡ s ∷ self.new.left)) }
@@ -159,6 +212,19 @@ impl<'a> Statements<'a> {
         ensures lines { self.new.lines ≡ self.old.lines }
     {
         let memory = std::mem::replace(&mut self.memory, Vec::new(self.alloc));
+        if let Some(
+            Whole {
+                number,
+                content,
+                after,
+            },
+        ) = whole_statement(self.rest, self.number)
+        {
+            let statement = Statement::split_bare(self.alloc, memory, number, content)?;
+            self.rest = after;
+            self.number = number + 1;
+            return Ok(Some(statement));
+        }
         let found = read_statement(self.alloc, memory, self.rest, self.number)?;
         let Found {
             statement,
@@ -171,6 +237,7 @@ impl<'a> Statements<'a> {
     }
 
     /// Takes back a statement that was read, whose memory the next one then uses. What is left stays as it is.
+    #[inline(always)]
     pub fn take_back(&mut self, statement: Statement<'a>)
         ensures { self.new ≡ self.old }
     {

@@ -1,6 +1,6 @@
 //! Runs of bytes of one class, passed over sixteen bytes at a time.
 
-ghost use Rattle.std.specs.Prelude.{◌≡◌, ◌+◌, ◌≤◌, ℕ, Bool, IsTrue, length, take, drop};
+ghost use Rattle.std.specs.Prelude.{◌≡◌, ◌+◌, ◌==◌, ◌≤◌, ℕ, Bool, IsTrue, length, not, take, drop};
 ghost use Rattle.std.specs.List.{prefix_len};
 ghost use Rattle.dmis_text.specs.Runs.{lowest_set, is_in_line, is_in_comment, is_plain, is_bare, is_in_text, is_unquoted, is_unmarked, is_settled};
 
@@ -310,6 +310,24 @@ impl Class for Unmarked {
         let ends = block.simd_eq(u8x16::splat(b'\'')) | block.simd_eq(u8x16::splat(b','));
         let stops = ends | block.simd_eq(u8x16::splat(b'/')) | block.simd_eq(u8x16::splat(b'='));
         lowest_set(stops.to_bitmask())
+    }
+}
+
+/// The bytes that are no commas.
+pub(crate) struct Uncut;
+
+impl Class for Uncut {
+    ghost holds = { λ _. λ c. not (c == 44) };
+
+    #[inline(always)]
+    fn has(&self, byte: u8) -> bool {
+        byte != b','
+    }
+
+    #[inline(always)]
+    fn run_in_block(&self, bytes: &[u8], at: usize) -> usize {
+        let block = u8x16::from_slice(&bytes[at..]);
+        lowest_set(block.simd_eq(u8x16::splat(b',')).to_bitmask())
     }
 }
 

@@ -1,6 +1,7 @@
 use Rattle.std.proofs.Common.{ℕ, List, ◌++◌, map, refl, ◌∙◌, sym, ap, append_assoc}
 use Rattle.dmis_text.specs.Elements.{element_of}
 use Rattle.dmis_text.proofs.Capitals.{front_of_cut, behind_cut}
+use Rattle.dmis_text.proofs.Commas.{behind_bare}
 use Rattle.dmis_text.proofs.Continued.{pieces_more}
 use Rattle.dmis_text.proofs.elements.cut_pieces.Goals as goal
 
@@ -14,4 +15,5 @@ loop-piece-preserved c = (
       c.loop-piece.rest.now c.in-Some.piece.now c.in-Some.behind.now more c.in-Some.ensures.cut))
       ∙ c.loop-piece.invariant.0 more),
   λ capitals. behind_cut 44 _ _ _ c.in-Some.ensures.cut (c.loop-piece.invariant.1 capitals) refl,
+  λ bare. behind_bare 44 c.loop-piece.rest.now _ _ c.in-Some.ensures.cut (c.loop-piece.invariant.2 bare),
 )

@@ -1,4 +1,6 @@
-use Rattle.std.proofs.Common.{◌≡◌, ℕ, List, ◌++◌, map, length, false, IsTrue}
+use Rattle.std.proofs.Common.{◌≡◌, ℕ, List, ◌++◌, map, length, false, true, IsTrue}
+use Rattle.std.specs.List.{list_all}
+use Rattle.dmis_text.specs.Runs.{is_unquoted}
 use Rattle.dmis_text.specs.Elements.{element_of, pieces, folded}
 use Rattle.dmis_text.proofs.elements.cut_pieces.Given as goal
 
@@ -7,6 +9,7 @@ invariant-loop-piece l =
     ((more : List ℕ) → l.made.items ++ map element_of (pieces false (l.rest ++ more))
     ≡ l.fn.texts.items ++ map element_of (pieces false (l.fn.bytes ++ more)))
     × (IsTrue l.capitals → folded false l.rest ≡ l.rest)
+    × (IsTrue l.bare → list_all is_unquoted l.rest ≡ true)
 
 abbrev pub decreases-loop-piece : goal.decreases-loop-piece
 decreases-loop-piece l = length l.rest

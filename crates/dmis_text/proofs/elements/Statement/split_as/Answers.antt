@@ -1,10 +1,14 @@
 use Rattle.std.proofs.Common.{arith, refl}
 use Rattle.dmis_text.proofs.Capitals.{front_of_cut, behind_cut}
+use Rattle.dmis_text.proofs.Commas.{behind_bare}
 use Rattle.dmis_text.proofs.SplittingLaws.{no_label}
 use Rattle.dmis_text.proofs.elements.Statement.split_as.Goals as goal
 
 pub split-requires-clause-capitals : goal.split-requires-clause-capitals
 split-requires-clause-capitals c = λ capitals. behind_cut 47 _ _ _ c.in-Some.ensures.cut (c.requires.capitals capitals) refl
+
+pub split-requires-clause-bare : goal.split-requires-clause-bare
+split-requires-clause-bare c = λ bare. behind_bare 47 c.args.text.now _ _ c.in-Some.ensures.cut (c.requires.bare bare)
 
 pub element-requires-then-first-head : goal.element-requires-then-first-head
 element-requires-then-first-head c = λ capitals. front_of_cut 47 _ _ _ c.in-Some.ensures.cut (c.requires.capitals capitals)

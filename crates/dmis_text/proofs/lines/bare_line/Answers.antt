@@ -4,21 +4,21 @@ use Rattle.std.specs.Str.Lines.{lines}
 use Rattle.dmis_text.specs.Texts.{before_comment, is_clean}
 use Rattle.dmis_text.specs.Runs.{is_bare}
 use Rattle.dmis_text.proofs.Bare.{content_is_bare, found_content, found_clean, found_line}
-use Rattle.dmis_text.proofs.lines.first_bare_line.Goals as goal
+use Rattle.dmis_text.proofs.lines.bare_line.Goals as goal
 
-pub examine_bare-requires-clause-bare : goal.examine_bare-requires-clause-bare
-examine_bare-requires-clause-bare c =
+pub returns-clause-bare : goal.returns-clause-bare
+returns-clause-bare c =
     ap (list_all is_bare) (c.split_at-2.ensures.front ∙ ap (take c.run_end-bare.result) c.split_at.ensures.front)
     ∙ content_is_bare c.args.bytes.now _ _ (omega (arith, c.run_end-bare.ensures.run)) c.comment_end-end.ensures.end c.comment_end-end.ensures.from
 
-pub examine_bare-requires-clause-content : goal.examine_bare-requires-clause-content
-examine_bare-requires-clause-content c =
+pub returns-clause-content : goal.returns-clause-content
+returns-clause-content c =
     c.split_at-2.ensures.front ∙ ap (take c.run_end-bare.result) c.split_at.ensures.front
     ∙ found_content c.args.bytes.now _ _ (omega (arith, c.run_end-bare.ensures.run)) c.comment_end-end.ensures.end c.comment_end-end.ensures.from
     ∙ ap (before_comment false) (sym c.split_at.ensures.front)
 
-pub examine_bare-requires-clause-clean : goal.examine_bare-requires-clause-clean
-examine_bare-requires-clause-clean c =
+pub returns-clause-clean : goal.returns-clause-clean
+returns-clause-clean c =
     ap (is_clean false) c.split_at.ensures.front
     ∙ found_clean c.args.bytes.now _ _ (omega (arith, c.run_end-bare.ensures.run)) c.comment_end-end.ensures.end c.comment_end-end.ensures.from
 
