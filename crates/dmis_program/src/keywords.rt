@@ -31,8 +31,29 @@ pub(crate) fn is_text(text: &[u8], other: &str) -> bool
 }
 
 /// What a statement's word is.
-#[tactic(auto, unfolding(crate::specs::Keywords::keyword_of))]
 pub fn keyword_of_word(word: &[u8]) -> Keyword
+    ensures { result ≡ keyword_of word.now }
+{
+    read_keyword(word)
+}
+
+/// What a statement's word is. Half of them are one of two.
+#[tactic(auto, unfolding(crate::specs::Keywords::keyword_of))]
+#[inline(always)]
+pub(crate) fn read_keyword(word: &[u8]) -> Keyword
+    ensures { result ≡ keyword_of word.now }
+{
+    match word {
+        [b'G', b'O', b'T', b'O'] => Keyword::Goto,
+        [b'M', b'E', b'A', b'S'] => Keyword::Meas,
+        _ => searched_keyword(word),
+    }
+}
+
+/// Likewise by comparing it with each.
+#[inline(never)]
+#[tactic(auto, unfolding(crate::specs::Keywords::keyword_of))]
+fn searched_keyword(word: &[u8]) -> Keyword
     ensures { result ≡ keyword_of word.now }
 {
     if is_text(word, "DMISMN") {

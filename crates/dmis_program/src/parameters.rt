@@ -1,4 +1,4 @@
-ghost use Rattle.std.specs.Prelude.{◌≡◌, ◌==◌, ◌∷◌, [], ◌<◌, ◌≤◌, ◌^◌, ◌-◌, true, length, slice_index, IfOk, IfSome, MatchOption, Option, Some, None, nat_eq, option_and_then};
+ghost use Rattle.std.specs.Prelude.{◌≡◌, ◌==◌, ◌∷◌, [], ◌<◌, ◌≤◌, ◌^◌, ◌-◌, true, length, slice_index, IfOk, IfSome, MatchOption, Option, Some, None, codes, nat_eq, option_and_then};
 ghost use Rattle.std.specs.List.{list_all, list_any};
 ghost use Rattle.std.specs.Option.{option_map};
 ghost use Rattle.std.specs.Char.{is_ascii_digit, is_ascii_alphabetic};
@@ -95,12 +95,23 @@ pub(crate) fn count_of(text: &[u8]) -> Option<u64>
     if value > 0 { Some(value) } else { None }
 }
 
+/// Whether a parameter is `CART`.
+#[inline(always)]
+pub(crate) fn is_cart(text: &[u8]) -> bool
+    ensures { result ≡ bytes_eq text.now (codes "CART") }
+{
+    match text {
+        [b'C', b'A', b'R', b'T'] => true,
+        _ => false,
+    }
+}
+
 /// The parameters after a first `CART`.
 pub(crate) fn without_cart<'p, 'a>(params: &'p [Text<'a>]) -> &'p [Text<'a>]
     ensures { result.now ≡ without_cart params.now }
 {
     let count = match params.split_first() {
-        Some((first, _)) if is_text(first, "CART") => 1,
+        Some((first, _)) if is_cart(first) => 1,
         _ => 0,
     };
     let (_, rest) = params.split_at(count);
@@ -122,7 +133,7 @@ pub(crate) fn is_other_coordinates(params: &[Text]) -> bool
     ensures { result ≡ is_other_coordinates params.now }
 {
     match params.split_first() {
-        Some((first, _)) => begins_with_letter(first) && !is_text(first, "CART"),
+        Some((first, _)) => begins_with_letter(first) && !is_cart(first),
         None => false,
     }
 }

@@ -1,15 +1,16 @@
 ghost use Rattle.std.specs.Prelude.{false, Ok, ◌≡◌, ◌<◌, ◌≤◌, [], ◌∷◌, ◌++◌, OnOk, Option, Some, None};
+ghost use Rattle.dmis_program.specs.Keywords.{keyword_of};
 ghost use Rattle.dmis_program.specs.Judging.{word_refusal, settled, misplaced, is_start, is_unsupported};
 ghost use Rattle.dmis_program.specs.Meaning.{closes};
 ghost use Rattle.dmis_program.specs.Carrying.{no_statement, context_of, with_step, changed, recalled_at, follows, next, GivesNext};
 
 use crate::faults::{ProgramFault, Refusal, StatementFault};
 use crate::features::{Touch, Touches, Wanted};
-use crate::keywords::{Keyword, keyword_of_word};
+use crate::keywords::{Keyword, read_keyword};
 use crate::offsets::Frames;
 use crate::parameters::{is_other_coordinates, is_other_recall};
 use crate::programs::Program;
-use crate::sayings::{StatementMeaning, said_of};
+use crate::sayings::{StatementMeaning, is_block_end, moved, said_of, touched};
 use crate::steps::Step;
 use dmis_text::{Statement, Text};
 use fixed_um::{Dir, Frame, Name, Point};
@@ -18,6 +19,9 @@ use std::marker::Model;
 
 /// The most statements that a program may have (this profile).
 const MOST_STATEMENTS: u64 = 10_000;
+
+/// The most touches of a block for which room is made at once.
+const USUAL_TOUCHES: u64 = 64;
 
 /// The open block: its feature's label, and how many touches it asks for.
 #[derive(Drop)]
@@ -137,6 +141,7 @@ impl Reader {
     }
 
     /// One step more.
+    #[inline(always)]
     fn step(&mut self, step: Step) -> Result<(), AllocError>
         ensures { OnOk result (self.new ≡ with_step self.old step) }
     {
@@ -152,6 +157,8 @@ impl Reader {
         )) }
     {
         self.step(Step::Begin(label.copy(self.alloc)?))?;
+        self.touches
+            .reserve_exact(wanted.min(USUAL_TOUCHES) as usize)?;
         self.block = Some(Block { label, wanted });
         Ok(false)
     }
@@ -244,11 +251,51 @@ impl Reader {
         if self.count >= MOST_STATEMENTS {
             return Err(StatementFault::Refused(Refusal::TooLarge));
         }
-        let keyword = keyword_of_word(&statement.word);
+        let keyword = read_keyword(&statement.word);
         let params = &statement.params;
         if let Some(refusal) = word_refusal(self.count, self.wanted(), keyword, params) {
             return Err(StatementFault::Refused(refusal));
         }
+        match keyword {
+            Keyword::Goto => {
+                if let Some(target) = moved(statement) {
+                    self.count += 1;
+                    self.step(Step::Goto(target))?;
+                    return Ok(false);
+                }
+            }
+            Keyword::Ptmeas => {
+                if let Some((target, direction)) = touched(statement) {
+                    self.count += 1;
+                    return self.touch(target, Some(direction));
+                }
+            }
+            Keyword::Endmes => {
+                if is_block_end(statement) {
+                    self.count += 1;
+                    return self.end();
+                }
+            }
+            _ => {}
+        }
+        self.read_any(frames, keyword, statement)
+    }
+
+    /// Takes a statement of any kind, which is accepted for its word and its place.
+    #[inline(never)]
+    #[tactic(auto, unfolding(crate::specs::Judging::judged))]
+    fn read_any(
+        &mut self,
+        frames: &Frames,
+        keyword: Keyword,
+        statement: &Statement,
+    ) -> Result<bool, StatementFault>
+        requires count { self.old.number < 10000 }
+        requires keyword { keyword ≡ keyword_of statement.now.word }
+        requires known { word_refusal self.old.number (context_of self.old).wanted keyword
+            statement.now.params ≡ None }
+        ensures { GivesNext result self.new (next frames.now self.old statement.now) }
+    {
         let said = said_of(self.alloc, keyword, statement)?;
         self.count += 1;
         self.follow(frames, said)

@@ -1,10 +1,12 @@
-ghost use Rattle.std.specs.Prelude.{◌≡◌, ◌≢◌, ◌∷◌, [], Option, Some, None, codes};
+ghost use Rattle.std.specs.Prelude.{◌≡◌, ◌≢◌, ◌∷◌, [], Option, Some, None, Ok, IfSome, IsTrue, codes};
 ghost use Rattle.dmis_program.specs.Outcomes.{Gives};
 ghost use Rattle.dmis_program.specs.Sayings.{goes, begins_block, touches_at, touches, without_parameters, selects, recalls_frame, recalls, units, mode, said_by, said_of, is_badly_formed};
 
 use crate::faults::{Refusal, StatementFault};
 use crate::keywords::{Keyword, is_text};
-use crate::parameters::{begins, count_of, has_word, is_letters, name_within, without_cart};
+use crate::parameters::{
+    begins, count_of, has_word, is_cart, is_letters, name_within, without_cart,
+};
 use crate::positions::{direction, position};
 use dmis_text::{Statement, Text};
 use fixed_um::{Dir, Name, Point};
@@ -78,7 +80,7 @@ fn touches(params: &[Text]) -> Result<StatementMeaning, Refusal>
     ensures { result ≡ touches params.now }
 {
     match params.split_first() {
-        Some((first, rest)) if is_text(first, "CART") => touches_at(rest),
+        Some((first, rest)) if is_cart(first) => touches_at(rest),
         _ => Err(Refusal::BadArguments),
     }
 }
@@ -161,6 +163,7 @@ fn mode(params: &[Text]) -> Result<StatementMeaning, Refusal>
 
 /// By keyword. The caller must give a word that this profile reads.
 #[tactic(auto, unfolding(crate::specs::Sayings::said_by))]
+#[inline(always)]
 fn said_by(
     alloc: Global,
     keyword: Keyword,
@@ -185,6 +188,7 @@ fn said_by(
 }
 
 /// Whether a statement has a label that its word may not have, or a text that is not closed.
+#[inline(always)]
 fn is_badly_formed(keyword: Keyword, statement: &Statement) -> bool
     ensures { result ≡ is_badly_formed keyword statement.now }
 {
@@ -205,4 +209,50 @@ pub fn said_of(
         return Err(StatementFault::Refused(Refusal::BadArguments));
     }
     said_by(alloc, keyword, &statement.params)
+}
+
+/// The target of a `GOTO` that is accepted for itself; none if the statement is refused. Most are read here and by the two calls after this.
+#[tactic(auto, unfolding(crate::specs::Sayings::said_of, crate::specs::Sayings::said_by))]
+#[inline(always)]
+pub(crate) fn moved(statement: &Statement) -> Option<Point>
+    ensures { IfSome result (λ target. said_of Keyword.Goto statement.now
+        ≡ Ok (StatementMeaning.Goes target)) }
+{
+    if is_badly_formed(Keyword::Goto, statement) {
+        return None;
+    }
+    match without_cart(&statement.params) {
+        [x, y, z] => position(x, y, z).ok(),
+        _ => None,
+    }
+}
+
+/// Likewise the target and the direction of a `PTMEAS` with a direction.
+#[tactic(auto, unfolding(crate::specs::Sayings::said_of, crate::specs::Sayings::said_by))]
+#[inline(always)]
+pub(crate) fn touched(statement: &Statement) -> Option<(Point, Dir)>
+    ensures { IfSome result (λ t. said_of Keyword.Ptmeas statement.now
+        ≡ Ok (StatementMeaning.Touches t.0 (Some t.1))) }
+{
+    if is_badly_formed(Keyword::Ptmeas, statement) {
+        return None;
+    }
+    let params: &[Text] = &statement.params;
+    match params {
+        [first, x, y, z, i, j, k] if is_cart(first) => {
+            let target = position(x, y, z).ok()?;
+            let direction = direction(i, j, k).ok()?;
+            Some((target, direction))
+        }
+        _ => None,
+    }
+}
+
+/// Whether it is an `ENDMES` that is accepted for itself.
+#[tactic(auto, unfolding(crate::specs::Sayings::said_of, crate::specs::Sayings::said_by))]
+#[inline(always)]
+pub(crate) fn is_block_end(statement: &Statement) -> bool
+    ensures { IsTrue result → said_of Keyword.Endmes statement.now ≡ Ok StatementMeaning.Ends }
+{
+    !is_badly_formed(Keyword::Endmes, statement) && statement.params.is_empty()
 }
