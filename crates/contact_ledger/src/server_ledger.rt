@@ -55,25 +55,21 @@ impl ServerLedger {
     ///
     /// Fails only if out of memory: it hands the act back, and the ledger is as before. The room doubles
     /// when it is full, so that all pushes together copy no more than twice what they append.
+    #[inline(always)]
     pub fn push(&mut self, connection: u64, act: Act) -> Result<(), AllocFailed<Act>>
         requires { IsConnection connection }
         ensures appended { Leads result self.old self.new (self.old ++ (connection, act) ∷ []) }
         ensures given_back { IfErr result (λ failed. failed.value ≡ act) }
     {
         let _in_memory = self.acts.as_slice();
-        let made = is_contact(&act);
-        match self.acts.push((connection, act)) {
-            Ok(()) => {
-                if made {
-                    self.contacts += 1;
-                }
-                Ok(())
-            }
-            Err(failed) => {
-                let (_, act) = failed.value;
-                Err(AllocFailed { value: act })
-            }
+        if self.acts.reserve(1).is_err() {
+            return Err(AllocFailed { value: act });
         }
+        if is_contact(&act) {
+            self.contacts += 1;
+        }
+        self.acts.push_reserved((connection, act));
+        Ok(())
     }
 
     /// The acts in order, each next to the number of its connection.
