@@ -56,6 +56,7 @@ impl Queue {
 
     /// Puts a command after the others. Where 64 wait it hands the command back, and the queue is as before.
     /// Does not allocate.
+    #[inline(always)]
     pub fn put(&mut self, command: Waiting) -> Result<(), Waiting>
         ensures room { IsOk result ↔ (length self.old < places) }
         ensures ok { OnOk result (self.new ≡ self.old ++ command ∷ []) }
@@ -73,6 +74,7 @@ impl Queue {
     }
 
     /// Takes the command that came first; `None` if no command waits. Does not allocate.
+    #[inline(always)]
     pub fn take(&mut self) -> Option<Waiting>
         ensures { MatchOption result
             ((self.old ≡ []) × (self.new ≡ []))
