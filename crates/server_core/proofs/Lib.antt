@@ -8,3 +8,4 @@ pub mod Servings
 pub mod Deeds
 pub mod Homings
 pub mod Reached
+pub mod Writings

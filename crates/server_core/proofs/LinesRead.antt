@@ -1,7 +1,7 @@
 -- What is read of a line fits a server, and is read in one way.
-use Rattle.std.proofs.Common.{◌≡◌, ℕ, List, Result, Ok, Err}
+use Rattle.std.proofs.Common.{◌≡◌, ◌≤◌, ℕ, List, length, take, Result, Ok, Err, sym, ap, subst, arith}
 use Rattle.dme_line.specs.Tags.{IsTag, IsNumbered}
-use Rattle.dme_line.specs.CommandText.{ReadsCommand}
+use Rattle.dme_line.specs.CommandText.{IsTagged, ReadsCommand}
 use Rattle.dme_line.specs.declared.tags.Tag.{Tag}
 use Rattle.dme_line.specs.declared.tags.Tag.TheVariants.{Std, Event}
 use Rattle.dme_line.specs.declared.commands.Command.{Command}
@@ -11,7 +11,7 @@ use Rattle.dme_line.proofs.ReadWritable.{read_is_writable}
 use Rattle.dme_line.proofs.OneCommand.{one_command_reading}
 use Rattle.protocol_model.specs.Readings.{command_of, reads_command}
 use Rattle.protocol_model.proofs.plan.PlanLaws.{in_volume}
-use Rattle.server_core.specs.Kept.{IsLineFit}
+use Rattle.server_core.specs.Kept.{IsLineFit, BeginsWith, BeginsSo}
 
 tag_of_numbered : (t : Tag) → IsNumbered t → IsTag t
 tag_of_numbered (Std n) h = h.1
@@ -24,6 +24,20 @@ read_is_fit line (Ok (t, c)) h =
 read_is_fit line (Err fault.NoTag) h = tt
 read_is_fit line (Err (fault.UnknownCommand t)) h = tag_of_numbered t h.2.tagged.numbered
 read_is_fit line (Err (fault.BadArguments t k)) h = tag_of_numbered t h.2.tagged.numbered
+
+-- a line that begins with a tag has its five bytes at its start
+begins_with : (line text : List ℕ) (t : Tag) → IsTagged line t text → BeginsWith line t
+begins_with line text (Std n) h =
+    (subst (λ (l : List ℕ). 5 ≤ length l) (sym h.parts) (omega arith), ap (λ (l : List ℕ). take 5 l) h.parts)
+begins_with line text (Event n) h =
+    (subst (λ (l : List ℕ). 5 ≤ length l) (sym h.parts) (omega arith), ap (λ (l : List ℕ). take 5 l) h.parts)
+
+-- a line begins with the tag that is read of it
+pub read_begins : (line : List ℕ) (reading : Result (Tag × Command) LineFault) → ReadsCommand line reading → BeginsSo line reading
+read_begins line (Ok (t, c)) h = begins_with line h.begins.text t h.begins.tagged
+read_begins line (Err fault.NoTag) h = tt
+read_begins line (Err (fault.UnknownCommand t)) h = begins_with line h.2.text t h.2.tagged
+read_begins line (Err (fault.BadArguments t k)) h = begins_with line h.2.text t h.2.tagged
 
 -- all that read commands as the interface says read a line in one way
 pub one_reading : (line : List ℕ) (reading : Result (Tag × Command) LineFault) → ReadsCommand line reading

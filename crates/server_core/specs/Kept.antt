@@ -1,8 +1,8 @@
 -- What holds of a server at any time, whatever lines and outcomes have come (this profile).
-use Rattle.std.specs.Prelude.{◌≡◌, [], Option, Some, None, Result, Ok, Err, true, false, IsSome}
+use Rattle.std.specs.Prelude.{◌≡◌, ◌≤◌, ℕ, List, length, take, [], Option, Some, None, Result, Ok, Err, true, false, IsSome}
 use Rattle.std.specs.List.{AllByRecursion}
 use Rattle.fixed_um.specs.Points.{IsInVolume}
-use Rattle.dme_line.specs.Tags.{IsTag}
+use Rattle.dme_line.specs.Tags.{IsTag, written_tag}
 use Rattle.dme_line.specs.declared.tags.Tag.{Tag}
 use Rattle.dme_line.specs.Written.{HasVolumeLengths}
 use Rattle.dme_line.specs.declared.commands.Command.{Command}
@@ -15,6 +15,10 @@ use Rattle.protocol_model.specs.declared.lines.Misread.{Misread}
 use Rattle.protocol_model.specs.declared.lines.Waiting.{Waiting}
 use Rattle.protocol_model.specs.declared.machine.Job.{Job}
 
+-- a line begins with a tag
+abbrev pub BeginsWith : List ℕ → Tag → Type 0
+BeginsWith line tag = (5 ≤ length line) × (take 5 line ≡ written_tag tag)
+
 -- what was read under a tag: of a command the lengths of a transformation are within the volume limit
 abbrev pub IsReadingFit : Result Command Misread → Type 0
 IsReadingFit (Ok c) = HasVolumeLengths c
@@ -26,6 +30,13 @@ IsLineFit (Ok (tag, c)) = IsTag tag × HasVolumeLengths c
 IsLineFit (Err fault.NoTag) = Unit {0}
 IsLineFit (Err (fault.UnknownCommand t)) = IsTag t
 IsLineFit (Err (fault.BadArguments t k)) = IsTag t
+
+-- a line begins with the tag that was read of it
+abbrev pub BeginsSo : List ℕ → Result (Tag × Command) LineFault → Type 0
+BeginsSo line (Ok (tag, c)) = BeginsWith line tag
+BeginsSo line (Err fault.NoTag) = Unit {0}
+BeginsSo line (Err (fault.UnknownCommand t)) = BeginsWith line t
+BeginsSo line (Err (fault.BadArguments t k)) = BeginsWith line t
 
 -- what waits has a tag that can be written, and lengths within the volume limit
 pub record IsFit (w : Waiting) : Type 0 where

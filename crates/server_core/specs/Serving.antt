@@ -77,6 +77,12 @@ IsAtOnce (Some command.IsHomed) = ⊥
 IsAtOnce (Some (command.SetCoordSystem system)) = ⊥
 IsAtOnce c = runs c ≡ false
 
+-- a move or a touch
+abbrev pub IsWay : Command → Type 0
+IsWay (command.GoTo p) = Unit {0}
+IsWay (command.PtMeas p d) = Unit {0}
+IsWay _ = ⊥
+
 -- the kinds of outcome that a command can have
 abbrev pub fits : Command → Outcome → Bool
 fits command.Home Outcome.Done = true

@@ -1,8 +1,10 @@
 // The lines with which a server answers.
 
-ghost use Rattle.std.specs.Prelude.{◌≡◌, ◌≤◌, ◌+◌, ◌*◌, ◌++◌, ◌∷◌, [], Err, length, vec_len, vec_capacity};
+ghost use Rattle.std.specs.Prelude.{◌≡◌, ◌≤◌, ◌+◌, ◌*◌, ◌++◌, ◌∷◌, [], Err, length, take, vec_len, vec_capacity};
 ghost use Rattle.std.specs.List.{AllByRecursion};
-ghost use Rattle.fixed_um.specs.Calls.{HasRoom};
+ghost use Rattle.fixed_um.specs.Calls.{Grows, HasRoom};
+ghost use Rattle.dme_line.specs.Tags.{IsTag, written_tag};
+ghost use Rattle.dme_line.specs.declared.tags.Tag.{Tag};
 ghost use Rattle.dme_line.specs.Points.{IsOnWire};
 ghost use Rattle.dme_line.specs.Errors.{number_of};
 ghost use Rattle.protocol_model.specs.Replies.{Reply};
@@ -14,9 +16,8 @@ ghost use Rattle.server_core.specs.Kept.{IsFit};
 
 use command_queue::Queue;
 use dme_line::{
-    Command, ErrorNumber, Kind, Tag, write_complete_reserved, write_data_reserved,
-    write_error_reserved, write_homed_data_reserved, write_line_end_reserved,
-    write_received_reserved,
+    Command, ErrorNumber, Kind, Tag, write_error_reserved, write_homed_data_reserved,
+    write_line_end_reserved, write_point_reserved,
 };
 use fixed_um::Point;
 use protocol_model::Misread;
@@ -25,12 +26,96 @@ use protocol_model::Misread;
 /// command runs and 64 wait (this profile).
 pub const ANSWER_MAX: usize = 10_560;
 
-/// A command was received.
-pub(crate) fn write_received(out: &mut Vec<u8>, tag: Tag)
-    requires { HasRoomFor tag out.old answer_line_most }
-    ensures { Says out.old out.new (Reply.Ack tag ∷ []) answer_line_most }
+/// The five bytes of a tag.
+#[inline(always)]
+fn tag_text(tag: Tag) -> [u8; 5]
+    requires { IsTag tag }
+    ensures { result ≡ written_tag tag }
 {
-    write_received_reserved(out, tag);
+    let (first, number) = match tag {
+        Tag::Std(number) => (b'0' + (number / 10_000) as u8, number % 10_000),
+        Tag::Event(number) => (b'E', u32::from(number)),
+    };
+    let front = number / 100;
+    let back = number % 100;
+    [
+        first,
+        b'0' + (front / 10) as u8,
+        b'0' + (front % 10) as u8,
+        b'0' + (back / 10) as u8,
+        b'0' + (back % 10) as u8,
+    ]
+}
+
+/// Appends five bytes; the caller must have made room for them.
+#[inline(always)]
+fn push_five(out: &mut Vec<u8>, text: [u8; 5])
+    requires { HasRoom out.old 5 }
+    ensures text { out.new.items ≡ out.old.items ++ text }
+    ensures grows { Grows out.old out.new 5 }
+{
+    let [a, b, c, d, e] = text;
+    out.push_reserved(a);
+    out.push_reserved(b);
+    out.push_reserved(c);
+    out.push_reserved(d);
+    out.push_reserved(e);
+}
+
+/// Appends what follows the tag in a line without data: a space, the mark and the end of the line.
+#[inline(always)]
+fn push_end(out: &mut Vec<u8>, mark: u8)
+    requires { HasRoom out.old 4 }
+    ensures text { out.new.items ≡ out.old.items ++ (32 ∷ mark ∷ 13 ∷ 10 ∷ []) }
+    ensures grows { Grows out.old out.new 4 }
+{
+    out.push_reserved(b' ');
+    out.push_reserved(mark);
+    out.push_reserved(b'\r');
+    out.push_reserved(b'\n');
+}
+
+/// A command was received. The line begins with its tag.
+#[tactic(auto, using(crate::proofs::Writings::received_says))]
+#[inline(always)]
+pub(crate) fn write_received(out: &mut Vec<u8>, line: &[u8])
+    requires room { HasRoom out.old answer_line_most }
+    requires five { 5 ≤ length line.now }
+    ensures { (tag : Tag) → take 5 line.now ≡ written_tag tag
+        → Says out.old out.new (Reply.Ack tag ∷ []) answer_line_most }
+{
+    let [a, b, c, d, e, ..] = line else {
+        unreachable!();
+    };
+    push_five(out, [*a, *b, *c, *d, *e]);
+    push_end(out, b'&');
+}
+
+/// The command is complete whose tag is written so.
+#[tactic(auto, using(crate::proofs::Writings::complete_says))]
+#[inline(always)]
+fn push_complete(out: &mut Vec<u8>, text: [u8; 5])
+    requires { HasRoom out.old answer_line_most }
+    ensures { (tag : Tag) → text ≡ written_tag tag
+        → Says out.old out.new (Reply.Done tag ∷ []) answer_line_most }
+{
+    push_five(out, text);
+    push_end(out, b'%');
+}
+
+/// The point of a touch, whose tag is written so.
+#[tactic(auto, using(crate::proofs::Writings::point_says))]
+#[inline(always)]
+fn push_point(out: &mut Vec<u8>, text: [u8; 5], point: Point)
+    requires { HasRoom out.old answer_line_most }
+    ensures { (tag : Tag) → text ≡ written_tag tag
+        → Says out.old out.new (Reply.Given tag (datum.Point point) ∷ []) answer_line_most }
+{
+    push_five(out, text);
+    out.push_reserved(b' ');
+    out.push_reserved(b'#');
+    out.push_reserved(b' ');
+    write_point_reserved(out, point);
     write_line_end_reserved(out);
 }
 
@@ -39,17 +124,19 @@ pub(crate) fn write_complete(out: &mut Vec<u8>, tag: Tag)
     requires { HasRoomFor tag out.old answer_line_most }
     ensures { Says out.old out.new (Reply.Done tag ∷ []) answer_line_most }
 {
-    write_complete_reserved(out, tag);
-    write_line_end_reserved(out);
+    push_complete(out, tag_text(tag));
 }
 
-/// The point of a touch.
-pub(crate) fn write_point(out: &mut Vec<u8>, tag: Tag, point: Point)
-    requires { HasRoomFor tag out.old answer_line_most }
-    ensures { Says out.old out.new (Reply.Given tag (datum.Point point) ∷ []) answer_line_most }
+/// A touch is complete: its point, and its end.
+#[tactic(auto, using(crate::proofs::Writings::touched_says))]
+pub(crate) fn write_touched(out: &mut Vec<u8>, tag: Tag, point: Point)
+    requires { HasRoomFor tag out.old failure_most }
+    ensures { Says out.old out.new (Reply.Given tag (datum.Point point) ∷ Reply.Done tag ∷ [])
+        failure_most }
 {
-    write_data_reserved(out, tag, point);
-    write_line_end_reserved(out);
+    let text = tag_text(tag);
+    push_point(out, text, point);
+    push_complete(out, text);
 }
 
 /// The answer to `IsHomed`.

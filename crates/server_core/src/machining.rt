@@ -12,7 +12,7 @@ ghost use Rattle.fixed_um.specs.Calls.{Leads};
 ghost use Rattle.server_core.specs.Answering.{HasAnswerRoom, MayEnd, IsBounded, Answers, AnswersIfOk};
 ghost use Rattle.server_core.specs.Serving.{fits, IsInside, IsMachineFault};
 
-use crate::answers::{write_all_aborted, write_complete, write_failure, write_point};
+use crate::answers::{ANSWER_MAX, write_all_aborted, write_complete, write_failure, write_touched};
 use crate::checks::offset;
 use crate::controller::{Controller, Running};
 use crate::faults::ServerFault;
@@ -23,6 +23,7 @@ use protocol_model::{Line, Outcome};
 use std::alloc::AllocError;
 
 /// Appends an act on a connection. Fails only if out of memory.
+#[inline(always)]
 pub(crate) fn record(ledger: &mut ServerLedger, connection: u64, act: Act) -> Result<(), AllocError>
     requires { IsConnection connection }
     ensures { Leads result ledger.old ledger.new (ledger.old ++ (connection, act) ∷ []) }
@@ -160,17 +161,17 @@ impl Controller {
         };
         record(&mut self.ledger, self.last, contact)?;
         self.running = None;
-        write_point(out, tag, point);
-        write_complete(out, tag);
+        write_touched(out, tag, point);
         Ok(())
     }
 
     /// The machine is done with what runs. Fails only if out of memory.
     pub(crate) fn end(&mut self, out: &mut Vec<u8>, outcome: Outcome) -> Result<(), AllocError>
-        requires may { MayEnd self.old out.old outcome }
+        requires may { server.may_end self.old.server.running outcome ≡ true }
         ensures { AnswersIfOk result self.old self.new out.old out.new
             (server.server_machined self.old.server outcome) }
     {
+        out.reserve(ANSWER_MAX)?;
         match outcome {
             Outcome::Done => self.finish(out),
             Outcome::Touched(at) => self.touch(out, at),

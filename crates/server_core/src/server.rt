@@ -132,7 +132,6 @@ impl Server {
             Ok(None) => return Ok(false),
             Err(fault) => return Err(ServerFault::Framing(fault)),
         };
-        self.out.reserve(ANSWER_MAX)?;
         let line = &self.input.rest()[..length];
         if self
             .controller
@@ -166,7 +165,6 @@ impl Server {
         if !self.controller.may_turn() {
             return Err(ServerFault::NotNow);
         }
-        self.out.reserve(ANSWER_MAX)?;
         self.controller.turn(self.out.as_mut_vec())?;
         Ok(())
     }
@@ -205,7 +203,6 @@ impl Server {
         ensures bounded { length self.new.end.out ≤ length self.old.end.out + ANSWER_MAX }
     {
         self.controller.check(&outcome)?;
-        self.out.reserve(ANSWER_MAX)?;
         self.controller.end(self.out.as_mut_vec(), outcome)?;
         Ok(())
     }

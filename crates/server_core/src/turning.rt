@@ -1,6 +1,6 @@
 // The first waiting command is processed (this profile).
 
-ghost use Rattle.std.specs.Prelude.{◌≡◌, ◌≤◌, ◌+◌, ◌++◌, ◌∷◌, [], true, false, None, length, vec_len, vec_capacity, option_map, IfOk, OnOk, OnErr, Some, Ok};
+ghost use Rattle.std.specs.Prelude.{◌≡◌, ◌≤◌, ◌+◌, ◌++◌, ◌∷◌, [], true, false, None, length, vec_len, vec_capacity, option_map, IfOk, IfSome, OnOk, OnErr, Some, Ok};
 ghost use Rattle.dme_line.specs.Tags.{IsTag};
 ghost use Rattle.dme_line.specs.Errors.{number_of};
 ghost use Rattle.protocol_model.specs.Lines.{reply_bytes};
@@ -8,9 +8,11 @@ ghost use Rattle.dme_line.specs.declared.commands.Command.TheVariants as command
 ghost use Rattle.protocol_model.specs.Server as server;
 ghost use Rattle.fixed_um.specs.Calls.{Leads};
 ghost use Rattle.server_core.specs.Answering.{HasAnswerRoom, MayTurn, Answers, AnswersIfOk};
-ghost use Rattle.server_core.specs.Serving.{with_answered, first_refusal, first_command, runs, IsAtOnce};
+ghost use Rattle.server_core.specs.Serving.{with_answered, may_turn, first_refusal, first_command, runs, IsAtOnce, IsWay};
 
-use crate::answers::{kind_in, write_all_aborted, write_complete, write_failure, write_homed};
+use crate::answers::{
+    ANSWER_MAX, kind_in, write_all_aborted, write_complete, write_failure, write_homed,
+};
 use crate::checks::offset;
 use crate::controller::{Controller, Running};
 use crate::machining::record;
@@ -109,6 +111,69 @@ impl Controller {
         Ok(())
     }
 
+    /// The job of a move or a touch that passes the checks. `None` says nothing: the command may be another one, or one that is refused.
+    #[inline(always)]
+    fn way(&self, command: &Command) -> Option<Job>
+        ensures passes { IfSome result (λ job. server.first_failing
+            (server.checks self.now.server command.now) ≡ None) }
+        ensures job { IfSome result (λ job. server.job_of self.now.server.frame command.now
+            ≡ Some job) }
+        ensures goes { IfSome result (λ job. IsWay command.now) }
+    {
+        if !self.session || !self.homed {
+            return None;
+        }
+        match command {
+            Command::GoTo(target) => {
+                let point = target.shifted(offset(self.frame))?;
+                Some(Job::Move(point))
+            }
+            Command::PtMeas(target, dir) => {
+                if self.tool.is_none() {
+                    return None;
+                }
+                let point = target.shifted(offset(self.frame))?;
+                Some(Job::Touch(point, *dir))
+            }
+            _ => None,
+        }
+    }
+
+    /// The first waiting command runs on the machine from now on if it is a move or a touch that passes the checks, and nothing is
+    /// answered. Else nothing has changed.
+    #[inline(always)]
+    fn go(&mut self) -> bool
+        requires idle { self.old.server.running ≡ None }
+        ensures goes { result ≡ true → self.new ≡ with_answered self.old
+            (server.server_turned self.old.server) }
+        ensures silent { result ≡ true → (server.server_turned self.old.server).said ≡ [] }
+        ensures stays { result ≡ false → self.new ≡ self.old }
+    {
+        let Some(first) = self.waiting.first() else {
+            return false;
+        };
+        let Ok(command) = &first.reading else {
+            return false;
+        };
+        let Some(job) = self.way(command) else {
+            return false;
+        };
+        let Some(
+            Waiting {
+                tag,
+                reading: Ok(command),
+            },
+        ) = self.waiting.take()
+        else {
+            unreachable!();
+        };
+        self.running = Some(Running {
+            line: Line { tag, command },
+            job,
+        });
+        true
+    }
+
     /// The first waiting command selects a coordinate system, and is complete. Fails only if out of memory.
     fn select_frame(&mut self, out: &mut Vec<u8>, system: Csy) -> Result<(), AllocError>
         requires passed { first_refusal self.old.server ≡ None }
@@ -197,10 +262,14 @@ impl Controller {
 
     /// The first waiting command is processed. Fails only if out of memory.
     pub(crate) fn turn(&mut self, out: &mut Vec<u8>) -> Result<(), AllocError>
-        requires { MayTurn self.old out.old }
+        requires { may_turn self.old.server ≡ true }
         ensures { AnswersIfOk result self.old self.new out.old out.new
             (server.server_turned self.old.server) }
     {
+        if self.go() {
+            return Ok(());
+        }
+        out.reserve(ANSWER_MAX)?;
         let Some(first) = self.waiting.first() else {
             return Ok(());
         };
