@@ -21,11 +21,13 @@ struct Commands {
 }
 
 impl Commands {
+    #[inline(always)]
     fn push(&mut self, command: Command, does: Does) -> Result<(), AllocError>
         ensures { OnOk result (self.new.planned.items ≡ self.old.planned.items
             ++ planned command does ∷ []) }
     {
-        self.planned.push(Planned { command, does })?;
+        self.planned.reserve(1)?;
+        self.planned.push_reserved(Planned { command, does });
         Ok(())
     }
 
