@@ -1,6 +1,6 @@
 -- Commands in a slab, listed by their keys.
 use Rattle.std.proofs.Common.{◌≡◌, ◌≢◌, ℕ, zero, suc, ◌<◌, ◌≤◌, ◌+◌, ◌-◌}
-use Rattle.std.proofs.Common.{Bool, true, false, not, ◌||◌, List, [], ◌∷◌, ◌++◌, map, length, get_or}
+use Rattle.std.proofs.Common.{Bool, true, false, not, ◌||◌, ◌&&◌, List, [], ◌∷◌, ◌++◌, map, length, get_or}
 use Rattle.std.proofs.Common.{Option, Some, None, IsSome, refl, sym, ◌∙◌, ap, subst, arith, ◌==◌, set, cond}
 use Rattle.std.specs.Prelude.{is_some}
 use Rattle.std.proofs.lemmas.Bool.{true≢false}
@@ -9,9 +9,10 @@ use Rattle.std.proofs.lemmas.List.Edits.{length-remove}
 use Rattle.std.proofs.lemmas.List.Sums.{sum_by-cons, sum_by_push, sum_by-set, sum_by-remove}
 use Rattle.std.specs.List.{count_by, list_any, remove}
 use Rattle.slab.specs.Slab.{Slab, Updates, with_value, slab_len}
+use Rattle.protocol_model.specs.Open.{is_failed, asks_homed}
 use Rattle.protocol_model.specs.declared.held.OpenCommand.{OpenCommand}
 use Rattle.protocol_model.specs.declared.held.Stage.{Stage}
-use Rattle.dme_tags.specs.Kept.{Slots, slot, command_at, listed, IsApart, AreKeys}
+use Rattle.dme_tags.specs.Kept.{Slots, slot, command_at, listed, is_open, is_open_question, IsApart, AreKeys}
 
 -- ---- a slot that is not a listed one
 
@@ -285,6 +286,23 @@ counted_changed p hs gs i h g n one more within is counts old new list =
     let same : count_by p gs ≡ count_by p (set hs i g) = ap (count_by p) list in
     omega (arith, sums, counts, old, new, same)
 
+pub counted_alike : (p : OpenCommand → Bool) (hs gs : List OpenCommand) (i : ℕ) (h g : OpenCommand) (n : ℕ) → i < length hs
+    → get_or hs i h ≡ h → n ≡ count_by p hs → p g ≡ p h → gs ≡ set hs i g → n ≡ count_by p gs
+counted_alike p hs gs i h g n within is counts alike list =
+    let sums : count_by p (set hs i g) + cond (p h) 1 0 ≡ count_by p hs + cond (p g) 1 0 = changed_sums p hs i h g within is in
+    let one : ◌≡◌ {A = ℕ} (cond (p g) 1 0) (cond (p h) 1 0) = ap (λ (b : Bool). cond b 1 0) alike in
+    let same : count_by p gs ≡ count_by p (set hs i g) = ap (count_by p) list in
+    omega (arith, sums, counts, one, same)
+
+-- a command that has not failed before nor after counts as it did
+pub open_alike : (h : OpenCommand) (stage : Stage) → is_failed h.stage ≡ false → is_failed stage ≡ false
+    → is_open (record h { stage = stage }) ≡ is_open h
+open_alike h stage before after = ap not (after ∙ sym before)
+
+pub question_alike : (h : OpenCommand) (stage : Stage) → is_failed h.stage ≡ false → is_failed stage ≡ false
+    → is_open_question (record h { stage = stage }) ≡ is_open_question h
+question_alike h stage before after = ap (λ (b : Bool). asks_homed h.kind && not b) (after ∙ sym before)
+
 pub enough_removed : (p : OpenCommand → Bool) (hs : List OpenCommand) (i : ℕ) (h : OpenCommand) (n one : ℕ) → i < length hs
     → get_or hs i h ≡ h
     → n ≡ count_by p hs → one ≡ cond (p h) 1 0 → one ≤ n
@@ -336,3 +354,10 @@ pub same_stage : (hs : List OpenCommand) (i : ℕ) (h g : OpenCommand) (stage : 
 same_stage hs i h g stage within here there =
     let same : h ≡ g = sym here ∙ get_or_default hs i h g within ∙ there in
     ap (λ (k : OpenCommand). set hs i (record k { stage = stage })) same
+
+-- commands at one place are one
+pub not_failed : (hs : List OpenCommand) (i : ℕ) (h g : OpenCommand) → i < length hs → get_or hs i h ≡ h → get_or hs i g ≡ g
+    → is_failed h.stage ≡ false → is_failed g.stage ≡ false
+not_failed hs i h g within here there unfailed =
+    let same : g ≡ h = sym there ∙ get_or_default hs i g h within ∙ here in
+    ap (λ (k : OpenCommand). is_failed k.stage) same ∙ unfailed

@@ -1,8 +1,8 @@
 // The open commands of one sort of tags, in sending order.
 
-ghost use Rattle.std.specs.Prelude.{◌≡◌, ◌<◌, cond, [], ◌∷◌, ◌++◌, length, get_or, slice_set, remove, OnOk, OnErr};
+ghost use Rattle.std.specs.Prelude.{◌≡◌, ◌<◌, cond, [], ◌∷◌, ◌++◌, length, get_or, slice_set, remove, false, OnOk, OnErr};
 ghost use Rattle.protocol_model.specs.Client.{held_now};
-ghost use Rattle.protocol_model.specs.Open.{count_open, is_asking};
+ghost use Rattle.protocol_model.specs.Open.{count_open, is_asking, is_failed};
 ghost use Rattle.dme_tags.specs.Kept.{is_open, is_open_question};
 
 use dme_line::{Kind, Tag};
@@ -117,6 +117,19 @@ impl Commands {
         let key = self.slab.insert_reserved(held);
         self.keys.push_reserved(key);
         Ok(())
+    }
+
+    /// The command at a place, which has not failed, comes to this stage, which is no failure. Does not allocate.
+    pub(crate) fn advance(&mut self, index: usize, stage: Stage)
+        requires within { index < length self.old }
+        requires stage { is_failed stage ≡ false }
+        requires held { (held : OpenCommand) → get_or self.old index held ≡ held
+            → is_failed held.stage ≡ false }
+        ensures { (held : OpenCommand) → get_or self.old index held ≡ held
+            → self.new ≡ slice_set self.old index (record held { stage = stage }) }
+    {
+        let key = self.keys[index];
+        self.slab[key].stage = stage;
     }
 
     /// The command at a place comes to this stage. Does not allocate.

@@ -43,6 +43,7 @@ fn is_failed(stage: Stage) -> bool
 
 /// Whether `&` may be read for a command, which is received then.
 fn acknowledge(held: &OpenCommand) -> Result<(), TagFault>
+    ensures unfailed { OnOk result (is_failed held.now.stage ≡ false) }
     ensures ok { OnOk result ((front : Bool) (hs : List OpenCommand)
         → settled held.now hs (judged front held.now.kind held.now.stage Mark.Ack)
         ≡ Ok (record held.now { stage = Stage.Received } ∷ hs, Effect.Quiet)) }
@@ -59,6 +60,7 @@ fn acknowledge(held: &OpenCommand) -> Result<(), TagFault>
 /// Whether these data may be read for a command, which has them then.
 fn accept(held: &OpenCommand, front: bool, datum: &Datum) -> Result<(), TagFault>
     requires { may_be_given (Some held.now.kind) datum.now ≡ true }
+    ensures unfailed { OnOk result (is_failed held.now.stage ≡ false) }
     ensures ok { OnOk result ((hs : List OpenCommand)
         → settled held.now hs (judged front held.now.kind held.now.stage (Mark.Given datum.now))
         ≡ Ok (record held.now { stage = Stage.Given datum.now } ∷ hs, Effect.Quiet)) }
@@ -148,11 +150,12 @@ pub(crate) fn receive(commands: &mut Commands, tag: Tag) -> Result<(), TagFault>
 {
     let index = find(commands, tag)?;
     acknowledge(commands.at(index))?;
-    commands.set_stage(index, Stage::Received);
+    commands.advance(index, Stage::Received);
     Ok(())
 }
 
 /// Data are read. `front`: nothing but an earlier command of the list keeps them back.
+#[inline(always)]
 pub(crate) fn give(
     commands: &mut Commands,
     front: bool,
@@ -169,7 +172,7 @@ pub(crate) fn give(
 {
     let index = find(commands, tag)?;
     accept(commands.at(index), is_front(front, commands, index), &datum)?;
-    commands.set_stage(index, Stage::Given(datum));
+    commands.advance(index, Stage::Given(datum));
     Ok(())
 }
 
@@ -204,6 +207,7 @@ pub(crate) fn end_of(commands: &Commands, front: bool, tag: Tag) -> Result<Ended
 }
 
 /// `%` is read: the command is no longer held. `front` as for data.
+#[inline(always)]
 pub(crate) fn end(commands: &mut Commands, front: bool, tag: Tag) -> Result<Ended, TagFault>
     ensures ok { IfOk result (λ ended.
         heard_in front commands.old tag Mark.Done

@@ -163,6 +163,7 @@ impl Open {
     ///
     /// `UnknownTag` (G1) if no command is held under it; `SecondData` (G4) where the command, a `PtMeas` or `IsHomed` at the front, has
     /// data already; `OutOfOrder` (G2) where it asks for no data, is not at the front, not yet received, or failed.
+    #[inline(always)]
     pub fn data(&mut self, tag: Tag, datum: Datum) -> Result<(), TagFault>
         requires { may_be_given (kind_under tag self.old) datum ≡ true }
         ensures due { IsOk result ↔ AwaitsData tag self.old }
@@ -226,6 +227,7 @@ impl Open {
     /// `UnknownTag` (G1) if no command is held under it; `NoData` (G3) where a `PtMeas` or `IsHomed` at the front was received and has no
     /// data; `OutOfOrder` (G2) where the command has not failed and is not at the front, or was not received. So commands count in sending
     /// order, standard ones and event ones each.
+    #[inline(always)]
     pub fn complete(&mut self, tag: Tag) -> Result<Ended, TagFault>
         ensures ending { IsEnding tag self.old result }
         ensures ok { IfOk result (λ ended. heard self.old tag Mark.Done

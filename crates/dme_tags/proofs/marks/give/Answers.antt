@@ -6,6 +6,7 @@ use Rattle.protocol_model.specs.Open.{Effect}
 use Rattle.dme_tags.specs.Data.{may_be_given}
 use Rattle.dme_tags.proofs.Places.{changed_at, kind_at, refused_at}
 use Rattle.dme_tags.proofs.Fitting.{fit_heard}
+use Rattle.dme_tags.proofs.Kept.{not_failed}
 use Rattle.dme_tags.proofs.marks.give.Goals as goal
 
 pub returns-in_err-index-clause-refused : goal.returns-in_err-index-clause-refused
@@ -21,7 +22,7 @@ returns-in_err-accept-clause-refused c =
 
 pub returns-clause-ok : goal.returns-clause-ok
 returns-clause-ok c =
-    rw (c.set_stage.ensures c.at.result.now c.at.ensures) (changed_at c.args.front _ _ (Mark.Given c.args.datum) _ _ _ Effect.Quiet _
+    rw (c.advance.ensures c.at.result.now c.at.ensures) (changed_at c.args.front _ _ (Mark.Given c.args.datum) _ _ _ Effect.Quiet _
     (c.in_ok-index.ensures.found.at c.at.result.now c.at.ensures) c.is_front.ensures (c.in_ok-accept.ensures.ok _))
 
 pub returns-clause-fit : goal.returns-clause-fit
@@ -31,3 +32,7 @@ pub accept-requires : goal.accept-requires
 accept-requires c =
     ap (λ (k : Option Kind). may_be_given k c.args.datum) (sym (kind_at c.args.tag _ _ _
     (c.in_ok-index.ensures.found.at c.at.result.now c.at.ensures))) ∙ c.requires
+
+pub advance-requires-clause-held : goal.advance-requires-clause-held
+advance-requires-clause-held c held here =
+    not_failed _ _ c.at.result.now held c.in_ok-index.ensures.found.within c.at.ensures here c.in_ok-accept.ensures.unfailed
