@@ -1,12 +1,14 @@
 -- A counted command is what `protocol_model` counts.
-use Rattle.std.proofs.Common.{◌≡◌, suc, Bool, ◌||◌, List, [], ◌∷◌, ◌++◌, drop, Option, sym, ap}
+use Rattle.std.proofs.Common.{◌≡◌, suc, Bool, true, false, ◌||◌, List, [], ◌∷◌, ◌++◌, drop, Option, Some, None, refl, sym, ap}
 use Rattle.dme_line.specs.declared.commands.Kind.{Kind}
 use Rattle.dmis_program.specs.declared.features.Wanted.{Wanted}
 use Rattle.protocol_model.specs.Client.{Tally, act_of, measured, counted_next, begins_session, tells_homed, passed_over}
 use Rattle.protocol_model.specs.declared.held.Datum.{Datum}
+use Rattle.protocol_model.specs.declared.held.Datum.TheVariants as datum
+use Rattle.protocol_model.specs.declared.plans.Does.{Does}
 use Rattle.protocol_model.specs.declared.plans.Planned.{Planned}
 use Rattle.client_core.specs.declared.progress.Progress.{Progress}
-use Rattle.client_core.specs.Progress.{tally_of, measured_so}
+use Rattle.client_core.specs.Progress.{tally_of, measured_so, is_contact}
 
 -- the next command of the plan
 pub counted_is : (ws : List Wanted) (kind : Kind) (given : Option Datum) (p q : Progress) (planned : Planned) (rest : List Planned)
@@ -32,3 +34,19 @@ pub none_counted : (ws : List Wanted) (kind : Kind) (given : Option Datum) (p : 
     → (failed : Bool) → tally_of failed p ≡ counted_next ws kind given (tally_of failed p).todo (tally_of failed p)
 none_counted ws kind given p none failed =
     ap (λ (l : List Planned). counted_next ws kind given l (tally_of failed p)) (sym none)
+
+-- what is no contact measures nothing
+pub unmeasured : (ws : List Wanted) (does : Does) (given : Option Datum) (y : Tally) → is_contact does given ≡ false
+    → measured ws does given y ≡ y
+unmeasured ws Does.Nothing given y e = refl
+unmeasured ws Does.AsksHomed given y e = refl
+unmeasured ws Does.Homes given y e = refl
+unmeasured ws (Does.Moves p f) given y e = refl
+unmeasured ws (Does.Changes n) given y e = refl
+unmeasured ws (Does.Frames f) given y e = refl
+unmeasured ws (Does.Touches t false) None y e = refl
+unmeasured ws (Does.Touches t true) None y e = refl
+unmeasured ws (Does.Touches t false) (Some (datum.Homed h)) y e = refl
+unmeasured ws (Does.Touches t true) (Some (datum.Homed h)) y e = refl
+unmeasured ws (Does.Touches t false) (Some (datum.Point p)) y e = absurd (cc e)
+unmeasured ws (Does.Touches t true) (Some (datum.Point p)) y e = absurd (cc e)

@@ -1,5 +1,6 @@
--- All that read as the interface says read a line, a point, and whether the machine is homed, in one way.
-use Rattle.std.proofs.Common.{◌≡◌, ℕ, Bool, List, Result}
+-- All that read as the interface says read a line, a point, and whether the machine is homed, in one way. What a server says unasked
+-- changes nothing.
+use Rattle.std.proofs.Common.{◌≡◌, ℕ, Bool, true, false, if◌then◌else◌, List, Result, refl}
 use Rattle.fixed_um.specs.declared.lengths.Point.{Point}
 use Rattle.dme_line.specs.Points.{ReadsPoint}
 use Rattle.dme_line.specs.Homed.{ReadsHomed}
@@ -11,6 +12,13 @@ use Rattle.dme_line.specs.declared.responses.NotResponse.{NotResponse}
 use Rattle.dme_line.proofs.HomedLemmas.{one_homed_reading}
 use Rattle.dme_line.proofs.OneResponse.{one_response_reading}
 use Rattle.dme_line.proofs.PointLemmas.{one_point_reading}
+use Rattle.dme_line.specs.declared.responses.Mark.{Mark as Marked}
+use Rattle.dme_line.specs.declared.responses.Mark.TheVariants as mark
+use Rattle.dme_line.specs.declared.tags.Tag.{Tag}
+use Rattle.dme_line.specs.declared.tags.Tag.TheVariants.{Event}
+use Rattle.protocol_model.specs.Client.{Client, client_hears, heard_on}
+use Rattle.protocol_model.specs.Ends.{given_under, held_under, response_read}
+use Rattle.protocol_model.specs.Replies.{Mark, tag_is}
 use Rattle.protocol_model.specs.Readings.{response_of, point_of, homed_of, reads_response, reads_point, reads_homed}
 
 pub one_point : (text : List ℕ) (r : Result Point NotPoint) → ReadsPoint text r → point_of text ≡ r
@@ -21,3 +29,14 @@ one_homed text r read = one_homed_reading text (homed_of text) r (reads_homed te
 
 pub one_response : (line : List ℕ) (r : Result Response NotResponse) → ReadsResponse line r → response_of line ≡ r
 one_response line r read = one_response_reading line (response_of line) r (reads_response line) read
+
+kept : (b : Bool) (c d : Client) → b ≡ true → (if b then c else d) ≡ c
+kept true c d is = refl
+kept false c d is = absurd (cc is)
+
+pub unasked : (c : Client) (t : Tag) (m : Marked) → tag_is t (Event 0) ≡ true → response_read c t m ≡ c
+unasked c t mark.Ack is = kept (tag_is t (Event 0)) c (client_hears c t Mark.Ack (heard_on c.program.features c.table t Mark.Ack)) is
+unasked c t (mark.Given text) is = kept (tag_is t (Event 0)) c (given_under c t text (held_under t c)) is
+unasked c t mark.Done is = kept (tag_is t (Event 0)) c (client_hears c t Mark.Done (heard_on c.program.features c.table t Mark.Done)) is
+unasked c t (mark.Error text) is =
+    kept (tag_is t (Event 0)) c (client_hears c t Mark.Error (heard_on c.program.features c.table t Mark.Error)) is

@@ -1,6 +1,6 @@
 -- What a client has counted, as its code keeps it: a plan with the indices of its first uncounted and its first unsent command in place
 -- of what is left of it.
-use Rattle.std.specs.Prelude.{ℕ, Bool, List, [], ◌∷◌, Option, Some, None, drop}
+use Rattle.std.specs.Prelude.{ℕ, Bool, true, false, List, [], ◌∷◌, Option, Some, None, drop}
 use Rattle.fixed_um.specs.declared.lengths.Point.{Point}
 use Rattle.contact_ledger.specs.declared.acts.Act.{Act}
 use Rattle.contact_ledger.specs.declared.features.Feature.{Feature}
@@ -8,6 +8,9 @@ use Rattle.dme_line.specs.declared.tags.Tag.{Tag}
 use Rattle.dmis_program.specs.Meaning.{Meaning}
 use Rattle.dme_tags.specs.Opened.{OpenValue}
 use Rattle.protocol_model.specs.Client.{Client, Tally}
+use Rattle.protocol_model.specs.declared.held.Datum.{Datum}
+use Rattle.protocol_model.specs.declared.held.Datum.TheVariants as datum
+use Rattle.protocol_model.specs.declared.plans.Does.{Does}
 use Rattle.protocol_model.specs.declared.states.State.{State}
 use Rattle.protocol_model.specs.declared.states.Cause.{Cause}
 use Rattle.client_core.specs.Tables.{table_of}
@@ -35,6 +38,11 @@ measured_so connection points features y = record y { connection = connection; p
 abbrev pub listed : Option Act → List Act
 listed None = []
 listed (Some act) = act ∷ []
+
+-- a touch whose data line gave a point
+abbrev pub is_contact : Does → Option Datum → Bool
+is_contact (Does.Touches t last) (Some (datum.Point p)) = true
+is_contact _ _ = false
 
 -- what `protocol_model` specifies for a client whose code keeps these
 abbrev pub seen : Meaning → ℕ → Bool → State → Option Cause → OpenValue → Progress → Option Tag → Client

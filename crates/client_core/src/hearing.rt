@@ -53,11 +53,9 @@ impl Executor {
 
     /// `&` is read under a tag.
     pub(crate) fn hear_received(&mut self, tag: Tag)
+        requires said { tag_is tag (tags.Event 0) ≡ false }
         ensures { self.new ≡ client_read self.old tag Mark.Ack }
     {
-        if is_unasked(tag) {
-            return;
-        }
         match self.commands.received(tag) {
             Ok(()) => self.settle(false),
             Err(fault) => self.refuse(fault),
@@ -65,13 +63,12 @@ impl Executor {
     }
 
     /// What the command that is held under a tag asks for is read.
+    #[inline(always)]
     pub(crate) fn hear_datum(&mut self, tag: Tag, datum: Datum)
-        requires { may_be_given (kind_under tag (opened_of self.old)) datum ≡ true }
+        requires said { tag_is tag (tags.Event 0) ≡ false }
+        requires fits { may_be_given (kind_under tag (opened_of self.old)) datum ≡ true }
         ensures { self.new ≡ client_read self.old tag (Mark.Given datum) }
     {
-        if is_unasked(tag) {
-            return;
-        }
         match self.commands.data(tag, datum) {
             Ok(()) => self.settle(false),
             Err(fault) => self.refuse(fault),
@@ -80,11 +77,9 @@ impl Executor {
 
     /// `!` is read under a tag.
     pub(crate) fn hear_error(&mut self, tag: Tag)
+        requires said { tag_is tag (tags.Event 0) ≡ false }
         ensures { self.new ≡ client_read self.old tag Mark.Error }
     {
-        if is_unasked(tag) {
-            return;
-        }
         let ends = self.ends_abort(tag);
         match self.commands.failed(tag) {
             Ok(()) => self.settle(ends),
@@ -134,12 +129,10 @@ impl Executor {
 
     /// `%` is read under a tag. Fails only if out of memory.
     pub(crate) fn hear_done(&mut self, tag: Tag) -> Result<(), AllocError>
+        requires said { tag_is tag (tags.Event 0) ≡ false }
         requires connection { IsConnection self.old.last }
         ensures { Leads result self.old self.new (client_read self.old tag Mark.Done) }
     {
-        if is_unasked(tag) {
-            return Ok(());
-        }
         let ends = self.ends_abort(tag);
         match (tag, self.commands.end_of(tag)) {
             (Tag::Std(_), Ok(Ended::Counted(kind, given))) => self.count(tag, ends, kind, &given),

@@ -1,10 +1,12 @@
 // What a client makes of a line (this profile).
 
-ghost use Rattle.std.specs.Prelude.{◌≡◌, OnOk, OnErr};
+ghost use Rattle.std.specs.Prelude.{◌≡◌, false, OnOk, OnErr};
 ghost use Rattle.fixed_um.specs.Calls.{Leads};
 ghost use Rattle.contact_ledger.specs.Ledgers.{IsConnection};
 ghost use Rattle.dme_line.specs.Responses.{the_mark};
+ghost use Rattle.dme_line.specs.declared.tags.Tag.TheVariants as tags;
 ghost use Rattle.protocol_model.specs.Readings.{response_of};
+ghost use Rattle.protocol_model.specs.Replies.{tag_is};
 ghost use Rattle.protocol_model.specs.Ends.{given, response_read, line_read};
 
 use crate::executor::Executor;
@@ -19,11 +21,9 @@ impl Executor {
     /// The text of a data line is read as what the command under its tag asks for: a point, or whether the machine is homed.
     #[tactic(auto, using(crate::proofs::Readings::one_point, crate::proofs::Readings::one_homed))]
     fn hear_data(&mut self, tag: Tag, text: &[u8])
+        requires said { tag_is tag (tags.Event 0) ≡ false }
         ensures { self.new ≡ given self.old tag text.now }
     {
-        if is_unasked(tag) {
-            return;
-        }
         match self.commands.kind_of(tag) {
             None => self.fault(Cause::UnknownTag),
             Some(Kind::PtMeas) => match read_point(text) {
@@ -38,12 +38,16 @@ impl Executor {
         }
     }
 
-    /// A response is read. Fails only if out of memory.
+    /// A response is read; what a server says unasked changes nothing. Fails only if out of memory.
+    #[tactic(auto, using(crate::proofs::Readings::unasked))]
     fn hear(&mut self, tag: Tag, mark: MarkSlice<'_>) -> Result<(), AllocError>
         requires connection { IsConnection self.old.last }
         ensures { Leads result self.old self.new
             (response_read self.old tag (the_mark mark.entry)) }
     {
+        if is_unasked(tag) {
+            return Ok(());
+        }
         match mark {
             MarkSlice::Ack => self.hear_received(tag),
             MarkSlice::Given(text) => self.hear_data(tag, text),

@@ -1,8 +1,8 @@
 // What a client counts.
 
-ghost use Rattle.std.specs.Prelude.{◌≡◌, ◌≤◌, [], ◌∷◌, ◌++◌, Bool, false, Some, length, take, drop, OnOk, OnErr, IfOk};
+ghost use Rattle.std.specs.Prelude.{◌≡◌, ◌≤◌, [], ◌∷◌, ◌++◌, ◌<◌, Bool, false, Some, length, take, drop, vec_len, vec_capacity, OnOk, OnErr, IfOk};
 ghost use Rattle.protocol_model.specs.Client.{Tally, act_of, joined, measured, counted_next, passed_over, tells_homed, without_homing};
-ghost use Rattle.client_core.specs.Progress.{tally_of, measured_so, listed};
+ghost use Rattle.client_core.specs.Progress.{tally_of, measured_so, listed, is_contact};
 ghost use Rattle.contact_ledger.specs.Ledgers.{IsConnection};
 
 use contact_ledger::{Act, Feature, FeatureLedger, Origin, Points};
@@ -27,29 +27,6 @@ pub(crate) struct Progress {
     pub counted: Vec<Act>,
     pub points: Points,
     pub features: FeatureLedger,
-}
-
-/// The act that a counted command means, with what its data line said: whether the machine is homed, or the point of a contact.
-fn act_of(alloc: Global, does: &Does, given: &Option<Datum>) -> Result<Option<Act>, AllocError>
-    ensures { IfOk result (λ act. listed act ≡ act_of does.now given.now) }
-{
-    match (does, given) {
-        (Does::Nothing, _) => Ok(None),
-        (Does::AsksHomed, Some(Datum::Homed(homed))) => Ok(Some(Act::HomedIs(*homed))),
-        (Does::AsksHomed, _) => Ok(None),
-        (Does::Homes, _) => Ok(Some(Act::Homed)),
-        (Does::Moves(target, frame), _) => Ok(Some(Act::Moved(*target, *frame))),
-        (Does::Changes(tool), _) => Ok(Some(Act::Changed(tool.copy(alloc)?))),
-        (Does::Frames(frame), _) => Ok(Some(Act::Framed(*frame))),
-        (Does::Touches { touch, .. }, Some(Datum::Point(point))) => Ok(Some(Act::Contact {
-            target: touch.target,
-            dir: touch.dir,
-            tool: touch.tool.copy(alloc)?,
-            frame: touch.frame,
-            point: *point,
-        })),
-        (Does::Touches { .. }, _) => Ok(None),
-    }
 }
 
 /// The unfinished feature joins the others with one more point, its last, and its origin. Fails only if out of memory.
@@ -123,6 +100,71 @@ fn measure(
         (Does::Touches { last: false, .. }, Some(Datum::Point(point))) => points.push(*point),
         _ => Ok(()),
     }
+}
+
+/// The act that a counted command means which is no contact, with what its data line said: whether the machine is homed.
+fn act_of(alloc: Global, does: &Does, given: &Option<Datum>) -> Result<Option<Act>, AllocError>
+    requires { is_contact does.now given.now ≡ false }
+    ensures { IfOk result (λ act. listed act ≡ act_of does.now given.now) }
+{
+    match (does, given) {
+        (Does::Nothing, _) => Ok(None),
+        (Does::AsksHomed, Some(Datum::Homed(homed))) => Ok(Some(Act::HomedIs(*homed))),
+        (Does::AsksHomed, _) => Ok(None),
+        (Does::Homes, _) => Ok(Some(Act::Homed)),
+        (Does::Moves(target, frame), _) => Ok(Some(Act::Moved(*target, *frame))),
+        (Does::Changes(tool), _) => Ok(Some(Act::Changed(tool.copy(alloc)?))),
+        (Does::Frames(frame), _) => Ok(Some(Act::Framed(*frame))),
+        (Does::Touches { .. }, Some(Datum::Point(_))) => unreachable!(),
+        (Does::Touches { .. }, _) => Ok(None),
+    }
+}
+
+/// The act that a counted command means, with what its data line said, joins those that are counted, and its point the unfinished
+/// feature. There is room for an act. Fails only if out of memory.
+#[tactic(auto, using(crate::proofs::Counting::unmeasured))]
+fn count_act(
+    alloc: Global,
+    wanted: &[Wanted],
+    connection: u64,
+    points: &mut Points,
+    features: &mut FeatureLedger,
+    counted: &mut Vec<Act>,
+    does: &Does,
+    given: &Option<Datum>,
+) -> Result<(), AllocError>
+    requires connection { IsConnection connection }
+    requires room { vec_len counted.old < vec_capacity counted.old }
+    ensures measured { OnOk result ((y : Tally) → measured wanted.now does.now given.now
+        (measured_so connection points.old features.old y)
+        ≡ measured_so connection points.new features.new y) }
+    ensures counted { OnOk result (counted.new.items
+        ≡ counted.old.items ++ act_of does.now given.now) }
+    ensures features { length features.old ≤ length wanted.now
+        → length features.new ≤ length wanted.now }
+    ensures features_err { OnErr result (features.new ≡ features.old) }
+    ensures points_err { OnErr result (points.new ≡ points.old) }
+    ensures counted_err { OnErr result (counted.new.items ≡ counted.old.items) }
+{
+    let act = match (does, given) {
+        (Does::Touches { touch, .. }, Some(Datum::Point(point))) => {
+            let tool = touch.tool.copy(alloc)?;
+            measure(alloc, wanted, connection, points, features, does, given)?;
+            Act::Contact {
+                target: touch.target,
+                dir: touch.dir,
+                tool,
+                frame: touch.frame,
+                point: *point,
+            }
+        }
+        _ => match act_of(alloc, does, given)? {
+            Some(act) => act,
+            None => return Ok(()),
+        },
+    };
+    counted.push_reserved(act);
+    Ok(())
 }
 
 /// Whether a counted command reported that the machine is homed.
@@ -206,20 +248,17 @@ impl Progress {
         let Some(planned) = self.plan.as_slice().get(self.todo) else {
             return Ok(());
         };
-        let act = act_of(alloc, &planned.does, given)?;
         self.counted.reserve(1)?;
-        measure(
+        count_act(
             alloc,
             wanted,
             self.connection,
             &mut self.points,
             &mut self.features,
+            &mut self.counted,
             &planned.does,
             given,
         )?;
-        if let Some(act) = act {
-            self.counted.push_reserved(act);
-        }
         if matches!(kind, Kind::StartSession) {
             self.session = true;
         }

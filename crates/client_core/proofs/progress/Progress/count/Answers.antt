@@ -3,7 +3,7 @@ use Rattle.protocol_model.specs.Client.{tells_homed, passed_over}
 use Rattle.client_core.proofs.Counting.{counted_is}
 use Rattle.client_core.proofs.Sends.{first_left}
 use Rattle.client_core.proofs.progress.Progress.count.Goals as goal
-use Rattle.client_core.proofs.progress.Progress.count.Goals.{in-Some-act, in_default-act, then-matches, else-matches}
+use Rattle.client_core.proofs.progress.Progress.count.Goals.{then-matches, else-matches}
 
 pub returns-clause-ok : goal.returns-clause-ok
 returns-clause-ok c =
@@ -22,5 +22,5 @@ returns-clause-ok c =
     (todo ∙ ap (λ (n : ℕ). passed_over (tells_homed c.args.kind c.args.given.now) (drop n c.args.self.now.plan.items))
     (add-one c.args.self.now.todo))
     (search rules)
-    (elim c.match-act-5.branch [ in-Some-act w ↦ search rules | in_default-act w ↦ search rules ])
+    (search rules)
     (search rules)
