@@ -23,6 +23,7 @@ pub mod Reached
 pub mod Rejoining
 pub mod Resting
 pub mod RoundLists
+pub mod RowNumbers
 pub mod Running
 pub mod SameKind
 pub mod ScheduleLines

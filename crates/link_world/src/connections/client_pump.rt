@@ -9,7 +9,9 @@ ghost use Rattle.link_world.specs.Pumps.{Sending, Blames, BlamesPorts, ClientMov
 ghost use Rattle.link_world.specs.PumpParts.{GoesOn, ReadsOn, AllOut, Came, CameShort, IsReadFault};
 ghost use Rattle.protocol_model.specs.Ends.{end_left};
 
-use crate::connections::pumps::{Budget, Moved, PIECE, PumpFault, pull_counted, push_counted};
+use crate::connections::pumps::{
+    Budget, Moved, PIECE, Piece, PumpFault, pull_counted, push_counted,
+};
 use byte_ports::{Ports, Sink, Source};
 use client_core::{Client, ClientFault};
 
@@ -55,6 +57,7 @@ fn take_in<R: Source>(
     source: &mut R,
     at_least: usize,
     budget: &mut Budget,
+    piece: &mut Piece,
 ) -> Result<usize, PumpFault<ClientFault>>
     requires { may_read client.old.client ≡ true }
     ensures came { IfOk result (λ count. Came client.old client.new (R.left source.old)
@@ -69,7 +72,6 @@ fn take_in<R: Source>(
     ensures blamed { Blames PumpFault.ReadFailed result (R.has_failed source.old)
         (R.has_failed source.new) }
 {
-    let mut piece = [0u8; PIECE];
     let mut read = 0;
     while read < at_least {
         // At most as many bytes as their count can hold.
@@ -105,6 +107,7 @@ fn turn<R: Source, W: Sink>(
     ports: &mut Ports<R, W>,
     at_least: usize,
     bound: u64,
+    piece: &mut Piece,
 ) -> Result<Moved, PumpFault<ClientFault>>
     ensures moved { IfOk result (λ moved. ClientMovedWithin bound
         (R.calls ports.old.source + W.calls ports.old.sink) (R.calls ports.new.source + W.calls ports.new.sink)
@@ -123,9 +126,38 @@ fn turn<R: Source, W: Sink>(
     let mut budget = Budget { left: bound };
     let written = give_out(client, &mut ports.sink, &mut budget)?;
     client.feed(&[])?;
-    let read = take_in(client, &mut ports.source, at_least, &mut budget)?;
+    let read = take_in(client, &mut ports.source, at_least, &mut budget, piece)?;
     read_lines(client, &mut budget)?;
     Ok(Moved { read, written })
+}
+
+/// One turn of a client over the ports of its connection, as `client_turns`, with room for the bytes of a pull.
+pub(crate) fn client_turns_with<R: Source, W: Sink>(
+    client: &mut Client,
+    ports: &mut Ports<R, W>,
+    at_least: usize,
+    bound: u64,
+    piece: &mut Piece,
+) -> Result<Moved, PumpFault<ClientFault>>
+    ensures moved { IfOk result (λ moved. ClientMovedWithin bound
+        (R.calls ports.old.source + W.calls ports.old.sink) (R.calls ports.new.source + W.calls ports.new.sink)
+        at_least client.old client.new (R.left ports.old.source) (R.left ports.new.source)
+        (W.taken ports.old.sink) (W.taken ports.new.sink) moved) }
+    ensures stopped { IfErr result (λ fault. ClientStoppedWithin bound
+        (R.calls ports.old.source + W.calls ports.old.sink) (R.calls ports.new.source + W.calls ports.new.sink)
+        at_least client.old client.new (R.left ports.old.source) (R.left ports.new.source)
+        (W.taken ports.old.sink) (W.taken ports.new.sink) fault) }
+    ensures few { IfOk result (λ moved. moved.read < at_least + PIECE) }
+    ensures unasked { at_least ≡ 0 → ports.new.source ≡ ports.old.source }
+    ensures blamed { BlamesPorts PumpFault.ReadFailed PumpFault.WriteFailed result
+        (R.has_failed ports.old.source) (R.has_failed ports.new.source)
+        (W.has_failed ports.old.sink) (W.has_failed ports.new.sink) }
+{
+    let result = turn(client, ports, at_least, bound, piece);
+    if result.is_err() {
+        client.leave();
+    }
+    result
 }
 
 /// One turn of a client over the ports of its connection (this profile): it sends each command that is due; all that it has written goes
@@ -156,9 +188,5 @@ pub fn client_turns<R: Source, W: Sink>(
         (R.has_failed ports.old.source) (R.has_failed ports.new.source)
         (W.has_failed ports.old.sink) (W.has_failed ports.new.sink) }
 {
-    let result = turn(client, ports, at_least, bound);
-    if result.is_err() {
-        client.leave();
-    }
-    result
+    client_turns_with(client, ports, at_least, bound, &mut [0; PIECE])
 }

@@ -8,9 +8,9 @@ ghost use Rattle.link_world.specs.LinkRuns.{calls_most, client_side, server_side
 
 use crate::connections::links::{LoopFault, STEPS_MAX, TURNS_MAX, watched_turn};
 use crate::connections::machines::Machine;
-use crate::connections::pumps::{Moved, PumpFault};
-use crate::connections::server_pump::serve_turns;
-use crate::connections::watching::Watcher;
+use crate::connections::pumps::{Moved, PIECE, Piece, PumpFault};
+use crate::connections::server_pump::{Limits, watched_turns};
+use crate::connections::watching::{Silent, Watcher};
 use byte_ports::{Ports, Sink, Source};
 use client_core::Client;
 use server_core::Server;
@@ -38,6 +38,7 @@ fn pair<M: Machine, CR: Source, CW: Sink, SR: Source, SW: Sink, N: Watcher>(
     ports: &mut LoopPorts<CR, CW, SR, SW>,
     down: usize,
     watcher: &mut N,
+    piece: &mut Piece,
 ) -> Result<(Moved, Moved), LoopFault>
     ensures moved { IfOk result (λ moved. PairMoved (M.answers machine.old) down
         (client_side client.old (CR.left ports.old.client.source) (CW.taken ports.old.client.sink))
@@ -70,15 +71,25 @@ fn pair<M: Machine, CR: Source, CW: Sink, SR: Source, SW: Sink, N: Watcher>(
     ensures told { TellsRun client.old client.new (N.told watcher.old) (N.told watcher.new) }
     ensures shown { Shown N.shows client.old watcher.old client.new watcher.new }
 {
-    let by_client = match watched_turn(client, &mut ports.client, down, watcher) {
+    let by_client = match watched_turn(client, &mut ports.client, down, watcher, piece) {
         Ok(moved) => moved,
         Err(fault) => {
             server.leave();
             return Err(LoopFault::Client(fault));
         }
     };
-    let asked = by_client.written;
-    match serve_turns(server, machine, &mut ports.server, asked, STEPS_MAX) {
+    let limits = Limits {
+        at_least: by_client.written,
+        bound: STEPS_MAX,
+    };
+    match watched_turns(
+        server,
+        machine,
+        &mut ports.server,
+        limits,
+        &mut Silent,
+        piece,
+    ) {
         Ok(by_server) => Ok((by_client, by_server)),
         Err(fault) => {
             client.leave();
@@ -125,9 +136,12 @@ fn pairs<M: Machine, CR: Source, CW: Sink, SR: Source, SW: Sink, N: Watcher>(
     ensures told { TellsRun client.old client.new (N.told watcher.old) (N.told watcher.new) }
     ensures shown { Shown N.shows client.old watcher.old client.new watcher.new }
 {
+    let mut piece = [0; PIECE];
     let mut down = 0;
     for _pair in 0..TURNS_MAX {
-        let (by_client, by_server) = pair(client, server, machine, ports, down, watcher)?;
+        let (by_client, by_server) = pair(
+            client, server, machine, ports, down, watcher, &mut piece,
+        )?;
         if are_still(by_client, by_server) {
             return Ok(());
         }

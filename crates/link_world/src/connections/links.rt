@@ -9,9 +9,9 @@ ghost use Rattle.link_world.specs.ServerWatching.{EndsWith, ServerRunWatched};
 ghost use Rattle.link_world.specs.Courses.{goes_on};
 ghost use Rattle.link_world.specs.LinkRuns.{calls_most, client_calls_most, is_over, ClientRan, ClientRunStopped, ServerRunStopped};
 
-use crate::connections::client_pump::client_turns;
+use crate::connections::client_pump::client_turns_with;
 use crate::connections::machines::Machine;
-use crate::connections::pumps::{Moved, PIECE, PumpFault};
+use crate::connections::pumps::{Moved, PIECE, Piece, PumpFault};
 use crate::connections::server_pump::{Limits, watched_turns};
 use crate::connections::steering::{Onward, Steering, ask};
 use crate::connections::watching::{ServerWatcher, Silent, Watcher, tell};
@@ -53,6 +53,7 @@ pub(crate) fn watched_turn<R: Source, W: Sink, N: Watcher>(
     ports: &mut Ports<R, W>,
     at_least: usize,
     watcher: &mut N,
+    piece: &mut Piece,
 ) -> Result<Moved, PumpFault<ClientFault>>
     ensures moved { IfOk result (λ moved. ClientMovedWithin STEPS_MAX
         (R.calls ports.old.source + W.calls ports.old.sink) (R.calls ports.new.source + W.calls ports.new.sink)
@@ -71,7 +72,7 @@ pub(crate) fn watched_turn<R: Source, W: Sink, N: Watcher>(
     ensures shown { N.shows client.new watcher.old watcher.new }
 {
     let held = client.features().len();
-    let result = client_turns(client, ports, at_least, STEPS_MAX);
+    let result = client_turns_with(client, ports, at_least, STEPS_MAX, piece);
     tell(client, held, watcher);
     result
 }
@@ -99,6 +100,7 @@ fn rounds<R: Source, W: Sink, N: Watcher, S: Steering>(
     ensures told { TellsRun client.old client.new (N.told watcher.old) (N.told watcher.new) }
     ensures shown { Shown N.shows client.old watcher.old client.new watcher.new }
 {
+    let mut piece = [0; PIECE];
     let mut turns = 0;
     let mut has_stopped = false;
     while !is_over(client.state()) {
@@ -106,12 +108,12 @@ fn rounds<R: Source, W: Sink, N: Watcher, S: Steering>(
             client.leave();
             return Err(PumpFault::TurnsSpent);
         }
-        watched_turn(client, ports, 0, watcher)?;
+        watched_turn(client, ports, 0, watcher, &mut piece)?;
         if is_over(client.state()) {
             return Ok(());
         }
         has_stopped = ask(client, steering, has_stopped)?;
-        watched_turn(client, ports, 1, watcher)?;
+        watched_turn(client, ports, 1, watcher, &mut piece)?;
         turns += 1;
     }
     Ok(())
@@ -214,8 +216,9 @@ pub fn watch_server_link<M: Machine, R: Source, W: Sink, N: ServerWatcher>(
         (R.has_failed ports.old.source) (R.has_failed ports.new.source)
         (W.has_failed ports.old.sink) (W.has_failed ports.new.sink) }
 {
+    let mut piece = [0; PIECE];
     for _turn in 0..TURNS_MAX {
-        if let Err(fault) = watched_turns(server, machine, ports, LINK, watcher) {
+        if let Err(fault) = watched_turns(server, machine, ports, LINK, watcher, &mut piece) {
             return end_of(fault);
         }
     }

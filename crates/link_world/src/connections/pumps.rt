@@ -12,6 +12,9 @@ use server_core::ServerFault;
 /// The most bytes that a pump asks its source for at once.
 pub const PIECE: usize = 4_096;
 
+/// Room for the bytes of one pull. A run makes it once, for all its turns.
+pub(crate) type Piece = [u8; PIECE];
+
 /// How many bytes a turn has moved.
 #[derive(Clone, Copy, Debug, PartialEq, Eq)]
 pub struct Moved {

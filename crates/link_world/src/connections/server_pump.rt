@@ -17,7 +17,9 @@ ghost use Rattle.link_world.specs.ServerPumps.{ServerMovedWithin, ServerStoppedW
 ghost use Rattle.link_world.specs.ServerPumpParts.{ServerGoesOn, ServerCame, ServerCameShort, ServerReadStops, ReadIn, IsWorkFault, has_work, steps_of};
 
 use crate::connections::machines::Machine;
-use crate::connections::pumps::{Budget, Moved, PIECE, PumpFault, pull_counted, push_counted};
+use crate::connections::pumps::{
+    Budget, Moved, PIECE, Piece, PumpFault, pull_counted, push_counted,
+};
 use crate::connections::watching::{ServerWatcher, Silent};
 use byte_ports::{Ports, Sink, Source};
 use protocol_model::Outcome;
@@ -29,6 +31,7 @@ fn take_in<R: Source>(
     source: &mut R,
     at_least: usize,
     budget: &mut Budget,
+    piece: &mut Piece,
 ) -> Result<usize, PumpFault<ServerFault>>
     requires { may_feed server.old.end ≡ true }
     ensures came { IfOk result (λ count. ServerCame server.old server.new (R.left source.old)
@@ -43,7 +46,6 @@ fn take_in<R: Source>(
     ensures blamed { Blames PumpFault.ReadFailed result (R.has_failed source.old)
         (R.has_failed source.new) }
 {
-    let mut piece = [0u8; PIECE];
     let mut read = 0;
     while read < at_least {
         // At most as many bytes as their count can hold.
@@ -81,6 +83,7 @@ fn read_in<R: Source>(
     source: &mut R,
     at_least: usize,
     budget: &mut Budget,
+    piece: &mut Piece,
 ) -> Result<usize, PumpFault<ServerFault>>
     ensures read { IfOk result (λ count. ReadIn at_least (R.calls source.old)
         (R.calls source.new) server.old server.new (R.left source.old) (R.left source.new)
@@ -98,7 +101,7 @@ fn read_in<R: Source>(
 {
     let _known = server.view();
     server.feed(&[])?;
-    let count = take_in(server, source, at_least, budget)?;
+    let count = take_in(server, source, at_least, budget, piece)?;
     read_lines(server, budget)?;
     Ok(count)
 }
@@ -179,6 +182,7 @@ fn turn<M: Machine, R: Source, W: Sink, N: ServerWatcher>(
     ports: &mut Ports<R, W>,
     limits: Limits,
     watcher: &mut N,
+    piece: &mut Piece,
 ) -> Result<Moved, PumpFault<ServerFault>>
     ensures moved { IfOk result (λ moved. ServerMovedWithin (M.answers machine.old) limits.bound
         (R.calls ports.old.source + W.calls ports.old.sink) (R.calls ports.new.source + W.calls ports.new.sink)
@@ -199,7 +203,13 @@ fn turn<M: Machine, R: Source, W: Sink, N: ServerWatcher>(
         (server.new.end.server.ledger ∷ []) }
 {
     let mut budget = Budget { left: limits.bound };
-    let read = match read_in(server, &mut ports.source, limits.at_least, &mut budget) {
+    let read = match read_in(
+        server,
+        &mut ports.source,
+        limits.at_least,
+        &mut budget,
+        piece,
+    ) {
         Ok(read) => read,
         Err(fault) => {
             watcher.worked(server.ledger());
@@ -215,13 +225,14 @@ fn turn<M: Machine, R: Source, W: Sink, N: ServerWatcher>(
     Ok(Moved { read, written })
 }
 
-/// One turn of a server and its machine, as `serve_turns`, that is reported to a watcher.
+/// One turn of a server and its machine, as `serve_turns`, that is reported to a watcher, with room for the bytes of a pull.
 pub(crate) fn watched_turns<M: Machine, R: Source, W: Sink, N: ServerWatcher>(
     server: &mut Server,
     machine: &mut M,
     ports: &mut Ports<R, W>,
     limits: Limits,
     watcher: &mut N,
+    piece: &mut Piece,
 ) -> Result<Moved, PumpFault<ServerFault>>
     ensures moved { IfOk result (λ moved. ServerMovedWithin (M.answers machine.old) limits.bound
         (R.calls ports.old.source + W.calls ports.old.sink) (R.calls ports.new.source + W.calls ports.new.sink)
@@ -241,7 +252,7 @@ pub(crate) fn watched_turns<M: Machine, R: Source, W: Sink, N: ServerWatcher>(
     ensures told { Hears (N.told watcher.old) (N.told watcher.new)
         (server.new.end.server.ledger ∷ []) }
 {
-    let result = turn(server, machine, ports, limits, watcher);
+    let result = turn(server, machine, ports, limits, watcher, piece);
     if result.is_err() {
         server.leave();
     }
@@ -285,5 +296,6 @@ pub fn serve_turns<M: Machine, R: Source, W: Sink>(
         ports,
         Limits { at_least, bound },
         &mut Silent,
+        &mut [0; PIECE],
     )
 }

@@ -5,8 +5,8 @@ use Rattle.link_world.specs.Watching.{TellsRun}
 use Rattle.link_world.proofs.ClientRuns.{ClientSoFar}
 use Rattle.link_world.proofs.connections.links.rounds.Given as goal
 
-abbrev pub invariant-loop-client : goal.invariant-loop-client
-invariant-loop-client g l =
+abbrev pub invariant-loop-piece : goal.invariant-loop-piece
+invariant-loop-piece g l =
     ClientSoFar Fresh l.turns l.has_stopped l.initial.client l.client (g.R.Source.left l.initial.ports.source) (g.R.Source.left l.ports.source)
     (g.W.Sink.taken l.initial.ports.sink) (g.W.Sink.taken l.ports.sink) (g.S.Steering.can_have_said l.initial.steering)
     (g.S.Steering.can_have_said l.steering)
@@ -18,5 +18,5 @@ invariant-loop-client g l =
     × TellsRun l.initial.client l.client (g.N.Watcher.told l.initial.watcher) (g.N.Watcher.told l.watcher)
     × Shown g.N.Watcher.shows l.initial.client l.initial.watcher l.client l.watcher
 
-abbrev pub decreases-loop-client : goal.decreases-loop-client
-decreases-loop-client g l = 1000000 - l.turns
+abbrev pub decreases-loop-piece : goal.decreases-loop-piece
+decreases-loop-piece g l = 1000000 - l.turns

@@ -1,8 +1,8 @@
-use Rattle.std.proofs.Common.{◌≡◌, ◌++◌, string_bytes, drop}
+use Rattle.std.proofs.Common.{◌≡◌, ◌++◌, drop}
 use Rattle.link_world.specs.Reports.{feature_rows}
 use Rattle.link_world.proofs.texts.report_text.push_features.Given as goal
 
 -- what is written and what is left are all rows
 abbrev pub invariant-loop-feature : goal.invariant-loop-feature
 invariant-loop-feature l =
-    string_bytes l.text ++ feature_rows (drop l.feature-index l.features) ≡ string_bytes l.fn.text ++ feature_rows l.features
+    l.text.items ++ feature_rows (drop l.feature-index l.features) ≡ l.fn.text.items ++ feature_rows l.features
