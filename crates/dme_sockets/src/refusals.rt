@@ -10,9 +10,16 @@ use std::alloc::{AllocError, Global};
 
 /// What is known of a connection when an error comes: the commands that were sent, and the features that were still to be measured, with
 /// their labels, how many touches each has, and the line of each command that carries out a statement of the program.
+///
+/// The commands are looked at only if an error comes: until then their bytes are kept as they were sent.
 #[derive(Drop)]
 pub struct Refusals {
+    /// What was sent before `unread`, and what was received of a line that may be an error.
     dialogue: Dialogue,
+    /// What was sent since an error came last.
+    unread: Vec<u8>,
+    /// Whether the dialogue has heard the beginning of a line only.
+    is_within_line: bool,
     labels: Vec<String>,
     touches: Vec<usize>,
     lines: Vec<Option<u64>>,
@@ -54,6 +61,8 @@ impl Refusals {
         }
         Ok(Refusals {
             dialogue: Dialogue::new(alloc),
+            unread: Vec::new(alloc),
+            is_within_line: false,
             labels,
             touches,
             lines: command_lines(alloc, tasks, touches_of(kept))?,
@@ -62,8 +71,21 @@ impl Refusals {
     }
 
     /// Bytes were sent.
-    pub fn send(&mut self, alloc: Global, bytes: &[u8]) -> Result<(), AllocError> {
-        self.dialogue.send(alloc, bytes)
+    pub fn send(&mut self, bytes: &[u8]) -> Result<(), AllocError> {
+        self.unread.extend_from_slice(bytes)
+    }
+
+    /// Whether bytes that were received are whole lines with no error among them: an error has a `!`.
+    fn are_no_errors(&self, bytes: &[u8]) -> bool {
+        !self.is_within_line && bytes.last() == Some(&b'\n') && !bytes.contains(&b'!')
+    }
+
+    /// The errors of bytes that were received.
+    fn reports(&mut self, alloc: Global, bytes: &[u8]) -> Result<Vec<Report>, AllocError> {
+        self.dialogue.send(alloc, self.unread.as_slice())?;
+        self.unread.clear();
+        self.is_within_line = bytes.last() != Some(&b'\n');
+        self.dialogue.hear(alloc, bytes)
     }
 
     /// Reports the feature and the touch that a command is, if it is a touch of one that was still to be measured.
@@ -104,7 +126,10 @@ impl Refusals {
         rt: &R,
         bytes: &[u8],
     ) -> Result<(), AllocError> {
-        let reports = self.dialogue.hear(rt.alloc(), bytes)?;
+        if bytes.is_empty() || self.are_no_errors(bytes) {
+            return Ok(());
+        }
+        let reports = self.reports(rt.alloc(), bytes)?;
         for report in reports.iter() {
             let text = visible(rt.alloc(), report.text())?;
             self.tell_command(rt, report.about());

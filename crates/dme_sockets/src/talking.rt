@@ -4,7 +4,7 @@ use crate::refusals::Refusals;
 use byte_ports::{Failed, Sink, Source};
 use jiff::Timestamp;
 use session_telling::visible;
-use std::alloc::AllocError;
+use std::alloc::{AllocError, Global};
 use std::cell::RefCell;
 use std::fs::{File, OpenOptions};
 use std::io::Write;
@@ -81,6 +81,22 @@ impl Side {
     }
 }
 
+/// The last line of bytes, without its end: up to 200 bytes of it.
+fn last_line_of(alloc: Global, bytes: &[u8]) -> Result<Vec<u8>, AllocError> {
+    let mut line = Vec::new(alloc);
+    let mut has_ended = false;
+    for byte in bytes {
+        if has_ended {
+            line.clear();
+        }
+        has_ended = *byte == b'\n';
+        if !has_ended && *byte != b'\r' && line.len() < MOST_SHOWN {
+            line.push(*byte)?;
+        }
+    }
+    Ok(line)
+}
+
 /// What is shown and added to a log of the lines of connections, one connection after the other.
 #[derive(Drop)]
 pub struct Talk<'a, R> {
@@ -91,9 +107,9 @@ pub struct Talk<'a, R> {
     refusals: Option<Refusals>,
     client: Vec<u8>,
     server: Vec<u8>,
-    /// The beginning of the last line of the server.
+    /// The last line of the server, perhaps after earlier ones, as far as it is needed to show it.
     last: Vec<u8>,
-    /// Whether that line has ended.
+    /// Whether it ends with a line.
     has_ended: bool,
 }
 
@@ -127,20 +143,23 @@ impl<'a, R: AllocGlobal> Talk<'a, R> {
 
     /// The last line of the server, as far as it has come, as it is shown: up to 200 bytes of it.
     pub fn last_line(&self) -> Result<String, AllocError> {
-        visible(self.rt.alloc(), self.last.as_slice())
+        let alloc = self.rt.alloc();
+        let line = last_line_of(alloc, self.last.as_slice())?;
+        visible(alloc, line.as_slice())
     }
 
-    /// Remembers bytes of the server, of which the last alone may be the end of a line.
-    fn remember(&mut self, piece: &[u8]) -> Result<(), AllocError> {
+    /// Remembers bytes of the server. Of a line that has not ended, no more is kept than is shown of it and has come since.
+    fn remember(&mut self, bytes: &[u8]) -> Result<(), AllocError> {
+        if bytes.is_empty() {
+            return Ok(());
+        }
         if self.has_ended {
             self.last.clear();
+        } else if self.last.len() > MOST_SHOWN {
+            self.last = last_line_of(self.rt.alloc(), self.last.as_slice())?;
         }
-        for byte in piece {
-            if *byte != b'\r' && *byte != b'\n' && self.last.len() < MOST_SHOWN {
-                self.last.push(*byte)?;
-            }
-        }
-        self.has_ended = piece.last() == Some(&b'\n');
+        self.last.extend_from_slice(bytes)?;
+        self.has_ended = bytes.last() == Some(&b'\n');
         Ok(())
     }
 
@@ -172,7 +191,7 @@ impl<'a, R: Eprint + Clock + AllocGlobal> Talk<'a, R> {
             return Ok(());
         };
         match side {
-            Side::Client => refusals.send(self.rt.alloc(), bytes),
+            Side::Client => refusals.send(bytes),
             Side::Server => refusals.hear(self.rt, bytes),
         }
     }
@@ -206,18 +225,21 @@ impl<'a, R: Eprint + Clock + AllocGlobal> Talk<'a, R> {
         Ok(())
     }
 
+    /// Bytes of a side, of whose lines only the errors are shown.
+    fn keep_unshown(&mut self, side: Side, bytes: &[u8]) -> Result<(), AllocError> {
+        self.refuse(side, bytes)?;
+        match side {
+            Side::Client => Ok(()),
+            Side::Server => self.remember(bytes),
+        }
+    }
+
     /// Bytes of a side, of which the last alone may be the end of a line.
     fn keep_piece(&mut self, side: Side, piece: &[u8]) -> Result<(), AllocError> {
         if piece.is_empty() {
             return Ok(());
         }
-        self.refuse(side, piece)?;
-        if matches!(side, Side::Server) {
-            self.remember(piece)?;
-        }
-        if !self.trace && self.log.is_none() {
-            return Ok(());
-        }
+        self.keep_unshown(side, piece)?;
         for byte in piece {
             self.keep(side, *byte)?;
         }
@@ -239,10 +261,16 @@ impl<'a, R: Eprint + Clock + AllocGlobal> Talk<'a, R> {
 
     /// Bytes that a side has written. If memory runs out for them, that is reported, and no more is shown.
     pub fn keep_all(&mut self, side: Side, bytes: &[u8]) {
-        if !self.trace && self.log.is_none() && self.refusals.is_none() {
+        let are_shown = self.trace || self.log.is_some();
+        if !are_shown && self.refusals.is_none() {
             return;
         }
-        if self.keep_lines(side, bytes).is_err() {
+        let kept = if are_shown {
+            self.keep_lines(side, bytes)
+        } else {
+            self.keep_unshown(side, bytes)
+        };
+        if kept.is_err() {
             let _ = eprintln!(self.rt; "dme: out of memory for the lines of the connection");
             self.trace = false;
             self.log = None;
