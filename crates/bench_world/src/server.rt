@@ -23,50 +23,55 @@ fn take_answers(server: &mut Server, sum: u64) -> u64 {
     sum
 }
 
-/// Feeds a line, reads it, and processes its command.
+/// Feeds a line with its end, reads it, and processes its command.
 fn begin(server: &mut Server, line: &[u8]) -> Result<(), Stop> {
     server.feed(line)?;
-    server.feed(b"\r\n")?;
     server.read_one()?;
     server.turn()?;
     Ok(())
 }
 
+/// Ends the line that was written, and feeds it as `begin` does.
+fn ask(server: &mut Server, line: &mut Vec<u8>) -> Result<(), Stop> {
+    line.extend_from_slice(b"\r\n")?;
+    begin(server, line.as_slice())
+}
+
 /// Opens a session, asks whether the machine is homed and homes it, and changes to a tool.
 fn make_ready(server: &mut Server) -> Result<(), Stop> {
     server.accept(1)?;
-    begin(server, b"00001 StartSession()")?;
-    begin(server, b"00002 IsHomed()")?;
-    begin(server, b"00003 Home()")?;
+    begin(server, b"00001 StartSession()\r\n")?;
+    begin(server, b"00002 IsHomed()\r\n")?;
+    begin(server, b"00003 Home()\r\n")?;
     server.machine(Outcome::Done)?;
-    begin(server, b"00004 ChangeTool(\"P1\")")?;
-    server.machine(Outcome::Done)?;
-    Ok(())
-}
-
-fn move_to(alloc: Global, server: &mut Server, number: u64) -> Result<(), Stop> {
-    let mut line = Vec::new(alloc);
-    let tag = Tag::Std((number % 9999 + 1) as u32);
-    write_command(&mut line, tag, &Command::GoTo(place(number)))?;
-    begin(server, line.as_slice())?;
+    begin(server, b"00004 ChangeTool(\"P1\")\r\n")?;
     server.machine(Outcome::Done)?;
     Ok(())
 }
 
-fn touch(alloc: Global, server: &mut Server, number: u64) -> Result<(), Stop> {
-    let mut line = Vec::new(alloc);
+fn move_to(server: &mut Server, line: &mut Vec<u8>, number: u64) -> Result<(), Stop> {
     let tag = Tag::Std((number % 9999 + 1) as u32);
-    write_command(&mut line, tag, &Command::PtMeas(place(number), None))?;
-    begin(server, line.as_slice())?;
+    line.clear();
+    write_command(line, tag, &Command::GoTo(place(number)))?;
+    ask(server, line)?;
+    server.machine(Outcome::Done)?;
+    Ok(())
+}
+
+fn touch(server: &mut Server, line: &mut Vec<u8>, number: u64) -> Result<(), Stop> {
+    let tag = Tag::Std((number % 9999 + 1) as u32);
+    line.clear();
+    write_command(line, tag, &Command::PtMeas(place(number), None))?;
+    ask(server, line)?;
     server.machine(Outcome::Touched(place(number)))?;
     Ok(())
 }
 
-/// A move and a touch.
-fn round(alloc: Global, server: &mut Server, number: u64, sum: u64) -> Result<u64, Stop> {
-    move_to(alloc, server, number)?;
+/// A move and a touch. Each line is written into a text that is used again.
+fn round(server: &mut Server, line: &mut Vec<u8>, number: u64, sum: u64) -> Result<u64, Stop> {
+    move_to(server, line, number)?;
     let sum = take_answers(server, sum);
-    touch(alloc, server, number)?;
+    touch(server, line, number)?;
     Ok(take_answers(server, sum))
 }
 
@@ -74,8 +79,9 @@ fn round(alloc: Global, server: &mut Server, number: u64, sum: u64) -> Result<u6
 fn run_all(alloc: Global, server: &mut Server, wanted: u64) -> Result<(u64, u64), Stop> {
     make_ready(server)?;
     let mut sum = take_answers(server, 0);
+    let mut line = Vec::new(alloc);
     for number in 0..wanted {
-        sum = round(alloc, server, number, sum)?;
+        sum = round(server, &mut line, number, sum)?;
     }
     Ok((server.ledger().contacts(), sum))
 }
