@@ -1,8 +1,14 @@
 -- Lists of arguments and their tokens.
-use Rattle.std.proofs.Common.{◌≡◌, ℕ, ◌+◌, ◌⊎◌, inl, inr, List, [], ◌∷◌, ◌++◌, length, refl, ap, sym, ◌∙◌, arith, append_assoc}
-use Rattle.dme_line.specs.Tokens.{Token, Open, Close, Comma}
+use Rattle.std.proofs.Common.{◌≡◌, ℕ, ◌+◌, ◌⊎◌, inl, inr, List, [], ◌∷◌, ◌++◌, length, get_or, refl, ap, sym, ◌∙◌, arith, append_assoc}
+use Rattle.dme_line.specs.Tokens.{Token, Open, Close, Comma, tokens}
 use Rattle.dme_line.specs.Arguments.{Argument, Single, Triple, argument_tokens, list_tokens, enclosed}
 use Rattle.dme_line.specs.Taken.{IsPlaceLong}
+
+-- a closing parenthesis alone
+pub closed_by_one : (bytes : List ℕ) → length bytes ≡ 1 → get_or bytes 0 0 ≡ 41 → tokens bytes ≡ Close ∷ []
+closed_by_one [] one mark = absurd (omega (arith, one))
+closed_by_one (c ∷ []) one mark = ap (λ (d : ℕ). tokens (d ∷ [])) mark
+closed_by_one (c ∷ d ∷ cs) one mark = absurd (omega (arith, one))
 
 -- what follows an argument: the others, each after a comma, and the closing parenthesis
 abbrev pub tail_tokens : List Argument → List Token

@@ -13,6 +13,7 @@ use Rattle.dme_line.specs.declared.points.NotPoint.{NotPoint}
 use Rattle.dme_line.proofs.PlaceLemmas.{one_length, same_point}
 use Rattle.dme_line.proofs.TokenLemmas.{tokens-word, tokens-mark}
 use Rattle.dme_line.proofs.WireTexts.{all_weaker, plain_word}
+use Rattle.dme_line.proofs.WrittenLemmas.{three_axes}
 
 -- the bytes at the start of a slice and the rest of it
 pub one_in_front : (xs : List ℕ) (a : ℕ) → 1 ≤ length xs → get_or xs 0 0 ≡ a → xs ≡ a ∷ take (length xs - 1) (drop 1 xs)
@@ -38,6 +39,35 @@ axis_in_front letter limit bytes text behind rest value is most e f g =
       spelled = ap tokens e ∙ tokens-word (letter ∷ []) (40 ∷ text) (and_from _ _ is refl) (omega arith) refl
           ∙ ap (λ (ts : List Token). Word (letter ∷ []) ∷ ts) (tokens-mark 40 text refl ∙ ap (λ (ts : List Token). Open ∷ ts) inner);
       reads = subst (λ (n : ℕ). Reads 3 n f.numeral (Ok value)) most f.reads;
+    }
+
+-- three axes in front of the rest of a text, with their values
+pub record BeginsWithThree (text rest : List ℕ) (x y z : ℤ) : Type 0 where
+  pub first : List ℕ
+  pub second : List ℕ
+  pub third : List ℕ
+  pub spelled : tokens text ≡ point_tokens first second third ++ tokens rest
+  pub x_reads : Reads 3 wire_limit first (Ok x)
+  pub y_reads : Reads 3 wire_limit second (Ok y)
+  pub z_reads : Reads 3 wire_limit third (Ok z)
+
+-- three axes in their written form
+pub point_in_front : (l m n : ℕ) (text t0 b0 t1 b1 t2 b2 rest : List ℕ) (x y z : ℤ) → l ≡ wire_limit → m ≡ wire_limit → n ≡ wire_limit
+    → text ≡ 88 ∷ 40 ∷ t0 → BeginsWithLength l t0 b0 x → b0 ≡ 41 ∷ 44 ∷ 32 ∷ 89 ∷ 40 ∷ t1
+    → BeginsWithLength m t1 b1 y → b1 ≡ 41 ∷ 44 ∷ 32 ∷ 90 ∷ 40 ∷ t2 → BeginsWithLength n t2 b2 z → b2 ≡ 41 ∷ rest
+    → BeginsWithThree text rest x y z
+point_in_front l m n text t0 b0 t1 b1 t2 b2 rest x y z lm mm nm e f g h i j k =
+    let a = axis_in_front 88 l text t0 b0 (44 ∷ 32 ∷ 89 ∷ 40 ∷ t1) x refl lm e f g in
+    let b = axis_in_front 89 m (89 ∷ 40 ∷ t1) t1 b1 (44 ∷ 32 ∷ 90 ∷ 40 ∷ t2) y refl mm refl h i in
+    let d = axis_in_front 90 n (90 ∷ 40 ∷ t2) t2 b2 rest z refl nm refl j k in
+    record {
+      first = a.numeral;
+      second = b.numeral;
+      third = d.numeral;
+      spelled = three_axes _ _ _ _ _ _ _ _ _ a.spelled refl b.spelled refl d.spelled;
+      x_reads = a.reads;
+      y_reads = b.reads;
+      z_reads = d.reads;
     }
 
 -- no third axis

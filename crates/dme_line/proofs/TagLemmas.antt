@@ -1,9 +1,12 @@
 -- A tag has one text.
-use Rattle.std.proofs.Common.{◌≡◌, ℕ, ◌/◌, ◌≤◌, List, ◌++◌, ap, arith}
+use Rattle.std.proofs.Common.{◌≡◌, ℕ, ◌+◌, ◌/◌, ◌≤◌, true, false, ◌&&◌, List, [], ◌∷◌, ◌++◌, ap, sym, ◌∙◌, arith}
+use Rattle.std.specs.Char.{is_ascii_digit}
+use Rattle.std.proofs.lemmas.Bool.{and_from, and_parts, false≢true}
+use Rattle.std.proofs.lemmas.Bool.Decides.{nat_tests}
 use Rattle.fixed_um.specs.Written.{last_digit}
 use Rattle.dme_line.specs.declared.tags.Tag.{Tag}
 use Rattle.dme_line.specs.declared.tags.Tag.TheVariants.{Std, Event}
-use Rattle.dme_line.specs.Tags.{written_tag, IsTag, IsNumbered}
+use Rattle.dme_line.specs.Tags.{four_digits, written_tag, IsTag, IsNumbered}
 
 -- a number of that many digits is written in one way
 four_apart : (m n : ℕ) → m ≤ 9999 → n ≤ 9999 → last_digit (m / 1000) ≡ last_digit (n / 1000) → last_digit (m / 100) ≡ last_digit (n / 100)
@@ -17,6 +20,34 @@ five_apart m n f g a b c d e = omega (arith, a, b, c, d, e)
 
 no_letter : (n : ℕ) → last_digit n ≡ 69 → ⊥
 no_letter n e = omega (arith, e)
+
+-- four bytes that are digits, and four that are not
+range_of : (c : ℕ) → is_ascii_digit c ≡ true → (48 ≤ c) × (c ≤ 57)
+range_of c h = (grind (arith, nat_tests), grind (arith, nat_tests))
+
+digit_of : (n : ℕ) → is_ascii_digit (last_digit n) ≡ true
+digit_of n = grind (arith, nat_tests)
+
+pub four_ranges : (a b c d : ℕ) → (((is_ascii_digit a && is_ascii_digit b) && is_ascii_digit c) && is_ascii_digit d) ≡ true
+    → ((48 ≤ a) × (a ≤ 57)) × ((48 ≤ b) × (b ≤ 57)) × ((48 ≤ c) × (c ≤ 57)) × ((48 ≤ d) × (d ≤ 57))
+four_ranges a b c d h =
+    let p = and_parts _ _ h in
+    let q = and_parts _ _ p.0 in
+    let r = and_parts _ _ q.0 in
+    (range_of a r.0, range_of b r.1, range_of c q.1, range_of d p.1)
+
+pub no_four_digits : (a b c d n : ℕ) → (((is_ascii_digit a && is_ascii_digit b) && is_ascii_digit c) && is_ascii_digit d) ≡ false
+    → four_digits n ≡ a ∷ b ∷ c ∷ d ∷ [] → ⊥
+no_four_digits a b c d n h e =
+    let p : last_digit (n / 1000) ≡ a = cc in
+    let q : last_digit (n / 100) ≡ b = cc in
+    let r : last_digit (n / 10) ≡ c = cc in
+    let s : last_digit n ≡ d = cc in
+    let is_a : is_ascii_digit a ≡ true = sym (ap is_ascii_digit p) ∙ digit_of (n / 1000) in
+    let is_b : is_ascii_digit b ≡ true = sym (ap is_ascii_digit q) ∙ digit_of (n / 100) in
+    let is_c : is_ascii_digit c ≡ true = sym (ap is_ascii_digit r) ∙ digit_of (n / 10) in
+    let is_d : is_ascii_digit d ≡ true = sym (ap is_ascii_digit s) ∙ digit_of n in
+    false≢true (sym h ∙ and_from _ _ (and_from _ _ (and_from _ _ is_a is_b) is_c) is_d)
 
 -- a tag and what follows it
 pub record SameTagged (t u : Tag) (a b : List ℕ) : Type 0 where

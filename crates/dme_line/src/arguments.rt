@@ -43,13 +43,25 @@ pub(crate) struct Place<'a> {
     pub fourth: Option<Argument<'a>>,
 }
 
-/// Whether the closing parenthesis is all that is left.
-pub(crate) fn is_closed(bytes: &[u8]) -> bool
+/// Whether the closing parenthesis is all that is left, with spaces next to it or without.
+#[inline(never)]
+fn is_closed_with_spaces(bytes: &[u8]) -> bool
     ensures { IsTrue result ↔ (tokens bytes.now ≡ Close ∷ []) }
 {
     match take_mark(bytes, b')') {
         Some(rest) => is_end(rest),
         None => false,
+    }
+}
+
+/// Whether the closing parenthesis is all that is left.
+#[inline(always)]
+pub(crate) fn is_closed(bytes: &[u8]) -> bool
+    ensures { IsTrue result ↔ (tokens bytes.now ≡ Close ∷ []) }
+{
+    match bytes {
+        [b')'] => true,
+        _ => is_closed_with_spaces(bytes),
     }
 }
 

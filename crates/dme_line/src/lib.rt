@@ -6,7 +6,7 @@
 //! - `responses`, `text`: `Response`, `Mark`, `Text`, and their lines; `cut_response` copies no text
 //! - `points`, `homed`: the texts of data lines; `errors`: `ErrorNumber` and the line of an error
 //! - `tokens`, `arguments`, `places`, `settings`, `lengths`: the steps by which arguments are read
-//! - `appending`: texts where there is room for them
+//! - `appending`: texts where there is room for them; `front`: bytes compared as one word
 //! - `laws`: what holds of these texts: each is read in one way, and what is written reads back
 #![tactic(auto)]
 
@@ -14,6 +14,7 @@ mod appending;
 mod arguments;
 pub mod commands;
 pub mod errors;
+mod front;
 pub mod homed;
 pub mod laws;
 mod lengths;

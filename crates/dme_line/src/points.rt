@@ -3,12 +3,13 @@
 ghost use Rattle.std.specs.Prelude.{◌≡◌, ◌+◌, ◌++◌, ◌∷◌, [], ℕ, List, true, OnOk, IfSome, MatchOption};
 ghost use Rattle.fixed_um.specs.Calls.{Finds, Grows, HasRoom, Writes};
 ghost use Rattle.dme_line.specs.Limits.{point_most};
-ghost use Rattle.dme_line.specs.Tokens.{Token, Comma, tokens, is_word_byte};
+ghost use Rattle.dme_line.specs.Tokens.{Token, tokens};
 ghost use Rattle.dme_line.specs.Arguments.{Single, argument_tokens};
-ghost use Rattle.dme_line.specs.Points.{written_point, IsOnWire, HasCoordinates, IsPointText, ReadsPoint, BeginsWithAxis, BeginsWithPoint, point_tokens};
+ghost use Rattle.dme_line.specs.Points.{written_point, IsOnWire, HasCoordinates, IsPointText, ReadsPoint, BeginsWithPoint, point_tokens};
 
 use crate::appending::{append_reserved, put_before};
 use crate::arguments::{Argument, take_argument};
+use crate::front::cut_five;
 use crate::lengths::{put_length_before, wire_length};
 use crate::tokens::{is_end, take_mark, take_word};
 use fixed_um::{Point, Um, cut_um};
@@ -49,36 +50,6 @@ pub fn write_point(out: &mut Vec<u8>, point: Point) -> Result<(), AllocError>
     out.reserve(POINT_MAX)?;
     write_point_reserved(out, point);
     Ok(())
-}
-
-/// The micrometres of an axis in its written form, with no spaces, at the start of a text, and what follows it.
-/// `None` says nothing: the axis may be there in another form.
-#[inline(always)]
-fn cut_written_axis(bytes: &[u8], letter: u8) -> Option<(i64, &[u8])>
-    requires { is_word_byte letter ≡ true }
-    ensures { IfSome result (λ p. BeginsWithAxis letter bytes.now p.1.now p.0) }
-{
-    let [own, b'(', rest @ ..] = bytes else {
-        return None;
-    };
-    if *own != letter {
-        return None;
-    }
-    let (micrometres, rest) = cut_um(rest, Um::wire_limit())?;
-    let [b')', rest @ ..] = rest else {
-        return None;
-    };
-    Some((micrometres, rest))
-}
-
-/// What follows a comma and a space.
-fn cut_written_comma(bytes: &[u8]) -> Option<&[u8]>
-    ensures { IfSome result (λ rest. tokens bytes.now ≡ Comma ∷ tokens rest.now) }
-{
-    match bytes {
-        [b',', b' ', rest @ ..] => Some(rest),
-        _ => None,
-    }
 }
 
 /// The word of an axis that is named by one capital letter, and what follows it.
@@ -140,9 +111,17 @@ fn point_of(x: i64, y: i64, z: i64) -> Option<Point>
 pub(crate) fn cut_written_point(text: &[u8]) -> Option<(Point, &[u8])>
     ensures { IfSome result (λ p. BeginsWithPoint text.now p.1.now p.0) }
 {
-    let (x, rest) = cut_written_axis(text, b'X')?;
-    let (y, rest) = cut_written_axis(cut_written_comma(rest)?, b'Y')?;
-    let (z, rest) = cut_written_axis(cut_written_comma(rest)?, b'Z')?;
+    let [b'X', b'(', rest @ ..] = text else {
+        return None;
+    };
+    let (x, rest) = cut_um(rest, Um::wire_limit())?;
+    let second = cut_five(rest, *b"), Y", b'(')?;
+    let (y, rest) = cut_um(second, Um::wire_limit())?;
+    let third = cut_five(rest, *b"), Z", b'(')?;
+    let (z, rest) = cut_um(third, Um::wire_limit())?;
+    let [b')', rest @ ..] = rest else {
+        return None;
+    };
     let point = point_of(x, y, z)?;
     Some((point, rest))
 }

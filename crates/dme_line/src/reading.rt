@@ -11,6 +11,7 @@ ghost use Rattle.dme_line.specs.CommandText.{is_name_part, IsNamed, IsTagged, Is
 
 use crate::arguments::is_empty_list;
 use crate::commands::{Command, Kind};
+use crate::front::cut_five;
 use crate::places::{read_move, read_touch, read_written_move, read_written_touch};
 use crate::settings::{read_report, read_system, read_tool, read_zero_point};
 use crate::tags::{Tag, cut_tag};
@@ -182,10 +183,8 @@ fn read_arguments(alloc: Global, kind: Kind, bytes: &[u8]) -> Result<Option<Comm
 fn read_written_go_to(text: &[u8]) -> Option<Point>
     ensures { IfSome result (λ p. IsCommandOf Kind.GoTo text.now (Command.GoTo p)) }
 {
-    match text {
-        [b'G', b'o', b'T', b'o', b'(', bytes @ ..] => read_written_move(bytes),
-        _ => None,
-    }
+    let bytes = cut_five(text, *b"GoTo", b'(')?;
+    read_written_move(bytes)
 }
 
 /// The target and the direction, if one is given, of such a `PtMeas`.

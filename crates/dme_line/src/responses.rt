@@ -215,6 +215,7 @@ pub struct ResponseSlice<'a> {
 }
 
 /// The mark that follows a response's tag and space.
+#[inline(always)]
 fn cut_mark(text: &[u8]) -> Option<MarkSlice<'_>>
     ensures { MatchOption result
         ((mark : Mark) → IsMarkText text.now mark → ⊥)
@@ -233,6 +234,7 @@ fn cut_mark(text: &[u8]) -> Option<MarkSlice<'_>>
 /// The response that a line without its end stands for, its text left in its place in the line. Does not allocate.
 ///
 /// Spaces after `&` and `%` are accepted; a `!` with nothing after it has an empty text.
+#[inline(always)]
 pub fn cut_response(line: &[u8]) -> Result<ResponseSlice<'_>, NotResponse>
     ensures { ReadsResponse line.now (the_reading result) }
 {

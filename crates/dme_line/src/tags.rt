@@ -1,6 +1,7 @@
 // Tags: which command a line belongs to.
 
-ghost use Rattle.std.specs.Prelude.{◌≡◌, ◌≤◌, ◌+◌, ◌++◌, ◌∷◌, [], ℕ, List, IsTrue, ◌↔◌, MatchOption};
+ghost use Rattle.std.specs.Prelude.{◌≡◌, ◌≤◌, ◌+◌, ◌++◌, ◌∷◌, [], ℕ, List, IsTrue, ◌↔◌, ◌&&◌, MatchOption};
+ghost use Rattle.std.specs.Char.{is_ascii_digit};
 ghost use Rattle.fixed_um.specs.Calls.{Grows, HasRoom};
 ghost use Rattle.dme_line.specs.Tags.{four_digits, five_digits, written_tag, IsTag, IsNumbered, is_event_tag};
 ghost use Rattle.fixed_um.specs.Written.{last_digit};
@@ -62,22 +63,27 @@ fn digit(byte: u8) -> Option<u32>
     Some(u32::from(byte - b'0'))
 }
 
+/// Whether four bytes are decimal digits, all examined together.
+#[inline(always)]
+fn are_digits(a: u8, b: u8, c: u8, d: u8) -> bool
+    ensures { result ≡ (((is_ascii_digit a && is_ascii_digit b) && is_ascii_digit c) && is_ascii_digit d) }
+{
+    a.is_ascii_digit() & b.is_ascii_digit() & c.is_ascii_digit() & d.is_ascii_digit()
+}
+
 /// The number that four digits write; `None` if they are not all digits.
+#[inline(always)]
+#[tactic(auto, using(crate::proofs::TagLemmas::no_four_digits, crate::proofs::TagLemmas::four_ranges))]
 fn four_digits_value(a: u8, b: u8, c: u8, d: u8) -> Option<u32>
     ensures { MatchOption result
         ((n : ℕ) → four_digits n ≡ a ∷ b ∷ c ∷ d ∷ [] → ⊥)
         (λ n. (n ≤ 9999) × (four_digits n ≡ a ∷ b ∷ c ∷ d ∷ [])) }
 {
-    Some(digit(a)? * 1000 + digit(b)? * 100 + digit(c)? * 10 + digit(d)?)
-}
-
-/// The number that five digits write; `None` if they are not all digits.
-fn five_digits_value(a: u8, b: u8, c: u8, d: u8, e: u8) -> Option<u32>
-    ensures { MatchOption result
-        ((n : ℕ) → five_digits n ≡ a ∷ b ∷ c ∷ d ∷ e ∷ [] → ⊥)
-        (λ n. (n ≤ 99999) × (five_digits n ≡ a ∷ b ∷ c ∷ d ∷ e ∷ [])) }
-{
-    Some(digit(a)? * 10_000 + four_digits_value(b, c, d, e)?)
+    if !are_digits(a, b, c, d) {
+        return None;
+    }
+    let front = u32::from(a - b'0') * 1000 + u32::from(b - b'0') * 100;
+    Some(front + u32::from(c - b'0') * 10 + u32::from(d - b'0'))
 }
 
 /// A tag at the start of a line and what follows the one space that follows it; `None` if the line begins otherwise.
@@ -87,15 +93,14 @@ pub(crate) fn cut_tag(line: &[u8]) -> Option<(Tag, &[u8])>
         ((tag : Tag) (text : List ℕ) → IsTag tag → line.now ≡ written_tag tag ++ (32 ∷ text) → ⊥)
         (λ p. IsTag p.0 × (line.now ≡ written_tag p.0 ++ (32 ∷ p.1.now))) }
 {
-    match line {
-        [b'E', a, b, c, d, b' ', text @ ..] => {
-            Some((Tag::Event(four_digits_value(*a, *b, *c, *d)? as u16), text))
-        }
-        [a, b, c, d, e, b' ', text @ ..] => {
-            Some((Tag::Std(five_digits_value(*a, *b, *c, *d, *e)?), text))
-        }
-        _ => None,
+    let [first, a, b, c, d, b' ', text @ ..] = line else {
+        return None;
+    };
+    let behind = four_digits_value(*a, *b, *c, *d)?;
+    if *first == b'E' {
+        return Some((Tag::Event(behind as u16), text));
     }
+    Some((Tag::Std(digit(*first)? * 10_000 + behind), text))
 }
 
 impl Tag {
