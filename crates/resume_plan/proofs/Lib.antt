@@ -1,2 +1,3 @@
 pub mod PlacesBehind
+pub mod PlansMade
 pub mod SendableLemmas

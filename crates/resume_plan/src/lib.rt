@@ -7,5 +7,5 @@
 pub mod planning;
 mod position;
 
-pub use planning::plan;
+pub use planning::{Commands, Planning, plan};
 pub use protocol_model::{Does, Planned, Start};

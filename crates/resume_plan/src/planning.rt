@@ -1,9 +1,10 @@
 // The commands of a plan.
 
-ghost use Rattle.std.specs.Prelude.{◌≡◌, ◌≤◌, ◌++◌, ◌∷◌, [], length, All, OnOk, IfOk, drop, option_copied};
+ghost use Rattle.std.specs.Prelude.{◌≡◌, ◌≤◌, ◌<◌, ◌++◌, ◌∷◌, [], true, false, length, All, OnOk, IfOk, drop, option_copied};
 ghost use Rattle.dmis_program.specs.Programs.{feature_touches};
 ghost use Rattle.protocol_model.specs.PlanReading.{touches_of};
-ghost use Rattle.protocol_model.specs.Plan.{planned, framing, tooling, stepping, measuring, clearing, starting, plan};
+ghost use Rattle.protocol_model.specs.Plan.{planned, framing, tooling, stepping, clearing, starting, plan};
+ghost use Rattle.resume_plan.specs.Made.{planned_with};
 ghost use Rattle.resume_plan.specs.Sendable.{IsSendable};
 
 use crate::position::{Position, ends_feature, position_behind};
@@ -13,11 +14,11 @@ use fixed_um::{Frame, Name};
 use protocol_model::{Does, Planned, Start};
 use std::alloc::{AllocError, Global};
 
-/// The commands of a plan so far.
+/// The commands of a plan so far, or those of them that nobody has taken out.
 #[derive(Drop)]
-struct Commands {
+pub struct Commands {
     alloc: Global,
-    planned: Vec<Planned>,
+    pub planned: Vec<Planned>,
 }
 
 impl Commands {
@@ -102,20 +103,6 @@ impl Commands {
         }
     }
 
-    /// Adds the commands of steps, the first of them in this frame.
-    fn push_steps(&mut self, steps: &[Step], frame: Frame) -> Result<(), AllocError>
-        ensures { OnOk result (self.new.planned.items ≡ self.old.planned.items
-            ++ stepping frame steps.now) }
-    {
-        let mut selected = frame;
-        let mut rest = steps;
-        while let Some((step, behind)) = rest.split_first() {
-            selected = self.push_step(step, &selected, behind)?;
-            rest = behind;
-        }
-        Ok(())
-    }
-
     /// Adds what begins every plan.
     fn push_preamble(&mut self, start: Start) -> Result<(), AllocError>
         ensures { OnOk result (self.new.planned.items ≡ self.old.planned.items
@@ -131,18 +118,78 @@ impl Commands {
         self.push(Command::OnPtMeasReport, Does::Nothing)
     }
 
-    /// Adds what is selected at a position, and what is left to be measured from there.
-    fn push_left(&mut self, position: &Position<'_>) -> Result<(), AllocError>
-        ensures { OnOk result (self.new.planned.items
-            ≡ self.old.planned.items ++ measuring (option_copied position.now.tool)
-            position.now.frame position.now.steps.now) }
+    /// Adds what is selected at a position.
+    fn push_selections(&mut self, position: &Position<'_>) -> Result<(), AllocError>
+        ensures { OnOk result (self.new.planned.items ≡ self.old.planned.items
+            ++ (tooling (option_copied position.now.tool) ++ framing position.now.frame)) }
     {
         if let Some(name) = position.tool {
             self.push_tool(name)?;
         }
-        self.push_frame(&position.frame)?;
-        self.push_steps(position.steps, position.frame)?;
-        self.push(Command::EndSession, Does::Nothing)
+        self.push_frame(&position.frame)
+    }
+}
+
+/// A plan that is made step by step: its commands so far, the steps that are left, and the frame that is selected before them.
+#[derive(Drop)]
+pub struct Planning<'p> {
+    pub commands: Commands,
+    pub frame: Frame,
+    pub steps: &'p [Step],
+}
+
+impl<'p> Planning<'p> {
+    /// The plan that `plan` gives, up to its first step: so it is made by whoever takes the commands out as they come, and never holds them
+    /// all.
+    ///
+    /// The caller must ensure that the program has that many features. Fails only if out of memory.
+    pub fn begin(
+        alloc: Global,
+        program: &'p Program,
+        completed: usize,
+        start: Start,
+    ) -> Result<Planning<'p>, AllocError>
+        requires { completed ≤ length program.now.features }
+        ensures plan { IfOk result (λ p. planned_with p.commands.planned.items p.frame p.steps.now
+            ≡ plan program.now completed start) }
+        ensures sendable { IfOk result (λ p. All IsSendable
+            (planned_with p.commands.planned.items p.frame p.steps.now)) }
+        ensures touches { IfOk result (λ p. touches_of
+            (planned_with p.commands.planned.items p.frame p.steps.now)
+            ≡ feature_touches (drop completed program.now.features)) }
+    {
+        let mut commands = Commands {
+            alloc,
+            planned: Vec::new(alloc),
+        };
+        let position = position_behind(program.statements(), completed);
+        commands.push_preamble(start)?;
+        commands.push_selections(&position)?;
+        Ok(Planning {
+            commands,
+            frame: position.frame,
+            steps: position.steps,
+        })
+    }
+
+    /// Adds the commands of the next step, and answers whether there was one; if not, it adds the end of the session, and the plan is
+    /// complete. Fails only if out of memory.
+    pub fn add_step(&mut self) -> Result<bool, AllocError>
+        ensures step { IfOk result (λ more. more ≡ true → planned_with self.new.commands.planned.items
+            self.new.frame self.new.steps.now
+            ≡ planned_with self.old.commands.planned.items self.old.frame self.old.steps.now) }
+        ensures shorter { IfOk result (λ more. more ≡ true
+            → length self.new.steps.now < length self.old.steps.now) }
+        ensures end { IfOk result (λ more. more ≡ false → self.new.commands.planned.items
+            ≡ planned_with self.old.commands.planned.items self.old.frame self.old.steps.now) }
+    {
+        let Some((step, behind)) = self.steps.split_first() else {
+            self.commands.push(Command::EndSession, Does::Nothing)?;
+            return Ok(false);
+        };
+        self.frame = self.commands.push_step(step, &self.frame, behind)?;
+        self.steps = behind;
+        Ok(true)
     }
 }
 
@@ -169,11 +216,7 @@ pub fn plan(
     ensures touches { IfOk result (λ planned. touches_of planned.items
         ≡ feature_touches (drop completed program.now.features)) }
 {
-    let mut commands = Commands {
-        alloc,
-        planned: Vec::new(alloc),
-    };
-    commands.push_preamble(start)?;
-    commands.push_left(&position_behind(program.statements(), completed))?;
-    Ok(commands.planned)
+    let mut planning = Planning::begin(alloc, program, completed, start)?;
+    while planning.add_step()? {}
+    Ok(planning.commands.planned)
 }

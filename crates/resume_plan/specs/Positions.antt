@@ -1,1 +1,0 @@
--- Where the code is on its way to the beginning of a plan. No clause of a public function cites this.
