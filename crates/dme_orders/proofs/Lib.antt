@@ -1,6 +1,5 @@
 pub mod LinesShown
 pub mod LoopingLemmas
-pub mod NumberedLines
 pub mod OrderLemmas
 pub mod PlanLemmas
 pub mod ReadingLemmas

@@ -1,6 +1,6 @@
 -- Numbers that are counted up.
-use Rattle.std.proofs.Common.{◌≡◌, ℕ, ◌+◌, ◌%◌, Bool, true, false, cond, ◌==◌, ◌<◌, length, length-append, List, [], ◌∷◌, ◌++◌, refl, ap}
-use Rattle.std.proofs.Common.{◌∙◌, arith, append_assoc}
+use Rattle.std.proofs.Common.{◌≡◌, ℕ, zero, suc, ◌+◌, ◌%◌, Bool, true, false, cond, ◌==◌, ◌<◌, length, length-append, List, [], ◌∷◌, ◌++◌, refl, ap}
+use Rattle.std.proofs.Common.{◌∙◌, arith, sym, append_assoc}
 use Rattle.std.specs.Prelude.{All, take}
 use Rattle.std.proofs.lemmas.Bool.{eqb-true, eqb-false}
 use Rattle.std.proofs.lemmas.List.Elements.{All-take}
@@ -9,9 +9,10 @@ use Rattle.dme_line.specs.declared.tags.Tag.TheVariants.{Std}
 use Rattle.dme_line.specs.Written.{written_command}
 use Rattle.protocol_model.specs.declared.plans.Planned.{Planned}
 use Rattle.dmis_program.specs.Meaning.{Meaning}
+use Rattle.protocol_model.specs.Plan.{plan}
+use Rattle.protocol_model.specs.declared.plans.Start.TheVariants.{NewConnection}
 use Rattle.dme_orders.specs.Plan.{lines_behind, plan_text}
-use Rattle.dme_orders.specs.Numbered.{number_behind}
-use Rattle.dme_orders.proofs.NumberedLines.{lines_from}
+use Rattle.dme_orders.specs.Numbered.{number_behind, number_behind_all, line_under, lines_from}
 
 -- the next number is that of one command more
 number_step : (count : ℕ) (b : Bool) → (count % 9999 + 1 == 9999) ≡ b → cond b 1 (count % 9999 + 1 + 1) ≡ (count + 1) % 9999 + 1
@@ -38,3 +39,45 @@ plan_has_text text program is = rw is (some_after _ _)
 -- the first of commands can be sent where all can
 pub first_are_sendable : (n : ℕ) (ps : List Planned) → All IsSendable ps → All IsSendable (take n ps)
 first_are_sendable n ps all = All-take IsSendable n ps all
+
+-- the lines of commands and then of others
+pub lines_of_both : (n : ℕ) (ps qs : List Planned)
+    → lines_from n (ps ++ qs) ≡ lines_from n ps ++ lines_from (number_behind_all n ps) qs
+lines_of_both n [] qs = refl
+lines_of_both n (p ∷ ps) qs =
+    ap (λ (text : List ℕ). line_under n p.command ++ text) (lines_of_both (number_behind n) ps qs)
+    ∙ sym (append_assoc (line_under n p.command) (lines_from (number_behind n) ps) (lines_from (number_behind_all (number_behind n) ps) qs))
+
+-- a text and a number, with the lines of the commands that are left, are those behind all commands
+pub record IsFollowed (text : List ℕ) (number : ℕ) (left : List Planned) (before : List ℕ) (first : ℕ) (all : List Planned) : Type 0 where
+  pub lines : text ++ lines_from number left ≡ before ++ lines_from first all
+  pub numbers : number_behind_all number left ≡ number_behind_all first all
+
+-- a text, with the lines of the commands that are left, is that of the plan
+pub record IsMaking (program : Meaning) (text : List ℕ) (number : ℕ) (left : List Planned) : Type 0 where
+  pub sendable : All IsSendable left
+  pub lines : text ++ lines_from number left ≡ lines_from 1 (plan program 0 NewConnection)
+
+-- the first commands can be sent, and then those that are left are left
+pub front_is_sendable : (front back : List Planned) → All IsSendable (front ++ back) → All IsSendable front
+front_is_sendable [] back all k d below = absurd (omega arith)
+front_is_sendable (p ∷ front) back all zero d below = all zero d (omega arith)
+front_is_sendable (p ∷ front) back all (suc k) d below =
+    front_is_sendable front back (λ j e under. all (suc j) e (omega arith)) k d (omega arith)
+
+pub back_is_sendable : (front back : List Planned) → All IsSendable (front ++ back) → All IsSendable back
+back_is_sendable [] back all = all
+back_is_sendable (p ∷ front) back all = back_is_sendable front back (λ k d below. all (suc k) d (omega arith))
+
+pub are_taken : (program : Meaning) (text : List ℕ) (number : ℕ) (front back : List Planned) (next : List ℕ) (behind : ℕ)
+    → IsMaking program text number (front ++ back) → next ≡ text ++ lines_from number front → behind ≡ number_behind_all number front
+    → IsMaking program next behind back
+are_taken program text number front back next behind making is at = record {
+  sendable = back_is_sendable front back making.sendable;
+  lines = rw is (rw at (append_assoc text (lines_from number front) (lines_from (number_behind_all number front) back)
+      ∙ ap (λ (more : List ℕ). text ++ more) (sym (lines_of_both number front back)) ∙ making.lines));
+}
+
+pub all_are_taken : (program : Meaning) (text : List ℕ) (number : ℕ) (all : List Planned) (next : List ℕ)
+    → IsMaking program text number all → next ≡ text ++ lines_from number all → next ≡ plan_text program
+all_are_taken program text number all next making is = is ∙ making.lines ∙ lines_counted 0 (plan program 0 NewConnection)

@@ -1,16 +1,16 @@
 // The plan of a program on a new connection, as text.
 
-ghost use Rattle.std.specs.Prelude.{◌≡◌, ◌<◌, ◌≤◌, length, ◌++◌, All, false, OnOk, IfOk, IfSome};
+ghost use Rattle.std.specs.Prelude.{◌≡◌, ◌<◌, ◌≤◌, [], length, ◌++◌, All, false, OnOk, IfOk, IfSome};
 ghost use Rattle.std.specs.List.{position};
 ghost use Rattle.dme_line.specs.Kinds.{kind_of, is_event_kind};
 ghost use Rattle.dme_line.specs.Written.{HasVolumeLengths};
 ghost use Rattle.resume_plan.specs.Sendable.{IsSendable};
 ghost use Rattle.dme_orders.specs.Plan.{count_to_touch, first_commands, is_touch, lines_behind, plan_text};
-ghost use Rattle.dme_orders.specs.Numbered.{number_behind, line_under};
+ghost use Rattle.dme_orders.specs.Numbered.{number_behind, number_behind_all, line_under, lines_from};
 
 use dme_line::{Command, Tag, write_command};
 use dmis_program::Program;
-use resume_plan::{Planned, Start, plan};
+use resume_plan::{Commands, Planned, Planning, Start, plan};
 use std::alloc::{AllocError, Global};
 
 /// Lines of commands so far, and the number of the next tag.
@@ -22,6 +22,17 @@ struct Lines {
 }
 
 impl Lines {
+    /// No lines.
+    fn new(alloc: Global) -> Lines
+        ensures text { result.text.items ≡ [] }
+        ensures number { result.number ≡ 1 }
+    {
+        Lines {
+            text: Vec::new(alloc),
+            number: 1,
+        }
+    }
+
     /// Adds the line of a standard command under the next tag.
     fn push(&mut self, command: &Command) -> Result<(), AllocError>
         requires standard { is_event_kind (kind_of command.now) ≡ false }
@@ -39,6 +50,34 @@ impl Lines {
         };
         Ok(())
     }
+
+    /// Adds the lines of commands.
+    fn push_all(&mut self, commands: &[Planned]) -> Result<(), AllocError>
+        requires { All IsSendable commands.now }
+        ensures text { OnOk result (self.new.text.items ≡ self.old.text.items
+            ++ lines_from self.old.number commands.now) }
+        ensures number { OnOk result (self.new.number
+            ≡ number_behind_all self.old.number commands.now) }
+    {
+        for planned in commands {
+            self.push(&planned.command)?;
+        }
+        Ok(())
+    }
+
+    /// Adds the lines of the commands that a plan has, and takes them out.
+    fn take(&mut self, commands: &mut Commands) -> Result<(), AllocError>
+        requires { All IsSendable commands.old.planned.items }
+        ensures text { OnOk result (self.new.text.items ≡ self.old.text.items
+            ++ lines_from self.old.number commands.old.planned.items) }
+        ensures number { OnOk result (self.new.number
+            ≡ number_behind_all self.old.number commands.old.planned.items) }
+        ensures taken { commands.new.planned.items ≡ [] }
+    {
+        let pushed = self.push_all(commands.planned.as_slice());
+        commands.planned.clear();
+        pushed
+    }
 }
 
 /// Commands as lines. Fails only if out of memory.
@@ -46,13 +85,8 @@ fn lines_text(alloc: Global, commands: &[Planned]) -> Result<Vec<u8>, AllocError
     requires { All IsSendable commands.now }
     ensures { IfOk result (λ text. text.items ≡ lines_behind 0 commands.now) }
 {
-    let mut lines = Lines {
-        text: Vec::new(alloc),
-        number: 1,
-    };
-    for planned in commands {
-        lines.push(&planned.command)?;
-    }
+    let mut lines = Lines::new(alloc);
+    lines.push_all(commands)?;
     Ok(lines.text)
 }
 
@@ -108,6 +142,11 @@ pub fn plan_text(alloc: Global, program: &Program) -> Result<Vec<u8>, AllocError
     ensures text { IfOk result (λ text. text.items ≡ plan_text program.now) }
     ensures some { IfOk result (λ text. 0 < length text.items) }
 {
-    let commands = plan(alloc, program, 0, Start::NewConnection)?;
-    lines_text(alloc, commands.as_slice())
+    let mut lines = Lines::new(alloc);
+    let mut planning = Planning::begin(alloc, program, 0, Start::NewConnection)?;
+    while planning.add_step()? {
+        lines.take(&mut planning.commands)?;
+    }
+    lines.take(&mut planning.commands)?;
+    Ok(lines.text)
 }

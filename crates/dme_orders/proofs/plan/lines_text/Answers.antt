@@ -1,9 +1,9 @@
-use Rattle.std.proofs.Common.{◌∙◌, sym, append-nil, arith}
-use Rattle.std.proofs.lemmas.List.{drop_all}
+use Rattle.std.proofs.Common.{◌≡◌, ◌∙◌, rules}
+use Rattle.dme_orders.specs.Numbered.{lines_from}
 use Rattle.dme_orders.proofs.PlanLemmas.{lines_counted}
 use Rattle.dme_orders.proofs.plan.lines_text.Goals as goal
 
 pub returns : goal.returns
-returns c = sym (append-nil c.loop-planned.lines.text.items)
-    ∙ rw (drop_all c.loop-planned.planned-index c.args.commands.now (omega arith)) at c.loop-planned.invariant
-    ∙ lines_counted 0 c.args.commands.now
+returns c =
+    let e : c.push_all.new.self.text.items ≡ lines_from 1 c.args.commands.now = search rules in
+    e ∙ lines_counted 0 c.args.commands.now
