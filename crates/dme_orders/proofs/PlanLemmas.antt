@@ -48,7 +48,7 @@ lines_of_both n (p ∷ ps) qs =
     ap (λ (text : List ℕ). line_under n p.command ++ text) (lines_of_both (number_behind n) ps qs)
     ∙ sym (append_assoc (line_under n p.command) (lines_from (number_behind n) ps) (lines_from (number_behind_all (number_behind n) ps) qs))
 
--- a text and a number, with the lines of the commands that are left, are those behind all commands
+-- a text and a number, with the lines of the commands that are left, are those after all commands
 pub record IsFollowed (text : List ℕ) (number : ℕ) (left : List Planned) (before : List ℕ) (first : ℕ) (all : List Planned) : Type 0 where
   pub lines : text ++ lines_from number left ≡ before ++ lines_from first all
   pub numbers : number_behind_all number left ≡ number_behind_all first all

@@ -13,7 +13,7 @@ number_behind n = if n == 9999 then 1 else n + 1
 abbrev pub line_under : ℕ → Command → List ℕ
 line_under n c = written_command (Std n) c ++ 10 ∷ []
 
--- the lines of commands from this number on, and the number behind them
+-- the lines of commands from this number on, and the number after the last
 abbrev pub lines_from : ℕ → List Planned → List ℕ
 lines_from n [] = []
 lines_from n (p ∷ ps) = line_under n p.command ++ lines_from (number_behind n) ps
