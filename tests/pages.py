@@ -126,10 +126,15 @@ def spoken(name, text):
     return " / ".join(re.sub(r"\s+", " ", it).strip() for it in said)
 
 
+def words_in(text):
+    """How many words there are: neither the bar of a table nor a dash counts."""
+    return sum(any(it.isalnum() for it in word) for word in text.split())
+
+
 def faults_of_length(name, text):
     """A document has at most as many words as one of its kind may have."""
     most = next((it for glob, it in MOST_WORDS.items() if pattern_of(glob).fullmatch(name)), None)
-    count = len(text.split())
+    count = words_in(text)
     return [f"{count} words, where there may be {most}"] if most is not None and count > most else []
 
 
@@ -338,7 +343,7 @@ def check_pages():
     tried = [(f"planted in {name}: {wrong[:40]!r}", [] if is_refused(check, name, (wrong, right)) else ["it is not refused"]) for check, name, (wrong, right) in PLANTED]
     for globs, checks in ((DOCUMENTS, (faults_of_length, faults_of_links, faults_of_citing, faults_of_order)), (SPOKEN, (faults_of_language,))):
         tried += [(name, check(name, text)) for name, text in texts_of(globs) for check in checks]
-    count = sum(len(text.split()) for _, text in texts_of(TOGETHER))
+    count = sum(words_in(text) for _, text in texts_of(TOGETHER))
     tried.append(("README.md and docs/", [] if count <= MOST_WORDS_TOGETHER else [f"{count} words, where there may be {MOST_WORDS_TOGETHER}"]))
     tried.append(("tools/release", faults_of_releasing()))
     for name, faults in tried:
