@@ -283,7 +283,7 @@ def server_rows(choose):
             rows += [choose.choice(["leave", "restart", "bad 00001 Home()"]), "turn", "state", "leave", f"accept {number + 2}"] + ready
         if choose.random() < 0.5:
             rows += choose.choice([["state"], ["clear"], ["clear"], ["running"], ["clear", "00045 StartSession()", "turn", "clear"]])
-    return "[server]\n" + "\n".join(rows + ["state", "running", "ledger"]) + "\n"
+    return "[server]\n" + "\n".join(rows + ["state", "running", "ledger", "contact rows"]) + "\n"
 
 
 def response_line(choose):
@@ -393,7 +393,7 @@ def client_rows(choose):
     for _ in range(choose.randrange(5, 70)):
         client.step()
         client.rows += choose.choice([[], [], [], ["state"], ["due"], ["open"], ["completed"], ["features"]])
-    return f"[client {name} {window}]\n" + "\n".join(client.rows + ["state", "open", "completed", "counted", "features"]) + "\n"
+    return f"[client {name} {window}]\n" + "\n".join(client.rows + ["state", "open", "completed", "counted", "features", "report"]) + "\n"
 
 
 def text_rows(choose):

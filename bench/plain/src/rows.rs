@@ -1,7 +1,7 @@
 //! Calls of a client and of a server, row by row, each shown with what it answers (test_calls/FORM.txt).
 
 use crate::client::{Client, Refusal, State};
-use crate::ledger::{write_act, write_direction, write_frame, write_measured, write_place};
+use crate::ledger::{Act, write_act, write_direction, write_frame, write_measured, write_place};
 use crate::line::Command;
 use crate::program::Program;
 use crate::server::{self, Outcome, Server};
@@ -166,6 +166,7 @@ impl<'p> ClientRows<'p> {
             "completed" => return write_whole(out, self.client.completed() as u64),
             "counted" => return self.push_counted(out),
             "features" => return self.push_features(out),
+            "report" => return self.push_report(out),
             _ => {}
         }
         self.client.out.clear();
@@ -207,6 +208,24 @@ impl<'p> ClientRows<'p> {
         }
         if self.client.features().is_empty() {
             out.extend_from_slice(b"nothing");
+        }
+    }
+
+    /// The report of docs/FILES.md without contacts, each line with a `;` behind it.
+    fn push_report(&self, out: &mut Vec<u8>) {
+        out.extend_from_slice(b"STATE ");
+        self.push_state(out);
+        out.extend_from_slice(b";COUNTED ");
+        write_whole(out, self.client.counted().len() as u64);
+        out.push(b';');
+        for (number, feature) in self.client.features().iter().enumerate() {
+            out.extend_from_slice(b"FEATURE ");
+            out.extend_from_slice(self.client.label(number).as_bytes());
+            out.push(b';');
+            for point in &feature.points {
+                write_place(out, *point);
+                out.push(b';');
+            }
         }
     }
 
@@ -287,6 +306,7 @@ impl ServerRows<'_> {
             "state" => return self.push_state(out),
             "running" => return self.push_running(out),
             "ledger" => return self.push_ledger(out),
+            "contact rows" => return self.push_contacts(out),
             _ => {}
         }
         self.server.out.clear();
@@ -340,6 +360,23 @@ impl ServerRows<'_> {
             write_whole(out, u64::from(*connection));
             out.push(b' ');
             write_act(out, act);
+            out.push(b';');
+        }
+    }
+
+    /// The contacts of a report, each line with a `;` behind it.
+    fn push_contacts(&self, out: &mut Vec<u8>) {
+        let contacts = self.server.ledger().iter().filter_map(|(connection, act)| match act {
+            Act::Contact(contact) => Some((*connection, contact.point)),
+            _ => None,
+        });
+        for (number, (connection, point)) in contacts.enumerate() {
+            out.extend_from_slice(b"CONTACT ");
+            write_whole(out, number as u64);
+            out.push(b' ');
+            write_whole(out, u64::from(connection));
+            out.push(b' ');
+            write_place(out, point);
             out.push(b';');
         }
     }

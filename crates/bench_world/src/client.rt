@@ -85,26 +85,38 @@ struct Peer {
 }
 
 impl Peer {
-    fn push(&mut self, tag: &[u8], text: &[u8]) -> Result<(), AllocError> {
-        self.answers.extend_from_slice(tag)?;
-        self.answers.extend_from_slice(text)
+    /// Appends an answer without a text.
+    fn push(&mut self, tag: &[u8; 5], mark: u8) -> Result<(), AllocError> {
+        let [a, b, c, d, e] = *tag;
+        self.answers
+            .extend_from_slice(&[a, b, c, d, e, b' ', mark, b'\r', b'\n'])
+    }
+
+    /// Appends the front of an answer with a text.
+    fn push_front(&mut self, tag: &[u8; 5]) -> Result<(), AllocError> {
+        let [a, b, c, d, e] = *tag;
+        self.answers
+            .extend_from_slice(&[a, b, c, d, e, b' ', b'#', b' '])
     }
 
     /// A command is received and done; a touch has a point, and the machine answers that it is not homed.
     fn hear(&mut self, line: &[u8]) -> Result<(), AllocError> {
         self.sum = summed_bytes(self.sum, line);
-        let (tag, command) = line.split_at(line.len().min(5));
-        self.push(tag, b" &\r\n")?;
+        let Some((tag, command)) = line.split_first_chunk::<5>() else {
+            return Ok(());
+        };
+        self.push(tag, b'&')?;
         if command.starts_with(b" IsHomed") {
-            self.push(tag, b" # IsHomed(0)\r\n")?;
+            self.push_front(tag)?;
+            self.answers.extend_from_slice(b"IsHomed(0)\r\n")?;
         }
         if command.starts_with(b" PtMeas") {
-            self.push(tag, b" # ")?;
+            self.push_front(tag)?;
             write_point(&mut self.answers, place(self.touches))?;
             self.answers.extend_from_slice(b"\r\n")?;
             self.touches = self.touches.wrapping_add(1);
         }
-        self.push(tag, b" %\r\n")
+        self.push(tag, b'%')
     }
 }
 

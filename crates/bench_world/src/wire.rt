@@ -2,7 +2,9 @@
 
 use crate::values::{Stop, place};
 use dme_line::{
-    Command, Mark, Response, Tag, read_command, read_response, write_command, write_response,
+    COMMAND_MAX, Command, LINE_END_LENGTH, Tag, read_command, read_response,
+    write_command_reserved, write_complete_reserved, write_line_end_reserved,
+    write_received_reserved,
 };
 use line_framing::{FramingFault, Lines, LinesFault};
 use std::alloc::Global;
@@ -49,18 +51,18 @@ impl From<LinesFault> for Stop {
 /// Appends line number `number`, with its end.
 fn push_line(out: &mut Vec<u8>, side: Side, number: u64) -> Result<(), Stop> {
     let tag = Tag::Std((number % 9999 + 1) as u32);
+    out.reserve(COMMAND_MAX + LINE_END_LENGTH)?;
     match side {
-        Side::Commands => write_command(out, tag, &Command::GoTo(place(number)))?,
+        Side::Commands => write_command_reserved(out, tag, &Command::GoTo(place(number))),
         Side::Responses => {
-            let mark = if number % 2 == 0 {
-                Mark::Ack
+            if number % 2 == 0 {
+                write_received_reserved(out, tag);
             } else {
-                Mark::Done
-            };
-            write_response(out, &Response { tag, mark })?;
+                write_complete_reserved(out, tag);
+            }
         }
     }
-    out.extend_from_slice(b"\r\n")?;
+    write_line_end_reserved(out);
     Ok(())
 }
 
