@@ -7,6 +7,10 @@ use Rattle.protocol_model.specs.Ends.{ClientEnd}
 use Rattle.dme_c.specs.Recordings.{RecordValue}
 use Rattle.dme_c.specs.Beginning.{IsAsked, IsBadPart, IsBegun, IsLabel, IsNoWindow, IsNumberOf, IsOfRecord, IsWhyNot, RefusesRecord, label_in, line_in, not_begun_number}
 use Rattle.dme_c.specs.Making.{AnswersJust, IsBadSetup, IsBadProgram}
+use Rattle.dme_c.specs.Continuing.{IsDue, IsDueFor, IsOfTexts, RefusesBytes}
+use Rattle.dme_c.specs.Beginning.{Asks, part_of}
+use Rattle.dmis_program.specs.Meaning.{Meaning}
+use Rattle.record_keeping.specs.declared.opening.RecordRefusal.TheVariants as refusal
 use Rattle.dme_c.specs.declared.record_making.NotBegun.{NotBegun}
 use Rattle.dme_c.specs.declared.record_making.NotBegun.TheVariants as not_begun
 use Rattle.dme_c.proofs.Making.{setup_first, no_bad_setup, no_bad_program, here, elsewhere, unknown}
@@ -155,3 +159,69 @@ module _ (setup program part : List ℕ) (window : ℕ) where
 
   pub begun_window : IsAsked setup program part window → AnswersJust 0 7 (IsNoWindow setup program part window)
   begun_window asked = elsewhere (λ is. omega arith) (two_windows asked.window_is)
+
+module _ (setup program part bytes : List ℕ) where
+  abbrev Due : NotBegun → Type 0
+  Due = IsDue setup program part bytes
+
+  -- what is due for the bytes, once the texts and the part are accepted
+  due_for : (meaning : Meaning) → Asks setup program part meaning → (why : NotBegun)
+      → IsDueFor (part_of part) meaning.features bytes why → Due why
+  due_for meaning asks not_begun.Memory due = tt
+  due_for meaning asks not_begun.BadSetup due = tt
+  due_for meaning asks not_begun.BadProgram due = tt
+  due_for meaning asks not_begun.BadPart due = tt
+  due_for meaning asks not_begun.BadWindow due = tt
+  due_for meaning asks (not_begun.Damaged line) due = record { meaning = meaning; asks = asks; refuses = due }
+  due_for meaning asks not_begun.OtherPart due = record { meaning = meaning; asks = asks; refuses = due }
+  due_for meaning asks (not_begun.OtherProgram label) due = record { meaning = meaning; asks = asks; refuses = due }
+
+  pub all_due : {A : Type 0} (r : Result A NotBegun) (meaning : Meaning) → Asks setup program part meaning
+      → IfErr r (IsDueFor (part_of part) meaning.features bytes) → IfErr r Due
+  all_due (Ok x) meaning asks due = tt
+  all_due (Err why) meaning asks due = due_for meaning asks why due
+
+  -- nothing is due for the bytes if the texts are refused
+  pub texts_due : (why : NotBegun) → IsOfTexts why → Due why
+  texts_due not_begun.Memory of = tt
+  texts_due not_begun.BadSetup of = tt
+  texts_due not_begun.BadProgram of = tt
+  texts_due not_begun.BadPart of = tt
+  texts_due not_begun.BadWindow of = tt
+  texts_due (not_begun.Damaged line) of = absurd of
+  texts_due not_begun.OtherPart of = absurd of
+  texts_due (not_begun.OtherProgram label) of = absurd of
+
+  -- the number says for which of the refusals
+  pub due_damaged : (why : NotBegun) → Due why → (number : ℕ) → number ≡ not_begun_number why → number ≡ 9
+      → RefusesBytes setup program part bytes (refusal.Damaged (line_in why))
+  due_damaged not_begun.Memory due number is nine = absurd (omega arith)
+  due_damaged not_begun.BadSetup due number is nine = absurd (omega arith)
+  due_damaged not_begun.BadProgram due number is nine = absurd (omega arith)
+  due_damaged not_begun.BadPart due number is nine = absurd (omega arith)
+  due_damaged not_begun.BadWindow due number is nine = absurd (omega arith)
+  due_damaged (not_begun.Damaged line) due number is nine = due
+  due_damaged not_begun.OtherPart due number is nine = absurd (omega arith)
+  due_damaged (not_begun.OtherProgram label) due number is nine = absurd (omega arith)
+
+  pub due_part : (why : NotBegun) → Due why → (number : ℕ) → number ≡ not_begun_number why → number ≡ 10
+      → RefusesBytes setup program part bytes refusal.OtherPart
+  due_part not_begun.Memory due number is ten = absurd (omega arith)
+  due_part not_begun.BadSetup due number is ten = absurd (omega arith)
+  due_part not_begun.BadProgram due number is ten = absurd (omega arith)
+  due_part not_begun.BadPart due number is ten = absurd (omega arith)
+  due_part not_begun.BadWindow due number is ten = absurd (omega arith)
+  due_part (not_begun.Damaged line) due number is ten = absurd (omega arith)
+  due_part not_begun.OtherPart due number is ten = due
+  due_part (not_begun.OtherProgram label) due number is ten = absurd (omega arith)
+
+  pub due_program : (why : NotBegun) → Due why → (number : ℕ) → number ≡ not_begun_number why → number ≡ 11
+      → RefusesBytes setup program part bytes (refusal.OtherProgram (label_in why))
+  due_program not_begun.Memory due number is eleven = absurd (omega arith)
+  due_program not_begun.BadSetup due number is eleven = absurd (omega arith)
+  due_program not_begun.BadProgram due number is eleven = absurd (omega arith)
+  due_program not_begun.BadPart due number is eleven = absurd (omega arith)
+  due_program not_begun.BadWindow due number is eleven = absurd (omega arith)
+  due_program (not_begun.Damaged line) due number is eleven = absurd (omega arith)
+  due_program not_begun.OtherPart due number is eleven = absurd (omega arith)
+  due_program (not_begun.OtherProgram label) due number is eleven = due

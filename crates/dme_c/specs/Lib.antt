@@ -1,5 +1,6 @@
 -- What the contracts cite.
 pub mod Beginning
+pub mod Continuing
 pub mod Calls
 pub mod ClientCalls
 pub mod Codes

@@ -9,8 +9,11 @@ ghost use Rattle.protocol_model.specs.Ends.{new_client_end};
 ghost use Rattle.client_core.specs.Clients.{is_window};
 ghost use Rattle.dme_c.specs.Beginning.{Asks, IsBadPart, IsBegun, IsLabel, IsNoWindow, IsNumberOf, IsOfRecord, IsWhyNot};
 ghost use Rattle.dme_c.specs.Beginning.{RefusesRecord, label_in, line_in, not_begun_number, part_of};
+ghost use Rattle.dme_c.specs.Continuing.{ContinuesBytes, IsDue, IsDueFor, IsOfTexts, RefusesBytes};
 ghost use Rattle.dme_c.specs.Making.{AnswersJust, IsBadSetup, IsBadProgram, Means};
 ghost use Rattle.dme_c.specs.Recordings.{next_number};
+ghost use Rattle.record_keeping.specs.Beginnings.{BeginsWith};
+ghost use Rattle.record_keeping.specs.declared.opening.RecordRefusal.TheVariants as refusal;
 
 use crate::client_handles::ClientHandle;
 use crate::codes::NotMade;
@@ -64,6 +67,7 @@ fn program_of_texts(alloc: Global, setup: &[u8], program: &[u8]) -> Result<Progr
     ensures read { IfOk result (Means setup.now program.now) }
     ensures refused { (part : List ℕ) (window : ℕ)
         → IfErr result (IsWhyNot setup.now program.now part window) }
+    ensures texts { IfErr result IsOfTexts }
 {
     let setup = match setup_read(alloc, setup) {
         Ok(setup) => setup,
@@ -102,6 +106,7 @@ fn asked(
     ensures asks { IfOk result (Asks setup.now program.now part.now) }
     ensures window { OnOk result (is_window window ≡ true) }
     ensures refused { IfErr result (IsWhyNot setup.now program.now part.now window) }
+    ensures texts { IfErr result IsOfTexts }
 {
     let program = match program_of_texts(alloc, setup, program) {
         Ok(program) => program,
@@ -124,7 +129,9 @@ fn beginning_of(
     part: &[u8],
 ) -> Result<Beginning, NotBegun>
     ensures begun { IfOk result (λ begun. Sound program.now.features begun.features begun.told) }
+    ensures continues { IfOk result (BeginsWith (part_of part.now) program.now.features bytes.now) }
     ensures refused { IfErr result IsOfRecord }
+    ensures due { IfErr result (IsDueFor (part_of part.now) program.now.features bytes.now) }
 {
     match begin_record(alloc, bytes, program, part_in(part)) {
         Ok(begun) => Ok(begun),
@@ -183,7 +190,11 @@ fn begun_of(
     requires window { is_window window ≡ true }
     ensures begun { (setup text : List ℕ) → Asks setup text part.now program → IfOk result (λ b.
         IsBegun setup text part.now window b.held b.client b.recording) }
+    ensures continues { (setup text : List ℕ) → Asks setup text part.now program
+        → IfOk result (λ b. ContinuesBytes setup text part.now bytes.now window b.held b.client
+        b.recording) }
     ensures refused { IfErr result IsOfRecord }
+    ensures due { IfErr result (IsDueFor (part_of part.now) program.features bytes.now) }
 {
     let begun = match beginning_of(alloc, bytes, &program, part) {
         Ok(begun) => begun,
@@ -213,7 +224,10 @@ fn begun_read(
 ) -> Result<Begun, NotBegun>
     ensures begun { IfOk result (λ b.
         IsBegun setup.now program.now part.now window b.held b.client b.recording) }
+    ensures continues { IfOk result (λ b. ContinuesBytes setup.now program.now part.now bytes.now
+        window b.held b.client b.recording) }
     ensures refused { IfErr result (IsWhyNot setup.now program.now part.now window) }
+    ensures due { IfErr result (IsDue setup.now program.now part.now bytes.now) }
 {
     match asked(alloc, setup, program, part, window) {
         Ok(meant) => begun_of(alloc, meant, part, bytes, window),
@@ -303,7 +317,10 @@ fn begun_boxed(
 ) -> Result<(Box<Client>, Box<Recording>, usize), NotBegun>
     ensures begun { IfOk result (λ b.
         IsBegun setup.now program.now part.now window b.2 b.0.value b.1.value) }
+    ensures continues { IfOk result (λ b. ContinuesBytes setup.now program.now part.now bytes.now
+        window b.2 b.0.value b.1.value) }
     ensures refused { IfErr result (IsWhyNot setup.now program.now part.now window) }
+    ensures due { IfErr result (IsDue setup.now program.now part.now bytes.now) }
 {
     let begun = match begun_read(alloc, setup, program, part, bytes, window) {
         Ok(begun) => begun,
@@ -340,6 +357,17 @@ pub extern "C" fn dme_record_begin(
     ensures begun { IfSome client.new.held (λ e. IfSome kept.new.held (λ r.
         IsBegun setup.now program.now part.now window result.held e r
         × (result.connection ≡ next_number r))) }
+    // What is made continues the record that the bytes are, or begins one if they are none yet.
+    ensures continues { IfSome client.new.held (λ e. IfSome kept.new.held (λ r.
+        ContinuesBytes setup.now program.now part.now bytes.now window result.held e r)) }
+    // The bytes are refused only for what they are.
+    ensures damaged { result.number ≡ 9
+        → RefusesBytes setup.now program.now part.now bytes.now (refusal.Damaged result.line) }
+    ensures other_part { result.number ≡ 10
+        → RefusesBytes setup.now program.now part.now bytes.now refusal.OtherPart }
+    ensures other_program { result.number ≡ 11 → result.label ≤ length room.old
+        → RefusesBytes setup.now program.now part.now bytes.now
+        (refusal.OtherProgram (take result.label room.new)) }
     ensures bad_setup { AnswersJust result.number 4 (IsBadSetup setup.now) }
     ensures bad_program { AnswersJust result.number 5 (IsBadProgram setup.now program.now) }
     ensures bad_part { AnswersJust result.number 12
