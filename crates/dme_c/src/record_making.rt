@@ -357,7 +357,7 @@ pub extern "C" fn dme_record_begin(
     ensures begun { IfSome client.new.held (λ e. IfSome kept.new.held (λ r.
         IsBegun setup.now program.now part.now window result.held e r
         × (result.connection ≡ next_number r))) }
-    // What is made continues the record that the bytes are, or begins one if they are none yet.
+    // What is made continues the record that the bytes are, or begins one if they hold no record yet.
     ensures continues { IfSome client.new.held (λ e. IfSome kept.new.held (λ r.
         ContinuesBytes setup.now program.now part.now bytes.now window result.held e r)) }
     // The bytes are refused only for what they are.
