@@ -15,7 +15,6 @@ pub mod Ends
 pub mod Judging
 pub mod Looping
 pub mod Driving
-pub mod Reviewing
 pub mod Serving
 pub mod Explaining
 pub mod Exporting
