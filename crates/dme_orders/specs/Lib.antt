@@ -15,6 +15,7 @@ pub mod Ends
 pub mod Judging
 pub mod Looping
 pub mod Driving
+pub mod Reviewing
 pub mod Serving
 pub mod Explaining
 pub mod Exporting

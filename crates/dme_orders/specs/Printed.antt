@@ -1,5 +1,5 @@
 -- What is shown for the fault of an order, and the exit status of a fault (this profile).
-use Rattle.std.specs.Prelude.{◌≡◌, ℕ, List, [], string_bytes, Option, Some}
+use Rattle.std.specs.Prelude.{◌≡◌, ℕ, Bool, ◌||◌, false, List, [], string_bytes, Option, Some}
 use Rattle.tool_rack.specs.declared.faults.SetupFault.TheVariants as setup
 use Rattle.dmis_program.specs.declared.faults.ProgramFault.TheVariants as program
 use Rattle.link_world.specs.declared.texts.schedule_faults.ScheduleFault.TheVariants as schedule
@@ -46,6 +46,17 @@ file_in files role.Features = files.features
 file_in files role.Contacts = files.contacts
 file_in files role.Record = files.record
 file_in files role.Program = files.program
+
+-- there was no memory to keep the whole text of one of them
+abbrev pub is_short : InputFiles → Bool
+is_short files = files.setup.is_short || (files.schedule.is_short || (files.features.is_short || (files.contacts.is_short
+    || (files.record.is_short || files.program.is_short))))
+
+-- a file without a name, of which nothing was read
+pub record IsUnnamed (file : InputFile) : Type 0 where
+  pub name : string_bytes file.name ≡ []
+  pub text : file.text.items ≡ []
+  pub whole : file.is_short ≡ false
 
 -- what is shown for the fault of an order, by its files: the refusal, or the name of the file
 abbrev pub IsFaultShown : FilesFault → (Role → InputFile) → OrderFault → Type 0

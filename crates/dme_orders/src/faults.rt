@@ -2,7 +2,7 @@
 
 ghost use Rattle.std.specs.Prelude.{◌≡◌, [], IfOk, string_bytes};
 ghost use Rattle.refusal_guide.specs.Places.{Places};
-ghost use Rattle.dme_orders.specs.Printed.{status_of, file_in, IsFaultShown, IsPlaceShown};
+ghost use Rattle.dme_orders.specs.Printed.{status_of, file_in, is_short, IsUnnamed, IsFaultShown, IsPlaceShown};
 
 use crate::reading::{FilesFault, Role};
 use contact_ledger::TextFault;
@@ -110,7 +110,9 @@ pub struct InputFile {
 
 impl InputFile {
     /// A file without a name, of which nothing was read.
-    fn unnamed(alloc: Global) -> InputFile {
+    fn unnamed(alloc: Global) -> InputFile
+        ensures { IsUnnamed result }
+    {
         InputFile {
             name: String::new(alloc),
             text: Vec::new(alloc),
@@ -132,7 +134,14 @@ pub struct InputFiles {
 
 impl InputFiles {
     /// Files without names.
-    pub fn unnamed(alloc: Global) -> InputFiles {
+    pub fn unnamed(alloc: Global) -> InputFiles
+        ensures setup { IsUnnamed result.setup }
+        ensures schedule { IsUnnamed result.schedule }
+        ensures features { IsUnnamed result.features }
+        ensures contacts { IsUnnamed result.contacts }
+        ensures record_of { IsUnnamed result.record }
+        ensures program { IsUnnamed result.program }
+    {
         InputFiles {
             setup: InputFile::unnamed(alloc),
             schedule: InputFile::unnamed(alloc),
@@ -144,7 +153,9 @@ impl InputFiles {
     }
 
     /// Whether there was no memory to keep the whole text of one of them.
-    pub fn is_short(&self) -> bool {
+    pub fn is_short(&self) -> bool
+        ensures { result ≡ is_short self.now }
+    {
         self.setup.is_short
             || self.schedule.is_short
             || self.features.is_short

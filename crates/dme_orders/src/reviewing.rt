@@ -1,10 +1,16 @@
 // Everything that stands between a program and its run is listed.
 
+ghost use Rattle.std.specs.Prelude.{◌≡◌, IfOk, IfErr};
+ghost use Rattle.dmis_program.specs.Meaning.{program_of};
+ghost use Rattle.dme_orders.specs.Input.{named, ReadsNamed, WhyNoNamed, frames_under};
+ghost use Rattle.dme_orders.specs.Orders.{went};
+ghost use Rattle.dme_orders.specs.Reading.{came};
+ghost use Rattle.dme_orders.specs.Reviewing.{review_status, Reviews};
+
 use crate::findings::{Besides, NamedText, findings_text};
 use crate::reading::{FilesFault, Role, read_text};
 use crate::report::FindingForm;
-use crate::simulating::write_text;
-use byte_ports::{Sink, Source};
+use byte_ports::{Failed, Sink, Source, push_all};
 use dmis_program::Frames;
 use program_review::{
     SetupNotice, lacking_setup, odd_statements, passed_statements, review, stray_touches,
@@ -33,7 +39,12 @@ struct ReadSetup {
 fn read_named_setup<S: Source>(
     alloc: Global,
     source: &mut Option<S>,
-) -> Result<ReadSetup, FilesFault> {
+) -> Result<ReadSetup, FilesFault>
+    ensures ok { IfOk result (λ read.
+        ReadsNamed (named S.left S.has_failed source.old source.new) read.setup) }
+    ensures err { IfErr result
+        (WhyNoNamed (named S.left S.has_failed source.old source.new)) }
+{
     let Some(source) = source else {
         return Ok(ReadSetup {
             setup: None,
@@ -70,7 +81,10 @@ fn reviewed(
     names: ReviewNames,
     read: &ReadSetup,
     text: &[u8],
-) -> Result<(Vec<u8>, u8), AllocError> {
+) -> Result<(Vec<u8>, u8), AllocError>
+    ensures { IfOk result (λ r. r.1
+        ≡ review_status (program_of (frames_under read.now.setup) text.now)) }
+{
     let none = Frames::new(alloc);
     let frames = match &read.setup {
         Some(setup) => setup.frames(),
@@ -121,12 +135,17 @@ pub fn review_program<S: Source, R: Source, W: Sink>(
     setup: &mut Option<S>,
     program: &mut R,
     sink: &mut W,
-) -> Result<u8, FilesFault> {
+) -> Result<u8, FilesFault>
+    ensures { Reviews (named S.left S.has_failed setup.old setup.new)
+        (came R.left R.has_failed program.old program.new)
+        (went W.taken W.has_failed sink.old sink.new) result }
+{
     let read = read_named_setup(alloc, setup)?;
     let text = read_text(alloc, program, Role::Program)?;
     let (report, status) = reviewed(alloc, form, names, &read, text.as_slice())?;
-    if !report.is_empty() {
-        write_text(sink, report.as_slice())?;
+    let findings = report.as_slice();
+    match push_all(sink, findings) {
+        Ok(()) => Ok(status),
+        Err(Failed) => Err(FilesFault::Write),
     }
-    Ok(status)
 }
