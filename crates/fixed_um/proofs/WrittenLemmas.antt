@@ -9,7 +9,7 @@ use Rattle.std.proofs.lemmas.Fmt.{length-decimal-le, decimal_is_IsNumeral, decim
 use Rattle.std.proofs.lemmas.Bool.Decides.{nat_tests}
 use Rattle.fixed_um.specs.Limits.{wire_limit, component_limit}
 use Rattle.fixed_um.specs.Written.{minus_sign, last_digit, three_digits, six_digits, written, written_component}
-use Rattle.fixed_um.specs.Numerals.{Numeral, IsSign, none, minus, pointed, nothing, IsNumeral, StandsFor, Reads}
+use Rattle.fixed_um.specs.Numerals.{Numeral, IsSign, none, minus, absent, pointed, nothing, IsNumeral, StandsFor, Reads}
 use Rattle.fixed_um.specs.Numerals.{ReadsDirection, signed}
 use Rattle.fixed_um.specs.Shapes.{Direction, IsDirection}
 use Rattle.fixed_um.proofs.DigitLemmas.{AllDigits-append, digits_value_after-append}
@@ -150,3 +150,65 @@ direction_reads_back d h = (
   component_reads_back d.k h.k_within,
   h,
 )
+
+-- the components of a direction along an axis
+pub zero_component : codes "0.000000" ≡ written_component (pos 0)
+unfolding written_component
+zero_component = ap (λ (whole : List ℕ). whole ++ codes ".000000") (sym (decimal_digit 0 (omega arith)))
+
+pub one_component : codes "1.000000" ≡ written_component (pos 1000000)
+unfolding written_component
+one_component = ap (λ (whole : List ℕ). whole ++ codes ".000000") (sym (decimal_digit 1 (omega arith)))
+
+pub minus_one_component : codes "-1.000000" ≡ written_component (negsuc 999999)
+unfolding written_component
+minus_one_component = ap (λ (whole : List ℕ). codes "-" ++ (whole ++ codes ".000000")) (sym (decimal_digit 1 (omega arith)))
+
+-- what the components along an axis read as, with decimals and without
+pub zero_reads : Reads 6 component_limit (codes "0.000000") (Ok (pos 0))
+zero_reads = subst (λ (text : List ℕ). Reads 6 component_limit text (Ok (pos 0))) (sym zero_component)
+    (component_reads_back (pos 0) (omega arith))
+
+pub one_reads : Reads 6 component_limit (codes "1.000000") (Ok (pos 1000000))
+one_reads = subst (λ (text : List ℕ). Reads 6 component_limit text (Ok (pos 1000000))) (sym one_component)
+    (component_reads_back (pos 1000000) (omega arith))
+
+pub zero_digit_reads : Reads 6 component_limit (codes "0") (Ok (pos 0))
+zero_digit_reads =
+    let n : Numeral = record { negative = false; digits = codes "0"; places = 0; raised = 0; lowered = 0 } in
+    let spelled : IsNumeral (codes "0") n = record {
+      sign = [];
+      whole = codes "0";
+      point = [];
+      fraction = [];
+      exponent = [];
+      parts = refl;
+      is_sign = none refl;
+      is_whole = (omega arith, tt);
+      is_fraction = absent refl;
+      is_exponent = nothing refl;
+      digits_are = refl;
+      places_are = refl;
+      some_digit = omega arith;
+    } in
+    (stands 6 (codes "0") n 0 0 spelled (omega arith) refl (rounds_exact 0 1 (omega arith)), omega arith)
+
+pub one_digit_reads : Reads 6 component_limit (codes "1") (Ok (pos 1000000))
+one_digit_reads =
+    let n : Numeral = record { negative = false; digits = codes "1"; places = 0; raised = 0; lowered = 0 } in
+    let spelled : IsNumeral (codes "1") n = record {
+      sign = [];
+      whole = codes "1";
+      point = [];
+      fraction = [];
+      exponent = [];
+      parts = refl;
+      is_sign = none refl;
+      is_whole = (omega arith, tt);
+      is_fraction = absent refl;
+      is_exponent = nothing refl;
+      digits_are = refl;
+      places_are = refl;
+      some_digit = omega arith;
+    } in
+    (stands 6 (codes "1") n 1 1000000 spelled (omega arith) refl (rounds_exact 1000000 1 (omega arith)), omega arith)

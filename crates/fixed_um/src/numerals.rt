@@ -1,7 +1,7 @@
 // Reading numerals.
 
 ghost use Rattle.std.specs.Prelude.{◌≡◌, ◌≤◌, ◌<◌, ◌+◌, ◌*◌, ◌^◌, ◌↔◌, ◌≤ℤ◌, ℕ, List, Result, Option, ℤ, pos, unsigned_abs, Ok, Err, SomeIff, MatchOption, IsTrue, IfSome, IfNone};
-ghost use Rattle.fixed_um.specs.Limits.{wire_limit};
+ghost use Rattle.fixed_um.specs.Limits.{component_limit, wire_limit};
 ghost use Rattle.fixed_um.specs.Numerals.{Numeral, IsNumeral, IsZero, Reads, ReadsDirection, signed};
 ghost use Rattle.fixed_um.specs.Rounding.{RoundsUp};
 ghost use Rattle.fixed_um.specs.Computed.{value_of, is_zero_text};
@@ -131,14 +131,45 @@ pub fn read_um(bytes: &[u8], limit: Um) -> Result<Um, NumeralFault>
     Ok(Um::within(micrometres))
 }
 
+/// The component of a direction along an axis, as programs and the wire write it; `None` says nothing.
+#[tactic(auto, using(crate::proofs::WrittenLemmas::zero_reads, crate::proofs::WrittenLemmas::one_reads, crate::proofs::WrittenLemmas::zero_digit_reads, crate::proofs::WrittenLemmas::one_digit_reads))]
+#[inline(always)]
+fn component_on_axis(bytes: &[u8]) -> Option<i64>
+    ensures { IfSome result (λ value. Reads 6 component_limit bytes.now (Ok value)) }
+{
+    if bytes == b"0".as_slice() {
+        return Some(0);
+    }
+    if bytes == b"1".as_slice() {
+        return Some(1_000_000);
+    }
+    if bytes == b"0.000000".as_slice() {
+        return Some(0);
+    }
+    if bytes == b"1.000000".as_slice() {
+        return Some(1_000_000);
+    }
+    None
+}
+
+/// The component of a direction.
+fn read_component(bytes: &[u8]) -> Result<i64, NumeralFault>
+    ensures { Reads 6 component_limit bytes.now result }
+{
+    match component_on_axis(bytes) {
+        Some(value) => Ok(value),
+        None => read_scaled(bytes, 6, 1_000_000_000),
+    }
+}
+
 /// The direction whose components three numerals write, each rounded to whole millionths, halves away from zero;
 /// `None` if all three round to zero. Of several faults the leftmost is answered. Does not allocate.
 pub fn read_dir(i: &[u8], j: &[u8], k: &[u8]) -> Result<Option<Dir>, NumeralFault>
     ensures { ReadsDirection i.now j.now k.now result }
 {
-    let i = read_scaled(i, 6, 1_000_000_000)?;
-    let j = read_scaled(j, 6, 1_000_000_000)?;
-    let k = read_scaled(k, 6, 1_000_000_000)?;
+    let i = read_component(i)?;
+    let j = read_component(j)?;
+    let k = read_component(k)?;
     if i == 0 && j == 0 && k == 0 {
         return Ok(None);
     }

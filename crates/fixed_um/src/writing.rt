@@ -87,7 +87,8 @@ fn write_component_before(text: &mut [u8], end: usize, value: i64) -> usize
     put_whole_before(text, point, value, magnitude / 1_000_000)
 }
 
-fn write_component_reserved(out: &mut Vec<u8>, value: i64)
+/// Appends any component.
+fn write_any_component_reserved(out: &mut Vec<u8>, value: i64)
     requires value { unsigned_abs value ≤ component_limit }
     requires room { HasRoom out.old 15 }
     ensures text { out.new.items ≡ out.old.items ++ written_component value }
@@ -96,6 +97,34 @@ fn write_component_reserved(out: &mut Vec<u8>, value: i64)
     let mut text = [0; 15];
     let start = write_component_before(&mut text, 15, value);
     out.extend_from_slice(&text[start..]).unwrap();
+}
+
+/// The text of a component along an axis; none of another.
+#[inline(always)]
+fn text_on_axis(value: i64) -> Option<&'static [u8]>
+    ensures text { IfSome result (λ text. text.now ≡ written_component value) }
+    ensures short { IfSome result (λ text. length text.now ≤ 15) }
+{
+    match value {
+        0 => Some(b"0.000000"),
+        1_000_000 => Some(b"1.000000"),
+        -1_000_000 => Some(b"-1.000000"),
+        _ => None,
+    }
+}
+
+/// Appends a component. Most directions are along an axis.
+#[inline(always)]
+fn write_component_reserved(out: &mut Vec<u8>, value: i64)
+    requires value { unsigned_abs value ≤ component_limit }
+    requires room { HasRoom out.old 15 }
+    ensures text { out.new.items ≡ out.old.items ++ written_component value }
+    ensures grows { Grows out.old out.new 15 }
+{
+    match text_on_axis(value) {
+        Some(text) => out.extend_from_slice(text).unwrap(),
+        None => write_any_component_reserved(out, value),
+    }
 }
 
 /// Appends the three components of a direction with six decimals each, as `0.577350`, with a text between each two,
