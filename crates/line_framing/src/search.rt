@@ -68,7 +68,7 @@ fn count_by_one(bytes: &[u8]) -> usize
         .count()
 }
 
-/// Likewise for more than one byte.
+/// Likewise, many bytes at a time.
 #[inline(never)]
 fn count_content(bytes: &[u8]) -> usize
     ensures count { result ≡ content_len bytes.now }
@@ -101,6 +101,7 @@ pub(crate) fn content_end(bytes: &[u8], searched: usize) -> usize
     match unsearched {
         // Lines may come byte by byte.
         [_] => searched + count_by_one(unsearched),
+        _ if unsearched.len() < LANES => searched + count_by_one(unsearched),
         _ => searched + count_content(unsearched),
     }
 }
