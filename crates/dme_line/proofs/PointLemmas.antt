@@ -8,7 +8,7 @@ use Rattle.fixed_um.specs.Numerals.{Reads}
 use Rattle.fixed_um.specs.declared.lengths.Point.{Point}
 use Rattle.dme_line.specs.Tokens.{Token, Open, Close, Comma, Word, tokens, is_word_byte}
 use Rattle.dme_line.specs.Arguments.{Single, argument_tokens}
-use Rattle.dme_line.specs.Points.{point_tokens, BeginsWithAxis, IsPointText, ReadsPoint}
+use Rattle.dme_line.specs.Points.{point_tokens, IsPointText, ReadsPoint}
 use Rattle.dme_line.specs.declared.points.NotPoint.{NotPoint}
 use Rattle.dme_line.proofs.PlaceLemmas.{one_length, same_point}
 use Rattle.dme_line.proofs.TokenLemmas.{tokens-word, tokens-mark}
@@ -26,6 +26,12 @@ two_in_front [] a b some h g = absurd (omega arith)
 two_in_front (x ∷ []) a b some h g = absurd (omega arith)
 two_in_front (x ∷ y ∷ xs) a b some h g = rw (rest_of (x ∷ y ∷ xs) 2)
     (ap (λ (u : ℕ). u ∷ y ∷ xs) h ∙ ap (λ (u : ℕ). a ∷ u ∷ xs) g)
+
+-- an axis of this name is at the start of the rest of a text
+pub record BeginsWithAxis (letter : ℕ) (text rest : List ℕ) (value : ℤ) : Type 0 where
+  pub numeral : List ℕ
+  pub spelled : tokens text ≡ argument_tokens (Single (letter ∷ []) numeral) ++ tokens rest
+  pub reads : Reads 3 wire_limit numeral (Ok value)
 
 -- an axis in its written form
 pub axis_in_front : (letter limit : ℕ) (bytes text behind rest : List ℕ) (value : ℤ) → is_word_byte letter ≡ true → limit ≡ wire_limit

@@ -28,12 +28,6 @@ pub record HasCoordinates (x y z : List ℕ) (p : Point) : Type 0 where
   pub y_reads : Reads 3 wire_limit y (Ok p.y)
   pub z_reads : Reads 3 wire_limit z (Ok p.z)
 
--- an axis of this name is at the start of the rest of a text
-pub record BeginsWithAxis (letter : ℕ) (text rest : List ℕ) (value : ℤ) : Type 0 where
-  pub numeral : List ℕ
-  pub spelled : tokens text ≡ argument_tokens (Single (letter ∷ []) numeral) ++ tokens rest
-  pub reads : Reads 3 wire_limit numeral (Ok value)
-
 -- the three axes are at the start of the rest of a text
 pub record BeginsWithPoint (text rest : List ℕ) (p : Point) : Type 0 where
   pub x : List ℕ

@@ -94,13 +94,13 @@ moved_down k w = record w {
   links = with_link w.links w.client.client.last (record (client_link w) { down = drop k (client_link w).down });
 }
 
--- a whole line is at the front; a line or a fault does
+-- a whole line is next; a server does not read what no line can hold
 abbrev pub is_line : Front → Bool
 is_line (Ok None) = false
 is_line (Ok (Some found)) = true
 is_line (Err why) = false
 
--- a line or a fault is at the front
+-- a line is next, or what no line can hold
 abbrev pub is_any : Front → Bool
 is_any (Ok None) = false
 is_any (Ok (Some found)) = true
