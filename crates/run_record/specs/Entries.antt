@@ -36,9 +36,3 @@ abbrev pub entry_line : Entry → List ℕ
 entry_line (Told n act) = act_line (n, act)
 entry_line (Refused n text) = refused_line n text
 entry_line (Completed n label) = completed_line n label
-
--- an entry has the number of a connection that may exist
-abbrev pub IsOnConnection : Entry → Type 0
-IsOnConnection (Told n act) = IsConnection n
-IsOnConnection (Refused n text) = IsConnection n
-IsOnConnection (Completed n label) = IsConnection n

@@ -17,6 +17,9 @@ use itoa::Buffer;
 use std::alloc::AllocError;
 use std::marker::Model;
 
+/// The room that is made for each act, in bytes: most lines are shorter.
+const USUAL_LINE: usize = 128;
+
 /// What a client counts on a connection while it adds to a record: how many of the wanted features are complete, and how many points of
 /// the next one were reported. Contracts see the connection and these two.
 #[derive(Clone, Copy, Debug)]
@@ -130,7 +133,8 @@ impl Telling {
         ensures acts { OnOk result (AllByRecursion IsWrittenAct acts.now) }
         ensures err { OnErr result (self.new ≡ self.old) }
     {
-        let mut text = Vec::new(*out.allocator());
+        let room = acts.len().saturating_mul(USUAL_LINE);
+        let mut text = Vec::with_capacity(*out.allocator(), room)?;
         let mut telling = *self;
         telling.add(&mut text, program.features(), acts)?;
         out.extend_from_slice(text.as_slice())?;
