@@ -1,9 +1,9 @@
 // The commands of a plan.
 
-ghost use Rattle.std.specs.Prelude.{◌≡◌, ◌≤◌, ◌<◌, ◌++◌, ◌∷◌, [], true, false, length, All, OnOk, IfOk, drop, option_copied};
+ghost use Rattle.std.specs.Prelude.{◌≡◌, ◌↔◌, ◌≤◌, ◌<◌, ◌++◌, ◌∷◌, [], true, false, length, All, OnOk, IfOk, drop, option_copied};
 ghost use Rattle.dmis_program.specs.Programs.{feature_touches};
 ghost use Rattle.protocol_model.specs.PlanReading.{touches_of};
-ghost use Rattle.protocol_model.specs.Plan.{planned, framing, tooling, stepping, clearing, starting, plan};
+ghost use Rattle.protocol_model.specs.Plan.{planned, framing, tooling, stepping, clearing, starting, behind, plan};
 ghost use Rattle.resume_plan.specs.Made.{planned_with};
 ghost use Rattle.resume_plan.specs.Sendable.{IsSendable};
 
@@ -152,6 +152,8 @@ impl<'p> Planning<'p> {
         requires { completed ≤ length program.now.features }
         ensures plan { IfOk result (λ p. planned_with p.commands.planned.items p.frame p.steps.now
             ≡ plan program.now completed start) }
+        // No step is made yet.
+        ensures steps { IfOk result (λ p. p.steps.now ≡ behind completed program.now.steps) }
         ensures sendable { IfOk result (λ p. All IsSendable
             (planned_with p.commands.planned.items p.frame p.steps.now)) }
         ensures touches { IfOk result (λ p. touches_of
@@ -180,6 +182,9 @@ impl<'p> Planning<'p> {
             ≡ planned_with self.old.commands.planned.items self.old.frame self.old.steps.now) }
         ensures shorter { IfOk result (λ more. more ≡ true
             → length self.new.steps.now < length self.old.steps.now) }
+        // One step is made, and the answer is whether there was one.
+        ensures one { OnOk result (self.new.steps.now ≡ drop 1 self.old.steps.now) }
+        ensures more { IfOk result (λ more. more ≡ true ↔ (0 < length self.old.steps.now)) }
         ensures end { IfOk result (λ more. more ≡ false → self.new.commands.planned.items
             ≡ planned_with self.old.commands.planned.items self.old.frame self.old.steps.now) }
     {
