@@ -5,6 +5,7 @@ use Rattle.std.proofs.lemmas.Bool.{false≢true, and_parts, leb-true}
 use Rattle.dmis_program.specs.Meaning.{Meaning}
 use Rattle.dmis_program.specs.Programs.{IsProgram}
 use Rattle.tool_rack.specs.Setups.{SetupValue}
+use Rattle.line_framing.specs.Framing.{Framing}
 use Rattle.line_framing.specs.Next.{next_of}
 use Rattle.line_framing.specs.declared.faults.FramingFault.{FramingFault}
 use Rattle.line_framing.proofs.Streams.{no_fault}
@@ -68,12 +69,25 @@ told : (l : WorldValue) → IsReached l → Told l.world.client.client.table.tal
 told l h = let c : IsCarried l.world = carried l h in let t = told_now (lined l.world c.up c.down) c.inv
     in record { more = t.0; whole = t.1 }
 
+-- a server on a connection reads the lines of its client, and one on none has nothing to read
+framed : (l : WorldValue) → IsReached l → (on : Bool) → l.world.server.server.on ≡ on → (why : FramingFault)
+    → next_of l.world.server.input.rest ≡ Err why → ⊥
+framed l h true on why is =
+    let c : IsCarried l.world = carried l h in
+    let whole : IsWhole (l.world.server.input.rest ++ (server_link l.world).up) = c.wired.serves on in
+    no_fault l.world.server.input.rest (server_link l.world).up (command_texts whole.lines) why
+    (command_lines whole.lines whole.writable) whole.is is
+framed l h false off why is =
+    let c : IsCarried l.world = carried l h in
+    let none : next_of [] ≡ Err why = ap (λ (input : Framing). next_of input.rest) (sym (c.at_rest off)) ∙ is in
+    cc
+
 pub headline : (l : WorldValue) → IsReached l → Headline l.world
 headline l h = let c : IsCarried l.world = carried l h in record {
   features = sound l h;
   counted = told l h;
   client = never_faulted (lined l.world c.up c.down) c.inv;
-  server = c.server_fault;
+  server = record { met = c.server_fault; next = framed l h l.world.server.server.on refl };
 }
 
 -- likewise for a world that is seen as an equal one
@@ -155,11 +169,7 @@ server_quiet client server cs written h = (carried (seen client server cs writte
 pub server_reads_lines : (client : ClientEnd) (server : ServerValue) (cs : List Connection) (written : List ℕ)
     → IsReached (seen client server cs written)
     → server.end.server.on ≡ true → (why : FramingFault) → next_of server.end.input.rest ≡ Err why → ⊥
-server_reads_lines client server cs written h on why is =
-    let w = (carried (seen client server cs written) h).wired in
-    let whole : IsWhole (server.end.input.rest ++ (server_link (seen client server cs written).world).up) = w.serves on in
-    no_fault server.end.input.rest (server_link (seen client server cs written).world).up (command_texts whole.lines) why
-    (command_lines whole.lines whole.writable) whole.is is
+server_reads_lines client server cs written h on why is = framed (seen client server cs written) h true on why is
 
 pub never_faulted_behind : (l : WorldValue) (e : Event) → IsReached l → can e l.world ≡ true
     → (happens e l.world).client.client.state ≢ State.Faulted

@@ -80,7 +80,7 @@ up_may count client server cs written at c h on place short is =
     let link : link_of (links_of cs) server.end.server.last ≡ link_of_connection c = here server cs at c place short is in
     ap (λ (x : Bool). x && (is_none server.end.input.fault && has_some count (link_of (links_of cs) server.end.server.last).up)) on
     ∙ (ap (λ (x : Option FramingFault). is_none x && has_some count (link_of (links_of cs) server.end.server.last).up)
-    (headline (seen client server cs written) h).server
+    (headline (seen client server cs written) h).server.met
     ∙ ap (λ (l : Link). has_some count l.up) link)
 
 pub up_seen : (count : ℕ) (client : ClientEnd) (server after : ServerValue) (cs : List Connection) (written : List ℕ) (at : ℕ)
@@ -132,4 +132,4 @@ pub reads_may : (client : ClientEnd) (server : ServerValue) (cs : List Connectio
 reads_may client server cs written h on =
     ap (λ (x : Bool). x && (is_none server.end.input.fault && is_line (next_of server.end.input.rest))) on
     ∙ ap (λ (x : Option FramingFault). is_none x && is_line (next_of server.end.input.rest))
-    (headline (seen client server cs written) h).server
+    (headline (seen client server cs written) h).server.met

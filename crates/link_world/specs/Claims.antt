@@ -1,6 +1,9 @@
 -- What is promised of a world after any events, what an event answers, and when no world is made (this profile).
 use Rattle.std.specs.Prelude.{◌≡◌, ◌≢◌, Bool, true, false, None, List, Result, Ok, Err}
 use Rattle.dmis_program.specs.Meaning.{Meaning}
+use Rattle.line_framing.specs.Framing.{Framing}
+use Rattle.line_framing.specs.Next.{next_of}
+use Rattle.line_framing.specs.declared.faults.FramingFault.{FramingFault}
 use Rattle.tool_rack.specs.Setups.{SetupValue}
 use Rattle.protocol_model.specs.Claims.{Sound, Told}
 use Rattle.protocol_model.specs.Plan.{plan}
@@ -18,6 +21,11 @@ use Rattle.link_world.specs.declared.worlds.faults.WorldFault.TheVariants as wor
 use Rattle.link_world.specs.declared.worlds.faults.NewFault.{NewFault}
 use Rattle.link_world.specs.declared.worlds.faults.NewFault.TheVariants as fault
 
+-- an input without a framing fault: none was met, and none is next in what is not read yet
+pub record IsFramed (input : Framing) : Type 0 where
+  pub met : input.fault ≡ None
+  pub next : (why : FramingFault) → next_of input.rest ≡ Err why → ⊥
+
 -- the headline, of a world after any events
 pub record Headline (w : World) : Type 0 where
   -- the features that the client holds are the first of its program, each with the points of an unbroken run of the server's contacts
@@ -26,8 +34,8 @@ pub record Headline (w : World) : Type 0 where
   pub counted : Told w.client.client.table.tally.counted w.server.server.ledger w.client.client.last
   -- the client has met no line and no mark that is unexpected
   pub client : w.client.client.state ≢ State.Faulted
-  -- the server has met no framing fault
-  pub server : w.server.input.fault ≡ None
+  -- the server has met no framing fault, and it reads none next
+  pub server : IsFramed w.server.input
 
 -- a program and a setup are handed back because of the window
 abbrev pub HandsBack : Meaning → SetupValue → NewFault → Type 0
@@ -47,7 +55,7 @@ IsNew w = w ≡ start w.client.client.program w.server.server.rack w.client.clie
 abbrev pub first_plan : World → List Planned
 first_plan w = plan w.client.client.program 0 Start.NewConnection
 
--- the events that may need memory: all except taking a connection, leaving one, and beginning again
+-- the events that may need memory: all except a server's taking a connection, either side's leaving one, and either side's restart
 abbrev pub takes_memory : Event → Bool
 takes_memory (Event.Accept n) = false
 takes_memory Event.ClientLeaves = false

@@ -51,7 +51,7 @@ pub record HasRun (w : World) (events : List Event) (v : World) (done not_now me
   pub memory_are : wanting answers ≡ memory
 
 -- what is reported of a run: each event has its answer, the counts are of all events, and if memory sufficed it led where the events lead
-pub record IsRun (w : World) (events : List Event) (v : World) (count : RunCount) : Type 0 where
+pub record ReportsRun (w : World) (events : List Event) (v : World) (count : RunCount) : Type 0 where
   pub led : HasRun w events v count.done count.not_now count.memory
   pub all : count.done + count.not_now + count.memory ≡ length events
   pub whole : count.memory ≡ 0 → v ≡ run_of events w

@@ -11,7 +11,7 @@ ghost use Rattle.protocol_model.specs.Undisturbed.{AreUndisturbed};
 ghost use Rattle.link_world.specs.Events.{HappensIf};
 ghost use Rattle.client_core.specs.Clients.{is_window};
 ghost use Rattle.link_world.specs.Links.{with_world};
-ghost use Rattle.link_world.specs.Runs.{IsRun, FollowsPlan};
+ghost use Rattle.link_world.specs.Runs.{ReportsRun, FollowsPlan};
 ghost use Rattle.link_world.specs.Claims.{Headline, IsAnswer, IsNew, first_plan, HandsBack, IsWant, takes_memory};
 ghost use Rattle.link_world.specs.Finishing.{IsSameKind};
 
@@ -122,8 +122,8 @@ impl World {
         }
     }
 
-    /// An event happens, if it can. `NotNow` exactly if it cannot; `Memory` only if it can; neither changes anything. Taking or leaving a
-    /// connection and beginning again do not allocate.
+    /// An event happens, if it can. `NotNow` exactly if it cannot; `Memory` only if it can; neither changes anything. `Accept`, both
+    /// leavings and both restarts do not allocate.
     ///
     /// - `always`: what is claimed of every world, whatever has happened to it;
     /// - `answer`: when the event happens, and when it is refused;
@@ -152,7 +152,7 @@ impl World {
     ///   possible or ran out of memory.
     pub fn run(&mut self, events: &[Event]) -> RunCount
         ensures always { Headline self.new.world }
-        ensures ran { IsRun self.old.world events.now self.new.world result }
+        ensures ran { ReportsRun self.old.world events.now self.new.world result }
         ensures fixed { IsSameKind self.old self.new }
         ensures undisturbed { IsNew self.old.world → AreUndisturbed events.now
             → FollowsPlan (first_plan self.old.world) self.new.world }

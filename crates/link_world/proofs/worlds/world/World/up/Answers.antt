@@ -7,7 +7,7 @@ pub server_place-requires : goal.server_place-requires
 server_place-requires c = stands c.self.inside c.self.invariant
 
 pub bring_up-requires-clause-fine : goal.bring_up-requires-clause-fine
-bring_up-requires-clause-fine c = (headline (inner c.self.inside) c.self.invariant).server
+bring_up-requires-clause-fine c = (headline (inner c.self.inside) c.self.invariant).server.met
 
 pub returns-clause-can : goal.returns-clause-can
 returns-clause-can c = up_can c.args.count c.args.self.now c.self.inside c.in-Some.at c.index_mut.result.now c.bring_up.result
