@@ -101,7 +101,7 @@ pub fn loop_program<
         Ok(read) => read,
         Err(fault) => return Err(refused(rt.alloc(), fault, files, order.explain)),
     };
-    warn(rt, &files.setup, &files.program)?;
+    warn(rt, &files.setup, &files.program, &program)?;
     let task = Task {
         run: LoopTask {
             setup,

@@ -550,8 +550,9 @@ fn read_sources<R: Files + Input + AllocGlobal>(
 fn told_tasks<R: Eprint + AllocGlobal>(
     rt: &R,
     files: &InputFiles,
+    program: &Program,
 ) -> Result<Vec<TaskLine>, AllocError> {
-    warn(rt, &files.setup, &files.program)?;
+    warn(rt, &files.setup, &files.program, program)?;
     task_lines(rt.alloc(), files.program.text.as_slice())
 }
 
@@ -577,7 +578,7 @@ fn read_run<R: Files + Input + Eprint + AllocGlobal>(
         Ok(read) => read,
         Err(fault) => return Err(refused(rt.alloc(), fault, files, is_explained)),
     };
-    let told = told_tasks(rt, &files);
+    let told = told_tasks(rt, &files, &read.1);
     let features = features_name(rt.alloc(), &mut files, is_kept);
     drop(files);
     match told {

@@ -130,14 +130,14 @@ reached true e o r t h = absurd cc
 reached false e (Some x) r t h = absurd cc
 reached false e None r t h = (refl, h)
 
-record IsAccepted (c : Context) (s : Statement) (t : StatementMeaning) : Type 0 where
-  few : c.number < 10000
-  said : saying s ≡ Ok t
+pub record IsAccepted (c : Context) (s : Statement) (t : StatementMeaning) : Type 0 where
+  pub few : c.number < 10000
+  pub said : saying s ≡ Ok t
 
 below_most : (n : ℕ) → nat_le 10000 n ≡ false → n < 10000
 below_most n h = grind (arith, nat_tests)
 
-accepted_is : (frames : List (List ℕ × Point)) (c : Context) (s : Statement) (t : StatementMeaning) → judged frames c s ≡ Ok t
+pub accepted_is : (frames : List (List ℕ × Point)) (c : Context) (s : Statement) (t : StatementMeaning) → judged frames c s ≡ Ok t
     → IsAccepted c s t
 unfolding judged
 accepted_is frames c s t h =
@@ -150,7 +150,7 @@ no_parameters_close : (params : List (List ℕ)) (t : StatementMeaning) → with
 no_parameters_close [] t h = let same : said.Closes ≡ t = cc in rw (← same) refl
 no_parameters_close (p ∷ params) t h = absurd cc
 
-unless_badly : (b : Bool) (e : Refusal) (r : Result StatementMeaning Refusal) (t : StatementMeaning) → cond b (Err e) r ≡ Ok t → r ≡ Ok t
+pub unless_badly : (b : Bool) (e : Refusal) (r : Result StatementMeaning Refusal) (t : StatementMeaning) → cond b (Err e) r ≡ Ok t → r ≡ Ok t
 unless_badly true e r t h = absurd cc
 unless_badly false e r t h = h
 
@@ -185,7 +185,7 @@ both_same word.Definition t false h f g = refl
 both_same word.Passed t false h f g = refl
 both_same word.Unknown t false h f g = refl
 
-end_is : (s : Statement) (t : StatementMeaning) → saying s ≡ Ok t → is_end (keyword_of s.word) ≡ closes t
+pub end_is : (s : Statement) (t : StatementMeaning) → saying s ≡ Ok t → is_end (keyword_of s.word) ≡ closes t
 end_is s t h =
     let by_word : SaidBy (keyword_of s.word) t = rw h at (said_of_if (keyword_of s.word) s) in
     both_same (keyword_of s.word) t (closes t) refl (closing_ends (keyword_of s.word) t by_word)

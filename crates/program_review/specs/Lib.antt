@@ -3,6 +3,7 @@ pub mod BlockLines
 pub mod Refusals
 pub mod Notices
 pub mod UnderSetup
+pub mod StepLacks
 pub mod Groups
 pub mod Strays
 pub mod UnusedFrames

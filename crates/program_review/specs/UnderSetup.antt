@@ -35,10 +35,10 @@ recalled None = selected.Unknown
 recalled (Some offset) = selected.Stored offset
 
 -- the frame that is selected after a statement: a `RECALL` that is refused selects an unknown one
-abbrev pub selected_after : List (List ℕ × Point) → Selected → Keyword → Option StatementMeaning → Selected
-selected_after frames before word.Recall None = selected.Unknown
-selected_after frames before keyword (Some (said.Recalls name)) = recalled (offset_of frames name)
-selected_after frames before keyword meaning = before
+abbrev pub selected_after : List (List ℕ × Point) → Selected → Option StatementMeaning → Keyword → Selected
+selected_after frames before None word.Recall = selected.Unknown
+selected_after frames before (Some (said.Recalls name)) keyword = recalled (offset_of frames name)
+selected_after frames before meaning keyword = before
 
 -- each axis is within the machine's volume
 abbrev pub is_within : Point → Bool
@@ -74,4 +74,4 @@ abbrev pub lacks_from : List (List ℕ) → List (List ℕ × Point) → Selecte
 lacks_from tools frames before [] = []
 lacks_from tools frames before (s ∷ statements) = if is_end (keyword_of s.word) then [] else
     lack_on s.line (lack_of tools before (meaning_with (keyword_of s.word) s)) ++ lacks_from tools frames
-    (selected_after frames before (keyword_of s.word) (meaning_with (keyword_of s.word) s)) statements
+    (selected_after frames before (meaning_with (keyword_of s.word) s) (keyword_of s.word)) statements

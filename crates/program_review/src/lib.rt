@@ -3,7 +3,7 @@
 //! - `refusals`: every refusal of a text; `standing`: what is carried from statement to statement
 //! - `notices`: statements that are passed over though they change something
 //! - `odd`: statements that are probably not meant as they are written; `labels`: those of features
-//! - `under_setup`: what a setup lacks for a program
+//! - `under_setup`: what a setup lacks for a program; `lacking`: for one that is accepted
 //! - `recalling`: the frames of a setup that a program does not recall
 //! - `groups`: what refused statements are for; `strays`: the touches that would be measured elsewhere without them
 //! - `tasks`: the statements that a client carries out by commands, and their lines; `blocks`: the lines of a program's blocks
@@ -12,6 +12,7 @@
 mod blocks;
 mod groups;
 mod labels;
+mod lacking;
 mod notices;
 mod odd;
 mod recalling;
@@ -23,6 +24,7 @@ mod under_setup;
 
 pub use blocks::block_lines;
 pub use groups::{Group, group_of};
+pub use lacking::lacking_for;
 pub use notices::{Notice, Passed, passed_statements};
 pub use odd::{Odd, OddNotice, near_word, odd_statements};
 pub use recalling::{stored_frame, unused_frames};

@@ -84,7 +84,7 @@ impl Selected {
         keyword: Keyword,
         meaning: &Option<StatementMeaning>,
     ) -> Selected
-        ensures { result ≡ selected_after frames.now self.now keyword meaning.now }
+        ensures { result ≡ selected_after frames.now self.now meaning.now keyword }
     {
         match meaning {
             Some(StatementMeaning::Recalls(name)) => recalled(frames.get(name)),
@@ -97,7 +97,7 @@ impl Selected {
     }
 
     /// Whether a position in the axes of this frame is out of the machine's volume.
-    fn is_outside(&self, target: Point) -> bool
+    pub(crate) fn is_outside(&self, target: Point) -> bool
         ensures { result ≡ is_outside self.now target }
     {
         match self {
@@ -156,7 +156,7 @@ fn pass(
         ++ lack_on statement.now.line
         (lack_of rack.now selected.now (meaning_with keyword statement.now))) }
     ensures selected { IfOk result (λ next. next
-        ≡ selected_after frames.now selected.now keyword (meaning_with keyword statement.now)) }
+        ≡ selected_after frames.now selected.now (meaning_with keyword statement.now) keyword) }
 {
     let meaning = meaning_of(*notices.allocator(), keyword, statement)?;
     let what = lack_of(rack, selected, &meaning);

@@ -1,0 +1,209 @@
+-- Where a program is accepted, its steps lack something exactly if its statements do.
+use Rattle.std.proofs.Common.{◌≡◌, ℕ, Bool, true, false, cond, List, [], ◌∷◌, ◌++◌, Option, Some, None, Result, Ok, Err, refl, sym, subst}
+use Rattle.std.proofs.Common.{◌∙◌, is_none, is_some, ◌||◌, ◌&&◌, nat_le}
+use Rattle.std.specs.Prelude.{◌==◌}
+use Rattle.dmis_text.specs.Reading.{text_reading}
+use Rattle.dmis_text.specs.declared.elements.Statement.{Statement}
+use Rattle.dmis_text.specs.declared.reading.TextFault.{TextFault}
+use Rattle.fixed_um.specs.declared.lengths.Point.{Point}
+use Rattle.dmis_program.specs.Outcomes.{◌>>=◌}
+use Rattle.dmis_program.specs.Keywords.{keyword_of}
+use Rattle.dmis_program.specs.Offsets.{offset_of}
+use Rattle.dmis_program.specs.Sayings.{said_of}
+use Rattle.dmis_program.specs.LookBack.{Context, context_at, saying}
+use Rattle.dmis_program.specs.Judging.{judged, settled, refused_by, word_refusal}
+use Rattle.dmis_program.specs.Meaning.{Meaning, program_of, meaning_of, meaning_with as program_with, meant, steps_from, steps_of, continued}
+use Rattle.dmis_program.specs.Meaning.{with_front, closes, touch_steps, recall_steps}
+use Rattle.dmis_program.specs.declared.faults.Refusal.{Refusal}
+use Rattle.dmis_program.specs.declared.faults.Refusal.TheVariants.{TooLarge, NotDmis, Unsupported}
+use Rattle.dmis_program.specs.declared.keywords.Keyword.{Keyword}
+use Rattle.dmis_program.specs.declared.keywords.Keyword.TheVariants as word
+use Rattle.dmis_program.specs.declared.sayings.StatementMeaning.{StatementMeaning}
+use Rattle.dmis_program.specs.declared.sayings.StatementMeaning.TheVariants as said
+use Rattle.dmis_program.specs.declared.steps.Step.{Step}
+use Rattle.program_review.specs.UnderSetup.{meaning_with, recalled, selected_after, is_outside, when, lack_of, lack_on, lacks_from}
+use Rattle.program_review.specs.StepLacks.{lacks_some}
+use Rattle.program_review.specs.declared.under_setup.Selected.{Selected}
+use Rattle.program_review.specs.declared.under_setup.Selected.TheVariants as selected
+use Rattle.program_review.specs.declared.under_setup.Lack.{Lack}
+use Rattle.program_review.specs.declared.under_setup.Lack.TheVariants as lack
+use Rattle.program_review.specs.declared.under_setup.SetupNotice.{SetupNotice}
+use Rattle.program_review.proofs.FirstLemmas.{accepted_is, end_is, unless_badly}
+
+-- something is listed
+abbrev is_some_listed : List SetupNotice → Bool
+is_some_listed [] = false
+is_some_listed (notice ∷ notices) = true
+
+none_listed : (notices : List SetupNotice) → is_some_listed notices ≡ false → notices ≡ []
+none_listed [] h = refl
+none_listed (notice ∷ notices) h = absurd cc
+
+listed_first : (line : ℕ) (what : Option Lack) (more : List SetupNotice)
+    → is_some_listed (lack_on line what ++ more) ≡ (is_some what || is_some_listed more)
+listed_first line None more = refl
+listed_first line (Some what) more = refl
+
+when_so : (b : Bool) (what : Lack) → is_some (when b what) ≡ b
+when_so true what = refl
+when_so false what = refl
+
+-- what an accepted statement finds above it: a touch finds a tool, and a `RECALL` its frame
+abbrev IsFound : List (List ℕ × Point) → Option (List ℕ) → StatementMeaning → Type 0
+IsFound frames tool (said.Touches target direction) = is_none tool ≡ false
+IsFound frames tool (said.Recalls name) = is_none (offset_of frames name) ≡ false
+IsFound frames tool _ = Unit {0}
+
+unless_so : (b : Bool) (e : Refusal) (m t : StatementMeaning) → cond b (Err e) (Ok m) ≡ Ok t → b ≡ false
+unless_so true e m t h = absurd cc
+unless_so false e m t h = refl
+
+settled_finds : (frames : List (List ℕ × Point)) (tool : Option (List ℕ)) (wanted : Option ℕ) (count : ℕ) (m t : StatementMeaning)
+    → settled frames tool wanted count m ≡ Ok t → IsFound frames tool m
+settled_finds frames tool wanted count (said.Goes target) t h = tt
+settled_finds frames tool wanted count (said.Begins name n) t h = tt
+settled_finds frames tool wanted count (said.Touches target direction) t h = unless_so (is_none tool) _ (said.Touches target direction) t h
+settled_finds frames tool wanted count said.Ends t h = tt
+settled_finds frames tool wanted count (said.Selects name) t h = tt
+settled_finds frames tool wanted count (said.Recalls name) t h = unless_so (is_none (offset_of frames name)) _ (said.Recalls name) t h
+settled_finds frames tool wanted count said.Closes t h = tt
+settled_finds frames tool wanted count said.Passes t h = tt
+
+settling_finds : (frames : List (List ℕ × Point)) (tool : Option (List ℕ)) (wanted : Option ℕ) (count : ℕ)
+    (r : Result StatementMeaning Refusal) (t : StatementMeaning)
+    → (r >>= settled frames tool wanted count) ≡ Ok t → r ≡ Ok t → IsFound frames tool t
+settling_finds frames tool wanted count (Ok m) t h e =
+    let same : m ≡ t = cc in
+    subst (λ (x : StatementMeaning). IsFound frames tool x) same (settled_finds frames tool wanted count m t h)
+settling_finds frames tool wanted count (Err e) t h same = absurd cc
+
+refused_none : (o : Option Refusal) (r : Result StatementMeaning Refusal) (t : StatementMeaning) → refused_by o r ≡ Ok t
+    → (o ≡ None) × (r ≡ Ok t)
+refused_none (Some x) r t h = absurd cc
+refused_none None r t h = (refl, h)
+
+unknown_refused : (b : Bool) → cond (b && true) (Some NotDmis) (Some Unsupported) ≡ None → ⊥
+unknown_refused true h = absurd cc
+unknown_refused false h = absurd cc
+
+is_known : (number : ℕ) (wanted : Option ℕ) (keyword : Keyword) (params : List (List ℕ)) → word_refusal number wanted keyword params ≡ None
+    → keyword ≡ word.Unknown → ⊥
+is_known number wanted keyword params h e =
+    unknown_refused (number == 0) (subst (λ (k : Keyword). word_refusal number wanted k params ≡ None) e h)
+
+record IsTaken (frames : List (List ℕ × Point)) (c : Context) (s : Statement) (m : StatementMeaning) : Type 0 where
+  said : saying s ≡ Ok m
+  known : keyword_of s.word ≡ word.Unknown → ⊥
+  found : IsFound frames c.tool m
+
+taken_is : (frames : List (List ℕ × Point)) (c : Context) (s : Statement) (m : StatementMeaning) → judged frames c s ≡ Ok m
+    → IsTaken frames c s m
+unfolding judged
+taken_is frames c s m h =
+    let said = (accepted_is frames c s m h).said in
+    let both = refused_none (word_refusal c.number c.wanted (keyword_of s.word) s.params)
+    (saying s >>= settled frames c.tool c.wanted c.touched) m (unless_badly (nat_le 10000 c.number) TooLarge _ m h) in
+    record {
+      said = said;
+      known = is_known c.number c.wanted (keyword_of s.word) s.params both.0;
+      found = settling_finds frames c.tool c.wanted c.touched (saying s) m both.1 said;
+    }
+
+-- what it says by itself
+meant_is : (keyword : Keyword) (s : Statement) (m : StatementMeaning) → said_of keyword s ≡ Ok m → (keyword ≡ word.Unknown → ⊥)
+    → meaning_with keyword s ≡ Some m
+meant_is word.Dmismn s m h known = rw h refl
+meant_is word.Goto s m h known = rw h refl
+meant_is word.Meas s m h known = rw h refl
+meant_is word.Ptmeas s m h known = rw h refl
+meant_is word.Endmes s m h known = rw h refl
+meant_is word.Snslct s m h known = rw h refl
+meant_is word.Recall s m h known = rw h refl
+meant_is word.Endfil s m h known = rw h refl
+meant_is word.Units s m h known = rw h refl
+meant_is word.Mode s m h known = rw h refl
+meant_is word.Definition s m h known = rw h refl
+meant_is word.Passed s m h known = rw h refl
+meant_is word.Unknown s m h known = absurd (known refl)
+
+-- the steps of a statement lack what it lacks itself, and those after them are judged in the frame that is selected after it
+touch_lacks : (tools : List (List ℕ)) (before : Selected) (tool : Option (List ℕ)) (c : Context) (target : Point) (direction : _)
+    (more : List Step) → is_none tool ≡ false
+    → lacks_some tools before (touch_steps tool c.frame target direction ++ more) ≡ (is_outside before target || lacks_some tools before more)
+touch_lacks tools before None c target direction more h = absurd cc
+touch_lacks tools before (Some name) c target direction more h = refl
+
+recall_lacks : (tools : List (List ℕ)) (before : Selected) (offset : Option Point) (more : List Step) → is_none offset ≡ false
+    → lacks_some tools before (recall_steps offset ++ more) ≡ lacks_some tools (recalled offset) more
+recall_lacks tools before None more h = absurd cc
+recall_lacks tools before (Some offset) more h = refl
+
+steps_lack : (tools : List (List ℕ)) (frames : List (List ℕ × Point)) (c : Context) (before : Selected) (keyword : Keyword)
+    (m : StatementMeaning) (more : List Step) → IsFound frames c.tool m
+    → lacks_some tools before (steps_of frames c m ++ more)
+    ≡ (is_some (lack_of tools before (Some m)) || lacks_some tools (selected_after frames before (Some m) keyword) more)
+steps_lack tools frames c before keyword (said.Goes target) more h = rw (when_so (is_outside before target) lack.Volume) refl
+steps_lack tools frames c before keyword (said.Begins name n) more h = refl
+steps_lack tools frames c before keyword (said.Touches target direction) more h =
+    rw (when_so (is_outside before target) lack.Volume) (touch_lacks tools before c.tool c target direction more h)
+steps_lack tools frames c before keyword said.Ends more h = refl
+steps_lack tools frames c before keyword (said.Selects name) more h = rw (when_so _ lack.Tool) refl
+steps_lack tools frames c before keyword (said.Recalls name) more h = recall_lacks tools before (offset_of frames name) more h
+steps_lack tools frames c before keyword said.Closes more h = refl
+steps_lack tools frames c before keyword said.Passes more h = refl
+
+-- one statement, and those after it
+goes_on : (tools : List (List ℕ)) (before : Selected) (closed : Bool) (own : List Step) (behind : Result (List Step) (Refusal × ℕ))
+    (steps : List Step) (line : ℕ) (what : Option Lack) (more : List SetupNotice)
+    → cond closed (Ok []) (with_front own behind) ≡ Ok steps
+    → ((later : List Step) → behind ≡ Ok later → lacks_some tools before (own ++ later) ≡ (is_some what || is_some_listed more))
+    → lacks_some tools before steps ≡ is_some_listed (cond closed [] (lack_on line what ++ more))
+goes_on tools before true own behind steps line what more h f =
+    let none : [] ≡ steps = cc in
+    subst (λ (all : List Step). lacks_some tools before all ≡ false) none refl
+goes_on tools before false own (Ok later) steps line what more h f =
+    let all : own ++ later ≡ steps = cc in
+    subst (λ (some : List Step). lacks_some tools before some ≡ is_some_listed (lack_on line what ++ more)) all
+    (f later refl ∙ sym (listed_first line what more))
+goes_on tools before false own (Err e) steps line what more h f = absurd cc
+
+-- likewise of what follows a statement, in any frame
+abbrev Agrees : List (List ℕ) → List (List ℕ × Point) → Option TextFault → ℕ → List Statement → List Statement → Type 0
+Agrees tools frames fault n statements above = (before : Selected) (steps : List Step) → steps_from frames fault n above statements ≡ Ok steps
+    → lacks_some tools before steps ≡ is_some_listed (lacks_from tools frames before statements)
+
+by_judgement : (tools : List (List ℕ)) (frames : List (List ℕ × Point)) (fault : Option TextFault) (n : ℕ)
+    (s : Statement) (statements above : List Statement) (before : Selected) (steps : List Step) (r : Result StatementMeaning Refusal)
+    → Agrees tools frames fault n statements (s ∷ above) → judged frames (context_at frames above) s ≡ r
+    → continued s.line r (steps_of frames (context_at frames above)) (steps_from frames fault n (s ∷ above) statements) ≡ Ok steps
+    → lacks_some tools before steps ≡ is_some_listed (lacks_from tools frames before (s ∷ statements))
+by_judgement tools frames fault n s statements above before steps (Err e) rest is h = absurd cc
+by_judgement tools frames fault n s statements above before steps (Ok m) rest is h =
+    let keyword = keyword_of s.word in
+    let taken = taken_is frames (context_at frames above) s m is in
+    let meant : meaning_with keyword s ≡ Some m = meant_is keyword s m taken.said taken.known in
+    rw (end_is s m taken.said, meant)
+    (goes_on tools before (closes m) (steps_of frames (context_at frames above) m) (steps_from frames fault n (s ∷ above) statements)
+    steps s.line (lack_of tools before (Some m)) (lacks_from tools frames (selected_after frames before (Some m) keyword) statements) h
+    (λ later e. rw (← rest (selected_after frames before (Some m) keyword) later e)
+    (steps_lack tools frames (context_at frames above) before keyword m later taken.found)))
+
+agrees : (tools : List (List ℕ)) (frames : List (List ℕ × Point)) (fault : Option TextFault) (n : ℕ) (statements above : List Statement)
+    → Agrees tools frames fault n statements above
+agrees tools frames fault n [] above before steps h = absurd cc
+agrees tools frames fault n (s ∷ statements) above before steps h =
+    by_judgement tools frames fault n s statements above before steps (judged frames (context_at frames above) s)
+    (agrees tools frames fault n statements (s ∷ above)) refl h
+
+meant_steps : (r : Result (List Step) (Refusal × ℕ)) (m : Meaning) → meant r ≡ Ok m → r ≡ Ok m.steps
+meant_steps (Ok steps) m h =
+    let same : program_with steps ≡ m = cc in
+    subst (λ (x : Meaning). ◌≡◌ {A = Result (List Step) (Refusal × ℕ)} (Ok steps) (Ok x.steps)) same refl
+meant_steps (Err e) m h = absurd cc
+
+pub nothing_lacks : (tools : List (List ℕ)) (frames : List (List ℕ × Point)) (text : List ℕ) (m : Meaning) → program_of frames text ≡ Ok m
+    → lacks_some tools selected.Machine m.steps ≡ false → lacks_from tools frames selected.Machine (text_reading text).statements ≡ []
+unfolding meaning_of
+nothing_lacks tools frames text m h none =
+    none_listed _ (sym (agrees tools frames (text_reading text).fault _ (text_reading text).statements [] selected.Machine m.steps
+    (meant_steps _ m h)) ∙ none)

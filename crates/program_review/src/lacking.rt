@@ -1,0 +1,71 @@
+// What a setup lacks for a program that is accepted.
+
+ghost use Rattle.std.specs.Prelude.{◌≡◌, Ok, IfOk};
+ghost use Rattle.dmis_text.specs.Reading.{text_reading};
+ghost use Rattle.dmis_program.specs.Meaning.{program_of};
+ghost use Rattle.program_review.specs.UnderSetup.{lacks_from};
+ghost use Rattle.program_review.specs.StepLacks.{selected_behind, lacks_step, lacks_some};
+
+use crate::under_setup::{Selected, SetupNotice, lacking_setup};
+use dmis_program::{Frames, Program, Step};
+use std::alloc::{AllocError, Global};
+use tool_rack::Rack;
+
+impl Selected {
+    /// The frame that is selected after a step.
+    fn behind(&self, step: &Step) -> Selected
+        ensures { result ≡ selected_behind self.now step.now }
+    {
+        match step {
+            Step::Recall(offset) => Selected::Stored(*offset),
+            _ => *self,
+        }
+    }
+
+    /// Whether a setup with these tools lacks something for a step, where this frame is selected.
+    fn lacks(&self, rack: &Rack, step: &Step) -> bool
+        ensures { result ≡ lacks_step rack.now self.now step.now }
+    {
+        match step {
+            Step::Goto(target) => self.is_outside(*target),
+            Step::Touch(touch) => self.is_outside(touch.target),
+            Step::Tool(name) => !rack.has(name),
+            _ => false,
+        }
+    }
+}
+
+/// Whether a setup with these tools lacks something for one of a program's steps. Does not allocate.
+fn lacks_some(rack: &Rack, steps: &[Step]) -> bool
+    ensures { result ≡ lacks_some rack.now Selected.Machine steps.now }
+{
+    let mut selected = Selected::Machine;
+    for step in steps {
+        if selected.lacks(rack, step) {
+            return true;
+        }
+        selected = selected.behind(step);
+    }
+    false
+}
+
+/// What a setup with these tools and frames lacks for a program that was read from this text under the same frames, as `lacking_setup` lists
+/// it. Most programs lack nothing: the text is read again, and memory allocated, only if a step of the program lacks something. Fails only if
+/// out of memory.
+pub fn lacking_for(
+    alloc: Global,
+    program: &Program,
+    bytes: &[u8],
+    rack: &Rack,
+    frames: &Frames,
+) -> Result<Vec<SetupNotice>, AllocError>
+    ensures { IfOk result (λ notices. program_of frames.now bytes.now ≡ Ok program.now
+        → notices.items ≡ lacks_from rack.now frames.now Selected.Machine
+        (text_reading bytes.now).statements) }
+{
+    if lacks_some(rack, program.statements()) {
+        lacking_setup(alloc, bytes, rack, frames)
+    } else {
+        Ok(Vec::new(alloc))
+    }
+}
