@@ -76,9 +76,9 @@ fn scalar_product(deviation: Deviation, direction: Dir) -> i128
     ensures value { result ≡ scalar_product deviation direction }
     ensures within { unsigned_abs result ≤ 15 * 10 ^ 18 }
 {
-    let x = product(deviation.x, direction.i);
-    let y = product(deviation.y, direction.j);
-    let z = product(deviation.z, direction.k);
+    let x = product(deviation.x, i64::from(direction.i));
+    let y = product(deviation.y, i64::from(direction.j));
+    let z = product(deviation.z, i64::from(direction.k));
     sum(x, y, z)
 }
 
@@ -97,7 +97,9 @@ fn squared_length(direction: Dir) -> u128
     ensures some { 0 < result }
     ensures within { result ≤ 3 * 10 ^ 18 }
 {
-    squared(direction.i) + squared(direction.j) + squared(direction.k)
+    squared(i64::from(direction.i))
+        + squared(i64::from(direction.j))
+        + squared(i64::from(direction.k))
 }
 
 /// The whole number nearest to the root of a fraction, halves up.

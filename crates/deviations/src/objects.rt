@@ -141,9 +141,9 @@ fn put_direction(
 {
     match normal {
         Some(direction) => {
-            put_component(alloc, json, first, direction.i)?;
-            put_component(alloc, json, second, direction.j)?;
-            put_component(alloc, json, third, direction.k)?;
+            put_component(alloc, json, first, i64::from(direction.i))?;
+            put_component(alloc, json, second, i64::from(direction.j))?;
+            put_component(alloc, json, third, i64::from(direction.k))?;
             Ok(())
         }
         None => {

@@ -71,9 +71,9 @@ fn push_normal(
 {
     match normal {
         Some(direction) => {
-            push_component(alloc, columns, direction.i)?;
-            push_component(alloc, columns, direction.j)?;
-            push_component(alloc, columns, direction.k)
+            push_component(alloc, columns, i64::from(direction.i))?;
+            push_component(alloc, columns, i64::from(direction.j))?;
+            push_component(alloc, columns, i64::from(direction.k))
         }
         None => {
             columns.push_field(b"")?;

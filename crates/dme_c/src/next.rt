@@ -110,7 +110,7 @@ fn shown(client: &Client) -> Next
         None => (0, 0, 0),
     };
     let (i, j, k) = match normal_of(client) {
-        Some(at) => (at.i, at.j, at.k),
+        Some(at) => (i64::from(at.i), i64::from(at.j), i64::from(at.k)),
         None => (0, 0, 0),
     };
     Next {

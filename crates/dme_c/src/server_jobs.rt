@@ -76,7 +76,7 @@ fn shown(server: &Server) -> Running
         None => (0, 0, 0),
     };
     let (i, j, k) = match normal_of(server) {
-        Some(at) => (at.i, at.j, at.k),
+        Some(at) => (i64::from(at.i), i64::from(at.j), i64::from(at.k)),
         None => (0, 0, 0),
     };
     Running {

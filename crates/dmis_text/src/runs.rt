@@ -262,10 +262,10 @@ impl Class for InText {
 
     #[inline(always)]
     fn is_filled(&self, bytes: &[u8], at: usize) -> bool {
-        // A tab, which is rare, is left to the blocks of sixteen.
+        // What is neither from a space to a tilde is left to the blocks of sixteen: a tab, and what is not ASCII.
         let block = u8x64::from_slice(&bytes[at..]);
-        let low = block.simd_lt(u8x64::splat(b' ')) | block.simd_eq(u8x64::splat(b'\''));
-        (low | block.simd_eq(u8x64::splat(127))).to_bitmask() == 0
+        let others = (block - u8x64::splat(b' ')).simd_ge(u8x64::splat(95));
+        (others | block.simd_eq(u8x64::splat(b'\''))).to_bitmask() == 0
     }
 }
 

@@ -10,9 +10,9 @@ use std::marker::Model;
 /// face that is touched from above carries 0, 0, 1. It need not be of length one.
 #[derive(Clone, Copy, Debug, PartialEq, Eq)]
 pub struct Dir {
-    pub i: i64,
-    pub j: i64,
-    pub k: i64,
+    pub i: i32,
+    pub j: i32,
+    pub k: i32,
 }
 
 impl Model for Dir {

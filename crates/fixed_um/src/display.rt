@@ -71,9 +71,9 @@ impl fmt::Display for Dir {
     ghost output = { λ d. Some (written_direction d (codes " ")) };
 
     fn fmt<W: fmt::Write>(&self, f: &mut fmt::Formatter<W>) -> fmt::Result {
-        let i = Component(self.i);
-        let j = Component(self.j);
-        let k = Component(self.k);
+        let i = Component(i64::from(self.i));
+        let j = Component(i64::from(self.j));
+        let k = Component(i64::from(self.k));
         write!(f, "{i} {j} {k}")
     }
 }

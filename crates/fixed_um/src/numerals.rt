@@ -5,6 +5,7 @@ ghost use Rattle.fixed_um.specs.Limits.{component_limit, wire_limit};
 ghost use Rattle.fixed_um.specs.Numerals.{Numeral, IsNumeral, IsZero, Reads, ReadsDirection, signed};
 ghost use Rattle.fixed_um.specs.Rounding.{RoundsUp};
 ghost use Rattle.fixed_um.specs.Computed.{value_of, is_zero_text};
+ghost use Rattle.fixed_um.specs.Shapes.{IsDirection};
 
 use crate::directions::Dir;
 use crate::lengths::Um;
@@ -162,6 +163,19 @@ fn read_component(bytes: &[u8]) -> Result<i64, NumeralFault>
     }
 }
 
+/// The direction with these components.
+#[inline(always)]
+fn direction(i: i64, j: i64, k: i64) -> Dir
+    requires { IsDirection (record { i = i; j = j; k = k }) }
+    ensures { result ≡ record { i = i; j = j; k = k } }
+{
+    Dir {
+        i: i as i32,
+        j: j as i32,
+        k: k as i32,
+    }
+}
+
 /// The direction whose components three numerals write, each rounded to whole millionths, halves away from zero;
 /// `None` if all three round to zero. Of several faults the leftmost is answered. Does not allocate.
 pub fn read_dir(i: &[u8], j: &[u8], k: &[u8]) -> Result<Option<Dir>, NumeralFault>
@@ -173,7 +187,7 @@ pub fn read_dir(i: &[u8], j: &[u8], k: &[u8]) -> Result<Option<Dir>, NumeralFaul
     if i == 0 && j == 0 && k == 0 {
         return Ok(None);
     }
-    Ok(Some(Dir { i, j, k }))
+    Ok(Some(direction(i, j, k)))
 }
 
 /// Whether a numeral of any form has at most 30 digits, which are all 0.

@@ -134,11 +134,11 @@ pub fn write_dir_reserved(out: &mut Vec<u8>, direction: Dir, between: &[u8])
     ensures text { out.new.items ≡ out.old.items ++ written_direction direction between.now }
     ensures grows { Grows out.old out.new (45 + 2 * length between.now) }
 {
-    write_component_reserved(out, direction.i);
+    write_component_reserved(out, i64::from(direction.i));
     out.extend_from_slice(between).unwrap();
-    write_component_reserved(out, direction.j);
+    write_component_reserved(out, i64::from(direction.j));
     out.extend_from_slice(between).unwrap();
-    write_component_reserved(out, direction.k);
+    write_component_reserved(out, i64::from(direction.k));
 }
 
 /// Appends a length in millimetres with three decimals, as `-0.001`. Fails only if out of memory, and then appends nothing.

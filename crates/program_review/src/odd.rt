@@ -123,9 +123,9 @@ fn square(component: i64) -> u64 {
 
 /// Whether the length of a direction is 1 within a tenth of a per cent; its components are millionths.
 fn is_of_length_one(direction: Dir) -> bool {
-    let whole = square(direction.i)
-        .saturating_add(square(direction.j))
-        .saturating_add(square(direction.k));
+    let whole = square(i64::from(direction.i))
+        .saturating_add(square(i64::from(direction.j)))
+        .saturating_add(square(i64::from(direction.k)));
     998_001_000_000 <= whole && whole <= 1_002_001_000_000
 }
 
