@@ -1,18 +1,21 @@
-use Rattle.std.proofs.Common.{append_assoc, rules, refl, ap}
+use Rattle.std.proofs.Common.{◌≡◌, ◌∙◌, ℤ, to_z, of_z, append_assoc, rules, refl, ap}
 use Rattle.std.specs.Prelude.{FitsSigned}
-use Rattle.std.specs.Int.{w64}
+use Rattle.std.specs.Int.{w32, w64}
 use Rattle.std.proofs.lemmas.Int.{to_z-of_z}
 use Rattle.fixed_um.specs.Shapes.{Direction}
 use Rattle.fixed_um.proofs.writing.write_dir_reserved.Goals as goal
 
+-- a component that is widened and handed on is the component
+widened : (wide narrow component : ℤ) → FitsSigned w64 wide → FitsSigned w32 narrow → wide ≡ to_z w32 (of_z w32 narrow)
+    → narrow ≡ component → to_z w64 (of_z w64 wide) ≡ component
+widened wide narrow component fits fits_narrow is same =
+    to_z-of_z w64 wide fits ∙ is ∙ to_z-of_z w32 narrow fits_narrow ∙ same
+
 pub returns-clause-text : goal.returns-clause-text
 returns-clause-text c =
-    let fits_i : FitsSigned w64 c.direction.inside.i = search rules in
-    let fits_j : FitsSigned w64 c.direction.inside.j = search rules in
-    let fits_k : FitsSigned w64 c.direction.inside.k = search rules in
-    let same_i = ap (λ (d : Direction). d.i) c.direction.view_is in
-    let same_j = ap (λ (d : Direction). d.j) c.direction.view_is in
-    let same_k = ap (λ (d : Direction). d.k) c.direction.view_is in
+    let is_i = widened _ _ _ (search rules) (search rules) c.from.ensures (ap (λ (d : Direction). d.i) c.direction.view_is) in
+    let is_j = widened _ _ _ (search rules) (search rules) c.from-2.ensures (ap (λ (d : Direction). d.j) c.direction.view_is) in
+    let is_k = widened _ _ _ (search rules) (search rules) c.from-3.ensures (ap (λ (d : Direction). d.k) c.direction.view_is) in
     rw (
       c.write_component_reserved-3.ensures.text,
       c.extend_from_slice-2.ensures.items,
@@ -22,9 +25,4 @@ returns-clause-text c =
       c.unwrap.ensures,
       c.write_component_reserved.ensures.text,
     )
-    (simp (
-      append_assoc,
-      to_z-of_z w64 c.direction.inside.i fits_i,
-      to_z-of_z w64 c.direction.inside.j fits_j,
-      to_z-of_z w64 c.direction.inside.k fits_k,
-    ) (rw (same_i, same_j, same_k) refl))
+    (simp (append_assoc, is_i, is_j, is_k) refl)
