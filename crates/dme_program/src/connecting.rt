@@ -80,6 +80,7 @@ fn loop_task<R: Print + Eprint + Net<Listener = TcpListener, Stream = TcpStream>
 }
 
 /// The order `loop`: its exit status.
+#[inline(never)]
 pub fn loop_program<
     R: Files
         + Input

@@ -11,6 +11,7 @@ use std::io;
 use std::rt::Files;
 
 /// The order `export`: its exit status.
+#[inline(never)]
 pub fn export<R: Files + Input + Print + AllocGlobal>(rt: &R, order: Export) -> Result<u8, Fault> {
     let mut sources = Sources::new(rt, order.explain);
     let mut sought = ExportFiles {
@@ -46,6 +47,7 @@ fn text_of(form: RecordForm) -> RecordText {
 }
 
 /// The order `export` for a record: its exit status.
+#[inline(never)]
 pub fn export_of_record<R: Files + Input + Print + AllocGlobal>(
     rt: &R,
     order: RecordExport,
@@ -83,6 +85,7 @@ pub fn record_files<'a, R: Files + Input + AllocGlobal>(
 }
 
 /// The order `explain`: its exit status.
+#[inline(never)]
 pub fn explain_topic<R: Print + AllocGlobal>(rt: &R, topic: Topic) -> Result<u8, Fault> {
     match explain(rt.alloc(), topic, &mut Writing::new(io::writer(rt))) {
         Ok(()) => Ok(0),

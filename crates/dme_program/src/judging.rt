@@ -8,6 +8,7 @@ use std::io;
 use std::rt::Files;
 
 /// The order `judge`: its exit status.
+#[inline(never)]
 pub fn judge<R: Files + Input + Print + AllocGlobal>(rt: &R, order: Judge) -> Result<u8, Fault> {
     let mut sources = Sources::new(rt, false);
     let mut recordings = Recordings {

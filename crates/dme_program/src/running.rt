@@ -46,6 +46,7 @@ fn given_words<R: Env + AllocGlobal>(rt: &R) -> Result<Vec<String>, Fault> {
 }
 
 /// The order that the command line asks for.
+#[inline(never)]
 fn read_order(alloc: Global, given: &[String]) -> Result<Order, Fault>
     ensures { IfOk result IsReady }
 {
@@ -71,6 +72,7 @@ fn check_files<'a, R: Files + Input + Print + AllocGlobal>(
 }
 
 /// The order `check`: its exit status.
+#[inline(never)]
 fn check<R: Files + Input + Print + AllocGlobal>(rt: &R, order: Check) -> Result<u8, Fault> {
     let mut sources = Sources::new(rt, order.explain);
     let mut setup = sources.maybe(order.setup);
@@ -106,6 +108,7 @@ fn name_of(alloc: Global, file: &Option<String>) -> Result<String, AllocError> {
 }
 
 /// The order `review`: its exit status.
+#[inline(never)]
 fn review<R: Files + Input + Print + AllocGlobal>(rt: &R, order: Review) -> Result<u8, Fault> {
     let form = finding_form(order.form)?;
     let mut sources = Sources::new(rt, false);
@@ -141,6 +144,7 @@ fn line_output<R: Eprint>(rt: &R, is_traced: bool) -> Option<ErrorOutput<'_, R>>
 }
 
 /// The order `simulate`: its exit status.
+#[inline(never)]
 fn simulate_files<R: Files + Input + Print + Eprint + AllocGlobal>(
     rt: &R,
     order: Simulation,
@@ -173,6 +177,7 @@ fn simulate_files<R: Files + Input + Print + Eprint + AllocGlobal>(
 }
 
 /// The order `audit`: its exit status.
+#[inline(never)]
 fn audit<R: Files + Input + Print + Eprint + AllocGlobal>(
     rt: &R,
     order: Audit,
@@ -212,6 +217,7 @@ fn audit_end<R: Eprint + AllocGlobal>(
 }
 
 /// The order `audit` for a record: its exit status.
+#[inline(never)]
 fn audit_of_record<R: Files + Input + Print + Eprint + AllocGlobal>(
     rt: &R,
     order: RecordAudit,
@@ -227,7 +233,7 @@ fn audit_of_record<R: Files + Input + Print + Eprint + AllocGlobal>(
     audit_end(rt, result, record_files(rt, sought), order.explain)
 }
 
-/// Carries out an order: its exit status.
+/// Carries out an order: its exit status. None is joined to this function, whose frame would have room for all of them.
 fn carry_out<
     R: Files<File = File>
         + Input

@@ -719,6 +719,7 @@ fn run_order<
 }
 
 /// The order `run`: its exit status. Its features file and its record are read if there are such files, and never from standard input.
+#[inline(never)]
 pub fn run_program<
     R: Files<File = File>
         + Input

@@ -372,6 +372,7 @@ fn serve_order<
 }
 
 /// The order `serve`: its exit status.
+#[inline(never)]
 pub fn serve<
     R: Files<File = File>
         + Input

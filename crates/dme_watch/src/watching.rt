@@ -575,6 +575,7 @@ fn watch_order<
 
 /// The order `watch`: its exit status. A file that cannot be written is refused before the relay listens; one that fails later is reported at
 /// once, and stops nothing.
+#[inline(never)]
 pub fn watch<
     R: Files<File = File>
         + Eprint

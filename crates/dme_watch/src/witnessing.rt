@@ -55,6 +55,7 @@ fn tell_unread<R: Eprint + AllocGlobal>(
 }
 
 /// The order `ledger`: its exit status.
+#[inline(never)]
 pub fn ledger<R: Files + Input + Print + Eprint + AllocGlobal>(
     rt: &R,
     order: Ledger,
