@@ -90,6 +90,17 @@ fn feature_of(client: &Client) -> u64
     }
 }
 
+/// The components of a direction, in millionths.
+pub(crate) fn components(normal: Dir) -> (i64, i64, i64)
+    ensures { (result.0 ≡ normal.i) × (result.1 ≡ normal.j) × (result.2 ≡ normal.k) }
+{
+    (
+        i64::from(normal.i),
+        i64::from(normal.j),
+        i64::from(normal.k),
+    )
+}
+
 /// What this client sends and measures next.
 fn shown(client: &Client) -> Next
     ensures command { result.command
@@ -110,7 +121,7 @@ fn shown(client: &Client) -> Next
         None => (0, 0, 0),
     };
     let (i, j, k) = match normal_of(client) {
-        Some(at) => (i64::from(at.i), i64::from(at.j), i64::from(at.k)),
+        Some(at) => components(at),
         None => (0, 0, 0),
     };
     Next {

@@ -4,6 +4,7 @@ ghost use Rattle.std.specs.Prelude.{◌≡◌, ◌<◌, ◌≤◌, None, IsSome,
 ghost use Rattle.protocol_model.specs.Server.{running_job};
 ghost use Rattle.dme_c.specs.ServerCalls.{AreZero, job_number, job_place, job_normal, job_tool};
 
+use crate::next::components;
 use crate::room::copy_whole;
 use crate::server_handles::ServerHandle;
 use fixed_um::{Dir, Point};
@@ -76,7 +77,7 @@ fn shown(server: &Server) -> Running
         None => (0, 0, 0),
     };
     let (i, j, k) = match normal_of(server) {
-        Some(at) => (i64::from(at.i), i64::from(at.j), i64::from(at.k)),
+        Some(at) => components(at),
         None => (0, 0, 0),
     };
     Running {
