@@ -71,6 +71,23 @@ fn check_files<'a, R: Files + Input + Print + AllocGlobal>(
     )
 }
 
+/// The refusal of a program, or of the setup under which it was to be read, if one is named.
+#[inline(never)]
+fn refused_program<'a, R: Files + Input>(
+    alloc: Global,
+    fault: FilesFault,
+    setup: Option<NamedSource<'a, R>>,
+    program: NamedSource<'a, R>,
+    is_explained: bool,
+) -> Fault {
+    let mut files = InputFiles::unnamed(alloc);
+    if let Some(setup) = setup {
+        files.setup = setup.into_file();
+    }
+    files.program = program.into_file();
+    refused(alloc, fault, files, is_explained)
+}
+
 /// The order `check`: its exit status.
 #[inline(never)]
 fn check<R: Files + Input + Print + AllocGlobal>(rt: &R, order: Check) -> Result<u8, Fault> {
@@ -80,12 +97,7 @@ fn check<R: Files + Input + Print + AllocGlobal>(rt: &R, order: Check) -> Result
     let Err(fault) = check_files(rt, &mut setup, &mut program) else {
         return Ok(0);
     };
-    let mut files = InputFiles::unnamed(rt.alloc());
-    if let Some(setup) = setup {
-        files.setup = setup.into_file();
-    }
-    files.program = program.into_file();
-    Err(refused(rt.alloc(), fault, files, order.explain))
+    Err(refused_program(rt.alloc(), fault, setup, program, order.explain))
 }
 
 /// The form of findings that a word names; lines if there is none.
@@ -123,14 +135,7 @@ fn review<R: Files + Input + Print + AllocGlobal>(rt: &R, order: Review) -> Resu
     let mut sink = Writing::new(io::writer(rt));
     match review_program(rt.alloc(), form, names, &mut setup, &mut program, &mut sink) {
         Ok(status) => Ok(status),
-        Err(fault) => {
-            let mut files = InputFiles::unnamed(rt.alloc());
-            if let Some(setup) = setup {
-                files.setup = setup.into_file();
-            }
-            files.program = program.into_file();
-            Err(refused(rt.alloc(), fault, files, false))
-        }
+        Err(fault) => Err(refused_program(rt.alloc(), fault, setup, program, false)),
     }
 }
 
