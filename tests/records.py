@@ -7,12 +7,15 @@
 - A record that another run holds, that may only be read, that is a folder, a pipe or a device, or that cannot be made is refused before a
   connection is made.
 - A link to a record is continued, and stays a link. A record that is removed during the run is whole at the end.
+- What completes a feature is forced to the device before anything else is written or sent, in the record and in the features file, as `strace`
+  sees it.
 
 `run` calls this; by itself: tests/records.py
 """
 
 import os
 import pathlib
+import re
 import shutil
 import socket
 import subprocess
@@ -188,7 +191,29 @@ def check_removed(folder):
     must(len(points_of((folder / "part.record").read_text())) == 1, "removed record")
 
 
-CHECKS = (check_torn, check_edited, check_no_files, check_read_only, check_held, check_link, check_removed)
+def calls_of(folder, words):
+    """Which calls a run makes that write, force or send, in order, with the file and what is written."""
+    named = ["strace", "-f", "-y", "-s", "100000", "-o", "calls", "-e", "trace=write,fdatasync,fsync,sendto"]
+    run = subprocess.run([*named, str(PROGRAM), *words], cwd=folder, capture_output=True, text=True, timeout=SECONDS)
+    must(run.returncode == 0, "run under strace", run.stderr)
+    return re.findall(r"(?m)^\d+ +(\w+)\(\d+<([^>]*)>(.*)$", (folder / "calls").read_text())
+
+
+def check_forced(folder):
+    port = free_port()
+    server = served(folder, port)
+    words = run_words(port)
+    calls = calls_of(folder, [*words[:-1], "--features", "part.features", words[-1]])
+    server.communicate(timeout=SECONDS)
+    for name, told in (("part.record", "COMPLETED C"), ("part.features", "FEATURE C")):
+        at = [n for n, (call, file, text) in enumerate(calls) if call == "write" and file.endswith(f"/{name}") and told in text]
+        must(at, f"{name}: no feature is appended", str(calls))
+        for n in at:
+            call, file, _ = calls[n + 1]
+            must(call == "fdatasync" and file.endswith(f"/{name}"), f"{name}: a feature is not forced to the device", str(calls[n + 1]))
+
+
+CHECKS = (check_torn, check_edited, check_no_files, check_read_only, check_held, check_link, check_removed, check_forced)
 
 
 def passes(check):
