@@ -209,8 +209,9 @@ def check_forced(folder):
         at = [n for n, (call, file, text) in enumerate(calls) if call == "write" and file.endswith(f"/{name}") and told in text]
         must(at, f"{name}: no feature is appended", str(calls))
         for n in at:
-            call, file, _ = calls[n + 1]
-            must(call == "fdatasync" and file.endswith(f"/{name}"), f"{name}: a feature is not forced to the device", str(calls[n + 1]))
+            after = calls[n + 1:n + 2]
+            forced = [file for call, file, _ in after if call == "fdatasync" and file.endswith(f"/{name}")]
+            must(forced, f"{name}: a feature is not forced to the device", str(after))
 
 
 CHECKS = (check_torn, check_edited, check_no_files, check_read_only, check_held, check_link, check_removed, check_forced)
