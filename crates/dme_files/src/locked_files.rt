@@ -11,6 +11,8 @@ use std::rt::Files;
 pub struct LockedFile {
     file: File,
     has_failed: bool,
+    /// Whether all that was appended is known to be on the device.
+    is_settled: bool,
 }
 
 impl LockedFile {
@@ -30,6 +32,7 @@ impl LockedFile {
         Ok(LockedFile {
             file,
             has_failed: false,
+            is_settled: false,
         })
     }
 
@@ -81,6 +84,7 @@ impl NextFile {
         let mut new = LockedFile {
             file,
             has_failed: false,
+            is_settled: false,
         };
         let result = new.settle(text);
         if result.is_err() {
@@ -133,10 +137,14 @@ impl GrowingFile for LockedFile {
 
     ghost has_failed = { λ f. f.has_failed };
 
+    ghost is_settled = { λ f. f.is_settled };
+
     fn append(&mut self, bytes: &[u8], settled: bool) -> Result<(), Failed> {
+        self.is_settled = false;
         let mut result = self.file.write_all(bytes);
         if settled && result.is_ok() {
             result = self.file.sync_data();
+            self.is_settled = result.is_ok();
         }
         match result {
             Ok(()) => Ok(()),

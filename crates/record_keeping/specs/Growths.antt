@@ -1,5 +1,5 @@
 -- A record that grows during a run, and the file that it is kept in (this profile).
-use Rattle.std.specs.Prelude.{◌≡◌, ℕ, if◌then◌else◌, Bool, true, false, map, List, [], ◌∷◌, ◌++◌, length, take, drop, Option}
+use Rattle.std.specs.Prelude.{◌≡◌, ◌<◌, ℕ, if◌then◌else◌, Bool, true, false, map, List, [], ◌∷◌, ◌++◌, length, take, drop, Option}
 use Rattle.std.specs.Io.KnownBytes.{Appends}
 use Rattle.contact_ledger.specs.Lines.{text_of}
 use Rattle.contact_ledger.specs.declared.acts.Act.{Act}
@@ -97,6 +97,11 @@ pub record Saves {F : Type 0} (kept : F → Option (List ℕ)) (old new : Record
   pub filed_is : new.has_failed ≡ false → new.filed ≡ length new.growth.text
   pub fails : AppendsSome (kept old.file) (kept new.file) (drop old.filed new.growth.text)
   pub stays : old.has_failed ≡ true → (new.has_failed ≡ true) × (new.file ≡ old.file)
+
+-- once the text has another completed feature, all that the file has is on the device, unless the file has failed
+abbrev pub SettlesFeatures : {F : Type 0} → (F → Bool) → (old new : Recording F) → Type 0
+SettlesFeatures is_settled old new = old.growth.telling.counted.features < new.growth.telling.counted.features
+    → new.has_failed ≡ false → is_settled new.file ≡ true
 
 -- ---- a client is followed
 

@@ -12,20 +12,16 @@ use std::marker::Model;
 #[derive(Drop)]
 pub(crate) struct Growth {
     telling: Telling,
-    connection: u64,
     told: usize,
     text: Vec<u8>,
 }
 
 impl Model for Growth {
-    ghost use Rattle.std.specs.Prelude.{◌≡◌};
     ghost use Rattle.record_keeping.specs.Growths.{Growth};
 
     ghost Value = { Growth };
 
     ghost view = { λ g. record { telling = g.telling; told = g.told; text = g.text.items } };
-
-    ghost invariant = { λ g. g.connection ≡ g.telling.connection };
 }
 
 impl Growth {
@@ -35,7 +31,6 @@ impl Growth {
     {
         Growth {
             telling: Telling::new(connection, features),
-            connection,
             told: 0,
             text,
         }
@@ -46,6 +41,13 @@ impl Growth {
         ensures { result.now ≡ self.now.text }
     {
         self.text.as_slice()
+    }
+
+    /// How many features of it are complete.
+    pub(crate) fn features(&self) -> usize
+        ensures { result ≡ self.now.telling.counted.features }
+    {
+        self.telling.features()
     }
 
     /// Adds the lines of the acts that the client has counted since. Fails only if out of memory, and then nothing is added.
@@ -69,8 +71,9 @@ impl Growth {
         ensures err { OnErr result ((n : ℕ) × AddsErrors (map (λ e. e.items) errors.now) self.old
             self.new n) }
     {
+        let connection = self.telling.connection();
         for error in errors {
-            write_refused(&mut self.text, self.connection, error.as_slice())?;
+            write_refused(&mut self.text, connection, error.as_slice())?;
         }
         Ok(())
     }

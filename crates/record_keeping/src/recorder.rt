@@ -1,7 +1,7 @@
 // What a client has counted is appended to the record of its run.
 
 ghost use Rattle.std.specs.Prelude.{◌≡◌, ◌↔◌, true, false, map, length, take, Option};
-ghost use Rattle.record_keeping.specs.Growths.{begun, begun_in, FollowsTurn, Saves};
+ghost use Rattle.record_keeping.specs.Growths.{begun, begun_in, FollowsTurn, Saves, SettlesFeatures};
 
 use crate::growing::GrowingFile;
 use crate::growth::Growth;
@@ -18,9 +18,7 @@ pub struct Recorder<F> {
     filed: usize,
     file: F,
     has_failed: bool,
-    /// How many features the client held when it was followed last.
-    held: usize,
-    /// Whether memory ran out for what it had counted then.
+    /// Whether memory ran out for what the client had counted when it was followed last.
     lacks_acts: bool,
     /// Whether memory ran out for an error of its server.
     lacks_errors: bool,
@@ -55,21 +53,21 @@ impl<F: GrowingFile> Recorder<F> {
             filed,
             file,
             has_failed: false,
-            held: features,
             lacks_acts: false,
             lacks_errors: false,
         }
     }
 
-    /// Appends to the file what it lacks. A file that has failed is not written again.
+    /// Appends to the file what it lacks, and forces it to the device if `settled`. A file that has failed is not written again.
     fn save(&mut self, settled: bool)
         ensures saves { Saves F.kept self.old self.new }
+        ensures settles { settled ≡ true → self.new.has_failed ≡ false → F.is_settled self.new.file ≡ true }
         ensures growth { self.new.growth ≡ self.old.growth }
         ensures acts { self.new.lacks_acts ≡ self.old.lacks_acts }
         ensures errors { self.new.lacks_errors ≡ self.old.lacks_errors }
     {
         let text = self.growth.text();
-        if self.has_failed || self.filed >= text.len() {
+        if self.has_failed || (!settled && self.filed >= text.len()) {
             return;
         }
         let (_, lacking) = text.split_at(self.filed);
@@ -84,16 +82,17 @@ impl<F: GrowingFile> Recorder<F> {
     ///
     /// If memory runs out for the acts, none of them is in the text, and they follow once it is there again.
     pub fn follow(&mut self, client: &Client, errors: &[Vec<u8>])
-        ensures { FollowsTurn F.kept client.now.client.program.features
+        ensures follows { FollowsTurn F.kept client.now.client.program.features
             client.now.client.table.tally.counted (map (λ e. e.items) errors.now) self.old self.new }
+        ensures settles { SettlesFeatures F.is_settled self.old self.new }
     {
+        let complete = self.growth.features();
         self.lacks_acts = self.growth.tell(client).is_err();
         if self.growth.tell_errors(errors).is_err() {
             self.lacks_errors = true;
         }
-        let held = client.features().len();
-        self.save(held > self.held);
-        self.held = held;
+        let completes = self.growth.features() > complete;
+        self.save(completes);
     }
 
     /// Whether all that the client had counted when it was followed last is in the text, and all errors of its server. It is not if memory

@@ -80,6 +80,20 @@ impl Telling {
         }
     }
 
+    /// The number of the connection.
+    pub fn connection(&self) -> u64
+        ensures { result ≡ self.now.connection }
+    {
+        self.connection
+    }
+
+    /// How many of the wanted features are complete.
+    pub fn features(&self) -> usize
+        ensures { result ≡ self.now.counted.features }
+    {
+        self.features
+    }
+
     /// Adds the line of the feature that an act completes, if it completes one.
     fn count(&mut self, text: &mut Vec<u8>, wanted: &[Wanted], act: &Act) -> Result<(), AllocError>
         ensures { OnOk result (Counts wanted.now self.old act.now self.new text.old.items
