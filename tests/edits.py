@@ -1,7 +1,7 @@
 """Compares tools/edits.txt, which says with which content the edits of each crate were last tried, with the present content.
 
-A line is up to date if its checksum is that of the crate's present files, and its count that of the crate's edits. `tools/edits` writes the
-lines. `run` calls this; by itself: tools/edits --stale
+Each crate with edits needs a line, whose checksum is that of the crate's present files, and whose count is that of the crate's edits.
+`tools/edits` writes the lines. `run` calls this; by itself: tools/edits --stale
 """
 
 import hashlib
@@ -10,7 +10,6 @@ import pathlib
 ROOT = pathlib.Path(__file__).resolve().parent.parent
 RECORD = ROOT / "tools" / "edits.txt"
 PARTS = ("src", "specs", "proofs", "must-fail*")
-EACH_HAS_ITS_LINE = False  # If true, a crate with edits and no line fails too.
 HEAD = """\
 # With which content the edits of a crate were last tried, each of which a goal then refused. `tools/edits` writes this file.
 # A line: the crate, the SHA-256 of its files in src/, specs/, proofs/ and must-fail*/ (names and bytes), how many edits it has.
@@ -59,10 +58,9 @@ def stale():
 def check_edits():
     """How many crates have had their edits tried with the present content, and how many have not."""
     changed, untried = stale()
-    for name in changed:
-        print(f"edits of {name}: last tried with another content of it: tools/edits {name}")
+    for name in changed + untried:
+        print(f"edits of {name}: not tried with its present content: tools/edits {name}")
     count = len(recorded().keys() | crates_with_edits())
     alive = count - len(changed) - len(untried)
-    told = f"; not yet tried: {' '.join(untried)}" if untried else ""
-    print(f"edits that are alive: {alive} of {count} crates{told}", flush=True)
-    return alive, len(changed) + (len(untried) if EACH_HAS_ITS_LINE else 0)
+    print(f"edits that are alive: {alive} of {count} crates", flush=True)
+    return alive, count - alive

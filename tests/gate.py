@@ -1,6 +1,5 @@
 #!/usr/bin/env python3
-"""Writes docs/GATE.md: how long the proof of each crate takes, from tools/times.txt, how many edits it has, and whether they were last tried
-with its present content (tools/edits.txt).
+"""Writes docs/GATE.md: how long the proof of each crate takes, from tools/times.txt, and how many edits it has.
 
 tools/times.txt has lines of a crate, its seconds of processor time and the commit, as `tools/times` sampled them during a whole run of
 `tests/run`; its comments describe the runs. `run` calls this; by itself: tests/gate.py, and tests/gate.py --write to write the page.
@@ -8,7 +7,7 @@ tools/times.txt has lines of a crate, its seconds of processor time and the comm
 
 import sys
 
-from edits import content_of, crates_with_edits, edits_of, recorded
+from edits import edits_of
 from generated import ROOT, is_present
 
 PAGE = ROOT / "docs" / "GATE.md"
@@ -25,16 +24,14 @@ def times():
 def table():
     """What is known about the runs, and a row for each crate."""
     seconds, said = times()
-    known = recorded()
     text = "".join(f"- {it}\n" for it in said)
-    text += "\n| Crate | Processor time of its proofs, seconds | In the run of | Edits; * if no trial of this content is recorded |\n|---|---|---|---|\n"
-    for crate in sorted(it for it in (ROOT / "crates").iterdir() if (it / "src").is_dir()):
-        name, count = crate.name, len(edits_of(crate))
-        mark = "*" if name in crates_with_edits() and known.get(name) != content_of(crate) else ""
-        time, commit = seconds.get(name, ("?", ""))
-        text += f"| `{name}` | {time} | {commit} | {count}{mark} |\n"
+    text += "\n| Crate | Processor time of its proofs, seconds | In the run of | Edits |\n|---|---|---|---|\n"
+    crates = sorted(it for it in (ROOT / "crates").iterdir() if (it / "src").is_dir())
+    for crate in crates:
+        time, commit = seconds.get(crate.name, ("?", ""))
+        text += f"| `{crate.name}` | {time} | {commit} | {len(edits_of(crate))} |\n"
     total = f"{sum(it for it, _ in seconds.values())}" if seconds else "not measured"
-    return text + f"| together | {total} | | {sum(len(edits_of(ROOT / 'crates' / it)) for it in crates_with_edits())} |\n"
+    return text + f"| together | {total} | | {sum(len(edits_of(it)) for it in crates)} |\n"
 
 
 def check_gate():
