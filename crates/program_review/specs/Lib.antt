@@ -1,9 +1,0 @@
-pub mod TaskLines
-pub mod BlockLines
-pub mod Refusals
-pub mod Notices
-pub mod UnderSetup
-pub mod StepLacks
-pub mod Groups
-pub mod Strays
-pub mod UnusedFrames

@@ -1,9 +1,0 @@
-mod Places
-mod Knowing
-mod Answering
-mod Hearing
-mod Opening
-mod Following
-mod Reading
-mod Courses
-mod Transits
