@@ -21,4 +21,3 @@ pub mod Explaining
 pub mod Exporting
 pub mod Recorded
 pub mod OfRecords
-pub mod Findings

@@ -1,10 +1,13 @@
--- What reviewing a program leaves, but for the words of the findings (this profile).
-use Rattle.std.specs.Prelude.{◌≡◌, ℕ, List, Option, Result, Ok, Err}
-use Rattle.tool_rack.specs.Setups.{SetupValue}
+-- What reviewing a program leaves (this profile).
+use Rattle.std.specs.Prelude.{◌≡◌, ℕ, List, [], Bool, Option, Some, None, Result, Ok, Err}
+use Rattle.tool_rack.specs.Setups.{SetupValue, setup_of}
 use Rattle.dmis_program.specs.Meaning.{program_of}
-use Rattle.dme_orders.specs.Input.{Named, InTurn, ReadsNamed, WhyNoNamed, frames_under}
+use Rattle.review_report.specs.Printed.{Names}
+use Rattle.review_report.specs.Reviews.{ReviewTexts, IsReport, frames_of}
+use Rattle.review_report.specs.declared.printing.FindingForm.{FindingForm}
+use Rattle.dme_orders.specs.Input.{Named, InTurn, WhyNoNamed}
 use Rattle.dme_orders.specs.Orders.{Went, Carries}
-use Rattle.dme_orders.specs.Reading.{Came, Reads, IsUntouched, WhyNoText}
+use Rattle.dme_orders.specs.Reading.{Came, came, Reads, IsUntouched, WhyNoText}
 use Rattle.dme_orders.specs.declared.reading.FilesFault.{FilesFault}
 use Rattle.dme_orders.specs.declared.reading.Role.TheVariants as role
 
@@ -13,23 +16,31 @@ abbrev pub review_status : {A B : Type 0} → Result A B → ℕ
 review_status (Ok program) = 0
 review_status (Err refused) = 1
 
--- a setup if one is named, and the text of a program
-pub record ReviewInput : Type 0 where
-  pub setup : Option SetupValue
-  pub text : List ℕ
+module _ {S : Type 0} (left : S → Option (List ℕ)) (has_failed : S → Bool) where
+  -- the setup that is named, with its text; or none, and no text, if none is named
+  abbrev pub IsStored : (old new : Option S) → Option SetupValue → List ℕ → Type 0
+  IsStored (Some old) (Some new) (Some said) text =
+      Reads (came left has_failed old new) (λ told. (setup_of told ≡ Ok said) × (text ≡ told))
+  IsStored None None None text = text ≡ []
+  IsStored _ _ _ text = ⊥
 
+abbrev pub ReadsStored : {S : Type 0} → Named S → Option SetupValue × List ℕ → Type 0
+ReadsStored n read = IsStored n.left n.has_failed n.old n.new read.0 read.1
+
+-- a setup if one is named, and the text of a program
 module _ {S R : Type 0} (s : Named S) (r : Came R) where
-  pub record ReadsReview (input : ReviewInput) : Type 0 where
-    pub said : ReadsNamed s input.setup
-    pub read : Reads r (λ told. input.text ≡ told)
+  pub record ReadsReview (texts : ReviewTexts) : Type 0 where
+    pub stored : ReadsStored s (texts.setup, texts.stored)
+    pub read : Reads r (λ told. texts.program ≡ told)
 
   abbrev pub WhyNoReview : FilesFault → Type 0
-  WhyNoReview = InTurn (ReadsNamed s) (WhyNoNamed s) (IsUntouched r) (λ setup. WhyNoText r role.Program)
+  WhyNoReview = InTurn (ReadsStored s) (WhyNoNamed s) (IsUntouched r) (λ stored. WhyNoText r role.Program)
 
--- findings with the status that goes with the program under the setup's frames
-abbrev pub LeavesFindings : ReviewInput → ℕ → List ℕ → Type 0
-LeavesFindings input status text = status ≡ review_status (program_of (frames_under input.setup) input.text)
+-- the report of the review, with the status that goes with the program under the setup's frames
+pub record LeavesFindings (form : FindingForm) (names : Names) (texts : ReviewTexts) (status : ℕ) (text : List ℕ) : Type 0 where
+  pub report : IsReport form names texts text
+  pub status_is : status ≡ review_status (program_of (frames_of texts.setup) texts.program)
 
 -- findings were written, and the status is the one that goes with the program; or the review was not carried out
-abbrev pub Reviews : {S R W : Type 0} → Named S → Came R → Went W → Result ℕ FilesFault → Type 0
-Reviews s r w = Carries (ReadsReview s r) LeavesFindings w (WhyNoReview s r)
+abbrev pub Reviews : {S R W : Type 0} → FindingForm → Names → Named S → Came R → Went W → Result ℕ FilesFault → Type 0
+Reviews form names s r w = Carries (ReadsReview s r) (LeavesFindings form names) w (WhyNoReview s r)

@@ -17,8 +17,7 @@
 //! - `ends`, `ended`: the two ends of a connection and their reports; how it has ended, and what is shown of that
 //! - `check`: the command lines of a program, from any reader to any writer
 //! - `plan`: the commands of a program on a new connection, as text
-//! - `reviewing`: everything that stands between a program and its run is listed; `findings`: their sentences; `report`: as lines or as
-//!   JSON; `summary`: what refused statements are for
+//! - `reviewing`: everything that stands between a program and its run is listed
 //! - `verdicts`: the verdict of an audit as a line, and the exit statuses of orders that were carried out
 //! - `faults`: what is shown for an order that was not carried out, and its exit status
 #![tactic(auto)]
@@ -32,7 +31,6 @@ mod ends;
 mod explaining;
 mod exporting;
 mod faults;
-mod findings;
 mod judging;
 mod looping;
 mod notes;
@@ -41,11 +39,9 @@ mod orders;
 mod plan;
 mod preparing;
 mod reading;
-mod report;
 mod reviewing;
 mod serving;
 mod simulating;
-mod summary;
 mod text_files;
 mod verdicts;
 
@@ -66,8 +62,7 @@ pub use orders::check_under_setup;
 pub use plan::{first_lines, plan_text};
 pub use preparing::{features_and_program, setup_and_program};
 pub use reading::{FilesFault, Role, read_setup};
-pub use report::FindingForm;
-pub use reviewing::{ReviewNames, review_program};
+pub use reviewing::review_program;
 pub use serving::{close_service, serve_one, with_break};
 pub use simulating::{SimulationFiles, simulate};
 pub use text_files::TextFile;

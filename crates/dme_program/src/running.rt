@@ -13,13 +13,14 @@ use crate::version;
 use byte_ports::Writing;
 use dme_files::{Fault, NamedSource, Sources, refused, tell_audit};
 use dme_orders::{
-    AuditFiles, FilesFault, FindingForm, InputFiles, RecordFiles, ReviewNames, SimulationFiles,
-    audit_files, audit_record, check_under_setup, review_program, simulate, status,
+    AuditFiles, FilesFault, InputFiles, RecordFiles, SimulationFiles, audit_files, audit_record,
+    check_under_setup, review_program, simulate, status,
 };
 use dme_run::run_program;
 use dme_serve::serve;
 use dme_watch::{ledger, watch};
 use dme_words::{Audit, Check, Order, RecordAudit, Review, Simulation, read_words};
+use review_report::{FindingForm, FindingStyle};
 use std::alloc::{AllocError, Global};
 use std::env::{self, Env};
 use std::fs::File;
@@ -126,14 +127,15 @@ fn review<R: Files + Input + Print + AllocGlobal>(rt: &R, order: Review) -> Resu
     let mut sources = Sources::new(rt, false);
     let name = String::from_str(rt.alloc(), order.program.as_str())?;
     let setup_name = name_of(rt.alloc(), &order.setup)?;
-    let names = ReviewNames {
+    let style = FindingStyle {
+        form,
         program: name.as_str(),
         setup: setup_name.as_str(),
     };
     let mut setup = sources.maybe(order.setup);
     let mut program = sources.file(order.program);
     let mut sink = Writing::new(io::writer(rt));
-    match review_program(rt.alloc(), form, names, &mut setup, &mut program, &mut sink) {
+    match review_program(rt.alloc(), style, &mut setup, &mut program, &mut sink) {
         Ok(status) => Ok(status),
         Err(fault) => Err(refused_program(rt.alloc(), fault, setup, program, false)),
     }

@@ -75,3 +75,7 @@ lacks_from tools frames before [] = []
 lacks_from tools frames before (s ∷ statements) = if is_end (keyword_of s.word) then [] else
     lack_on s.line (lack_of tools before (meaning_with (keyword_of s.word) s)) ++ lacks_from tools frames
     (selected_after frames before (meaning_with (keyword_of s.word) s) (keyword_of s.word)) statements
+
+-- what a setup with these tools and frames lacks for the statements of a program, at whose start machine coordinates are selected
+abbrev pub lacks_of : List (List ℕ) → List (List ℕ × Point) → List Statement → List SetupNotice
+lacks_of tools frames statements = lacks_from tools frames selected.Machine statements

@@ -3,7 +3,7 @@
 ghost use Rattle.std.specs.Prelude.{◌≡◌, Ok, IfOk};
 ghost use Rattle.dmis_text.specs.Reading.{text_reading};
 ghost use Rattle.dmis_program.specs.Meaning.{program_of};
-ghost use Rattle.program_review.specs.UnderSetup.{lacks_from};
+ghost use Rattle.program_review.specs.UnderSetup.{lacks_of};
 ghost use Rattle.program_review.specs.StepLacks.{selected_behind, lacks_step, lacks_some};
 
 use crate::under_setup::{Selected, SetupNotice, lacking_setup};
@@ -60,8 +60,7 @@ pub fn lacking_for(
     frames: &Frames,
 ) -> Result<Vec<SetupNotice>, AllocError>
     ensures { IfOk result (λ notices. program_of frames.now bytes.now ≡ Ok program.now
-        → notices.items ≡ lacks_from rack.now frames.now Selected.Machine
-        (text_reading bytes.now).statements) }
+        → notices.items ≡ lacks_of rack.now frames.now (text_reading bytes.now).statements) }
 {
     if lacks_some(rack, program.statements()) {
         lacking_setup(alloc, bytes, rack, frames)

@@ -4,7 +4,7 @@ ghost use Rattle.std.specs.Prelude.{◌≡◌, ◌++◌, IfOk, IfSome, OnOk};
 ghost use Rattle.dmis_text.specs.Reading.{text_reading};
 ghost use Rattle.dmis_program.specs.Keywords.{keyword_of};
 ghost use Rattle.dmis_program.specs.Offsets.{offset_of};
-ghost use Rattle.program_review.specs.UnderSetup.{meaning_with, recalled, selected_after, is_within, is_outside, when, lack_of, lack_on, is_end, lacks_from};
+ghost use Rattle.program_review.specs.UnderSetup.{meaning_with, recalled, selected_after, is_within, is_outside, when, lack_of, lack_on, is_end, lacks_of};
 
 use dmis_program::{Frames, Keyword, StatementFault, StatementMeaning, keyword_of_word, said_of};
 use dmis_text::{Statement, Statements, TextFault};
@@ -174,8 +174,8 @@ pub fn lacking_setup(
     rack: &Rack,
     frames: &Frames,
 ) -> Result<Vec<SetupNotice>, AllocError>
-    ensures { IfOk result (λ notices. notices.items ≡ lacks_from rack.now frames.now Selected.Machine
-        (text_reading bytes.now).statements) }
+    ensures { IfOk result (λ notices. notices.items
+        ≡ lacks_of rack.now frames.now (text_reading bytes.now).statements) }
 {
     let mut statements = Statements::new(alloc, bytes);
     let mut selected = Selected::Machine;

@@ -1,6 +1,10 @@
 // What the refused statements of a program are for, in groups, and what deleting them would change.
 
-use crate::report::{Head, Report};
+ghost use Rattle.std.specs.Prelude.{◌≡◌, ◌++◌, ◌∷◌, [], OnOk};
+ghost use Rattle.review_report.specs.Findings.{heads, summed};
+ghost use Rattle.review_report.specs.Summary.{number_of, has_lines, sums_in, order};
+
+use crate::findings::{Finding, Head, Kind, Place};
 use program_review::{Group, Stray};
 use std::alloc::{AllocError, Global};
 
@@ -8,10 +12,12 @@ use std::alloc::{AllocError, Global};
 const MOST_LINES: u64 = 20;
 
 /// The line of a refused statement, and what it is for.
-#[derive(Clone, Copy)]
-pub(crate) struct Grouped {
-    pub(crate) group: Group,
-    pub(crate) line: u64,
+#[derive(Clone, Copy, Debug, PartialEq, Eq)]
+pub struct Grouped {
+    /// What it is for.
+    pub group: Group,
+    /// The number of the line, from 1.
+    pub line: u64,
 }
 
 /// The lines of a group: how many, and their numbers as text.
@@ -121,19 +127,39 @@ fn consequence(group: Group) -> &'static str {
     }
 }
 
-/// Adds the summary of a group, if it has lines, with what deleting them would change.
-fn add_group(
+/// The number of a group in the order of a summary.
+fn number_of(group: Group) -> u8
+    ensures { result ≡ number_of group }
+{
+    match group {
+        Group::Coordinates => 0,
+        Group::Lengths => 1,
+        Group::Measuring => 2,
+        Group::Flow => 3,
+        Group::Motion => 4,
+        Group::Mistake => 5,
+        Group::Other => 6,
+        Group::Bookkeeping => 7,
+    }
+}
+
+/// Whether some line is of a group.
+fn has_lines(grouped: &[Grouped], group: Group) -> bool
+    ensures { result ≡ has_lines grouped.now group }
+{
+    grouped
+        .iter()
+        .any(|one| number_of(one.group) == number_of(group))
+}
+
+/// The summary of the lines of a group, with what deleting them would change.
+fn group_sentence(
     alloc: Global,
-    report: &mut Report,
-    file: &str,
     grouped: &[Grouped],
     group: Group,
     change: &str,
-) -> Result<(), AllocError> {
+) -> Result<Vec<u8>, AllocError> {
     let lines = lines_of(alloc, grouped, group)?;
-    if lines.count == 0 {
-        return Ok(());
-    }
     let name = group_name(group);
     let count = counted(alloc, lines.count, "line", "lines")?;
     let mut said = Vec::new(alloc);
@@ -142,33 +168,42 @@ fn add_group(
     said.extend_from_slice(lines.numbers.as_slice())?;
     let behind = format!(in alloc; "): {change}")?;
     said.extend_from_slice(behind.as_bytes())?;
-    let head = Head {
-        file,
-        line: None,
-        kind: "summary",
-        refusal: None,
+    Ok(said)
+}
+
+/// Adds the summary of a group. `moved` is what deleting the lines that set coordinates would change.
+fn add_group(
+    findings: &mut Vec<Finding>,
+    grouped: &[Grouped],
+    group: Group,
+    moved: &str,
+) -> Result<(), AllocError>
+    ensures { OnOk result (heads findings.new.items ≡ heads findings.old.items ++ summed group ∷ []) }
+{
+    let change = match group {
+        Group::Coordinates => moved,
+        _ => consequence(group),
     };
-    report.add(alloc, head, said.as_slice())
+    let said = group_sentence(*findings.allocator(), grouped, group, change)?;
+    let head = Head {
+        place: Place::Whole,
+        kind: Kind::Summary(group),
+    };
+    findings.push(Finding::new(head, said))?;
+    Ok(())
 }
 
 /// Adds the summary of a program's refusals: a finding for each group that has some.
 pub(crate) fn add_summary(
-    alloc: Global,
-    report: &mut Report,
-    file: &str,
+    findings: &mut Vec<Finding>,
     grouped: &[Grouped],
     strays: &[Stray],
-) -> Result<(), AllocError> {
-    let moved = strays_text(alloc, strays)?;
-    add_group(
-        alloc,
-        report,
-        file,
-        grouped,
+) -> Result<(), AllocError>
+    ensures { OnOk result (heads findings.new.items ≡ heads findings.old.items ++ sums_in grouped.now order) }
+{
+    let moved = strays_text(*findings.allocator(), strays)?;
+    let groups = [
         Group::Coordinates,
-        moved.as_str(),
-    )?;
-    for group in [
         Group::Lengths,
         Group::Measuring,
         Group::Flow,
@@ -176,8 +211,13 @@ pub(crate) fn add_summary(
         Group::Mistake,
         Group::Other,
         Group::Bookkeeping,
-    ] {
-        add_group(alloc, report, file, grouped, group, consequence(group))?;
+    ];
+    let mut left = groups.as_slice();
+    while let [group, others @ ..] = left {
+        if has_lines(grouped, *group) {
+            add_group(findings, grouped, *group, moved.as_str())?;
+        }
+        left = others;
     }
     Ok(())
 }

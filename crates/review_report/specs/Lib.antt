@@ -1,0 +1,5 @@
+pub mod Notes
+pub mod Findings
+pub mod Summary
+pub mod Printed
+pub mod Reviews

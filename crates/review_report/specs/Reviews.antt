@@ -1,0 +1,63 @@
+-- The report of a review (this profile). Free are the sentences, which statements are odd, and of which group each refused statement is.
+use Rattle.std.specs.Prelude.{◌≡◌, ℕ, List, [], ◌++◌, map, All, Option, Some, None}
+use Rattle.std.specs.Str.Lines.{lines}
+use Rattle.dmis_text.specs.Reading.{text_reading}
+use Rattle.dmis_text.specs.declared.elements.Statement.{Statement}
+use Rattle.fixed_um.specs.declared.lengths.Point.{Point}
+use Rattle.tool_rack.specs.Setups.{SetupValue}
+use Rattle.program_review.specs.Notices.{notices_of}
+use Rattle.program_review.specs.Refusals.{refusals_of}
+use Rattle.program_review.specs.UnderSetup.{lacks_of}
+use Rattle.program_review.specs.UnusedFrames.{names_recalled, unused_from}
+use Rattle.program_review.specs.declared.odd.OddNotice.{OddNotice}
+use Rattle.program_review.specs.declared.under_setup.SetupNotice.{SetupNotice}
+use Rattle.review_report.specs.Findings.{FindingValue, heads, noted, unused}
+use Rattle.review_report.specs.Notes.{notes_of}
+use Rattle.review_report.specs.Printed.{Names, printed}
+use Rattle.review_report.specs.Summary.{order, sums_in}
+use Rattle.review_report.specs.declared.notes.Note.{Note}
+use Rattle.review_report.specs.declared.summary.Grouped.{Grouped}
+use Rattle.review_report.specs.declared.printing.FindingForm.{FindingForm}
+
+-- a setup, if one is named, its text, and the text of a program
+pub record ReviewTexts : Type 0 where
+  pub setup : Option SetupValue
+  pub stored : List ℕ
+  pub program : List ℕ
+
+abbrev pub texts_of : Option SetupValue → (stored program : List ℕ) → ReviewTexts
+texts_of setup stored program = record { setup = setup; stored = stored; program = program }
+
+-- the frames of a setup, and none without one
+abbrev pub frames_of : Option SetupValue → List (List ℕ × Point)
+frames_of None = []
+frames_of (Some setup) = setup.frames
+
+-- what the setup lacks for the statements of a program, and nothing without one
+abbrev pub lacks_under : Option SetupValue → List Statement → List SetupNotice
+lacks_under None statements = []
+lacks_under (Some setup) statements = lacks_of setup.tools setup.frames statements
+
+-- the lines of the frames that the program does not recall
+abbrev pub unused_lines : ReviewTexts → List ℕ
+unused_lines texts = unused_from (names_recalled (text_reading texts.program).statements) 0 (lines texts.stored)
+
+-- the remarks on a program under these frames, where the setup lacks this
+pub record AreNotes (frames : List (List ℕ × Point)) (program : List ℕ) (lacks : List SetupNotice) (notes : List Note) : Type 0 where
+  pub odd : List OddNotice
+  pub all : notes ≡ notes_of (refusals_of frames program) (notices_of (text_reading program).statements) lacks odd
+
+-- what is found: in the order of the program's lines all its refusals, all that is passed over, all that the setup lacks and what is odd;
+-- then each line of the setup with a frame that is not recalled; then each group of refused statements that has some
+pub record AreFindings (texts : ReviewTexts) (findings : List FindingValue) : Type 0 where
+  pub notes : List Note
+  pub are_notes : AreNotes (frames_of texts.setup) texts.program (lacks_under texts.setup (text_reading texts.program).statements) notes
+  pub grouped : List Grouped
+  pub are_grouped : map (λ one. one.line) grouped ≡ map (λ found. found.line) (refusals_of (frames_of texts.setup) texts.program)
+  pub all : heads findings ≡ (map noted notes ++ map unused (unused_lines texts)) ++ sums_in grouped order
+
+-- the findings are printed in this form, under these names
+pub record IsReport (form : FindingForm) (names : Names) (texts : ReviewTexts) (text : List ℕ) : Type 0 where
+  pub findings : List FindingValue
+  pub found : AreFindings texts findings
+  pub printed : text ≡ printed form names findings

@@ -1,0 +1,31 @@
+-- What the refused statements of a program are for, in groups (this profile).
+use Rattle.std.specs.Prelude.{ℕ, Bool, List, [], ◌∷◌, map, ◌==◌}
+use Rattle.std.specs.List.{filter, list_any}
+use Rattle.program_review.specs.declared.groups.Group.{Group}
+use Rattle.program_review.specs.declared.groups.Group.TheVariants as group
+use Rattle.review_report.specs.Findings.{summed}
+use Rattle.review_report.specs.declared.findings.Head.{Head}
+use Rattle.review_report.specs.declared.summary.Grouped.{Grouped}
+
+-- the groups in the order of a summary
+abbrev pub order : List Group
+order = group.Coordinates ∷ group.Lengths ∷ group.Measuring ∷ group.Flow ∷ group.Motion ∷ group.Mistake ∷ group.Other ∷ group.Bookkeeping ∷ []
+
+-- the number of a group in it
+abbrev pub number_of : Group → ℕ
+number_of group.Coordinates = 0
+number_of group.Lengths = 1
+number_of group.Measuring = 2
+number_of group.Flow = 3
+number_of group.Motion = 4
+number_of group.Mistake = 5
+number_of group.Other = 6
+number_of group.Bookkeeping = 7
+
+-- some line is of this group
+abbrev pub has_lines : List Grouped → Group → Bool
+has_lines grouped group = list_any (λ one. number_of one.group == number_of group) grouped
+
+-- the summary has those groups that have lines
+abbrev pub sums_in : List Grouped → List Group → List Head
+sums_in grouped groups = map summed (filter (has_lines grouped) groups)
