@@ -1,7 +1,7 @@
 -- What an order leaves that stops.
 use Rattle.std.proofs.Common.{◌≡◌, ◌<◌, ◌⊎◌, inl, inr, ℕ, Bool, false, List, [], ◌∷◌, length, Result, Ok, Err, refl, sym, subst, arith}
 use Rattle.std.specs.Prelude.{IsErrAnd, IfErr}
-use Rattle.dme_orders.specs.Orders.{Went, Carries, IsTorn, Prints, no_memory, torn}
+use Rattle.dme_orders.specs.Orders.{Went, Carries, IsTorn, Prints, blamed, no_memory, torn}
 use Rattle.dme_orders.specs.declared.reading.FilesFault.{FilesFault}
 use Rattle.dme_orders.specs.declared.reading.FilesFault.TheVariants as fault
 
@@ -29,6 +29,12 @@ pub blamed_as : {B : Type 0} (WhyNo : FilesFault → Type 0) (f : FilesFault) (r
     → WhyNo f → IfErr r WhyNo
 blamed_as WhyNo f (Ok end) is why = tt
 blamed_as WhyNo f (Err given) is why = subst WhyNo (sym is) why
+
+-- a file is blamed, and nothing was written
+pub stops_at : {A B W : Type 0} (Reads : A → Type 0) (Leaves : A → B → List ℕ → Type 0) (w : Went W) (WhyNo : FilesFault → Type 0)
+    (f : FilesFault) (r : Result B FilesFault) → IsErrAnd r (λ given. given ≡ f) → WhyNo f → w.new ≡ w.old → Carries Reads Leaves w WhyNo r
+stops_at Reads Leaves w WhyNo f (Ok end) is why same = absurd is
+stops_at Reads Leaves w WhyNo f (Err given) is why same = blamed (subst WhyNo (sym is) why) same
 
 -- the sink works, unless there was nothing to write
 pub works_or_empty : (failed : Bool) (Same : Type 0) (xs : List ℕ) → (0 < length xs → failed ≡ false) → (length xs ≡ 0 → Same)

@@ -1,5 +1,5 @@
 -- What reviewing a program leaves (this profile).
-use Rattle.std.specs.Prelude.{◌≡◌, ℕ, List, [], Bool, Option, Some, None, Result, Ok, Err}
+use Rattle.std.specs.Prelude.{◌≡◌, ℕ, List, [], Bool, true, false, Option, Some, None, Result, Ok, is_err}
 use Rattle.tool_rack.specs.Setups.{SetupValue, setup_of}
 use Rattle.dmis_program.specs.Meaning.{program_of}
 use Rattle.review_report.specs.Printed.{Names}
@@ -12,9 +12,9 @@ use Rattle.dme_orders.specs.declared.reading.FilesFault.{FilesFault}
 use Rattle.dme_orders.specs.declared.reading.Role.TheVariants as role
 
 -- the exit status: 1 if the program is refused, else 0
-abbrev pub review_status : {A B : Type 0} → Result A B → ℕ
-review_status (Ok program) = 0
-review_status (Err refused) = 1
+abbrev pub review_status : Bool → ℕ
+review_status true = 1
+review_status false = 0
 
 module _ {S : Type 0} (left : S → Option (List ℕ)) (has_failed : S → Bool) where
   -- the setup that is named, with its text; or none, and no text, if none is named
@@ -24,8 +24,8 @@ module _ {S : Type 0} (left : S → Option (List ℕ)) (has_failed : S → Bool)
   IsStored None None None text = text ≡ []
   IsStored _ _ _ text = ⊥
 
-abbrev pub ReadsStored : {S : Type 0} → Named S → Option SetupValue × List ℕ → Type 0
-ReadsStored n read = IsStored n.left n.has_failed n.old n.new read.0 read.1
+pub record ReadsStored {S : Type 0} (n : Named S) (read : Option SetupValue × List ℕ) : Type 0 where
+  pub is : IsStored n.left n.has_failed n.old n.new read.0 read.1
 
 -- a setup if one is named, and the text of a program
 module _ {S R : Type 0} (s : Named S) (r : Came R) where
@@ -39,7 +39,7 @@ module _ {S R : Type 0} (s : Named S) (r : Came R) where
 -- the report of the review, with the status that goes with the program under the setup's frames
 pub record LeavesFindings (form : FindingForm) (names : Names) (texts : ReviewTexts) (status : ℕ) (text : List ℕ) : Type 0 where
   pub report : IsReport form names texts text
-  pub status_is : status ≡ review_status (program_of (frames_of texts.setup) texts.program)
+  pub status_is : status ≡ review_status (is_err (program_of (frames_of texts.setup) texts.program))
 
 -- findings were written, and the status is the one that goes with the program; or the review was not carried out
 abbrev pub Reviews : {S R W : Type 0} → FindingForm → Names → Named S → Came R → Went W → Result ℕ FilesFault → Type 0

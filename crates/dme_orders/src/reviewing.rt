@@ -1,9 +1,7 @@
 // Everything that stands between a program and its run is listed.
 
 ghost use Rattle.std.specs.Prelude.{◌≡◌, IfOk, IfErr};
-ghost use Rattle.dmis_program.specs.Meaning.{program_of};
 ghost use Rattle.review_report.specs.Printed.{names_of};
-ghost use Rattle.review_report.specs.Reviews.{IsReport, frames_of, texts_of};
 ghost use Rattle.dme_orders.specs.Input.{named, WhyNoNamed};
 ghost use Rattle.dme_orders.specs.Orders.{went};
 ghost use Rattle.dme_orders.specs.Reading.{came};
@@ -49,6 +47,13 @@ fn read_named_setup<S: Source>(
     }
 }
 
+/// The exit status of a review.
+fn status_of(is_refused: bool) -> u8
+    ensures { result ≡ review_status is_refused }
+{
+    if is_refused { 1 } else { 0 }
+}
+
 /// Reads a setup if one is named, then a DMIS program, each to the end of its text, and writes in a style what stands between the program
 /// and its run: the report of `review_report`. The exit status: 1 if the program is refused, else 0.
 ///
@@ -73,8 +78,9 @@ pub fn review_program<S: Source, R: Source, W: Sink>(
         program: text.as_slice(),
     };
     let report = review_report(alloc, style, texts)?;
-    let status = if report.is_refused { 1 } else { 0 };
-    match push_all(sink, report.text.as_slice()) {
+    let status = status_of(report.is_refused);
+    let findings = report.text.as_slice();
+    match push_all(sink, findings) {
         Ok(()) => Ok(status),
         Err(Failed) => Err(FilesFault::Write),
     }
