@@ -33,7 +33,7 @@ pub struct ReviewTexts<'a> {
 /// What a review has found, in the form in which it is printed.
 #[derive(Drop)]
 pub struct Report {
-    /// The text; empty if nothing was found and each finding has a line.
+    /// The text; as lines, empty if nothing was found.
     pub text: Vec<u8>,
     /// Whether the program is refused.
     pub is_refused: bool,
@@ -114,7 +114,7 @@ fn review_of(alloc: Global, texts: ReviewTexts<'_>) -> Result<Review, AllocError
 /// that is passed over though it changes something, each for which the setup lacks something, and each that is odd; then each frame of
 /// the setup that the program does not recall; then what the refused statements are for, and what deleting them would change.
 ///
-/// As lines, a program of which nothing was found has none. Fails only if out of memory.
+/// Fails only if out of memory.
 pub fn review_report(
     alloc: Global,
     style: FindingStyle<'_>,

@@ -69,9 +69,9 @@ fn needs_text(refusal: Refusal) -> bool {
     }
 }
 
-/// A text with the lines of its blocks, up to the finding whose sentence is written.
+/// The passages of a text that sentences are about, up to the finding whose sentence is written.
 #[derive(Drop)]
-struct Reviewed<'a> {
+struct Passages<'a> {
     text: &'a [u8],
     blocks: Vec<u64>,
     passed: usize,
@@ -80,10 +80,10 @@ struct Reviewed<'a> {
     line: LineStart,
 }
 
-impl<'a> Reviewed<'a> {
+impl<'a> Passages<'a> {
     /// Before the first finding.
-    fn new(alloc: Global, text: &'a [u8]) -> Result<Reviewed<'a>, AllocError> {
-        Ok(Reviewed {
+    fn new(alloc: Global, text: &'a [u8]) -> Result<Passages<'a>, AllocError> {
+        Ok(Passages {
             text,
             blocks: block_lines(alloc, text)?,
             passed: 0,
@@ -193,10 +193,10 @@ pub(crate) fn findings_in(
 ) -> Result<Vec<Finding>, AllocError>
     ensures { IfOk result (λ findings. heads findings.items ≡ map noted notes.now) }
 {
-    let mut reviewed = Reviewed::new(alloc, text)?;
+    let mut passages = Passages::new(alloc, text)?;
     let mut findings = Vec::new(alloc);
     for note in notes {
-        let said = reviewed.sentence(alloc, note)?;
+        let said = passages.sentence(alloc, note)?;
         findings.push(Finding::new(note.head(), said))?;
     }
     Ok(findings)
