@@ -1,12 +1,12 @@
 -- The files of an order, each read to its end and understood before the next is read (this profile).
-use Rattle.std.specs.Prelude.{◌⊎◌, ℕ, List, [], Bool, Option, Some, None}
-use Rattle.fixed_um.specs.declared.lengths.Point.{Point}
+use Rattle.std.specs.Prelude.{◌⊎◌, ℕ, List, Bool, Option, Some, None}
 use Rattle.contact_ledger.specs.declared.acts.Act.{Act}
 use Rattle.contact_ledger.specs.declared.features.Feature.{Feature}
 use Rattle.dmis_program.specs.Meaning.{Meaning}
 use Rattle.link_world.specs.declared.texts.schedules.Instruction.{Instruction}
 use Rattle.run_record.specs.Records.{Recorded}
 use Rattle.tool_rack.specs.Setups.{SetupValue}
+use Rattle.review_report.specs.Reviews.{frames_under}
 use Rattle.dme_orders.specs.declared.reading.FilesFault.{FilesFault}
 use Rattle.dme_orders.specs.Reading.{Came, came, IsUntouched, ReadsSetup, WhyNoSetup, ReadsSchedule, WhyNoSchedule, ReadsFeatures}
 use Rattle.dme_orders.specs.Reading.{WhyNoFeatures, ReadsContacts, WhyNoContacts, ReadsRecord, WhyNoRecord, ReadsProgram, WhyNoProgram}
@@ -46,11 +46,6 @@ ReadsNamed n said = IsNamed n.left n.has_failed n.old n.new said
 
 abbrev pub WhyNoNamed : {S : Type 0} → Named S → FilesFault → Type 0
 WhyNoNamed n fault = IsBlamed n.left n.has_failed n.old n.new fault
-
--- the frames of a setup, and none without one
-abbrev pub frames_under : Option SetupValue → List (List ℕ × Point)
-frames_under None = []
-frames_under (Some setup) = setup.frames
 
 -- ---- the files of each order
 

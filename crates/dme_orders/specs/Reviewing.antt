@@ -3,7 +3,7 @@ use Rattle.std.specs.Prelude.{◌≡◌, ℕ, List, [], Bool, true, false, Optio
 use Rattle.tool_rack.specs.Setups.{SetupValue, setup_of}
 use Rattle.dmis_program.specs.Meaning.{program_of}
 use Rattle.review_report.specs.Printed.{Names}
-use Rattle.review_report.specs.Reviews.{ReviewTexts, IsReport, frames_of}
+use Rattle.review_report.specs.Reviews.{ReviewTexts, IsReport, frames_under}
 use Rattle.review_report.specs.declared.printing.FindingForm.{FindingForm}
 use Rattle.dme_orders.specs.Input.{Named, InTurn, WhyNoNamed}
 use Rattle.dme_orders.specs.Orders.{Went, Carries}
@@ -39,7 +39,7 @@ module _ {S R : Type 0} (s : Named S) (r : Came R) where
 -- the report of the review, with the status that goes with the program under the setup's frames
 pub record LeavesFindings (form : FindingForm) (names : Names) (texts : ReviewTexts) (status : ℕ) (text : List ℕ) : Type 0 where
   pub report : IsReport form names texts text
-  pub status_is : status ≡ review_status (is_err (program_of (frames_of texts.setup) texts.program))
+  pub status_is : status ≡ review_status (is_err (program_of (frames_under texts.setup) texts.program))
 
 -- findings were written, and the status is the one that goes with the program; or the review was not carried out
 abbrev pub Reviews : {S R W : Type 0} → FindingForm → Names → Named S → Came R → Went W → Result ℕ FilesFault → Type 0

@@ -25,8 +25,8 @@ fn read_named_setup<S: Source>(
     alloc: Global,
     source: &mut Option<S>,
 ) -> Result<ReadSetup, FilesFault>
-    ensures ok { IfOk result (λ read.
-        ReadsStored (named S.left S.has_failed source.old source.new) (read.setup, read.text.items)) }
+    ensures ok { IfOk result (λ read. ReadsStored
+        (named S.left S.has_failed source.old source.new) (read.setup, read.text.items)) }
     ensures err { IfErr result
         (WhyNoNamed (named S.left S.has_failed source.old source.new)) }
 {

@@ -29,9 +29,9 @@ abbrev pub texts_of : Option SetupValue → (stored program : List ℕ) → Revi
 texts_of setup stored program = record { setup = setup; stored = stored; program = program }
 
 -- the frames of a setup, and none without one
-abbrev pub frames_of : Option SetupValue → List (List ℕ × Point)
-frames_of None = []
-frames_of (Some setup) = setup.frames
+abbrev pub frames_under : Option SetupValue → List (List ℕ × Point)
+frames_under None = []
+frames_under (Some setup) = setup.frames
 
 -- what the setup lacks for the statements of a program, and nothing without one
 abbrev pub lacks_under : Option SetupValue → List Statement → List SetupNotice
@@ -51,9 +51,9 @@ pub record AreNotes (frames : List (List ℕ × Point)) (program : List ℕ) (la
 -- then each line of the setup with a frame that is not recalled; then each group of refused statements that has some
 pub record AreFindings (texts : ReviewTexts) (findings : List FindingValue) : Type 0 where
   pub notes : List Note
-  pub are_notes : AreNotes (frames_of texts.setup) texts.program (lacks_under texts.setup (text_reading texts.program).statements) notes
+  pub are_notes : AreNotes (frames_under texts.setup) texts.program (lacks_under texts.setup (text_reading texts.program).statements) notes
   pub grouped : List Grouped
-  pub are_grouped : map (λ one. one.line) grouped ≡ map (λ found. found.line) (refusals_of (frames_of texts.setup) texts.program)
+  pub are_grouped : map (λ one. one.line) grouped ≡ map (λ found. found.line) (refusals_of (frames_under texts.setup) texts.program)
   pub all : heads findings ≡ (map noted notes ++ map unused (unused_lines texts)) ++ sums_in grouped order
 
 -- the findings are printed in this form, under these names

@@ -134,8 +134,8 @@ fn odd_notes(alloc: Global, odd: &[OddNotice]) -> Result<Vec<Note>, AllocError>
 
 /// All of them, in the order of lines.
 pub(crate) fn notes_of(alloc: Global, all: Remarks<'_>) -> Result<Vec<Note>, AllocError>
-    ensures { IfOk result (λ notes. notes.items
-        ≡ notes_of all.entry.found.now all.entry.notices.now all.entry.lacks.now all.entry.odd.now) }
+    ensures { IfOk result (λ notes. notes.items ≡ notes_of
+        all.entry.found.now all.entry.notices.now all.entry.lacks.now all.entry.odd.now) }
 {
     let passed = passed_notes(alloc, all.notices)?;
     let lacks = lack_notes(alloc, all.lacks)?;

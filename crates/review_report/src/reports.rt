@@ -5,7 +5,7 @@ ghost use Rattle.dmis_program.specs.Meaning.{program_of};
 ghost use Rattle.dmis_text.specs.Reading.{text_reading};
 ghost use Rattle.program_review.specs.Refusals.{refusals_of, first_of, fault_of};
 ghost use Rattle.review_report.specs.Printed.{names_of};
-ghost use Rattle.review_report.specs.Reviews.{AreNotes, IsReport, frames_of, lacks_under, texts_of};
+ghost use Rattle.review_report.specs.Reviews.{AreNotes, IsReport, frames_under, lacks_under, texts_of};
 
 use crate::notes::{Note, Remarks, notes_of};
 use crate::printing::{FindingStyle, printed};
@@ -96,12 +96,14 @@ fn review_under(
 
 /// What is remarked on a program's text under a setup, if one is named.
 fn review_of(alloc: Global, texts: ReviewTexts<'_>) -> Result<Review, AllocError>
-    ensures notes { IfOk result (λ r. AreNotes (frames_of texts.entry.setup.now) texts.entry.program.now
-        (lacks_under texts.entry.setup.now (text_reading texts.entry.program.now).statements) r.notes.items) }
+    ensures notes { IfOk result (λ r.
+        AreNotes (frames_under texts.entry.setup.now) texts.entry.program.now
+        (lacks_under texts.entry.setup.now (text_reading texts.entry.program.now).statements)
+        r.notes.items) }
     ensures found { IfOk result (λ r. r.found.items
-        ≡ refusals_of (frames_of texts.entry.setup.now) texts.entry.program.now) }
+        ≡ refusals_of (frames_under texts.entry.setup.now) texts.entry.program.now) }
     ensures first { IfOk result (λ r. first_of r.found.items
-        ≡ fault_of (program_of (frames_of texts.entry.setup.now) texts.entry.program.now)) }
+        ≡ fault_of (program_of (frames_under texts.entry.setup.now) texts.entry.program.now)) }
 {
     let lacks = lacks_under(alloc, texts.setup, texts.program)?;
     match texts.setup {
@@ -120,10 +122,12 @@ pub fn review_report(
     style: FindingStyle<'_>,
     texts: ReviewTexts<'_>,
 ) -> Result<Report, AllocError>
-    ensures text { IfOk result (λ r. IsReport style.entry.form (names_of style.entry.program.now style.entry.setup.now)
-        (texts_of texts.entry.setup.now texts.entry.stored.now texts.entry.program.now) r.text.items) }
+    ensures text { IfOk result (λ r. IsReport style.entry.form
+        (names_of style.entry.program.now style.entry.setup.now)
+        (texts_of texts.entry.setup.now texts.entry.stored.now texts.entry.program.now)
+        r.text.items) }
     ensures refused { IfOk result (λ r. r.is_refused
-        ≡ is_err (program_of (frames_of texts.entry.setup.now) texts.entry.program.now)) }
+        ≡ is_err (program_of (frames_under texts.entry.setup.now) texts.entry.program.now)) }
 {
     let review = review_of(alloc, texts)?;
     let mut findings = findings_in(alloc, texts.program, review.notes.as_slice())?;

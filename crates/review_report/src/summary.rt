@@ -178,7 +178,8 @@ fn add_group(
     group: Group,
     moved: &str,
 ) -> Result<(), AllocError>
-    ensures { OnOk result (heads findings.new.items ≡ heads findings.old.items ++ summed group ∷ []) }
+    ensures { OnOk result (heads findings.new.items
+        ≡ heads findings.old.items ++ summed group ∷ []) }
 {
     let change = match group {
         Group::Coordinates => moved,
@@ -199,7 +200,8 @@ pub(crate) fn add_summary(
     grouped: &[Grouped],
     strays: &[Stray],
 ) -> Result<(), AllocError>
-    ensures { OnOk result (heads findings.new.items ≡ heads findings.old.items ++ sums_in grouped.now order) }
+    ensures { OnOk result (heads findings.new.items
+        ≡ heads findings.old.items ++ sums_in grouped.now order) }
 {
     let moved = strays_text(*findings.allocator(), strays)?;
     let groups = [

@@ -246,7 +246,8 @@ pub(crate) fn add_unused_frames(
     setup: &[u8],
     lines: &[u64],
 ) -> Result<(), AllocError>
-    ensures { OnOk result (heads findings.new.items ≡ heads findings.old.items ++ map unused lines.now) }
+    ensures { OnOk result (heads findings.new.items
+        ≡ heads findings.old.items ++ map unused lines.now) }
 {
     let mut start = LineStart::first();
     for line in lines {
