@@ -1,10 +1,10 @@
 """Refuses each growth of a run in turn: the first, then the second, up to the last that it makes (refuse.c).
 
-Each run of a command must end with status 4 and `dme: out of memory`. `check`, `simulate`, `audit`, `export` and `explain` have then printed
-nothing; a command over a connection has printed nothing, or the report of what was done until then, and has left its file as it was or put a
-prefix of it there. For the calls that these commands make (`test_calls`), each growth of a pump or of a whole connection must be answered as
-out of memory, the side has left, and a prefix of its lines has gone out. A run may ask for room in advance and manage without it; then it may
-be as if nothing was refused, in one case for each run.
+Each run of a command must end with status 4 and `dme: out of memory`. `check`, `review`, `simulate`, `audit`, `export` and `explain` have
+then printed nothing; a command over a connection has printed nothing, or the report of what was done until then, and has left its file as it
+was or put a prefix of it there. For the calls that these commands make (`test_calls`), each growth of a pump or of a whole connection must be
+answered as out of memory, the side has left, and a prefix of its lines has gone out. A run may ask for room in advance and manage without
+it; then it may be as if nothing was refused, in one case for each run.
 
 `run` calls this; by itself: tests/growths.py [NAME ..]
 """
@@ -60,6 +60,12 @@ FILE_ROWS = {
     "export_features": "export --as features --record break_inside_a_feature.record circle.dmis",
     "export_contacts": "export --as contacts --record break_inside_a_feature.record circle.dmis",
     "explain": "explain P5",
+}
+
+# Reviews of refused programs, likewise.
+REVIEW_ROWS = {
+    "review": "review --setup two_clampings.setup calypso_style_ring.dmis",
+    "review_as_json": "review --as json --setup two_clampings.setup pc_dmis_style_block.dmis",
 }
 
 
@@ -129,9 +135,9 @@ def must_want_memory(whole, runs, and_so, spared=1):
     return len(others)
 
 
-def file_row(refusing, words):
+def file_row(refusing, words, status=0):
     whole, runs = refusing.all_of(lambda number, counts: ended(refusing.started([PROGRAM, *words.split()], number, counts=counts)))
-    must(whole[0] == 0 and whole[2] == "", "with all memory", whole)
+    must(whole[0] == status and whole[1] and whole[2] == "", "with all memory", whole)
     return must_want_memory(whole, runs, lambda run: must(run[1] == "", "something is printed", run))
 
 
@@ -286,6 +292,7 @@ def parts_of(text):
 def growth_rows(refusing):
     """Each row by its name."""
     rows = {name: lambda words=words: file_row(refusing, words) for name, words in FILE_ROWS.items()}
+    rows |= {name: lambda words=words: file_row(refusing, words, 1) for name, words in REVIEW_ROWS.items()}
     rows["traced"] = lambda: traced_row(
         refusing, "simulate --trace --setup machine.setup --schedule break_inside_a_feature.schedule circle.dmis")
     rows["explained"] = lambda: explained_row(refusing, "check --explain two_clampings.dmis")

@@ -1,5 +1,5 @@
 -- What a review has found, as it is printed: in which file and on which line, of which kind it is, and the sentence (this profile).
-use Rattle.std.specs.Prelude.{ℕ, List, map, Option, Some, None}
+use Rattle.std.specs.Prelude.{ℕ, List, map}
 use Rattle.program_review.specs.declared.groups.Group.{Group}
 use Rattle.review_report.specs.declared.findings.Head.{Head}
 use Rattle.review_report.specs.declared.findings.Kind.{Kind}
