@@ -49,7 +49,7 @@ when_so true what = refl
 when_so false what = refl
 
 -- what an accepted statement finds above it: a touch finds a tool, and a `RECALL` its frame
-abbrev IsFound : List (List ℕ × Point) → Option (List ℕ) → StatementMeaning → Type 0
+abbrev pub IsFound : List (List ℕ × Point) → Option (List ℕ) → StatementMeaning → Type 0
 IsFound frames tool (said.Touches target direction) = is_none tool ≡ false
 IsFound frames tool (said.Recalls name) = is_none (offset_of frames name) ≡ false
 IsFound frames tool _ = Unit {0}
@@ -91,12 +91,12 @@ is_known : (number : ℕ) (wanted : Option ℕ) (keyword : Keyword) (params : Li
 is_known number wanted keyword params h e =
     unknown_refused (number == 0) (subst (λ (k : Keyword). word_refusal number wanted k params ≡ None) e h)
 
-record IsTaken (frames : List (List ℕ × Point)) (c : Context) (s : Statement) (m : StatementMeaning) : Type 0 where
-  said : saying s ≡ Ok m
-  known : keyword_of s.word ≡ word.Unknown → ⊥
-  found : IsFound frames c.tool m
+pub record IsTaken (frames : List (List ℕ × Point)) (c : Context) (s : Statement) (m : StatementMeaning) : Type 0 where
+  pub said : saying s ≡ Ok m
+  pub known : keyword_of s.word ≡ word.Unknown → ⊥
+  pub found : IsFound frames c.tool m
 
-taken_is : (frames : List (List ℕ × Point)) (c : Context) (s : Statement) (m : StatementMeaning) → judged frames c s ≡ Ok m
+pub taken_is : (frames : List (List ℕ × Point)) (c : Context) (s : Statement) (m : StatementMeaning) → judged frames c s ≡ Ok m
     → IsTaken frames c s m
 unfolding judged
 taken_is frames c s m h =
@@ -110,7 +110,7 @@ taken_is frames c s m h =
     }
 
 -- what it says by itself
-meant_is : (keyword : Keyword) (s : Statement) (m : StatementMeaning) → said_of keyword s ≡ Ok m → (keyword ≡ word.Unknown → ⊥)
+pub meant_is : (keyword : Keyword) (s : Statement) (m : StatementMeaning) → said_of keyword s ≡ Ok m → (keyword ≡ word.Unknown → ⊥)
     → meaning_with keyword s ≡ Some m
 meant_is word.Dmismn s m h known = rw h refl
 meant_is word.Goto s m h known = rw h refl
@@ -195,7 +195,7 @@ agrees tools frames fault n (s ∷ statements) above before steps h =
     by_judgement tools frames fault n s statements above before steps (judged frames (context_at frames above) s)
     (agrees tools frames fault n statements (s ∷ above)) refl h
 
-meant_steps : (r : Result (List Step) (Refusal × ℕ)) (m : Meaning) → meant r ≡ Ok m → r ≡ Ok m.steps
+pub meant_steps : (r : Result (List Step) (Refusal × ℕ)) (m : Meaning) → meant r ≡ Ok m → r ≡ Ok m.steps
 meant_steps (Ok steps) m h =
     let same : program_with steps ≡ m = cc in
     subst (λ (x : Meaning). ◌≡◌ {A = Result (List Step) (Refusal × ℕ)} (Ok steps) (Ok x.steps)) same refl
