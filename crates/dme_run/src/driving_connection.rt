@@ -9,16 +9,16 @@ use crate::progress::Progress;
 use crate::recording::{Follower, Lent, OpenRecord, RecordWords, open_record, record_words};
 use crate::warning::warn;
 use byte_ports::{Ports, Sink, Writing};
-use client_core::{Client, ClientFault};
+use client_core::{Client, ClientFault, State};
 use contact_ledger::{CONNECTION_MAX, FeatureLedger, ServerLedger};
 use dme_files::{Fault, LockedFile, NamedFile, Sources, of_output, refused};
 use dme_orders::{
-    FilesFault, InputFiles, OrderFault, RunEnd, RunOutputs, TextFile, drive, features_and_program,
-    kept_client,
+    ConnectionEnd, FilesFault, InputFiles, OrderFault, RunEnd, RunOutputs, TextFile, drive,
+    features_and_program, kept_client,
 };
 use dme_sockets::{
     Called, HeardPort, Log, Patience, PatientSink, PatientSource, Refusals, SaidPort, Side,
-    StopFile, Talk, call_server, seconds_of,
+    StopFile, Talk, call_server, leave, seconds_of,
 };
 use dme_words::Run;
 use dmis_program::Program;
@@ -65,6 +65,11 @@ fn is_unexpected(broken: Option<LoopFault>) -> bool {
         broken,
         Some(LoopFault::Client(PumpFault::Core(ClientFault::Faulted(_))))
     )
+}
+
+/// Whether a run was halted, and its connection not broken off: its server may still end the last command.
+fn is_halted(ended: &ConnectionEnd) -> bool {
+    matches!(ended.state, State::Halted) && ended.broken.is_none()
 }
 
 /// What is shown for a connection that the server's last line has broken off, with that line.
@@ -311,6 +316,11 @@ fn drive_called<
         follower,
         outputs,
     );
+    if let Ok(driven) = &driven
+        && is_halted(&driven.ended)
+    {
+        leave(&stream);
+    }
     drop(stream);
     match driven {
         Ok(driven) => Ok(Some(driven)),
