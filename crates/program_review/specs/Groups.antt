@@ -69,9 +69,10 @@ unsupported_group word.Dmismn text = group.Flow
 unsupported_group word.Unknown text = word_group text
 unsupported_group _ text = group.Mistake
 
--- of a statement whose parameters are wrong: a frame that is not selected changes where positions are
+-- of a statement whose parameters are wrong: a frame that is not selected changes where positions are, a mode who takes the touches
 abbrev pub mistaken_group : Keyword → Group
 mistaken_group word.Recall = group.Coordinates
+mistaken_group word.Mode = group.ByHand
 mistaken_group _ = group.Mistake
 
 -- the group of a refused statement of this word
@@ -80,6 +81,6 @@ group_of refusal.Unsupported text = unsupported_group (keyword_of text) text
 group_of refusal.BadArguments text = mistaken_group (keyword_of text)
 group_of refusal.UnknownFrame text = group.Coordinates
 group_of refusal.TooFewPoints text = group.Measuring
-group_of refusal.NoProgMode text = group.Measuring
+group_of refusal.NoProgMode text = group.ByHand
 group_of refusal.NotMillimetres text = group.Lengths
 group_of _ text = group.Mistake

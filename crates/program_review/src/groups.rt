@@ -15,6 +15,8 @@ pub enum Group {
     Bookkeeping,
     /// It sets up or selects a coordinate system, or turns the part.
     Coordinates,
+    /// It leaves touches to the operator.
+    ByHand,
     /// It asks for measuring other than by programmed touches.
     Measuring,
     /// It decides which statements come next.
@@ -209,6 +211,7 @@ fn mistaken_group(keyword: Keyword) -> Group
 {
     match keyword {
         Keyword::Recall => Group::Coordinates,
+        Keyword::Mode => Group::ByHand,
         _ => Group::Mistake,
     }
 }
@@ -221,7 +224,8 @@ pub fn group_of(refusal: Refusal, word: &[u8]) -> Group
         Refusal::Unsupported => unsupported_group(keyword_of_word(word), word),
         Refusal::BadArguments => mistaken_group(keyword_of_word(word)),
         Refusal::UnknownFrame => Group::Coordinates,
-        Refusal::TooFewPoints | Refusal::NoProgMode => Group::Measuring,
+        Refusal::TooFewPoints => Group::Measuring,
+        Refusal::NoProgMode => Group::ByHand,
         Refusal::NotMillimetres => Group::Lengths,
         _ => Group::Mistake,
     }

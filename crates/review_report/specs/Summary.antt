@@ -9,7 +9,7 @@ use Rattle.review_report.specs.declared.summary.Grouped.{Grouped}
 
 -- the groups in the order of a summary
 abbrev pub order : List Group
-order = group.Coordinates ∷ group.Lengths ∷ group.Measuring ∷ group.Flow ∷ group.Motion ∷ group.Mistake ∷ group.Other ∷ group.Bookkeeping ∷ []
+order = group.Coordinates ∷ group.ByHand ∷ group.Lengths ∷ group.Measuring ∷ group.Flow ∷ group.Motion ∷ group.Mistake ∷ group.Other ∷ group.Bookkeeping ∷ []
 
 -- the number of a group in it
 abbrev pub number_of : Group → ℕ
@@ -21,6 +21,7 @@ number_of group.Motion = 4
 number_of group.Mistake = 5
 number_of group.Other = 6
 number_of group.Bookkeeping = 7
+number_of group.ByHand = 8
 
 -- some line is of this group
 abbrev pub has_lines : List Grouped → Group → Bool

@@ -95,11 +95,34 @@ fn strays_text(alloc: Global, strays: &[Stray]) -> Result<String, AllocError> {
     }
 }
 
+/// What deleting the lines that leave touches to the operator would change.
+fn hand_text(alloc: Global, strays: &[Stray]) -> Result<String, AllocError> {
+    let mut count: u64 = 0;
+    let mut first = 0;
+    let mut last = 0;
+    for stray in strays {
+        if let Stray::ByHand(line) = stray {
+            first = if count == 0 { *line } else { first };
+            last = *line;
+            count = count.saturating_add(1);
+        }
+    }
+    let lines = match count {
+        0 => format!(in alloc; "0 touches")?,
+        1 => format!(in alloc; "1 touch, at line {first}")?,
+        _ => format!(in alloc; "{count} touches, from line {first} to line {last}")?,
+    };
+    format!(in alloc;
+        "if deleted, or with PROG, the machine drives by itself to {lines}: MAN leaves this to the operator, since the place of the part is not known."
+    )
+}
+
 /// The name of a group.
 fn group_name(group: Group) -> &'static str {
     match group {
         Group::Bookkeeping => "bookkeeping",
         Group::Coordinates => "coordinate systems and alignment",
+        Group::ByHand => "manual touches",
         Group::Measuring => "measuring that is not carried out",
         Group::Flow => "control flow",
         Group::Motion => "motion",
@@ -123,7 +146,7 @@ fn consequence(group: Group) -> &'static str {
         Group::Lengths => "if deleted, all lengths are taken as millimetres, without compensation.",
         Group::Mistake => "correct them; if deleted, touches or selections may be missing.",
         Group::Other => "find out what they do before you delete them.",
-        Group::Coordinates => "",
+        Group::Coordinates | Group::ByHand => "",
     }
 }
 
@@ -140,6 +163,7 @@ fn number_of(group: Group) -> u8
         Group::Mistake => 5,
         Group::Other => 6,
         Group::Bookkeeping => 7,
+        Group::ByHand => 8,
     }
 }
 
@@ -171,18 +195,20 @@ fn group_sentence(
     Ok(said)
 }
 
-/// Adds the summary of a group. `moved` is what deleting the lines that set coordinates would change.
+/// Adds the summary of a group. `moved` is what deleting the lines that set coordinates would change, `by_hand` those of the next group.
 fn add_group(
     findings: &mut Vec<Finding>,
     grouped: &[Grouped],
     group: Group,
     moved: &str,
+    by_hand: &str,
 ) -> Result<(), AllocError>
     ensures { OnOk result (heads findings.new.items
         ≡ heads findings.old.items ++ summed group ∷ []) }
 {
     let change = match group {
         Group::Coordinates => moved,
+        Group::ByHand => by_hand,
         _ => consequence(group),
     };
     let said = group_sentence(*findings.allocator(), grouped, group, change)?;
@@ -204,8 +230,10 @@ pub(crate) fn add_summary(
         ≡ heads findings.old.items ++ sums_in grouped.now order) }
 {
     let moved = strays_text(*findings.allocator(), strays)?;
+    let by_hand = hand_text(*findings.allocator(), strays)?;
     let groups = [
         Group::Coordinates,
+        Group::ByHand,
         Group::Lengths,
         Group::Measuring,
         Group::Flow,
@@ -217,7 +245,7 @@ pub(crate) fn add_summary(
     let mut left = groups.as_slice();
     while let [group, others @ ..] = left {
         if has_lines(grouped, *group) {
-            add_group(findings, grouped, *group, moved.as_str())?;
+            add_group(findings, grouped, *group, moved.as_str(), by_hand.as_str())?;
         }
         left = others;
     }
