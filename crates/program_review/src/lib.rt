@@ -23,7 +23,7 @@ mod tasks;
 mod under_setup;
 
 pub use blocks::block_lines;
-pub use groups::{Group, group_of};
+pub use groups::Group;
 pub use lacking::lacking_for;
 pub use notices::{Notice, Passed, passed_statements};
 pub use odd::{Odd, OddNotice, near_word, odd_statements};
