@@ -1,0 +1,4 @@
+pub mod Standings
+pub mod KnownForUses
+pub mod AnswerSteps
+pub mod SendSteps

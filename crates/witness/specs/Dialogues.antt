@@ -225,10 +225,12 @@ without_rival line h u = if is_rival line u.rival && is_error h then unknowing u
 
 -- each command after a mark for the one on a line
 abbrev pub if_own : ℕ → Heard → Use → Use
-if_own line h u = if u.line == line then after_mark (use_renewed (answered_known h) u) h else u
+if_own line h u =
+    if u.line == line then after_mark (use_renewed (answered_known h) (without_rival line h u)) h
+    else without_rival line h u
 
 abbrev pub use_heard : ℕ → Heard → Use → Use
-use_heard line h u = use_renewed (all_renewed (Mark line h)) (if_own line h (without_rival line h u))
+use_heard line h u = use_renewed (all_renewed (Mark line h)) (if_own line h u)
 
 -- what is left of the commands after a mark for the one at a place
 abbrev pub left_over : List Use → ℕ → Bool → List Use

@@ -80,7 +80,7 @@ marks n (Answers line what ∷ older) = with_mark n (mark_in what older) (marks 
 abbrev pub error_at : ℕ → List Line → Bool
 error_at n [] = false
 error_at n (Sends line what ∷ older) = error_at n older
-error_at n (Answers line what ∷ older) = is_for is_error n (mark_in what older) || error_at n older
+error_at n (Answers line what ∷ older) = error_at n older || is_for is_error n (mark_in what older)
 
 -- the place of the line that was open last under a tag
 abbrev pub later : Tag → Sent → Option ℕ → Option ℕ

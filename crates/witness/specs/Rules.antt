@@ -76,7 +76,7 @@ is_at_once (Some (tag, what)) = foreign_event tag what
 -- one was sent below the line at a place
 abbrev pub at_once_below : ℕ → List Line → Bool
 at_once_below n [] = false
-at_once_below n (Sends line what ∷ older) = (nat_lt n (length older) && is_at_once what) || at_once_below n older
+at_once_below n (Sends line what ∷ older) = (is_at_once what && nat_lt n (length older)) || at_once_below n older
 at_once_below n (Answers line what ∷ older) = at_once_below n older
 
 -- there was a fault after the `&` of the line at a place
@@ -93,12 +93,15 @@ error_of (Some n) h = error_at n h
 abbrev pub is_doubtful : Sent → List Line → Bool
 is_doubtful s h = error_of (rival_of s.tag s.above) h
 
--- how far a change is by its marks, which are at most `&` and then `%`
+-- how far a change is by its marks: nothing but `&` and then `%` may have been read
+abbrev pub progress_with : Option Progress → Heard → Option Progress
+progress_with (Some progress.Sent) heard.Received = Some progress.Begun
+progress_with (Some progress.Begun) heard.Complete = Some progress.Done
+progress_with _ _ = None
+
 abbrev pub progress_of : List Heard → Option Progress
 progress_of [] = Some progress.Sent
-progress_of (heard.Received ∷ []) = Some progress.Begun
-progress_of (heard.Complete ∷ heard.Received ∷ []) = Some progress.Done
-progress_of _ = None
+progress_of (h ∷ older) = progress_with (progress_of older) h
 
 -- a change may hold if its marks are such, there was no fault after its `&`, it is not doubtful, and no line was sent below it that may be carried
 -- out at once
@@ -109,14 +112,16 @@ abbrev pub unless_fault : Bool → Sent → Progress → Option Standing
 unless_fault true s p = None
 unless_fault false s p = Some (so_far s p)
 
-abbrev pub by_progress : Sent → List Line → Option Progress → Option Standing
-by_progress s h None = None
-by_progress s h (Some progress.Sent) = Some (so_far s progress.Sent)
-by_progress s h (Some progress.Begun) = unless_fault (fault_since (place s) h) s progress.Begun
-by_progress s h (Some progress.Done) = unless_fault (fault_since (place s) h) s progress.Done
+abbrev pub by_progress : Sent → Bool → Option Progress → Option Standing
+by_progress s faulty None = None
+by_progress s faulty (Some progress.Sent) = Some (so_far s progress.Sent)
+by_progress s faulty (Some progress.Begun) = unless_fault faulty s progress.Begun
+by_progress s faulty (Some progress.Done) = unless_fault faulty s progress.Done
 
 abbrev pub standing_of : Sent → List Line → Option Standing
-standing_of s h = if is_doubtful s h || at_once_below (place s) h then None else by_progress s h (progress_of (marks (place s) h))
+standing_of s h =
+    if at_once_below (place s) h || is_doubtful s h then None
+    else by_progress s (fault_since (place s) h) (progress_of (marks (place s) h))
 
 -- ---- the last change above
 
