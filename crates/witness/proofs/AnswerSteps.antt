@@ -8,21 +8,20 @@ use Rattle.std.proofs.lemmas.Option.{slice_get-map}
 use Rattle.dme_line.specs.declared.tags.Tag.{Tag}
 use Rattle.protocol_model.specs.Replies.{tag_is}
 use Rattle.witness.proofs.KnownForUses.{known_fault, known_mark, use_fault, use_mark, seen_more, below_more}
-use Rattle.witness.specs.Asking.{Line, Sends, Answers, Signal}
-use Rattle.witness.specs.Dialogues.{Dialogue, use_renewed, use_heard, left_over, waits, is_report, reported_by, unless_crossed}
-use Rattle.witness.specs.Dialogues.{one_more, faulting, unasked, at_use, heard_at, hearing, is_out_of_turn, may_not_come, heard_under, first_under, after}
+use Rattle.witness.specs.Asking.{Line, Answers, Signal}
+use Rattle.witness.specs.Dialogues.{Dialogue, use_renewed, use_heard, waits, is_report, reported_by, unless_crossed}
+use Rattle.witness.specs.Dialogues.{one_more, faulting, at_use, hearing, is_out_of_turn, may_not_come, heard_under, after}
 use Rattle.witness.specs.Histories.{Sent, place, open_lines, first_of, line_at, without, for_line, mark_in, marks, stage_of}
 use Rattle.witness.specs.Known.{all_renewed}
 use Rattle.witness.specs.Marks.{heard_as, is_end, has_turn}
-use Rattle.witness.specs.Rules.{waits_in, comes_early, early_at, fault_of, is_fault, events_of, is_crossed, known_for, known_below, seen, witnessed}
-use Rattle.witness.specs.Rules.{early, by_mark, by_owner, by_answer, unless_report, reported_of, all_reported}
+use Rattle.witness.specs.Rules.{comes_early, early_at, fault_of, is_fault, events_of, is_crossed, known_for, known_below, seen, witnessed}
+use Rattle.witness.specs.Rules.{early, by_owner, by_answer, unless_report, all_reported}
 use Rattle.witness.specs.declared.lines.Heard.{Heard}
 use Rattle.witness.specs.declared.lines.Known.{Known}
 use Rattle.witness.specs.declared.lines.Renewal.TheVariants.{Fault}
 use Rattle.witness.specs.declared.lines.Reported.{Reported}
 use Rattle.witness.specs.declared.lines.Reported.TheVariants as reports
 use Rattle.witness.specs.declared.lines.Rule.TheVariants.{NotInTurn}
-use Rattle.witness.specs.declared.lines.Side.TheVariants.{Server}
 use Rattle.witness.specs.declared.lines.Use.{Use}
 
 -- ---- lists
@@ -120,8 +119,8 @@ result o h line tag signal at = parted o (events_of h) (is_crossed o h) (length 
 none_step : (o : Bool) (h : List Line) (line : List ℕ) (b is_last : Bool)
     → one_more (if b then witnessed o h else faulting (witnessed o h) (reports.Unasked line))
     ≡ parted o (events_of h) (is_crossed o h) (length h + 1)
-        (map (λ u. use_mark None (use_fault (not b) u)) (map (seen h) (if is_last then open_lines h else open_lines h)))
-        (known_mark None (known_fault (not b) (known_below h))) (all_reported o h ++ unless_report line b)
+    (map (λ u. use_mark None (use_fault (not b) u)) (map (seen h) (if is_last then open_lines h else open_lines h)))
+    (known_mark None (known_fault (not b) (known_below h))) (all_reported o h ++ unless_report line b)
 none_step o h line true true =
     four_parts o (events_of h) (is_crossed o h) refl (sym (map_same (map (seen h) (open_lines h)))) refl (sym (append-nil (all_reported o h)))
 none_step o h line true false =
@@ -137,35 +136,35 @@ heard_twice n e us =
 
 turn_step : (o : Bool) (h : List Line) (at : ℕ) (s : Sent) (e : Heard) (b is_last : Bool)
     → one_more (if b
-        then hearing (faulting (witnessed o h) (reports.Broken NotInTurn s.tag)) at (use_renewed (all_renewed Fault) (seen h s)) e is_last
-        else hearing (witnessed o h) at (seen h s) e is_last)
+    then hearing (faulting (witnessed o h) (reports.Broken NotInTurn s.tag)) at (use_renewed (all_renewed Fault) (seen h s)) e is_last
+    else hearing (witnessed o h) at (seen h s) e is_last)
     ≡ parted o (events_of h) (is_crossed o h) (length h + 1)
-        (map (λ u. use_mark (Some (place s, e)) (use_fault b u)) (map (seen h) (if is_last then remove (open_lines h) at else open_lines h)))
-        (known_mark (Some (place s, e)) (known_fault b (known_below h)))
-        (all_reported o h ++ (early b s.tag
-            ++ reported_by (unless_crossed (is_crossed o h) (use_mark (Some (place s, e)) (use_fault b (seen h s))).known) s.tag s.command
-                (stage_of s.command (marks (place s) h)) e))
+    (map (λ u. use_mark (Some (place s, e)) (use_fault b u)) (map (seen h) (if is_last then remove (open_lines h) at else open_lines h)))
+    (known_mark (Some (place s, e)) (known_fault b (known_below h)))
+    (all_reported o h ++ (early b s.tag
+    ++ reported_by (unless_crossed (is_crossed o h) (use_mark (Some (place s, e)) (use_fault b (seen h s))).known) s.tag s.command
+    (stage_of s.command (marks (place s) h)) e))
 turn_step o h at s e true true =
     four_parts o (events_of h) (is_crossed o h) refl
-        (ap (λ us. remove us at) (heard_twice (place s) e (map (seen h) (open_lines h)))
-            ∙ remove_map (λ u. use_mark (Some (place s, e)) (use_fault true u)) (map (seen h) (open_lines h)) at
-            ∙ ap (map (λ u. use_mark (Some (place s, e)) (use_fault true u))) (remove_map (seen h) (open_lines h) at))
-        refl (append_assoc (all_reported o h) (reports.Broken NotInTurn s.tag ∷ []) _)
+    (ap (λ us. remove us at) (heard_twice (place s) e (map (seen h) (open_lines h)))
+    ∙ remove_map (λ u. use_mark (Some (place s, e)) (use_fault true u)) (map (seen h) (open_lines h)) at
+    ∙ ap (map (λ u. use_mark (Some (place s, e)) (use_fault true u))) (remove_map (seen h) (open_lines h) at))
+    refl (append_assoc (all_reported o h) (reports.Broken NotInTurn s.tag ∷ []) _)
 turn_step o h at s e true false =
     four_parts o (events_of h) (is_crossed o h) refl (heard_twice (place s) e (map (seen h) (open_lines h)))
-        refl (append_assoc (all_reported o h) (reports.Broken NotInTurn s.tag ∷ []) _)
+    refl (append_assoc (all_reported o h) (reports.Broken NotInTurn s.tag ∷ []) _)
 turn_step o h at s e false true =
     four_parts o (events_of h) (is_crossed o h) refl
-        (remove_map (use_heard (place s) e) (map (seen h) (open_lines h)) at
-            ∙ ap (map (use_heard (place s) e)) (remove_map (seen h) (open_lines h) at))
-        refl refl
+    (remove_map (use_heard (place s) e) (map (seen h) (open_lines h)) at
+    ∙ ap (map (use_heard (place s) e)) (remove_map (seen h) (open_lines h) at))
+    refl refl
 turn_step o h at s e false false = refl
 
 same_turn : (h : List Line) (at : ℕ) (s : Sent) (e : Heard)
     → is_out_of_turn (map (seen h) (open_lines h)) at (seen h s) e ≡ comes_early h at s e
 same_turn h at s e =
     ap (λ w. has_turn s.command && (w && may_not_come (seen h s) e))
-        (ap (list_any waits) (take-map (seen h) at (open_lines h)) ∙ any_map waits (seen h) (take at (open_lines h)))
+    (ap (list_any waits) (take-map (seen h) at (open_lines h)) ∙ any_map waits (seen h) (take at (open_lines h)))
 
 none_left : {A : Type 0} (xs : List A) (at : ℕ) (b : Bool) → slice_get xs at ≡ None → (if b then remove xs at else xs) ≡ xs
 none_left xs at true e = remove_none xs at e
@@ -174,21 +173,21 @@ none_left xs at false e = refl
 slot_step : (o : Bool) (h : List Line) (signal : Signal) (at : ℕ) (slot : Option Sent) → slice_get (open_lines h) at ≡ slot
     → one_more (at_use (witnessed o h) at signal (option_map (seen h) slot))
     ≡ parted o (events_of h) (is_crossed o h) (length h + 1)
-        (map (λ u. use_mark (for_line signal slot) (use_fault (early_at h at signal slot) u))
-            (map (seen h) (if is_end signal then remove (open_lines h) at else open_lines h)))
-        (known_mark (for_line signal slot) (known_fault (early_at h at signal slot) (known_below h)))
-        (all_reported o h ++ owned o h (λ s. (use_mark (for_line signal slot) (use_fault (early_at h at signal slot) (seen h s))).known) signal at slot)
+    (map (λ u. use_mark (for_line signal slot) (use_fault (early_at h at signal slot) u))
+    (map (seen h) (if is_end signal then remove (open_lines h) at else open_lines h)))
+    (known_mark (for_line signal slot) (known_fault (early_at h at signal slot) (known_below h)))
+    (all_reported o h ++ owned o h (λ s. (use_mark (for_line signal slot) (use_fault (early_at h at signal slot) (seen h s))).known) signal at slot)
 slot_step o h signal at None e =
     four_parts o (events_of h) (is_crossed o h) refl
-        (sym (map_same (map (seen h) (open_lines h)))
-            ∙ ap (λ xs. map (λ u. u) (map (seen h) xs)) (sym (none_left (open_lines h) at (is_end signal) e)))
-        refl (sym (append-nil (all_reported o h)))
+    (sym (map_same (map (seen h) (open_lines h)))
+    ∙ ap (λ xs. map (λ u. u) (map (seen h) xs)) (sym (none_left (open_lines h) at (is_end signal) e)))
+    refl (sym (append-nil (all_reported o h)))
 slot_step o h signal at (Some s) e =
     ap (λ b. one_more (if b
-            then hearing (faulting (witnessed o h) (reports.Broken NotInTurn s.tag)) at (use_renewed (all_renewed Fault) (seen h s))
-                (heard_as s.command signal) (is_end signal)
-            else hearing (witnessed o h) at (seen h s) (heard_as s.command signal) (is_end signal)))
-        (same_turn h at s (heard_as s.command signal))
+    then hearing (faulting (witnessed o h) (reports.Broken NotInTurn s.tag)) at (use_renewed (all_renewed Fault) (seen h s))
+    (heard_as s.command signal) (is_end signal)
+    else hearing (witnessed o h) at (seen h s) (heard_as s.command signal) (is_end signal)))
+    (same_turn h at s (heard_as s.command signal))
     ∙ turn_step o h at s (heard_as s.command signal) (comes_early h at s (heard_as s.command signal)) (is_end signal)
 
 place_step : (o : Bool) (h : List Line) (line : List ℕ) (tag : Tag) (signal : Signal) (at : Option ℕ)
@@ -205,8 +204,8 @@ same_owned : (o : Bool) (h : List Line) (l : Line) (k : Sent → Known) → ((s 
 same_owned o h l k e signal at None = refl
 same_owned o h l k e signal at (Some s) =
     ap (λ x. early (comes_early h at s (heard_as s.command signal)) s.tag
-            ++ reported_by (unless_crossed (is_crossed o h) x) s.tag s.command (stage_of s.command (marks (place s) h)) (heard_as s.command signal))
-        (e s)
+    ++ reported_by (unless_crossed (is_crossed o h) x) s.tag s.command (stage_of s.command (marks (place s) h)) (heard_as s.command signal))
+    (e s)
 
 same_placed : (o : Bool) (h : List Line) (line : List ℕ) (tag : Tag) (signal : Signal) (k : Sent → Known)
     → ((s : Sent) → k s ≡ known_for s (Answers line (Some (tag, signal)) ∷ h))
@@ -221,16 +220,16 @@ uses_more : (line : List ℕ) (what : Option (Tag × Signal)) (h : List Line) (x
     → map (λ u. use_mark (mark_in what h) (use_fault (is_fault what h) u)) (map (seen h) xs) ≡ map (seen (Answers line what ∷ h)) xs
 uses_more line what h xs =
     map_twice (λ u. use_mark (mark_in what h) (use_fault (is_fault what h) u)) (seen h) (seen (Answers line what ∷ h))
-        (λ s. sym (seen_more s line what h)) xs
+    (λ s. sym (seen_more s line what h)) xs
 
 answer_step : (o : Bool) (h : List Line) (line : List ℕ) (tag : Tag) (signal : Signal)
     → result o h line tag signal (first_of tag (open_lines h)) ≡ witnessed o (Answers line (Some (tag, signal)) ∷ h)
 answer_step o h line tag signal =
     four_parts o (events_of h) (is_crossed o h) (add-one (length h))
-        (uses_more line (Some (tag, signal)) h (open_after signal (open_lines h) (first_of tag (open_lines h))))
-        (sym (below_more line (Some (tag, signal)) h))
-        (ap (λ rs. all_reported o h ++ rs) (same_placed o h line tag signal (known_at h tag signal (first_of tag (open_lines h)))
-            (λ s. sym (ap (λ (u : Use). u.known) (seen_more s line (Some (tag, signal)) h))) (first_of tag (open_lines h))))
+    (uses_more line (Some (tag, signal)) h (open_after signal (open_lines h) (first_of tag (open_lines h))))
+    (sym (below_more line (Some (tag, signal)) h))
+    (ap (λ rs. all_reported o h ++ rs) (same_placed o h line tag signal (known_at h tag signal (first_of tag (open_lines h)))
+    (λ s. sym (ap (λ (u : Use). u.known) (seen_more s line (Some (tag, signal)) h))) (first_of tag (open_lines h))))
 
 -- a witness that reads one more line of the server
 pub answers_more : (o : Bool) (h : List Line) (line : List ℕ) (what : Option (Tag × Signal))

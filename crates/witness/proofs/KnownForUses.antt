@@ -1,14 +1,14 @@
 -- What a line of the server makes of what is known, for the next line and for those that are open.
-use Rattle.std.proofs.Common.{◌≡◌, ℕ, ◌==◌, Bool, true, false, ◌&&◌, ◌||◌, not, if◌then◌else◌, List, [], ◌∷◌, Option, Some, None, refl, ap, sym, ◌∙◌}
+use Rattle.std.proofs.Common.{◌≡◌, ℕ, ◌==◌, Bool, true, false, ◌&&◌, ◌||◌, not, if◌then◌else◌, List, ◌∷◌, Option, Some, None, refl, ap, sym, ◌∙◌}
 use Rattle.std.proofs.Math.Bool.{or-false}
 use Rattle.fixed_um.specs.declared.lengths.Point.{Point}
 use Rattle.dme_line.specs.declared.commands.Csy.{Csy}
 use Rattle.dme_line.specs.declared.tags.Tag.{Tag}
 use Rattle.witness.proofs.Standings.{fault_on, mark_on, rival_hit, same, standing_more, one_error}
-use Rattle.witness.specs.Asking.{Line, Sends, Answers, Signal}
-use Rattle.witness.specs.Dialogues.{use_renewed, use_heard, if_own, without_rival, unknowing, after_mark, answered_known}
+use Rattle.witness.specs.Asking.{Line, Answers, Signal}
+use Rattle.witness.specs.Dialogues.{use_renewed, use_heard, unknowing, after_mark, answered_known}
 use Rattle.witness.specs.Histories.{Sent, place, rival_of, mark_in, is_for, with_mark, marks, error_at, stage_of}
-use Rattle.witness.specs.Known.{nothing, standing, renewed, one_renewed, all_renewed, is_rival}
+use Rattle.witness.specs.Known.{nothing, standing, one_renewed, all_renewed, is_rival}
 use Rattle.witness.specs.Marks.{is_error, is_answer, stage_with}
 use Rattle.witness.specs.Rules.{is_fault, at_once_below, fault_since, is_doubtful, progress_of, so_far, by_progress, standing_of}
 use Rattle.witness.specs.Rules.{is_done, done_before, may_hold, may_hold_for, known_below, all_for, known_for, last_tool, last_csy, last_part, last_zero, seen}
@@ -95,9 +95,9 @@ pub below_more : (line : List ℕ) (what : Option (Tag × Signal)) (h : List Lin
     → known_below (Answers line what ∷ h) ≡ known_mark (mark_in what h) (known_fault (is_fault what h) (known_below h))
 below_more line what h =
     four (claim_more (last_tool h) line what h) (claim_more (last_csy h) line what h)
-        (claim_more (last_part h) line what h) (claim_more (last_zero h) line what h)
+    (claim_more (last_part h) line what h) (claim_more (last_zero h) line what h)
     ∙ all_marked (mark_in what h) (is_fault what h) (may_hold (last_tool h) h) (may_hold (last_csy h) h)
-        (may_hold (last_part h) h) (may_hold (last_zero h) h)
+    (may_hold (last_part h) h) (may_hold (last_zero h) h)
 
 -- ---- what is known for an open line
 
@@ -134,9 +134,9 @@ answered_done a s m false false false (Some Done) = marked a m (Some (so_far s D
 
 answered : {A : Type 0} (a : A) (s : Sent) (m : Option (ℕ × Heard)) (ans before f lost faulty : Bool) (p : Option Progress)
     → (if (not ans || is_done p) && before
-        then standing a (mark_on m (fault_on f (if lost then None else by_progress s faulty p))) else None)
+    then standing a (mark_on m (fault_on f (if lost then None else by_progress s faulty p))) else None)
     ≡ claim_mark m (claim_answer ans (claim_fault f
-        (if before then standing a (if lost then None else by_progress s faulty p) else None)))
+    (if before then standing a (if lost then None else by_progress s faulty p) else None)))
 answered a s m ans false f lost faulty p = no_more (not ans || is_done p) ∙ sym (all_none m ans f) where
   no_more : (b : Bool)
       → (if b && false then standing a (mark_on m (fault_on f (if lost then None else by_progress s faulty p))) else None) ≡ None
@@ -157,14 +157,14 @@ for_more u None line what h = sym (all_none (mark_in what h) (is_for is_answer (
 for_more u (Some (a, s)) line what h =
     ap (λ o. if done_before (place s) (place u) (Answers line what ∷ h) then standing a o else None) (standing_more s line what h)
     ∙ answered a s (mark_in what h) (is_for is_answer (place u) (mark_in what h)) (done_before (place s) (place u) h) (is_fault what h)
-        (at_once_below (place s) h || is_doubtful s h) (fault_since (place s) h) (progress_of (marks (place s) h))
+    (at_once_below (place s) h || is_doubtful s h) (fault_since (place s) h) (progress_of (marks (place s) h))
 
 abbrev pub known_answer : Bool → Known → Known
 known_answer answers k = if answers then all_renewed Answer k else k
 
 all_answered : (m : Option (ℕ × Heard)) (ans f : Bool) (a : Option (List ℕ × Standing)) (c : Option (Csy × Standing)) (e g : Option (Point × Standing))
     → of_four (claim_mark m (claim_answer ans (claim_fault f a))) (claim_mark m (claim_answer ans (claim_fault f c)))
-        (claim_mark m (claim_answer ans (claim_fault f e))) (claim_mark m (claim_answer ans (claim_fault f g)))
+    (claim_mark m (claim_answer ans (claim_fault f e))) (claim_mark m (claim_answer ans (claim_fault f g)))
     ≡ known_mark m (known_answer ans (known_fault f (of_four a c e g)))
 all_answered None true true a c e g = refl
 all_answered None true false a c e g = refl
@@ -180,10 +180,10 @@ all_for_more : (u : Sent) (line : List ℕ) (what : Option (Tag × Signal)) (h :
     ≡ known_mark (mark_in what h) (known_answer (is_for is_answer (place u) (mark_in what h)) (known_fault (is_fault what h) (all_for u h)))
 all_for_more u line what h =
     four (for_more u (last_tool u.above) line what h) (for_more u (last_csy u.above) line what h)
-        (for_more u (last_part u.above) line what h) (for_more u (last_zero u.above) line what h)
+    (for_more u (last_part u.above) line what h) (for_more u (last_zero u.above) line what h)
     ∙ all_answered (mark_in what h) (is_for is_answer (place u) (mark_in what h)) (is_fault what h)
-        (may_hold_for u (last_tool u.above) h) (may_hold_for u (last_csy u.above) h)
-        (may_hold_for u (last_part u.above) h) (may_hold_for u (last_zero u.above) h)
+    (may_hold_for u (last_tool u.above) h) (may_hold_for u (last_csy u.above) h)
+    (may_hold_for u (last_part u.above) h) (may_hold_for u (last_zero u.above) h)
 
 -- nothing stays nothing
 nothing_known : (m : Option (ℕ × Heard)) (f doubtful hit ans : Bool) (k : Known)
@@ -214,12 +214,12 @@ nothing_known m f false false ans k = refl
 known_more : (u : Sent) (line : List ℕ) (what : Option (Tag × Signal)) (h : List Line)
     → known_for u (Answers line what ∷ h)
     ≡ known_mark (mark_in what h) (known_answer (is_for is_answer (place u) (mark_in what h))
-        (if rival_hit (rival_of u.tag u.above) (mark_in what h) then nothing else known_fault (is_fault what h) (known_for u h)))
+    (if rival_hit (rival_of u.tag u.above) (mark_in what h) then nothing else known_fault (is_fault what h) (known_for u h)))
 known_more u line what h =
     ap (λ d. if d then nothing else all_for u (Answers line what ∷ h)) (one_error (rival_of u.tag u.above) line what h)
     ∙ ap (λ k. if is_doubtful u h || rival_hit (rival_of u.tag u.above) (mark_in what h) then nothing else k) (all_for_more u line what h)
     ∙ nothing_known (mark_in what h) (is_fault what h) (is_doubtful u h) (rival_hit (rival_of u.tag u.above) (mark_in what h))
-        (is_for is_answer (place u) (mark_in what h)) (all_for u h)
+    (is_for is_answer (place u) (mark_in what h)) (all_for u h)
 
 -- ---- an open line
 
@@ -247,10 +247,10 @@ use_mark (Some (n, e)) u = use_heard n e u
 
 heard_use : (u : Sent) (st : Stage) (failed : Bool) (k : Known) (n : ℕ) (e : Heard) (own hit : Bool)
     → built u (if own then stage_with u.command st e else st) (failed || (own && is_error e))
-        (all_renewed (Mark n e) (known_answer (own && is_answer e) (if hit then nothing else k)))
+    (all_renewed (Mark n e) (known_answer (own && is_answer e) (if hit then nothing else k)))
     ≡ use_renewed (all_renewed (Mark n e)) (if own
-        then after_mark (use_renewed (answered_known e) (if hit then unknowing (built u st failed k) else built u st failed k)) e
-        else (if hit then unknowing (built u st failed k) else built u st failed k))
+    then after_mark (use_renewed (answered_known e) (if hit then unknowing (built u st failed k) else built u st failed k)) e
+    else (if hit then unknowing (built u st failed k) else built u st failed k))
 heard_use u st failed k n e true true = refl
 heard_use u st failed k n e true false = refl
 heard_use u st failed k n e false true = three u refl (or-false failed) refl
@@ -269,8 +269,8 @@ faulted_use u st failed false k = refl
 
 after_one : (u : Sent) (m : Option (ℕ × Heard)) (f failed : Bool) (ms : List Heard) (k : Known)
     → built u (stage_of u.command (with_mark (place u) m ms)) (failed || is_for is_error (place u) m)
-        (known_mark m (known_answer (is_for is_answer (place u) m)
-        (if rival_hit (rival_of u.tag u.above) m then nothing else known_fault f k)))
+    (known_mark m (known_answer (is_for is_answer (place u) m)
+    (if rival_hit (rival_of u.tag u.above) m then nothing else known_fault f k)))
     ≡ use_mark m (use_fault f (built u (stage_of u.command ms) failed k))
 after_one u None f failed ms k =
     three u refl (or-false failed) refl ∙ faulted_use u (stage_of u.command ms) failed f k

@@ -1,5 +1,5 @@
 -- A witness reads a line of the client: it then keeps and reports what the rules say of the lines that came.
-use Rattle.std.proofs.Common.{◌≡◌, ℕ, zero, suc, ◌+◌, ◌<◌, ◌≤◌, ◌==◌, Bool, true, false, ◌&&◌, ◌||◌, not, if◌then◌else◌, nat_lt, nat_eq, List, [], ◌∷◌, ◌++◌, length, map, take, drop}
+use Rattle.std.proofs.Common.{◌≡◌, ℕ, zero, suc, ◌+◌, ◌<◌, ◌≤◌, ◌==◌, Bool, true, false, ◌&&◌, ◌||◌, not, if◌then◌else◌, nat_lt, List, [], ◌∷◌, ◌++◌, length, map}
 use Rattle.std.proofs.Common.{Option, Some, None, is_some, refl, ap, sym, ◌∙◌, subst, append-nil, add-one, arith}
 use Rattle.std.specs.Prelude.{remove, slice_get}
 use Rattle.std.proofs.Math.Bool.{and-false, or-false}
@@ -14,26 +14,23 @@ use Rattle.dme_line.specs.declared.commands.Csy.TheVariants.{MachineCsy, PartCsy
 use Rattle.dme_line.specs.declared.tags.Tag.{Tag}
 use Rattle.dme_line.specs.declared.tags.Tag.TheVariants.{Std, Event}
 use Rattle.protocol_model.specs.Replies.{tag_is}
-use Rattle.witness.proofs.AnswerSteps.{map_twice}
 use Rattle.witness.proofs.KnownForUses.{four, built, three}
 use Rattle.witness.proofs.Standings.{same}
 use Rattle.witness.specs.Asking.{Line, Sends, Answers, Signal}
-use Rattle.witness.specs.Dialogues.{Dialogue, unknowing, at_once, one_more, sending, sending_after, sent_tagged, foreign_event, last_under, later, line_of, is_lost, with_event, after}
+use Rattle.witness.specs.Dialogues.{Dialogue, unknowing, at_once, sending, sending_after, foreign_event, last_under, with_event, after}
 use Rattle.witness.specs.Histories.{Sent, place, open_lines, first_of, line_at, without, owner, for_line, mark_in, is_for, with_mark, marks, error_at, last_of, rival_of, stage_of}
-use Rattle.witness.specs.Histories.{later as later_line, with_sent, after_answer}
+use Rattle.witness.specs.Histories.{later as later_line}
 use Rattle.witness.specs.Known.{nothing, standing, fresh, below, unless_part as unless_part_holds}
 use Rattle.witness.specs.Marks.{heard_as, is_end, is_error, is_answer}
-use Rattle.witness.specs.Rules.{is_at_once, at_once_below, fault_since, is_doubtful, error_of, progress_of, so_far, by_progress, standing_of}
+use Rattle.witness.specs.Rules.{is_at_once, at_once_below, fault_since, is_doubtful, error_of, progress_of, by_progress, standing_of}
 use Rattle.witness.specs.Rules.{tool_after, csy_after, zero_after, part_after, unless_part, below_sent, last_tool, last_csy, last_zero, last_part}
 use Rattle.witness.specs.Rules.{is_done, done_before, may_hold, may_hold_for, known_below, all_for, known_for}
-use Rattle.witness.specs.Rules.{crosses, is_crossed, events_of, all_reported, reported_at_once, seen, witnessed}
+use Rattle.witness.specs.Rules.{is_crossed, events_of, all_reported, reported_at_once, seen, witnessed}
 use Rattle.witness.specs.declared.lines.Heard.{Heard}
 use Rattle.witness.specs.declared.lines.Known.{Known}
-use Rattle.witness.specs.declared.lines.Progress.TheVariants.{Sent as SentOnly}
 use Rattle.witness.specs.declared.lines.Reported.{Reported}
 use Rattle.witness.specs.declared.lines.SentCommand.{SentCommand}
 use Rattle.witness.specs.declared.lines.SentCommand.TheVariants as sends
-use Rattle.witness.specs.declared.lines.Stage.{Stage}
 use Rattle.witness.specs.declared.lines.Stage.TheVariants as stage
 use Rattle.witness.specs.declared.lines.Standing.{Standing}
 use Rattle.witness.specs.declared.lines.Use.{Use}
@@ -79,7 +76,7 @@ all_under [] = tt
 all_under (Sends line None ∷ h) = wider (length h) (open_lines h) (all_under h)
 all_under (Sends line (Some (tag, c)) ∷ h) =
     one_under (suc (length h)) (open_lines h) (record { above = h; tag = tag; command = c })
-        (wider (length h) (open_lines h) (all_under h)) (omega arith)
+    (wider (length h) (open_lines h) (all_under h)) (omega arith)
 all_under (Answers line None ∷ h) = wider (length h) (open_lines h) (all_under h)
 all_under (Answers line (Some (tag, signal)) ∷ h) =
     ended (suc (length h)) (open_lines h) (first_of tag (open_lines h)) (is_end signal) (wider (length h) (open_lines h) (all_under h))
@@ -149,8 +146,8 @@ none_below n (Sends line what ∷ h) w =
     ap (λ b. (is_at_once what && b) || at_once_below n h) (not_less n (length h) (omega (arith, w)))
     ∙ ap (λ b. b || at_once_below n h) (and-false (is_at_once what))
     ∙ none_below n h (omega (arith, w)) where
-  not_less : (a b : ℕ) → b ≤ a → nat_lt a b ≡ false
-  not_less a b p = grind (arith, p)
+      not_less : (a b : ℕ) → b ≤ a → nat_lt a b ≡ false
+      not_less a b p = grind (arith, p)
 none_below n (Answers line what ∷ h) w = none_below n h (omega (arith, w))
 
 -- ---- the last change stands above
@@ -260,9 +257,9 @@ lost_now : (s : Sent) (line : List ℕ) (what : Option (Tag × SentCommand)) (h 
     → standing_of s (Sends line what ∷ h) ≡ None
 lost_now s line what h e p =
     ap (λ b. if ((b && nat_lt (place s) (length h)) || at_once_below (place s) h) || is_doubtful s (Sends line what ∷ h) then None
-        else by_progress s (fault_since (place s) h) (progress_of (marks (place s) h))) e
+    else by_progress s (fault_since (place s) h) (progress_of (marks (place s) h))) e
     ∙ ap (λ b. if (b || at_once_below (place s) h) || is_doubtful s (Sends line what ∷ h) then None
-        else by_progress s (fault_since (place s) h) (progress_of (marks (place s) h))) (lt-ltb (place s) (length h) p)
+    else by_progress s (fault_since (place s) h) (progress_of (marks (place s) h))) (lt-ltb (place s) (length h) p)
 
 lost_for : {A : Type 0} (u : Sent) (x : Option (A × Sent)) (line : List ℕ) (what : Option (Tag × SentCommand)) (h : List Line)
     → is_at_once what ≡ true → Bound (length h) x → may_hold_for u x (Sends line what ∷ h) ≡ None
@@ -279,9 +276,9 @@ all_lost : (u : Sent) (line : List ℕ) (what : Option (Tag × SentCommand)) (h 
     → all_for u (Sends line what ∷ h) ≡ nothing
 all_lost u line what h e w =
     four (lost_for u (last_tool u.above) line what h e (bound_most (place u) (length h) (last_tool u.above) w (tool_under u.above)))
-        (lost_for u (last_csy u.above) line what h e (bound_most (place u) (length h) (last_csy u.above) w (csy_under u.above)))
-        (lost_for u (last_part u.above) line what h e (bound_most (place u) (length h) (last_part u.above) w (part_under u.above)))
-        (lost_for u (last_zero u.above) line what h e (bound_most (place u) (length h) (last_zero u.above) w (zero_under u.above)))
+    (lost_for u (last_csy u.above) line what h e (bound_most (place u) (length h) (last_csy u.above) w (csy_under u.above)))
+    (lost_for u (last_part u.above) line what h e (bound_most (place u) (length h) (last_part u.above) w (part_under u.above)))
+    (lost_for u (last_zero u.above) line what h e (bound_most (place u) (length h) (last_zero u.above) w (zero_under u.above)))
 
 known_lost : (u : Sent) (line : List ℕ) (what : Option (Tag × SentCommand)) (h : List Line) → is_at_once what ≡ true → place u ≤ length h
     → known_for u (Sends line what ∷ h) ≡ nothing
@@ -294,7 +291,7 @@ uses_lost : (line : List ℕ) (what : Option (Tag × SentCommand)) (h : List Lin
 uses_lost line what h e [] u = refl
 uses_lost line what h e (s ∷ xs) (p, u) =
     ap (λ k. built s (stage_of s.command (marks (place s) h)) (error_at (place s) h) k ∷ map unknowing (map (seen h) xs))
-        (sym (known_lost s line what h e (omega (arith, p))))
+    (sym (known_lost s line what h e (omega (arith, p))))
     ∙ ap (λ us. seen (Sends line what ∷ h) s ∷ us) (uses_lost line what h e xs u)
 
 -- ---- any other line
@@ -308,9 +305,9 @@ same_standing : (s : Sent) (line : List ℕ) (what : Option (Tag × SentCommand)
     → standing_of s (Sends line what ∷ h) ≡ standing_of s h
 same_standing s line what h e =
     ap (λ b. if ((b && nat_lt (place s) (length h)) || at_once_below (place s) h) || is_doubtful s (Sends line what ∷ h) then None
-        else by_progress s (fault_since (place s) h) (progress_of (marks (place s) h))) e
+    else by_progress s (fault_since (place s) h) (progress_of (marks (place s) h))) e
     ∙ ap (λ d. if at_once_below (place s) h || d then None
-        else by_progress s (fault_since (place s) h) (progress_of (marks (place s) h))) (same_error (rival_of s.tag s.above) line what h)
+    else by_progress s (fault_since (place s) h) (progress_of (marks (place s) h))) (same_error (rival_of s.tag s.above) line what h)
 
 same_hold : {A : Type 0} (x : Option (A × Sent)) (line : List ℕ) (what : Option (Tag × SentCommand)) (h : List Line) → is_at_once what ≡ false
     → may_hold x (Sends line what ∷ h) ≡ may_hold x h
@@ -328,8 +325,8 @@ same_known : (u : Sent) (line : List ℕ) (what : Option (Tag × SentCommand)) (
 same_known u line what h e =
     ap (λ d. if d then nothing else all_for u (Sends line what ∷ h)) (same_error (rival_of u.tag u.above) line what h)
     ∙ ap (λ k. if is_doubtful u h then nothing else k)
-        (four (same_for u (last_tool u.above) line what h e) (same_for u (last_csy u.above) line what h e)
-            (same_for u (last_part u.above) line what h e) (same_for u (last_zero u.above) line what h e))
+    (four (same_for u (last_tool u.above) line what h e) (same_for u (last_csy u.above) line what h e)
+    (same_for u (last_part u.above) line what h e) (same_for u (last_zero u.above) line what h e))
 
 uses_same : (line : List ℕ) (what : Option (Tag × SentCommand)) (h : List Line) → is_at_once what ≡ false
     → (xs : List Sent) → map (seen h) xs ≡ map (seen (Sends line what ∷ h)) xs
@@ -356,17 +353,17 @@ new_known : (line : List ℕ) (tag : Tag) (c : SentCommand) (h : List Line) → 
 new_known line tag c h e =
     ap (λ d. if d then nothing else all_for (newest h tag c) (Sends line (Some (tag, c)) ∷ h)) (same_error (rival_of tag h) line (Some (tag, c)) h)
     ∙ ap (λ k. if error_of (rival_of tag h) h then nothing else k)
-        (four (new_for (last_tool h) line tag c h e) (new_for (last_csy h) line tag c h e)
-            (new_for (last_part h) line tag c h e) (new_for (last_zero h) line tag c h e))
+    (four (new_for (last_tool h) line tag c h e) (new_for (last_csy h) line tag c h e)
+    (new_for (last_part h) line tag c h e) (new_for (last_zero h) line tag c h e))
 
 new_standing : (line : List ℕ) (tag : Tag) (c : SentCommand) (h : List Line) → is_at_once (Some (tag, c)) ≡ false
     → standing_of (newest h tag c) (Sends line (Some (tag, c)) ∷ h) ≡ fresh (length h) (rival_of tag h) (error_of (rival_of tag h) h)
 new_standing line tag c h e =
     same_standing (newest h tag c) line (Some (tag, c)) h e
     ∙ ap (λ b. if b || error_of (rival_of tag h) h then None
-        else by_progress (newest h tag c) (fault_since (length h) h) (progress_of (marks (length h) h))) (none_below (length h) h (omega arith))
+    else by_progress (newest h tag c) (fault_since (length h) h) (progress_of (marks (length h) h))) (none_below (length h) h (omega arith))
     ∙ ap (λ ms. if error_of (rival_of tag h) h then None else by_progress (newest h tag c) (fault_since (length h) h) (progress_of ms))
-        (no_marks (length h) h (omega arith))
+    (no_marks (length h) h (omega arith))
 
 unless_hold : (x : Option (Csy × Sent)) (line : List ℕ) (what : Option (Tag × SentCommand)) (h : List Line) → is_at_once what ≡ false
     → may_hold (unless_part x) (Sends line what ∷ h) ≡ unless_part_holds (may_hold x h)
@@ -385,39 +382,39 @@ below_known : (line : List ℕ) (tag : Tag) (c : SentCommand) (h : List Line) �
 below_known line tag (sends.Foreign text) h e = refl
 below_known line tag sends.Asking h e =
     four (same_hold (last_tool h) line (Some (tag, sends.Asking)) h e) (same_hold (last_csy h) line (Some (tag, sends.Asking)) h e)
-        (same_hold (last_part h) line (Some (tag, sends.Asking)) h e) (same_hold (last_zero h) line (Some (tag, sends.Asking)) h e)
+    (same_hold (last_part h) line (Some (tag, sends.Asking)) h e) (same_hold (last_zero h) line (Some (tag, sends.Asking)) h e)
 below_known line tag (sends.Known command.StartSession) h e = refl
 below_known line tag (sends.Known command.EndSession) h e = refl
 below_known line tag (sends.Known command.ClearAllErrors) h e =
     four (same_hold (last_tool h) line (Some (tag, (sends.Known command.ClearAllErrors))) h e) (same_hold (last_csy h) line (Some (tag, (sends.Known command.ClearAllErrors))) h e)
-        (same_hold (last_part h) line (Some (tag, (sends.Known command.ClearAllErrors))) h e) (same_hold (last_zero h) line (Some (tag, (sends.Known command.ClearAllErrors))) h e)
+    (same_hold (last_part h) line (Some (tag, (sends.Known command.ClearAllErrors))) h e) (same_hold (last_zero h) line (Some (tag, (sends.Known command.ClearAllErrors))) h e)
 below_known line tag (sends.Known command.IsHomed) h e =
     four (same_hold (last_tool h) line (Some (tag, (sends.Known command.IsHomed))) h e) (same_hold (last_csy h) line (Some (tag, (sends.Known command.IsHomed))) h e)
-        (same_hold (last_part h) line (Some (tag, (sends.Known command.IsHomed))) h e) (same_hold (last_zero h) line (Some (tag, (sends.Known command.IsHomed))) h e)
+    (same_hold (last_part h) line (Some (tag, (sends.Known command.IsHomed))) h e) (same_hold (last_zero h) line (Some (tag, (sends.Known command.IsHomed))) h e)
 below_known line tag (sends.Known command.Home) h e =
     four refl (same_hold (last_csy h) line (Some (tag, (sends.Known command.Home))) h e)
-        (same_hold (last_part h) line (Some (tag, (sends.Known command.Home))) h e) (same_hold (last_zero h) line (Some (tag, (sends.Known command.Home))) h e)
+    (same_hold (last_part h) line (Some (tag, (sends.Known command.Home))) h e) (same_hold (last_zero h) line (Some (tag, (sends.Known command.Home))) h e)
 below_known line tag (sends.Known command.OnPtMeasReport) h e =
     four (same_hold (last_tool h) line (Some (tag, (sends.Known command.OnPtMeasReport))) h e) (same_hold (last_csy h) line (Some (tag, (sends.Known command.OnPtMeasReport))) h e)
-        (same_hold (last_part h) line (Some (tag, (sends.Known command.OnPtMeasReport))) h e) (same_hold (last_zero h) line (Some (tag, (sends.Known command.OnPtMeasReport))) h e)
+    (same_hold (last_part h) line (Some (tag, (sends.Known command.OnPtMeasReport))) h e) (same_hold (last_zero h) line (Some (tag, (sends.Known command.OnPtMeasReport))) h e)
 below_known line tag (sends.Known (command.GoTo p)) h e =
     four (same_hold (last_tool h) line (Some (tag, (sends.Known (command.GoTo p)))) h e) (same_hold (last_csy h) line (Some (tag, (sends.Known (command.GoTo p)))) h e)
-        (same_hold (last_part h) line (Some (tag, (sends.Known (command.GoTo p)))) h e) (same_hold (last_zero h) line (Some (tag, (sends.Known (command.GoTo p)))) h e)
+    (same_hold (last_part h) line (Some (tag, (sends.Known (command.GoTo p)))) h e) (same_hold (last_zero h) line (Some (tag, (sends.Known (command.GoTo p)))) h e)
 below_known line tag (sends.Known (command.PtMeas p d)) h e =
     four (same_hold (last_tool h) line (Some (tag, (sends.Known (command.PtMeas p d)))) h e) (same_hold (last_csy h) line (Some (tag, (sends.Known (command.PtMeas p d)))) h e)
-        (same_hold (last_part h) line (Some (tag, (sends.Known (command.PtMeas p d)))) h e) (same_hold (last_zero h) line (Some (tag, (sends.Known (command.PtMeas p d)))) h e)
+    (same_hold (last_part h) line (Some (tag, (sends.Known (command.PtMeas p d)))) h e) (same_hold (last_zero h) line (Some (tag, (sends.Known (command.PtMeas p d)))) h e)
 below_known line tag (sends.Known (command.ChangeTool t)) h e =
     four (ap (standing t) (new_standing line tag (sends.Known (command.ChangeTool t)) h e)) (same_hold (last_csy h) line (Some (tag, (sends.Known (command.ChangeTool t)))) h e)
-        (same_hold (last_part h) line (Some (tag, (sends.Known (command.ChangeTool t)))) h e) (same_hold (last_zero h) line (Some (tag, (sends.Known (command.ChangeTool t)))) h e)
+    (same_hold (last_part h) line (Some (tag, (sends.Known (command.ChangeTool t)))) h e) (same_hold (last_zero h) line (Some (tag, (sends.Known (command.ChangeTool t)))) h e)
 below_known line tag (sends.Known (command.SetCsyTransformation p)) h e =
     four (same_hold (last_tool h) line (Some (tag, (sends.Known (command.SetCsyTransformation p)))) h e) (unless_hold (last_csy h) line (Some (tag, (sends.Known (command.SetCsyTransformation p)))) h e)
-        (same_hold (last_part h) line (Some (tag, (sends.Known (command.SetCsyTransformation p)))) h e) (ap (standing (point_opposite p)) (new_standing line tag (sends.Known (command.SetCsyTransformation p)) h e))
+    (same_hold (last_part h) line (Some (tag, (sends.Known (command.SetCsyTransformation p)))) h e) (ap (standing (point_opposite p)) (new_standing line tag (sends.Known (command.SetCsyTransformation p)) h e))
 below_known line tag (sends.Known (command.SetCoordSystem c)) h e =
     four (same_hold (last_tool h) line (Some (tag, (sends.Known (command.SetCoordSystem c)))) h e) (ap (standing c) (new_standing line tag (sends.Known (command.SetCoordSystem c)) h e))
-        (same_hold (last_zero h) line (Some (tag, (sends.Known (command.SetCoordSystem c)))) h e) (same_hold (last_zero h) line (Some (tag, (sends.Known (command.SetCoordSystem c)))) h e)
+    (same_hold (last_zero h) line (Some (tag, (sends.Known (command.SetCoordSystem c)))) h e) (same_hold (last_zero h) line (Some (tag, (sends.Known (command.SetCoordSystem c)))) h e)
 below_known line tag (sends.Known command.AbortE) h e =
     four (same_hold (last_tool h) line (Some (tag, (sends.Known command.AbortE))) h e) (same_hold (last_csy h) line (Some (tag, (sends.Known command.AbortE))) h e)
-        (same_hold (last_part h) line (Some (tag, (sends.Known command.AbortE))) h e) (same_hold (last_zero h) line (Some (tag, (sends.Known command.AbortE))) h e)
+    (same_hold (last_part h) line (Some (tag, (sends.Known command.AbortE))) h e) (same_hold (last_zero h) line (Some (tag, (sends.Known command.AbortE))) h e)
 
 -- ---- the parts of a witness
 
@@ -448,23 +445,23 @@ last_pair : (tag : Tag) (h : List Line) (xs : List Sent) (found : Option ℕ)
 last_pair tag h [] found = refl
 last_pair tag h (s ∷ xs) found =
     ap (last_under tag (map (seen h) xs)) (either (tag_is s.tag tag)) ∙ last_pair tag h xs (later_line tag s found) where
-  either : (b : Bool) → (if b then Some (place s, error_at (place s) h) else pair h found) ≡ pair h (if b then Some (place s) else found)
-  either true = refl
-  either false = refl
+      either : (b : Bool) → (if b then Some (place s, error_at (place s) h) else pair h found) ≡ pair h (if b then Some (place s) else found)
+      either true = refl
+      either false = refl
 
 sent_after : (o cr : Bool) (h : List Line) (line : List ℕ) (tag : Tag) (c : SentCommand) (us : List Use) (k : Known) (rs : List Reported) (r : Option ℕ)
     → sending_after (parted o (length h) us (events_of h) cr k rs) tag c (pair (Sends line (Some (tag, c)) ∷ h) r)
     ≡ parted o (length h + 1)
-        (us ++ record {
-          tag = tag;
-          command = c;
-          line = length h;
-          stage = stage.Sent;
-          has_failed = false;
-          rival = r;
-          known = if error_of r h then nothing else k;
-        } ∷ [])
-        (with_event tag (events_of h)) (cr || (o && is_some r)) (below (fresh (length h) r (error_of r h)) c k) rs
+    (us ++ record {
+      tag = tag;
+      command = c;
+      line = length h;
+      stage = stage.Sent;
+      has_failed = false;
+      rival = r;
+      known = if error_of r h then nothing else k;
+    } ∷ [])
+    (with_event tag (events_of h)) (cr || (o && is_some r)) (below (fresh (length h) r (error_of r h)) c k) rs
 sent_after o cr h line tag c us k rs None = refl
 sent_after o cr h line tag c us k rs (Some n) = refl
 
@@ -482,13 +479,13 @@ sent_step : (o : Bool) (h : List Line) (line : List ℕ) (tag : Tag) (c : SentCo
     ≡ witnessed o (Sends line (Some (tag, c)) ∷ h)
 sent_step o h line tag c k rs known_is below_is rs_is =
     ap (sending_after (parted o (length h) (map (seen (Sends line (Some (tag, c)) ∷ h)) (open_lines h)) (events_of h) (is_crossed o h) k rs) tag c)
-        (last_pair tag (Sends line (Some (tag, c)) ∷ h) (open_lines h) None)
+    (last_pair tag (Sends line (Some (tag, c)) ∷ h) (open_lines h) None)
     ∙ sent_after o (is_crossed o h) h line tag c (map (seen (Sends line (Some (tag, c)) ∷ h)) (open_lines h)) k rs (rival_of tag h)
     ∙ five_parts o (with_event tag (events_of h)) (add-one (length h))
-        (ap (λ u. map (seen (Sends line (Some (tag, c)) ∷ h)) (open_lines h) ++ u ∷ [])
-                (new_use line tag c h (if error_of (rival_of tag h) h then nothing else k) known_is)
-            ∙ sym (map-append (seen (Sends line (Some (tag, c)) ∷ h)) (open_lines h) (newest h tag c ∷ [])))
-        refl below_is rs_is
+    (ap (λ u. map (seen (Sends line (Some (tag, c)) ∷ h)) (open_lines h) ++ u ∷ [])
+    (new_use line tag c h (if error_of (rival_of tag h) h then nothing else k) known_is)
+    ∙ sym (map-append (seen (Sends line (Some (tag, c)) ∷ h)) (open_lines h) (newest h tag c ∷ [])))
+    refl below_is rs_is
 
 -- ---- a line of the client
 
@@ -503,21 +500,21 @@ tagged_more : (o : Bool) (h : List Line) (line : List ℕ) (tag : Tag) (c : Sent
     → (if b then sending (at_once (witnessed o h) line) tag c else sending (witnessed o h) tag c) ≡ witnessed o (Sends line (Some (tag, c)) ∷ h)
 tagged_more o h line tag c true e =
     ap (λ us. sending (parted o (length h) us (events_of h) (is_crossed o h) nothing (all_reported o h ++ reported_at_once line true)) tag c)
-        (uses_lost line (Some (tag, c)) h e (open_lines h) (all_under h))
+    (uses_lost line (Some (tag, c)) h e (open_lines h) (all_under h))
     ∙ sent_step o h line tag c nothing (all_reported o h ++ reported_at_once line true)
-        (known_lost (newest h tag c) line (Some (tag, c)) h e (omega arith) ∙ sym (same (error_of (rival_of tag h) h) nothing))
-        (foreign_known line tag c h e)
-        (ap (λ b. all_reported o h ++ reported_at_once line b) (sym e))
+    (known_lost (newest h tag c) line (Some (tag, c)) h e (omega arith) ∙ sym (same (error_of (rival_of tag h) h) nothing))
+    (foreign_known line tag c h e)
+    (ap (λ b. all_reported o h ++ reported_at_once line b) (sym e))
 tagged_more o h line tag c false e =
     ap (λ us. sending (parted o (length h) us (events_of h) (is_crossed o h) (known_below h) (all_reported o h)) tag c)
-        (uses_same line (Some (tag, c)) h e (open_lines h))
+    (uses_same line (Some (tag, c)) h e (open_lines h))
     ∙ sent_step o h line tag c (known_below h) (all_reported o h) (new_known line tag c h e) (sym (below_known line tag c h e))
-        (sym (append-nil (all_reported o h)) ∙ ap (λ b. all_reported o h ++ reported_at_once line b) (sym e))
+    (sym (append-nil (all_reported o h)) ∙ ap (λ b. all_reported o h ++ reported_at_once line b) (sym e))
 
 -- a witness that reads one more line of the client
 pub sends_more : (o : Bool) (h : List Line) (line : List ℕ) (what : Option (Tag × SentCommand))
     → after (witnessed o h) (Sends line what) ≡ witnessed o (Sends line what ∷ h)
 sends_more o h line None =
     five_parts o (events_of h) (add-one (length h)) (uses_lost line None h refl (open_lines h) (all_under h))
-        (sym (or-false (is_crossed o h)) ∙ ap (λ b. is_crossed o h || b) (sym (and-false o))) refl refl
+    (sym (or-false (is_crossed o h)) ∙ ap (λ b. is_crossed o h || b) (sym (and-false o))) refl refl
 sends_more o h line (Some (tag, c)) = tagged_more o h line tag c (foreign_event tag c) refl

@@ -1,11 +1,11 @@
 -- What a line of the server makes of a change that may hold.
-use Rattle.std.proofs.Common.{◌≡◌, ℕ, ◌==◌, Bool, true, false, ◌&&◌, ◌||◌, if◌then◌else◌, List, [], ◌∷◌, Option, Some, None, refl, ap, sym, ◌∙◌}
+use Rattle.std.proofs.Common.{◌≡◌, ℕ, ◌==◌, Bool, true, false, ◌&&◌, ◌||◌, if◌then◌else◌, List, ◌∷◌, Option, Some, None, refl, ap, sym, ◌∙◌}
 use Rattle.dme_line.specs.declared.tags.Tag.{Tag}
-use Rattle.witness.specs.Asking.{Line, Sends, Answers, Signal}
+use Rattle.witness.specs.Asking.{Line, Answers, Signal}
 use Rattle.witness.specs.Histories.{Sent, place, rival_of, mark_in, is_for, with_mark, marks, error_at}
 use Rattle.witness.specs.Known.{renewed, is_rival, with_mark as marked_standing}
 use Rattle.witness.specs.Marks.{is_error, is_received}
-use Rattle.witness.specs.Rules.{is_fault, at_once_below, fault_since, is_doubtful, error_of, progress_with, progress_of, so_far, by_progress, standing_of}
+use Rattle.witness.specs.Rules.{is_fault, at_once_below, fault_since, is_doubtful, error_of, progress_with, progress_of, by_progress, standing_of}
 use Rattle.witness.specs.declared.lines.Heard.{Heard}
 use Rattle.witness.specs.declared.lines.Heard.TheVariants as heard
 use Rattle.witness.specs.declared.lines.Progress.{Progress}
@@ -193,9 +193,9 @@ pub standing_more : (s : Sent) (line : List ℕ) (what : Option (Tag × Signal))
     → standing_of s (Answers line what ∷ h) ≡ mark_on (mark_in what h) (fault_on (is_fault what h) (standing_of s h))
 standing_more s line what h =
     ap (λ d. if at_once_below (place s) h || d then None
-        else by_progress s (fault_since (place s) (Answers line what ∷ h)) (progress_of (marks (place s) (Answers line what ∷ h))))
-        (one_error (rival_of s.tag s.above) line what h)
+    else by_progress s (fault_since (place s) (Answers line what ∷ h)) (progress_of (marks (place s) (Answers line what ∷ h))))
+    (one_error (rival_of s.tag s.above) line what h)
     ∙ ap (λ p. if at_once_below (place s) h || (is_doubtful s h || rival_hit (rival_of s.tag s.above) (mark_in what h)) then None
-        else by_progress s (fault_since (place s) (Answers line what ∷ h)) p) (more_progress (place s) (mark_in what h) (marks (place s) h))
+    else by_progress s (fault_since (place s) (Answers line what ∷ h)) p) (more_progress (place s) (mark_in what h) (marks (place s) h))
     ∙ of_any s (mark_in what h) (is_fault what h) (at_once_below (place s) h) (is_doubtful s h) (fault_since (place s) h)
-        (progress_of (marks (place s) h))
+    (progress_of (marks (place s) h))

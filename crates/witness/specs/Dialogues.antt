@@ -15,7 +15,7 @@ use Rattle.protocol_model.specs.Open.{asks_data}
 use Rattle.protocol_model.specs.Replies.{tag_is}
 use Rattle.protocol_model.specs.declared.held.Datum.{Datum}
 use Rattle.protocol_model.specs.declared.held.Datum.TheVariants as datum
-use Rattle.witness.specs.Asking.{Line, Sends, Answers, Signal, Ack, Given, Done, Error}
+use Rattle.witness.specs.Asking.{Line, Sends, Answers, Signal, Given}
 use Rattle.witness.specs.Known.{nothing, all_renewed, below, fresh, is_rival, tool_of, frame_of, frame_in, done}
 use Rattle.witness.specs.Marks.{heard_as, is_end, step, stage_with, is_error, is_answer, has_turn, is_foreign}
 use Rattle.witness.specs.declared.lines.Heard.{Heard}

@@ -1,10 +1,9 @@
 -- The lines of both ends of a connection, the newest first, and which answers belong to which line of the client (this profile).
-use Rattle.std.specs.Prelude.{ℕ, ◌==◌, Bool, true, false, ◌&&◌, ◌||◌, if◌then◌else◌, List, [], ◌∷◌, ◌++◌, length, position, remove, slice_get}
+use Rattle.std.specs.Prelude.{ℕ, ◌==◌, Bool, false, ◌&&◌, ◌||◌, if◌then◌else◌, List, [], ◌∷◌, ◌++◌, length, position, remove, slice_get}
 use Rattle.std.specs.Prelude.{Option, Some, None}
 use Rattle.dme_line.specs.declared.tags.Tag.{Tag}
-use Rattle.dme_line.specs.declared.tags.Tag.TheVariants.{Std, Event}
 use Rattle.protocol_model.specs.Replies.{tag_is}
-use Rattle.witness.specs.Asking.{Line, Sends, Answers, Signal, Ack, Given, Done, Error}
+use Rattle.witness.specs.Asking.{Line, Sends, Answers, Signal}
 use Rattle.witness.specs.Marks.{heard_as, is_end, is_error, stage_with}
 use Rattle.witness.specs.declared.lines.Heard.{Heard}
 use Rattle.witness.specs.declared.lines.SentCommand.{SentCommand}

@@ -4,3 +4,4 @@ pub mod Known
 pub mod Histories
 pub mod Rules
 pub mod Dialogues
+pub mod Examples

@@ -1,5 +1,5 @@
 -- What a mark does to a command (this profile).
-use Rattle.std.specs.Prelude.{ℕ, Bool, true, false, not, List, Option, Some, None, Result, Ok, Err}
+use Rattle.std.specs.Prelude.{Bool, true, false, not, Some, None, Result, Ok, Err}
 use Rattle.fixed_um.specs.declared.lengths.Point.{Point}
 use Rattle.dme_line.specs.Kinds.{kind_of, is_event_kind}
 use Rattle.dme_line.specs.declared.commands.Kind.{Kind}
