@@ -61,6 +61,8 @@ pub fn lines_at_once_forget()
         ≡ neither ∷ [] }
     ensures in_between { known_in true (ready ++ (touch 3 ++ (hears 3 Ack ++ (hears 3 given ++
         (untagged ++ hears 3 Done))))) ≡ neither ∷ [] }
+    ensures event { known_in true (ready ++ (touch 3 ++ (hears 3 Ack ++ (hears 3 given
+        ++ (event 42 (Foreign (codes "x")) ++ hears 3 Done))))) ≡ neither ∷ [] }
     ensures before_the_end { known_in true (machine 2 ++ (done 2 ++ (tool 1 ++ (hears 1 Ack ++
         (untagged ++ (hears 1 Done ++ (touch 3 ++ touched 3))))))) ≡ neither ∷ [] }
     ensures above { known_in true (untagged ++ (ready ++ (touch 3 ++ touched 3))) ≡ both ∷ [] }
