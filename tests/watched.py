@@ -81,9 +81,9 @@ def ledger(folder):
     return ended(dme(folder, "ledger", "--up", "1.up", "--down", "1.down"))[1]
 
 
-def must_not_be_blamed(folder):
-    """No line of either end breaks a rule."""
-    status, out, error = ended(dme(folder, "judge", "--up", "1.up", "--down", "1.down"))
+def must_not_be_blamed(folder, number=1):
+    """No line of either end of a connection breaks a rule."""
+    status, out, error = ended(dme(folder, "judge", "--up", f"{number}.up", "--down", f"{number}.down"))
     must((status, out.partition("\n")[0], error) == (0, "dme: no line breaks the rules", ""), "one of our ends is blamed", out, error)
 
 
