@@ -2,7 +2,7 @@
 //!
 //! - `files`: the files that a command reads, as sources
 //! - `text_files`: files that are replaced as a whole
-//! - `locked_files`: files that are open for appending, and that no other run may share
+//! - `locked_files`: files that are locked before they are read, appended to or replaced, and that no other run may share
 //! - `explaining`: what is shown for an order whose files are refused
 //! - `faults`: what is printed on standard error, and the exit status
 #![tactic(auto)]
@@ -16,5 +16,5 @@ mod text_files;
 pub use explaining::{of_output, refused, tell_audit, text_of};
 pub use faults::Fault;
 pub use files::{NamedSource, Sources};
-pub use locked_files::{LockedFile, NextFile};
-pub use text_files::{NamedFile, beside, is_whole, may_be_replaced};
+pub use locked_files::{HeldFile, LockedFile, NextFile};
+pub use text_files::{NamedFile, beside, is_plain, is_whole, may_be_replaced};

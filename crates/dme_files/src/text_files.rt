@@ -5,8 +5,9 @@ ghost use Rattle.std.specs.Prelude.{None};
 use byte_ports::Failed;
 use dme_orders::TextFile;
 use std::alloc::{AllocError, Global};
-use std::fs::{self, OpenFile};
-use std::io::Write;
+use std::fs::{self, OpenFile, OpenOptions};
+use std::io::{self, ErrorKind, Write};
+use std::os::unix::fs::{OpenOptionsExt, PermissionsExt};
 use std::rt::Files;
 
 /// The name of the file next to that of this name, in which its next text is made.
@@ -23,6 +24,36 @@ pub fn may_be_replaced<R: Files>(rt: &R, name: &str) -> bool {
         Ok(found) => found.is_file(),
         Err(_) => true,
     }
+}
+
+/// Whether a plain file has this name, or else nothing has. It fails for anything else: for a link as `FilesystemLoop`.
+pub fn is_plain<R: Files>(rt: &R, name: &str) -> io::Result<bool> {
+    match fs::symlink_metadata(rt, name) {
+        Ok(found) if found.is_file() => Ok(true),
+        Ok(found) if found.is_symlink() => Err(io::Error::from(ErrorKind::FilesystemLoop)),
+        Ok(found) if found.is_dir() => Err(io::Error::from(ErrorKind::IsADirectory)),
+        Ok(_) => Err(io::Error::from(ErrorKind::InvalidInput)),
+        Err(error) if error.kind() == ErrorKind::NotFound => Ok(false),
+        Err(error) => Err(error),
+    }
+}
+
+/// Makes a new file next to the one of this name, with its mode. A plain file that an earlier run has left there is removed first; with
+/// anything else there it fails as `AlreadyExists`.
+pub fn make_beside<R: Files>(rt: &R, name: &str, beside: &str) -> io::Result<R::File> {
+    if let Ok(true) = is_plain(rt, beside) {
+        fs::remove_file(rt, beside)?;
+    }
+    let mut how = OpenOptions::new();
+    how.append(true).create_new(true);
+    let Ok(found) = fs::metadata(rt, name) else {
+        return how.open(rt, beside);
+    };
+    let mode = found.permissions();
+    how.mode(mode.mode());
+    let file = how.open(rt, beside)?;
+    let _ = file.set_permissions(mode);
+    Ok(file)
 }
 
 /// Whether the file of this name has that many bytes: one that was removed or cut during a run has not.
@@ -61,21 +92,15 @@ impl<'a, R: Files + AllocGlobal> NamedFile<'a, R> {
     }
 
     /// Writes all of a text to a new file, forces it to the device, and only then gives the file its name.
-    fn settle(
-        &self,
-        file: &mut R::File,
-        text: &[u8],
-        beside: &str,
-        name: &str,
-    ) -> std::io::Result<()> {
+    fn settle(&self, file: &mut R::File, text: &[u8], beside: &str, name: &str) -> io::Result<()> {
         file.write_all(text)?;
         file.sync_all()?;
         fs::rename(self.rt, beside, name)
     }
 
     /// Puts a new file in the place of the one of this name. What was begun and could not be put there is removed.
-    fn put(&self, text: &[u8], beside: &str, name: &str) -> std::io::Result<()> {
-        let mut file = fs::create(self.rt, beside)?;
+    fn put(&self, text: &[u8], beside: &str, name: &str) -> io::Result<()> {
+        let mut file = make_beside(self.rt, name, beside)?;
         let result = self.settle(&mut file, text, beside, name);
         if result.is_err() {
             let _ = fs::remove_file(self.rt, beside);
@@ -84,7 +109,7 @@ impl<'a, R: Files + AllocGlobal> NamedFile<'a, R> {
     }
 
     /// Writes a text to the file of this name, which is replaced if it may be.
-    fn write(&self, text: &[u8], beside: &str, name: &str) -> std::io::Result<()> {
+    fn write(&self, text: &[u8], beside: &str, name: &str) -> io::Result<()> {
         if may_be_replaced(self.rt, name) {
             self.put(text, beside, name)
         } else {

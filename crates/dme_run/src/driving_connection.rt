@@ -4,6 +4,7 @@ ghost use Rattle.std.specs.Prelude.{◌≡◌, true};
 ghost use Rattle.client_core.specs.Clients.{is_window, may_connect};
 
 use crate::growing_files::{FeaturesFile, ReportedContacts};
+use crate::holding::HeldFiles;
 use crate::keeping::{is_confirmed, tell_kept, tell_next};
 use crate::progress::Progress;
 use crate::recording::{Follower, Lent, OpenRecord, RecordWords, open_record, record_words};
@@ -125,6 +126,8 @@ struct Call<'a> {
     wait: Option<u32>,
     /// What the program asks for, with the lines.
     tasks: &'a [TaskLine],
+    /// The files that grow once the connection is made.
+    held: &'a mut HeldFiles,
 }
 
 /// What is shown of the lines of a client's connection of this number, and of its server's errors.
@@ -213,45 +216,25 @@ fn drive_watched<R: Files + Eprint + Clock + AllocGlobal, F: TextFile, O: Sink>(
     result
 }
 
-/// The file of contacts of this name, if one is named, which begins with these acts.
-fn reported_contacts<R: Files<File = File> + AllocGlobal>(
-    rt: &R,
-    name: Option<&str>,
-    told: &ServerLedger,
-) -> Result<Option<ReportedContacts>, OrderFault> {
-    match name {
-        Some(name) => Ok(Some(ReportedContacts::open(rt, name, told)?)),
-        None => Ok(None),
-    }
-}
-
-/// The features file of this name that is to grow, if one is named.
-fn growing_features<R: Files<File = File> + AllocGlobal>(
-    rt: &R,
-    name: Option<&str>,
-    client: &Client,
-) -> Result<Option<FeaturesFile>, OrderFault> {
-    match name {
-        Some(name) => FeaturesFile::open(rt, name, client),
-        None => Ok(None),
-    }
-}
-
 /// A client comes to a connection, and its files grow from then on. `before` is the number of the connection, and what servers reported
 /// before it.
 fn begin_connection<R: Files<File = File> + Eprint + AllocGlobal>(
     rt: &R,
     client: &mut Client,
     before: (u64, &ServerLedger),
-    call: &Call<'_>,
+    call: &mut Call<'_>,
     follower: &mut Follower<'_, '_, R>,
 ) -> Result<(), Fault>
     requires { may_connect before.0 client.old.client ≡ true }
 {
     let (number, told) = before;
-    let growing = growing_features(rt, call.features.as_deref(), client)?;
-    let contacts = reported_contacts(rt, call.order.contacts.as_deref(), told)?;
-    follower.grow(growing, contacts);
+    if let Some(held) = call.held.features.take() {
+        follower.features = Some(FeaturesFile::begin(rt, held, client)?);
+    }
+    if let Some(name) = call.order.contacts.as_deref() {
+        let held = call.held.contacts.take();
+        follower.contacts = Some(ReportedContacts::begin(rt, name, held, told)?);
+    }
     match client.connected(number) {
         Ok(()) => Ok(()),
         Err(_) => Err(Fault::Order(OrderFault::Memory)),
@@ -263,7 +246,7 @@ fn drive_connection<R: Files<File = File> + Eprint + Clock + AllocGlobal, F: Tex
     rt: &R,
     client: &mut Client,
     before: (u64, &ServerLedger),
-    limited: (&TcpStream, &Call<'_>, &Patience<'_, R>),
+    limited: (&TcpStream, &mut Call<'_>, &Patience<'_, R>),
     follower: &mut Follower<'_, '_, R>,
     outputs: &mut RunOutputs<F, O>,
 ) -> Result<RunEnd, Fault>
@@ -291,7 +274,7 @@ fn drive_called<
     rt: &R,
     client: &mut Client,
     before: (u64, &ServerLedger),
-    limited: (&Call<'_>, &Patience<'_, R>),
+    limited: (&mut Call<'_>, &Patience<'_, R>),
     follower: &mut Follower<'_, '_, R>,
     outputs: &mut RunOutputs<F, O>,
 ) -> Result<Option<RunEnd>, Fault>
@@ -346,7 +329,7 @@ fn drive_client<
         rt,
         client,
         before,
-        (&*call, patience),
+        (&mut *call, patience),
         follower,
         &mut outputs,
     );
@@ -610,11 +593,11 @@ fn drive_read<
 ) -> Result<u8, Fault>
     requires { is_window call.old.window ≡ true }
 {
-    let Some(words) = record else {
+    let (Some(words), Some(held)) = (record, call.held.record.take()) else {
         return drive_program(rt, read, call, patience);
     };
     let (kept, program) = read;
-    let opened = open_record(rt, sources, words, &program, &kept);
+    let opened = open_record(rt, sources, (words, held), &program, &kept);
     drop(kept);
     match opened {
         Ok(open) => drive_recorded(rt, open, program, call, patience),
@@ -638,6 +621,7 @@ fn drive_input<
     given: (RunInput, Option<RecordWords>),
     limited: (Option<u32>, &Patience<'_, R>),
 ) -> Result<u8, Fault>
+    held: &mut HeldFiles,
     requires { is_window order.old.window ≡ true }
 {
     let (input, record) = given;
@@ -660,6 +644,7 @@ fn drive_input<
         wait,
         tasks: tasks.as_slice(),
     };
+        held,
     let done = drive_read(rt, sources, read, record, &mut call, patience);
     drop(call);
     drop(tasks);
@@ -681,13 +666,16 @@ fn run_limited<
     record: Option<RecordWords>,
     limits: (Option<u32>, &Patience<'_, R>),
 ) -> Result<u8, Fault>
+    held: &mut HeldFiles,
     requires { is_window order.old.window ≡ true }
 {
     let is_explained = order.explain;
+    let name = record.as_ref().map(|words| words.name.as_str());
+    held.hold(rt, name, (order.features.as_deref(), order.contacts.as_deref()))?;
     let mut sources = Sources::new(rt, is_explained);
     let names = take_names(rt.alloc(), order);
     match read_run(rt, &mut sources, names, is_explained) {
-        Ok(input) => drive_input(rt, &mut sources, order, (input, record), limits),
+        Ok(input) => drive_input(rt, &mut sources, order, (input, record), limits, held),
         Err(fault) => Err(fault),
     }
 }
@@ -713,7 +701,9 @@ fn run_order<
         order.explain,
     )?;
     let patience = Patience::new(rt, timeout, order.stop.take());
-    let done = run_limited(rt, order, record, (wait, &patience));
+    let mut held = HeldFiles::none();
+    let done = run_limited(rt, order, record, (wait, &patience), &mut held);
+    held.release(rt);
     drop(patience);
     done
 }

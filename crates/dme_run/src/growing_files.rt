@@ -1,10 +1,11 @@
 // The files of features and of contacts, which grow during a run.
 
+use crate::holding::NamedHeld;
 use byte_ports::Failed;
 use client_core::Client;
 use contact_ledger::lines::cut_line;
 use contact_ledger::{ServerLedger, add_entry, write_contacts, write_features};
-use dme_files::{LockedFile, NamedFile, NextFile, beside, is_whole, may_be_replaced};
+use dme_files::{LockedFile, NamedFile, NextFile, beside, is_whole};
 use dme_orders::{OrderFault, TextFile};
 use record_keeping::GrowingFile;
 use std::alloc::{AllocError, Global};
@@ -26,33 +27,23 @@ fn text_after(alloc: Global, client: &Client, held: usize) -> Result<Vec<u8>, Al
     Ok(text)
 }
 
-/// A new file with this text in the place of that of this name, with its name. That must be one that may be replaced.
+/// A new file with this text in the place of one that is held, with its name.
 fn made_file<R: Files<File = File> + AllocGlobal>(
     rt: &R,
-    name: &str,
+    held: NamedHeld,
     text: &[u8],
 ) -> Result<(String, LockedFile), OrderFault> {
-    let name = String::from_str(rt.alloc(), name)?;
+    let (name, old) = held;
     let beside = beside(rt.alloc(), name.as_str())?;
-    let made = NextFile::replacing(rt, name.as_str(), beside.as_str(), text);
+    let names = (name.as_str(), beside.as_str());
+    let made = match NextFile::of(rt, old, names, text) {
+        Ok(next) => next.put(rt, names.0, names.1),
+        Err(error) => Err(error),
+    };
     drop(beside);
     match made {
         Ok(file) => Ok((name, file)),
         Err(_) => Err(OrderFault::CannotWrite(name)),
-    }
-}
-
-/// Likewise, without a file if that of this name may not be replaced.
-fn maybe_made_file<R: Files<File = File> + AllocGlobal>(
-    rt: &R,
-    name: &str,
-    text: &[u8],
-) -> Result<(String, Option<LockedFile>), OrderFault> {
-    if may_be_replaced(rt, name) {
-        let (name, file) = made_file(rt, name, text)?;
-        Ok((name, Some(file)))
-    } else {
-        Ok((String::from_str(rt.alloc(), name)?, None))
     }
 }
 
@@ -81,27 +72,23 @@ pub struct FeaturesFile {
 }
 
 impl FeaturesFile {
-    /// Opens the file of this name, whose text are the features that a client holds from then on; none if something of this name is a
-    /// link, a device or a pipe, which is written only at the end.
-    pub fn open<R: Files<File = File> + AllocGlobal>(
+    /// The file that is held, whose text are the features that a client holds from then on.
+    pub fn begin<R: Files<File = File> + AllocGlobal>(
         rt: &R,
-        name: &str,
+        held: NamedHeld,
         client: &Client,
-    ) -> Result<Option<FeaturesFile>, OrderFault> {
-        if !may_be_replaced(rt, name) {
-            return Ok(None);
-        }
+    ) -> Result<FeaturesFile, OrderFault> {
         let mut text = Vec::new(rt.alloc());
         write_features(&mut text, client.features())?;
-        let made = made_file(rt, name, text.as_slice());
+        let made = made_file(rt, held, text.as_slice());
         drop(text);
         let (name, file) = made?;
-        Ok(Some(FeaturesFile {
+        Ok(FeaturesFile {
             name,
             file,
             held: client.features().len(),
             has_failed: false,
-        }))
+        })
     }
 
     /// Appends what a client has completed since; false if that could not be written for the first time. If memory runs out, it is appended
@@ -139,8 +126,8 @@ pub struct ReportedContacts {
 }
 
 impl ReportedContacts {
-    /// Opens the file of this name, whose text are these acts from then on. A link, a device or a pipe is written only at the end.
-    pub fn open<R: Files<File = File> + AllocGlobal>(
+    /// The file of this name, whose text are these acts from then on. One that is not held is written only at the end.
+    pub fn begin<R: Files<File = File> + AllocGlobal>(
         rt: &R,
         name: &str,
         ledger: &ServerLedger,
@@ -148,10 +135,17 @@ impl ReportedContacts {
         let mut text = Vec::new(rt.alloc());
         write_contacts(&mut text, ledger)?;
         let filed = text.len();
-        let (name, file) = maybe_made_file(rt, name, text.as_slice())?;
+        let (name, file) = match held {
+            Some(held) => {
+                let (name, file) = made_file(rt, held, text.as_slice())?;
+                (name, Some(file))
+            }
+            None => (String::from_str(rt.alloc(), name)?, None),
+        };
         Ok(ReportedContacts {
             name,
             text,
+        held: Option<NamedHeld>,
             told: 0,
             filed,
             file,

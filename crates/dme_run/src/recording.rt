@@ -3,12 +3,13 @@
 ghost use Rattle.std.specs.Prelude.{None};
 
 use crate::growing_files::{FeaturesFile, ReportedContacts, replace_whole};
+use crate::holding::NamedHeld;
 use crate::keeping::tell_kept;
 use crate::progress::Progress;
 use byte_ports::{PullFault, pull_all};
 use client_core::Client;
 use contact_ledger::{Feature, FeatureLedger};
-use dme_files::{Fault, LockedFile, Sources, is_whole, text_of};
+use dme_files::{Fault, HeldFile, LockedFile, Sources, is_whole, text_of};
 use dme_orders::OrderFault;
 use dme_sockets::Talk;
 use dmis_program::Program;
@@ -19,7 +20,7 @@ use refusal_guide::{Refused, write_other_part, write_other_program, write_place}
 use run_record::{RecordFault, is_part, read_record};
 use std::alloc::{AllocError, Global};
 use std::cell::RefCell;
-use std::fs::{self, File};
+use std::fs::File;
 use std::rt::Files;
 
 /// Which record a run keeps, and of which part.
@@ -61,14 +62,6 @@ pub fn record_words(
     }))
 }
 
-/// Whether something has this name that is no plain file, nor a link to one: no record can be kept there.
-fn is_no_file<R: Files>(rt: &R, name: &str) -> bool {
-    match fs::metadata(rt, name) {
-        Ok(found) => !found.is_file(),
-        Err(_) => false,
-    }
-}
-
 /// The whole text of a record's file; none if there is no such file.
 fn read_whole<R: Files + Input + AllocGlobal>(
     rt: &R,
@@ -76,9 +69,6 @@ fn read_whole<R: Files + Input + AllocGlobal>(
     words: &RecordWords,
 ) -> Result<Vec<u8>, OrderFault> {
     let name = String::from_str(rt.alloc(), words.name.as_str())?;
-    if is_no_file(rt, name.as_str()) {
-        return Err(OrderFault::CannotWrite(name));
-    }
     let mut source = sources.kept(Some(name));
     match pull_all(rt.alloc(), &mut source, 1_000_000) {
         Ok(text) => Ok(text),
@@ -178,61 +168,51 @@ fn beginning_of(
     }
 }
 
-/// Opens the file of a record of that many bytes, and gives it the text that a run continues from; none if that is not possible.
-fn locked_record<R: Files<File = File>>(
+/// Reads the record that is held, gives it the text that a run continues from, and reports what it gives back.
+fn begun<R: Files + Input + Eprint + AllocGlobal>(
     rt: &R,
-    name: &str,
-    length: usize,
-    beginning: &Beginning,
-) -> Option<LockedFile> {
-    let mut file = LockedFile::open(rt, name, length).ok()?;
-    match file.begin(beginning.text.as_slice(), beginning.held, length) {
-        Ok(()) => Some(file),
-        Err(_) => None,
-    }
-}
-
-/// Opens the record whose text was read, and reports what it gives back.
-fn open_text<R: Files<File = File> + Eprint + AllocGlobal>(
-    rt: &R,
-    text: &[u8],
-    words: &mut RecordWords,
+    sources: &mut Sources<'_, R>,
+    (words, file): (&RecordWords, &mut HeldFile),
     program: &Program,
     features: &FeatureLedger,
-) -> Result<OpenRecord, Fault> {
-    let beginning = beginning_of(rt.alloc(), text, words, program, features)?;
-    let opened = locked_record(rt, words.name.as_str(), text.len(), &beginning);
-    let name = std::mem::replace(&mut words.name, String::new(rt.alloc()));
-    let Some(file) = opened else {
+) -> Result<Beginning, Fault> {
+    let text = read_whole(rt, sources, words)?;
+    let beginning = beginning_of(rt.alloc(), text.as_slice(), words, program, features)?;
+    let name = words.name.as_str();
+    if file
+        .begin(beginning.text.as_slice(), beginning.held, text.len())
+        .is_err()
+    {
+        let name = String::from_str(rt.alloc(), name)?;
         return Err(Fault::Order(OrderFault::CannotWrite(name)));
-    };
-    tell_kept(
-        rt,
-        name.as_str(),
-        beginning.features.list(),
-        program.features(),
-    );
-    Ok(OpenRecord {
-        name,
-        beginning,
-        file,
-    })
+    }
+    tell_kept(rt, name, beginning.features.list(), program.features());
+    Ok(beginning)
 }
 
-/// Reads and opens the record of a run of a program. It is refused, and left as it is, if it is damaged, or is of another part or program,
-/// or does not give back these features.
+/// Reads and begins the record of a run of a program, which is held. It is refused, and left as it is, if it is damaged, or is of another part
+/// or program, or does not give back these features.
 pub fn open_record<R: Files<File = File> + Input + Eprint + AllocGlobal>(
     rt: &R,
     sources: &mut Sources<'_, R>,
-    mut words: RecordWords,
+    (words, held): (RecordWords, NamedHeld),
     program: &Program,
     features: &FeatureLedger,
 ) -> Result<OpenRecord, Fault> {
-    let text = read_whole(rt, sources, &words)?;
-    let opened = open_text(rt, text.as_slice(), &mut words, program, features);
-    drop(text);
+    let (name, mut file) = held;
+    let begun = begun(rt, sources, (&words, &mut file), program, features);
     drop(words);
-    opened
+    match begun {
+        Ok(beginning) => Ok(OpenRecord {
+            name,
+            beginning,
+            file: file.growing(),
+        }),
+        Err(fault) => {
+            file.release(rt, name.as_str());
+            Err(fault)
+        }
+    }
 }
 
 /// Who follows a run: reports its progress, and keeps its features file and the contacts that its server reports. It has the recorder of
@@ -248,8 +228,10 @@ pub struct Follower<'a, 'b, R: Eprint> {
     /// The name of the record, if there is one.
     name: Option<String>,
     recorder: Option<Recorder<LockedFile>>,
-    features: Option<FeaturesFile>,
-    contacts: Option<ReportedContacts>,
+    /// The features file that grows, from the connection on.
+    pub features: Option<FeaturesFile>,
+    /// Likewise the file of contacts.
+    pub contacts: Option<ReportedContacts>,
     is_told: bool,
 }
 
@@ -276,12 +258,6 @@ impl<'a, 'b, R: Eprint> Follower<'a, 'b, R> {
             contacts: None,
             is_told: false,
         }
-    }
-
-    /// From now on a features file grows too, and one of contacts.
-    pub fn grow(&mut self, features: Option<FeaturesFile>, contacts: Option<ReportedContacts>) {
-        self.features = features;
-        self.contacts = contacts;
     }
 
     /// The recorder goes to the run that it records.
