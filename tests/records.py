@@ -264,8 +264,10 @@ def check_forced(folder):
     port = free_port()
     server = served(folder, port)
     words = run_words(port)
-    calls = calls_of(folder, [*words[:-1], "--features", "part.features", words[-1]])
+    calls = calls_of(folder, [*words[:-1], "--features", "part.features", "--progress", words[-1]])
     server.communicate(timeout=SECONDS)
+    shown = [n for n, (call, _, text) in enumerate(calls) if call == "write" and text.startswith(', "feature 1 of 1: C')]
+    must(len(shown) == 1, "the feature is not reported once", str(calls))
     for name, told in (("part.record", "COMPLETED C"), ("part.features", "FEATURE C")):
         at = [n for n, (call, file, text) in enumerate(calls) if call == "write" and file.endswith(f"/{name}") and told in text]
         must(at, f"{name}: no feature is appended", str(calls))
@@ -273,6 +275,7 @@ def check_forced(folder):
             after = calls[n + 1:n + 2]
             forced = [file for call, file, _ in after if call == "fdatasync" and file.endswith(f"/{name}")]
             must(forced, f"{name}: a feature is not forced to the device", str(after))
+        must(at[0] + 1 < shown[0], f"{name}: the feature is reported before it is forced to the device", str(calls))
 
 
 CHECKS = (check_torn, check_edited, check_no_files, check_read_only, check_held, check_waiting, check_link, check_next, check_removed, check_forced)

@@ -364,7 +364,8 @@ fn drive_followed<
     let (call, patience) = limited;
     let (number, _) = before;
     let progress = Progress::new(rt, call.order.progress, client.program().features().len());
-    let mut follower = Follower::new(rt, progress, talk, number, record);
+    let counts = (number, client.features().len());
+    let mut follower = Follower::new(rt, progress, talk, counts, record);
     let verdict = drive_client(rt, client, before, (call, patience), &mut follower);
     let ended = follower.end();
     drop(follower);
@@ -620,8 +621,8 @@ fn drive_input<
     order: &mut Run,
     given: (RunInput, Option<RecordWords>),
     limited: (Option<u32>, &Patience<'_, R>),
-) -> Result<u8, Fault>
     held: &mut HeldFiles,
+) -> Result<u8, Fault>
     requires { is_window order.old.window ≡ true }
 {
     let (input, record) = given;
@@ -643,8 +644,8 @@ fn drive_input<
         log,
         wait,
         tasks: tasks.as_slice(),
-    };
         held,
+    };
     let done = drive_read(rt, sources, read, record, &mut call, patience);
     drop(call);
     drop(tasks);
@@ -665,13 +666,17 @@ fn run_limited<
     order: &mut Run,
     record: Option<RecordWords>,
     limits: (Option<u32>, &Patience<'_, R>),
-) -> Result<u8, Fault>
     held: &mut HeldFiles,
+) -> Result<u8, Fault>
     requires { is_window order.old.window ≡ true }
 {
-    let is_explained = order.explain;
     let name = record.as_ref().map(|words| words.name.as_str());
-    held.hold(rt, name, (order.features.as_deref(), order.contacts.as_deref()))?;
+    held.hold(
+        rt,
+        name,
+        (order.features.as_deref(), order.contacts.as_deref()),
+    )?;
+    let is_explained = order.explain;
     let mut sources = Sources::new(rt, is_explained);
     let names = take_names(rt.alloc(), order);
     match read_run(rt, &mut sources, names, is_explained) {

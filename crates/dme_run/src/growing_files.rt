@@ -107,6 +107,15 @@ impl FeaturesFile {
         }
         !self.has_failed
     }
+
+    /// How many features of a client are in the file; all, if it has failed.
+    pub fn known(&self, client: &Client) -> usize {
+        if self.has_failed {
+            client.features().len()
+        } else {
+            self.held
+        }
+    }
 }
 
 /// The contacts that a server reports during a run, in a file that grows by each turn and that the whole text is put in the place of in the
@@ -130,6 +139,7 @@ impl ReportedContacts {
     pub fn begin<R: Files<File = File> + AllocGlobal>(
         rt: &R,
         name: &str,
+        held: Option<NamedHeld>,
         ledger: &ServerLedger,
     ) -> Result<ReportedContacts, OrderFault> {
         let mut text = Vec::new(rt.alloc());
@@ -145,7 +155,6 @@ impl ReportedContacts {
         Ok(ReportedContacts {
             name,
             text,
-        held: Option<NamedHeld>,
             told: 0,
             filed,
             file,

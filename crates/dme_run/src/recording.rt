@@ -225,6 +225,8 @@ pub struct Follower<'a, 'b, R: Eprint> {
     pub talk: &'a RefCell<Talk<'b, R>>,
     /// The number of the connection.
     number: u64,
+    /// How many features were kept, or are on the device and were reported.
+    shown: usize,
     /// The name of the record, if there is one.
     name: Option<String>,
     recorder: Option<Recorder<LockedFile>>,
@@ -240,7 +242,7 @@ impl<'a, 'b, R: Eprint> Follower<'a, 'b, R> {
         rt: &'b R,
         progress: Progress<'b, R>,
         talk: &'a RefCell<Talk<'b, R>>,
-        number: u64,
+        (number, shown): (u64, usize),
         record: Option<(String, Recorder<LockedFile>)>,
     ) -> Self {
         let (name, recorder) = match record {
@@ -252,6 +254,7 @@ impl<'a, 'b, R: Eprint> Follower<'a, 'b, R> {
             progress,
             talk,
             number,
+            shown,
             name,
             recorder,
             features: None,
@@ -301,6 +304,26 @@ impl<'a, 'b, R: Eprint + AllocGlobal> Follower<'a, 'b, R> {
             let _ = eprintln!(self.rt; "dme: cannot write {name}");
         }
     }
+
+    /// Likewise, to the features file what it has completed. How many features the file has then, or could have, had it not failed.
+    fn add_features(&mut self, client: &Client) -> usize {
+        let Some(file) = &mut self.features else {
+            return client.features().len();
+        };
+        if !file.follow(self.rt.alloc(), client) {
+            let name = &file.name;
+            let _ = eprintln!(self.rt; "dme: cannot write {name}");
+        }
+        file.known(client)
+    }
+
+    /// Reports the completed features up to this number, if asked.
+    fn show_features(&mut self, features: &[Feature], count: usize) {
+        for at in self.shown..count.min(features.len()) {
+            self.progress.completed(at + 1, &features[at]);
+            self.shown = at + 1;
+        }
+    }
 }
 
 /// Ends a record: its name if its file has failed, or is gone or cut, and cannot be replaced by the whole text. Fails only if out of memory.
@@ -340,20 +363,14 @@ impl<'a, 'b, R: Files + Eprint + AllocGlobal> Follower<'a, 'b, R> {
 impl<'a, 'b, R: Eprint + AllocGlobal> Watcher for Follower<'a, 'b, R> {
     ghost told = { λ _. None };
 
-    fn completed(&mut self, number: usize, feature: &Feature) {
-        self.progress.completed(number, feature);
-    }
+    /// Nothing yet: the feature is reported once it is on the device.
+    fn completed(&mut self, _number: usize, _feature: &Feature) {}
 
     fn turned(&mut self, client: &Client) {
         self.errors();
         self.add_contacts(client);
-        let Some(file) = &mut self.features else {
-            return;
-        };
-        if !file.follow(self.rt.alloc(), client) {
-            let name = &file.name;
-            let _ = eprintln!(self.rt; "dme: cannot write {name}");
-        }
+        let count = self.add_features(client);
+        self.show_features(client.features(), count);
     }
 }
 
@@ -384,9 +401,7 @@ impl<'c, 'a, 'b, R: Eprint + AllocGlobal> Reports for Lent<'c, 'a, 'b, R> {
 impl<'c, 'a, 'b, R: Eprint + AllocGlobal> Watcher for Lent<'c, 'a, 'b, R> {
     ghost told = { λ _. None };
 
-    fn completed(&mut self, number: usize, feature: &Feature) {
-        self.follower.completed(number, feature);
-    }
+    fn completed(&mut self, _number: usize, _feature: &Feature) {}
 
     fn turned(&mut self, client: &Client) {
         self.follower.turned(client);
