@@ -6,7 +6,7 @@
   record: then each of its features still has the points of its own contacts, as this script reads them. It is never changed.
 - A record that another run holds, that may only be read, that is a folder, a pipe or a device, or that cannot be made is refused before a
   connection is made; so is a file of features or contacts that another run holds, also while that one waits for its server.
-- A link for a record or for features is refused. FILE.new is made anew: a plain file in its place is removed, and a link is not written
+- Two files of a call that are one, by a link or otherwise, are refused. A link for a record or for features is refused. FILE.new is made anew: a plain file in its place is removed, and a link is not written
   through. FILE keeps its mode. A record that is removed during the run is whole at the end.
 - What completes a feature is forced to the device before anything else is written or sent, in the record and in the features file, and only
   then is the feature reported, as `strace` sees it.
@@ -207,6 +207,18 @@ def check_link(folder):
     must((folder / "other").read_bytes() == RECORD[:400], "the file of a link was changed")
 
 
+def check_names(folder):
+    """Two names of one file, by a link or a second name, are refused before anything is opened."""
+    (folder / "part.record").write_bytes(RECORD)
+    (folder / "link").symlink_to("part.record")
+    os.link(folder / "part.record", folder / "other")
+    for name in ("link", "other", "../" + folder.name + "/part.record"):
+        run = dme(folder, *run_words(free_port())[:-1], "--log", name, "circle.dmis")
+        shown = f"error: '--record' and '--log' name one file, '{name}'\n\nFor more information, try '--help'.\n"
+        must((run.returncode, run.stdout, run.stderr) == (2, "", shown), name, run.stderr)
+        must((folder / "part.record").read_bytes() == RECORD, name, "the record was changed")
+
+
 def check_next(folder):
     """FILE.new is made anew, and only if nothing but a plain file is in its place; FILE keeps its mode."""
     (folder / "other").write_text("other")
@@ -278,7 +290,7 @@ def check_forced(folder):
         must(at[0] + 1 < shown[0], f"{name}: the feature is reported before it is forced to the device", str(calls))
 
 
-CHECKS = (check_torn, check_edited, check_no_files, check_read_only, check_held, check_waiting, check_link, check_next, check_removed, check_forced)
+CHECKS = (check_torn, check_edited, check_no_files, check_read_only, check_held, check_waiting, check_link, check_names, check_next, check_removed, check_forced)
 
 
 def passes(check):

@@ -36,8 +36,8 @@ pub enum Fault {
     NoPart(String),
     /// A part without a record.
     PartAlone,
-    /// The same file for features and for a record.
-    OneFile(String),
+    /// One file for these two options, of which one is written.
+    OneFile(&'static str, &'static str, String),
     /// A number of seconds that an option does not take.
     NoSeconds(&'static str, String),
     /// A run that is not confirmed.
@@ -84,12 +84,14 @@ fn write_seconds<W: fmt::Write>(
     )
 }
 
-/// Likewise, for features and a record that are one file.
-fn write_one_file<W: fmt::Write>(f: &mut fmt::Formatter<W>, name: &str) -> fmt::Result {
-    write!(
-        f,
-        "error: '--features' and '--record' name one file, '{name}'"
-    )?;
+/// Likewise, for two options that name one file.
+fn write_one_file<W: fmt::Write>(
+    f: &mut fmt::Formatter<W>,
+    first: &str,
+    second: &str,
+    name: &str,
+) -> fmt::Result {
+    write!(f, "error: '{first}' and '{second}' name one file, '{name}'")?;
     write!(f, "\n\nFor more information, try '--help'.\n")
 }
 
@@ -129,7 +131,7 @@ impl fmt::Display for Fault {
                 f,
                 "the argument '--part <TEXT>' requires '--record <FILE>'",
             ),
-            Fault::OneFile(name) => write_one_file(f, name),
+            Fault::OneFile(first, second, name) => write_one_file(f, first, second, name),
             Fault::NoSeconds(option, text) => write_seconds(f, option, text),
             Fault::NotConfirmed => write!(f, "dme: not confirmed, nothing has moved\n"),
             Fault::Record(refusal) => write_record(f, refusal, ""),
@@ -211,8 +213,8 @@ impl Fault {
     {
         match self {
             Fault::Words(_) | Fault::NotUtf8 | Fault::NoCode(_) | Fault::NoForm(_) => 2,
-            Fault::Misfits(_) | Fault::NoPart(_) | Fault::PartAlone | Fault::OneFile(_) => 2,
-            Fault::NoSeconds(_, _) | Fault::NoFindingForm(_) => 2,
+            Fault::Misfits(_) | Fault::NoPart(_) | Fault::PartAlone => 2,
+            Fault::OneFile(_, _, _) | Fault::NoSeconds(_, _) | Fault::NoFindingForm(_) => 2,
             Fault::NotConfirmed | Fault::Record(_) | Fault::ExplainedRecord(_, _) => 1,
             Fault::Order(cause) | Fault::Explained(cause, _) => cause.status(),
         }

@@ -8,6 +8,7 @@ use std::alloc::{AllocError, Global};
 use std::fs::{self, OpenFile, OpenOptions};
 use std::io::{self, ErrorKind, Write};
 use std::os::unix::fs::{OpenOptionsExt, PermissionsExt};
+use std::path::Path;
 use std::rt::Files;
 
 /// The name of the file next to that of this name, in which its next text is made.
@@ -16,6 +17,14 @@ pub fn beside(alloc: Global, name: &str) -> Result<String, AllocError> {
     beside.push_str(name)?;
     beside.push_str(".new")?;
     Ok(beside)
+}
+
+/// The name of the folder that a file of this name is in.
+pub fn folder_of(name: &str) -> &str {
+    match Path::new(name).parent() {
+        Some(folder) if !folder.as_str().is_empty() => folder.as_str(),
+        _ => ".",
+    }
 }
 
 /// Whether a new file may take this name: nothing has it, or a plain file, which is no link, no device and no pipe.

@@ -4,7 +4,7 @@ ghost use Rattle.std.specs.Prelude.{◌≡◌, true};
 ghost use Rattle.client_core.specs.Clients.{is_window, may_connect};
 
 use crate::growing_files::{FeaturesFile, ReportedContacts};
-use crate::holding::HeldFiles;
+use crate::holding::{HeldFiles, refuse_meeting};
 use crate::keeping::{is_confirmed, tell_kept, tell_next};
 use crate::progress::Progress;
 use crate::recording::{Follower, Lent, OpenRecord, RecordWords, open_record, record_words};
@@ -699,12 +699,8 @@ fn run_order<
 {
     let timeout = seconds_of("timeout", order.timeout.take())?;
     let wait = seconds_of("wait", order.wait.take())?;
-    let record = record_words(
-        order.record.take(),
-        order.part.take(),
-        order.features.as_deref(),
-        order.explain,
-    )?;
+    refuse_meeting(rt, order)?;
+    let record = record_words(order.record.take(), order.part.take(), order.explain)?;
     let patience = Patience::new(rt, timeout, order.stop.take());
     let mut held = HeldFiles::none();
     let done = run_limited(rt, order, record, (wait, &patience), &mut held);

@@ -1,10 +1,34 @@
 // The files that a run appends to or replaces. They are locked before any file is read, and before a connection is made.
 
-use dme_files::{HeldFile, is_plain};
+use dme_files::{CalledFiles, Fault, HeldFile, is_plain};
 use dme_orders::OrderFault;
+use dme_words::Run;
 use std::fs::File;
 use std::io::ErrorKind;
 use std::rt::Files;
+
+/// Refuses two files of a run that are one, or of which one is made next to the other, if either is written.
+pub fn refuse_meeting<R: Files + AllocGlobal>(rt: &R, order: &Run) -> Result<(), Fault> {
+    let mut files = CalledFiles::new(rt);
+    for (option, name) in [("--setup", &order.setup), ("[PROGRAM]", &order.program)] {
+        if name.as_str() != "-" {
+            files.add(option, name.as_str(), false)?;
+        }
+    }
+    let named = [
+        ("--features", &order.features, true),
+        ("--record", &order.record, true),
+        ("--contacts", &order.contacts, true),
+        ("--log", &order.log, true),
+        ("--stop", &order.stop, false),
+    ];
+    for (option, name, is_written) in named {
+        if let Some(name) = name {
+            files.add(option, name.as_str(), is_written)?;
+        }
+    }
+    Ok(())
+}
 
 /// A file that is held, with its name.
 pub type NamedHeld = (String, HeldFile);

@@ -34,12 +34,10 @@ pub struct RecordWords {
     pub explain: bool,
 }
 
-/// Which record the words of a command line name. A part needs a record, and has from 1 to 64 printable bytes; the record and the features
-/// are two files.
+/// Which record the words of a command line name. A part needs a record, and has from 1 to 64 printable bytes.
 pub fn record_words(
     record: Option<String>,
     part: Option<String>,
-    features: Option<&str>,
     explain: bool,
 ) -> Result<Option<RecordWords>, Fault> {
     let part = match part {
@@ -52,9 +50,6 @@ pub fn record_words(
             None => Ok(None),
         };
     };
-    if features == Some(name.as_str()) {
-        return Err(Fault::OneFile(name));
-    }
     Ok(Some(RecordWords {
         name,
         part,
