@@ -9,7 +9,7 @@
 - Two files of a call that are one, by a link or otherwise, are refused. A link for a record or for features is refused. FILE.new is made anew: a plain file in its place is removed, and a link is not written
   through. FILE keeps its mode. A record that is removed during the run is whole at the end.
 - What completes a feature is forced to the device before anything else is written or sent, in the record and in the features file, and only
-  then is the feature reported, as `strace` sees it.
+  then is the feature reported, as `strace` sees it. The name of each file that a run makes is forced there directly after its text.
 
 `run` calls this; by itself: tests/records.py
 """
@@ -290,7 +290,22 @@ def check_forced(folder):
         must(at[0] + 1 < shown[0], f"{name}: the feature is reported before it is forced to the device", str(calls))
 
 
-CHECKS = (check_torn, check_edited, check_no_files, check_read_only, check_held, check_waiting, check_link, check_names, check_next, check_removed, check_forced)
+def check_settled(folder):
+    """Each file that a run makes is forced to the device, and directly after it its name; at the end features and contacts are made again."""
+    port = free_port()
+    server = served(folder, port)
+    words = run_words(port)
+    calls = calls_of(folder, [*words[:-1], "--features", "part.features", "--contacts", "part.contacts", words[-1]])
+    server.communicate(timeout=SECONDS)
+    forced = [(n, pathlib.Path(file).name) for n, (call, file, _) in enumerate(calls) if call == "fsync" and not pathlib.Path(file).is_dir()]
+    made = ["part.features.new", "part.contacts.new"]
+    must([name for _, name in forced] == ["part.record", *made, *made], "other files are forced to the device", str(forced))
+    for n, name in forced:
+        must(calls[n + 1][:2] == ("fsync", str(folder.resolve())), name, "its name is not forced to the device", str(calls[n + 1]))
+
+
+CHECKS = (check_torn, check_edited, check_no_files, check_read_only, check_held, check_waiting, check_link, check_names, check_next, check_removed, check_forced,
+          check_settled)
 
 
 def passes(check):

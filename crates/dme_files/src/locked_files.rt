@@ -1,6 +1,6 @@
 // Files that are open for appending, and locked.
 
-use crate::text_files::{is_plain, make_beside};
+use crate::text_files::{is_plain, make_beside, settle_name};
 use byte_ports::Failed;
 use record_keeping::GrowingFile;
 use std::fs::{self, File, OpenOptions};
@@ -44,7 +44,7 @@ impl HeldFile {
     }
 
     /// Gives the file this text, of which it has the first bytes, and forces it to the device. What follows them is torn and is cut off.
-    pub fn begin(&mut self, text: &[u8], held: usize, length: usize) -> io::Result<()> {
+    fn fill(&mut self, text: &[u8], held: usize, length: usize) -> io::Result<()> {
         if held < length {
             self.file.set_len(held as u64)?;
         }
@@ -52,6 +52,18 @@ impl HeldFile {
             self.file.write_all(&text[held..])?;
         }
         self.file.sync_all()
+    }
+
+    /// Likewise, and forces its name there too.
+    pub fn begin<R: Files<File = File>>(
+        &mut self,
+        rt: &R,
+        name: &str,
+        text: &[u8],
+        (held, length): (usize, usize),
+    ) -> io::Result<()> {
+        self.fill(text, held, length)?;
+        settle_name(rt, name)
     }
 
     /// This file, which grows from now on.
@@ -94,7 +106,7 @@ fn new_file<R: Files<File = File>>(
     };
     let mut result = new.file.try_lock().map_err(io::Error::from);
     if result.is_ok() {
-        result = new.begin(text, 0, 0);
+        result = new.fill(text, 0, 0);
     }
     match result {
         Ok(()) => Ok(new),
@@ -133,7 +145,7 @@ impl NextFile {
         }
     }
 
-    /// Gives the new file its name.
+    /// Gives the new file its name, and forces that to the device.
     pub fn put<R: Files<File = File>>(
         self,
         rt: &R,
@@ -141,14 +153,14 @@ impl NextFile {
         beside: &str,
     ) -> io::Result<LockedFile> {
         let NextFile { old, new } = self;
-        match fs::rename(rt, beside, name) {
-            Ok(()) => Ok(new.growing()),
-            Err(error) => {
-                new.release(rt, beside);
-                old.release(rt, name);
-                Err(error)
-            }
+        if let Err(error) = fs::rename(rt, beside, name) {
+            new.release(rt, beside);
+            old.release(rt, name);
+            return Err(error);
         }
+        drop(old);
+        settle_name(rt, name)?;
+        Ok(new.growing())
     }
 
     /// Removes the new file, and the old one if there was none before.

@@ -27,6 +27,14 @@ pub fn folder_of(name: &str) -> &str {
     }
 }
 
+/// Forces to the device that a file of this name was made, if its folder can be opened.
+pub fn settle_name<R: Files>(rt: &R, name: &str) -> io::Result<()> {
+    match fs::open(rt, folder_of(name)) {
+        Ok(folder) => folder.sync_all(),
+        Err(_) => Ok(()),
+    }
+}
+
 /// Whether a new file may take this name: nothing has it, or a plain file, which is no link, no device and no pipe.
 pub fn may_be_replaced<R: Files>(rt: &R, name: &str) -> bool {
     match fs::symlink_metadata(rt, name) {
@@ -100,11 +108,12 @@ impl<'a, R: Files + AllocGlobal> NamedFile<'a, R> {
         })
     }
 
-    /// Writes all of a text to a new file, forces it to the device, and only then gives the file its name.
+    /// Writes all of a text to a new file, forces it to the device, and only then gives the file its name, which is forced there too.
     fn settle(&self, file: &mut R::File, text: &[u8], beside: &str, name: &str) -> io::Result<()> {
         file.write_all(text)?;
         file.sync_all()?;
-        fs::rename(self.rt, beside, name)
+        fs::rename(self.rt, beside, name)?;
+        settle_name(self.rt, name)
     }
 
     /// Puts a new file in the place of the one of this name. What was begun and could not be put there is removed.

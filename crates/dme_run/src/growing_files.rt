@@ -5,7 +5,7 @@ use byte_ports::Failed;
 use client_core::Client;
 use contact_ledger::lines::cut_line;
 use contact_ledger::{ServerLedger, add_entry, write_contacts, write_features};
-use dme_files::{LockedFile, NamedFile, NextFile, beside, is_whole};
+use dme_files::{LockedFile, NamedFile, NextFile, beside};
 use dme_orders::{OrderFault, TextFile};
 use record_keeping::GrowingFile;
 use std::alloc::{AllocError, Global};
@@ -119,7 +119,7 @@ impl FeaturesFile {
 }
 
 /// The contacts that a server reports during a run, in a file that grows by each turn and that the whole text is put in the place of in the
-/// end, if it did not grow.
+/// end.
 #[derive(Drop)]
 pub struct ReportedContacts {
     pub name: String,
@@ -127,7 +127,7 @@ pub struct ReportedContacts {
     text: Vec<u8>,
     /// How many of the acts that the client has counted on its connection are in the text.
     told: usize,
-    /// How many bytes of the text the file has; all must be written in the end if it has none, or has failed.
+    /// How many bytes of the text the file has.
     filed: usize,
     file: Option<LockedFile>,
     /// Whether memory ran out for an act.
@@ -196,9 +196,6 @@ impl ReportedContacts {
     pub fn end<R: Files + AllocGlobal>(&mut self, rt: &R) -> Result<Option<String>, OrderFault> {
         if self.is_short {
             return Err(OrderFault::Memory);
-        }
-        if self.file.is_some() && is_whole(rt, self.name.as_str(), self.text.len()) {
-            return Ok(None);
         }
         if replace_whole(rt, self.name.as_str(), self.text.as_slice())? {
             return Ok(None);

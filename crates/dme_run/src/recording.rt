@@ -164,7 +164,7 @@ fn beginning_of(
 }
 
 /// Reads the record that is held, gives it the text that a run continues from, and reports what it gives back.
-fn begun<R: Files + Input + Eprint + AllocGlobal>(
+fn begun<R: Files<File = File> + Input + Eprint + AllocGlobal>(
     rt: &R,
     sources: &mut Sources<'_, R>,
     (words, file): (&RecordWords, &mut HeldFile),
@@ -174,8 +174,9 @@ fn begun<R: Files + Input + Eprint + AllocGlobal>(
     let text = read_whole(rt, sources, words)?;
     let beginning = beginning_of(rt.alloc(), text.as_slice(), words, program, features)?;
     let name = words.name.as_str();
+    let lengths = (beginning.held, text.len());
     if file
-        .begin(beginning.text.as_slice(), beginning.held, text.len())
+        .begin(rt, name, beginning.text.as_slice(), lengths)
         .is_err()
     {
         let name = String::from_str(rt.alloc(), name)?;
