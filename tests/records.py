@@ -118,9 +118,9 @@ def check_no_files(folder):
     port = free_port()
     os.mkfifo(folder / "pipe")
     (folder / "nothing").mkdir()
-    for name in ("pipe", "nothing", "/dev/null", "missing/part.record"):
+    for name, why in (("pipe", ""), ("nothing", ": is a folder"), ("/dev/null", ""), ("missing/part.record", "")):
         run = dme(folder, *run_words(port, name))
-        must((run.returncode, run.stdout, run.stderr) == (1, "", f"dme: cannot write {name}\n"), name, run.stderr)
+        must((run.returncode, run.stdout, run.stderr) == (1, "", f"dme: cannot write {name}{why}\n"), name, run.stderr)
 
 
 def check_read_only(folder):
@@ -132,7 +132,7 @@ def check_read_only(folder):
     other = {"user": 65534} if os.geteuid() == 0 else {}
     words = [program, *run_words(free_port())]
     run = subprocess.run(words, cwd=folder, capture_output=True, text=True, timeout=SECONDS, **other)
-    must((run.returncode, run.stdout, run.stderr) == (1, "", "dme: cannot write part.record\n"), "read-only record", run.stderr)
+    must((run.returncode, run.stdout, run.stderr) == (1, "", "dme: cannot write part.record: no permission\n"), "read-only record", run.stderr)
     must((folder / "part.record").read_bytes() == RECORD, "read-only record was changed")
 
 
@@ -155,7 +155,7 @@ def check_held(folder):
                 connection.recv(1)
                 held = (folder / name).read_bytes()
                 run = dme(folder, *file_words(free_port(), option, name))
-                must((run.returncode, run.stderr) == (1, f"dme: cannot write {name}\n"), f"held {name}", run.stderr)
+                must((run.returncode, run.stderr) == (1, f"dme: cannot write {name}: locked by another run\n"), f"held {name}", run.stderr)
                 must((folder / name).read_bytes() == held, f"held {name} was changed")
                 connection.close()
             finally:
@@ -177,7 +177,7 @@ def check_waiting(folder):
             time.sleep(0.01)
         time.sleep(0.3)
         run = dme(folder, *file_words(free_port(), "--features", "part.features"))
-        must((run.returncode, run.stderr) == (1, "dme: cannot write part.features\n"), "features of a run that waits", run.stderr)
+        must((run.returncode, run.stderr) == (1, "dme: cannot write part.features: locked by another run\n"), "features of a run that waits", run.stderr)
         first.communicate(timeout=SECONDS)
         left = (folder / "part.features").read_bytes() if (folder / "part.features").exists() else None
         must(left == before, "features of a run that waited in vain", left)
@@ -201,7 +201,7 @@ def check_link(folder):
     for option in ("--record", "--features"):
         for target in ("other", "nowhere"):
             (folder / "link").symlink_to(target)
-            refused(folder, "link", option, "link")
+            refused(folder, "link", option, "link: is a link")
             must((folder / "link").is_symlink() and not (folder / "nowhere").exists(), option, target)
             (folder / "link").unlink()
     must((folder / "other").read_bytes() == RECORD[:400], "the file of a link was changed")
@@ -229,7 +229,7 @@ def check_next(folder):
         port = free_port()
         server = served(folder, port)
         run = dme(folder, *file_words(port, option, "part"))
-        must((run.returncode, run.stdout, run.stderr) == (1, "", "dme: cannot write part\n"), option, "a link", run.stderr)
+        must((run.returncode, run.stdout, run.stderr) == (1, "", "dme: cannot write part: its .new is no plain file\n"), option, "a link", run.stderr)
         must((folder / "other").read_text() == "other" and (folder / "part").read_text() == "", option, "a link is written")
         server.kill()
         server.communicate()

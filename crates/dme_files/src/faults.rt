@@ -52,6 +52,31 @@ pub enum Fault {
     Explained(OrderFault, String),
 }
 
+/// Why a file cannot be written, as it is shown after the file's name; nothing if the system says nothing that helps.
+pub fn why(kind: ErrorKind) -> &'static str {
+    match kind {
+        ErrorKind::WouldBlock => ": locked by another run",
+        ErrorKind::FilesystemLoop => ": is a link",
+        ErrorKind::IsADirectory => ": is a folder",
+        ErrorKind::AlreadyExists => ": its .new is no plain file",
+        ErrorKind::StorageFull | ErrorKind::QuotaExceeded => ": the device is full",
+        ErrorKind::PermissionDenied | ErrorKind::ReadOnlyFilesystem => ": no permission",
+        ErrorKind::OutOfMemory => ": out of memory",
+        _ => "",
+    }
+}
+
+/// The name of a file that cannot be written, with the reason if there is memory for it.
+pub fn unwritten(mut name: String, why: &'static str) -> String {
+    let _ = name.push_str(why);
+    name
+}
+
+/// What is shown for a file that cannot be written, with the reason.
+pub fn cannot_write(name: String, kind: ErrorKind) -> OrderFault {
+    OrderFault::CannotWrite(unwritten(name, why(kind)))
+}
+
 /// Writes why a command line is refused, as `clap` writes it.
 fn write_refusal<W: fmt::Write>(f: &mut fmt::Formatter<W>, why: &str) -> fmt::Result {
     write!(f, "error: {why}\n\nFor more information, try '--help'.\n")

@@ -16,7 +16,7 @@ mod names;
 mod text_files;
 
 pub use explaining::{of_output, refused, tell_audit, text_of};
-pub use faults::Fault;
+pub use faults::{Fault, cannot_write, unwritten};
 pub use files::{NamedSource, Sources};
 pub use locked_files::{HeldFile, LockedFile, NextFile};
 pub use names::{CalledFiles, meet};

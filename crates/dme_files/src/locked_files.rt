@@ -1,5 +1,6 @@
 // Files that are open for appending, and locked.
 
+use crate::faults::why;
 use crate::text_files::{is_plain, make_beside, settle_name};
 use byte_ports::Failed;
 use record_keeping::GrowingFile;
@@ -71,6 +72,7 @@ impl HeldFile {
         LockedFile {
             file: self.file,
             has_failed: false,
+            why: "",
             is_settled: false,
         }
     }
@@ -81,6 +83,8 @@ impl HeldFile {
 pub struct LockedFile {
     file: File,
     has_failed: bool,
+    /// Why it has failed, as it is shown.
+    why: &'static str,
     /// Whether all that was appended is known to be on the device.
     is_settled: bool,
 }
@@ -170,6 +174,13 @@ impl NextFile {
     }
 }
 
+impl LockedFile {
+    /// Why the file has failed, as it is shown after its name.
+    pub fn why(&self) -> &'static str {
+        self.why
+    }
+}
+
 impl GrowingFile for LockedFile {
     ghost use Rattle.std.specs.Prelude.{None};
 
@@ -188,8 +199,9 @@ impl GrowingFile for LockedFile {
         }
         match result {
             Ok(()) => Ok(()),
-            Err(_) => {
+            Err(error) => {
                 self.has_failed = true;
+                self.why = why(error.kind());
                 Err(Failed)
             }
         }

@@ -2,6 +2,7 @@
 
 ghost use Rattle.std.specs.Prelude.{None};
 
+use crate::faults::why;
 use byte_ports::Failed;
 use dme_orders::TextFile;
 use std::alloc::{AllocError, Global};
@@ -89,6 +90,8 @@ pub struct NamedFile<'a, R> {
     rt: &'a R,
     names: Option<(String, String)>,
     has_failed: bool,
+    /// Why it has failed, as it is shown.
+    why: &'static str,
 }
 
 impl<'a, R: Files + AllocGlobal> NamedFile<'a, R> {
@@ -105,7 +108,13 @@ impl<'a, R: Files + AllocGlobal> NamedFile<'a, R> {
             rt,
             names,
             has_failed: false,
+            why: "",
         })
+    }
+
+    /// Why the file could not be written, as it is shown after its name.
+    pub fn why(&self) -> &'static str {
+        self.why
     }
 
     /// Writes all of a text to a new file, forces it to the device, and only then gives the file its name, which is forced there too.
@@ -142,10 +151,15 @@ impl<'a, R: Files + AllocGlobal> TextFile for NamedFile<'a, R> {
     ghost has_failed = { λ f. f.has_failed };
 
     fn replace(&mut self, text: &[u8]) -> Result<(), Failed> {
-        self.has_failed = match &self.names {
-            Some((name, beside)) => self.write(text, beside.as_str(), name.as_str()).is_err(),
-            None => false,
+        let result = match &self.names {
+            Some((name, beside)) => self.write(text, beside.as_str(), name.as_str()),
+            None => Ok(()),
         };
-        if self.has_failed { Err(Failed) } else { Ok(()) }
+        self.has_failed = result.is_err();
+        if let Err(error) = result {
+            self.why = why(error.kind());
+            return Err(Failed);
+        }
+        Ok(())
     }
 }

@@ -12,7 +12,7 @@ use crate::warning::warn;
 use byte_ports::{Ports, Sink, Writing};
 use client_core::{Client, ClientFault};
 use contact_ledger::{CONNECTION_MAX, FeatureLedger, ServerLedger};
-use dme_files::{Fault, LockedFile, NamedFile, Sources, of_output, refused};
+use dme_files::{Fault, LockedFile, NamedFile, Sources, of_output, refused, unwritten};
 use dme_orders::{
     FilesFault, InputFiles, OrderFault, RunEnd, RunOutputs, TextFile, drive, features_and_program,
     kept_client,
@@ -99,18 +99,19 @@ fn client_verdict<R: AllocGlobal>(
     }
 }
 
-/// What is shown of the end of a run whose features were to be written to the file that a call names, if any.
+/// What is shown of the end of a run whose features were to be written to the file that a call names, if any; `why` they were not.
 fn shown_end<R: Eprint + AllocGlobal>(
     rt: &R,
     driven: RunEnd,
-    call: &mut Call<'_>,
+    (call, why): (&mut Call<'_>, &'static str),
     known: (&Patience<'_, R>, &RefCell<Talk<'_, R>>),
 ) -> Result<u8, Fault> {
     let verdict = client_verdict(rt.alloc(), driven, known);
     if driven.is_kept {
         return verdict;
     }
-    with_unwritten(rt, verdict, call.features.take())
+    let name = call.features.take().map(|name| unwritten(name, why));
+    with_unwritten(rt, verdict, name)
 }
 
 /// How a run calls its server, and what it keeps and shows.
@@ -333,9 +334,10 @@ fn drive_client<
         follower,
         &mut outputs,
     );
+    let why = outputs.features.why();
     drop(outputs);
     match driven {
-        Ok(Some(driven)) => shown_end(rt, driven, call, (patience, follower.talk)),
+        Ok(Some(driven)) => shown_end(rt, driven, (call, why), (patience, follower.talk)),
         Ok(None) => Ok(patience.not_begun()),
         Err(fault) => Err(fault),
     }

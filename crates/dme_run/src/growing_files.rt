@@ -5,7 +5,7 @@ use byte_ports::Failed;
 use client_core::Client;
 use contact_ledger::lines::cut_line;
 use contact_ledger::{ServerLedger, add_entry, write_contacts, write_features};
-use dme_files::{LockedFile, NamedFile, NextFile, beside};
+use dme_files::{LockedFile, NamedFile, NextFile, beside, cannot_write, unwritten};
 use dme_orders::{OrderFault, TextFile};
 use record_keeping::GrowingFile;
 use std::alloc::{AllocError, Global};
@@ -43,20 +43,27 @@ fn made_file<R: Files<File = File> + AllocGlobal>(
     drop(beside);
     match made {
         Ok(file) => Ok((name, file)),
-        Err(_) => Err(OrderFault::CannotWrite(name)),
+        Err(error) => Err(cannot_write(name, error.kind())),
     }
 }
 
-/// Puts a whole text in the place of the file of this name: whether that was possible. Fails only if out of memory.
+/// Puts a whole text in the place of the file of this name: the name and the reason if that was not possible. Fails only if out of memory.
 pub fn replace_whole<R: Files + AllocGlobal>(
     rt: &R,
-    name: &str,
+    name: &mut String,
     text: &[u8],
-) -> Result<bool, AllocError> {
-    let mut whole = NamedFile::new(rt, Some(name))?;
-    let is_replaced = whole.replace(text).is_ok();
+) -> Result<Option<String>, AllocError> {
+    let mut whole = NamedFile::new(rt, Some(name.as_str()))?;
+    let result = whole.replace(text);
+    let why = whole.why();
     drop(whole);
-    Ok(is_replaced)
+    match result {
+        Ok(()) => Ok(None),
+        Err(Failed) => {
+            let name = std::mem::replace(name, String::new(rt.alloc()));
+            Ok(Some(unwritten(name, why)))
+        }
+    }
 }
 
 /// A features file that grows: each completed feature is appended to it, and forced to the device.
@@ -91,21 +98,22 @@ impl FeaturesFile {
         })
     }
 
-    /// Appends what a client has completed since; false if that could not be written for the first time. If memory runs out, it is appended
-    /// after a later turn.
-    pub fn follow(&mut self, alloc: Global, client: &Client) -> bool {
+    /// Appends what a client has completed since; why that could not be written, if it failed for the first time. If memory runs out, it is
+    /// appended after a later turn.
+    pub fn follow(&mut self, alloc: Global, client: &Client) -> Option<&'static str> {
         let count = client.features().len();
         if self.has_failed || count <= self.held {
-            return true;
+            return None;
         }
         let Ok(text) = text_after(alloc, client, self.held) else {
-            return true;
+            return None;
         };
-        match self.file.append(text.as_slice(), true) {
-            Ok(()) => self.held = count,
-            Err(Failed) => self.has_failed = true,
+        if self.file.append(text.as_slice(), true).is_ok() {
+            self.held = count;
+            return None;
         }
-        !self.has_failed
+        self.has_failed = true;
+        Some(self.file.why())
     }
 
     /// How many features of a client are in the file; all, if it has failed.
@@ -172,24 +180,23 @@ impl ReportedContacts {
         Ok(())
     }
 
-    /// Follows a client after a turn; false if the file could not be written for the first time.
-    pub fn follow(&mut self, number: u64, client: &Client) -> bool {
+    /// Follows a client after a turn; why the file could not be written, if it failed for the first time.
+    pub fn follow(&mut self, number: u64, client: &Client) -> Option<&'static str> {
         self.is_short = self.tell(number, client).is_err();
         let Some(file) = &mut self.file else {
-            return true;
+            return None;
         };
         if self.filed >= self.text.len() {
-            return true;
+            return None;
         }
-        let is_kept = file
-            .append(&self.text.as_slice()[self.filed..], false)
-            .is_ok();
-        if is_kept {
+        let lacking = &self.text.as_slice()[self.filed..];
+        if file.append(lacking, false).is_ok() {
             self.filed = self.text.len();
-        } else {
-            self.file = None;
+            return None;
         }
-        is_kept
+        let why = file.why();
+        self.file = None;
+        Some(why)
     }
 
     /// Ends the file, once the run has ended: its name if it cannot be written. Fails only if memory ran out for an act.
@@ -197,10 +204,6 @@ impl ReportedContacts {
         if self.is_short {
             return Err(OrderFault::Memory);
         }
-        if replace_whole(rt, self.name.as_str(), self.text.as_slice())? {
-            return Ok(None);
-        }
-        let name = std::mem::replace(&mut self.name, String::new(rt.alloc()));
-        Ok(Some(name))
+        Ok(replace_whole(rt, &mut self.name, self.text.as_slice())?)
     }
 }

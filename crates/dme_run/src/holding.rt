@@ -1,6 +1,6 @@
 // The files that a run appends to or replaces. They are locked before any file is read, and before a connection is made.
 
-use dme_files::{CalledFiles, Fault, HeldFile, is_plain};
+use dme_files::{CalledFiles, Fault, HeldFile, cannot_write, is_plain};
 use dme_orders::OrderFault;
 use dme_words::Run;
 use std::fs::File;
@@ -46,7 +46,7 @@ fn held<R: Files<File = File> + AllocGlobal>(rt: &R, name: &str) -> Result<Named
     let name = String::from_str(rt.alloc(), name)?;
     match HeldFile::open(rt, name.as_str()) {
         Ok(file) => Ok((name, file)),
-        Err(_) => Err(OrderFault::CannotWrite(name)),
+        Err(error) => Err(cannot_write(name, error.kind())),
     }
 }
 

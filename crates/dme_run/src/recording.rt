@@ -9,7 +9,7 @@ use crate::progress::Progress;
 use byte_ports::{PullFault, pull_all};
 use client_core::Client;
 use contact_ledger::{Feature, FeatureLedger};
-use dme_files::{Fault, HeldFile, LockedFile, Sources, is_whole, text_of};
+use dme_files::{Fault, HeldFile, LockedFile, Sources, cannot_write, is_whole, text_of};
 use dme_orders::OrderFault;
 use dme_sockets::Talk;
 use dmis_program::Program;
@@ -175,12 +175,9 @@ fn begun<R: Files<File = File> + Input + Eprint + AllocGlobal>(
     let beginning = beginning_of(rt.alloc(), text.as_slice(), words, program, features)?;
     let name = words.name.as_str();
     let lengths = (beginning.held, text.len());
-    if file
-        .begin(rt, name, beginning.text.as_slice(), lengths)
-        .is_err()
-    {
+    if let Err(error) = file.begin(rt, name, beginning.text.as_slice(), lengths) {
         let name = String::from_str(rt.alloc(), name)?;
-        return Err(Fault::Order(OrderFault::CannotWrite(name)));
+        return Err(Fault::Order(cannot_write(name, error.kind())));
     }
     tell_kept(rt, name, beginning.features.list(), program.features());
     Ok(beginning)
@@ -295,9 +292,9 @@ impl<'a, 'b, R: Eprint + AllocGlobal> Follower<'a, 'b, R> {
         let Some(contacts) = &mut self.contacts else {
             return;
         };
-        if !contacts.follow(self.number, client) {
+        if let Some(why) = contacts.follow(self.number, client) {
             let name = &contacts.name;
-            let _ = eprintln!(self.rt; "dme: cannot write {name}");
+            let _ = eprintln!(self.rt; "dme: cannot write {name}{why}");
         }
     }
 
@@ -306,9 +303,9 @@ impl<'a, 'b, R: Eprint + AllocGlobal> Follower<'a, 'b, R> {
         let Some(file) = &mut self.features else {
             return client.features().len();
         };
-        if !file.follow(self.rt.alloc(), client) {
+        if let Some(why) = file.follow(self.rt.alloc(), client) {
             let name = &file.name;
-            let _ = eprintln!(self.rt; "dme: cannot write {name}");
+            let _ = eprintln!(self.rt; "dme: cannot write {name}{why}");
         }
         file.known(client)
     }
@@ -334,10 +331,7 @@ fn end_record<R: Files + AllocGlobal>(
     if !recorder.has_failed() && is_whole(rt, name.as_str(), recorder.text().len()) {
         return Ok(None);
     }
-    if replace_whole(rt, name.as_str(), recorder.text())? {
-        return Ok(None);
-    }
-    Ok(Some(std::mem::replace(name, String::new(rt.alloc()))))
+    Ok(replace_whole(rt, name, recorder.text())?)
 }
 
 impl<'a, 'b, R: Files + Eprint + AllocGlobal> Follower<'a, 'b, R> {
