@@ -227,7 +227,10 @@ pub struct Follower<'a, 'b, R: Eprint> {
     pub features: Option<FeaturesFile>,
     /// Likewise the file of contacts.
     pub contacts: Option<ReportedContacts>,
+    /// Whether it was reported that the record cannot be written.
     is_told: bool,
+    /// Likewise, for lack of memory.
+    is_short: bool,
 }
 
 impl<'a, 'b, R: Eprint> Follower<'a, 'b, R> {
@@ -253,6 +256,7 @@ impl<'a, 'b, R: Eprint> Follower<'a, 'b, R> {
             features: None,
             contacts: None,
             is_told: false,
+            is_short: false,
         }
     }
 
@@ -276,14 +280,10 @@ impl<'a, 'b, R: Eprint + AllocGlobal> Follower<'a, 'b, R> {
         }
     }
 
-    /// Reports once that the record could not be written.
-    fn tell_unwritten(&mut self) {
-        if self.is_told {
-            return;
-        }
-        self.is_told = true;
+    /// Reports that the record could not be written.
+    fn tell_unwritten(&self, why: &'static str) {
         if let Some(name) = &self.name {
-            let _ = eprintln!(self.rt; "dme: cannot write {name}");
+            let _ = eprintln!(self.rt; "dme: cannot write {name}{why}");
         }
     }
 
@@ -381,9 +381,14 @@ impl<'c, 'a, 'b, R: Eprint + AllocGlobal> Reports for Lent<'c, 'a, 'b, R> {
         self.follower.errors()
     }
 
-    fn followed(&mut self, has_failed: bool) {
-        if has_failed {
-            self.follower.tell_unwritten();
+    fn followed(&mut self, has_failed: bool, is_whole: bool) {
+        if has_failed && !self.follower.is_told {
+            self.follower.tell_unwritten("");
+            self.follower.is_told = true;
+        }
+        if !is_whole && !self.follower.is_short {
+            self.follower.tell_unwritten(": out of memory");
+            self.follower.is_short = true;
         }
     }
 }
