@@ -7,6 +7,7 @@
 - A client that calls the server past the relay, between two that do not: the told file has what was reported to the two, and no more.
 - Both ends written here, with bytes of a fixed sequence in pieces: each end gets the bytes of the other, as recorded; after a reset a prefix.
 - Calls that are refused while a relay runs leave its recordings as they are; so does one that names a folder that holds some.
+- A told file that is there already stays, as told.old.
 - A told file that cannot be written is refused before the relay listens; one that cannot grow is reported at once, stops nothing, and the
   status is 1. Of a server that does not listen and of two silent ends it says so.
 
@@ -308,6 +309,19 @@ def refused_beside(folder):
         must(ended(relay) == (0, "", ""), "relay")
 
 
+def begun_anew(folder):
+    """A told file that is there already: it stays as told.old, over an older one."""
+    (folder / "told").write_text(HEADS[1] + "1 HOMED\n")
+    (folder / "told.old").write_text("older\n")
+    with socket.create_server(("127.0.0.1", 0)) as listener:
+        relay, port = watch(folder, listener.getsockname()[1])
+        socket.create_connection(("127.0.0.1", port), SECONDS).close()
+        listener.accept()[0].close()
+        must(ended(relay) == (0, "", "dme: what was in told stays as told.old\n"), "relay")
+    kept = [(folder / name).read_text() for name in ("told", "told.old")]
+    must(kept == [HEADS[1], HEADS[1] + "1 HOMED\n"], "the earlier file is lost", kept)
+
+
 def full_file(folder):
     """A told file that cannot grow."""
     server, server_port = serve(folder)
@@ -342,7 +356,7 @@ def check_all(room, step):
     for at in range(60 // step + 6):
         forward(folder, fixed, at % 3 == 2)
         count += 1
-    for check in (bypass, no_file, full_file, nobody, refused_beside):
+    for check in (bypass, no_file, full_file, nobody, refused_beside, begun_anew):
         check(cleared(folder))
         count += 1
     return count

@@ -3,8 +3,7 @@
 ghost use Rattle.std.specs.Prelude.{◌≤◌, length, IfOk, IfSome};
 
 use crate::recordings::Recording;
-use crate::told_file::{NextTold, ToldFile};
-use dme_files::Fault;
+use dme_files::{Fault, Journal, NextJournal};
 use dme_orders::OrderFault;
 use dme_sockets::{
     Called, LOOK_MS, Log, Patience, Side, Talk, call_server, no_connection, seconds_of,
@@ -18,7 +17,7 @@ use std::io::{self, ErrorKind, Read, Write};
 use std::net::{Net, Shutdown, TcpListener, TcpStream};
 use std::rt::{Clock, Files};
 use std::time::{Duration, Instant};
-use told_ledger::Relay;
+use told_ledger::{HEADER, Relay};
 
 /// The most bytes that are read at once.
 const PIECE: usize = 65_536;
@@ -62,7 +61,7 @@ impl From<io::Error> for Ended {
 #[derive(Drop)]
 struct Keeper<'a, R: Eprint> {
     rt: &'a R,
-    told: ToldFile,
+    told: Option<Journal>,
     folder: Option<String>,
     recording: Option<Recording>,
     talk: Talk<'a, R>,
@@ -113,10 +112,14 @@ impl<'a, R: Files<File = File> + Eprint + Clock + AllocGlobal> Keeper<'a, R> {
 
     /// Lines are written that the server has told.
     fn tell(&mut self, lines: &[u8]) {
-        if !lines.is_empty() && !self.told.add(lines) {
-            let name = &self.told.name;
+        let Some(told) = &mut self.told else {
+            return;
+        };
+        if !lines.is_empty() && !told.add(lines) {
+            let name = &told.name;
             let _ = eprintln!(self.rt; "dme: cannot write {name}");
             self.has_failed = true;
+            self.told = None;
         }
     }
 }
@@ -516,13 +519,14 @@ fn bind<
 /// Listens, and from then on the told file grows. If it cannot listen, or keep the bytes, that file is as it was.
 fn listen<
     R: Files<File = File>
+        + Eprint
         + Net<Listener = TcpListener, Stream = TcpStream>
         + AllocGlobal
         + Clone
         + Drop,
->(rt: &R, order: &Watch) -> Result<(TcpListener, Option<Recording>, ToldFile), Fault> {
+>(rt: &R, order: &Watch) -> Result<(TcpListener, Option<Recording>, Journal), Fault> {
     let name = String::from_str(rt.alloc(), order.told.as_str())?;
-    let next = NextTold::make(rt, name)?;
+    let next = NextJournal::make(rt, name, HEADER)?;
     let (listener, recording) = match bind(rt, order) {
         Ok(bound) => bound,
         Err(fault) => {
@@ -556,7 +560,7 @@ fn watch_order<
     let log = Log::named(rt, order.log.take());
     let mut keeper = Keeper {
         rt,
-        told,
+        told: Some(told),
         folder: order.record_bytes.take(),
         recording,
         talk: Talk::new(rt, order.trace, log),
