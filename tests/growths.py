@@ -180,12 +180,13 @@ class Pair:
     }
     FILES = {"serve": "contacts", "run": "features"}
 
-    def __init__(self, refusing, looked_at):
+    def __init__(self, refusing, looked_at, option="--features"):
         self.refusing = refusing
         self.looked_at = looked_at
+        self.option = option
 
     def started(self, end, port, number, counts, folder):
-        words = self.ENDS[end].replace("PORT", str(port)).split()
+        words = self.ENDS[end].replace("PORT", str(port)).replace("--features", self.option).split()
         is_own = end == self.looked_at
         return self.refusing.started([PROGRAM, *words], number if is_own else 0, folder, counts if is_own else None)
 
@@ -227,6 +228,20 @@ def run_row(refusing):
     runs = [it for it in runs if it[0] != noted]
     # Without memory for the text of a completed feature the run continues, and its file has that feature at the end: eight growths at most.
     return must_want_memory(whole, [it for it, _ in runs], lambda run: must_be_front_of_report(run[1], whole[1]), 8)
+
+
+def recorded_row(refusing):
+    """A run that had no memory for its record says so at once. It is whole if memory came back, and else ends out of memory."""
+    (whole, file), runs = refusing.all_of(Pair(refusing, "run", "--record").run)
+    must(whole[0] == 0 and file.endswith("1 COMPLETED C\n"), "with all memory", whole, file)
+    told = "dme: cannot write features: out of memory\n"
+    for (status, output, errors), text in runs:
+        must(file.startswith(text or ""), "is not a prefix of its record", text)
+        left = errors.replace(told, "", 1).replace("dme: out of memory for the lines of the connection\n", "")
+        must((status, output, left, text) == (*whole, file) or (status, left) == WANT, "another end", status, output, errors, text)
+    count = sum(told in errors for (_, _, errors), _ in runs)
+    must(count, "memory for the record was never wanting")
+    return count
 
 
 def serve_row(refusing):
@@ -299,6 +314,7 @@ def growth_rows(refusing):
     rows["loop"] = lambda: loop_row(refusing, "loop --setup machine.setup circle.dmis")
     rows["loop_of_two_features"] = lambda: loop_row(refusing, "loop --setup machine.setup --window 16 two_frames.dmis")
     rows["run"] = lambda: run_row(refusing)
+    rows["recorded"] = lambda: recorded_row(refusing)
     rows["serve"] = lambda: serve_row(refusing)
     for name, row in CALL_ROWS.items():
         rows[name] = lambda row=row: call_row(refusing, *row)

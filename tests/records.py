@@ -5,10 +5,11 @@
 - A record in which a field is changed to each of a few other values is refused by its line (J1) or by its feature (J3), or is another whole
   record: then each of its features still has the points of its own contacts, as this script reads them. It is never changed.
 - A record that another run holds, that may only be read, that is a folder, a pipe or a device, or that cannot be made is refused before a
-  connection is made.
-- A link to a record is continued, and stays a link. A record that is removed during the run is whole at the end.
-- What completes a feature is forced to the device before anything else is written or sent, in the record and in the features file, as `strace`
-  sees it.
+  connection is made; so is a file of features or contacts that another run holds, also while that one waits for its server.
+- Two files of a call that are one, by a link or otherwise, are refused. A link for a record or for features is refused. FILE.new is made anew: a plain file in its place is removed, and a link is not written
+  through. FILE keeps its mode. A record that is removed during the run is whole at the end.
+- What completes a feature is forced to the device before anything else is written or sent, in the record and in the features file, and only
+  then is the feature reported, as `strace` sees it. The name of each file that a run makes is forced there directly after its text.
 
 `run` calls this; by itself: tests/records.py
 """
@@ -117,9 +118,9 @@ def check_no_files(folder):
     port = free_port()
     os.mkfifo(folder / "pipe")
     (folder / "nothing").mkdir()
-    for name in ("pipe", "nothing", "/dev/null", "missing/part.record"):
+    for name, why in (("pipe", ""), ("nothing", ": is a folder"), ("/dev/null", ""), ("missing/part.record", "")):
         run = dme(folder, *run_words(port, name))
-        must((run.returncode, run.stdout, run.stderr) == (1, "", f"dme: cannot write {name}\n"), name, run.stderr)
+        must((run.returncode, run.stdout, run.stderr) == (1, "", f"dme: cannot write {name}{why}\n"), name, run.stderr)
 
 
 def check_read_only(folder):
@@ -131,26 +132,55 @@ def check_read_only(folder):
     other = {"user": 65534} if os.geteuid() == 0 else {}
     words = [program, *run_words(free_port())]
     run = subprocess.run(words, cwd=folder, capture_output=True, text=True, timeout=SECONDS, **other)
-    must((run.returncode, run.stdout, run.stderr) == (1, "", "dme: cannot write part.record\n"), "read-only record", run.stderr)
+    must((run.returncode, run.stdout, run.stderr) == (1, "", "dme: cannot write part.record: no permission\n"), "read-only record", run.stderr)
     must((folder / "part.record").read_bytes() == RECORD, "read-only record was changed")
 
 
+def file_words(port, option, name):
+    return ["run", "--setup", "machine.setup", "--host", "127.0.0.1", "--port", str(port), option, name, "circle.dmis"]
+
+
 def check_held(folder):
-    """A run whose server says nothing holds its record."""
-    (folder / "part.record").write_bytes(RECORD[:400])
-    with socket.create_server(("127.0.0.1", 0)) as silent:
-        first = subprocess.Popen([str(PROGRAM), *run_words(silent.getsockname()[1])], cwd=folder, stdout=subprocess.PIPE, stderr=subprocess.PIPE)
-        try:
-            silent.settimeout(SECONDS)
-            connection, _ = silent.accept()
-            held = (folder / "part.record").read_bytes()
-            run = dme(folder, *run_words(free_port()))
-            must((run.returncode, run.stderr) == (1, "dme: cannot write part.record\n"), "held record", run.stderr)
-            must((folder / "part.record").read_bytes() == held, "held record was changed")
-            connection.close()
-        finally:
-            first.kill()
-            first.communicate()
+    """A run whose server says nothing, or that waits for one, holds its files: another one is refused before it makes a connection."""
+    features = (EXAMPLES / "break_inside_a_feature.features").read_bytes()
+    for option, name, text in (("--record", "part.record", RECORD[:400]), ("--features", "part.features", features), ("--contacts", "new", None)):
+        if text is not None:
+            (folder / name).write_bytes(text)
+        with socket.create_server(("127.0.0.1", 0)) as silent:
+            words = file_words(silent.getsockname()[1], option, name)
+            first = subprocess.Popen([str(PROGRAM), *words], cwd=folder, stdout=subprocess.PIPE, stderr=subprocess.PIPE)
+            try:
+                silent.settimeout(SECONDS)
+                connection, _ = silent.accept()
+                connection.recv(1)
+                held = (folder / name).read_bytes()
+                run = dme(folder, *file_words(free_port(), option, name))
+                must((run.returncode, run.stderr) == (1, f"dme: cannot write {name}: locked by another run\n"), f"held {name}", run.stderr)
+                must((folder / name).read_bytes() == held, f"held {name} was changed")
+                connection.close()
+            finally:
+                first.kill()
+                first.communicate()
+
+
+def check_waiting(folder):
+    """A run that waits for its server holds its features file, which stays as it was; one that was made is removed."""
+    text = (EXAMPLES / "break_inside_a_feature.features").read_bytes()
+    for before in (text, None):
+        (folder / "part.features").unlink(missing_ok=True)
+        if before is not None:
+            (folder / "part.features").write_bytes(before)
+        words = [*file_words(free_port(), "--features", "part.features"), "--wait", "1"]
+        first = subprocess.Popen([str(PROGRAM), *words], cwd=folder, stdout=subprocess.PIPE, stderr=subprocess.PIPE, text=True)
+        end = time.monotonic() + SECONDS
+        while not (folder / "part.features").exists() and time.monotonic() < end:
+            time.sleep(0.01)
+        time.sleep(0.3)
+        run = dme(folder, *file_words(free_port(), "--features", "part.features"))
+        must((run.returncode, run.stderr) == (1, "dme: cannot write part.features: locked by another run\n"), "features of a run that waits", run.stderr)
+        first.communicate(timeout=SECONDS)
+        left = (folder / "part.features").read_bytes() if (folder / "part.features").exists() else None
+        must(left == before, "features of a run that waited in vain", left)
 
 
 def served(folder, port):
@@ -159,17 +189,60 @@ def served(folder, port):
     return server
 
 
+def refused(folder, name, option, shown):
+    """A run that is refused before it makes a connection."""
+    run = dme(folder, *file_words(free_port(), option, name))
+    must((run.returncode, run.stdout, run.stderr) == (1, "", f"dme: cannot write {shown}\n"), option, shown, run.stderr)
+
+
 def check_link(folder):
-    (folder / "other.record").write_bytes(RECORD[: RECORD.index(b"2 CONTACT -1.000")])
-    (folder / "part.record").unlink(missing_ok=True)
-    (folder / "part.record").symlink_to("other.record")
-    port = free_port()
-    server = served(folder, port)
-    run = dme(folder, *run_words(port))
-    server.communicate(timeout=SECONDS)
-    must(run.returncode == 0 and (folder / "part.record").is_symlink(), "record by a link", run.stderr)
-    must(len(points_of((folder / "other.record").read_text())) == 1, "record by a link")
-    (folder / "part.record").unlink()
+    """A link is not written through, also one that leads nowhere."""
+    (folder / "other").write_bytes(RECORD[:400])
+    for option in ("--record", "--features"):
+        for target in ("other", "nowhere"):
+            (folder / "link").symlink_to(target)
+            refused(folder, "link", option, "link: is a link")
+            must((folder / "link").is_symlink() and not (folder / "nowhere").exists(), option, target)
+            (folder / "link").unlink()
+    must((folder / "other").read_bytes() == RECORD[:400], "the file of a link was changed")
+
+
+def check_names(folder):
+    """Two names of one file, by a link or a second name, are refused before anything is opened."""
+    (folder / "part.record").write_bytes(RECORD)
+    (folder / "link").symlink_to("part.record")
+    os.link(folder / "part.record", folder / "other")
+    for name in ("link", "other", "../" + folder.name + "/part.record"):
+        run = dme(folder, *run_words(free_port())[:-1], "--log", name, "circle.dmis")
+        shown = f"error: '--record' and '--log' name one file, '{name}'\n\nFor more information, try '--help'.\n"
+        must((run.returncode, run.stdout, run.stderr) == (2, "", shown), name, run.stderr)
+        must((folder / "part.record").read_bytes() == RECORD, name, "the record was changed")
+
+
+def check_next(folder):
+    """FILE.new is made anew, and only if nothing but a plain file is in its place; FILE keeps its mode."""
+    (folder / "other").write_text("other")
+    for option in ("--features", "--contacts"):
+        (folder / "part").write_text("")
+        (folder / "part").chmod(0o660)
+        (folder / "part.new").symlink_to("other")
+        port = free_port()
+        server = served(folder, port)
+        run = dme(folder, *file_words(port, option, "part"))
+        must((run.returncode, run.stdout, run.stderr) == (1, "", "dme: cannot write part: its .new is no plain file\n"), option, "a link", run.stderr)
+        must((folder / "other").read_text() == "other" and (folder / "part").read_text() == "", option, "a link is written")
+        server.kill()
+        server.communicate()
+        (folder / "part.new").unlink()
+        (folder / "part.new").write_text("what an earlier run has left there, and is longer than what comes in its place" * 9)
+        (folder / "part.new").chmod(0o600)
+        port = free_port()
+        server = served(folder, port)
+        run = dme(folder, *file_words(port, option, "part"))
+        server.communicate(timeout=SECONDS)
+        must(run.returncode == 0 and not (folder / "part.new").exists(), option, run.stderr)
+        must((folder / "part").read_text().startswith("DME-"), option, "is not written")
+        must((folder / "part").stat().st_mode & 0o777 == 0o660, option, "has another mode")
 
 
 def check_removed(folder):
@@ -203,8 +276,10 @@ def check_forced(folder):
     port = free_port()
     server = served(folder, port)
     words = run_words(port)
-    calls = calls_of(folder, [*words[:-1], "--features", "part.features", words[-1]])
+    calls = calls_of(folder, [*words[:-1], "--features", "part.features", "--progress", words[-1]])
     server.communicate(timeout=SECONDS)
+    shown = [n for n, (call, _, text) in enumerate(calls) if call == "write" and text.startswith(', "feature 1 of 1: C')]
+    must(len(shown) == 1, "the feature is not reported once", str(calls))
     for name, told in (("part.record", "COMPLETED C"), ("part.features", "FEATURE C")):
         at = [n for n, (call, file, text) in enumerate(calls) if call == "write" and file.endswith(f"/{name}") and told in text]
         must(at, f"{name}: no feature is appended", str(calls))
@@ -212,9 +287,25 @@ def check_forced(folder):
             after = calls[n + 1:n + 2]
             forced = [file for call, file, _ in after if call == "fdatasync" and file.endswith(f"/{name}")]
             must(forced, f"{name}: a feature is not forced to the device", str(after))
+        must(at[0] + 1 < shown[0], f"{name}: the feature is reported before it is forced to the device", str(calls))
 
 
-CHECKS = (check_torn, check_edited, check_no_files, check_read_only, check_held, check_link, check_removed, check_forced)
+def check_settled(folder):
+    """Each file that a run makes is forced to the device, and directly after it its name; at the end features and contacts are made again."""
+    port = free_port()
+    server = served(folder, port)
+    words = run_words(port)
+    calls = calls_of(folder, [*words[:-1], "--features", "part.features", "--contacts", "part.contacts", words[-1]])
+    server.communicate(timeout=SECONDS)
+    forced = [(n, pathlib.Path(file).name) for n, (call, file, _) in enumerate(calls) if call == "fsync" and not pathlib.Path(file).is_dir()]
+    made = ["part.features.new", "part.contacts.new"]
+    must([name for _, name in forced] == ["part.record", *made, *made], "other files are forced to the device", str(forced))
+    for n, name in forced:
+        must(calls[n + 1][:2] == ("fsync", str(folder.resolve())), name, "its name is not forced to the device", str(calls[n + 1]))
+
+
+CHECKS = (check_torn, check_edited, check_no_files, check_read_only, check_held, check_waiting, check_link, check_names, check_next, check_removed, check_forced,
+          check_settled)
 
 
 def passes(check):

@@ -7,7 +7,7 @@ either direction that a fixed sequence picks. The run is called again until it i
 - what the cutter gave the relay begins with the bytes that the relay kept of the client, and the bytes that it kept of the server begin with
   what it gave the cutter; of a connection that was not cut they are the same;
 - what the told file has of a connection is a prefix of what the server's contacts have of it, and all of it if it was not cut;
-- `dme ledger` over the bytes that were kept prints the told file, connection by connection;
+- `dme ledger` over the bytes that were kept prints the told file, connection by connection, and `dme judge` finds no line that breaks a rule;
 - after each connection, the audit of the features that the client holds, over the told file, answers RUNS with a number for each.
 
 `run` calls this with a few connections; by itself: tests/relayed.py [CUTS], until that many connections were cut (5,000 by default).
@@ -26,7 +26,7 @@ import threading
 from growths import Wrong, must
 from hostile import Fixed
 from killed import SETUP, dme
-from watched import HEADS, ended, serve, watch
+from watched import HEADS, ended, must_not_be_blamed, serve, watch
 
 SECONDS = 60
 CUTS = 5_000
@@ -154,6 +154,7 @@ def compare(folder, cutters):
         reported, done = told.get(number, []), made.get(number, [])
         must(done[: len(reported)] == reported, "no prefix", number, reported, done)
         must(ledger_lines(folder, number) == reported, "the ledger of the bytes is another", number)
+        must_not_be_blamed(folder, number)
         if not cutter.is_cut:
             must((up, down) == (cutter.sent["up"], cutter.sent["down"]) and reported == done, "less than all", number)
 

@@ -230,7 +230,14 @@ SENTENCES = {  # what is found: its lines, with a label of its own, and for each
     "P12": lambda it: (["UNITS/INCH"], [(0, "refused: P12 NotMillimetres: The unit INCH is not read: lengths are in MM.")]),
     "P13": lambda it: (
         ["MODE/MAN"],
-        [(0, "refused: P13 NoProgMode: The mode MAN is not carried out, and PROG is not among the words of MODE.")],
+        [
+            (
+                0,
+                "refused: P13 NoProgMode: The mode MAN is not carried out, and PROG is not among the words of MODE: without this line, or with"
+                " PROG, the machine drives by itself to the touches below, which MAN leaves to the operator, since the place of the part is not"
+                " known.",
+            )
+        ],
     ),
     "P14": lambda it: (
         block(it, "POINT", "PTMEAS/CART,1,2,3,0,0,0"),

@@ -6,6 +6,8 @@
   file has is a prefix of the server's contacts; each act of a command whose end the client has read is in it.
 - A client that calls the server past the relay, between two that do not: the told file has what was reported to the two, and no more.
 - Both ends written here, with bytes of a fixed sequence in pieces: each end gets the bytes of the other, as recorded; after a reset a prefix.
+- Calls that are refused while a relay runs leave its recordings as they are; so does one that names a folder that holds some.
+- A told file that is there already stays, as told.old.
 - A told file that cannot be written is refused before the relay listens; one that cannot grow is reported at once, stops nothing, and the
   status is 1. Of a server that does not listen and of two silent ends it says so.
 
@@ -81,10 +83,17 @@ def ledger(folder):
     return ended(dme(folder, "ledger", "--up", "1.up", "--down", "1.down"))[1]
 
 
-def must_not_be_blamed(folder):
-    """No line of either end breaks a rule."""
-    status, out, error = ended(dme(folder, "judge", "--up", "1.up", "--down", "1.down"))
+def must_not_be_blamed(folder, number=1):
+    """No line of either end of a connection breaks a rule."""
+    status, out, error = ended(dme(folder, "judge", "--up", f"{number}.up", "--down", f"{number}.down"))
     must((status, out.partition("\n")[0], error) == (0, "dme: no line breaks the rules", ""), "one of our ends is blamed", out, error)
+
+
+def cleared(folder):
+    """The folder without what an earlier connection has left in it."""
+    for name in ("told", "contacts", "1.up", "1.down"):
+        (folder / name).unlink(missing_ok=True)
+    return folder
 
 
 def prepared(room, name):
@@ -166,9 +175,7 @@ def send_some(port, lines, hears_last):
 
 
 def leave_after(folder, lines, how, hears_last):
-    for name in ("told", "contacts"):
-        (folder / name).unlink(missing_ok=True)
-    server, server_port = serve(folder)
+    server, server_port = serve(cleared(folder))
     relay, port = watch(folder, server_port, "--record-bytes", ".")
     stream, acts = send_some(port, lines, hears_last)
     told_then = acts_of(folder, "told", HEADS[1])
@@ -250,7 +257,7 @@ class End(threading.Thread):
 
 def forward(folder, fixed, resets):
     with socket.create_server(("127.0.0.1", 0)) as listener:
-        relay, port = watch(folder, listener.getsockname()[1], "--record-bytes", ".")
+        relay, port = watch(cleared(folder), listener.getsockname()[1], "--record-bytes", ".")
         near = socket.create_connection(("127.0.0.1", port), SECONDS)
         far, _ = listener.accept()
     up, down = some_bytes(fixed), some_bytes(fixed)
@@ -278,6 +285,41 @@ def no_file(folder):
     relay, _ = watch(folder, 1)
     must(ended(relay) == (1, "", "dme: cannot write told\n"), "folder")
     (folder / "told").rmdir()
+
+
+def refused_beside(folder):
+    """Calls that are refused while a relay keeps bytes: by its port, by its told file, by its folder. They empty nothing."""
+    with socket.create_server(("127.0.0.1", 0)) as listener:
+        relay, port = watch(folder, listener.getsockname()[1], "--record-bytes", ".")
+        near = socket.create_connection(("127.0.0.1", port), SECONDS)
+        far, _ = listener.accept()
+        near.sendall(b"00001 StartSession()\r\n")
+        must(far.recv(4096) == b"00001 StartSession()\r\n", "no relay")
+        for other, told, refusal in (
+            (port, "other", "dme: connection failed\nport in use\n"),
+            (free_port(), "told", "dme: cannot write told\n"),
+            (free_port(), "other", "dme: cannot write .\nit holds recordings already\n"),
+        ):
+            words = ("--listen", str(other), "--host", "127.0.0.1", "--port", "1", "--told", told, "--record-bytes", ".")
+            must(ended(dme(folder, "watch", *words)) == (1, "", refusal), "not refused", refusal)
+            must(kept_bytes(folder) == [b"00001 StartSession()\r\n", b""], "emptied", refusal)
+            must(not (folder / "other").exists(), "a told file was begun", refusal)
+        near.close()
+        far.close()
+        must(ended(relay) == (0, "", ""), "relay")
+
+
+def begun_anew(folder):
+    """A told file that is there already: it stays as told.old, over an older one."""
+    (folder / "told").write_text(HEADS[1] + "1 HOMED\n")
+    (folder / "told.old").write_text("older\n")
+    with socket.create_server(("127.0.0.1", 0)) as listener:
+        relay, port = watch(folder, listener.getsockname()[1])
+        socket.create_connection(("127.0.0.1", port), SECONDS).close()
+        listener.accept()[0].close()
+        must(ended(relay) == (0, "", "dme: what was in told stays as told.old\n"), "relay")
+    kept = [(folder / name).read_text() for name in ("told", "told.old")]
+    must(kept == [HEADS[1], HEADS[1] + "1 HOMED\n"], "the earlier file is lost", kept)
 
 
 def full_file(folder):
@@ -314,9 +356,8 @@ def check_all(room, step):
     for at in range(60 // step + 6):
         forward(folder, fixed, at % 3 == 2)
         count += 1
-    for check in (bypass, no_file, full_file, nobody):
-        (folder / "told").unlink(missing_ok=True)
-        check(folder)
+    for check in (bypass, no_file, full_file, nobody, refused_beside, begun_anew):
+        check(cleared(folder))
         count += 1
     return count
 

@@ -36,8 +36,8 @@ pub enum Fault {
     NoPart(String),
     /// A part without a record.
     PartAlone,
-    /// The same file for features and for a record.
-    OneFile(String),
+    /// One file for these two options, of which one is written.
+    OneFile(&'static str, &'static str, String),
     /// A number of seconds that an option does not take.
     NoSeconds(&'static str, String),
     /// A run that is not confirmed.
@@ -50,6 +50,31 @@ pub enum Fault {
     Order(OrderFault),
     /// An order that was not carried out, and then where its file is refused and what is wrong there.
     Explained(OrderFault, String),
+}
+
+/// Why a file cannot be written, as it is shown after the file's name; nothing if the system says nothing that helps.
+pub fn why(kind: ErrorKind) -> &'static str {
+    match kind {
+        ErrorKind::WouldBlock => ": locked by another run",
+        ErrorKind::FilesystemLoop => ": is a link",
+        ErrorKind::IsADirectory => ": is a folder",
+        ErrorKind::AlreadyExists => ": its .new is no plain file",
+        ErrorKind::StorageFull | ErrorKind::QuotaExceeded => ": the device is full",
+        ErrorKind::PermissionDenied | ErrorKind::ReadOnlyFilesystem => ": no permission",
+        ErrorKind::OutOfMemory => ": out of memory",
+        _ => "",
+    }
+}
+
+/// The name of a file that cannot be written, with the reason if there is memory for it.
+pub fn unwritten(mut name: String, why: &'static str) -> String {
+    let _ = name.push_str(why);
+    name
+}
+
+/// What is shown for a file that cannot be written, with the reason.
+pub fn cannot_write(name: String, kind: ErrorKind) -> OrderFault {
+    OrderFault::CannotWrite(unwritten(name, why(kind)))
 }
 
 /// Writes why a command line is refused, as `clap` writes it.
@@ -84,12 +109,14 @@ fn write_seconds<W: fmt::Write>(
     )
 }
 
-/// Likewise, for features and a record that are one file.
-fn write_one_file<W: fmt::Write>(f: &mut fmt::Formatter<W>, name: &str) -> fmt::Result {
-    write!(
-        f,
-        "error: '--features' and '--record' name one file, '{name}'"
-    )?;
+/// Likewise, for two options that name one file.
+fn write_one_file<W: fmt::Write>(
+    f: &mut fmt::Formatter<W>,
+    first: &str,
+    second: &str,
+    name: &str,
+) -> fmt::Result {
+    write!(f, "error: '{first}' and '{second}' name one file, '{name}'")?;
     write!(f, "\n\nFor more information, try '--help'.\n")
 }
 
@@ -129,7 +156,7 @@ impl fmt::Display for Fault {
                 f,
                 "the argument '--part <TEXT>' requires '--record <FILE>'",
             ),
-            Fault::OneFile(name) => write_one_file(f, name),
+            Fault::OneFile(first, second, name) => write_one_file(f, first, second, name),
             Fault::NoSeconds(option, text) => write_seconds(f, option, text),
             Fault::NotConfirmed => write!(f, "dme: not confirmed, nothing has moved\n"),
             Fault::Record(refusal) => write_record(f, refusal, ""),
@@ -211,8 +238,8 @@ impl Fault {
     {
         match self {
             Fault::Words(_) | Fault::NotUtf8 | Fault::NoCode(_) | Fault::NoForm(_) => 2,
-            Fault::Misfits(_) | Fault::NoPart(_) | Fault::PartAlone | Fault::OneFile(_) => 2,
-            Fault::NoSeconds(_, _) | Fault::NoFindingForm(_) => 2,
+            Fault::Misfits(_) | Fault::NoPart(_) | Fault::PartAlone => 2,
+            Fault::OneFile(_, _, _) | Fault::NoSeconds(_, _) | Fault::NoFindingForm(_) => 2,
             Fault::NotConfirmed | Fault::Record(_) | Fault::ExplainedRecord(_, _) => 1,
             Fault::Order(cause) | Fault::Explained(cause, _) => cause.status(),
         }

@@ -2,7 +2,9 @@
 //!
 //! - `files`: the files that a command reads, as sources
 //! - `text_files`: files that are replaced as a whole
-//! - `locked_files`: files that are open for appending, and that no other run may share
+//! - `locked_files`: files that are locked before they are read, appended to or replaced, and that no other run may share
+//! - `journals`: those of them that a server or a relay begins anew
+//! - `names`: the files that one call names, which may not meet
 //! - `explaining`: what is shown for an order whose files are refused
 //! - `faults`: what is printed on standard error, and the exit status
 #![tactic(auto)]
@@ -10,11 +12,15 @@
 mod explaining;
 mod faults;
 mod files;
+mod journals;
 mod locked_files;
+mod names;
 mod text_files;
 
 pub use explaining::{of_output, refused, tell_audit, text_of};
-pub use faults::Fault;
+pub use faults::{Fault, cannot_write, unwritten};
 pub use files::{NamedSource, Sources};
-pub use locked_files::{LockedFile, NextFile};
-pub use text_files::{NamedFile, beside, is_whole, may_be_replaced};
+pub use journals::{Journal, NextJournal};
+pub use locked_files::{HeldFile, LockedFile, NextFile};
+pub use names::{CalledFiles, meet};
+pub use text_files::{NamedFile, beside, is_plain, is_whole, may_be_replaced};

@@ -1,50 +1,51 @@
 // Files that are open for appending, and locked.
 
+use crate::faults::why;
+use crate::text_files::{is_plain, make_beside, settle_name};
 use byte_ports::Failed;
 use record_keeping::GrowingFile;
 use std::fs::{self, File, OpenOptions};
 use std::io::{self, ErrorKind, Write};
+use std::os::unix::fs::MetadataExt;
 use std::rt::Files;
 
-/// A file that is open for appending, and that no other run may append to meanwhile.
+/// A plain file that no other run may append to or replace meanwhile. It is locked before anything of it is read.
 #[derive(Drop)]
-pub struct LockedFile {
+pub struct HeldFile {
     file: File,
-    has_failed: bool,
-    /// Whether all that was appended is known to be on the device.
-    is_settled: bool,
+    /// Whether the file was made here.
+    is_first: bool,
 }
 
-impl LockedFile {
-    /// Opens the file of this name, or makes it, and locks it. It must have as many bytes as were read of it.
-    pub fn open<R: Files<File = File>>(
-        rt: &R,
-        name: &str,
-        length: usize,
-    ) -> io::Result<LockedFile> {
+/// Whether this open file still has its name: another run may have put a new one in its place since.
+fn has_name<R: Files<File = File>>(rt: &R, file: &File, name: &str) -> io::Result<bool> {
+    let (found, named) = (file.metadata()?, fs::symlink_metadata(rt, name)?);
+    Ok(found.dev() == named.dev() && found.ino() == named.ino())
+}
+
+impl HeldFile {
+    /// Opens the file of this name, or makes it, and locks it. It may be no link, folder, device or pipe.
+    pub fn open<R: Files<File = File>>(rt: &R, name: &str) -> io::Result<HeldFile> {
+        let is_first = !is_plain(rt, name)?;
         let mut how = OpenOptions::new();
-        how.append(true).create(true);
+        how.append(true).create_new(is_first);
         let file = how.open(rt, name)?;
         file.try_lock()?;
-        if file.metadata()?.len() != length as u64 {
-            return Err(io::Error::from(ErrorKind::Other));
+        if !has_name(rt, &file, name)? {
+            return Err(io::Error::from(ErrorKind::WouldBlock));
         }
-        Ok(LockedFile {
-            file,
-            has_failed: false,
-            is_settled: false,
-        })
+        Ok(HeldFile { file, is_first })
     }
 
-    /// Locks this new file, gives it this text, and forces it to the device.
-    fn settle(&mut self, text: &[u8]) -> io::Result<()> {
-        self.file.try_lock()?;
-        self.file.write_all(text)?;
-        self.file.sync_all()
+    /// Leaves the file as it was: one that was made here is removed.
+    pub fn release<R: Files<File = File>>(self, rt: &R, name: &str) {
+        if self.is_first {
+            let _ = fs::remove_file(rt, name);
+        }
     }
 
     /// Gives the file this text, of which it has the first bytes, and forces it to the device. What follows them is torn and is cut off.
-    pub fn begin(&mut self, text: &[u8], held: usize, length: usize) -> io::Result<()> {
+    fn fill(&mut self, text: &[u8], held: usize, length: usize) -> io::Result<()> {
         if held < length {
             self.file.set_len(held as u64)?;
         }
@@ -53,80 +54,130 @@ impl LockedFile {
         }
         self.file.sync_all()
     }
+
+    /// Likewise, and forces its name there too.
+    pub fn begin<R: Files<File = File>>(
+        &mut self,
+        rt: &R,
+        name: &str,
+        text: &[u8],
+        (held, length): (usize, usize),
+    ) -> io::Result<()> {
+        self.fill(text, held, length)?;
+        settle_name(rt, name)
+    }
+
+    /// This file, which grows from now on.
+    pub fn growing(self) -> LockedFile {
+        LockedFile {
+            file: self.file,
+            has_failed: false,
+            why: "",
+            is_settled: false,
+        }
+    }
+}
+
+/// A file that is open for appending, and that no other run may append to meanwhile.
+#[derive(Drop)]
+pub struct LockedFile {
+    file: File,
+    has_failed: bool,
+    /// Why it has failed, as it is shown.
+    why: &'static str,
+    /// Whether all that was appended is known to be on the device.
+    is_settled: bool,
 }
 
 /// A new file next to the one whose place it is to take. Both are locked, so that two runs cannot share the file.
 #[derive(Drop)]
 pub struct NextFile {
-    old: File,
-    new: LockedFile,
-    /// Whether the old file was made here.
-    is_first: bool,
+    old: HeldFile,
+    new: HeldFile,
+}
+
+/// A new file next to the one of this name, locked, with this text, forced to the device.
+fn new_file<R: Files<File = File>>(
+    rt: &R,
+    name: &str,
+    beside: &str,
+    text: &[u8],
+) -> io::Result<HeldFile> {
+    let file = make_beside(rt, name, beside)?;
+    let mut new = HeldFile {
+        file,
+        is_first: true,
+    };
+    let mut result = new.file.try_lock().map_err(io::Error::from);
+    if result.is_ok() {
+        result = new.fill(text, 0, 0);
+    }
+    match result {
+        Ok(()) => Ok(new),
+        Err(error) => {
+            new.release(rt, beside);
+            Err(error)
+        }
+    }
 }
 
 impl NextFile {
-    /// Makes the new file, gives it this text, and forces it to the device. The file of this name must be one that may be replaced.
+    /// Locks the file of this name, makes the new one, gives it this text, and forces it to the device.
     pub fn make<R: Files<File = File>>(
         rt: &R,
         name: &str,
         beside: &str,
         text: &[u8],
     ) -> io::Result<NextFile> {
-        let is_first = fs::symlink_metadata(rt, name).is_err();
-        let mut old = OpenOptions::new();
-        old.append(true).create(true);
-        let old = old.open(rt, name)?;
-        old.try_lock()?;
-        let _ = fs::remove_file(rt, beside);
-        let mut new = OpenOptions::new();
-        new.append(true).create_new(true);
-        let file = new.open(rt, beside)?;
-        let mut new = LockedFile {
-            file,
-            has_failed: false,
-            is_settled: false,
-        };
-        let result = new.settle(text);
-        if result.is_err() {
-            let _ = fs::remove_file(rt, beside);
-        }
-        result?;
-        Ok(NextFile { old, new, is_first })
+        NextFile::of(rt, HeldFile::open(rt, name)?, (name, beside), text)
     }
 
-    /// Puts a new file with this text in the place of the one of this name.
-    pub fn replacing<R: Files<File = File>>(
+    /// Likewise, for a file that is held.
+    pub fn of<R: Files<File = File>>(
         rt: &R,
-        name: &str,
-        beside: &str,
+        old: HeldFile,
+        names: (&str, &str),
         text: &[u8],
-    ) -> io::Result<LockedFile> {
-        NextFile::make(rt, name, beside, text)?.put(rt, name, beside)
+    ) -> io::Result<NextFile> {
+        let (name, beside) = names;
+        match new_file(rt, name, beside, text) {
+            Ok(new) => Ok(NextFile { old, new }),
+            Err(error) => {
+                old.release(rt, name);
+                Err(error)
+            }
+        }
     }
 
-    /// Gives the new file its name.
+    /// Gives the new file its name, and forces that to the device.
     pub fn put<R: Files<File = File>>(
         self,
         rt: &R,
         name: &str,
         beside: &str,
     ) -> io::Result<LockedFile> {
-        let NextFile { old, new, .. } = self;
-        let result = fs::rename(rt, beside, name);
-        if result.is_err() {
-            let _ = fs::remove_file(rt, beside);
+        let NextFile { old, new } = self;
+        if let Err(error) = fs::rename(rt, beside, name) {
+            new.release(rt, beside);
+            old.release(rt, name);
+            return Err(error);
         }
-        result?;
         drop(old);
-        Ok(new)
+        settle_name(rt, name)?;
+        Ok(new.growing())
     }
 
     /// Removes the new file, and the old one if there was none before.
     pub fn discard<R: Files<File = File>>(self, rt: &R, name: &str, beside: &str) {
-        let _ = fs::remove_file(rt, beside);
-        if self.is_first {
-            let _ = fs::remove_file(rt, name);
-        }
+        self.new.release(rt, beside);
+        self.old.release(rt, name);
+    }
+}
+
+impl LockedFile {
+    /// Why the file has failed, as it is shown after its name.
+    pub fn why(&self) -> &'static str {
+        self.why
     }
 }
 
@@ -148,8 +199,9 @@ impl GrowingFile for LockedFile {
         }
         match result {
             Ok(()) => Ok(()),
-            Err(_) => {
+            Err(error) => {
                 self.has_failed = true;
+                self.why = why(error.kind());
                 Err(Failed)
             }
         }

@@ -2,11 +2,14 @@
 
 ghost use Rattle.std.specs.Prelude.{None};
 
+use crate::faults::why;
 use byte_ports::Failed;
 use dme_orders::TextFile;
 use std::alloc::{AllocError, Global};
-use std::fs::{self, OpenFile};
-use std::io::Write;
+use std::fs::{self, OpenFile, OpenOptions};
+use std::io::{self, ErrorKind, Write};
+use std::os::unix::fs::{OpenOptionsExt, PermissionsExt};
+use std::path::Path;
 use std::rt::Files;
 
 /// The name of the file next to that of this name, in which its next text is made.
@@ -17,12 +20,58 @@ pub fn beside(alloc: Global, name: &str) -> Result<String, AllocError> {
     Ok(beside)
 }
 
+/// The name of the folder that a file of this name is in.
+pub fn folder_of(name: &str) -> &str {
+    match Path::new(name).parent() {
+        Some(folder) if !folder.as_str().is_empty() => folder.as_str(),
+        _ => ".",
+    }
+}
+
+/// Forces to the device that a file of this name was made, if its folder can be opened.
+pub fn settle_name<R: Files>(rt: &R, name: &str) -> io::Result<()> {
+    match fs::open(rt, folder_of(name)) {
+        Ok(folder) => folder.sync_all(),
+        Err(_) => Ok(()),
+    }
+}
+
 /// Whether a new file may take this name: nothing has it, or a plain file, which is no link, no device and no pipe.
 pub fn may_be_replaced<R: Files>(rt: &R, name: &str) -> bool {
     match fs::symlink_metadata(rt, name) {
         Ok(found) => found.is_file(),
         Err(_) => true,
     }
+}
+
+/// Whether a plain file has this name, or else nothing has. It fails for anything else: for a link as `FilesystemLoop`.
+pub fn is_plain<R: Files>(rt: &R, name: &str) -> io::Result<bool> {
+    match fs::symlink_metadata(rt, name) {
+        Ok(found) if found.is_file() => Ok(true),
+        Ok(found) if found.is_symlink() => Err(io::Error::from(ErrorKind::FilesystemLoop)),
+        Ok(found) if found.is_dir() => Err(io::Error::from(ErrorKind::IsADirectory)),
+        Ok(_) => Err(io::Error::from(ErrorKind::InvalidInput)),
+        Err(error) if error.kind() == ErrorKind::NotFound => Ok(false),
+        Err(error) => Err(error),
+    }
+}
+
+/// Makes a new file next to the one of this name, with its mode. A plain file that an earlier run has left there is removed first; with
+/// anything else there it fails as `AlreadyExists`.
+pub fn make_beside<R: Files>(rt: &R, name: &str, beside: &str) -> io::Result<R::File> {
+    if let Ok(true) = is_plain(rt, beside) {
+        fs::remove_file(rt, beside)?;
+    }
+    let mut how = OpenOptions::new();
+    how.append(true).create_new(true);
+    let Ok(found) = fs::metadata(rt, name) else {
+        return how.open(rt, beside);
+    };
+    let mode = found.permissions();
+    how.mode(mode.mode());
+    let file = how.open(rt, beside)?;
+    let _ = file.set_permissions(mode);
+    Ok(file)
 }
 
 /// Whether the file of this name has that many bytes: one that was removed or cut during a run has not.
@@ -41,6 +90,8 @@ pub struct NamedFile<'a, R> {
     rt: &'a R,
     names: Option<(String, String)>,
     has_failed: bool,
+    /// Why it has failed, as it is shown.
+    why: &'static str,
 }
 
 impl<'a, R: Files + AllocGlobal> NamedFile<'a, R> {
@@ -57,25 +108,26 @@ impl<'a, R: Files + AllocGlobal> NamedFile<'a, R> {
             rt,
             names,
             has_failed: false,
+            why: "",
         })
     }
 
-    /// Writes all of a text to a new file, forces it to the device, and only then gives the file its name.
-    fn settle(
-        &self,
-        file: &mut R::File,
-        text: &[u8],
-        beside: &str,
-        name: &str,
-    ) -> std::io::Result<()> {
+    /// Why the file could not be written, as it is shown after its name.
+    pub fn why(&self) -> &'static str {
+        self.why
+    }
+
+    /// Writes all of a text to a new file, forces it to the device, and only then gives the file its name, which is forced there too.
+    fn settle(&self, file: &mut R::File, text: &[u8], beside: &str, name: &str) -> io::Result<()> {
         file.write_all(text)?;
         file.sync_all()?;
-        fs::rename(self.rt, beside, name)
+        fs::rename(self.rt, beside, name)?;
+        settle_name(self.rt, name)
     }
 
     /// Puts a new file in the place of the one of this name. What was begun and could not be put there is removed.
-    fn put(&self, text: &[u8], beside: &str, name: &str) -> std::io::Result<()> {
-        let mut file = fs::create(self.rt, beside)?;
+    fn put(&self, text: &[u8], beside: &str, name: &str) -> io::Result<()> {
+        let mut file = make_beside(self.rt, name, beside)?;
         let result = self.settle(&mut file, text, beside, name);
         if result.is_err() {
             let _ = fs::remove_file(self.rt, beside);
@@ -84,7 +136,7 @@ impl<'a, R: Files + AllocGlobal> NamedFile<'a, R> {
     }
 
     /// Writes a text to the file of this name, which is replaced if it may be.
-    fn write(&self, text: &[u8], beside: &str, name: &str) -> std::io::Result<()> {
+    fn write(&self, text: &[u8], beside: &str, name: &str) -> io::Result<()> {
         if may_be_replaced(self.rt, name) {
             self.put(text, beside, name)
         } else {
@@ -99,10 +151,15 @@ impl<'a, R: Files + AllocGlobal> TextFile for NamedFile<'a, R> {
     ghost has_failed = { λ f. f.has_failed };
 
     fn replace(&mut self, text: &[u8]) -> Result<(), Failed> {
-        self.has_failed = match &self.names {
-            Some((name, beside)) => self.write(text, beside.as_str(), name.as_str()).is_err(),
-            None => false,
+        let result = match &self.names {
+            Some((name, beside)) => self.write(text, beside.as_str(), name.as_str()),
+            None => Ok(()),
         };
-        if self.has_failed { Err(Failed) } else { Ok(()) }
+        self.has_failed = result.is_err();
+        if let Err(error) = result {
+            self.why = why(error.kind());
+            return Err(Failed);
+        }
+        Ok(())
     }
 }

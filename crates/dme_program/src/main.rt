@@ -20,9 +20,28 @@ mod running;
 mod tracing;
 mod version;
 
+use std::fs::{File, OpenOptions};
+use std::os::fd::{AsRawFd, IntoRawFd};
 use std::process::ExitCode;
+use std::rt::Files;
+
+/// Gives the null device to each of descriptors 0 to 2 that is closed, so that no file and no connection is taken for a standard stream.
+/// Input can then not be read, nor the other two be written.
+fn take_closed_streams<R: Files<File = File>>(rt: &R) {
+    for number in 0..3 {
+        let mut how = OpenOptions::new();
+        how.read(number != 0).append(number == 0);
+        let Ok(null) = how.open(rt, "/dev/null") else {
+            return;
+        };
+        if null.as_raw_fd() == number {
+            let _ = null.into_raw_fd();
+        }
+    }
+}
 
 fn main(rt: HostRuntime) -> ExitCode {
+    take_closed_streams(&rt);
     match running::run(&rt) {
         Ok(status) => ExitCode::from(status),
         Err(fault) => {

@@ -248,7 +248,9 @@ fn carry_out<
         + Eprint
         + Clock
         + Net<Listener = TcpListener, Stream = TcpStream>
-        + AllocGlobal,
+        + AllocGlobal
+        + Clone
+        + Drop,
 >(rt: &R, order: Order) -> Result<u8, Fault>
     requires { IsReady order }
 {
@@ -279,7 +281,9 @@ pub fn run<
         + Eprint
         + Clock
         + Net<Listener = TcpListener, Stream = TcpStream>
-        + AllocGlobal,
+        + AllocGlobal
+        + Clone
+        + Drop,
 >(rt: &R) -> Result<u8, Fault> {
     let given = given_words(rt)?;
     if version::is_asked(given.as_slice()) {

@@ -4,21 +4,22 @@ ghost use Rattle.std.specs.Prelude.{◌≡◌, true};
 ghost use Rattle.client_core.specs.Clients.{is_window, may_connect};
 
 use crate::growing_files::{FeaturesFile, ReportedContacts};
+use crate::holding::{HeldFiles, refuse_meeting};
 use crate::keeping::{is_confirmed, tell_kept, tell_next};
 use crate::progress::Progress;
 use crate::recording::{Follower, Lent, OpenRecord, RecordWords, open_record, record_words};
 use crate::warning::warn;
 use byte_ports::{Ports, Sink, Writing};
-use client_core::{Client, ClientFault};
+use client_core::{Client, ClientFault, State};
 use contact_ledger::{CONNECTION_MAX, FeatureLedger, ServerLedger};
-use dme_files::{Fault, LockedFile, NamedFile, Sources, of_output, refused};
+use dme_files::{Fault, LockedFile, NamedFile, Sources, of_output, refused, unwritten};
 use dme_orders::{
-    FilesFault, InputFiles, OrderFault, RunEnd, RunOutputs, TextFile, drive, features_and_program,
-    kept_client,
+    ConnectionEnd, FilesFault, InputFiles, OrderFault, RunEnd, RunOutputs, TextFile, drive,
+    features_and_program, kept_client,
 };
 use dme_sockets::{
     Called, HeardPort, Log, Patience, PatientSink, PatientSource, Refusals, SaidPort, Side,
-    StopFile, Talk, call_server, seconds_of,
+    StopFile, Talk, call_server, leave, seconds_of,
 };
 use dme_words::Run;
 use dmis_program::Program;
@@ -67,6 +68,11 @@ fn is_unexpected(broken: Option<LoopFault>) -> bool {
     )
 }
 
+/// Whether a run was halted, and its connection not broken off: its server may still end the last command.
+fn is_halted(ended: &ConnectionEnd) -> bool {
+    matches!(ended.state, State::Halted) && ended.broken.is_none()
+}
+
 /// What is shown for a connection that the server's last line has broken off, with that line.
 fn with_line<R: AllocGlobal>(
     alloc: Global,
@@ -98,18 +104,19 @@ fn client_verdict<R: AllocGlobal>(
     }
 }
 
-/// What is shown of the end of a run whose features were to be written to the file that a call names, if any.
+/// What is shown of the end of a run whose features were to be written to the file that a call names, if any; `why` they were not.
 fn shown_end<R: Eprint + AllocGlobal>(
     rt: &R,
     driven: RunEnd,
-    call: &mut Call<'_>,
+    (call, why): (&mut Call<'_>, &'static str),
     known: (&Patience<'_, R>, &RefCell<Talk<'_, R>>),
 ) -> Result<u8, Fault> {
     let verdict = client_verdict(rt.alloc(), driven, known);
     if driven.is_kept {
         return verdict;
     }
-    with_unwritten(rt, verdict, call.features.take())
+    let name = call.features.take().map(|name| unwritten(name, why));
+    with_unwritten(rt, verdict, name)
 }
 
 /// How a run calls its server, and what it keeps and shows.
@@ -125,6 +132,8 @@ struct Call<'a> {
     wait: Option<u32>,
     /// What the program asks for, with the lines.
     tasks: &'a [TaskLine],
+    /// The files that grow once the connection is made.
+    held: &'a mut HeldFiles,
 }
 
 /// What is shown of the lines of a client's connection of this number, and of its server's errors.
@@ -213,45 +222,25 @@ fn drive_watched<R: Files + Eprint + Clock + AllocGlobal, F: TextFile, O: Sink>(
     result
 }
 
-/// The file of contacts of this name, if one is named, which begins with these acts.
-fn reported_contacts<R: Files<File = File> + AllocGlobal>(
-    rt: &R,
-    name: Option<&str>,
-    told: &ServerLedger,
-) -> Result<Option<ReportedContacts>, OrderFault> {
-    match name {
-        Some(name) => Ok(Some(ReportedContacts::open(rt, name, told)?)),
-        None => Ok(None),
-    }
-}
-
-/// The features file of this name that is to grow, if one is named.
-fn growing_features<R: Files<File = File> + AllocGlobal>(
-    rt: &R,
-    name: Option<&str>,
-    client: &Client,
-) -> Result<Option<FeaturesFile>, OrderFault> {
-    match name {
-        Some(name) => FeaturesFile::open(rt, name, client),
-        None => Ok(None),
-    }
-}
-
 /// A client comes to a connection, and its files grow from then on. `before` is the number of the connection, and what servers reported
 /// before it.
 fn begin_connection<R: Files<File = File> + Eprint + AllocGlobal>(
     rt: &R,
     client: &mut Client,
     before: (u64, &ServerLedger),
-    call: &Call<'_>,
+    call: &mut Call<'_>,
     follower: &mut Follower<'_, '_, R>,
 ) -> Result<(), Fault>
     requires { may_connect before.0 client.old.client ≡ true }
 {
     let (number, told) = before;
-    let growing = growing_features(rt, call.features.as_deref(), client)?;
-    let contacts = reported_contacts(rt, call.order.contacts.as_deref(), told)?;
-    follower.grow(growing, contacts);
+    if let Some(held) = call.held.features.take() {
+        follower.features = Some(FeaturesFile::begin(rt, held, client)?);
+    }
+    if let Some(name) = call.order.contacts.as_deref() {
+        let held = call.held.contacts.take();
+        follower.contacts = Some(ReportedContacts::begin(rt, name, held, told)?);
+    }
     match client.connected(number) {
         Ok(()) => Ok(()),
         Err(_) => Err(Fault::Order(OrderFault::Memory)),
@@ -263,7 +252,7 @@ fn drive_connection<R: Files<File = File> + Eprint + Clock + AllocGlobal, F: Tex
     rt: &R,
     client: &mut Client,
     before: (u64, &ServerLedger),
-    limited: (&TcpStream, &Call<'_>, &Patience<'_, R>),
+    limited: (&TcpStream, &mut Call<'_>, &Patience<'_, R>),
     follower: &mut Follower<'_, '_, R>,
     outputs: &mut RunOutputs<F, O>,
 ) -> Result<RunEnd, Fault>
@@ -291,7 +280,7 @@ fn drive_called<
     rt: &R,
     client: &mut Client,
     before: (u64, &ServerLedger),
-    limited: (&Call<'_>, &Patience<'_, R>),
+    limited: (&mut Call<'_>, &Patience<'_, R>),
     follower: &mut Follower<'_, '_, R>,
     outputs: &mut RunOutputs<F, O>,
 ) -> Result<Option<RunEnd>, Fault>
@@ -311,6 +300,11 @@ fn drive_called<
         follower,
         outputs,
     );
+    if let Ok(driven) = &driven
+        && is_halted(&driven.ended)
+    {
+        leave(&stream);
+    }
     drop(stream);
     match driven {
         Ok(driven) => Ok(Some(driven)),
@@ -346,13 +340,14 @@ fn drive_client<
         rt,
         client,
         before,
-        (&*call, patience),
+        (&mut *call, patience),
         follower,
         &mut outputs,
     );
+    let why = outputs.features.why();
     drop(outputs);
     match driven {
-        Ok(Some(driven)) => shown_end(rt, driven, call, (patience, follower.talk)),
+        Ok(Some(driven)) => shown_end(rt, driven, (call, why), (patience, follower.talk)),
         Ok(None) => Ok(patience.not_begun()),
         Err(fault) => Err(fault),
     }
@@ -381,7 +376,8 @@ fn drive_followed<
     let (call, patience) = limited;
     let (number, _) = before;
     let progress = Progress::new(rt, call.order.progress, client.program().features().len());
-    let mut follower = Follower::new(rt, progress, talk, number, record);
+    let counts = (number, client.features().len());
+    let mut follower = Follower::new(rt, progress, talk, counts, record);
     let verdict = drive_client(rt, client, before, (call, patience), &mut follower);
     let ended = follower.end();
     drop(follower);
@@ -610,11 +606,11 @@ fn drive_read<
 ) -> Result<u8, Fault>
     requires { is_window call.old.window ≡ true }
 {
-    let Some(words) = record else {
+    let (Some(words), Some(held)) = (record, call.held.record.take()) else {
         return drive_program(rt, read, call, patience);
     };
     let (kept, program) = read;
-    let opened = open_record(rt, sources, words, &program, &kept);
+    let opened = open_record(rt, sources, (words, held), &program, &kept);
     drop(kept);
     match opened {
         Ok(open) => drive_recorded(rt, open, program, call, patience),
@@ -637,6 +633,7 @@ fn drive_input<
     order: &mut Run,
     given: (RunInput, Option<RecordWords>),
     limited: (Option<u32>, &Patience<'_, R>),
+    held: &mut HeldFiles,
 ) -> Result<u8, Fault>
     requires { is_window order.old.window ≡ true }
 {
@@ -659,6 +656,7 @@ fn drive_input<
         log,
         wait,
         tasks: tasks.as_slice(),
+        held,
     };
     let done = drive_read(rt, sources, read, record, &mut call, patience);
     drop(call);
@@ -680,14 +678,21 @@ fn run_limited<
     order: &mut Run,
     record: Option<RecordWords>,
     limits: (Option<u32>, &Patience<'_, R>),
+    held: &mut HeldFiles,
 ) -> Result<u8, Fault>
     requires { is_window order.old.window ≡ true }
 {
+    let name = record.as_ref().map(|words| words.name.as_str());
+    held.hold(
+        rt,
+        name,
+        (order.features.as_deref(), order.contacts.as_deref()),
+    )?;
     let is_explained = order.explain;
     let mut sources = Sources::new(rt, is_explained);
     let names = take_names(rt.alloc(), order);
     match read_run(rt, &mut sources, names, is_explained) {
-        Ok(input) => drive_input(rt, &mut sources, order, (input, record), limits),
+        Ok(input) => drive_input(rt, &mut sources, order, (input, record), limits, held),
         Err(fault) => Err(fault),
     }
 }
@@ -706,14 +711,12 @@ fn run_order<
 {
     let timeout = seconds_of("timeout", order.timeout.take())?;
     let wait = seconds_of("wait", order.wait.take())?;
-    let record = record_words(
-        order.record.take(),
-        order.part.take(),
-        order.features.as_deref(),
-        order.explain,
-    )?;
+    refuse_meeting(rt, order)?;
+    let record = record_words(order.record.take(), order.part.take(), order.explain)?;
     let patience = Patience::new(rt, timeout, order.stop.take());
-    let done = run_limited(rt, order, record, (wait, &patience));
+    let mut held = HeldFiles::none();
+    let done = run_limited(rt, order, record, (wait, &patience), &mut held);
+    held.release(rt);
     drop(patience);
     done
 }

@@ -1,10 +1,11 @@
 // The files of features and of contacts, which grow during a run.
 
+use crate::holding::NamedHeld;
 use byte_ports::Failed;
 use client_core::Client;
 use contact_ledger::lines::cut_line;
 use contact_ledger::{ServerLedger, add_entry, write_contacts, write_features};
-use dme_files::{LockedFile, NamedFile, NextFile, beside, is_whole, may_be_replaced};
+use dme_files::{LockedFile, NamedFile, NextFile, beside, cannot_write, unwritten};
 use dme_orders::{OrderFault, TextFile};
 use record_keeping::GrowingFile;
 use std::alloc::{AllocError, Global};
@@ -26,46 +27,43 @@ fn text_after(alloc: Global, client: &Client, held: usize) -> Result<Vec<u8>, Al
     Ok(text)
 }
 
-/// A new file with this text in the place of that of this name, with its name. That must be one that may be replaced.
+/// A new file with this text in the place of one that is held, with its name.
 fn made_file<R: Files<File = File> + AllocGlobal>(
     rt: &R,
-    name: &str,
+    held: NamedHeld,
     text: &[u8],
 ) -> Result<(String, LockedFile), OrderFault> {
-    let name = String::from_str(rt.alloc(), name)?;
+    let (name, old) = held;
     let beside = beside(rt.alloc(), name.as_str())?;
-    let made = NextFile::replacing(rt, name.as_str(), beside.as_str(), text);
+    let names = (name.as_str(), beside.as_str());
+    let made = match NextFile::of(rt, old, names, text) {
+        Ok(next) => next.put(rt, names.0, names.1),
+        Err(error) => Err(error),
+    };
     drop(beside);
     match made {
         Ok(file) => Ok((name, file)),
-        Err(_) => Err(OrderFault::CannotWrite(name)),
+        Err(error) => Err(cannot_write(name, error.kind())),
     }
 }
 
-/// Likewise, without a file if that of this name may not be replaced.
-fn maybe_made_file<R: Files<File = File> + AllocGlobal>(
-    rt: &R,
-    name: &str,
-    text: &[u8],
-) -> Result<(String, Option<LockedFile>), OrderFault> {
-    if may_be_replaced(rt, name) {
-        let (name, file) = made_file(rt, name, text)?;
-        Ok((name, Some(file)))
-    } else {
-        Ok((String::from_str(rt.alloc(), name)?, None))
-    }
-}
-
-/// Puts a whole text in the place of the file of this name: whether that was possible. Fails only if out of memory.
+/// Puts a whole text in the place of the file of this name: the name and the reason if that was not possible. Fails only if out of memory.
 pub fn replace_whole<R: Files + AllocGlobal>(
     rt: &R,
-    name: &str,
+    name: &mut String,
     text: &[u8],
-) -> Result<bool, AllocError> {
-    let mut whole = NamedFile::new(rt, Some(name))?;
-    let is_replaced = whole.replace(text).is_ok();
+) -> Result<Option<String>, AllocError> {
+    let mut whole = NamedFile::new(rt, Some(name.as_str()))?;
+    let result = whole.replace(text);
+    let why = whole.why();
     drop(whole);
-    Ok(is_replaced)
+    match result {
+        Ok(()) => Ok(None),
+        Err(Failed) => {
+            let name = std::mem::replace(name, String::new(rt.alloc()));
+            Ok(Some(unwritten(name, why)))
+        }
+    }
 }
 
 /// A features file that grows: each completed feature is appended to it, and forced to the device.
@@ -81,49 +79,55 @@ pub struct FeaturesFile {
 }
 
 impl FeaturesFile {
-    /// Opens the file of this name, whose text are the features that a client holds from then on; none if something of this name is a
-    /// link, a device or a pipe, which is written only at the end.
-    pub fn open<R: Files<File = File> + AllocGlobal>(
+    /// The file that is held, whose text are the features that a client holds from then on.
+    pub fn begin<R: Files<File = File> + AllocGlobal>(
         rt: &R,
-        name: &str,
+        held: NamedHeld,
         client: &Client,
-    ) -> Result<Option<FeaturesFile>, OrderFault> {
-        if !may_be_replaced(rt, name) {
-            return Ok(None);
-        }
+    ) -> Result<FeaturesFile, OrderFault> {
         let mut text = Vec::new(rt.alloc());
         write_features(&mut text, client.features())?;
-        let made = made_file(rt, name, text.as_slice());
+        let made = made_file(rt, held, text.as_slice());
         drop(text);
         let (name, file) = made?;
-        Ok(Some(FeaturesFile {
+        Ok(FeaturesFile {
             name,
             file,
             held: client.features().len(),
             has_failed: false,
-        }))
+        })
     }
 
-    /// Appends what a client has completed since; false if that could not be written for the first time. If memory runs out, it is appended
-    /// after a later turn.
-    pub fn follow(&mut self, alloc: Global, client: &Client) -> bool {
+    /// Appends what a client has completed since; why that could not be written, if it failed for the first time. If memory runs out, it is
+    /// appended after a later turn.
+    pub fn follow(&mut self, alloc: Global, client: &Client) -> Option<&'static str> {
         let count = client.features().len();
         if self.has_failed || count <= self.held {
-            return true;
+            return None;
         }
         let Ok(text) = text_after(alloc, client, self.held) else {
-            return true;
+            return None;
         };
-        match self.file.append(text.as_slice(), true) {
-            Ok(()) => self.held = count,
-            Err(Failed) => self.has_failed = true,
+        if self.file.append(text.as_slice(), true).is_ok() {
+            self.held = count;
+            return None;
         }
-        !self.has_failed
+        self.has_failed = true;
+        Some(self.file.why())
+    }
+
+    /// How many features of a client are in the file; all, if it has failed.
+    pub fn known(&self, client: &Client) -> usize {
+        if self.has_failed {
+            client.features().len()
+        } else {
+            self.held
+        }
     }
 }
 
 /// The contacts that a server reports during a run, in a file that grows by each turn and that the whole text is put in the place of in the
-/// end, if it did not grow.
+/// end.
 #[derive(Drop)]
 pub struct ReportedContacts {
     pub name: String,
@@ -131,7 +135,7 @@ pub struct ReportedContacts {
     text: Vec<u8>,
     /// How many of the acts that the client has counted on its connection are in the text.
     told: usize,
-    /// How many bytes of the text the file has; all must be written in the end if it has none, or has failed.
+    /// How many bytes of the text the file has.
     filed: usize,
     file: Option<LockedFile>,
     /// Whether memory ran out for an act.
@@ -139,16 +143,23 @@ pub struct ReportedContacts {
 }
 
 impl ReportedContacts {
-    /// Opens the file of this name, whose text are these acts from then on. A link, a device or a pipe is written only at the end.
-    pub fn open<R: Files<File = File> + AllocGlobal>(
+    /// The file of this name, whose text are these acts from then on. One that is not held is written only at the end.
+    pub fn begin<R: Files<File = File> + AllocGlobal>(
         rt: &R,
         name: &str,
+        held: Option<NamedHeld>,
         ledger: &ServerLedger,
     ) -> Result<ReportedContacts, OrderFault> {
         let mut text = Vec::new(rt.alloc());
         write_contacts(&mut text, ledger)?;
         let filed = text.len();
-        let (name, file) = maybe_made_file(rt, name, text.as_slice())?;
+        let (name, file) = match held {
+            Some(held) => {
+                let (name, file) = made_file(rt, held, text.as_slice())?;
+                (name, Some(file))
+            }
+            None => (String::from_str(rt.alloc(), name)?, None),
+        };
         Ok(ReportedContacts {
             name,
             text,
@@ -169,24 +180,23 @@ impl ReportedContacts {
         Ok(())
     }
 
-    /// Follows a client after a turn; false if the file could not be written for the first time.
-    pub fn follow(&mut self, number: u64, client: &Client) -> bool {
+    /// Follows a client after a turn; why the file could not be written, if it failed for the first time.
+    pub fn follow(&mut self, number: u64, client: &Client) -> Option<&'static str> {
         self.is_short = self.tell(number, client).is_err();
         let Some(file) = &mut self.file else {
-            return true;
+            return None;
         };
         if self.filed >= self.text.len() {
-            return true;
+            return None;
         }
-        let is_kept = file
-            .append(&self.text.as_slice()[self.filed..], false)
-            .is_ok();
-        if is_kept {
+        let lacking = &self.text.as_slice()[self.filed..];
+        if file.append(lacking, false).is_ok() {
             self.filed = self.text.len();
-        } else {
-            self.file = None;
+            return None;
         }
-        is_kept
+        let why = file.why();
+        self.file = None;
+        Some(why)
     }
 
     /// Ends the file, once the run has ended: its name if it cannot be written. Fails only if memory ran out for an act.
@@ -194,13 +204,6 @@ impl ReportedContacts {
         if self.is_short {
             return Err(OrderFault::Memory);
         }
-        if self.file.is_some() && is_whole(rt, self.name.as_str(), self.text.len()) {
-            return Ok(None);
-        }
-        if replace_whole(rt, self.name.as_str(), self.text.as_slice())? {
-            return Ok(None);
-        }
-        let name = std::mem::replace(&mut self.name, String::new(rt.alloc()));
-        Ok(Some(name))
+        Ok(replace_whole(rt, &mut self.name, self.text.as_slice())?)
     }
 }

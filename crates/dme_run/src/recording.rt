@@ -3,12 +3,13 @@
 ghost use Rattle.std.specs.Prelude.{None};
 
 use crate::growing_files::{FeaturesFile, ReportedContacts, replace_whole};
+use crate::holding::NamedHeld;
 use crate::keeping::tell_kept;
 use crate::progress::Progress;
 use byte_ports::{PullFault, pull_all};
 use client_core::Client;
 use contact_ledger::{Feature, FeatureLedger};
-use dme_files::{Fault, LockedFile, Sources, is_whole, text_of};
+use dme_files::{Fault, HeldFile, LockedFile, Sources, cannot_write, is_whole, text_of};
 use dme_orders::OrderFault;
 use dme_sockets::Talk;
 use dmis_program::Program;
@@ -19,7 +20,7 @@ use refusal_guide::{Refused, write_other_part, write_other_program, write_place}
 use run_record::{RecordFault, is_part, read_record};
 use std::alloc::{AllocError, Global};
 use std::cell::RefCell;
-use std::fs::{self, File};
+use std::fs::File;
 use std::rt::Files;
 
 /// Which record a run keeps, and of which part.
@@ -33,12 +34,10 @@ pub struct RecordWords {
     pub explain: bool,
 }
 
-/// Which record the words of a command line name. A part needs a record, and has from 1 to 64 printable bytes; the record and the features
-/// are two files.
+/// Which record the words of a command line name. A part needs a record, and has from 1 to 64 printable bytes.
 pub fn record_words(
     record: Option<String>,
     part: Option<String>,
-    features: Option<&str>,
     explain: bool,
 ) -> Result<Option<RecordWords>, Fault> {
     let part = match part {
@@ -51,22 +50,11 @@ pub fn record_words(
             None => Ok(None),
         };
     };
-    if features == Some(name.as_str()) {
-        return Err(Fault::OneFile(name));
-    }
     Ok(Some(RecordWords {
         name,
         part,
         explain,
     }))
-}
-
-/// Whether something has this name that is no plain file, nor a link to one: no record can be kept there.
-fn is_no_file<R: Files>(rt: &R, name: &str) -> bool {
-    match fs::metadata(rt, name) {
-        Ok(found) => !found.is_file(),
-        Err(_) => false,
-    }
 }
 
 /// The whole text of a record's file; none if there is no such file.
@@ -76,9 +64,6 @@ fn read_whole<R: Files + Input + AllocGlobal>(
     words: &RecordWords,
 ) -> Result<Vec<u8>, OrderFault> {
     let name = String::from_str(rt.alloc(), words.name.as_str())?;
-    if is_no_file(rt, name.as_str()) {
-        return Err(OrderFault::CannotWrite(name));
-    }
     let mut source = sources.kept(Some(name));
     match pull_all(rt.alloc(), &mut source, 1_000_000) {
         Ok(text) => Ok(text),
@@ -178,61 +163,49 @@ fn beginning_of(
     }
 }
 
-/// Opens the file of a record of that many bytes, and gives it the text that a run continues from; none if that is not possible.
-fn locked_record<R: Files<File = File>>(
+/// Reads the record that is held, gives it the text that a run continues from, and reports what it gives back.
+fn begun<R: Files<File = File> + Input + Eprint + AllocGlobal>(
     rt: &R,
-    name: &str,
-    length: usize,
-    beginning: &Beginning,
-) -> Option<LockedFile> {
-    let mut file = LockedFile::open(rt, name, length).ok()?;
-    match file.begin(beginning.text.as_slice(), beginning.held, length) {
-        Ok(()) => Some(file),
-        Err(_) => None,
-    }
-}
-
-/// Opens the record whose text was read, and reports what it gives back.
-fn open_text<R: Files<File = File> + Eprint + AllocGlobal>(
-    rt: &R,
-    text: &[u8],
-    words: &mut RecordWords,
+    sources: &mut Sources<'_, R>,
+    (words, file): (&RecordWords, &mut HeldFile),
     program: &Program,
     features: &FeatureLedger,
-) -> Result<OpenRecord, Fault> {
-    let beginning = beginning_of(rt.alloc(), text, words, program, features)?;
-    let opened = locked_record(rt, words.name.as_str(), text.len(), &beginning);
-    let name = std::mem::replace(&mut words.name, String::new(rt.alloc()));
-    let Some(file) = opened else {
-        return Err(Fault::Order(OrderFault::CannotWrite(name)));
-    };
-    tell_kept(
-        rt,
-        name.as_str(),
-        beginning.features.list(),
-        program.features(),
-    );
-    Ok(OpenRecord {
-        name,
-        beginning,
-        file,
-    })
+) -> Result<Beginning, Fault> {
+    let text = read_whole(rt, sources, words)?;
+    let beginning = beginning_of(rt.alloc(), text.as_slice(), words, program, features)?;
+    let name = words.name.as_str();
+    let lengths = (beginning.held, text.len());
+    if let Err(error) = file.begin(rt, name, beginning.text.as_slice(), lengths) {
+        let name = String::from_str(rt.alloc(), name)?;
+        return Err(Fault::Order(cannot_write(name, error.kind())));
+    }
+    tell_kept(rt, name, beginning.features.list(), program.features());
+    Ok(beginning)
 }
 
-/// Reads and opens the record of a run of a program. It is refused, and left as it is, if it is damaged, or is of another part or program,
-/// or does not give back these features.
+/// Reads and begins the record of a run of a program, which is held. It is refused, and left as it is, if it is damaged, or is of another part
+/// or program, or does not give back these features.
 pub fn open_record<R: Files<File = File> + Input + Eprint + AllocGlobal>(
     rt: &R,
     sources: &mut Sources<'_, R>,
-    mut words: RecordWords,
+    (words, held): (RecordWords, NamedHeld),
     program: &Program,
     features: &FeatureLedger,
 ) -> Result<OpenRecord, Fault> {
-    let text = read_whole(rt, sources, &words)?;
-    let opened = open_text(rt, text.as_slice(), &mut words, program, features);
-    drop(text);
+    let (name, mut file) = held;
+    let begun = begun(rt, sources, (&words, &mut file), program, features);
     drop(words);
-    opened
+    match begun {
+        Ok(beginning) => Ok(OpenRecord {
+            name,
+            beginning,
+            file: file.growing(),
+        }),
+        Err(fault) => {
+            file.release(rt, name.as_str());
+            Err(fault)
+        }
+    }
 }
 
 /// Who follows a run: reports its progress, and keeps its features file and the contacts that its server reports. It has the recorder of
@@ -245,12 +218,19 @@ pub struct Follower<'a, 'b, R: Eprint> {
     pub talk: &'a RefCell<Talk<'b, R>>,
     /// The number of the connection.
     number: u64,
+    /// How many features were kept, or are on the device and were reported.
+    shown: usize,
     /// The name of the record, if there is one.
     name: Option<String>,
     recorder: Option<Recorder<LockedFile>>,
-    features: Option<FeaturesFile>,
-    contacts: Option<ReportedContacts>,
+    /// The features file that grows, from the connection on.
+    pub features: Option<FeaturesFile>,
+    /// Likewise the file of contacts.
+    pub contacts: Option<ReportedContacts>,
+    /// Whether it was reported that the record cannot be written.
     is_told: bool,
+    /// Likewise, for lack of memory.
+    is_short: bool,
 }
 
 impl<'a, 'b, R: Eprint> Follower<'a, 'b, R> {
@@ -258,7 +238,7 @@ impl<'a, 'b, R: Eprint> Follower<'a, 'b, R> {
         rt: &'b R,
         progress: Progress<'b, R>,
         talk: &'a RefCell<Talk<'b, R>>,
-        number: u64,
+        (number, shown): (u64, usize),
         record: Option<(String, Recorder<LockedFile>)>,
     ) -> Self {
         let (name, recorder) = match record {
@@ -270,18 +250,14 @@ impl<'a, 'b, R: Eprint> Follower<'a, 'b, R> {
             progress,
             talk,
             number,
+            shown,
             name,
             recorder,
             features: None,
             contacts: None,
             is_told: false,
+            is_short: false,
         }
-    }
-
-    /// From now on a features file grows too, and one of contacts.
-    pub fn grow(&mut self, features: Option<FeaturesFile>, contacts: Option<ReportedContacts>) {
-        self.features = features;
-        self.contacts = contacts;
     }
 
     /// The recorder goes to the run that it records.
@@ -304,14 +280,10 @@ impl<'a, 'b, R: Eprint + AllocGlobal> Follower<'a, 'b, R> {
         }
     }
 
-    /// Reports once that the record could not be written.
-    fn tell_unwritten(&mut self) {
-        if self.is_told {
-            return;
-        }
-        self.is_told = true;
+    /// Reports that the record could not be written.
+    fn tell_unwritten(&self, why: &'static str) {
         if let Some(name) = &self.name {
-            let _ = eprintln!(self.rt; "dme: cannot write {name}");
+            let _ = eprintln!(self.rt; "dme: cannot write {name}{why}");
         }
     }
 
@@ -320,9 +292,29 @@ impl<'a, 'b, R: Eprint + AllocGlobal> Follower<'a, 'b, R> {
         let Some(contacts) = &mut self.contacts else {
             return;
         };
-        if !contacts.follow(self.number, client) {
+        if let Some(why) = contacts.follow(self.number, client) {
             let name = &contacts.name;
-            let _ = eprintln!(self.rt; "dme: cannot write {name}");
+            let _ = eprintln!(self.rt; "dme: cannot write {name}{why}");
+        }
+    }
+
+    /// Likewise, to the features file what it has completed. How many features the file has then, or could have, had it not failed.
+    fn add_features(&mut self, client: &Client) -> usize {
+        let Some(file) = &mut self.features else {
+            return client.features().len();
+        };
+        if let Some(why) = file.follow(self.rt.alloc(), client) {
+            let name = &file.name;
+            let _ = eprintln!(self.rt; "dme: cannot write {name}{why}");
+        }
+        file.known(client)
+    }
+
+    /// Reports the completed features up to this number, if asked.
+    fn show_features(&mut self, features: &[Feature], count: usize) {
+        for at in self.shown..count.min(features.len()) {
+            self.progress.completed(at + 1, &features[at]);
+            self.shown = at + 1;
         }
     }
 }
@@ -339,10 +331,7 @@ fn end_record<R: Files + AllocGlobal>(
     if !recorder.has_failed() && is_whole(rt, name.as_str(), recorder.text().len()) {
         return Ok(None);
     }
-    if replace_whole(rt, name.as_str(), recorder.text())? {
-        return Ok(None);
-    }
-    Ok(Some(std::mem::replace(name, String::new(rt.alloc()))))
+    Ok(replace_whole(rt, name, recorder.text())?)
 }
 
 impl<'a, 'b, R: Files + Eprint + AllocGlobal> Follower<'a, 'b, R> {
@@ -364,20 +353,14 @@ impl<'a, 'b, R: Files + Eprint + AllocGlobal> Follower<'a, 'b, R> {
 impl<'a, 'b, R: Eprint + AllocGlobal> Watcher for Follower<'a, 'b, R> {
     ghost told = { λ _. None };
 
-    fn completed(&mut self, number: usize, feature: &Feature) {
-        self.progress.completed(number, feature);
-    }
+    /// Nothing yet: the feature is reported once it is on the device.
+    fn completed(&mut self, _number: usize, _feature: &Feature) {}
 
     fn turned(&mut self, client: &Client) {
         self.errors();
         self.add_contacts(client);
-        let Some(file) = &mut self.features else {
-            return;
-        };
-        if !file.follow(self.rt.alloc(), client) {
-            let name = &file.name;
-            let _ = eprintln!(self.rt; "dme: cannot write {name}");
-        }
+        let count = self.add_features(client);
+        self.show_features(client.features(), count);
     }
 }
 
@@ -398,9 +381,14 @@ impl<'c, 'a, 'b, R: Eprint + AllocGlobal> Reports for Lent<'c, 'a, 'b, R> {
         self.follower.errors()
     }
 
-    fn followed(&mut self, has_failed: bool) {
-        if has_failed {
-            self.follower.tell_unwritten();
+    fn followed(&mut self, has_failed: bool, is_whole: bool) {
+        if has_failed && !self.follower.is_told {
+            self.follower.tell_unwritten("");
+            self.follower.is_told = true;
+        }
+        if !is_whole && !self.follower.is_short {
+            self.follower.tell_unwritten(": out of memory");
+            self.follower.is_short = true;
         }
     }
 }
@@ -408,9 +396,7 @@ impl<'c, 'a, 'b, R: Eprint + AllocGlobal> Reports for Lent<'c, 'a, 'b, R> {
 impl<'c, 'a, 'b, R: Eprint + AllocGlobal> Watcher for Lent<'c, 'a, 'b, R> {
     ghost told = { λ _. None };
 
-    fn completed(&mut self, number: usize, feature: &Feature) {
-        self.follower.completed(number, feature);
-    }
+    fn completed(&mut self, _number: usize, _feature: &Feature) {}
 
     fn turned(&mut self, client: &Client) {
         self.follower.turned(client);

@@ -1,10 +1,8 @@
 // The file of contacts, which grows while a server serves.
 
-use byte_ports::Failed;
 use contact_ledger::{ServerLedger, add_entry, write_contacts};
-use dme_files::{LockedFile, NextFile, beside, may_be_replaced};
+use dme_files::{Journal, NextJournal, may_be_replaced};
 use dme_orders::OrderFault;
-use record_keeping::GrowingFile;
 use std::alloc::{AllocError, Global};
 use std::fs::File;
 use std::rt::Files;
@@ -27,65 +25,20 @@ fn empty_text(alloc: Global) -> Result<Vec<u8>, AllocError> {
     Ok(text)
 }
 
-/// A contacts file that can be written, and is as it was until the server listens.
-#[derive(Drop)]
-pub struct NextContacts {
-    name: String,
-    beside: String,
-    next: NextFile,
-}
-
-impl NextContacts {
-    /// Locks the file of this name; none if something of this name is a link, a device or a pipe, which is written only at the end.
-    pub fn make<R: Files<File = File> + AllocGlobal>(
-        rt: &R,
-        name: &str,
-    ) -> Result<Option<NextContacts>, OrderFault> {
-        if !may_be_replaced(rt, name) {
-            return Ok(None);
-        }
-        let text = empty_text(rt.alloc())?;
-        let made = NextContacts::with(rt, name, text.as_slice());
-        drop(text);
-        match made {
-            Ok(next) => Ok(Some(next)),
-            Err(fault) => Err(fault),
-        }
+/// The contacts file of this name that is to grow; none if something of this name is a link, a device or a pipe, which is written only at
+/// the end.
+pub fn next_contacts<R: Files<File = File> + AllocGlobal>(
+    rt: &R,
+    name: &str,
+) -> Result<Option<NextJournal>, OrderFault> {
+    if !may_be_replaced(rt, name) {
+        return Ok(None);
     }
-
-    /// Likewise, with this text, of a file that may be replaced.
-    fn with<R: Files<File = File> + AllocGlobal>(
-        rt: &R,
-        name: &str,
-        text: &[u8],
-    ) -> Result<NextContacts, OrderFault> {
-        let name = String::from_str(rt.alloc(), name)?;
-        let beside = beside(rt.alloc(), name.as_str())?;
-        match NextFile::make(rt, name.as_str(), beside.as_str(), text) {
-            Ok(next) => Ok(NextContacts { name, beside, next }),
-            Err(_) => Err(OrderFault::CannotWrite(name)),
-        }
-    }
-
-    /// From now on the file has no act, and grows.
-    pub fn begin<R: Files<File = File>>(self, rt: &R) -> Result<ContactsFile, OrderFault> {
-        let NextContacts { name, beside, next } = self;
-        match next.put(rt, name.as_str(), beside.as_str()) {
-            Ok(file) => Ok(ContactsFile {
-                name,
-                file,
-                held: 0,
-                has_failed: false,
-            }),
-            Err(_) => Err(OrderFault::CannotWrite(name)),
-        }
-    }
-
-    /// Leaves the file as it was.
-    pub fn discard<R: Files<File = File>>(self, rt: &R) {
-        let NextContacts { name, beside, next } = self;
-        next.discard(rt, name.as_str(), beside.as_str());
-    }
+    let name = String::from_str(rt.alloc(), name)?;
+    let text = empty_text(rt.alloc())?;
+    let made = NextJournal::make(rt, name, text.as_slice());
+    drop(text);
+    Ok(Some(made?))
 }
 
 /// A contacts file that grows: what a server has done in a turn is appended to it by one write.
@@ -93,14 +46,26 @@ impl NextContacts {
 /// A file that fails stops nothing, and is not written any more.
 #[derive(Drop)]
 pub struct ContactsFile {
-    pub name: String,
-    file: LockedFile,
+    journal: Journal,
     /// How many acts it has.
     held: usize,
     has_failed: bool,
 }
 
 impl ContactsFile {
+    /// A journal that has no act.
+    pub fn new(journal: Journal) -> ContactsFile {
+        ContactsFile {
+            journal,
+            held: 0,
+            has_failed: false,
+        }
+    }
+
+    pub fn name(&self) -> &str {
+        self.journal.name.as_str()
+    }
+
     /// Appends what a server has done since; false if that could not be written for the first time. If memory runs out, it is appended
     /// after a later turn.
     pub fn follow(&mut self, alloc: Global, ledger: &ServerLedger) -> bool {
@@ -111,9 +76,10 @@ impl ContactsFile {
         let Ok(text) = acts_after(alloc, ledger, self.held) else {
             return true;
         };
-        match self.file.append(text.as_slice(), false) {
-            Ok(()) => self.held = count,
-            Err(Failed) => self.has_failed = true,
+        if self.journal.add(text.as_slice()) {
+            self.held = count;
+        } else {
+            self.has_failed = true;
         }
         !self.has_failed
     }

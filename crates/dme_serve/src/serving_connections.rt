@@ -2,10 +2,10 @@
 
 ghost use Rattle.std.specs.Prelude.{None};
 
-use crate::contacts_file::{ContactsFile, NextContacts};
+use crate::contacts_file::{ContactsFile, next_contacts};
 use byte_ports::{Ports, Writing};
 use contact_ledger::ServerLedger;
-use dme_files::{Fault, NamedFile, Sources, of_output, refused};
+use dme_files::{Fault, NamedFile, NextJournal, Sources, of_output, refused};
 use dme_orders::{
     InputFiles, OrderFault, TextFile, close_service, read_setup, serve_one, shown_break, with_break,
 };
@@ -40,7 +40,7 @@ impl<'a, R: Eprint + AllocGlobal> ServerWatcher for Keeper<'a, R> {
             return;
         };
         if !file.follow(self.rt.alloc(), ledger) {
-            let name = &file.name;
+            let name = file.name();
             let _ = eprintln!(self.rt; "dme: cannot write {name}");
         }
     }
@@ -194,33 +194,24 @@ fn service_verdict<R: Eprint + AllocGlobal>(
     Err(patience.shown(rt.alloc(), shown, "client"))
 }
 
-/// The contacts file of this name that is to grow, if one is named.
-fn next_contacts<R: Files<File = File> + AllocGlobal>(
-    rt: &R,
-    name: Option<&str>,
-) -> Result<Option<NextContacts>, OrderFault> {
-    match name {
-        Some(name) => NextContacts::make(rt, name),
-        None => Ok(None),
-    }
-}
-
 /// From now on the contacts file grows, if it is one that does.
-fn begin<R: Files<File = File>>(
+fn begin<R: Files<File = File> + Eprint + AllocGlobal>(
     rt: &R,
-    next: Option<NextContacts>,
+    next: Option<NextJournal>,
 ) -> Result<Option<ContactsFile>, OrderFault> {
     match next {
-        Some(next) => Ok(Some(next.begin(rt)?)),
+        Some(next) => Ok(Some(ContactsFile::new(next.begin(rt)?))),
         None => Ok(None),
     }
 }
 
 /// Listens, and from then on the contacts file grows. If it cannot listen, that file is as it was.
-fn listen<R: Files<File = File> + Eprint + Net<Listener = TcpListener, Stream = TcpStream>>(
+fn listen<
+    R: Files<File = File> + Eprint + Net<Listener = TcpListener, Stream = TcpStream> + AllocGlobal,
+>(
     rt: &R,
     order: &Service,
-    next: Option<NextContacts>,
+    next: Option<NextJournal>,
 ) -> Result<(TcpListener, Option<ContactsFile>), OrderFault> {
     match listener_of(rt, order) {
         Ok(listener) => {
@@ -277,7 +268,10 @@ fn serve_made<
     file: &mut F,
 ) -> Result<u8, Fault> {
     let rt = serving.keeper.rt;
-    let next = next_contacts(rt, order.contacts.as_deref())?;
+    let next = match &order.contacts {
+        Some(name) => next_contacts(rt, name.as_str())?,
+        None => None,
+    };
     let (listener, growing) = listen(rt, order, next)?;
     serving.keeper.file = growing;
     let broken = serve_connections(&listener, serving, order, talk, patience);

@@ -1,9 +1,9 @@
-// A server is called, for as long as that is allowed.
+// A server is called, for as long as that is allowed, and left.
 
 use crate::waiting::{LOOK_MS, Patience};
 use dme_orders::OrderFault;
-use std::io::{self, Error, ErrorKind};
-use std::net::{Net, TcpListener, TcpStream, ToSocketAddrs};
+use std::io::{self, Error, ErrorKind, Read};
+use std::net::{Net, Shutdown, TcpListener, TcpStream, ToSocketAddrs};
 use std::rt::{Clock, Files};
 use std::thread;
 use std::time::{Duration, Instant};
@@ -115,5 +115,26 @@ pub fn call_server<R: Files + Clock + Net<Listener = TcpListener, Stream = TcpSt
     match patience.limit(&stream) {
         Ok(()) => Ok(Called::Connected(stream)),
         Err(error) => Err(no_connection(&error, true)),
+    }
+}
+
+/// How often it looks whether a server that is left leaves, too.
+const LEAVING_LOOKS: u32 = 10;
+
+/// Leaves a server in order: no more is sent, and what still comes is dropped, until the server leaves, too, or a second is over. A stream
+/// that is dropped before its bytes are read resets its connection.
+pub fn leave(stream: &TcpStream) {
+    let look = Some(Duration::from_millis(LOOK_MS));
+    if stream.shutdown(Shutdown::Write).is_err() || stream.set_read_timeout(look).is_err() {
+        return;
+    }
+    let mut stream = stream;
+    let mut dropped = [0u8; 4096];
+    for _look in 0..LEAVING_LOOKS {
+        match stream.read(&mut dropped) {
+            Ok(count) if count > 0 => {}
+            Err(error) if matches!(error.kind(), ErrorKind::WouldBlock | ErrorKind::TimedOut) => {}
+            _ => return,
+        }
     }
 }

@@ -2,8 +2,8 @@
 
 ghost use Rattle.std.specs.Prelude.{◌≤◌, length, IfOk, IfSome};
 
-use crate::told_file::{NextTold, ToldFile};
-use dme_files::Fault;
+use crate::recordings::Recording;
+use dme_files::{Fault, Journal, NextJournal};
 use dme_orders::OrderFault;
 use dme_sockets::{
     Called, LOOK_MS, Log, Patience, Side, Talk, call_server, no_connection, seconds_of,
@@ -12,12 +12,12 @@ use dme_words::Watch;
 use mio::net::TcpStream as Socket;
 use mio::{Events, Interest, Poll, Token};
 use std::alloc::{AllocError, Global};
-use std::fs::{self, File};
+use std::fs::File;
 use std::io::{self, ErrorKind, Read, Write};
 use std::net::{Net, Shutdown, TcpListener, TcpStream};
 use std::rt::{Clock, Files};
 use std::time::{Duration, Instant};
-use told_ledger::Relay;
+use told_ledger::{HEADER, Relay};
 
 /// The most bytes that are read at once.
 const PIECE: usize = 65_536;
@@ -57,50 +57,15 @@ impl From<io::Error> for Ended {
     }
 }
 
-/// The files that the bytes of a connection are kept in, by their names.
-#[derive(Drop)]
-struct Recording {
-    up: (String, File),
-    down: (String, File),
-}
-
 /// What is kept and shown of connections.
 #[derive(Drop)]
 struct Keeper<'a, R: Eprint> {
     rt: &'a R,
-    told: ToldFile,
+    told: Option<Journal>,
     folder: Option<String>,
     recording: Option<Recording>,
     talk: Talk<'a, R>,
     has_failed: bool,
-}
-
-/// A new file of this name in a folder, with its name.
-fn file_in<R: Files<File = File> + AllocGlobal>(
-    rt: &R,
-    folder: &str,
-    number: u64,
-    end: &str,
-) -> Result<(String, File), OrderFault> {
-    let name = format!(in rt.alloc(); "{folder}/{number}.{end}")?;
-    match fs::create(rt, name.as_str()) {
-        Ok(file) => Ok((name, file)),
-        Err(_) => Err(OrderFault::CannotWrite(name)),
-    }
-}
-
-/// The files that the bytes of the connection of this number are kept in, if a folder is named.
-fn recording_of<R: Files<File = File> + AllocGlobal>(
-    rt: &R,
-    folder: Option<&str>,
-    number: u64,
-) -> Result<Option<Recording>, OrderFault> {
-    let Some(folder) = folder else {
-        return Ok(None);
-    };
-    let up = file_in(rt, folder, number, "up")?;
-    let down = file_in(rt, folder, number, "down")?;
-    Ok(Some(Recording { up, down }))
 }
 
 impl<'a, R: Files<File = File> + Eprint + Clock + AllocGlobal> Keeper<'a, R> {
@@ -113,11 +78,14 @@ impl<'a, R: Files<File = File> + Eprint + Clock + AllocGlobal> Keeper<'a, R> {
     /// The connection of this number begins.
     fn begin(&mut self, number: u64) {
         self.talk.begin(number);
+        let Some(folder) = &self.folder else {
+            return;
+        };
         if number == 1 {
             return;
         }
-        match recording_of(self.rt, self.folder.as_deref(), number) {
-            Ok(recording) => self.recording = recording,
+        match Recording::new(self.rt, folder.as_str(), number) {
+            Ok(recording) => self.recording = Some(recording),
             Err(fault) => {
                 self.recording = None;
                 self.fail(fault);
@@ -144,10 +112,14 @@ impl<'a, R: Files<File = File> + Eprint + Clock + AllocGlobal> Keeper<'a, R> {
 
     /// Lines are written that the server has told.
     fn tell(&mut self, lines: &[u8]) {
-        if !lines.is_empty() && !self.told.add(lines) {
-            let name = &self.told.name;
+        let Some(told) = &mut self.told else {
+            return;
+        };
+        if !lines.is_empty() && !told.add(lines) {
+            let name = &told.name;
             let _ = eprintln!(self.rt; "dme: cannot write {name}");
             self.has_failed = true;
+            self.told = None;
         }
     }
 }
@@ -526,21 +498,49 @@ fn relay_all<
     Ok(if is_broken || keeper.has_failed { 1 } else { 0 })
 }
 
-/// Listens, and from then on the told file grows. If it cannot listen, that file is as it was.
-fn listen<R: Files<File = File> + Net<Listener = TcpListener, Stream = TcpStream> + AllocGlobal>(
-    rt: &R,
-    order: &Watch,
-) -> Result<(TcpListener, ToldFile), Fault> {
+/// Listens, and makes the files of the first connection's bytes, if a folder for them is named.
+fn bind<
+    R: Files<File = File>
+        + Net<Listener = TcpListener, Stream = TcpStream>
+        + AllocGlobal
+        + Clone
+        + Drop,
+>(rt: &R, order: &Watch) -> Result<(TcpListener, Option<Recording>), Fault> {
+    let listener = match TcpListener::bind(rt, ("127.0.0.1", order.listen)) {
+        Ok(listener) => listener,
+        Err(error) => return Err(Fault::Order(no_connection(&error, true))),
+    };
+    match &order.record_bytes {
+        Some(folder) => Ok((listener, Some(Recording::first(rt, folder.as_str())?))),
+        None => Ok((listener, None)),
+    }
+}
+
+/// Listens, and from then on the told file grows. If it cannot listen, or keep the bytes, that file is as it was.
+fn listen<
+    R: Files<File = File>
+        + Eprint
+        + Net<Listener = TcpListener, Stream = TcpStream>
+        + AllocGlobal
+        + Clone
+        + Drop,
+>(rt: &R, order: &Watch) -> Result<(TcpListener, Option<Recording>, Journal), Fault> {
     let name = String::from_str(rt.alloc(), order.told.as_str())?;
-    let next = NextTold::make(rt, name)?;
-    match TcpListener::bind(rt, ("127.0.0.1", order.listen)) {
-        Ok(listener) => match next.begin(rt) {
-            Ok(told) => Ok((listener, told)),
-            Err(fault) => Err(Fault::Order(fault)),
-        },
-        Err(error) => {
+    let next = NextJournal::make(rt, name, HEADER)?;
+    let (listener, recording) = match bind(rt, order) {
+        Ok(bound) => bound,
+        Err(fault) => {
             next.discard(rt);
-            Err(Fault::Order(no_connection(&error, true)))
+            return Err(fault);
+        }
+    };
+    match next.begin(rt) {
+        Ok(told) => Ok((listener, recording, told)),
+        Err(fault) => {
+            if let Some(recording) = recording {
+                recording.discard(rt);
+            }
+            Err(Fault::Order(fault))
         }
     }
 }
@@ -551,15 +551,16 @@ fn watch_order<
         + Eprint
         + Clock
         + Net<Listener = TcpListener, Stream = TcpStream>
-        + AllocGlobal,
+        + AllocGlobal
+        + Clone
+        + Drop,
 >(rt: &R, order: &mut Watch) -> Result<u8, Fault> {
     let timeout = seconds_of("timeout", order.timeout.take())?;
-    let recording = recording_of(rt, order.record_bytes.as_deref(), 1)?;
-    let (listener, told) = listen(rt, order)?;
+    let (listener, recording, told) = listen(rt, order)?;
     let log = Log::named(rt, order.log.take());
     let mut keeper = Keeper {
         rt,
-        told,
+        told: Some(told),
         folder: order.record_bytes.take(),
         recording,
         talk: Talk::new(rt, order.trace, log),
@@ -581,7 +582,9 @@ pub fn watch<
         + Eprint
         + Clock
         + Net<Listener = TcpListener, Stream = TcpStream>
-        + AllocGlobal,
+        + AllocGlobal
+        + Clone
+        + Drop,
 >(rt: &R, mut order: Watch) -> Result<u8, Fault> {
     let done = watch_order(rt, &mut order);
     drop(order);

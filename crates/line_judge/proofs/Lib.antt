@@ -4,3 +4,4 @@ mod Cuts
 mod Stages
 mod TextLemmas
 mod FirstBreaks
+mod Halts

@@ -10,6 +10,9 @@ pub above_more : {X : Type 0} (xs : List X) (at : ℕ) (d : X) → at < length x
     → reverse (take (at + 1) xs) ≡ get_or xs at d ∷ reverse (take at xs)
 above_more xs at d short = ap reverse (take_more xs at d short) ∙ reverse-append (take at xs) (get_or xs at d ∷ [])
 
+pub above_count : {X : Type 0} (xs : List X) → length (reverse xs) ≡ length xs
+above_count xs = length-reverse xs
+
 -- what is found in the lines from one on
 pub first_more : {X : Type 0} (rule : List X → X → Option Rule) (xs : List X) (at : ℕ) (d : X) → at < length xs
     → first_break rule (reverse (take at xs)) (drop at xs)

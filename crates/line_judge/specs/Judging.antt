@@ -48,7 +48,7 @@ end_break None count fault = fault_found count fault
 
 -- what is found in the lines of the client, and in those of the server
 abbrev pub client_found : List Sent → Option FramingFault → List Heard → Option Found
-client_found up fault down = end_break (first_break (client_rule down) [] up) (length up) fault
+client_found up fault down = end_break (first_break (client_rule up down) [] up) (length up) fault
 
 abbrev pub server_found : List Sent → List Heard → Option FramingFault → Option Found
 server_found up down fault = end_break (first_break (server_rule up) [] down) (length down) fault

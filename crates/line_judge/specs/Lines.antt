@@ -1,5 +1,6 @@
 -- What a line of either end is, by what it reads as (this profile).
-use Rattle.std.specs.Prelude.{ℕ, Bool, List, drop, Result, Ok, Err, if◌then◌else◌}
+use Rattle.std.specs.Prelude.{ℕ, Bool, List, drop, codes, nat_eq, Result, Ok, Err, if◌then◌else◌}
+use Rattle.std.specs.List.{starts_with}
 use Rattle.fixed_um.specs.declared.lengths.Point.{Point}
 use Rattle.dme_line.specs.Kinds.{kind_of}
 use Rattle.dme_line.specs.declared.tags.Tag.{Tag}
@@ -20,6 +21,8 @@ use Rattle.line_judge.specs.declared.lines.Heard.{Heard}
 use Rattle.line_judge.specs.declared.lines.Heard.TheVariants as heard
 use Rattle.line_judge.specs.declared.lines.Reply.{Reply}
 use Rattle.line_judge.specs.declared.lines.Reply.TheVariants as reply
+use Rattle.line_judge.specs.declared.lines.Severity.{Severity}
+use Rattle.line_judge.specs.declared.lines.Severity.TheVariants as severity
 use Rattle.line_judge.specs.declared.lines.Sent.{Sent}
 use Rattle.line_judge.specs.declared.lines.Sent.TheVariants as sent
 
@@ -51,11 +54,15 @@ data_as (Err why) (Err also) = data_is.Other
 abbrev pub data_of : List ℕ → Data
 data_of text = data_as (point_of text) (homed_of text)
 
+-- the severity of an error, by its text; that of this profile is 3
+abbrev pub severity_of : List ℕ → Severity
+severity_of text = if starts_with nat_eq text (codes "Error(3,") then severity.Three else severity.Other
+
 abbrev pub reply_as : Mark → Reply
 reply_as mark.Ack = reply.Received
 reply_as (mark.Given text) = reply.Given (data_of text)
 reply_as mark.Done = reply.Complete
-reply_as (mark.Error text) = reply.Error
+reply_as (mark.Error text) = reply.Error (severity_of text)
 
 -- a line by what it reads as
 abbrev pub heard_as : Result Response NotResponse → Heard

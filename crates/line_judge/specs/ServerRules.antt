@@ -1,5 +1,5 @@
 -- The rules for a line of the server (this profile), judged by all lines of the client and the lines of the server above it, the nearest first.
-use Rattle.std.specs.Prelude.{ℕ, zero, suc, ◌==◌, Bool, true, false, ◌&&◌, ◌||◌, not, nat_lt, if◌then◌else◌, List, Option, Some, None, slice_get}
+use Rattle.std.specs.Prelude.{ℕ, ◌+◌, ◌==◌, Bool, true, false, ◌&&◌, ◌||◌, not, nat_lt, nat_le, if◌then◌else◌, List, [], ◌∷◌, ◌++◌, Option, Some, None, slice_get}
 use Rattle.std.specs.List.{list_any}
 use Rattle.dme_line.specs.declared.tags.Tag.{Tag}
 use Rattle.dme_line.specs.declared.tags.Tag.TheVariants.{Std, Event}
@@ -16,8 +16,12 @@ use Rattle.line_judge.specs.declared.lines.Sent.{Sent}
 use Rattle.line_judge.specs.declared.lines.Sent.TheVariants as sent
 use Rattle.line_judge.specs.declared.rules.Asks.{Asks}
 use Rattle.line_judge.specs.declared.rules.Asks.TheVariants as asks
+use Rattle.line_judge.specs.declared.rules.Halt.{Halt}
 use Rattle.line_judge.specs.declared.rules.Rule.{Rule}
 use Rattle.line_judge.specs.declared.rules.Rule.TheVariants as rule
+use Rattle.line_judge.specs.declared.lines.Severity.TheVariants as severity
+use Rattle.line_judge.specs.declared.rules.Sought.{Sought}
+use Rattle.line_judge.specs.declared.rules.Sought.TheVariants as sought
 use Rattle.line_judge.specs.declared.rules.Stage.{Stage}
 use Rattle.line_judge.specs.declared.rules.Stage.TheVariants as stage
 
@@ -50,25 +54,78 @@ abbrev pub is_queued : Sent → Bool
 is_queued (sent.Command (Std n) k) = true
 is_queued _ = false
 
+-- an AbortE, which ends once all commands above it have failed or ended
+abbrev pub is_abort : Sent → Bool
+is_abort (sent.Command (Event n) kind.AbortE) = true
+is_abort _ = false
+
+abbrev pub is_clear : Sent → Bool
+is_clear (sent.Command t kind.ClearAllErrors) = true
+is_clear _ = false
+
+abbrev pub is_session_end : Sent → Bool
+is_session_end (sent.Command t kind.EndSession) = true
+is_session_end _ = false
+
 -- a command has neither failed nor ended
 abbrev pub is_open : Stage → Bool
 is_open stage.Failed = false
 is_open stage.Ended = false
 is_open _ = true
 
--- the line at a place is such a command, and it is open
-abbrev pub waits_by : Option Sent → Stage → Bool
-waits_by None s = false
-waits_by (Some line) s = is_queued line && is_open s
+abbrev pub is_ended : Stage → Bool
+is_ended stage.Ended = true
+is_ended _ = false
 
--- one of the first n lines is
-abbrev pub some_wait : List Sent → List Heard → ℕ → Bool
-some_wait up above zero = false
-some_wait up above (suc n) = waits_by (slice_get up n) (stage_of up above n) || some_wait up above n
+-- a line of the client is one of those that are looked for
+abbrev pub is_sought : Sought → Sent → Stage → Bool
+is_sought sought.Open line s = is_queued line && is_open s
+is_sought sought.Unended line s = is_queued line && not (is_ended s)
+is_sought sought.Clearing line s = is_clear line && is_open s
+
+-- the place of the first of these lines that is, where the first of them is at a place; the place after the last, if none is
+abbrev pub front_from : Sought → List Sent → List Heard → ℕ → List Sent → ℕ
+front_from w up above at [] = at
+front_from w up above at (line ∷ lines) =
+    if is_sought w line (stage_of up above at) then at else front_from w up above (at + 1) lines
+
+-- likewise for all lines of the client
+abbrev pub front : Sought → List Sent → List Heard → ℕ
+front w up above = front_from w up above 0 up
 
 -- a command is in turn if no earlier one is open. This is not known once the server has refused a line without its tag
 abbrev pub is_in_turn : List Sent → List Heard → ℕ → Sent → Bool
-is_in_turn up above at line = not (is_queued line) || (list_any refuses above || not (some_wait up above at))
+is_in_turn up above at line =
+    not (is_queued line || is_abort line) || (list_any refuses above || not (nat_lt (front sought.Open up above) at))
+
+-- ---- the error state
+
+-- an error of severity 3 under a standard tag: from then on nothing is carried out but the command that runs
+abbrev pub halts : Heard → Bool
+halts (heard.Response (Std n) (reply.Error severity.Three)) = true
+halts _ = false
+
+-- such an error bars the command at a place: an earlier command was open, so that this one did not run, and each ClearAllErrors above it had failed
+-- or ended
+abbrev pub bars : List Sent → List Heard → Heard → ℕ → Bool
+bars up above h at = halts h && (nat_lt (front sought.Open up above) at && nat_le at (front sought.Clearing up above))
+
+-- one of these lines does
+abbrev pub is_barred : List Sent → List Heard → ℕ → Bool
+is_barred up [] at = false
+is_barred up (h ∷ above) at = bars up above h at || is_barred up above at
+
+-- the fronts under such an error bar a place
+abbrev pub covers : ℕ → Halt → Bool
+covers at h = nat_lt h.waiting at && nat_le at h.clearing
+
+abbrev pub fronts : List Sent → List Heard → Halt
+fronts up above = record { waiting = front sought.Open up above; clearing = front sought.Clearing up above }
+
+-- the fronts under all such errors of these lines, the nearest last
+abbrev pub halts_of : List Sent → List Heard → List Halt
+halts_of up [] = []
+halts_of up (h ∷ above) = if halts h then halts_of up above ++ fronts up above ∷ [] else halts_of up above
 
 -- ---- the table of marks against stages
 
@@ -103,22 +160,30 @@ asks_data asks.Point = true
 asks_data asks.Homed = true
 asks_data _ = false
 
-abbrev pub complete_rule : Stage → Asks → Bool → Option Rule
-complete_rule stage.Received a turn = if asks_data a then Some rule.NoData else in_turn_rule turn
-complete_rule stage.Given a turn = in_turn_rule turn
-complete_rule stage.Failed a turn = None
-complete_rule _ a turn = Some rule.OutOfOrder
+-- the end of a command that has not failed; the arguments: it is in turn, an error bars it, an earlier command must have ended and has not
+abbrev pub end_rule : Bool → Bool → Bool → Option Rule
+end_rule false barred left = Some rule.NotInTurn
+end_rule true true left = Some rule.NotCleared
+end_rule true false true = Some rule.NoEnd
+end_rule true false false = None
+
+-- the last argument: the rule that the end of the command breaks
+abbrev pub complete_rule : Stage → Asks → Option Rule → Option Rule
+complete_rule stage.Received a ending = if asks_data a then Some rule.NoData else ending
+complete_rule stage.Given a ending = ending
+complete_rule stage.Failed a ending = None
+complete_rule _ a ending = Some rule.OutOfOrder
 
 abbrev pub received_rule : Stage → Option Rule
 received_rule stage.Sent = None
 received_rule _ = Some rule.OutOfOrder
 
 -- a mark for a command: an error may come at any stage
-abbrev pub mark_rule : Stage → Asks → Bool → Reply → Option Rule
-mark_rule s a turn reply.Received = received_rule s
-mark_rule s a turn (reply.Given d) = data_rule s a turn d
-mark_rule s a turn reply.Complete = complete_rule s a turn
-mark_rule s a turn reply.Error = None
+abbrev pub mark_rule : Stage → Asks → Bool → Option Rule → Reply → Option Rule
+mark_rule s a turn ending reply.Received = received_rule s
+mark_rule s a turn ending (reply.Given d) = data_rule s a turn d
+mark_rule s a turn ending reply.Complete = complete_rule s a ending
+mark_rule s a turn ending (reply.Error w) = None
 
 -- ---- the rules
 
@@ -127,10 +192,21 @@ abbrev pub unasked_rule : Tag → Option Rule
 unasked_rule (Event n) = if n == 0 then None else Some rule.UnknownTag
 unasked_rule (Std n) = Some rule.UnknownTag
 
+-- the command at a place cannot be carried out, since an error bars it
+abbrev pub is_halted : List Sent → List Heard → ℕ → Sent → Bool
+is_halted up above at line = (is_queued line && not (is_clear line)) && (not (list_any refuses above) && is_barred up above at)
+
+-- it ends a session, in which an earlier command has not ended
+abbrev pub leaves_some : List Sent → List Heard → ℕ → Sent → Bool
+leaves_some up above at line = is_session_end line && (not (list_any refuses above) && nat_lt (front sought.Unended up above) at)
+
+abbrev pub ending_rule : List Sent → List Heard → ℕ → Sent → Option Rule
+ending_rule up above at line = end_rule (is_in_turn up above at line) (is_halted up above at line) (leaves_some up above at line)
+
 -- a mark for the command at a place
 abbrev pub command_rule : List Sent → List Heard → Tag → Reply → ℕ → Sent → Option Rule
 command_rule up above t r at line =
-    mark_rule (stage_of up above at) (asks_under (is_doubtful above t) line) (is_in_turn up above at line) r
+    mark_rule (stage_of up above at) (asks_under (is_doubtful above t) line) (is_in_turn up above at line) (ending_rule up above at line) r
 
 -- the first argument: the place of the command that a response answers
 abbrev pub place_rule : Option ℕ → List Sent → List Heard → Tag → Reply → Option Rule

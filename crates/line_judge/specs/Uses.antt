@@ -54,7 +54,7 @@ is_complete reply.Complete = true
 is_complete _ = false
 
 abbrev pub is_error : Reply → Bool
-is_error reply.Error = true
+is_error (reply.Error s) = true
 is_error _ = false
 
 -- a line of the server is a response under a tag, with such a mark
@@ -65,6 +65,10 @@ replies p t (heard.Response u r) = tag_is u t && p r
 -- how many ends of a tag are in these lines of the server
 abbrev pub ends : Tag → List Heard → ℕ
 ends t lines = count_by (replies is_complete t) lines
+
+-- and how many uses of it were received
+abbrev pub receipts : Tag → List Heard → ℕ
+receipts t lines = count_by (replies is_received t) lines
 
 -- ---- which command a line answers
 
@@ -98,7 +102,7 @@ stage_of up above at = stage_by (has_reply is_complete up above at) (has_reply i
 abbrev pub stage_after : Stage → Reply → Stage
 stage_after s reply.Complete = stage.Ended
 stage_after stage.Ended r = stage.Ended
-stage_after s reply.Error = stage.Failed
+stage_after s (reply.Error w) = stage.Failed
 stage_after stage.Failed r = stage.Failed
 stage_after s (reply.Given d) = stage.Given
 stage_after stage.Given r = stage.Given

@@ -1,6 +1,6 @@
 // The first line of the client that breaks a rule.
 
-ghost use Rattle.std.specs.Prelude.{◌≡◌, ◌∷◌, [], reverse};
+ghost use Rattle.std.specs.Prelude.{◌≡◌, ◌<◌, ◌^◌, ◌∷◌, [], reverse};
 ghost use Rattle.std.specs.List.{list_any};
 ghost use Rattle.dme_line.specs.Kinds.{is_event_kind};
 ghost use Rattle.dme_line.specs.Tags.{is_event_tag};
@@ -8,14 +8,17 @@ ghost use Rattle.line_judge.specs.ClientRules as spec;
 ghost use Rattle.line_judge.specs.Judging.{first_break};
 ghost use Rattle.line_judge.specs.Uses as said;
 
-use crate::lines::{Heard, Sent};
+use crate::lines::{Heard, Reply, Sent};
 use crate::rules::{Found, Rule};
-use crate::uses::{ends, is_end, is_error, is_refusal, is_unclear, uses};
+use crate::uses::{
+    ends, ends_above, is_end, is_error, is_receipt, is_refusal, is_unclear, place_of,
+    receipts_above, uses,
+};
 use dme_line::{Kind, Tag};
 
-/// Whether an error was reported for the n-th use of a tag, counted from 0.
-fn has_failed(tag: Tag, n: usize, lines: &[Heard]) -> bool
-    ensures { result ≡ spec.has_failed tag n lines.now }
+/// Whether an error came under a tag with n ends of another tag above it.
+fn error_at(named: Tag, tag: Tag, n: usize, lines: &[Heard]) -> bool
+    ensures { result ≡ spec.error_at named tag n lines.now }
 {
     let mut left = n;
     for heard in lines {
@@ -24,7 +27,7 @@ fn has_failed(tag: Tag, n: usize, lines: &[Heard]) -> bool
                 return false;
             }
             left -= 1;
-        } else if left == 0 && is_error(tag, heard) {
+        } else if left == 0 && is_error(named, heard) {
             return true;
         }
     }
@@ -49,7 +52,7 @@ fn any_refusal(down: &[Heard]) -> bool
 fn may_have_failed(tag: Tag, n: usize, down: &[Heard]) -> bool
     ensures { result ≡ spec.may_have_failed down.now tag n }
 {
-    has_failed(tag, n, down) || any_unclear(down) || (n > 0 && any_refusal(down))
+    error_at(tag, tag, n, down) || any_unclear(down) || (n > 0 && any_refusal(down))
 }
 
 fn is_start(kind: Kind) -> bool
@@ -134,35 +137,116 @@ fn unread_rule(tag: Tag, kind: Kind) -> Option<Rule>
     }
 }
 
+/// Whether a line of the server answers a line after a place, with at most n uses of a tag received above.
+fn passes(up: &[Sent], tag: Tag, n: usize, at: usize, above: &[Heard], heard: Heard) -> bool
+    ensures { result ≡ spec.passes up.now tag n at (reverse above.now) heard }
+{
+    let Heard::Response(named, _) = heard else {
+        return false;
+    };
+    match place_of(named, ends_above(named, above), up) {
+        Some(place) => at < place && receipts_above(tag, above) <= n,
+        None => false,
+    }
+}
+
+/// Whether one of them does.
+fn was_passed(up: &[Sent], tag: Tag, n: usize, at: usize, down: &[Heard]) -> bool
+    ensures { result ≡ spec.was_passed up.now tag n at (reverse down.now) }
+{
+    let mut found = false;
+    for line in 0..down.len() {
+        let (above, _) = down.split_at(line);
+        found = passes(up, tag, n, at, above, down[line]) || found;
+    }
+    found
+}
+
+/// Whether the n-th use of a tag, at a place, was refused without its tag.
+fn was_refused(up: &[Sent], down: &[Heard], tag: Tag, n: usize, at: usize) -> bool
+    ensures { result ≡ spec.was_refused up.now down.now tag n at }
+{
+    n > 0 && error_at(Tag::Event(0), tag, n - 1, down) && was_passed(up, tag, n, at, down)
+}
+
+/// How many commands under standard tags are received and not ended, after a line of the server more.
+fn busy_after(busy: usize, heard: &Heard) -> usize
+    requires { busy < 2 ^ 63 }
+    ensures { result ≡ spec.busy_after busy heard.now }
+{
+    match heard {
+        Heard::Response(Tag::Std(_), Reply::Received) => busy + 1,
+        Heard::Response(Tag::Std(_), Reply::Complete) => busy.saturating_sub(1),
+        _ => busy,
+    }
+}
+
+/// Whether the n-th use of a tag was received while one command ran and 64 waited.
+fn received_full(tag: Tag, n: usize, lines: &[Heard]) -> bool
+    ensures { result ≡ spec.received_full tag n 0 lines.now }
+{
+    let mut left = n;
+    let mut busy = 0usize;
+    for heard in lines {
+        if left == 0 && is_receipt(tag, heard) {
+            return busy >= 65;
+        }
+        if is_end(tag, heard) {
+            if left == 0 {
+                return false;
+            }
+            left -= 1;
+        }
+        busy = busy_after(busy, heard);
+    }
+    false
+}
+
 /// A line under a tag, with its own rule.
-fn tagged_rule(down: &[Heard], above: &[Sent], tag: Tag, own: Option<Rule>) -> Option<Rule>
-    ensures { result ≡ spec.tagged_rule (spec.is_in_use down.now (reverse above.now) tag) own }
+#[tactic(auto, using(crate::proofs::Lists::above_count))]
+fn tagged_rule(
+    up: &[Sent],
+    down: &[Heard],
+    above: &[Sent],
+    tag: Tag,
+    own: Option<Rule>,
+) -> Option<Rule>
+    ensures { result ≡ spec.rule_under up.now down.now (reverse above.now) tag own }
 {
     let used = uses(tag, above);
-    if used > 0 && ends(tag, down) < used {
+    if (used > 0 && ends(tag, down) < used) || was_refused(up, down, tag, used, above.len()) {
         return Some(Rule::TagInUse);
+    }
+    if own.is_none() && matches!(tag, Tag::Std(_)) && received_full(tag, used, down) {
+        return Some(Rule::QueueFull);
     }
     own
 }
 
 /// The rule that a line breaks under the lines above it.
-fn rule_of(session: Session, down: &[Heard], above: &[Sent], sent: Sent) -> Option<Rule>
+fn rule_of(
+    session: Session,
+    up: &[Sent],
+    down: &[Heard],
+    above: &[Sent],
+    sent: Sent,
+) -> Option<Rule>
     requires may { session.may ≡ spec.may_be_open down.now (reverse above.now) }
     requires must { session.must ≡ spec.must_be_open down.now (reverse above.now) }
-    ensures { result ≡ spec.client_rule down.now (reverse above.now) sent }
+    ensures { result ≡ spec.client_rule up.now down.now (reverse above.now) sent }
 {
     match sent {
         Sent::Untagged => Some(Rule::NoTag),
-        Sent::Command(tag, kind) => tagged_rule(down, above, tag, session_rule(kind, session)),
-        Sent::Standard(tag) => tagged_rule(down, above, tag, None),
-        Sent::Unknown(tag) => tagged_rule(down, above, tag, Some(Rule::UnknownCommand)),
-        Sent::Unread(tag, kind) => tagged_rule(down, above, tag, unread_rule(tag, kind)),
+        Sent::Command(tag, kind) => tagged_rule(up, down, above, tag, session_rule(kind, session)),
+        Sent::Standard(tag) => tagged_rule(up, down, above, tag, None),
+        Sent::Unknown(tag) => tagged_rule(up, down, above, tag, Some(Rule::UnknownCommand)),
+        Sent::Unread(tag, kind) => tagged_rule(up, down, above, tag, unread_rule(tag, kind)),
     }
 }
 
 /// The first line of the client that breaks a rule.
 pub(crate) fn client_break(up: &[Sent], down: &[Heard]) -> Option<Found>
-    ensures { result ≡ first_break (spec.client_rule down.now) [] up.now }
+    ensures { result ≡ first_break (spec.client_rule up.now down.now) [] up.now }
 {
     let mut session = Session {
         may: false,
@@ -171,7 +255,7 @@ pub(crate) fn client_break(up: &[Sent], down: &[Heard]) -> Option<Found>
     for at in 0..up.len() {
         let (above, _) = up.split_at(at);
         let sent = up[at];
-        if let Some(rule) = rule_of(session, down, above, sent) {
+        if let Some(rule) = rule_of(session, up, down, above, sent) {
             return Some(Found {
                 number: at + 1,
                 rule,

@@ -112,7 +112,7 @@ fn is_complete(heard: &Heard) -> bool
 fn is_error(heard: &Heard) -> bool
     ensures { result ≡ spec.has_mark is_error heard.now }
 {
-    matches!(heard, Heard::Response(_, Reply::Error))
+    matches!(heard, Heard::Response(_, Reply::Error(_)))
 }
 
 /// How many lines of the server have this mark.

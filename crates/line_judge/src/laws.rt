@@ -13,14 +13,14 @@ ghost use Rattle.line_judge.specs.declared.rules.Rule.{Rule};
 #[tactic(auto, using(crate::proofs::FirstBreaks::breaks_there))]
 pub fn clients_break_is_its_first()
     ensures breaks { (up : List Sent) (down : List Heard) (found : Found)
-        → first_break (client_rule down) [] up ≡ Some found
-        → BreaksAt (client_rule down) up (found.number - 1) found.rule }
+        → first_break (client_rule up down) [] up ≡ Some found
+        → BreaksAt (client_rule up down) up (found.number - 1) found.rule }
     ensures first { (up : List Sent) (down : List Heard) (found : Found)
-        → first_break (client_rule down) [] up ≡ Some found
-        → (at : ℕ) (broken : Rule) → BreaksAt (client_rule down) up at broken
+        → first_break (client_rule up down) [] up ≡ Some found
+        → (at : ℕ) (broken : Rule) → BreaksAt (client_rule up down) up at broken
         → found.number ≤ at + 1 }
-    ensures none { (up : List Sent) (down : List Heard) → first_break (client_rule down) [] up ≡ None
-        → (at : ℕ) (broken : Rule) → BreaksAt (client_rule down) up at broken → ⊥ }
+    ensures none { (up : List Sent) (down : List Heard) → first_break (client_rule up down) [] up ≡ None
+        → (at : ℕ) (broken : Rule) → BreaksAt (client_rule up down) up at broken → ⊥ }
 {}
 
 /// Likewise of the server.

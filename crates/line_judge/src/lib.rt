@@ -26,6 +26,6 @@ mod writing;
 
 pub use counts::KINDS;
 pub use judgement::{Break, Judgement, judge};
-pub use lines::{Data, Heard, Reply, Sent};
+pub use lines::{Data, Heard, Reply, Sent, Severity};
 pub use rules::Rule;
 pub use writing::write_judgement;

@@ -25,13 +25,21 @@ pub enum Data {
     Other,
 }
 
+/// The severity of an error, as its text says.
+#[derive(Clone, Copy, Debug, PartialEq, Eq)]
+pub enum Severity {
+    /// 3, that of all errors of this profile: a server carries nothing more out before a `ClearAllErrors`.
+    Three,
+    Other,
+}
+
 /// The mark of a response, with what its data are.
 #[derive(Clone, Copy, Debug, PartialEq, Eq)]
 pub enum Reply {
     Received,
     Given(Data),
     Complete,
-    Error,
+    Error(Severity),
 }
 
 /// What a line of a server is.

@@ -8,7 +8,7 @@ ghost use Rattle.protocol_model.specs.Readings.{command_of, response_of};
 ghost use Rattle.told_ledger.specs.Asking as asking;
 ghost use Rattle.line_judge.specs.Lines as spec;
 
-use crate::lines::{Data, Heard, Reply, Sent};
+use crate::lines::{Data, Heard, Reply, Sent, Severity};
 use dme_line::{LineFault, MarkSlice, cut_response, read_command, read_homed, read_point};
 use line_framing::{FramingFault, Line, Lines, LinesFault};
 use std::alloc::{AllocError, Global};
@@ -86,6 +86,16 @@ fn data_of(text: &[u8]) -> Data
     Data::Other
 }
 
+/// The severity of an error, by its text.
+fn severity_of(text: &[u8]) -> Severity
+    ensures { result ≡ spec.severity_of text.now }
+{
+    if text.starts_with(b"Error(3,".as_slice()) {
+        return Severity::Three;
+    }
+    Severity::Other
+}
+
 /// The mark of a response, with what its data are.
 fn reply_as(mark: MarkSlice<'_>) -> Reply
     ensures { result ≡ spec.reply_as (the_mark mark.entry) }
@@ -94,7 +104,7 @@ fn reply_as(mark: MarkSlice<'_>) -> Reply
         MarkSlice::Ack => Reply::Received,
         MarkSlice::Given(text) => Reply::Given(data_of(text)),
         MarkSlice::Done => Reply::Complete,
-        MarkSlice::Error(_) => Reply::Error,
+        MarkSlice::Error(text) => Reply::Error(severity_of(text)),
     }
 }
 

@@ -17,6 +17,8 @@ pub enum Rule {
     NoSession,
     /// A session begins inside a session.
     SessionOpen,
+    /// A command is received while one runs and 64 wait.
+    QueueFull,
     /// A line of the server is no response.
     NotResponse,
     /// No command is open under the tag.
@@ -29,8 +31,12 @@ pub enum Rule {
     SecondData,
     /// Data that the command does not ask for, or that do not read.
     OtherData,
-    /// Data or the end of a command, with an earlier command still open.
+    /// Data or the end of a command, or the end of an abort, with an earlier command still open.
     NotInTurn,
+    /// The end of a command that an error barred, with no `ClearAllErrors` between.
+    NotCleared,
+    /// The end of a session, with a command in it that failed and has not ended.
+    NoEnd,
     /// More than 65,536 bytes come before the next CR or LF.
     LineTooLong,
     /// LF without CR, or CR followed by something other than LF.
@@ -47,6 +53,17 @@ pub enum Stage {
     Ended,
 }
 
+/// Which lines of a client are looked for.
+#[derive(Clone, Copy, Debug, PartialEq, Eq)]
+pub enum Sought {
+    /// A command that is carried out in turn, and has neither failed nor ended.
+    Open,
+    /// Likewise, but one that has not ended.
+    Unended,
+    /// A `ClearAllErrors` that has neither failed nor ended.
+    Clearing,
+}
+
 /// What data a command asks for.
 #[derive(Clone, Copy, Debug, PartialEq, Eq)]
 pub enum Asks {
@@ -55,6 +72,13 @@ pub enum Asks {
     Homed,
     /// It is not known what it asks for.
     Anything,
+}
+
+/// Where an error found the commands of a client: the places of the first of each sort.
+#[derive(Clone, Copy, Debug, PartialEq, Eq)]
+pub struct Halt {
+    pub waiting: usize,
+    pub clearing: usize,
 }
 
 /// A line that breaks a rule.

@@ -1,13 +1,13 @@
 // The first line of the server that breaks a rule.
 
-ghost use Rattle.std.specs.Prelude.{◌≡◌, ◌<◌, ◌∷◌, [], length, reverse, IfOk};
+ghost use Rattle.std.specs.Prelude.{◌≡◌, ◌<◌, ◌∷◌, [], length, reverse, IfOk, OnOk};
 ghost use Rattle.line_judge.specs.ServerRules as spec;
 ghost use Rattle.std.specs.List.{list_any};
 ghost use Rattle.line_judge.specs.Uses.{AreStages, refuses};
 ghost use Rattle.line_judge.specs.Judging.{first_break};
 
-use crate::lines::{Data, Heard, Reply, Sent};
-use crate::rules::{Asks, Found, Rule, Stage};
+use crate::lines::{Data, Heard, Reply, Sent, Severity};
+use crate::rules::{Asks, Found, Halt, Rule, Sought, Stage};
 use crate::uses::{ends_above, is_refusal, place_of, stage_after};
 use dme_line::{Kind, Tag};
 use std::alloc::{AllocError, Global};
@@ -47,17 +47,87 @@ fn is_open(stage: Stage) -> bool
     matches!(stage, Stage::Sent | Stage::Received | Stage::Given)
 }
 
-/// Whether one of the first commands is open, of those that are carried out one after another.
-fn some_wait(up: &[Sent], above: &[Heard], stages: &[Stage], count: usize) -> bool
-    requires stages { AreStages up.now (reverse above.now) stages.now }
-    requires within { count < length up.now }
-    ensures { result ≡ spec.some_wait up.now (reverse above.now) count }
+/// Whether a command has ended.
+fn is_ended(stage: Stage) -> bool
+    ensures { result ≡ spec.is_ended stage }
 {
-    let mut found = false;
-    for at in 0..count {
-        found = (is_queued(up[at]) && is_open(stages[at])) || found;
+    matches!(stage, Stage::Ended)
+}
+
+/// Whether a command is an abort.
+fn is_abort(sent: Sent) -> bool
+    ensures { result ≡ spec.is_abort sent }
+{
+    matches!(sent, Sent::Command(Tag::Event(_), Kind::AbortE))
+}
+
+fn is_clear(sent: Sent) -> bool
+    ensures { result ≡ spec.is_clear sent }
+{
+    matches!(sent, Sent::Command(_, Kind::ClearAllErrors))
+}
+
+fn is_session_end(sent: Sent) -> bool
+    ensures { result ≡ spec.is_session_end sent }
+{
+    matches!(sent, Sent::Command(_, Kind::EndSession))
+}
+
+/// Whether a line at a stage is one of those that are looked for.
+fn is_sought(sought: Sought, sent: Sent, stage: Stage) -> bool
+    ensures { result ≡ spec.is_sought sought sent stage }
+{
+    match sought {
+        Sought::Open => is_queued(sent) && is_open(stage),
+        Sought::Unended => is_queued(sent) && !is_ended(stage),
+        Sought::Clearing => is_clear(sent) && is_open(stage),
     }
-    found
+}
+
+/// The place of the first line that is, or the count of all.
+fn front(sought: Sought, up: &[Sent], above: &[Heard], stages: &[Stage]) -> usize
+    requires { AreStages up.now (reverse above.now) stages.now }
+    ensures { result ≡ spec.front sought up.now (reverse above.now) }
+{
+    for at in 0..up.len() {
+        if is_sought(sought, up[at], stages[at]) {
+            return at;
+        }
+    }
+    up.len()
+}
+
+/// Whether a line of the server is an error after which nothing more is carried out.
+fn is_halt(heard: Heard) -> bool
+    ensures { result ≡ spec.halts heard }
+{
+    matches!(
+        heard,
+        Heard::Response(Tag::Std(_), Reply::Error(Severity::Three))
+    )
+}
+
+/// Whether the fronts under an error bar a place.
+fn covers(at: usize, halt: &Halt) -> bool
+    ensures { result ≡ spec.covers at halt.now }
+{
+    halt.waiting < at && at <= halt.clearing
+}
+
+/// Whether those of one of them do.
+fn some_cover(at: usize, halts: &[Halt]) -> bool
+    ensures { result ≡ list_any (spec.covers at) (reverse halts.now) }
+{
+    halts.iter().rev().any(|halt| covers(at, halt))
+}
+
+/// Whether an error bars the command at a place.
+#[tactic(auto, using(crate::proofs::Halts::bars_by))]
+fn is_barred(up: &[Sent], above: &[Heard], halts: &[Halt], at: usize) -> bool
+    requires { halts.now ≡ spec.halts_of up.now (reverse above.now) }
+    ensures { result ≡ spec.is_barred up.now (reverse above.now) at }
+{
+    some_cover(at, halts)
 }
 
 /// The rule that a command breaks that is in turn or not.
@@ -90,21 +160,40 @@ fn data_rule(stage: Stage, asks: Asks, turn: bool, given: Data) -> Option<Rule>
     }
 }
 
-/// The rule that the end of a command breaks.
-fn complete_rule(stage: Stage, asks: Asks, turn: bool) -> Option<Rule>
-    ensures { result ≡ spec.complete_rule stage asks turn }
+/// The rule that the end of a command breaks that has not failed.
+fn end_rule(turn: bool, barred: bool, left: bool) -> Option<Rule>
+    ensures { result ≡ spec.end_rule turn barred left }
+{
+    if !turn {
+        return Some(Rule::NotInTurn);
+    }
+    if barred {
+        return Some(Rule::NotCleared);
+    }
+    if left { Some(Rule::NoEnd) } else { None }
+}
+
+/// The rule that the end of a command breaks, by that of one that has not failed.
+fn complete_rule(stage: Stage, asks: Asks, ending: Option<Rule>) -> Option<Rule>
+    ensures { result ≡ spec.complete_rule stage asks ending }
 {
     match (stage, asks) {
         (Stage::Received, Asks::Point | Asks::Homed) => Some(Rule::NoData),
-        (Stage::Received | Stage::Given, _) => in_turn_rule(turn),
+        (Stage::Received | Stage::Given, _) => ending,
         (Stage::Failed, _) => None,
         _ => Some(Rule::OutOfOrder),
     }
 }
 
 /// The rule that a mark for a command breaks.
-fn mark_rule(stage: Stage, asks: Asks, turn: bool, reply: Reply) -> Option<Rule>
-    ensures { result ≡ spec.mark_rule stage asks turn reply }
+fn mark_rule(
+    stage: Stage,
+    asks: Asks,
+    turn: bool,
+    ending: Option<Rule>,
+    reply: Reply,
+) -> Option<Rule>
+    ensures { result ≡ spec.mark_rule stage asks turn ending reply }
 {
     match reply {
         Reply::Received => match stage {
@@ -112,8 +201,8 @@ fn mark_rule(stage: Stage, asks: Asks, turn: bool, reply: Reply) -> Option<Rule>
             _ => Some(Rule::OutOfOrder),
         },
         Reply::Given(data) => data_rule(stage, asks, turn, data),
-        Reply::Complete => complete_rule(stage, asks, turn),
-        Reply::Error => None,
+        Reply::Complete => complete_rule(stage, asks, ending),
+        Reply::Error(_) => None,
     }
 }
 
@@ -143,42 +232,72 @@ fn is_doubtful(above: &[Heard], tag: Tag) -> bool
 
 /// Whether the command at a place is in turn.
 fn is_in_turn(up: &[Sent], above: &[Heard], stages: &[Stage], at: usize, sent: Sent) -> bool
-    requires stages { AreStages up.now (reverse above.now) stages.now }
-    requires within { at < length up.now }
+    requires { AreStages up.now (reverse above.now) stages.now }
     ensures { result ≡ spec.is_in_turn up.now (reverse above.now) at sent }
 {
-    !is_queued(sent) || has_refused(above) || !some_wait(up, above, stages, at)
+    !(is_queued(sent) || is_abort(sent))
+        || has_refused(above)
+        || !(front(Sought::Open, up, above, stages) < at)
+}
+
+/// Whether an error bars the command at a place, which is one of those that it stops.
+fn is_halted(up: &[Sent], above: &[Heard], halts: &[Halt], at: usize, sent: Sent) -> bool
+    requires { halts.now ≡ spec.halts_of up.now (reverse above.now) }
+    ensures { result ≡ spec.is_halted up.now (reverse above.now) at sent }
+{
+    is_queued(sent) && !is_clear(sent) && !has_refused(above) && is_barred(up, above, halts, at)
+}
+
+/// Whether the command at a place ends a session in which an earlier command has not ended.
+fn leaves_some(up: &[Sent], above: &[Heard], stages: &[Stage], at: usize, sent: Sent) -> bool
+    requires { AreStages up.now (reverse above.now) stages.now }
+    ensures { result ≡ spec.leaves_some up.now (reverse above.now) at sent }
+{
+    is_session_end(sent) && !has_refused(above) && front(Sought::Unended, up, above, stages) < at
+}
+
+/// How far the commands are after some lines of the server.
+#[derive(Drop)]
+struct Progress {
+    stages: Vec<Stage>,
+    /// The fronts under each error that stops what waits.
+    halts: Vec<Halt>,
 }
 
 /// The rule that a mark for the command at a place breaks.
 fn command_rule(
     up: &[Sent],
     above: &[Heard],
-    stages: &[Stage],
+    progress: &Progress,
     tag: Tag,
     reply: Reply,
     at: usize,
     sent: Sent,
 ) -> Option<Rule>
-    requires stages { AreStages up.now (reverse above.now) stages.now }
+    requires stages { AreStages up.now (reverse above.now) progress.now.stages.items }
+    requires halts { progress.now.halts.items ≡ spec.halts_of up.now (reverse above.now) }
     requires within { at < length up.now }
     ensures { result ≡ spec.command_rule up.now (reverse above.now) tag reply at sent }
 {
+    let stages = progress.stages.as_slice();
     let asks = asks_under(is_doubtful(above, tag), sent);
     let turn = is_in_turn(up, above, stages, at, sent);
-    mark_rule(stages[at], asks, turn, reply)
+    let barred = is_halted(up, above, progress.halts.as_slice(), at, sent);
+    let left = leaves_some(up, above, stages, at, sent);
+    mark_rule(stages[at], asks, turn, end_rule(turn, barred, left), reply)
 }
 
 /// The rule that a line breaks under the lines above it.
-fn rule_of(up: &[Sent], above: &[Heard], stages: &[Stage], heard: Heard) -> Option<Rule>
-    requires { AreStages up.now (reverse above.now) stages.now }
+fn rule_of(up: &[Sent], above: &[Heard], progress: &Progress, heard: Heard) -> Option<Rule>
+    requires stages { AreStages up.now (reverse above.now) progress.now.stages.items }
+    requires halts { progress.now.halts.items ≡ spec.halts_of up.now (reverse above.now) }
     ensures { result ≡ spec.server_rule up.now (reverse above.now) heard }
 {
     let Heard::Response(tag, reply) = heard else {
         return Some(Rule::NotResponse);
     };
     match place_of(tag, ends_above(tag, above), up) {
-        Some(at) => command_rule(up, above, stages, tag, reply, at, up[at]),
+        Some(at) => command_rule(up, above, progress, tag, reply, at, up[at]),
         None => unasked_rule(tag),
     }
 }
@@ -197,6 +316,27 @@ fn note(up: &[Sent], above: &[Heard], stages: &mut [Stage], heard: Heard)
     stages[at] = stage_after(stages[at], reply);
 }
 
+/// The errors that stop what waits, after one line more. Fails only if out of memory.
+fn note_halt(
+    up: &[Sent],
+    above: &[Heard],
+    stages: &[Stage],
+    halts: &mut Vec<Halt>,
+    heard: Heard,
+) -> Result<(), AllocError>
+    requires stages { AreStages up.now (reverse above.now) stages.now }
+    requires halts { halts.old.items ≡ spec.halts_of up.now (reverse above.now) }
+    ensures { OnOk result (halts.new.items ≡ spec.halts_of up.now (heard ∷ reverse above.now)) }
+{
+    if is_halt(heard) {
+        halts.push(Halt {
+            waiting: front(Sought::Open, up, above, stages),
+            clearing: front(Sought::Clearing, up, above, stages),
+        })?;
+    }
+    Ok(())
+}
+
 /// No command is further than sent. Fails only if out of memory.
 #[tactic(auto, using(crate::proofs::Stages::none_heard))]
 fn all_sent(alloc: Global, up: &[Sent]) -> Result<Vec<Stage>, AllocError>
@@ -213,17 +353,27 @@ pub(crate) fn server_break(
 ) -> Result<Option<Found>, AllocError>
     ensures { IfOk result (λ found. found ≡ first_break (spec.server_rule up.now) [] down.now) }
 {
-    let mut stages = all_sent(alloc, up)?;
+    let mut progress = Progress {
+        stages: all_sent(alloc, up)?,
+        halts: Vec::new(alloc),
+    };
     for at in 0..down.len() {
         let (above, _) = down.split_at(at);
         let heard = down[at];
-        if let Some(rule) = rule_of(up, above, stages.as_slice(), heard) {
+        if let Some(rule) = rule_of(up, above, &progress, heard) {
             return Ok(Some(Found {
                 number: at + 1,
                 rule,
             }));
         }
-        note(up, above, stages.as_mut_slice(), heard);
+        note_halt(
+            up,
+            above,
+            progress.stages.as_slice(),
+            &mut progress.halts,
+            heard,
+        )?;
+        note(up, above, progress.stages.as_mut_slice(), heard);
     }
     Ok(None)
 }

@@ -42,7 +42,7 @@ pub(crate) fn is_error(tag: Tag, heard: &Heard) -> bool
     ensures { result ≡ spec.replies spec.is_error tag heard.now }
 {
     match heard {
-        Heard::Response(named, Reply::Error) => *named == tag,
+        Heard::Response(named, Reply::Error(_)) => *named == tag,
         _ => false,
     }
 }
@@ -62,6 +62,27 @@ pub(crate) fn ends_above(tag: Tag, lines: &[Heard]) -> usize
         .iter()
         .rev()
         .filter(|heard| is_end(tag, heard))
+        .count()
+}
+
+/// Whether a line of the server says that a command under a tag is received.
+pub(crate) fn is_receipt(tag: Tag, heard: &Heard) -> bool
+    ensures { result ≡ spec.replies spec.is_received tag heard.now }
+{
+    match heard {
+        Heard::Response(named, Reply::Received) => *named == tag,
+        _ => false,
+    }
+}
+
+/// How many uses of a tag were received, in lines with the nearest first.
+pub(crate) fn receipts_above(tag: Tag, lines: &[Heard]) -> usize
+    ensures { result ≡ spec.receipts tag (reverse lines.now) }
+{
+    lines
+        .iter()
+        .rev()
+        .filter(|heard| is_receipt(tag, heard))
         .count()
 }
 
@@ -102,7 +123,7 @@ pub(crate) fn stage_after(stage: Stage, reply: Reply) -> Stage
 {
     match (stage, reply) {
         (Stage::Ended, _) | (_, Reply::Complete) => Stage::Ended,
-        (Stage::Failed, _) | (_, Reply::Error) => Stage::Failed,
+        (Stage::Failed, _) | (_, Reply::Error(_)) => Stage::Failed,
         (Stage::Given, _) | (_, Reply::Given(_)) => Stage::Given,
         (_, Reply::Received) => Stage::Received,
     }

@@ -25,6 +25,7 @@ fn rule_name(rule: Rule) -> &'static str
         Rule::BadArguments => "BadArguments",
         Rule::NoSession => "NoSession",
         Rule::SessionOpen => "SessionOpen",
+        Rule::QueueFull => "QueueFull",
         Rule::NotResponse => "NotResponse",
         Rule::UnknownTag => "UnknownTag",
         Rule::OutOfOrder => "OutOfOrder",
@@ -32,6 +33,8 @@ fn rule_name(rule: Rule) -> &'static str
         Rule::SecondData => "SecondData",
         Rule::OtherData => "OtherData",
         Rule::NotInTurn => "NotInTurn",
+        Rule::NotCleared => "NotCleared",
+        Rule::NoEnd => "NoEnd",
         Rule::LineTooLong => "LineTooLong",
         Rule::BadByte => "BadByte",
     }

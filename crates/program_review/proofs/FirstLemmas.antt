@@ -249,13 +249,13 @@ goes_on : (b : Bool) (steps : List Step) (behind : Result (List Step) (Refusal �
 goes_on true steps behind more h = refl
 goes_on false steps behind more h = h ∙ sym (front_keeps steps behind)
 
-by_judgement : (keyword : Keyword) (line : ℕ) (st : Standing) (r : Result StatementMeaning Refusal) (steps : StatementMeaning → List Step)
+by_judgement : (keyword : Keyword) (text : List ℕ) (line : ℕ) (st : Standing) (r : Result StatementMeaning Refusal) (steps : StatementMeaning → List Step)
     (behind : Result (List Step) (Refusal × ℕ)) (rest : Standing → List Found)
     → ((m : StatementMeaning) → r ≡ Ok m → is_end keyword ≡ closes m)
     → ((m : StatementMeaning) → r ≡ Ok m → first_of (rest (after_said st keyword m)) ≡ fault_of behind)
-    → first_of (listed line r ++ cond (is_end keyword) [] (rest (after st keyword r))) ≡ fault_of (continued line r steps behind)
-by_judgement keyword line st (Err e) steps behind rest ends more = refl
-by_judgement keyword line st (Ok m) steps behind rest ends more = rw (ends m refl) (goes_on (closes m) (steps m) behind _ (more m refl))
+    → first_of (listed text line r ++ cond (is_end keyword) [] (rest (after st keyword r))) ≡ fault_of (continued line r steps behind)
+by_judgement keyword text line st (Err e) steps behind rest ends more = refl
+by_judgement keyword text line st (Ok m) steps behind rest ends more = rw (ends m refl) (goes_on (closes m) (steps m) behind _ (more m refl))
 
 agrees : (frames : List (List ℕ × Point)) (fault : Option TextFault) (n : ℕ) (statements above : List Statement) (st : Standing)
     → Matches above st → first_of (refusals_from frames fault n st statements) ≡ fault_of (steps_from frames fault n above statements)
@@ -263,7 +263,7 @@ agrees frames fault n [] above st h = rw h.number refl
 agrees frames fault n (s ∷ statements) above st h =
     let keyword = keyword_of s.word in
     rw (due_is frames above st s h)
-    (by_judgement keyword s.line st (judged frames (context_at frames above) s) (steps_of frames (context_at frames above))
+    (by_judgement keyword s.word s.line st (judged frames (context_at frames above) s) (steps_of frames (context_at frames above))
     (steps_from frames fault n (s ∷ above) statements) (λ (next : Standing). refusals_from frames fault n next statements)
     (λ m e. end_is s m (accepted_is frames (context_at frames above) s m e).said)
     (λ m e. agrees frames fault n statements (s ∷ above) (after_said st keyword m)

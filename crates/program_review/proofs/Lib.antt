@@ -1,2 +1,5 @@
 pub mod FirstLemmas
 pub mod StepLemmas
+pub mod TaskSteps
+pub mod TaskPlaces
+pub mod PlanLineLemmas

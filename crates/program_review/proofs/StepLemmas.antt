@@ -11,7 +11,8 @@ use Rattle.dmis_program.specs.Keywords.{keyword_of}
 use Rattle.dmis_program.specs.Offsets.{offset_of}
 use Rattle.dmis_program.specs.Sayings.{said_of}
 use Rattle.dmis_program.specs.LookBack.{Context, context_at, saying}
-use Rattle.dmis_program.specs.Judging.{judged, settled, refused_by, word_refusal}
+use Rattle.dmis_program.specs.Judging.{judged, settled, refused_by, word_refusal, misplaced}
+use Rattle.dmis_program.specs.Parameters.{is_other_recall}
 use Rattle.dmis_program.specs.Meaning.{Meaning, program_of, meaning_of, meaning_with as program_with, meant, steps_from, steps_of, continued}
 use Rattle.dmis_program.specs.Meaning.{with_front, closes, touch_steps, recall_steps}
 use Rattle.dmis_program.specs.declared.faults.Refusal.{Refusal}
@@ -21,7 +22,7 @@ use Rattle.dmis_program.specs.declared.keywords.Keyword.TheVariants as word
 use Rattle.dmis_program.specs.declared.sayings.StatementMeaning.{StatementMeaning}
 use Rattle.dmis_program.specs.declared.sayings.StatementMeaning.TheVariants as said
 use Rattle.dmis_program.specs.declared.steps.Step.{Step}
-use Rattle.program_review.specs.UnderSetup.{meaning_with, recalled, selected_after, is_outside, when, lack_of, lack_on, lacks_from}
+use Rattle.program_review.specs.UnderSetup.{meaning_with, recalls_other, recalled, selected_after, is_outside, when, lack_of, lack_on, lacks_from}
 use Rattle.program_review.specs.StepLacks.{lacks_some}
 use Rattle.program_review.specs.declared.under_setup.Selected.{Selected}
 use Rattle.program_review.specs.declared.under_setup.Selected.TheVariants as selected
@@ -49,7 +50,7 @@ when_so true what = refl
 when_so false what = refl
 
 -- what an accepted statement finds above it: a touch finds a tool, and a `RECALL` its frame
-abbrev IsFound : List (List ℕ × Point) → Option (List ℕ) → StatementMeaning → Type 0
+abbrev pub IsFound : List (List ℕ × Point) → Option (List ℕ) → StatementMeaning → Type 0
 IsFound frames tool (said.Touches target direction) = is_none tool ≡ false
 IsFound frames tool (said.Recalls name) = is_none (offset_of frames name) ≡ false
 IsFound frames tool _ = Unit {0}
@@ -91,12 +92,35 @@ is_known : (number : ℕ) (wanted : Option ℕ) (keyword : Keyword) (params : Li
 is_known number wanted keyword params h e =
     unknown_refused (number == 0) (subst (λ (k : Keyword). word_refusal number wanted k params ≡ None) e h)
 
-record IsTaken (frames : List (List ℕ × Point)) (c : Context) (s : Statement) (m : StatementMeaning) : Type 0 where
-  said : saying s ≡ Ok m
-  known : keyword_of s.word ≡ word.Unknown → ⊥
-  found : IsFound frames c.tool m
+-- nor does it recall what is not read
+unless_other : (b other : Bool) (r : Option Refusal) → cond (b && true) (Some NotDmis) (cond other (Some Unsupported) r) ≡ None → other ≡ false
+unless_other true other r h = absurd cc
+unless_other false true r h = absurd cc
+unless_other false false r h = refl
 
-taken_is : (frames : List (List ℕ × Point)) (c : Context) (s : Statement) (m : StatementMeaning) → judged frames c s ≡ Ok m
+is_read : (number : ℕ) (wanted : Option ℕ) (keyword : Keyword) (params : List (List ℕ)) → word_refusal number wanted keyword params ≡ None
+    → recalls_other keyword params ≡ false
+is_read number wanted word.Recall params h = unless_other (number == 0) (is_other_recall params) (misplaced word.Recall wanted) h
+is_read number wanted word.Dmismn params h = refl
+is_read number wanted word.Goto params h = refl
+is_read number wanted word.Meas params h = refl
+is_read number wanted word.Ptmeas params h = refl
+is_read number wanted word.Endmes params h = refl
+is_read number wanted word.Snslct params h = refl
+is_read number wanted word.Endfil params h = refl
+is_read number wanted word.Units params h = refl
+is_read number wanted word.Mode params h = refl
+is_read number wanted word.Definition params h = refl
+is_read number wanted word.Passed params h = refl
+is_read number wanted word.Unknown params h = refl
+
+pub record IsTaken (frames : List (List ℕ × Point)) (c : Context) (s : Statement) (m : StatementMeaning) : Type 0 where
+  pub said : saying s ≡ Ok m
+  pub known : keyword_of s.word ≡ word.Unknown → ⊥
+  pub read : recalls_other (keyword_of s.word) s.params ≡ false
+  pub found : IsFound frames c.tool m
+
+pub taken_is : (frames : List (List ℕ × Point)) (c : Context) (s : Statement) (m : StatementMeaning) → judged frames c s ≡ Ok m
     → IsTaken frames c s m
 unfolding judged
 taken_is frames c s m h =
@@ -106,25 +130,26 @@ taken_is frames c s m h =
     record {
       said = said;
       known = is_known c.number c.wanted (keyword_of s.word) s.params both.0;
+      read = is_read c.number c.wanted (keyword_of s.word) s.params both.0;
       found = settling_finds frames c.tool c.wanted c.touched (saying s) m both.1 said;
     }
 
 -- what it says by itself
-meant_is : (keyword : Keyword) (s : Statement) (m : StatementMeaning) → said_of keyword s ≡ Ok m → (keyword ≡ word.Unknown → ⊥)
-    → meaning_with keyword s ≡ Some m
-meant_is word.Dmismn s m h known = rw h refl
-meant_is word.Goto s m h known = rw h refl
-meant_is word.Meas s m h known = rw h refl
-meant_is word.Ptmeas s m h known = rw h refl
-meant_is word.Endmes s m h known = rw h refl
-meant_is word.Snslct s m h known = rw h refl
-meant_is word.Recall s m h known = rw h refl
-meant_is word.Endfil s m h known = rw h refl
-meant_is word.Units s m h known = rw h refl
-meant_is word.Mode s m h known = rw h refl
-meant_is word.Definition s m h known = rw h refl
-meant_is word.Passed s m h known = rw h refl
-meant_is word.Unknown s m h known = absurd (known refl)
+pub meant_is : (keyword : Keyword) (s : Statement) (m : StatementMeaning) → said_of keyword s ≡ Ok m → (keyword ≡ word.Unknown → ⊥)
+    → recalls_other keyword s.params ≡ false → meaning_with keyword s ≡ Some m
+meant_is word.Dmismn s m h known read = rw h refl
+meant_is word.Goto s m h known read = rw h refl
+meant_is word.Meas s m h known read = rw h refl
+meant_is word.Ptmeas s m h known read = rw h refl
+meant_is word.Endmes s m h known read = rw h refl
+meant_is word.Snslct s m h known read = rw h refl
+meant_is word.Recall s m h known read = rw (read, h) refl
+meant_is word.Endfil s m h known read = rw h refl
+meant_is word.Units s m h known read = rw h refl
+meant_is word.Mode s m h known read = rw h refl
+meant_is word.Definition s m h known read = rw h refl
+meant_is word.Passed s m h known read = rw h refl
+meant_is word.Unknown s m h known read = absurd (known refl)
 
 -- the steps of a statement lack what it lacks itself, and those after them are judged in the frame that is selected after it
 touch_lacks : (tools : List (List ℕ)) (before : Selected) (tool : Option (List ℕ)) (c : Context) (target : Point) (direction : _)
@@ -181,7 +206,7 @@ by_judgement tools frames fault n s statements above before steps (Err e) rest i
 by_judgement tools frames fault n s statements above before steps (Ok m) rest is h =
     let keyword = keyword_of s.word in
     let taken = taken_is frames (context_at frames above) s m is in
-    let meant : meaning_with keyword s ≡ Some m = meant_is keyword s m taken.said taken.known in
+    let meant : meaning_with keyword s ≡ Some m = meant_is keyword s m taken.said taken.known taken.read in
     rw (end_is s m taken.said, meant)
     (goes_on tools before (closes m) (steps_of frames (context_at frames above) m) (steps_from frames fault n (s ∷ above) statements)
     steps s.line (lack_of tools before (Some m)) (lacks_from tools frames (selected_after frames before (Some m) keyword) statements) h
@@ -195,7 +220,7 @@ agrees tools frames fault n (s ∷ statements) above before steps h =
     by_judgement tools frames fault n s statements above before steps (judged frames (context_at frames above) s)
     (agrees tools frames fault n statements (s ∷ above)) refl h
 
-meant_steps : (r : Result (List Step) (Refusal × ℕ)) (m : Meaning) → meant r ≡ Ok m → r ≡ Ok m.steps
+pub meant_steps : (r : Result (List Step) (Refusal × ℕ)) (m : Meaning) → meant r ≡ Ok m → r ≡ Ok m.steps
 meant_steps (Ok steps) m h =
     let same : program_with steps ≡ m = cc in
     subst (λ (x : Meaning). ◌≡◌ {A = Result (List Step) (Refusal × ℕ)} (Ok steps) (Ok x.steps)) same refl

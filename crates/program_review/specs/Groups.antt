@@ -1,4 +1,7 @@
--- What a refused statement is for: what deleting it would change (the words are those of ISO 22093; the groups are this profile's).
+-- What a refused statement is for: what deleting it would change (the words are those of ISO 22093; the groups are this profile's). One table:
+-- coordinate systems are changed by `coordinates` and by each `RECALL` that is refused, motion by `moving`, what is measured by `measuring`,
+-- `branching` and `calling`, lengths by `compensating`, and nothing of it by `identifying` and `reporting`. Of the statements that are passed
+-- over none changes a coordinate system (`Notices`). Any other word, as `DMESW`, `PSTHRU` or `DELETE`, may do anything.
 use Rattle.std.specs.Prelude.{ℕ, Bool, true, false, ◌||◌, ◌==◌, List, [], ◌∷◌, codes, if◌then◌else◌}
 use Rattle.dmis_program.specs.Keywords.{keyword_of, is_among}
 use Rattle.dmis_program.specs.declared.faults.Refusal.{Refusal}
@@ -8,38 +11,45 @@ use Rattle.dmis_program.specs.declared.keywords.Keyword.TheVariants as word
 use Rattle.program_review.specs.declared.groups.Group.{Group}
 use Rattle.program_review.specs.declared.groups.Group.TheVariants as group
 
--- words that identify, print, keep or evaluate
+-- words that identify; and those that print, keep or evaluate
 abbrev pub identifying : List (List ℕ)
-identifying = codes "CLMPID" ∷ (codes "DMEID" ∷ (codes "FIXTID" ∷ (codes "LOTID" ∷ (codes "OPERID"
-    ∷ (codes "PARTID" ∷ (codes "PARTRV" ∷ (codes "PARTSN" ∷ [])))))))
+identifying = codes "CLMPID" ∷ (codes "CLMPSN" ∷ (codes "DMEID" ∷ (codes "FIXTID" ∷ (codes "FIXTSN" ∷ (codes "LOTID"
+    ∷ (codes "MFGDEV" ∷ (codes "OPERID" ∷ (codes "PARTID" ∷ (codes "PARTRV" ∷ (codes "PARTSN" ∷ (codes "PLANID"
+    ∷ (codes "PREVOP" ∷ (codes "PROCID" ∷ (codes "QISDEF" ∷ []))))))))))))))
 
 abbrev pub reporting : List (List ℕ)
-reporting = codes "BOUND" ∷ (codes "CLOSE" ∷ (codes "CONST" ∷ (codes "DECPL" ∷ (codes "DEVICE"
-    ∷ (codes "EVAL" ∷ (codes "OPEN" ∷ (codes "REPORT" ∷ (codes "VFORM" ∷ (codes "WRITE" ∷ [])))))))))
+reporting = codes "BOUND" ∷ (codes "CLOSE" ∷ (codes "CONST" ∷ (codes "DECPL" ∷ (codes "DEVICE" ∷ (codes "EVAL"
+    ∷ (codes "GEOALG" ∷ (codes "KEYCHAR" ∷ (codes "OPEN" ∷ (codes "RAWDAT" ∷ (codes "REPORT" ∷ (codes "VFORM"
+    ∷ (codes "WRITE" ∷ []))))))))))))
 
--- words that set up a coordinate system, or turn the part
+-- words that set up, keep or change a coordinate system, or select another carriage, or turn the part
 abbrev pub coordinates : List (List ℕ)
-coordinates = codes "DATDEF" ∷ (codes "DATSET" ∷ (codes "EQUATE" ∷ (codes "ITERAT" ∷ (codes "LOCATE"
-    ∷ (codes "ROTAB" ∷ (codes "ROTATE" ∷ (codes "ROTSET" ∷ (codes "SAVE" ∷ (codes "TRANS" ∷ [])))))))))
+coordinates = codes "CRSLCT" ∷ (codes "DATDEF" ∷ (codes "DATSET" ∷ (codes "EQUATE" ∷ (codes "ITERAT" ∷ (codes "LOCATE"
+    ∷ (codes "MATDEF" ∷ (codes "ROTAB" ∷ (codes "ROTATE" ∷ (codes "ROTDEF" ∷ (codes "ROTSET" ∷ (codes "SAVE"
+    ∷ (codes "TRANS" ∷ []))))))))))))
 
--- words that measure, or calibrate
+-- words that measure or calibrate, or say how
 abbrev pub measuring : List (List ℕ)
-measuring = codes "CALIB" ∷ (codes "PAMEAS" ∷ (codes "PATH" ∷ (codes "PTBUFF" ∷ (codes "RMEAS"
-    ∷ (codes "SCAN" ∷ (codes "SCNMOD" ∷ (codes "SCNSET" ∷ [])))))))
+measuring = codes "ALGDEF" ∷ (codes "CALIB" ∷ (codes "FILDEF" ∷ (codes "LITDEF" ∷ (codes "PAMEAS" ∷ (codes "PATH"
+    ∷ (codes "PTBUFF" ∷ (codes "RMEAS" ∷ (codes "SCAN" ∷ (codes "SCNMOD" ∷ (codes "SCNPLN" ∷ (codes "SCNSET"
+    ∷ (codes "THLDEF" ∷ (codes "WINDEF" ∷ (codes "XTRACT" ∷ []))))))))))))))
 
 -- words that decide which statements come next, or compute what they need
 abbrev pub branching : List (List ℕ)
-branching = codes "CASE" ∷ (codes "DFTCAS" ∷ (codes "DO" ∷ (codes "ELSE" ∷ (codes "ENDCAS"
-    ∷ (codes "ENDDO" ∷ (codes "ENDIF" ∷ (codes "ENDSEL" ∷ (codes "IF" ∷ (codes "JUMPTO" ∷ (codes "SELECT" ∷ []))))))))))
+branching = codes "BADTST" ∷ (codes "CASE" ∷ (codes "DFTCAS" ∷ (codes "DMIS" ∷ (codes "DO" ∷ (codes "ELSE"
+    ∷ (codes "ENDCAS" ∷ (codes "ENDDO" ∷ (codes "ENDIF" ∷ (codes "ENDSEL" ∷ (codes "IF" ∷ (codes "JUMPTO"
+    ∷ (codes "RESUME" ∷ (codes "SELECT" ∷ [])))))))))))))
 
 abbrev pub calling : List (List ℕ)
-calling = codes "ASSIGN" ∷ (codes "CALL" ∷ (codes "DECL" ∷ (codes "ENDMAC" ∷ (codes "ERROR"
-    ∷ (codes "EXTFIL" ∷ (codes "INCLUD" ∷ (codes "MACRO" ∷ (codes "PROMPT" ∷ (codes "READ" ∷ (codes "VALUE" ∷ []))))))))))
+calling = codes "ASSIGN" ∷ (codes "CALL" ∷ (codes "DECL" ∷ (codes "DMISMD" ∷ (codes "ENDMAC" ∷ (codes "ENDXTN"
+    ∷ (codes "ERROR" ∷ (codes "EXTFIL" ∷ (codes "INCLUD" ∷ (codes "MACRO" ∷ (codes "OBTAIN" ∷ (codes "PROMPT"
+    ∷ (codes "READ" ∷ (codes "VALUE" ∷ (codes "XTERN" ∷ []))))))))))))))
 
 -- words that move the machine, or say how it moves
 abbrev pub moving : List (List ℕ)
-moving = codes "CLRSRF" ∷ (codes "CZONE" ∷ (codes "CZSLCT" ∷ (codes "ENDGO" ∷ (codes "FLY"
-    ∷ (codes "FROM" ∷ (codes "GOHOME" ∷ (codes "GOTARG" ∷ (codes "RAPID" ∷ (codes "WRIST" ∷ [])))))))))
+moving = codes "CLRSRF" ∷ (codes "CRMODE" ∷ (codes "CROSCL" ∷ (codes "CZONE" ∷ (codes "CZSLCT" ∷ (codes "ENDGO"
+    ∷ (codes "FLY" ∷ (codes "FROM" ∷ (codes "GOHOME" ∷ (codes "GOTARG" ∷ (codes "RAPID"
+    ∷ (codes "WRIST" ∷ [])))))))))))
 
 -- words that change measured lengths
 abbrev pub compensating : List (List ℕ)
@@ -69,9 +79,10 @@ unsupported_group word.Dmismn text = group.Flow
 unsupported_group word.Unknown text = word_group text
 unsupported_group _ text = group.Mistake
 
--- of a statement whose parameters are wrong: a frame that is not selected changes where positions are
+-- of a statement whose parameters are wrong: a frame that is not selected changes where positions are, a mode who takes the touches
 abbrev pub mistaken_group : Keyword → Group
 mistaken_group word.Recall = group.Coordinates
+mistaken_group word.Mode = group.ByHand
 mistaken_group _ = group.Mistake
 
 -- the group of a refused statement of this word
@@ -80,6 +91,6 @@ group_of refusal.Unsupported text = unsupported_group (keyword_of text) text
 group_of refusal.BadArguments text = mistaken_group (keyword_of text)
 group_of refusal.UnknownFrame text = group.Coordinates
 group_of refusal.TooFewPoints text = group.Measuring
-group_of refusal.NoProgMode text = group.Measuring
+group_of refusal.NoProgMode text = group.ByHand
 group_of refusal.NotMillimetres text = group.Lengths
 group_of _ text = group.Mistake

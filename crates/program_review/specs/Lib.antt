@@ -1,4 +1,5 @@
 pub mod TaskLines
+pub mod PlanLines
 pub mod BlockLines
 pub mod Refusals
 pub mod Notices

@@ -1,6 +1,6 @@
 -- Statements that a review notices although they are accepted: those that are passed over though they change how the machine moves, what nominal values
 -- mean or what an operator must do, and those that are probably not meant (ISO 22093; which they are is this profile's).
-use Rattle.std.specs.Prelude.{ℕ, Bool, false, ◌&&◌, List, [], ◌∷◌, codes, Option, Some, None}
+use Rattle.std.specs.Prelude.{ℕ, Bool, false, ◌&&◌, ◌||◌, List, [], ◌∷◌, codes, Option, Some, None}
 use Rattle.std.specs.Prelude.{if◌then◌else◌}
 use Rattle.std.specs.Str.{bytes_eq}
 use Rattle.dmis_text.specs.declared.elements.Statement.{Statement}
@@ -17,12 +17,20 @@ abbrev pub begins_with : List ℕ → List (List ℕ) → Bool
 begins_with text [] = false
 begins_with text (first ∷ rest) = bytes_eq first text
 
+-- what an `SNSET` changes
+abbrev pub sensor_setting : List (List ℕ) → Passed
+sensor_setting params =
+    if begins_with (codes "CLRSRF") params then passed.Clearing else
+    if begins_with (codes "DEPTH") params then passed.Depth else
+    if begins_with (codes "APPRCH") params || (begins_with (codes "RETRCT") params || begins_with (codes "SEARCH") params) then passed.Probing else
+    passed.Sensor
+
 -- what a word changes that is passed over; a text only if it is for the operator
 abbrev pub passed_word : List ℕ → List (List ℕ) → Option Passed
 passed_word text params =
     if bytes_eq text (codes "PRCOMP") then Some passed.Compensation else
     if bytes_eq text (codes "FINPOS") then Some passed.Positioning else
-    if bytes_eq text (codes "SNSET") then Some passed.Probing else
+    if bytes_eq text (codes "SNSET") then Some (sensor_setting params) else
     if bytes_eq text (codes "WKPLAN") then Some passed.Plane else
     if bytes_eq text (codes "FEDRAT") then Some passed.Speed else
     if bytes_eq text (codes "ACLRAT") then Some passed.Acceleration else

@@ -20,6 +20,7 @@ use Rattle.dmis_program.specs.declared.keywords.Keyword.{Keyword}
 use Rattle.dmis_program.specs.declared.keywords.Keyword.TheVariants as word
 use Rattle.dmis_program.specs.declared.sayings.StatementMeaning.{StatementMeaning}
 use Rattle.dmis_program.specs.declared.sayings.StatementMeaning.TheVariants as said
+use Rattle.program_review.specs.Groups.{group_of}
 use Rattle.program_review.specs.declared.standing.Standing.{Standing}
 use Rattle.program_review.specs.declared.refusals.Found.{Found}
 
@@ -121,13 +122,13 @@ abbrev pub is_end : Keyword → Bool
 is_end word.Endfil = true
 is_end _ = false
 
--- a refusal on its line
-abbrev pub found_at : Refusal × ℕ → Found
-found_at p = record { refusal = p.0; line = p.1 }
+-- a refusal on its line, of a statement with this word; where no statement is read there is none
+abbrev pub found_at : List ℕ → Refusal × ℕ → Found
+found_at text p = record { refusal = p.0; line = p.1; group = group_of p.0 text }
 
-abbrev pub listed : ℕ → Result StatementMeaning Refusal → List Found
-listed line (Ok meaning) = []
-listed line (Err refusal) = found_at (refusal, line) ∷ []
+abbrev pub listed : List ℕ → ℕ → Result StatementMeaning Refusal → List Found
+listed text line (Ok meaning) = []
+listed text line (Err refusal) = found_at text (refusal, line) ∷ []
 
 abbrev pub after : Standing → Keyword → Result StatementMeaning Refusal → Standing
 after standing keyword (Ok meaning) = after_said standing keyword meaning
@@ -135,8 +136,8 @@ after standing keyword (Err refusal) = after_refused standing keyword refusal
 
 -- the refusals of the statements from here on, and that of the text's end if no `ENDFIL` comes before it
 abbrev pub refusals_from : List (List ℕ × Point) → Option TextFault → ℕ → Standing → List Statement → List Found
-refusals_from frames fault lines standing [] = found_at (ended fault standing.number lines) ∷ []
-refusals_from frames fault lines standing (s ∷ statements) = listed s.line (due frames standing s)
+refusals_from frames fault lines standing [] = found_at [] (ended fault standing.number lines) ∷ []
+refusals_from frames fault lines standing (s ∷ statements) = listed s.word s.line (due frames standing s)
     ++ (if is_end (keyword_of s.word) then [] else
     refusals_from frames fault lines (after standing (keyword_of s.word) (due frames standing s)) statements)
 

@@ -1,31 +1,32 @@
 -- Which statements of a program a client carries out by commands, and on which lines (ISO 22093; the plan is this profile).
-use Rattle.std.specs.Prelude.{ℕ, zero, suc, List, [], ◌∷◌, ◌++◌, ◌-◌, Option, Some, None}
+use Rattle.std.specs.Prelude.{ℕ, zero, suc, List, [], ◌∷◌, ◌++◌, ◌-◌, Option, Some, None, if◌then◌else◌}
 use Rattle.std.specs.List.{flat_map}
 use Rattle.dmis_text.specs.declared.elements.Statement.{Statement}
 use Rattle.dmis_program.specs.Keywords.{keyword_of}
-use Rattle.dmis_program.specs.declared.keywords.Keyword.{Keyword}
-use Rattle.dmis_program.specs.declared.keywords.Keyword.TheVariants as word
+use Rattle.dmis_program.specs.declared.sayings.StatementMeaning.{StatementMeaning}
+use Rattle.dmis_program.specs.declared.sayings.StatementMeaning.TheVariants as said
+use Rattle.program_review.specs.UnderSetup.{meaning_with, is_end}
 use Rattle.program_review.specs.declared.tasks.Task.{Task}
 use Rattle.program_review.specs.declared.tasks.Task.TheVariants as task
 use Rattle.program_review.specs.declared.tasks.TaskLine.{TaskLine}
 
--- a task on a line
-abbrev pub on_line : Task → ℕ → TaskLine
-on_line task line = record { task = task; line = line }
+-- what a statement that says this asks for: a `RECALL` of no frame asks for nothing
+abbrev pub task_said : Option StatementMeaning → Option Task
+task_said (Some (said.Goes target)) = Some task.Move
+task_said (Some (said.Touches target direction)) = Some task.Touch
+task_said (Some (said.Selects name)) = Some task.Tool
+task_said (Some (said.Recalls name)) = Some task.Frame
+task_said meaning = None
 
--- what a statement asks for, before that of the statements after it, of which none count after `ENDFIL`
-abbrev pub with_task : Keyword → ℕ → List TaskLine → List TaskLine
-with_task word.Goto line behind = on_line task.Move line ∷ behind
-with_task word.Ptmeas line behind = on_line task.Touch line ∷ behind
-with_task word.Snslct line behind = on_line task.Tool line ∷ behind
-with_task word.Recall line behind = on_line task.Frame line ∷ behind
-with_task word.Endfil line behind = []
-with_task _ line behind = behind
+abbrev pub task_on : ℕ → Option Task → List TaskLine
+task_on line None = []
+task_on line (Some task) = record { task = task; line = line } ∷ []
 
 -- what the statements up to the first `ENDFIL` ask for, in order
 abbrev pub task_lines_of : List Statement → List TaskLine
 task_lines_of [] = []
-task_lines_of (s ∷ statements) = with_task (keyword_of s.word) s.line (task_lines_of statements)
+task_lines_of (s ∷ statements) = if is_end (keyword_of s.word) then [] else
+    task_on s.line (task_said (meaning_with (keyword_of s.word) s)) ++ task_lines_of statements
 
 -- how many touches are left once a task is done
 abbrev pub touches_left : Task → ℕ → ℕ

@@ -9,6 +9,7 @@ use Rattle.tool_rack.specs.Setups.{has_name}
 use Rattle.dmis_program.specs.Keywords.{keyword_of}
 use Rattle.dmis_program.specs.Sayings.{said_of}
 use Rattle.dmis_program.specs.Offsets.{offset_of}
+use Rattle.dmis_program.specs.Parameters.{is_other_recall}
 use Rattle.dmis_program.specs.declared.faults.Refusal.{Refusal}
 use Rattle.dmis_program.specs.declared.keywords.Keyword.{Keyword}
 use Rattle.dmis_program.specs.declared.keywords.Keyword.TheVariants as word
@@ -20,14 +21,18 @@ use Rattle.program_review.specs.declared.under_setup.Lack.{Lack}
 use Rattle.program_review.specs.declared.under_setup.Lack.TheVariants as lack
 use Rattle.program_review.specs.declared.under_setup.SetupNotice.{SetupNotice}
 
--- what a statement says by itself; none if it is refused for itself, or its word is unknown
+-- what a statement says by itself; none if it is refused for itself, its word is unknown, or it recalls what is not read, as a `DA(..)`
 abbrev pub accepted : Result StatementMeaning Refusal → Option StatementMeaning
 accepted (Ok meaning) = Some meaning
 accepted (Err refusal) = None
 
+abbrev pub recalls_other : Keyword → List (List ℕ) → Bool
+recalls_other word.Recall params = is_other_recall params
+recalls_other _ params = false
+
 abbrev pub meaning_with : Keyword → Statement → Option StatementMeaning
 meaning_with word.Unknown s = None
-meaning_with keyword s = accepted (said_of keyword s)
+meaning_with keyword s = if recalls_other keyword s.params then None else accepted (said_of keyword s)
 
 -- the frame of a name that is recalled; unknown if it is not stored
 abbrev pub recalled : Option Point → Selected

@@ -15,6 +15,8 @@ pub enum Group {
     Bookkeeping,
     /// It sets up or selects a coordinate system, or turns the part.
     Coordinates,
+    /// It leaves touches to the operator.
+    ByHand,
     /// It asks for measuring other than by programmed touches.
     Measuring,
     /// It decides which statements come next.
@@ -41,13 +43,20 @@ fn is_identifying(word: &[u8]) -> bool
     ensures { result ≡ is_among word.now identifying }
 {
     is_text(word, "CLMPID")
+        || is_text(word, "CLMPSN")
         || is_text(word, "DMEID")
         || is_text(word, "FIXTID")
+        || is_text(word, "FIXTSN")
         || is_text(word, "LOTID")
+        || is_text(word, "MFGDEV")
         || is_text(word, "OPERID")
         || is_text(word, "PARTID")
         || is_text(word, "PARTRV")
         || is_text(word, "PARTSN")
+        || is_text(word, "PLANID")
+        || is_text(word, "PREVOP")
+        || is_text(word, "PROCID")
+        || is_text(word, "QISDEF")
 }
 
 /// Whether a word prints, keeps or evaluates.
@@ -60,48 +69,63 @@ fn is_reporting(word: &[u8]) -> bool
         || is_text(word, "DECPL")
         || is_text(word, "DEVICE")
         || is_text(word, "EVAL")
+        || is_text(word, "GEOALG")
+        || is_text(word, "KEYCHAR")
         || is_text(word, "OPEN")
+        || is_text(word, "RAWDAT")
         || is_text(word, "REPORT")
         || is_text(word, "VFORM")
         || is_text(word, "WRITE")
 }
 
-/// Whether a word sets up a coordinate system, or turns the part.
+/// Whether a word sets up, keeps or changes a coordinate system, or selects another carriage, or turns the part.
 pub(crate) fn is_of_coordinates(word: &[u8]) -> bool
     ensures { result ≡ is_among word.now coordinates }
 {
-    is_text(word, "DATDEF")
+    is_text(word, "CRSLCT")
+        || is_text(word, "DATDEF")
         || is_text(word, "DATSET")
         || is_text(word, "EQUATE")
         || is_text(word, "ITERAT")
         || is_text(word, "LOCATE")
+        || is_text(word, "MATDEF")
         || is_text(word, "ROTAB")
         || is_text(word, "ROTATE")
+        || is_text(word, "ROTDEF")
         || is_text(word, "ROTSET")
         || is_text(word, "SAVE")
         || is_text(word, "TRANS")
 }
 
-/// Whether a word measures, or calibrates.
+/// Whether a word measures or calibrates, or says how.
 fn is_measuring(word: &[u8]) -> bool
     ensures { result ≡ is_among word.now measuring }
 {
-    is_text(word, "CALIB")
+    is_text(word, "ALGDEF")
+        || is_text(word, "CALIB")
+        || is_text(word, "FILDEF")
+        || is_text(word, "LITDEF")
         || is_text(word, "PAMEAS")
         || is_text(word, "PATH")
         || is_text(word, "PTBUFF")
         || is_text(word, "RMEAS")
         || is_text(word, "SCAN")
         || is_text(word, "SCNMOD")
+        || is_text(word, "SCNPLN")
         || is_text(word, "SCNSET")
+        || is_text(word, "THLDEF")
+        || is_text(word, "WINDEF")
+        || is_text(word, "XTRACT")
 }
 
 /// Whether a word decides which statements come next.
 fn is_branching(word: &[u8]) -> bool
     ensures { result ≡ is_among word.now branching }
 {
-    is_text(word, "CASE")
+    is_text(word, "BADTST")
+        || is_text(word, "CASE")
         || is_text(word, "DFTCAS")
+        || is_text(word, "DMIS")
         || is_text(word, "DO")
         || is_text(word, "ELSE")
         || is_text(word, "ENDCAS")
@@ -110,6 +134,7 @@ fn is_branching(word: &[u8]) -> bool
         || is_text(word, "ENDSEL")
         || is_text(word, "IF")
         || is_text(word, "JUMPTO")
+        || is_text(word, "RESUME")
         || is_text(word, "SELECT")
 }
 
@@ -120,14 +145,18 @@ fn is_calling(word: &[u8]) -> bool
     is_text(word, "ASSIGN")
         || is_text(word, "CALL")
         || is_text(word, "DECL")
+        || is_text(word, "DMISMD")
         || is_text(word, "ENDMAC")
+        || is_text(word, "ENDXTN")
         || is_text(word, "ERROR")
         || is_text(word, "EXTFIL")
         || is_text(word, "INCLUD")
         || is_text(word, "MACRO")
+        || is_text(word, "OBTAIN")
         || is_text(word, "PROMPT")
         || is_text(word, "READ")
         || is_text(word, "VALUE")
+        || is_text(word, "XTERN")
 }
 
 /// Whether a word moves the machine, or says how it moves.
@@ -135,6 +164,8 @@ fn is_moving(word: &[u8]) -> bool
     ensures { result ≡ is_among word.now moving }
 {
     is_text(word, "CLRSRF")
+        || is_text(word, "CRMODE")
+        || is_text(word, "CROSCL")
         || is_text(word, "CZONE")
         || is_text(word, "CZSLCT")
         || is_text(word, "ENDGO")
@@ -209,6 +240,7 @@ fn mistaken_group(keyword: Keyword) -> Group
 {
     match keyword {
         Keyword::Recall => Group::Coordinates,
+        Keyword::Mode => Group::ByHand,
         _ => Group::Mistake,
     }
 }
@@ -221,7 +253,8 @@ pub fn group_of(refusal: Refusal, word: &[u8]) -> Group
         Refusal::Unsupported => unsupported_group(keyword_of_word(word), word),
         Refusal::BadArguments => mistaken_group(keyword_of_word(word)),
         Refusal::UnknownFrame => Group::Coordinates,
-        Refusal::TooFewPoints | Refusal::NoProgMode => Group::Measuring,
+        Refusal::TooFewPoints => Group::Measuring,
+        Refusal::NoProgMode => Group::ByHand,
         Refusal::NotMillimetres => Group::Lengths,
         _ => Group::Mistake,
     }

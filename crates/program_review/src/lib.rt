@@ -7,12 +7,14 @@
 //! - `recalling`: the frames of a setup that a program does not recall
 //! - `groups`: what refused statements are for; `strays`: the touches that would be measured elsewhere without them
 //! - `tasks`: the statements that a client carries out by commands, and their lines; `blocks`: the lines of a program's blocks
+//! - `laws`: what follows from the definitions
 #![tactic(auto)]
 
 mod blocks;
 mod groups;
 mod labels;
 mod lacking;
+pub mod laws;
 mod notices;
 mod odd;
 mod recalling;
@@ -23,7 +25,7 @@ mod tasks;
 mod under_setup;
 
 pub use blocks::block_lines;
-pub use groups::{Group, group_of};
+pub use groups::Group;
 pub use lacking::lacking_for;
 pub use notices::{Notice, Passed, passed_statements};
 pub use odd::{Odd, OddNotice, near_word, odd_statements};

@@ -5,7 +5,7 @@ ghost use Rattle.std.specs.Str.{bytes_eq};
 ghost use Rattle.dmis_text.specs.Reading.{text_reading};
 ghost use Rattle.dmis_program.specs.Sayings.{is_badly_formed};
 ghost use Rattle.dmis_program.specs.declared.keywords.Keyword.TheVariants as word;
-ghost use Rattle.program_review.specs.Notices.{begins_with, passed_word, passed_over, with_passed, notices_of};
+ghost use Rattle.program_review.specs.Notices.{begins_with, sensor_setting, passed_word, passed_over, with_passed, notices_of};
 
 use dmis_program::{Keyword, keyword_of_word};
 use dmis_text::{Statement, Statements, Text, TextFault};
@@ -18,8 +18,14 @@ pub enum Passed {
     Compensation,
     /// `FINPOS`: whether the machine waits until it stands still in its position.
     Positioning,
-    /// `SNSET`: how the probe approaches, searches and retracts, and how deep it looks.
+    /// `SNSET/APPRCH`, `RETRCT` and `SEARCH`: how the probe approaches, retracts and searches.
     Probing,
+    /// `SNSET/CLRSRF`: how the probe clears the part between features.
+    Clearing,
+    /// `SNSET/DEPTH`: how deep a feature is measured.
+    Depth,
+    /// Any other `SNSET`.
+    Sensor,
     /// `WKPLAN`: in which plane the program works.
     Plane,
     /// `FEDRAT`: how fast the machine moves.
@@ -43,6 +49,13 @@ impl Passed {
             Passed::Probing => {
                 "would set how the probe approaches, searches and retracts: the machine's own settings are used."
             }
+            Passed::Clearing => {
+                "would say how the probe clears the part between features: nothing clears it, and the probe travels straight."
+            }
+            Passed::Depth => {
+                "would set how deep features are measured: nothing does it, and each target is taken as it is written."
+            }
+            Passed::Sensor => "would set the sensor: nothing does it.",
             Passed::Plane => {
                 "would name the plane of later statements: positions have three coordinates here."
             }
@@ -79,6 +92,25 @@ fn begins_with(other: &str, params: &[Text]) -> bool
     }
 }
 
+/// What an `SNSET` with these parameters changes.
+fn sensor_setting(params: &[Text]) -> Passed
+    ensures { result ≡ sensor_setting params.now }
+{
+    if begins_with("CLRSRF", params) {
+        return Passed::Clearing;
+    }
+    if begins_with("DEPTH", params) {
+        return Passed::Depth;
+    }
+    if begins_with("APPRCH", params)
+        || begins_with("RETRCT", params)
+        || begins_with("SEARCH", params)
+    {
+        return Passed::Probing;
+    }
+    Passed::Sensor
+}
+
 /// What a word changes that is passed over.
 fn passed_word(word: &[u8], params: &[Text]) -> Option<Passed>
     ensures { result ≡ passed_word word.now params.now }
@@ -90,7 +122,7 @@ fn passed_word(word: &[u8], params: &[Text]) -> Option<Passed>
         return Some(Passed::Positioning);
     }
     if is_text(word, "SNSET") {
-        return Some(Passed::Probing);
+        return Some(sensor_setting(params));
     }
     if is_text(word, "WKPLAN") {
         return Some(Passed::Plane);

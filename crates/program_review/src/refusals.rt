@@ -6,6 +6,7 @@ ghost use Rattle.dmis_program.specs.Meaning.{program_of, ended};
 ghost use Rattle.dmis_text.specs.declared.reading.TextFault.{TextFault};
 ghost use Rattle.program_review.specs.Refusals.{refusals_of, found_at, listed, due, after, is_end, first_of, fault_of};
 
+use crate::groups::{Group, group_of};
 use crate::standing::Standing;
 use dmis_program::{Frames, Keyword, Refusal, StatementFault, keyword_of_word};
 use dmis_text::{Statement, Statements, TextFault};
@@ -18,6 +19,21 @@ pub struct Found {
     pub refusal: Refusal,
     /// The number of the line, from 1.
     pub line: u64,
+    /// What the statement is for.
+    pub group: Group,
+}
+
+impl Found {
+    /// A refusal on this line, of a statement with this word; of none where the text cannot be read, or ends.
+    fn new(refusal: Refusal, line: u64, word: &[u8]) -> Found
+        ensures { result ≡ found_at word.now (refusal, line) }
+    {
+        Found {
+            refusal,
+            line,
+            group: group_of(refusal, word),
+        }
+    }
 }
 
 /// Adds the refusal of a statement, if it is refused, and gives what stands after it.
@@ -30,7 +46,7 @@ fn pass(
 ) -> Result<Standing, AllocError>
     requires { keyword ≡ keyword_of statement.now.word }
     ensures listed { OnOk result (found.new.items
-        ≡ found.old.items ++ listed statement.now.line (due frames.now standing statement.now)) }
+        ≡ found.old.items ++ listed statement.now.word statement.now.line (due frames.now standing statement.now)) }
     ensures standing { IfOk result (λ next.
         next ≡ after standing keyword (due frames.now standing statement.now)) }
 {
@@ -38,7 +54,7 @@ fn pass(
         Ok(meaning) => Ok(standing.after_said(keyword, &meaning)),
         Err(StatementFault::Refused(refusal)) => {
             let line = statement.line;
-            found.push(Found { refusal, line })?;
+            found.push(Found::new(refusal, line, &statement.word))?;
             Ok(standing.after_refused(keyword, refusal))
         }
         Err(StatementFault::Memory) => Err(AllocError),
@@ -47,18 +63,12 @@ fn pass(
 
 /// The refusal of a text that ends after that many statements and lines, without an `ENDFIL`.
 fn missing_end(number: u64, lines: u64) -> Found
-    ensures { result ≡ found_at (ended None number lines) }
+    ensures { result ≡ found_at [] (ended None number lines) }
 {
     if number == 0 {
-        Found {
-            refusal: Refusal::NotDmis,
-            line: 1,
-        }
+        Found::new(Refusal::NotDmis, 1, &[])
     } else {
-        Found {
-            refusal: Refusal::Truncated,
-            line: lines,
-        }
+        Found::new(Refusal::Truncated, lines, &[])
     }
 }
 
@@ -78,12 +88,12 @@ fn all_refusals(alloc: Global, bytes: &[u8], frames: &Frames) -> Result<Vec<Foun
             }
             Err(TextFault::LineTooLong(line)) => {
                 let refusal = Refusal::LineTooLong;
-                found.push(Found { refusal, line })?;
+                found.push(Found::new(refusal, line, &[]))?;
                 return Ok(found);
             }
             Err(TextFault::BadByte(line)) => {
                 let refusal = Refusal::BadByte;
-                found.push(Found { refusal, line })?;
+                found.push(Found::new(refusal, line, &[]))?;
                 return Ok(found);
             }
             Err(TextFault::Memory) => return Err(AllocError),

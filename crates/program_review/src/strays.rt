@@ -1,11 +1,11 @@
-// The touches that would be measured in other coordinates if refused statements were deleted.
+// The touches that would be measured in other coordinates, or by the machine itself, if refused statements were deleted.
 
 ghost use Rattle.std.specs.Prelude.{◌≡◌, ◌++◌, IfOk, OnOk};
 ghost use Rattle.dmis_text.specs.Reading.{text_reading};
 ghost use Rattle.dmis_program.specs.Keywords.{keyword_of};
 ghost use Rattle.dmis_program.specs.Offsets.{offset_of};
 ghost use Rattle.program_review.specs.UnderSetup.{meaning_with};
-ghost use Rattle.program_review.specs.Strays.{at_first, astray, aim_recalled, aim_passed, aim_after, strays_here, strays_of, strays_from};
+ghost use Rattle.program_review.specs.Strays.{at_first, astray, aim_recalled, by_hand, aim_passed, aim_after, strays_here, hand_here, strays_of, strays_from};
 
 use crate::groups::is_of_coordinates;
 use crate::under_setup::meaning_of;
@@ -14,13 +14,15 @@ use dmis_text::{Statement, Statements, TextFault};
 use fixed_um::Point;
 use std::alloc::{AllocError, Global};
 
-/// In which coordinates a touch would be measured once the refused statements above it that set others are deleted.
+/// How a touch would be measured once the refused statements above it are deleted.
 #[derive(Clone, Copy, Debug, PartialEq, Eq)]
 pub enum Stray {
-    /// In the machine's.
+    /// In machine coordinates instead of others.
     Machine,
-    /// In those of a stored frame that is recalled above them.
+    /// Likewise in those of a stored frame that is recalled above them.
     Stored,
+    /// By the machine itself instead of the operator. The number of its line, from 1.
+    ByHand(u64),
 }
 
 /// The coordinates that are selected, and whether a refused statement means others.
@@ -30,6 +32,8 @@ pub(crate) struct Aim {
     pub(crate) is_stored: bool,
     /// A refused statement since then sets other coordinates.
     pub(crate) is_stray: bool,
+    /// The last `MODE` is refused: an operator is to take the touches.
+    pub(crate) is_by_hand: bool,
 }
 
 impl Aim {
@@ -40,6 +44,7 @@ impl Aim {
         Aim {
             is_stored: false,
             is_stray: false,
+            is_by_hand: false,
         }
     }
 
@@ -48,8 +53,8 @@ impl Aim {
         ensures { result ≡ astray self }
     {
         Aim {
-            is_stored: self.is_stored,
             is_stray: true,
+            ..self
         }
     }
 
@@ -61,8 +66,19 @@ impl Aim {
             Some(_) => Aim {
                 is_stored: true,
                 is_stray: false,
+                ..self
             },
             None => self.astray(),
+        }
+    }
+
+    /// After a `MODE` that is refused or not.
+    fn by_hand(self, refused: bool) -> Aim
+        ensures { result ≡ by_hand refused self }
+    {
+        Aim {
+            is_by_hand: refused,
+            ..self
         }
     }
 
@@ -79,6 +95,7 @@ impl Aim {
                 }
             }
             Keyword::Recall => self.astray(),
+            Keyword::Mode => self.by_hand(true),
             _ => self,
         }
     }
@@ -95,24 +112,26 @@ impl Aim {
     {
         match meaning {
             Some(StatementMeaning::Recalls(name)) => self.recalled(frames.get(name)),
+            Some(_) if keyword == Keyword::Mode => self.by_hand(false),
             Some(_) => self,
             None => self.passed(keyword, word),
         }
     }
 
-    /// Adds where a statement of this word is measured, if it is a touch that would be astray.
-    fn push_stray(self, strays: &mut Vec<Stray>, keyword: Keyword) -> Result<(), AllocError>
-        ensures { OnOk result (strays.new.items ≡ strays.old.items ++ strays_of self keyword) }
+    /// Adds how a touch on this line would be measured, if otherwise than it is meant.
+    fn push_touch(self, strays: &mut Vec<Stray>, line: u64) -> Result<(), AllocError>
+        ensures { OnOk result (strays.new.items
+            ≡ strays.old.items ++ (strays_here self ++ hand_here self line)) }
     {
-        match keyword {
-            Keyword::Ptmeas if self.is_stray => {
-                strays.push(if self.is_stored {
-                    Stray::Stored
-                } else {
-                    Stray::Machine
-                })?;
-            }
-            _ => {}
+        if self.is_stray {
+            strays.push(if self.is_stored {
+                Stray::Stored
+            } else {
+                Stray::Machine
+            })?;
+        }
+        if self.is_by_hand {
+            strays.push(Stray::ByHand(line))?;
         }
         Ok(())
     }
@@ -127,18 +146,21 @@ fn pass(
     statement: &Statement,
 ) -> Result<Aim, AllocError>
     ensures strays { OnOk result (strays.new.items
-        ≡ strays.old.items ++ strays_of aim keyword) }
+        ≡ strays.old.items ++ strays_of aim keyword statement.now.line) }
     ensures aim { IfOk result (λ next. next
         ≡ aim_after frames.now aim keyword statement.now.word (meaning_with keyword statement.now)) }
 {
     let meaning = meaning_of(*strays.allocator(), keyword, statement)?;
-    aim.push_stray(strays, keyword)?;
+    if keyword == Keyword::Ptmeas {
+        aim.push_touch(strays, statement.line)?;
+    }
     let next = aim.after(frames, keyword, &statement.word, &meaning);
     Ok(next)
 }
 
-/// The touches of a program that would be measured in other coordinates if the refused statements above them were deleted, in order: those
-/// after a refused statement that sets up, keeps or recalls a coordinate system, up to the next `RECALL` of a stored frame. Nothing is read
+/// The touches of a program that would be measured otherwise if the refused statements above them were deleted, in order: those after a refused
+/// statement that sets up, keeps or recalls a coordinate system, up to the next `RECALL` of a stored frame, and those after a refused `MODE`, up
+/// to the next that is accepted. Nothing is read
 /// after `ENDFIL`, nor after a line that cannot be read. Fails only if out of memory.
 pub fn stray_touches(alloc: Global, bytes: &[u8], frames: &Frames) -> Result<Vec<Stray>, AllocError>
     ensures { IfOk result (λ strays. strays.items ≡ strays_from frames.now at_first

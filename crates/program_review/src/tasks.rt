@@ -3,10 +3,11 @@
 ghost use Rattle.std.specs.Prelude.{◌≡◌, ◌++◌, None, IfOk, OnOk};
 ghost use Rattle.std.specs.List.{flat_map};
 ghost use Rattle.dmis_text.specs.Reading.{text_reading};
-ghost use Rattle.program_review.specs.TaskLines.{task_lines_of, command_lines_of, lines_of, tool_with, frame_with, touches_left};
+ghost use Rattle.program_review.specs.TaskLines.{task_said, task_on, task_lines_of, command_lines_of, lines_of, tool_with, frame_with, touches_left};
 ghost use Rattle.program_review.specs.TaskLines.{tool_line, frame_line, up_to_touch, after_touch, tool_again, frame_again};
 
-use dmis_program::{Keyword, keyword_of_word};
+use crate::under_setup::meaning_of;
+use dmis_program::{Keyword, StatementMeaning, keyword_of_word};
 use dmis_text::{Statements, TextFault};
 use std::alloc::{AllocError, Global};
 
@@ -19,7 +20,7 @@ pub enum Task {
     Touch,
     /// A tool is selected (`SNSLCT`).
     Tool,
-    /// A frame is selected (`RECALL`).
+    /// A stored frame is selected (`RECALL/D`).
     Frame,
 }
 
@@ -30,8 +31,32 @@ pub struct TaskLine {
     pub line: u64,
 }
 
+/// What a statement that says this asks for.
+fn task_of(meaning: &Option<StatementMeaning>) -> Option<Task>
+    ensures { result ≡ task_said meaning.now }
+{
+    match meaning {
+        Some(StatementMeaning::Goes(_)) => Some(Task::Move),
+        Some(StatementMeaning::Touches(_, _)) => Some(Task::Touch),
+        Some(StatementMeaning::Selects(_)) => Some(Task::Tool),
+        Some(StatementMeaning::Recalls(_)) => Some(Task::Frame),
+        _ => None,
+    }
+}
+
+/// Adds what the statement of a line asks for, if it asks for something.
+fn push_task(tasks: &mut Vec<TaskLine>, task: Option<Task>, line: u64) -> Result<(), AllocError>
+    ensures { OnOk result (tasks.new.items ≡ tasks.old.items ++ task_on line task) }
+{
+    if let Some(task) = task {
+        tasks.push(TaskLine { task, line })?;
+    }
+    Ok(())
+}
+
 /// The tasks of a program, in order: of an accepted program each is one step, and no step but the begin and the end of a block is left out.
-/// Nothing is read after `ENDFIL`, nor after a line that cannot be read. Fails only if out of memory.
+/// A statement that is refused for itself asks for nothing. Nothing is read after `ENDFIL`, nor after a line that cannot be read. Fails only
+/// if out of memory.
 pub fn task_lines(alloc: Global, bytes: &[u8]) -> Result<Vec<TaskLine>, AllocError>
     ensures { IfOk result (λ tasks.
         tasks.items ≡ task_lines_of (text_reading bytes.now).statements) }
@@ -45,27 +70,12 @@ pub fn task_lines(alloc: Global, bytes: &[u8]) -> Result<Vec<TaskLine>, AllocErr
             Err(TextFault::Memory) => return Err(AllocError),
             Err(TextFault::LineTooLong(_) | TextFault::BadByte(_)) => return Ok(tasks),
         };
-        let line = statement.line;
-        match keyword_of_word(&statement.word) {
-            Keyword::Goto => tasks.push(TaskLine {
-                task: Task::Move,
-                line,
-            })?,
-            Keyword::Ptmeas => tasks.push(TaskLine {
-                task: Task::Touch,
-                line,
-            })?,
-            Keyword::Snslct => tasks.push(TaskLine {
-                task: Task::Tool,
-                line,
-            })?,
-            Keyword::Recall => tasks.push(TaskLine {
-                task: Task::Frame,
-                line,
-            })?,
-            Keyword::Endfil => return Ok(tasks),
-            _ => {}
+        let keyword = keyword_of_word(&statement.word);
+        if keyword == Keyword::Endfil {
+            return Ok(tasks);
         }
+        let meaning = meaning_of(alloc, keyword, &statement)?;
+        push_task(&mut tasks, task_of(&meaning), statement.line)?;
         statements.take_back(statement);
     }
 }

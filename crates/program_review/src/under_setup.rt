@@ -4,10 +4,12 @@ ghost use Rattle.std.specs.Prelude.{◌≡◌, ◌++◌, IfOk, IfSome, OnOk};
 ghost use Rattle.dmis_text.specs.Reading.{text_reading};
 ghost use Rattle.dmis_program.specs.Keywords.{keyword_of};
 ghost use Rattle.dmis_program.specs.Offsets.{offset_of};
-ghost use Rattle.program_review.specs.UnderSetup.{meaning_with, recalled, selected_after, is_within, is_outside, when, lack_of, lack_on, is_end, lacks_of};
+ghost use Rattle.program_review.specs.UnderSetup.{recalls_other, meaning_with, recalled, selected_after, is_within, is_outside, when, lack_of, lack_on, is_end, lacks_of};
 
-use dmis_program::{Frames, Keyword, StatementFault, StatementMeaning, keyword_of_word, said_of};
-use dmis_text::{Statement, Statements, TextFault};
+use dmis_program::{
+    Frames, Keyword, StatementFault, StatementMeaning, keyword_of_word, said_of, word_refusal,
+};
+use dmis_text::{Statement, Statements, Text, TextFault};
 use fixed_um::Point;
 use std::alloc::{AllocError, Global};
 use tool_rack::Rack;
@@ -41,7 +43,14 @@ pub(crate) enum Selected {
     Unknown,
 }
 
-/// What a statement says by itself; none if it is refused for itself, or its word is unknown.
+/// Whether a statement recalls what this profile does not read.
+fn is_other_recall(keyword: Keyword, params: &[Text]) -> bool
+    ensures { result ≡ recalls_other keyword params.now }
+{
+    keyword == Keyword::Recall && word_refusal(1, None, keyword, params).is_some()
+}
+
+/// What a statement says by itself; none if it is refused for itself, its word is unknown, or it recalls what is not read, as a `DA(..)`.
 pub(crate) fn meaning_of(
     alloc: Global,
     keyword: Keyword,
@@ -49,7 +58,7 @@ pub(crate) fn meaning_of(
 ) -> Result<Option<StatementMeaning>, AllocError>
     ensures { IfOk result (λ meaning. meaning ≡ meaning_with keyword statement.now) }
 {
-    if keyword == Keyword::Unknown {
+    if keyword == Keyword::Unknown || is_other_recall(keyword, &statement.params) {
         return Ok(None);
     }
     match said_of(alloc, keyword, statement) {

@@ -15,8 +15,9 @@ pub trait Reports {
     /// The errors that the server has reported since this was called last, each from its tag on.
     fn take_errors(&mut self) -> Vec<Vec<u8>>;
 
-    /// The client was followed. `has_failed` says whether the file of the record could not be written, then or before.
-    fn followed(&mut self, has_failed: bool);
+    /// The client was followed. `has_failed` says whether the file of the record could not be written, then or before, and `is_whole` whether
+    /// its text has all, since memory was there.
+    fn followed(&mut self, has_failed: bool, is_whole: bool);
 }
 
 /// Whether an error has a line: it is not empty.
@@ -105,7 +106,8 @@ impl<F: GrowingFile, N: Watcher + Reports> Watcher for RecordedRun<F, N> {
     fn turned(&mut self, client: &Client) {
         let errors = with_lines(self.companion.take_errors());
         self.recorder.follow(client, errors.as_slice());
-        self.companion.followed(self.recorder.has_failed());
+        self.companion
+            .followed(self.recorder.has_failed(), self.recorder.is_whole());
         self.companion.turned(client);
     }
 }

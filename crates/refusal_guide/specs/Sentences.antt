@@ -131,7 +131,8 @@ abbrev pub millimetres_said : List ℕ → Statement → Option Said
 millimetres_said rest s = first_said rest s (codes "The unit ") (codes " is not read: lengths are in MM.")
 
 abbrev pub prog_mode_said : List ℕ → Statement → Option Said
-prog_mode_said rest s = first_said rest s (codes "The mode ") (codes " is not carried out, and PROG is not among the words of MODE.")
+prog_mode_said rest s = first_said rest s (codes "The mode ")
+    (codes " is not carried out, and PROG is not among the words of MODE: without this line, or with PROG, the machine drives by itself to the touches below, which MAN leaves to the operator, since the place of the part is not known.")
 
 -- the three components of a direction
 abbrev pub direction_said : Named → Named → Named → Said

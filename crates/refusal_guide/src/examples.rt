@@ -134,7 +134,7 @@ pub fn refusals_have_their_sentences()
       len = 1;
     }) }
     ensures mode { said.prog_mode_said (codes "GOTO/1") going ≡ Some (record {
-      text = codes "The mode 1 is not carried out, and PROG is not among the words of MODE.";
+      text = codes "The mode 1 is not carried out, and PROG is not among the words of MODE: without this line, or with PROG, the machine drives by itself to the touches below, which MAN leaves to the operator, since the place of the part is not known.";
       at = 5;
       len = 1;
     }) }

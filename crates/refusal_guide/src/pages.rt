@@ -35,7 +35,7 @@ impl Topic {
             }
             Topic::NotMillimetres => { "UNITS names a unit other than the millimetre." }
             Topic::NoProgMode => {
-                "MODE does not name programmed mode, and the touches of another mode are not in the program."
+                "MODE does not name programmed mode. Under MAN an operator takes the touches that follow, since the place of the part is not known; under AUTO the machine's software chooses them."
             }
             Topic::ZeroVector => {
                 "The direction of a touch is zero in all components, rounded to millionths."
@@ -145,7 +145,9 @@ impl Topic {
             Topic::NotMillimetres => {
                 "Have the program written in millimetres; it is not converted here."
             }
-            Topic::NoProgMode => { "Add PROG to the modes." }
+            Topic::NoProgMode => {
+                "Have the place of the part measured with the machine's software, store it as a frame, and recall that in place of the MODE and its touches. If only the line is deleted, or PROG added, the machine drives to these touches by itself."
+            }
             Topic::ZeroVector => {
                 "Give the outward normal of the surface, or leave out the three components."
             }
@@ -230,7 +232,7 @@ impl Topic {
             Topic::TooFewPoints => "MEAS/PLANE,F(TOP),4",
             Topic::UnknownFrame => "FRAME LEFT 100 0 12.5",
             Topic::NotMillimetres => "UNITS/MM,ANGDEC",
-            Topic::NoProgMode => "MODE/PROG,MAN",
+            Topic::NoProgMode => "RECALL/D(LEFT)",
             Topic::ZeroVector => "PTMEAS/CART,10,20,5,0,0,1",
             Topic::NoTool => "SNSLCT/S(P1)",
             Topic::TooLarge => "ENDFIL",

@@ -468,7 +468,7 @@ fn no_prog_mode(alloc: Global, found: Found) -> Result<Option<Reason>, AllocErro
         alloc,
         found,
         "The mode ",
-        " is not carried out, and PROG is not among the words of MODE.",
+        " is not carried out, and PROG is not among the words of MODE: without this line, or with PROG, the machine drives by itself to the touches below, which MAN leaves to the operator, since the place of the part is not known.",
     )
 }
 

@@ -1,4 +1,4 @@
--- The report of a review (this profile). Free are the sentences, which statements are odd, and of which group each refused statement is.
+-- The report of a review (this profile). Free are the sentences, and which statements are odd.
 use Rattle.std.specs.Prelude.{◌≡◌, ℕ, List, [], ◌++◌, map, Option, Some, None}
 use Rattle.std.specs.Str.Lines.{lines}
 use Rattle.dmis_text.specs.Reading.{text_reading}
@@ -16,7 +16,6 @@ use Rattle.review_report.specs.Notes.{notes_of}
 use Rattle.review_report.specs.Printed.{Names, printed}
 use Rattle.review_report.specs.Summary.{order, sums_in}
 use Rattle.review_report.specs.declared.notes.Note.{Note}
-use Rattle.review_report.specs.declared.summary.Grouped.{Grouped}
 use Rattle.review_report.specs.declared.printing.FindingForm.{FindingForm}
 
 -- a setup, if one is named, its text, and the text of a program
@@ -52,9 +51,8 @@ pub record AreNotes (frames : List (List ℕ × Point)) (program : List ℕ) (la
 pub record AreFindings (texts : ReviewTexts) (findings : List FindingValue) : Type 0 where
   pub notes : List Note
   pub are_notes : AreNotes (frames_under texts.setup) texts.program (lacks_under texts.setup (text_reading texts.program).statements) notes
-  pub grouped : List Grouped
-  pub are_grouped : map (λ one. one.line) grouped ≡ map (λ found. found.line) (refusals_of (frames_under texts.setup) texts.program)
-  pub all : heads findings ≡ (map noted notes ++ map unused (unused_lines texts)) ++ sums_in grouped order
+  pub all : heads findings ≡ (map noted notes ++ map unused (unused_lines texts))
+      ++ sums_in (refusals_of (frames_under texts.setup) texts.program) order
 
 -- the findings are printed in this form, under these names
 pub record IsReport (form : FindingForm) (names : Names) (texts : ReviewTexts) (text : List ℕ) : Type 0 where

@@ -1,15 +1,15 @@
 -- What the refused statements of a program are for, in groups (this profile).
 use Rattle.std.specs.Prelude.{ℕ, Bool, List, [], ◌∷◌, map, ◌==◌}
 use Rattle.std.specs.List.{filter, list_any}
+use Rattle.program_review.specs.declared.refusals.Found.{Found}
 use Rattle.program_review.specs.declared.groups.Group.{Group}
 use Rattle.program_review.specs.declared.groups.Group.TheVariants as group
 use Rattle.review_report.specs.Findings.{summed}
 use Rattle.review_report.specs.declared.findings.Head.{Head}
-use Rattle.review_report.specs.declared.summary.Grouped.{Grouped}
 
 -- the groups in the order of a summary
 abbrev pub order : List Group
-order = group.Coordinates ∷ group.Lengths ∷ group.Measuring ∷ group.Flow ∷ group.Motion ∷ group.Mistake ∷ group.Other ∷ group.Bookkeeping ∷ []
+order = group.Coordinates ∷ group.ByHand ∷ group.Lengths ∷ group.Measuring ∷ group.Flow ∷ group.Motion ∷ group.Mistake ∷ group.Other ∷ group.Bookkeeping ∷ []
 
 -- the number of a group in it
 abbrev pub number_of : Group → ℕ
@@ -21,11 +21,12 @@ number_of group.Motion = 4
 number_of group.Mistake = 5
 number_of group.Other = 6
 number_of group.Bookkeeping = 7
+number_of group.ByHand = 8
 
 -- some line is of this group
-abbrev pub has_lines : List Grouped → Group → Bool
-has_lines grouped group = list_any (λ one. number_of one.group == number_of group) grouped
+abbrev pub has_lines : List Found → Group → Bool
+has_lines found group = list_any (λ one. number_of one.group == number_of group) found
 
 -- the summary has those groups that have lines
-abbrev pub sums_in : List Grouped → List Group → List Head
-sums_in grouped groups = map summed (filter (has_lines grouped) groups)
+abbrev pub sums_in : List Found → List Group → List Head
+sums_in found groups = map summed (filter (has_lines found) groups)

@@ -10,7 +10,7 @@ ghost use Rattle.review_report.specs.Reviews.{AreNotes, IsReport, frames_under, 
 use crate::notes::{Note, Remarks, notes_of};
 use crate::printing::{FindingStyle, printed};
 use crate::summary::add_summary;
-use crate::walking::{add_unused_frames, findings_in, groups_in};
+use crate::walking::{add_unused_frames, findings_in};
 use dmis_program::Frames;
 use program_review::{
     Found, SetupNotice, Stray, lacking_setup, odd_statements, passed_statements, review,
@@ -133,8 +133,11 @@ pub fn review_report(
     let mut findings = findings_in(alloc, texts.program, review.notes.as_slice())?;
     let unused = unused_frames(alloc, texts.stored, texts.program)?;
     add_unused_frames(alloc, &mut findings, texts.stored, unused.as_slice())?;
-    let grouped = groups_in(alloc, texts.program, review.found.as_slice())?;
-    add_summary(&mut findings, grouped.as_slice(), review.strays.as_slice())?;
+    add_summary(
+        &mut findings,
+        review.found.as_slice(),
+        review.strays.as_slice(),
+    )?;
     let text = printed(alloc, style, findings.as_slice())?;
     let is_refused = !review.found.is_empty();
     Ok(Report { text, is_refused })

@@ -5,20 +5,11 @@ ghost use Rattle.review_report.specs.Findings.{heads, summed};
 ghost use Rattle.review_report.specs.Summary.{number_of, has_lines, sums_in, order};
 
 use crate::findings::{Finding, Head, Kind, Place};
-use program_review::{Group, Stray};
+use program_review::{Found, Group, Stray};
 use std::alloc::{AllocError, Global};
 
 /// The most numbers of lines that a group shows.
 const MOST_LINES: u64 = 20;
-
-/// The line of a refused statement, and what it is for.
-#[derive(Clone, Copy, Debug, PartialEq, Eq)]
-pub struct Grouped {
-    /// What it is for.
-    pub group: Group,
-    /// The number of the line, from 1.
-    pub line: u64,
-}
 
 /// The lines of a group: how many, and their numbers as text.
 #[derive(Drop)]
@@ -28,10 +19,10 @@ struct Lines {
 }
 
 /// The lines of a group.
-fn lines_of(alloc: Global, grouped: &[Grouped], group: Group) -> Result<Lines, AllocError> {
+fn lines_of(alloc: Global, found: &[Found], group: Group) -> Result<Lines, AllocError> {
     let mut count: u64 = 0;
     let mut numbers = Vec::new(alloc);
-    for one in grouped {
+    for one in found {
         if one.group == group {
             push_number(&mut numbers, count, one.line)?;
             count = count.saturating_add(1);
@@ -95,11 +86,34 @@ fn strays_text(alloc: Global, strays: &[Stray]) -> Result<String, AllocError> {
     }
 }
 
+/// What deleting the lines that leave touches to the operator would change.
+fn hand_text(alloc: Global, strays: &[Stray]) -> Result<String, AllocError> {
+    let mut count: u64 = 0;
+    let mut first = 0;
+    let mut last = 0;
+    for stray in strays {
+        if let Stray::ByHand(line) = stray {
+            first = if count == 0 { *line } else { first };
+            last = *line;
+            count = count.saturating_add(1);
+        }
+    }
+    let lines = match count {
+        0 => format!(in alloc; "0 touches")?,
+        1 => format!(in alloc; "1 touch, at line {first}")?,
+        _ => format!(in alloc; "{count} touches, from line {first} to line {last}")?,
+    };
+    format!(in alloc;
+        "if deleted, or with PROG, the machine drives by itself to {lines}: MAN leaves this to the operator, since the place of the part is not known."
+    )
+}
+
 /// The name of a group.
 fn group_name(group: Group) -> &'static str {
     match group {
         Group::Bookkeeping => "bookkeeping",
         Group::Coordinates => "coordinate systems and alignment",
+        Group::ByHand => "manual touches",
         Group::Measuring => "measuring that is not carried out",
         Group::Flow => "control flow",
         Group::Motion => "motion",
@@ -115,15 +129,16 @@ fn consequence(group: Group) -> &'static str {
         Group::Bookkeeping => "if deleted, what is measured stays the same.",
         Group::Measuring => "if deleted, what they ask for is not measured.",
         Group::Flow => {
-            "if deleted, each statement is carried out once, in order, and what is measured may change."
+            "if deleted, each statement is carried out once, in order: what is measured may change, and in which coordinates."
         }
         Group::Motion => {
             "if deleted, what is measured stays the same, but the machine moves otherwise and may collide."
         }
         Group::Lengths => "if deleted, all lengths are taken as millimetres, without compensation.",
         Group::Mistake => "correct them; if deleted, touches or selections may be missing.",
-        Group::Other => "find out what they do before you delete them.",
-        Group::Coordinates => "",
+        Group::Other =>
+            "find out what they do before you delete them: they may also set a coordinate system.",
+        Group::Coordinates | Group::ByHand => "",
     }
 }
 
@@ -140,14 +155,15 @@ fn number_of(group: Group) -> u8
         Group::Mistake => 5,
         Group::Other => 6,
         Group::Bookkeeping => 7,
+        Group::ByHand => 8,
     }
 }
 
 /// Whether some line is of a group.
-fn has_lines(grouped: &[Grouped], group: Group) -> bool
-    ensures { result ≡ has_lines grouped.now group }
+fn has_lines(found: &[Found], group: Group) -> bool
+    ensures { result ≡ has_lines found.now group }
 {
-    grouped
+    found
         .iter()
         .any(|one| number_of(one.group) == number_of(group))
 }
@@ -155,11 +171,11 @@ fn has_lines(grouped: &[Grouped], group: Group) -> bool
 /// The summary of the lines of a group, with what deleting them would change.
 fn group_sentence(
     alloc: Global,
-    grouped: &[Grouped],
+    found: &[Found],
     group: Group,
     change: &str,
 ) -> Result<Vec<u8>, AllocError> {
-    let lines = lines_of(alloc, grouped, group)?;
+    let lines = lines_of(alloc, found, group)?;
     let name = group_name(group);
     let count = counted(alloc, lines.count, "line", "lines")?;
     let mut said = Vec::new(alloc);
@@ -171,21 +187,23 @@ fn group_sentence(
     Ok(said)
 }
 
-/// Adds the summary of a group. `moved` is what deleting the lines that set coordinates would change.
+/// Adds the summary of a group. `moved` is what deleting the lines that set coordinates would change, `by_hand` those of the next group.
 fn add_group(
     findings: &mut Vec<Finding>,
-    grouped: &[Grouped],
+    found: &[Found],
     group: Group,
     moved: &str,
+    by_hand: &str,
 ) -> Result<(), AllocError>
     ensures { OnOk result (heads findings.new.items
         ≡ heads findings.old.items ++ summed group ∷ []) }
 {
     let change = match group {
         Group::Coordinates => moved,
+        Group::ByHand => by_hand,
         _ => consequence(group),
     };
-    let said = group_sentence(*findings.allocator(), grouped, group, change)?;
+    let said = group_sentence(*findings.allocator(), found, group, change)?;
     let head = Head {
         place: Place::Whole,
         kind: Kind::Summary(group),
@@ -197,15 +215,17 @@ fn add_group(
 /// Adds the summary of a program's refusals: a finding for each group that has some.
 pub(crate) fn add_summary(
     findings: &mut Vec<Finding>,
-    grouped: &[Grouped],
+    found: &[Found],
     strays: &[Stray],
 ) -> Result<(), AllocError>
     ensures { OnOk result (heads findings.new.items
-        ≡ heads findings.old.items ++ sums_in grouped.now order) }
+        ≡ heads findings.old.items ++ sums_in found.now order) }
 {
     let moved = strays_text(*findings.allocator(), strays)?;
+    let by_hand = hand_text(*findings.allocator(), strays)?;
     let groups = [
         Group::Coordinates,
+        Group::ByHand,
         Group::Lengths,
         Group::Measuring,
         Group::Flow,
@@ -216,8 +236,8 @@ pub(crate) fn add_summary(
     ];
     let mut left = groups.as_slice();
     while let [group, others @ ..] = left {
-        if has_lines(grouped, *group) {
-            add_group(findings, grouped, *group, moved.as_str())?;
+        if has_lines(found, *group) {
+            add_group(findings, found, *group, moved.as_str(), by_hand.as_str())?;
         }
         left = others;
     }

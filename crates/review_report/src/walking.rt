@@ -6,10 +6,9 @@ ghost use Rattle.review_report.specs.Findings.{heads, noted, unused};
 use crate::findings::{Finding, Head, Kind, Place};
 use crate::notes::{Note, Remark};
 use crate::sentences::{lack_meaning, odd_sentence, sentence_on};
-use crate::summary::Grouped;
 use dmis_program::Refusal;
-use dmis_text::{Statements, TextFault, cut_line};
-use program_review::{Found, Group, block_lines, group_of, stored_frame};
+use dmis_text::cut_line;
+use program_review::{block_lines, stored_frame};
 use refusal_guide::{Passage, write_sentence};
 use std::alloc::{AllocError, Global};
 
@@ -175,16 +174,6 @@ impl Note {
     }
 }
 
-/// What the statement with which a text begins is for, which is refused so.
-fn first_group(alloc: Global, refusal: Refusal, text: &[u8]) -> Result<Group, AllocError> {
-    let mut statements = Statements::new(alloc, text);
-    match statements.next() {
-        Ok(Some(statement)) => Ok(group_of(refusal, &statement.word)),
-        Err(TextFault::Memory) => Err(AllocError),
-        Ok(None) | Err(TextFault::LineTooLong(_) | TextFault::BadByte(_)) => Ok(Group::Mistake),
-    }
-}
-
 /// The findings of notes on a program's text, in their order, each with its sentence.
 pub(crate) fn findings_in(
     alloc: Global,
@@ -200,27 +189,6 @@ pub(crate) fn findings_in(
         findings.push(Finding::new(note.head(), said))?;
     }
     Ok(findings)
-}
-
-/// What the refused statements of a program's text are for, in their order.
-pub(crate) fn groups_in(
-    alloc: Global,
-    text: &[u8],
-    found: &[Found],
-) -> Result<Vec<Grouped>, AllocError>
-    ensures { IfOk result (λ grouped. map (λ one. one.line) grouped.items
-        ≡ map (λ found. found.line) found.now) }
-{
-    let mut grouped = Vec::new(alloc);
-    let mut start = LineStart::first();
-    for one in found {
-        start = start.forward(text, one.line);
-        grouped.push(Grouped {
-            group: first_group(alloc, one.refusal, start.rest(text))?,
-            line: one.line,
-        })?;
-    }
-    Ok(grouped)
 }
 
 /// The sentence on the frame that the line with which a text begins stores, and that no statement of the program recalls.

@@ -14,4 +14,4 @@ pub mod StageReads
 pub mod StageRuns
 pub mod StageShapes
 pub mod ToldLines
-pub mod RefusedLines
+pub mod KeptErrors

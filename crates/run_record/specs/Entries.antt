@@ -1,5 +1,5 @@
 -- The lines of a record that follow its head, one for each entry (this profile), and the entries that can be written.
-use Rattle.std.specs.Prelude.{ℕ, List, [], ◌∷◌, ◌++◌, codes, decimal, take}
+use Rattle.std.specs.Prelude.{◌≡◌, ◌⊎◌, ℕ, suc, ◌-◌, ◌<◌, ◌≤◌, List, [], ◌∷◌, ◌++◌, length, take, nat_le, codes, decimal, if◌then◌else◌}
 use Rattle.std.specs.List.{flat_map}
 use Rattle.fixed_um.specs.Names.{IsName}
 use Rattle.contact_ledger.specs.Lines.{line_of}
@@ -14,9 +14,21 @@ use Rattle.run_record.specs.declared.entries.Entry.TheVariants.{Told, Refused, C
 abbrev pub IsRefusal : List ℕ → Type 0
 IsRefusal text = IsPrinted 400 text
 
+-- the first bytes of a text as people read them, as many as fit into that many bytes: none is cut
+abbrev pub fitting : ℕ → List ℕ → List ℕ
+fitting n [] = []
+fitting n (b ∷ bytes) = if nat_le (length (visible b)) n then visible b ++ fitting (n - length (visible b)) bytes else []
+
+-- what is kept of a text are its first bytes, whole, and as many of them as fit
+pub record IsFitting (most : ℕ) (text kept : List ℕ) : Type 0 where
+  pub count : ℕ
+  pub whole : kept ≡ flat_map visible (take count text)
+  pub few : length kept ≤ most
+  pub all : (length text ≤ count) ⊎ (most < length (flat_map visible (take (suc count) text)))
+
 -- what is kept of an error: as people read it, up to 400 bytes
 abbrev pub kept_error : List ℕ → List ℕ
-kept_error text = take 400 (flat_map visible text)
+kept_error text = fitting 400 text
 
 -- an entry that can be written
 abbrev pub IsWrittenEntry : Entry → Type 0

@@ -1,8 +1,9 @@
 // What follows from the definitions alone. Each function has laws for its contract and does nothing.
 
-ghost use Rattle.std.specs.Prelude.{◌≡◌, ◌<◌, ℕ, List, Option, length, take};
+ghost use Rattle.std.specs.Prelude.{◌≡◌, ◌<◌, ◌++◌, ◌∷◌, ℕ, List, Option, codes, length, take};
 ghost use Rattle.contact_ledger.specs.Lines.{text_of};
 ghost use Rattle.dmis_program.specs.declared.features.Wanted.{Wanted};
+ghost use Rattle.run_record.specs.Entries.{IsFitting, fitting, kept_error};
 ghost use Rattle.run_record.specs.Heads.{IsPartGiven, AreAsked};
 ghost use Rattle.run_record.specs.Reading.{IsRecord, IsUnbegun, IsDamagedRecord};
 ghost use Rattle.run_record.specs.Records.{Recorded, IsRecorded, recorded, Kept, nothing_kept, Follow, record_lines};
@@ -35,4 +36,11 @@ pub fn cut_records_are_read()
         → Follow asked nothing_kept entries kept
         → count < length (text_of (record_lines part asked entries))
         → ReadsCut part asked entries (take count (text_of (record_lines part asked entries))) }
+{}
+
+/// What is kept of an error are its first bytes, each whole, as many as fit into 400 bytes: a byte that would be cut is left out.
+pub fn errors_are_kept_in_whole_bytes()
+    ensures whole { (text : List ℕ) → IsFitting 400 text (kept_error text) }
+    ensures fits { fitting 5 (codes "A" ++ 27 ∷ codes "B") ≡ codes "A\\x1B" }
+    ensures cut { fitting 4 (codes "A" ++ 27 ∷ codes "B") ≡ codes "A" }
 {}

@@ -1,0 +1,5 @@
+pub mod Standings
+pub mod KnownForUses
+pub mod AnswerSteps
+pub mod SendSteps
+pub mod Exactness
