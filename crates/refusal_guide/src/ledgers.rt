@@ -1,8 +1,9 @@
 // Why a line of features or of contacts is unexpected, in a sentence. Their readers decide what may be there.
 
-use crate::lines::{Place, first_line};
+use crate::lines::{Place, first_line, from_line};
 use crate::words::{Reason, Word};
-use contact_ledger::{TextFault, read_contacts, read_features};
+use contact_ledger::forms::read_number;
+use contact_ledger::{CONNECTION_MAX, TextFault, read_features};
 use std::alloc::{AllocError, Global};
 use tool_rack::fields::cut_field;
 
@@ -13,20 +14,15 @@ pub(crate) enum Ledger {
     Contacts,
 }
 
-/// Whether a reader accepted a text. Fails only if out of memory.
-fn is_read<T: Drop>(answer: Result<T, TextFault>) -> Result<bool, AllocError> {
-    match answer {
-        Ok(_) => Ok(true),
-        Err(TextFault::Damaged(_)) => Ok(false),
-        Err(TextFault::Memory) => Err(AllocError),
-    }
-}
-
 /// Whether features may continue after these lines with this line.
 fn goes_on(alloc: Global, above: &[u8], line: &[u8]) -> Result<bool, AllocError> {
     let mut text = Vec::from_slice(alloc, above)?;
     text.extend_from_slice(line)?;
-    is_read(read_features(alloc, &text))
+    match read_features(alloc, &text) {
+        Ok(_) => Ok(true),
+        Err(TextFault::Damaged(_)) => Ok(false),
+        Err(TextFault::Memory) => Err(AllocError),
+    }
 }
 
 /// What must follow these lines of features.
@@ -45,14 +41,6 @@ fn wanted(alloc: Global, above: &[u8]) -> Result<&'static str, AllocError> {
     Ok(
         "A point of the feature above is expected here, three lengths with three decimals, such as 1.000 0.000 -0.004.",
     )
-}
-
-/// Whether a line of contacts is read.
-fn is_act(alloc: Global, front: &[u8], behind: &[u8]) -> Result<bool, AllocError> {
-    let mut text = Vec::from_slice(alloc, b"DME-CONTACTS 1\n")?;
-    text.extend_from_slice(front)?;
-    text.extend_from_slice(behind)?;
-    is_read(read_contacts(alloc, &text))
 }
 
 /// Whether a word is that of an act.
@@ -118,16 +106,30 @@ fn fields_reason(alloc: Global, act: Word, report: bool) -> Result<Reason, Alloc
     act.reason(alloc, before, behind)
 }
 
+/// The connection of the line above a refused one; 0 if that is the first line.
+fn connection_above(place: Place) -> u64 {
+    let above = from_line(place.text, place.number.saturating_sub(1));
+    let (connection, _) = cut_first(first_line(above));
+    read_number(connection, CONNECTION_MAX).unwrap_or(0)
+}
+
 /// Why a line of contacts is not an act, nor a report where one may be.
-fn act_reason(alloc: Global, line: &[u8], report: bool) -> Result<Reason, AllocError> {
+fn act_reason(alloc: Global, place: Place) -> Result<Reason, AllocError> {
+    let line = first_line(place.rest);
+    let report = is_report(place.text);
     let (connection, rest) = cut_first(line);
     let connection = Word::found(line, 0, connection);
-    if !is_act(alloc, connection.bytes, b" HOMED\n")? {
+    let Some(number) = read_number(connection.bytes, CONNECTION_MAX) else {
         return connection.reason(
             alloc,
             "An act begins with the number of its connection, from 1 to 4000000000 without leading zeros, not with ",
             ".",
         );
+    };
+    let last = connection_above(place);
+    if report && number < last {
+        let behind = format!(in alloc; " is below {last}, the connection of the line above.")?;
+        return connection.reason(alloc, "Connection ", &behind);
     }
     let (act, _) = cut_first(rest);
     let act = Word::found(line, connection.bytes.len(), act);
@@ -170,6 +172,6 @@ pub(crate) fn ledger_reason(
         ),
         Ledger::Contacts if place.number == 1 => Reason::of_text(alloc, head_of(place.text)),
         Ledger::Features => feature_reason(alloc, place),
-        Ledger::Contacts => act_reason(alloc, first_line(place.rest), is_report(place.text)),
+        Ledger::Contacts => act_reason(alloc, place),
     }
 }

@@ -8,8 +8,8 @@ use Rattle.contact_ledger.specs.Lines.{text_of, but_last, whole_lines}
 use Rattle.contact_ledger.proofs.ContactLaws.{is_inner, IsInner, line_first}
 use Rattle.told_ledger.specs.Texts.{told_line, told_text}
 use Rattle.told_ledger.specs.declared.uses.Told.{Told}
-use Rattle.told_files.specs.ToldTexts.{AreWrittenEntries, told_file_lines, IsToldText, none, some, entry_back}
-use Rattle.told_files.proofs.ToldLaws.{file_inner, take_lines, entries_back, file_lines_back}
+use Rattle.told_files.specs.ToldTexts.{AreWrittenEntries, NeverFall, told_file_lines, IsToldText, none, some, entry_back}
+use Rattle.told_files.proofs.ToldLaws.{file_inner, take_lines, take_up, entries_back, back_up, file_lines_back}
 
 -- lines, and after them what has no line end
 inner_alone : (r : List ℕ) → list_all is_inner r ≡ true → slice_split (λ b. eqb b 10) r ≡ r ∷ []
@@ -119,20 +119,20 @@ take_written zero (x ∷ xs) h = tt
 take_written (suc n) [] h = tt
 take_written (suc n) (x ∷ xs) h = (h.0, take_written n xs h.1)
 
-front_read : (es : List (ℕ × Told)) (n k : ℕ) → AreWrittenEntries es → n < length es → length (told_text (take n es)) ≤ k
+front_read : (es : List (ℕ × Told)) (n k : ℕ) → AreWrittenEntries es → NeverFall es → n < length es → length (told_text (take n es)) ≤ k
     → k < length (told_text (take (suc n) es)) → IsToldText (take k (told_text es)) (map entry_back (take n es))
-front_read es n k h within low high =
+front_read es n k h up within low high =
     let count = lines_count es in
-    some (entries_back (take n es) (take_written n es h))
+    some (entries_back (take n es) (take_written n es h)) (back_up (take n es) (take_up n es up))
     (cut_lines (suc n) k (told_file_lines es) (file_inner es h) (omega (arith, within, count))
     (subst (λ (ls : List (List ℕ)). length (text_of (codes "DME-TOLD 1" ∷ ls)) ≤ k) (sym (take_lines n es)) low)
     (subst (λ (ls : List (List ℕ)). k < length (text_of (codes "DME-TOLD 1" ∷ ls))) (sym (take_lines (suc n) es)) high)
     ∙ ap (λ (ls : List (List ℕ)). codes "DME-TOLD 1" ∷ ls) (take_lines n es) ∙ file_lines_back (take n es) (take_written n es h))
 
-pub front_is_read : (es : List (ℕ × Told)) (n k : ℕ) → AreWrittenEntries es → n < length es → length (told_text (take n es)) ≤ k
-    → k < length (told_text (take (n + 1) es)) → IsToldText (take k (told_text es)) (map entry_back (take n es))
-front_is_read es n k h within low high =
-    front_read es n k h within low (subst (λ (m : ℕ). k < length (told_text (take m es))) (plus_one n) high)
+pub front_is_read : (es : List (ℕ × Told)) (n k : ℕ) → AreWrittenEntries es → NeverFall es → n < length es
+    → length (told_text (take n es)) ≤ k → k < length (told_text (take (n + 1) es)) → IsToldText (take k (told_text es)) (map entry_back (take n es))
+front_is_read es n k h up within low high =
+    front_read es n k h up within low (subst (λ (m : ℕ). k < length (told_text (take m es))) (plus_one n) high)
 
 zero_low : (k : ℕ) → 0 ≤ k
 zero_low k = omega arith

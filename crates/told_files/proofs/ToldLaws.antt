@@ -25,7 +25,7 @@ use Rattle.told_ledger.specs.declared.uses.Side.{Side}
 use Rattle.told_ledger.specs.declared.uses.Side.TheVariants.{Client, Server}
 use Rattle.told_ledger.specs.declared.uses.Told.{Told}
 use Rattle.told_ledger.specs.declared.uses.Told.TheVariants as told
-use Rattle.told_files.specs.ToldTexts.{IsWrittenTold, IsWrittenEntry, AreWrittenEntries, IsReadTold, AreToldEntries}
+use Rattle.told_files.specs.ToldTexts.{IsWrittenTold, IsWrittenEntry, AreWrittenEntries, IsReadTold, AreToldEntries, NeverFall}
 use Rattle.told_files.specs.ToldTexts.{told_file_lines, AreToldLines, IsToldText, IsDamagedTold, none, some}
 use Rattle.told_files.specs.ToldTexts.{read_tool, read_act, read_back, entry_back}
 use Rattle.told_files.proofs.OneTold.{one_told}
@@ -47,9 +47,9 @@ one_list (x ∷ xs) (y ∷ ys) g h e =
 
 one_lines : (ls : List (List ℕ)) (es fs : List (ℕ × Told)) → AreToldLines ls es → AreToldLines ls fs → es ≡ fs
 one_lines ls es fs (none a b) (none c d) = b ∙ sym d
-one_lines ls es fs (none a b) (some c d) = absurd cc
-one_lines ls es fs (some a b) (none c d) = absurd cc
-one_lines ls es fs (some a b) (some c d) =
+one_lines ls es fs (none a b) (some c up d) = absurd cc
+one_lines ls es fs (some a up b) (none c d) = absurd cc
+one_lines ls es fs (some a up b) (some c up2 d) =
     let both : told_file_lines es ≡ told_file_lines fs = sym b ∙ d in
     let same : map told_line es ≡ map told_line fs = cc in
     one_list es fs a c same
@@ -71,12 +71,21 @@ take_entries zero (x ∷ xs) h = tt
 take_entries (suc n) [] h = tt
 take_entries (suc n) (x ∷ xs) h = (h.0, take_entries n xs h.1)
 
+pub take_up : (n : ℕ) (es : List (ℕ × Told)) → NeverFall es → NeverFall (take n es)
+take_up zero [] h = tt
+take_up zero (x ∷ xs) h = tt
+take_up (suc n) [] h = tt
+take_up (suc zero) (x ∷ []) h = tt
+take_up (suc zero) (x ∷ y ∷ xs) h = tt
+take_up (suc (suc n)) (x ∷ []) h = tt
+take_up (suc (suc n)) (x ∷ y ∷ xs) h = (h.0, take_up (suc n) (y ∷ xs) h.1)
+
 front_begins : (n : ℕ) (ls : List (List ℕ)) (es : List (ℕ × Told)) → 1 ≤ n → n ≤ length ls → AreToldLines ls es
     → (fs : List (ℕ × Told)) × AreToldLines (take n ls) fs
 front_begins zero ls es low high h = absurd (omega (arith, low))
 front_begins (suc n) ls es low high (none a b) = let short = ap (λ (r : List (List ℕ)). length r) a in absurd (omega (arith, short, high))
-front_begins (suc n) ls es low high (some a b) =
-    (take n es, some (take_entries n es a) (rw b (ap (λ (r : List (List ℕ)). codes "DME-TOLD 1" ∷ r) (take_lines n es))))
+front_begins (suc n) ls es low high (some a up b) =
+    (take n es, some (take_entries n es a) (take_up n es up) (rw b (ap (λ (r : List (List ℕ)). codes "DME-TOLD 1" ∷ r) (take_lines n es))))
 
 pub never_both : (bytes : List ℕ) (es : List (ℕ × Told)) (n : ℕ) → IsToldText bytes es → IsDamagedTold bytes n → ⊥
 never_both bytes es n h d = d.torn (front_begins n (whole_lines bytes) es d.first d.last h)
@@ -158,6 +167,11 @@ lines_back (e ∷ es) h =
     let back = told_back e.1 h.0.1 in
     let first : told_line (entry_back e) ≡ told_line e = ap (λ (fs : List (List ℕ)). line_of (decimal e.0 ∷ fs)) back.fields in
     λ n. first n ∷ lines_back es h.1 n
+
+pub back_up : (es : List (ℕ × Told)) → NeverFall es → NeverFall (map entry_back es)
+back_up [] h = tt
+back_up (e ∷ []) h = tt
+back_up (e ∷ f ∷ es) h = (h.0, back_up (f ∷ es) h.1)
 
 -- what can be read is read as it is
 known_same : (tool : List ℕ) → tool ≢ unknown_field → read_tool tool ≡ Some tool
@@ -275,12 +289,13 @@ text_lines ls h = rw (text_split ls h) (without_last ls)
 pub file_lines_back : (es : List (ℕ × Told)) → AreWrittenEntries es → told_file_lines es ≡ told_file_lines (map entry_back es)
 file_lines_back es h = ap (λ (r : List (List ℕ)). codes "DME-TOLD 1" ∷ r) (sym (lines_back es h))
 
-pub written_read : (es : List (ℕ × Told)) → AreWrittenEntries es → IsToldText (told_text es) (map entry_back es)
-written_read es h = some (entries_back es h) (text_lines (told_file_lines es) (file_inner es h) ∙ file_lines_back es h)
+pub written_read : (es : List (ℕ × Told)) → AreWrittenEntries es → NeverFall es → IsToldText (told_text es) (map entry_back es)
+written_read es h up = some (entries_back es h) (back_up es up) (text_lines (told_file_lines es) (file_inner es h) ∙ file_lines_back es h)
 
 told_written : (es : List (ℕ × Told)) → AreToldEntries es → AreWrittenEntries es
 told_written [] h = tt
 told_written (e ∷ es) h = (h.0.0, told_written es h.1)
 
-pub told_read : (es : List (ℕ × Told)) → AreToldEntries es → IsToldText (told_text es) es
-told_read es h = subst (λ (x : List (ℕ × Told)). IsToldText (told_text es) x) (entries_same es h) (written_read es (told_written es h))
+pub told_read : (es : List (ℕ × Told)) → AreToldEntries es → NeverFall es → IsToldText (told_text es) es
+told_read es h up =
+    subst (λ (x : List (ℕ × Told)). IsToldText (told_text es) x) (entries_same es h) (written_read es (told_written es h) up)

@@ -1,6 +1,8 @@
 -- The text of what a server reported, as it is read (this profile): version 1. The lines are those of `told_ledger`.
-use Rattle.std.specs.Prelude.{◌≡◌, ◌≢◌, ℕ, true, if◌then◌else◌, List, [], ◌∷◌, map, codes, Option, Some, None}
+use Rattle.std.specs.Prelude.{◌≡◌, ◌≢◌, ◌≤◌, ℕ, true, if◌then◌else◌, List, [], ◌∷◌, map, codes, Option, Some, None}
+use Rattle.std.specs.Prelude.{◌-◌, length, slice_get}
 use Rattle.std.specs.List.{AllByRecursion, list_all}
+use Rattle.std.specs.Option.{option_map_or}
 use Rattle.std.specs.Str.{bytes_eq}
 use Rattle.fixed_um.specs.Names.{IsName}
 use Rattle.fixed_um.specs.declared.frames.Frame.{Frame}
@@ -90,14 +92,24 @@ AreToldEntries entries = AllByRecursion IsToldEntry entries
 
 -- ---- a text
 
+-- no connection's number is less than the one before it
+abbrev pub NeverFall : List (ℕ × Told) → Type 0
+NeverFall [] = Unit {0}
+NeverFall (entry ∷ []) = Unit {0}
+NeverFall (entry ∷ next ∷ entries) = (entry.0 ≤ next.0) × NeverFall (next ∷ entries)
+
+-- the number of the last connection, 0 if there is none
+abbrev pub last_number : List (ℕ × Told) → ℕ
+last_number entries = option_map_or (λ entry. entry.0) (slice_get entries (length entries - 1)) 0
+
 -- the lines of what was reported
 abbrev pub told_file_lines : List (ℕ × Told) → List (List ℕ)
 told_file_lines entries = codes "DME-TOLD 1" ∷ map told_line entries
 
--- whole lines say this: a header and a line for each, or there is no line
+-- whole lines say this: a header and a line for each, whose numbers never fall, or there is no line
 pub data AreToldLines (lines : List (List ℕ)) (entries : List (ℕ × Told)) : Type 0 where
   none : lines ≡ [] → entries ≡ [] → AreToldLines lines entries
-  some : AreToldEntries entries → lines ≡ told_file_lines entries → AreToldLines lines entries
+  some : AreToldEntries entries → NeverFall entries → lines ≡ told_file_lines entries → AreToldLines lines entries
 
 -- a text says this; what follows its last LF is not examined
 abbrev pub IsToldText : List ℕ → List (ℕ × Told) → Type 0

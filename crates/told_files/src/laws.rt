@@ -1,6 +1,6 @@
 // What follows from the definitions. Each function has laws for its contract and does nothing.
 
-ghost use Rattle.std.specs.Prelude.{◌≡◌, ◌≤◌, ◌<◌, ◌+◌, ◌↔◌, ℕ, List, [], length, map, take};
+ghost use Rattle.std.specs.Prelude.{◌≡◌, ◌≤◌, ◌<◌, ◌+◌, ◌↔◌, ℕ, List, [], ◌∷◌, length, map, take};
 ghost use Rattle.contact_ledger.specs.ContactTexts.{IsContacts};
 ghost use Rattle.contact_ledger.specs.declared.acts.Act.{Act};
 ghost use Rattle.contact_ledger.specs.declared.features.Feature.{Feature};
@@ -8,15 +8,23 @@ ghost use Rattle.dmis_program.specs.declared.features.Wanted.{Wanted};
 ghost use Rattle.protocol_model.specs.Claims.{contacts, IsRun, Sound};
 ghost use Rattle.told_ledger.specs.Texts.{told_text};
 ghost use Rattle.told_ledger.specs.declared.uses.Told.{Told};
+ghost use Rattle.told_ledger.specs.declared.uses.Told.TheVariants.{Opened, Left};
 ghost use Rattle.told_files.specs.Either.{AreAudited};
 ghost use Rattle.told_files.specs.Runs.{AreRunContacts, IsToldRun, SoundByTold};
-ghost use Rattle.told_files.specs.ToldTexts.{AreWrittenEntries, AreToldEntries, IsToldText, IsDamagedTold, entry_back};
+ghost use Rattle.told_files.specs.ToldTexts.{AreWrittenEntries, AreToldEntries, NeverFall, IsToldText, IsDamagedTold, entry_back};
 
-/// What is written is read back, with a `?` for a tool of that name; and what can be read, as it is (this profile).
+/// Numbers may stay and be left out, as in 1, 1, 3; in 1, 2, 1 one falls (this profile).
+pub fn falling_rows()
+    ensures up { NeverFall ((1, Opened) ∷ (1, Left) ∷ (3, Opened) ∷ []) }
+    ensures down { NeverFall ((1, Opened) ∷ (2, Left) ∷ (1, Opened) ∷ []) → ⊥ }
+{}
+
+/// What is written is read back, with a `?` for a tool of that name; and what can be read, as it is (this profile). A witness numbers its
+/// connections one after another, so the numbers that it writes never fall.
 pub fn written_is_read()
-    ensures written { (entries : List (ℕ × Told)) → AreWrittenEntries entries
+    ensures written { (entries : List (ℕ × Told)) → AreWrittenEntries entries → NeverFall entries
         → IsToldText (told_text entries) (map entry_back entries) }
-    ensures same { (entries : List (ℕ × Told)) → AreToldEntries entries
+    ensures same { (entries : List (ℕ × Told)) → AreToldEntries entries → NeverFall entries
         → IsToldText (told_text entries) entries }
 {}
 
@@ -33,7 +41,7 @@ pub fn fronts_are_read()
     ensures header { (entries : List (ℕ × Told)) (count : ℕ) → AreWrittenEntries entries
         → count < length (told_text []) → IsToldText (take count (told_text entries)) [] }
     ensures lines { (entries : List (ℕ × Told)) (n count : ℕ) → AreWrittenEntries entries
-        → n < length entries → length (told_text (take n entries)) ≤ count
+        → NeverFall entries → n < length entries → length (told_text (take n entries)) ≤ count
         → count < length (told_text (take (n + 1) entries))
         → IsToldText (take count (told_text entries)) (map entry_back (take n entries)) }
 {}

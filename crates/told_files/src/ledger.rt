@@ -2,6 +2,7 @@
 
 ghost use Rattle.std.specs.Prelude.{◌≡◌, [], ◌∷◌, ◌++◌};
 ghost use Rattle.fixed_um.specs.Calls.{Leads};
+ghost use Rattle.told_files.specs.ToldTexts.{last_number};
 
 use std::alloc::{AllocError, Global};
 use std::marker::Model;
@@ -38,6 +39,16 @@ impl ToldLedger {
     {
         self.entries.push((connection, told))?;
         Ok(())
+    }
+
+    /// The number of the last connection; 0 if nothing was reported.
+    pub(crate) fn last_number(&self) -> u64
+        ensures { result ≡ last_number self.now }
+    {
+        match self.entries.last() {
+            Some((connection, _)) => *connection,
+            None => 0,
+        }
     }
 
     /// What was reported in order, each next to the number of its connection.

@@ -1,11 +1,11 @@
 // The text of what a server reported (this profile).
 
-ghost use Rattle.std.specs.Prelude.{◌≡◌, ◌++◌, ◌∷◌, [], ℕ, OnOk, Err};
+ghost use Rattle.std.specs.Prelude.{◌≡◌, ◌≤◌, ◌++◌, ◌∷◌, [], ℕ, OnOk, Err};
 ghost use Rattle.contact_ledger.specs.Damage.{ReadsText};
 ghost use Rattle.contact_ledger.specs.declared.faults.TextFault.TheVariants.{Damaged};
 ghost use Rattle.told_ledger.specs.Texts.{told_line};
 ghost use Rattle.told_ledger.specs.declared.uses.Told.{Told};
-ghost use Rattle.told_files.specs.ToldTexts.{IsToldEntry, IsToldText, IsDamagedTold};
+ghost use Rattle.told_files.specs.ToldTexts.{IsToldEntry, last_number, IsToldText, IsDamagedTold};
 
 use crate::ledger::ToldLedger;
 use crate::lines::read_line;
@@ -23,13 +23,17 @@ fn add_line(
     line: &[u8],
 ) -> Result<(), TextFault>
     ensures added { OnOk result ((e : ℕ × Told) × IsToldEntry e × (line.now ≡ told_line e)
-        × (ledger.new ≡ ledger.old ++ e ∷ [])) }
-    ensures damaged { (n : ℕ) → result ≡ Err (Damaged n) → (n ≡ number)
-        × ((e : ℕ × Told) → IsToldEntry e → line.now ≡ told_line e → ⊥) }
+        × (last_number ledger.old ≤ e.0) × (ledger.new ≡ ledger.old ++ e ∷ [])) }
+    ensures damaged { (n : ℕ) → result ≡ Err (Damaged n) → (n ≡ number) × ((e : ℕ × Told)
+        → IsToldEntry e → line.now ≡ told_line e → last_number ledger.old ≤ e.0 → ⊥) }
 {
+    let damaged = Err(TextFault::Damaged(number));
     let Some((connection, told)) = read_line(alloc, forms, line)? else {
-        return Err(TextFault::Damaged(number));
+        return damaged;
     };
+    if connection < ledger.last_number() {
+        return damaged;
+    }
     ledger.push(connection, told)?;
     Ok(())
 }
@@ -37,7 +41,7 @@ fn add_line(
 /// What a text of version 1 says that was reported. A line counts where it has its LF. What follows the last LF is not examined, and a
 /// text without any line says nothing. A tool that is written `?` is not known, whatever its name was.
 ///
-/// The first line that is unexpected is answered with its number.
+/// The first line that is unexpected, or whose connection has a lower number than that of the line above, is answered with its number.
 pub fn read_told(alloc: Global, bytes: &[u8]) -> Result<ToldLedger, TextFault>
     ensures { ReadsText (IsToldText bytes.now) (IsDamagedTold bytes.now) result }
 {

@@ -1,6 +1,6 @@
 use Rattle.std.proofs.Common.{◌≡◌, ◌+◌, ◌≤◌, length, take, drop}
 use Rattle.contact_ledger.specs.Lines.{whole_lines}
-use Rattle.told_files.specs.ToldTexts.{AreToldEntries, told_file_lines}
+use Rattle.told_files.specs.ToldTexts.{AreToldEntries, NeverFall, told_file_lines}
 use Rattle.told_files.proofs.texts.read_told.Given as goal
 
 -- the lines so far are those of the acts so far
@@ -9,6 +9,7 @@ invariant-loop-line l = record {
   left : drop l.number (whole_lines l.bytes) ≡ whole_lines l.rest;
   read : take l.number (whole_lines l.bytes) ≡ told_file_lines l.ledger;
   entries : AreToldEntries l.ledger;
+  up : NeverFall l.ledger;
   count : l.number + length l.rest ≤ length l.bytes;
 }
 
