@@ -1,3 +1,6 @@
+pub mod Items
+pub mod Readings
+pub mod AfterMarks
 pub mod Standings
 pub mod KnownForUses
 pub mod AnswerSteps

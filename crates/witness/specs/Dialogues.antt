@@ -152,6 +152,11 @@ faulting d report = record {
 
 -- ---- what is reported
 
+-- one report, or none
+abbrev pub listed : Option Reported → List Reported
+listed None = []
+listed (Some report) = report ∷ []
+
 -- a move, in the frame that is known
 abbrev pub moved : Point → Option Frame → Reported
 moved p (Some frame) = reports.Did (act.Moved p frame)

@@ -1,6 +1,23 @@
 //! What a server reported that it did, read from the lines that it and its client exchange. Both may be of other makers (this profile).
+//!
+//! - `lines`: `Use`, a line of a client, with what it asks for; `Known`, the changes that may hold for it; `Reported`, what is reported
+//! - `asking`: what a line of a client asks for
+//! - `marks`: what a mark does to a command
+//! - `known`: what becomes of the changes of tool and frame that may hold
+//! - `effects`: what a mark reports of its command
+//! - `uses`: what a mark or a fault does to the lines that are open
+//! - `dialogue`: `Dialogue`, the lines of both ends, one at a time
+//! - `laws`: what follows for all lines; `examples`: what is known after lines that are written out
 #![tactic(auto)]
 
+mod asking;
+mod dialogue;
+mod effects;
 pub mod examples;
+mod known;
 pub mod laws;
 pub mod lines;
+mod marks;
+mod uses;
+
+pub use dialogue::Dialogue;

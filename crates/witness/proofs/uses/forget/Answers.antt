@@ -1,0 +1,11 @@
+use Rattle.std.proofs.Common.{rules}
+use Rattle.std.proofs.lemmas.List.{take_all, drop_all}
+use Rattle.std.proofs.lemmas.List.Edits.{map_over_more}
+use Rattle.witness.specs.Dialogues as spec
+use Rattle.witness.proofs.uses.forget.Goals as goal
+
+pub loop-used-preserved : goal.loop-used-preserved
+loop-used-preserved c = search (rules, map_over_more (spec.unknowing))
+
+pub returns : goal.returns
+returns c = search (rules, take_all, drop_all)

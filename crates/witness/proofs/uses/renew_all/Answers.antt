@@ -1,0 +1,12 @@
+use Rattle.std.proofs.Common.{rules}
+use Rattle.std.proofs.lemmas.List.{take_all, drop_all}
+use Rattle.std.proofs.lemmas.List.Edits.{map_over_more}
+use Rattle.witness.specs.Dialogues as spec
+use Rattle.witness.specs.Known.{all_renewed}
+use Rattle.witness.proofs.uses.renew_all.Goals as goal
+
+pub loop-used-preserved : goal.loop-used-preserved
+loop-used-preserved c = search (rules, map_over_more (spec.use_renewed (all_renewed c.args.by.now)))
+
+pub returns : goal.returns
+returns c = search (rules, take_all, drop_all)

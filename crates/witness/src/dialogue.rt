@@ -1,0 +1,442 @@
+// The lines of both ends of a connection, one at a time.
+
+ghost use Rattle.std.specs.Prelude.{◌≡◌, ◌<◌, ◌++◌, ◌==◌, ◌^◌, ◌+◌, [], true, length, map, slice_get, OnOk, OnErr, IfOk, IfSome, Some, if◌then◌else◌, vec_len, vec_capacity};
+ghost use Rattle.std.specs.List.{list_any};
+ghost use Rattle.fixed_um.specs.Calls.{Leads};
+ghost use Rattle.dme_line.specs.Responses.{the_mark};
+ghost use Rattle.witness.specs.Asking.{client_line, server_line, signal_of};
+ghost use Rattle.witness.specs.Dialogues as spec;
+ghost use Rattle.witness.specs.Known.{all_renewed, nothing};
+ghost use Rattle.witness.specs.Marks.{is_foreign};
+
+use crate::asking::sent;
+use crate::effects::reported_by;
+use crate::known::{copied, fresh, go_below, nothing, renew};
+use crate::lines::{Heard, Known, Renewal, Reported, Rule, SentCommand, Side, Stage, Use};
+use crate::marks::{heard_as, is_end, is_foreign};
+use crate::uses::{
+    forget, is_out_of_turn, known_after, known_after_fault, last_under, mark_all, renew_all,
+};
+use dme_line::{MarkSlice, Tag, Text, cut_response};
+use std::alloc::{AllocError, Global};
+use std::marker::Model;
+
+/// The lines of both ends of a connection, and what is reported of them. Contracts see the lines of the client that are open, what may be known
+/// for the next, and what was reported and not taken.
+#[derive(Drop)]
+pub struct Dialogue {
+    alloc: Global,
+    ordered: bool,
+    lines: u64,
+    uses: Vec<Use>,
+    events: Vec<u16>,
+    crossed: bool,
+    known: Known,
+    reported: Vec<Reported>,
+}
+
+impl Model for Dialogue {
+    ghost use Rattle.witness.specs.Dialogues as dialogues;
+
+    ghost Value = { dialogues.Dialogue };
+
+    ghost view = { λ d. record { ordered = d.ordered; lines = d.lines; uses = d.uses.items; events = d.events.items; crossed = d.crossed; known = d.known; reported = d.reported.items } };
+}
+
+/// Whether an event tag of this number was used.
+fn is_used(events: &[u16], number: u16) -> bool
+    ensures { result ≡ list_any (λ m. m == number) events.now }
+{
+    events.iter().any(|used| *used == number)
+}
+
+/// Notes an event tag, if it was not used before.
+fn note_event(events: &mut Vec<u16>, tag: Tag)
+    requires { vec_len events.old < vec_capacity events.old }
+    ensures { events.new.items ≡ spec.with_event tag events.old.items }
+{
+    if let Tag::Event(number) = tag
+        && !is_used(events.as_slice(), number)
+    {
+        events.push_reserved(number);
+    }
+}
+
+/// Whether a line is foreign and under an event tag.
+fn foreign_event(tag: Tag, command: &SentCommand) -> bool
+    ensures event { result ≡ spec.foreign_event tag command.now }
+    ensures foreign { result ≡ true → is_foreign command.now ≡ true }
+{
+    match tag {
+        Tag::Std(_) => false,
+        Tag::Event(_) => is_foreign(command),
+    }
+}
+
+/// The line of the command that was sent last under a tag, and whether it has failed.
+fn rival_of(before: Option<(u64, bool)>) -> (Option<u64>, bool)
+    ensures line { result.0 ≡ spec.line_of before }
+    ensures lost { result.1 ≡ spec.is_lost before }
+{
+    match before {
+        Some((line, has_failed)) => (Some(line), has_failed),
+        None => (None, false),
+    }
+}
+
+/// Whether data under an event tag that was used are a report by event.
+fn is_report(events: &[u16], tag: Tag, mark: MarkSlice<'_>) -> bool
+    ensures { result ≡ spec.is_report tag (signal_of (the_mark mark.entry)) events.now }
+{
+    match (tag, mark) {
+        (Tag::Event(number), MarkSlice::Given(_)) => is_used(events, number),
+        _ => false,
+    }
+}
+
+/// Adds a report, if there is one.
+fn add_reserved(reported: &mut Vec<Reported>, report: Option<Reported>)
+    requires { vec_len reported.old < vec_capacity reported.old }
+    ensures { reported.new.items ≡ reported.old.items ++ spec.listed report }
+{
+    if let Some(report) = report {
+        reported.push_reserved(report);
+    }
+}
+
+/// Removes the line at a place, if it has ended.
+fn remove_ended(uses: &mut Vec<Use>, at: usize, is_end: bool)
+    requires { at < length uses.old.items }
+    ensures { uses.new.items ≡ spec.left_over uses.old.items at is_end }
+{
+    if is_end {
+        let _ended = uses.remove(at);
+    }
+}
+
+impl Dialogue {
+    /// A connection without a line; `ordered`: the order between the lines of the two ends is known. Does not allocate.
+    pub fn new(alloc: Global, ordered: bool) -> Dialogue
+        ensures { result ≡ spec.silence ordered }
+    {
+        Dialogue {
+            alloc,
+            ordered,
+            lines: 0,
+            uses: Vec::new(alloc),
+            events: Vec::new(alloc),
+            crossed: false,
+            known: nothing(),
+            reported: Vec::new(alloc),
+        }
+    }
+
+    /// What was reported and not taken, in order.
+    pub fn reported(&self) -> &[Reported]
+        ensures { result.now ≡ self.now.reported }
+    {
+        self.reported.as_slice()
+    }
+
+    /// Takes all that was reported. Does not allocate.
+    pub fn clear_reported(&mut self)
+        ensures { self.new ≡ record self.old { reported = [] } }
+    {
+        self.reported.clear();
+    }
+
+    // ---- a line of the client
+
+    /// What may be known for a line that is sent now.
+    fn known_now(&self, is_lost: bool) -> Result<Known, AllocError>
+        ensures { IfOk result (λ known. known ≡ (if is_lost then nothing else self.now.known)) }
+    {
+        if is_lost {
+            return Ok(nothing());
+        }
+        copied(self.alloc, &self.known)
+    }
+
+    /// A command is sent under a tag. Fails only if out of memory.
+    fn send(&mut self, tag: Tag, command: SentCommand) -> Result<(), AllocError>
+        requires { self.old.lines + 1 < 2 ^ 64 }
+        ensures { Leads result self.old self.new (spec.sending self.old tag command) }
+    {
+        let (rival, is_lost) = rival_of(last_under(self.uses.as_slice(), tag));
+        let known = self.known_now(is_lost)?;
+        self.uses.reserve(1)?;
+        self.events.reserve(1)?;
+        let standing = fresh(self.lines, rival, is_lost);
+        go_below(self.alloc, &mut self.known, standing, &command)?;
+        self.uses.push_reserved(Use {
+            tag,
+            command,
+            line: self.lines,
+            stage: Stage::Sent,
+            has_failed: false,
+            rival,
+            known,
+        });
+        note_event(&mut self.events, tag);
+        self.crossed = self.crossed || (self.ordered && rival.is_some());
+        self.lines += 1;
+        Ok(())
+    }
+
+    /// A line that this profile does not know, and that may be carried out at once, is sent under a tag. Fails only if out of memory.
+    #[tactic(auto, using(crate::proofs::AfterMarks::foreign_below, crate::proofs::AfterMarks::either_nothing))]
+    fn send_at_once(
+        &mut self,
+        line: &[u8],
+        tag: Tag,
+        command: SentCommand,
+    ) -> Result<(), AllocError>
+        requires room { self.old.lines + 1 < 2 ^ 64 }
+        requires foreign { is_foreign command ≡ true }
+        ensures { Leads result self.old self.new
+            (spec.sending (spec.at_once self.old line.now) tag command) }
+    {
+        let other = Text::new(self.alloc, line)?;
+        self.uses.reserve(1)?;
+        self.events.reserve(1)?;
+        self.reported.push(Reported::Other(Side::Client, other))?;
+        forget(self.uses.as_mut_slice());
+        let (rival, _) = rival_of(last_under(self.uses.as_slice(), tag));
+        self.uses.push_reserved(Use {
+            tag,
+            command,
+            line: self.lines,
+            stage: Stage::Sent,
+            has_failed: false,
+            rival,
+            known: nothing(),
+        });
+        note_event(&mut self.events, tag);
+        self.crossed = self.crossed || (self.ordered && rival.is_some());
+        self.known = nothing();
+        self.lines += 1;
+        Ok(())
+    }
+
+    /// A line without a valid tag is sent. Fails only if out of memory.
+    fn send_untagged(&mut self, line: &[u8]) -> Result<(), AllocError>
+        requires { self.old.lines + 1 < 2 ^ 64 }
+        ensures { Leads result self.old self.new (spec.one_more (spec.at_once self.old line.now)) }
+    {
+        let other = Text::new(self.alloc, line)?;
+        self.reported.push(Reported::Other(Side::Client, other))?;
+        forget(self.uses.as_mut_slice());
+        self.known = nothing();
+        self.lines += 1;
+        Ok(())
+    }
+
+    /// A line of the client, given without its end. Fails only if out of memory, or after 18,446,744,073,709,551,615 lines; then nothing has
+    /// changed.
+    pub fn client_line(&mut self, line: &[u8]) -> Result<(), AllocError>
+        ensures ok { OnOk result (self.new ≡ spec.after self.old (client_line line.now)) }
+        ensures err { OnErr result (self.new ≡ self.old) }
+    {
+        if self.lines == u64::MAX {
+            return Err(AllocError);
+        }
+        match sent(self.alloc, line)? {
+            Some((tag, command)) => {
+                if foreign_event(tag, &command) {
+                    return self.send_at_once(line, tag, command);
+                }
+                self.send(tag, command)
+            }
+            None => self.send_untagged(line),
+        }
+    }
+
+    // ---- a line of the server
+
+    /// A fault of the server is reported. Fails only if out of memory.
+    fn fault(&mut self, report: Reported) -> Result<(), AllocError>
+        requires { self.old.lines + 1 < 2 ^ 64 }
+        ensures { Leads result self.old self.new (spec.one_more (spec.faulting self.old report)) }
+    {
+        self.reported.push(report)?;
+        self.lose();
+        self.lines += 1;
+        Ok(())
+    }
+
+    /// The command that was sent first of those that are open under a tag.
+    fn place_of(&self, tag: Tag) -> Option<usize>
+        ensures place { result ≡ spec.first_under tag self.now.uses }
+        ensures within { IfSome result (λ at. at < length self.now.uses) }
+    {
+        self.uses.iter().position(|used| used.tag == tag)
+    }
+
+    /// A mark under a tag of which no command is open. Fails only if out of memory.
+    fn hear_unasked(&mut self, line: &[u8], tag: Tag, mark: MarkSlice<'_>) -> Result<(), AllocError>
+        requires { self.old.lines + 1 < 2 ^ 64 }
+        ensures { Leads result self.old self.new
+            (spec.one_more (spec.unasked self.old line.now tag (signal_of (the_mark mark.entry)))) }
+    {
+        if is_report(self.events.as_slice(), tag, mark) {
+            self.lines += 1;
+            return Ok(());
+        }
+        let line = Text::new(self.alloc, line)?;
+        self.fault(Reported::Unasked(line))
+    }
+
+    /// What a mark reports of a line, with what may be known for it. Fails only if out of memory.
+    fn report_with(
+        &self,
+        used: &Use,
+        known: &Known,
+        heard: &Heard,
+    ) -> Result<Option<Reported>, AllocError>
+        ensures { IfOk result (λ report. spec.listed report
+            ≡ spec.reported_by (spec.unless_crossed self.now.crossed known.now)
+            used.now.tag used.now.command used.now.stage heard.now) }
+    {
+        let (alloc, stage) = (self.alloc, used.stage);
+        if self.crossed {
+            return reported_by(alloc, &nothing(), used.tag, &used.command, stage, *heard);
+        }
+        reported_by(alloc, known, used.tag, &used.command, stage, *heard)
+    }
+
+    /// What a mark reports of its line. Fails only if out of memory.
+    fn report(&self, used: &Use, heard: &Heard) -> Result<Option<Reported>, AllocError>
+        ensures { IfOk result (λ report. spec.listed report ≡ spec.reported_by
+            (spec.unless_crossed self.now.crossed (spec.use_heard used.now.line heard.now used.now).known)
+            used.now.tag used.now.command used.now.stage heard.now) }
+    {
+        let known = known_after(self.alloc, used, heard)?;
+        self.report_with(used, &known, heard)
+    }
+
+    /// Likewise if the mark is a fault. Fails only if out of memory.
+    fn report_early(&self, used: &Use, heard: &Heard) -> Result<Option<Reported>, AllocError>
+        ensures { IfOk result (λ report. spec.listed report
+            ≡ spec.reported_by (spec.unless_crossed self.now.crossed (spec.use_heard used.now.line heard.now
+            (spec.use_renewed (all_renewed Renewal.Fault) used.now)).known)
+            used.now.tag used.now.command used.now.stage heard.now) }
+    {
+        let known = known_after_fault(self.alloc, used, heard)?;
+        self.report_with(used, &known, heard)
+    }
+
+    /// All lines after a mark for the one at a place, on this line of the connection. Does not allocate.
+    fn settle(&mut self, at: usize, line: u64, heard: &Heard, is_end: bool)
+        requires place { at < length self.old.uses }
+        requires room { self.old.lines + 1 < 2 ^ 64 }
+        ensures { self.new ≡ record self.old {
+          lines = self.old.lines + 1;
+          uses = spec.left_over (map (spec.use_heard line heard.now) self.old.uses) at is_end;
+          known = all_renewed (Renewal.Mark line heard.now) self.old.known;
+        } }
+    {
+        mark_all(self.uses.as_mut_slice(), line, heard);
+        remove_ended(&mut self.uses, at, is_end);
+        renew(&mut self.known, &Renewal::Mark(line, *heard));
+        self.lines += 1;
+    }
+
+    /// A mark for the line at a place, in its turn. Fails only if out of memory.
+    fn hear(&mut self, at: usize, heard: &Heard, is_end: bool) -> Result<(), AllocError>
+        requires place { at < length self.old.uses }
+        requires room { self.old.lines + 1 < 2 ^ 64 }
+        ensures { (u : Use) → slice_get self.old.uses at ≡ Some u
+            → Leads result self.old self.new (spec.one_more (spec.hearing self.old at u heard.now is_end)) }
+    {
+        let line = self.uses[at].line;
+        let report = self.report(&self.uses[at], heard)?;
+        self.reported.reserve(1)?;
+        add_reserved(&mut self.reported, report);
+        self.settle(at, line, heard, is_end);
+        Ok(())
+    }
+
+    /// What rests on changes that have begun is known no more. Does not allocate.
+    fn lose(&mut self)
+        ensures { self.new ≡ record self.old {
+          uses = map (spec.use_renewed (all_renewed Renewal.Fault)) self.old.uses;
+          known = all_renewed Renewal.Fault self.old.known;
+        } }
+    {
+        renew_all(self.uses.as_mut_slice(), &Renewal::Fault);
+        renew(&mut self.known, &Renewal::Fault);
+    }
+
+    /// A mark for the line at a place, out of turn. Fails only if out of memory.
+    fn hear_early(&mut self, at: usize, heard: &Heard, is_end: bool) -> Result<(), AllocError>
+        requires place { at < length self.old.uses }
+        requires room { self.old.lines + 1 < 2 ^ 64 }
+        ensures { (u : Use) → slice_get self.old.uses at ≡ Some u
+            → Leads result self.old self.new (spec.one_more (spec.hearing
+            (spec.faulting self.old (Reported.Broken Rule.NotInTurn u.tag)) at
+            (spec.use_renewed (all_renewed Renewal.Fault) u) heard.now is_end)) }
+    {
+        let (line, tag) = (self.uses[at].line, self.uses[at].tag);
+        let report = self.report_early(&self.uses[at], heard)?;
+        self.reported.reserve(2)?;
+        self.reported
+            .push_reserved(Reported::Broken(Rule::NotInTurn, tag));
+        add_reserved(&mut self.reported, report);
+        self.lose();
+        self.settle(at, line, heard, is_end);
+        Ok(())
+    }
+
+    /// Whether a mark for the line at a place comes out of turn.
+    fn is_early(&self, at: usize, heard: &Heard) -> bool
+        requires { at < length self.now.uses }
+        ensures { (u : Use) → slice_get self.now.uses at ≡ Some u
+            → result ≡ spec.is_out_of_turn self.now.uses at u heard.now }
+    {
+        is_out_of_turn(self.uses.as_slice(), at, &self.uses[at], heard)
+    }
+
+    /// A mark for the line at a place, in its turn or not. Fails only if out of memory.
+    fn hear_either(&mut self, at: usize, heard: &Heard, is_end: bool) -> Result<(), AllocError>
+        requires place { at < length self.old.uses }
+        requires room { self.old.lines + 1 < 2 ^ 64 }
+        ensures { (u : Use) → slice_get self.old.uses at ≡ Some u
+            → Leads result self.old self.new (spec.one_more (spec.heard_at self.old at u heard.now is_end)) }
+    {
+        if self.is_early(at, heard) {
+            return self.hear_early(at, heard, is_end);
+        }
+        self.hear(at, heard, is_end)
+    }
+
+    /// A mark for the line at a place. Fails only if out of memory.
+    fn hear_at(&mut self, at: usize, mark: MarkSlice<'_>) -> Result<(), AllocError>
+        requires place { at < length self.old.uses }
+        requires room { self.old.lines + 1 < 2 ^ 64 }
+        ensures { Leads result self.old self.new (spec.one_more
+            (spec.at_use self.old at (signal_of (the_mark mark.entry)) (slice_get self.old.uses at))) }
+    {
+        let heard = heard_as(&self.uses[at].command, mark);
+        self.hear_either(at, &heard, is_end(mark))
+    }
+
+    /// A line of the server, given without its end. Fails only if out of memory, or after 18,446,744,073,709,551,615 lines; then nothing has
+    /// changed.
+    #[tactic(auto, using(crate::proofs::Readings::one_response))]
+    pub fn server_line(&mut self, line: &[u8]) -> Result<(), AllocError>
+        ensures ok { OnOk result (self.new ≡ spec.after self.old (server_line line.now)) }
+        ensures err { OnErr result (self.new ≡ self.old) }
+    {
+        if self.lines == u64::MAX {
+            return Err(AllocError);
+        }
+        let Ok(response) = cut_response(line) else {
+            let line = Text::new(self.alloc, line)?;
+            return self.fault(Reported::Other(Side::Server, line));
+        };
+        match self.place_of(response.tag) {
+            Some(at) => self.hear_at(at, response.mark),
+            None => self.hear_unasked(line, response.tag, response.mark),
+        }
+    }
+}
