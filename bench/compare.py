@@ -1,7 +1,7 @@
 #!/usr/bin/env python3
 """Compares the plain programs of bench/plain/ with ours: both run on the same input, and the first difference stops it.
 
-`check` gets each program and setup of examples/ and of the rows of tests/program, and some thousands of changed ones, made with a fixed
+`check` gets each program and setup of examples/ and of the rows of tests/program/, and some thousands of changed ones, made with a fixed
 seed; standard output, standard error and status are compared. `wire`, `server` and `client` print counts and sums, which are compared
 for several sizes, pieces and windows. What the cores answer to calls in each state is compared by the rows of crates/test_calls, and by
 random calls and lines. It needs the built programs (see counting.py), and builds the plain ones.
@@ -18,10 +18,14 @@ import tempfile
 
 from counting import built, plain
 
+ROOT = pathlib.Path(__file__).resolve().parent.parent
+sys.path.insert(0, str(ROOT / "tests"))
+
+from rows import program_rows
+
 # Parts of the input of test_calls that plain programs play too.
 PLAYED = ("program", "setup", "client", "marks", "texts", "server")
 
-ROOT = pathlib.Path(__file__).resolve().parent.parent
 CHANGED = int(sys.argv[1]) if len(sys.argv) > 1 else 4_000
 
 NUMERALS = [
@@ -56,9 +60,9 @@ STATEMENTS = [
 
 def given_programs():
     """Each program of examples/, and each file and standard input of the rows of `check`."""
-    files = sorted(ROOT.glob("examples/*.dmis")) + sorted(ROOT.glob("tests/program/*/stdin"))
-    files += [it for it in sorted(ROOT.glob("tests/program/*/files/*")) if it.is_file()]
-    return [file.read_bytes() for file in files]
+    rows = program_rows().values()
+    texts = [it.read_bytes() for it in sorted(ROOT.glob("examples/*.dmis"))] + [it.texts["stdin"] for it in rows if "stdin" in it.texts]
+    return texts + [text for row in rows for text in row.given.values()]
 
 
 def whole_program(choose):
@@ -197,7 +201,8 @@ def with_fields(choose, text):
 
 def compare_setups():
     choose = random.Random(20240818)
-    givens = [it.read_bytes() for it in sorted(ROOT.glob("examples/*.setup")) + sorted(ROOT.glob("tests/program/*/files/*.setup"))]
+    givens = [it.read_bytes() for it in sorted(ROOT.glob("examples/*.setup"))]
+    givens += [text for row in program_rows().values() for name, text in row.given.items() if name.endswith(".setup")]
     givens += [b"", b"TOOL P1\r\nFRAME PART 100 0 0\r", b"# only\n\nframe  part 1   2 3\n", b"SHIFT 0 0 0 0\n", b"TOOL\tP1\n"]
     program = b"DMISMN/'P',05.2\nRECALL/D(PART)\nGOTO/1,2,3\nRECALL/D(LEFT)\nENDFIL\n"
     pathlib.Path("part.dmis").write_bytes(program)

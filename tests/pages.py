@@ -55,7 +55,7 @@ ONCE = {r"this profile": "say it once a document"}  # only in documents: a comme
 FIXED = ("the server answered what has no place",)  # printed lines, whose bytes do not change
 
 DEFINING = ("crates/*/src/**/*.rt", "crates/*/specs/**/*.antt", "crates/*/proofs/**/*.antt")
-OTHER_SOURCES = ("crates/*/must-fail*/*.edit", "crates/*/include/*", "crates/*/std*", "crates.txt", "tests/**/*.py", "tests/run", "tests/*.c", "tools/*", "bench/**/*.py", "bench/**/*.rs", "examples/**/*")
+OTHER_SOURCES = ("crates/*/must-fail*/*.edit", "crates/*/include/*", "crates/*/std*", "crates.txt", "tests/**/*.py", "tests/run", "tests/*.c", "tests/program/*.rows", "tools/*", "bench/**/*.py", "bench/**/*.rs", "examples/**/*")
 OUTSIDE = {"std", "core", "io", "libc", "alloc"}  # next to the kit's crates that crates.txt names
 FOREIGN = {"serde_json"}  # names of other projects
 RT_DEFINES = re.compile(r"\b(?:fn|struct|enum|trait|const|static|type|mod|union)\s+(\w+)|^    (?:pub(?:\(\w+\))? )?(\w+)(?:: .*,|,|\(.*\),| \{)$", re.MULTILINE)

@@ -3,7 +3,7 @@
 
   edits    all edits, most of which the gate does not try (tools/edits): the prover must refuse each
   events   a world of nine million events, of which a million can happen when they come (tests/stopped.py)
-  growths  every row of calls and every row of tests/program without another end, with each growth of its program refused in turn: the program
+  growths  every row of calls and every row of tests/program/ without another end, with each growth of its program refused in turn: the program
            ends with its own words for out of memory, or gives what it gives with all memory, and never anything else. With growths=N it
            refuses only the first N growths of each.
   lies     120 sessions against a server that breaks off and lies, begun again until they are Done (tests/lying.py)
@@ -21,7 +21,6 @@ import concurrent.futures
 import functools
 import pathlib
 import re
-import shutil
 import subprocess
 import sys
 import tempfile
@@ -32,9 +31,9 @@ from killed import WINDOWS, check_killed
 from lying import check_lying
 from relayed import CUTS, check_relayed
 from reviews import check_reviews
+from rows import program_rows
 
 TESTS = ROOT / "tests"
-ROWS = TESTS / "program"
 ALONE = ("check", "review", "simulate", "audit", "loop")  # the commands that need no other end
 ANY = 1_000_000
 EVENTS = 9_100_000
@@ -83,19 +82,16 @@ def reviews(portion):
 
 def is_alone(row):
     """A row of one `dme` without another end, whose standard streams are files."""
-    words = (row / "args").read_text().split()
-    kinds = ("from", "to", "memory", "peer", "serve", "again", "stdin_again")
-    return words[:1] and words[0] in ALONE and not any((row / it).exists() for it in kinds)
+    kinds = {"from", "to", "memory", "peer", "serve", "again", "stdin_again"}
+    return row.words and row.words[0] in ALONE and not kinds & {*row.lines, *row.texts, *row.further}
 
 
 def program_run(refusing, row, number, counts):
-    """What a row of tests/program gives if this growth is refused."""
-    text = (row / "stdin").read_text(errors="surrogateescape") if (row / "stdin").exists() else None
+    """What a row of tests/program/ gives if this growth is refused."""
+    text = row.texts["stdin"].decode(errors="surrogateescape") if "stdin" in row.texts else None
     with tempfile.TemporaryDirectory() as folder:
-        if (row / "files").exists():
-            shutil.copytree(row / "files", folder, dirs_exist_ok=True)
-        words = (row / "args").read_text().splitlines()
-        return ended(refusing.started([PROGRAM, *words], number, folder, counts, text), text)
+        row.write_into(folder)
+        return ended(refusing.started([PROGRAM, *row.words], number, folder, counts, text), text)
 
 
 def part_runs():
@@ -185,7 +181,7 @@ def growths(portion):
     with tempfile.TemporaryDirectory() as room:
         refusing = Refusing(room)
         jobs = [(row.name, must_want, functools.partial(program_run, refusing, row))
-                for row in sorted(it.parent for it in ROWS.glob("*/args")) if is_alone(row)]
+                for row in program_rows().values() if is_alone(row)]
         jobs += [(name, must_want_rows, functools.partial(calls_run, refusing, text)) for name, text in part_runs()]
         with concurrent.futures.ThreadPoolExecutor(2) as pool:
             right = sum(pool.map(lambda job: growth_part(*job, most), jobs))
