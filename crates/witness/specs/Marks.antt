@@ -107,7 +107,7 @@ is_answer heard.Unread = true
 is_answer heard.Complete = true
 is_answer heard.Failed = false
 
--- a command that has its turn in the order in which commands were sent: any but an AbortE and one that only asks
+-- a command that is processed in the order in which commands were sent: any but an AbortE and one that only asks
 abbrev pub has_turn : SentCommand → Bool
 has_turn (Known c) = not (is_event_kind (kind_of c))
 has_turn Asking = false

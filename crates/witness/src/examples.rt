@@ -107,8 +107,8 @@ pub fn what_nobody_asked_is_a_fault()
     ensures early { known_in true (ready ++ (touched 3 ++ touch 3)) ≡ [] }
 {}
 
-/// A tag that is used again while it is in use, where the order is known, ends what is known for good. Where it is not, the second use is in
-/// doubt if the first one failed.
+/// A tag that is used again while it is in use, if the order is known, ends what is known for good. If it is not, the second use is in doubt
+/// if the first one failed.
 pub fn tags_are_used_once_at_a_time()
     ensures order_not_known { known_in false (machine 2 ++ (tool 5 ++ (other_tool 5 ++ (touch 6 ++
         (done 2 ++ (hears 5 Ack ++ (hears 5 Error ++ (hears 5 Done ++ (done 5 ++ touched
@@ -143,7 +143,7 @@ pub fn part_frames_have_their_zero_point()
         ≡ (Some (codes "P1"), None) ∷ [] }
 {}
 
-/// A contact is told at the end of a touch whose marks are just `&`, `#` and `%`.
+/// A contact is reported at the end of a touch whose marks are just `&`, `#` and `%`.
 pub fn contacts_have_just_three_marks()
     ensures no_ack { known_in true (ready ++ (touch 3 ++ (hears 3 given ++ hears 3 Done))) ≡ [] }
     ensures no_data { known_in true (ready ++ (touch 3 ++ done 3)) ≡ [] }

@@ -168,7 +168,7 @@ pub(crate) fn is_answer(heard: &Heard) -> bool
     }
 }
 
-/// Whether a command has its turn in the order in which commands were sent.
+/// Whether a command is processed in the order in which commands were sent.
 pub(crate) fn has_turn(command: &SentCommand) -> bool
     ensures { result ≡ spec.has_turn command.now }
 {
