@@ -21,6 +21,7 @@ pub struct NextJournal {
 /// Whether the file of this name has nothing but a part of this head, or is not there.
 fn is_bare<R: Files + AllocGlobal>(rt: &R, name: &str, head: &[u8]) -> bool {
     match fs::metadata(rt, name) {
+        Ok(found) if found.len() == 0 => true,
         Ok(found) if found.len() <= head.len() as u64 => match fs::read(rt, name) {
             Ok(text) => head.starts_with(text.as_slice()),
             Err(_) => false,
