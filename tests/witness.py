@@ -1,7 +1,7 @@
 #!/usr/bin/env python3
 """With which tool and in which frame each contact of a connection is known, by the lines of both ends alone.
 
-`known_contacts` is a second reading of the rules of crates/told_ledger, apart from its code: it looks back over the lists of lines for each
+`known_contacts` is a second reading of the rules of crates/witness, apart from its code: it looks back over the lists of lines for each
 contact. It takes the lines in the order in which they came (`ordered`), or takes all lines of the client to come first, since two recordings do
 not keep the order of the two directions.
 
