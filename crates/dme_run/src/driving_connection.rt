@@ -108,7 +108,8 @@ fn client_verdict<R: AllocGlobal>(
 fn shown_end<R: Eprint + AllocGlobal>(
     rt: &R,
     driven: RunEnd,
-    (call, why): (&mut Call<'_>, &'static str),
+    call: &mut Call<'_>,
+    why: &'static str,
     known: (&Patience<'_, R>, &RefCell<Talk<'_, R>>),
 ) -> Result<u8, Fault> {
     let verdict = client_verdict(rt.alloc(), driven, known);
@@ -347,7 +348,7 @@ fn drive_client<
     let why = outputs.features.why();
     drop(outputs);
     match driven {
-        Ok(Some(driven)) => shown_end(rt, driven, (call, why), (patience, follower.talk)),
+        Ok(Some(driven)) => shown_end(rt, driven, call, why, (patience, follower.talk)),
         Ok(None) => Ok(patience.not_begun()),
         Err(fault) => Err(fault),
     }
