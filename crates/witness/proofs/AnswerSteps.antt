@@ -10,8 +10,8 @@ use Rattle.protocol_model.specs.Replies.{tag_is}
 use Rattle.witness.proofs.KnownForUses.{known_fault, known_mark, use_fault, use_mark, seen_more, below_more}
 use Rattle.witness.specs.Asking.{Line, Answers, Signal}
 use Rattle.witness.specs.Dialogues.{Dialogue, use_renewed, use_heard, waits, is_report, reported_by, unless_crossed}
-use Rattle.witness.specs.Dialogues.{one_more, faulting, at_use, hearing, is_out_of_turn, may_not_come, heard_under, after}
-use Rattle.witness.specs.Histories.{Sent, place, open_lines, first_of, line_at, without, for_line, mark_in, marks, stage_of}
+use Rattle.witness.specs.Dialogues.{faulting, at_use, hearing, is_out_of_turn, may_not_come, heard_under, after}
+use Rattle.witness.specs.Histories.{Sent, count_sent, place, open_lines, first_of, line_at, without, for_line, mark_in, marks, stage_of}
 use Rattle.witness.specs.Known.{all_renewed}
 use Rattle.witness.specs.Marks.{heard_as, is_end, has_turn}
 use Rattle.witness.specs.Rules.{comes_early, early_at, fault_of, is_fault, events_of, is_crossed, known_for, known_below, seen, witnessed}
@@ -110,15 +110,15 @@ abbrev known_at : List Line → Tag → Signal → Option ℕ → Sent → Known
 known_at h tag signal at s = (use_mark (mark_to signal (open_lines h) at) (use_fault (fault_of tag signal h at) (seen h s))).known
 
 abbrev result : Bool → List Line → List ℕ → Tag → Signal → Option ℕ → Dialogue
-result o h line tag signal at = parted o (events_of h) (is_crossed o h) (length h + 1)
+result o h line tag signal at = parted o (events_of h) (is_crossed o h) (count_sent h)
     (map (λ u. use_mark (mark_to signal (open_lines h) at) (use_fault (fault_of tag signal h at) u)) (map (seen h) (open_after signal (open_lines h) at)))
     (known_mark (mark_to signal (open_lines h) at) (known_fault (fault_of tag signal h at) (known_below h)))
     (all_reported o h ++ placed o h (known_at h tag signal at) line tag signal at)
 
 -- no line has that tag
 none_step : (o : Bool) (h : List Line) (line : List ℕ) (b is_last : Bool)
-    → one_more (if b then witnessed o h else faulting (witnessed o h) (reports.Unasked line))
-    ≡ parted o (events_of h) (is_crossed o h) (length h + 1)
+    → (if b then witnessed o h else faulting (witnessed o h) (reports.Unasked line))
+    ≡ parted o (events_of h) (is_crossed o h) (count_sent h)
     (map (λ u. use_mark None (use_fault (not b) u)) (map (seen h) (if is_last then open_lines h else open_lines h)))
     (known_mark None (known_fault (not b) (known_below h))) (all_reported o h ++ unless_report line b)
 none_step o h line true true =
@@ -135,10 +135,10 @@ heard_twice n e us =
     map_twice (use_heard n e) (use_renewed (all_renewed Fault)) (λ u. use_mark (Some (n, e)) (use_fault true u)) (λ u. refl) us
 
 turn_step : (o : Bool) (h : List Line) (at : ℕ) (s : Sent) (e : Heard) (b is_last : Bool)
-    → one_more (if b
+    → (if b
     then hearing (faulting (witnessed o h) (reports.Broken NotInTurn s.tag)) at (use_renewed (all_renewed Fault) (seen h s)) e is_last
     else hearing (witnessed o h) at (seen h s) e is_last)
-    ≡ parted o (events_of h) (is_crossed o h) (length h + 1)
+    ≡ parted o (events_of h) (is_crossed o h) (count_sent h)
     (map (λ u. use_mark (Some (place s, e)) (use_fault b u)) (map (seen h) (if is_last then remove (open_lines h) at else open_lines h)))
     (known_mark (Some (place s, e)) (known_fault b (known_below h)))
     (all_reported o h ++ (early b s.tag
@@ -171,8 +171,8 @@ none_left xs at true e = remove_none xs at e
 none_left xs at false e = refl
 
 slot_step : (o : Bool) (h : List Line) (signal : Signal) (at : ℕ) (slot : Option Sent) → slice_get (open_lines h) at ≡ slot
-    → one_more (at_use (witnessed o h) at signal (option_map (seen h) slot))
-    ≡ parted o (events_of h) (is_crossed o h) (length h + 1)
+    → at_use (witnessed o h) at signal (option_map (seen h) slot)
+    ≡ parted o (events_of h) (is_crossed o h) (count_sent h)
     (map (λ u. use_mark (for_line signal slot) (use_fault (early_at h at signal slot) u))
     (map (seen h) (if is_end signal then remove (open_lines h) at else open_lines h)))
     (known_mark (for_line signal slot) (known_fault (early_at h at signal slot) (known_below h)))
@@ -183,7 +183,7 @@ slot_step o h signal at None e =
     ∙ ap (λ xs. map (λ u. u) (map (seen h) xs)) (sym (none_left (open_lines h) at (is_end signal) e)))
     refl (sym (append-nil (all_reported o h)))
 slot_step o h signal at (Some s) e =
-    ap (λ b. one_more (if b
+    ap (λ b. (if b
     then hearing (faulting (witnessed o h) (reports.Broken NotInTurn s.tag)) at (use_renewed (all_renewed Fault) (seen h s))
     (heard_as s.command signal) (is_end signal)
     else hearing (witnessed o h) at (seen h s) (heard_as s.command signal) (is_end signal)))
@@ -191,10 +191,10 @@ slot_step o h signal at (Some s) e =
     ∙ turn_step o h at s (heard_as s.command signal) (comes_early h at s (heard_as s.command signal)) (is_end signal)
 
 place_step : (o : Bool) (h : List Line) (line : List ℕ) (tag : Tag) (signal : Signal) (at : Option ℕ)
-    → one_more (heard_under (witnessed o h) line tag signal at) ≡ result o h line tag signal at
+    → heard_under (witnessed o h) line tag signal at ≡ result o h line tag signal at
 place_step o h line tag signal None = none_step o h line (is_report tag signal (events_of h)) (is_end signal)
 place_step o h line tag signal (Some at) =
-    ap (λ u. one_more (at_use (witnessed o h) at signal u)) (slice_get-map (seen h) (open_lines h) at)
+    ap (λ u. at_use (witnessed o h) at signal u) (slice_get-map (seen h) (open_lines h) at)
     ∙ slot_step o h signal at (slice_get (open_lines h) at) refl
 
 -- ---- the reports
@@ -225,7 +225,7 @@ uses_more line what h xs =
 answer_step : (o : Bool) (h : List Line) (line : List ℕ) (tag : Tag) (signal : Signal)
     → result o h line tag signal (first_of tag (open_lines h)) ≡ witnessed o (Answers line (Some (tag, signal)) ∷ h)
 answer_step o h line tag signal =
-    four_parts o (events_of h) (is_crossed o h) (add-one (length h))
+    four_parts o (events_of h) (is_crossed o h) refl
     (uses_more line (Some (tag, signal)) h (open_after signal (open_lines h) (first_of tag (open_lines h))))
     (sym (below_more line (Some (tag, signal)) h))
     (ap (λ rs. all_reported o h ++ rs) (same_placed o h line tag signal (known_at h tag signal (first_of tag (open_lines h)))
@@ -235,8 +235,8 @@ answer_step o h line tag signal =
 pub answers_more : (o : Bool) (h : List Line) (line : List ℕ) (what : Option (Tag × Signal))
     → after (witnessed o h) (Answers line what) ≡ witnessed o (Answers line what ∷ h)
 answers_more o h line None =
-    four_parts o (events_of h) (is_crossed o h) (add-one (length h)) (uses_more line None h (open_lines h)) (sym (below_more line None h)) refl
+    four_parts o (events_of h) (is_crossed o h) refl (uses_more line None h (open_lines h)) (sym (below_more line None h)) refl
 answers_more o h line (Some (tag, signal)) =
-    ap (λ at. one_more (heard_under (witnessed o h) line tag signal at)) (place_map (λ u. tag_is u.tag tag) (seen h) (open_lines h))
+    ap (λ at. heard_under (witnessed o h) line tag signal at) (place_map (λ u. tag_is u.tag tag) (seen h) (open_lines h))
     ∙ place_step o h line tag signal (first_of tag (open_lines h))
     ∙ answer_step o h line tag signal

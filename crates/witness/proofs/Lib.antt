@@ -6,3 +6,6 @@ pub mod KnownForUses
 pub mod AnswerSteps
 pub mod SendSteps
 pub mod Exactness
+pub mod TextPieces
+pub mod Prefixes
+pub mod Courses

@@ -1,5 +1,5 @@
 -- A witness reads a line of the client: it then keeps and reports what the rules say of the lines that came.
-use Rattle.std.proofs.Common.{◌≡◌, ℕ, zero, suc, ◌+◌, ◌<◌, ◌≤◌, ◌==◌, Bool, true, false, ◌&&◌, ◌||◌, not, if◌then◌else◌, nat_lt, List, [], ◌∷◌, ◌++◌, length, map}
+use Rattle.std.proofs.Common.{◌≡◌, ℕ, zero, suc, ◌+◌, ◌<◌, ◌≤◌, ◌==◌, Bool, true, false, ◌&&◌, ◌||◌, not, if◌then◌else◌, nat_lt, List, [], ◌∷◌, ◌++◌, map}
 use Rattle.std.proofs.Common.{Option, Some, None, is_some, refl, ap, sym, ◌∙◌, subst, append-nil, add-one, arith}
 use Rattle.std.specs.Prelude.{remove, slice_get}
 use Rattle.std.proofs.Math.Bool.{and-false, or-false}
@@ -18,7 +18,7 @@ use Rattle.witness.proofs.KnownForUses.{four, built, three}
 use Rattle.witness.proofs.Standings.{same}
 use Rattle.witness.specs.Asking.{Line, Sends, Answers, Signal}
 use Rattle.witness.specs.Dialogues.{Dialogue, unknowing, at_once, sending, sending_after, foreign_event, last_under, with_event, after}
-use Rattle.witness.specs.Histories.{Sent, place, open_lines, first_of, line_at, without, owner, for_line, mark_in, is_for, with_mark, marks, error_at, last_of, rival_of, stage_of}
+use Rattle.witness.specs.Histories.{Sent, count_sent, place, open_lines, first_of, line_at, without, owner, for_line, mark_in, is_for, with_mark, marks, error_at, last_of, rival_of, stage_of}
 use Rattle.witness.specs.Histories.{later as later_line}
 use Rattle.witness.specs.Known.{nothing, standing, fresh, below, unless_part as unless_part_holds}
 use Rattle.witness.specs.Marks.{heard_as, is_end, is_error, is_answer}
@@ -71,15 +71,15 @@ ended : (n : ℕ) (ss : List Sent) (k : Option ℕ) (b : Bool) → Under n ss �
 ended n ss k true u = without_some n ss k u
 ended n ss k false u = u
 
-pub all_under : (h : List Line) → Under (length h) (open_lines h)
+pub all_under : (h : List Line) → Under (count_sent h) (open_lines h)
 all_under [] = tt
-all_under (Sends line None ∷ h) = wider (length h) (open_lines h) (all_under h)
+all_under (Sends line None ∷ h) = wider (count_sent h) (open_lines h) (all_under h)
 all_under (Sends line (Some (tag, c)) ∷ h) =
-    one_under (suc (length h)) (open_lines h) (record { above = h; tag = tag; command = c })
-    (wider (length h) (open_lines h) (all_under h)) (omega arith)
-all_under (Answers line None ∷ h) = wider (length h) (open_lines h) (all_under h)
+    one_under (suc (count_sent h)) (open_lines h) (record { above = h; tag = tag; command = c })
+    (wider (count_sent h) (open_lines h) (all_under h)) (omega arith)
+all_under (Answers line None ∷ h) = all_under h
 all_under (Answers line (Some (tag, signal)) ∷ h) =
-    ended (suc (length h)) (open_lines h) (first_of tag (open_lines h)) (is_end signal) (wider (length h) (open_lines h) (all_under h))
+    ended (count_sent h) (open_lines h) (first_of tag (open_lines h)) (is_end signal) (all_under h)
 
 -- ---- nothing was heard of a line that stands below
 
@@ -112,38 +112,38 @@ unfolding IsUnder
 not_marked n k signal None ms u w = refl
 not_marked n k signal (Some s) ms u w = ap (λ b. if b then heard_as s.command signal ∷ ms else ms) (not_place n (place s) (omega (arith, u, w)))
 
-not_for : (sort : Heard → Bool) (n : ℕ) (what : Option (Tag × Signal)) (h : List Line) → length h ≤ n → is_for sort n (mark_in what h) ≡ false
+not_for : (sort : Heard → Bool) (n : ℕ) (what : Option (Tag × Signal)) (h : List Line) → count_sent h ≤ n → is_for sort n (mark_in what h) ≡ false
 not_for sort n None h w = refl
 not_for sort n (Some (tag, signal)) h w =
-    not_heard sort n (length h) signal (owner tag h) (line_under (length h) (open_lines h) (first_of tag (open_lines h)) (all_under h)) w
+    not_heard sort n (count_sent h) signal (owner tag h) (line_under (count_sent h) (open_lines h) (first_of tag (open_lines h)) (all_under h)) w
 
-no_mark : (n : ℕ) (what : Option (Tag × Signal)) (h : List Line) (ms : List Heard) → length h ≤ n → with_mark n (mark_in what h) ms ≡ ms
+no_mark : (n : ℕ) (what : Option (Tag × Signal)) (h : List Line) (ms : List Heard) → count_sent h ≤ n → with_mark n (mark_in what h) ms ≡ ms
 no_mark n None h ms w = refl
 no_mark n (Some (tag, signal)) h ms w =
-    not_marked n (length h) signal (owner tag h) ms (line_under (length h) (open_lines h) (first_of tag (open_lines h)) (all_under h)) w
+    not_marked n (count_sent h) signal (owner tag h) ms (line_under (count_sent h) (open_lines h) (first_of tag (open_lines h)) (all_under h)) w
 
-pub no_marks : (n : ℕ) (h : List Line) → length h ≤ n → marks n h ≡ []
+pub no_marks : (n : ℕ) (h : List Line) → count_sent h ≤ n → marks n h ≡ []
 no_marks n [] w = refl
 no_marks n (Sends line what ∷ h) w = no_marks n h (omega (arith, w))
 no_marks n (Answers line what ∷ h) w = no_mark n what h (marks n h) (omega (arith, w)) ∙ no_marks n h (omega (arith, w))
 
-no_error : (n : ℕ) (h : List Line) → length h ≤ n → error_at n h ≡ false
+no_error : (n : ℕ) (h : List Line) → count_sent h ≤ n → error_at n h ≡ false
 no_error n [] w = refl
 no_error n (Sends line what ∷ h) w = no_error n h (omega (arith, w))
 no_error n (Answers line what ∷ h) w =
     ap (λ b. b || is_for is_error n (mark_in what h)) (no_error n h (omega (arith, w))) ∙ not_for is_error n what h (omega (arith, w))
 
-none_before : (k n : ℕ) (h : List Line) → length h ≤ n → done_before k n h ≡ true
+none_before : (k n : ℕ) (h : List Line) → count_sent h ≤ n → done_before k n h ≡ true
 none_before k n [] w = refl
 none_before k n (Sends line what ∷ h) w = none_before k n h (omega (arith, w))
 none_before k n (Answers line what ∷ h) w =
     ap (λ b. (not b || is_done (progress_of (marks k h))) && done_before k n h) (not_for is_answer n what h (omega (arith, w)))
     ∙ none_before k n h (omega (arith, w))
 
-none_below : (n : ℕ) (h : List Line) → length h ≤ n → at_once_below n h ≡ false
+none_below : (n : ℕ) (h : List Line) → count_sent h ≤ n → at_once_below n h ≡ false
 none_below n [] w = refl
 none_below n (Sends line what ∷ h) w =
-    ap (λ b. (is_at_once what && b) || at_once_below n h) (not_less n (length h) (omega (arith, w)))
+    ap (λ b. (is_at_once what && b) || at_once_below n h) (not_less n (count_sent h) (omega (arith, w)))
     ∙ ap (λ b. b || at_once_below n h) (and-false (is_at_once what))
     ∙ none_below n h (omega (arith, w)) where
       not_less : (a b : ℕ) → b ≤ a → nat_lt a b ≡ false
@@ -222,47 +222,47 @@ part_bound n (command.SetCoordSystem c) z x v u = v
 part_bound n command.AbortE z x v u = u
 
 sent_bound : {A : Type 0} (f : Sent → Command → Option (A × Sent) → Option (A × Sent)) (h : List Line)
-    → ((s : Sent) (c : Command) (x : Option (A × Sent)) → Bound (suc (length h)) x → place s < suc (length h) → Bound (suc (length h)) (f s c x))
-    → (what : Option (Tag × SentCommand)) (x : Option (A × Sent)) → Bound (length h) x → Bound (suc (length h)) (below_sent f None h what x)
+    → ((s : Sent) (c : Command) (x : Option (A × Sent)) → Bound (suc (count_sent h)) x → place s < suc (count_sent h) → Bound (suc (count_sent h)) (f s c x))
+    → (what : Option (Tag × SentCommand)) (x : Option (A × Sent)) → Bound (count_sent h) x → Bound (suc (count_sent h)) (below_sent f None h what x)
 sent_bound f h e None x u = tt
 sent_bound f h e (Some (tag, sends.Known c)) x u =
-    e (record { above = h; tag = tag; command = sends.Known c }) c x (bound_wider (length h) x u) (omega arith)
-sent_bound f h e (Some (tag, sends.Asking)) x u = bound_wider (length h) x u
+    e (record { above = h; tag = tag; command = sends.Known c }) c x (bound_wider (count_sent h) x u) (omega arith)
+sent_bound f h e (Some (tag, sends.Asking)) x u = bound_wider (count_sent h) x u
 sent_bound f h e (Some (tag, sends.Foreign line)) x u = tt
 
-tool_under : (h : List Line) → Bound (length h) (last_tool h)
+tool_under : (h : List Line) → Bound (count_sent h) (last_tool h)
 tool_under [] = tt
-tool_under (Sends line what ∷ h) = sent_bound tool_after h (tool_bound (suc (length h))) what (last_tool h) (tool_under h)
-tool_under (Answers line what ∷ h) = bound_wider (length h) (last_tool h) (tool_under h)
+tool_under (Sends line what ∷ h) = sent_bound tool_after h (tool_bound (suc (count_sent h))) what (last_tool h) (tool_under h)
+tool_under (Answers line what ∷ h) = tool_under h
 
-csy_under : (h : List Line) → Bound (length h) (last_csy h)
+csy_under : (h : List Line) → Bound (count_sent h) (last_csy h)
 csy_under [] = tt
-csy_under (Sends line what ∷ h) = sent_bound csy_after h (csy_bound (suc (length h))) what (last_csy h) (csy_under h)
-csy_under (Answers line what ∷ h) = bound_wider (length h) (last_csy h) (csy_under h)
+csy_under (Sends line what ∷ h) = sent_bound csy_after h (csy_bound (suc (count_sent h))) what (last_csy h) (csy_under h)
+csy_under (Answers line what ∷ h) = csy_under h
 
-zero_under : (h : List Line) → Bound (length h) (last_zero h)
+zero_under : (h : List Line) → Bound (count_sent h) (last_zero h)
 zero_under [] = tt
-zero_under (Sends line what ∷ h) = sent_bound zero_after h (zero_bound (suc (length h))) what (last_zero h) (zero_under h)
-zero_under (Answers line what ∷ h) = bound_wider (length h) (last_zero h) (zero_under h)
+zero_under (Sends line what ∷ h) = sent_bound zero_after h (zero_bound (suc (count_sent h))) what (last_zero h) (zero_under h)
+zero_under (Answers line what ∷ h) = zero_under h
 
-part_under : (h : List Line) → Bound (length h) (last_part h)
+part_under : (h : List Line) → Bound (count_sent h) (last_part h)
 part_under [] = tt
 part_under (Sends line what ∷ h) = sent_bound (λ s c x. part_after c (last_zero h) x) h
-    (λ s c x u q. part_bound (suc (length h)) c (last_zero h) x (bound_wider (length h) (last_zero h) (zero_under h)) u) what (last_part h) (part_under h)
-part_under (Answers line what ∷ h) = bound_wider (length h) (last_part h) (part_under h)
+    (λ s c x u q. part_bound (suc (count_sent h)) c (last_zero h) x (bound_wider (count_sent h) (last_zero h) (zero_under h)) u) what (last_part h) (part_under h)
+part_under (Answers line what ∷ h) = part_under h
 
 -- ---- a line that may be carried out at once
 
-lost_now : (s : Sent) (line : List ℕ) (what : Option (Tag × SentCommand)) (h : List Line) → is_at_once what ≡ true → place s < length h
+lost_now : (s : Sent) (line : List ℕ) (what : Option (Tag × SentCommand)) (h : List Line) → is_at_once what ≡ true → place s < count_sent h
     → standing_of s (Sends line what ∷ h) ≡ None
 lost_now s line what h e p =
-    ap (λ b. if ((b && nat_lt (place s) (length h)) || at_once_below (place s) h) || is_doubtful s (Sends line what ∷ h) then None
+    ap (λ b. if ((b && nat_lt (place s) (count_sent h)) || at_once_below (place s) h) || is_doubtful s (Sends line what ∷ h) then None
     else by_progress s (fault_since (place s) h) (progress_of (marks (place s) h))) e
     ∙ ap (λ b. if (b || at_once_below (place s) h) || is_doubtful s (Sends line what ∷ h) then None
-    else by_progress s (fault_since (place s) h) (progress_of (marks (place s) h))) (lt-ltb (place s) (length h) p)
+    else by_progress s (fault_since (place s) h) (progress_of (marks (place s) h))) (lt-ltb (place s) (count_sent h) p)
 
 lost_for : {A : Type 0} (u : Sent) (x : Option (A × Sent)) (line : List ℕ) (what : Option (Tag × SentCommand)) (h : List Line)
-    → is_at_once what ≡ true → Bound (length h) x → may_hold_for u x (Sends line what ∷ h) ≡ None
+    → is_at_once what ≡ true → Bound (count_sent h) x → may_hold_for u x (Sends line what ∷ h) ≡ None
 lost_for u None line what h e b = refl
 lost_for u (Some (a, s)) line what h e b =
     ap (λ o. if done_before (place s) (place u) h then standing a o else None) (lost_now s line what h e b)
@@ -272,22 +272,22 @@ bound_most : {A : Type 0} (n m : ℕ) (x : Option (A × Sent)) → n ≤ m → B
 bound_most n m None w b = tt
 bound_most n m (Some (a, s)) w b = omega (arith, w, b)
 
-all_lost : (u : Sent) (line : List ℕ) (what : Option (Tag × SentCommand)) (h : List Line) → is_at_once what ≡ true → place u ≤ length h
+all_lost : (u : Sent) (line : List ℕ) (what : Option (Tag × SentCommand)) (h : List Line) → is_at_once what ≡ true → place u ≤ count_sent h
     → all_for u (Sends line what ∷ h) ≡ nothing
 all_lost u line what h e w =
-    four (lost_for u (last_tool u.above) line what h e (bound_most (place u) (length h) (last_tool u.above) w (tool_under u.above)))
-    (lost_for u (last_csy u.above) line what h e (bound_most (place u) (length h) (last_csy u.above) w (csy_under u.above)))
-    (lost_for u (last_part u.above) line what h e (bound_most (place u) (length h) (last_part u.above) w (part_under u.above)))
-    (lost_for u (last_zero u.above) line what h e (bound_most (place u) (length h) (last_zero u.above) w (zero_under u.above)))
+    four (lost_for u (last_tool u.above) line what h e (bound_most (place u) (count_sent h) (last_tool u.above) w (tool_under u.above)))
+    (lost_for u (last_csy u.above) line what h e (bound_most (place u) (count_sent h) (last_csy u.above) w (csy_under u.above)))
+    (lost_for u (last_part u.above) line what h e (bound_most (place u) (count_sent h) (last_part u.above) w (part_under u.above)))
+    (lost_for u (last_zero u.above) line what h e (bound_most (place u) (count_sent h) (last_zero u.above) w (zero_under u.above)))
 
-known_lost : (u : Sent) (line : List ℕ) (what : Option (Tag × SentCommand)) (h : List Line) → is_at_once what ≡ true → place u ≤ length h
+known_lost : (u : Sent) (line : List ℕ) (what : Option (Tag × SentCommand)) (h : List Line) → is_at_once what ≡ true → place u ≤ count_sent h
     → known_for u (Sends line what ∷ h) ≡ nothing
 known_lost u line what h e w =
     ap (λ k. if is_doubtful u (Sends line what ∷ h) then nothing else k) (all_lost u line what h e w)
     ∙ same (is_doubtful u (Sends line what ∷ h)) nothing
 
 uses_lost : (line : List ℕ) (what : Option (Tag × SentCommand)) (h : List Line) → is_at_once what ≡ true
-    → (xs : List Sent) → Under (length h) xs → map unknowing (map (seen h) xs) ≡ map (seen (Sends line what ∷ h)) xs
+    → (xs : List Sent) → Under (count_sent h) xs → map unknowing (map (seen h) xs) ≡ map (seen (Sends line what ∷ h)) xs
 uses_lost line what h e [] u = refl
 uses_lost line what h e (s ∷ xs) (p, u) =
     ap (λ k. built s (stage_of s.command (marks (place s) h)) (error_at (place s) h) k ∷ map unknowing (map (seen h) xs))
@@ -304,7 +304,7 @@ same_error (Some n) line what h = refl
 same_standing : (s : Sent) (line : List ℕ) (what : Option (Tag × SentCommand)) (h : List Line) → is_at_once what ≡ false
     → standing_of s (Sends line what ∷ h) ≡ standing_of s h
 same_standing s line what h e =
-    ap (λ b. if ((b && nat_lt (place s) (length h)) || at_once_below (place s) h) || is_doubtful s (Sends line what ∷ h) then None
+    ap (λ b. if ((b && nat_lt (place s) (count_sent h)) || at_once_below (place s) h) || is_doubtful s (Sends line what ∷ h) then None
     else by_progress s (fault_since (place s) h) (progress_of (marks (place s) h))) e
     ∙ ap (λ d. if at_once_below (place s) h || d then None
     else by_progress s (fault_since (place s) h) (progress_of (marks (place s) h))) (same_error (rival_of s.tag s.above) line what h)
@@ -345,7 +345,7 @@ new_for : {A : Type 0} (x : Option (A × Sent)) (line : List ℕ) (tag : Tag) (c
     → may_hold_for (newest h tag c) x (Sends line (Some (tag, c)) ∷ h) ≡ may_hold x h
 new_for None line tag c h e = refl
 new_for (Some (a, s)) line tag c h e =
-    ap (λ b. if b then standing a (standing_of s (Sends line (Some (tag, c)) ∷ h)) else None) (none_before (place s) (length h) h (omega arith))
+    ap (λ b. if b then standing a (standing_of s (Sends line (Some (tag, c)) ∷ h)) else None) (none_before (place s) (count_sent h) h (omega arith))
     ∙ ap (standing a) (same_standing s line (Some (tag, c)) h e)
 
 new_known : (line : List ℕ) (tag : Tag) (c : SentCommand) (h : List Line) → is_at_once (Some (tag, c)) ≡ false
@@ -357,13 +357,13 @@ new_known line tag c h e =
     (new_for (last_part h) line tag c h e) (new_for (last_zero h) line tag c h e))
 
 new_standing : (line : List ℕ) (tag : Tag) (c : SentCommand) (h : List Line) → is_at_once (Some (tag, c)) ≡ false
-    → standing_of (newest h tag c) (Sends line (Some (tag, c)) ∷ h) ≡ fresh (length h) (rival_of tag h) (error_of (rival_of tag h) h)
+    → standing_of (newest h tag c) (Sends line (Some (tag, c)) ∷ h) ≡ fresh (count_sent h) (rival_of tag h) (error_of (rival_of tag h) h)
 new_standing line tag c h e =
     same_standing (newest h tag c) line (Some (tag, c)) h e
     ∙ ap (λ b. if b || error_of (rival_of tag h) h then None
-    else by_progress (newest h tag c) (fault_since (length h) h) (progress_of (marks (length h) h))) (none_below (length h) h (omega arith))
-    ∙ ap (λ ms. if error_of (rival_of tag h) h then None else by_progress (newest h tag c) (fault_since (length h) h) (progress_of ms))
-    (no_marks (length h) h (omega arith))
+    else by_progress (newest h tag c) (fault_since (count_sent h) h) (progress_of (marks (count_sent h) h))) (none_below (count_sent h) h (omega arith))
+    ∙ ap (λ ms. if error_of (rival_of tag h) h then None else by_progress (newest h tag c) (fault_since (count_sent h) h) (progress_of ms))
+    (no_marks (count_sent h) h (omega arith))
 
 unless_hold : (x : Option (Csy × Sent)) (line : List ℕ) (what : Option (Tag × SentCommand)) (h : List Line) → is_at_once what ≡ false
     → may_hold (unless_part x) (Sends line what ∷ h) ≡ unless_part_holds (may_hold x h)
@@ -378,7 +378,7 @@ unless_hold (Some (PartCsy, s)) line what h e = part (standing_of s h) where
   part (Some s) = refl
 
 below_known : (line : List ℕ) (tag : Tag) (c : SentCommand) (h : List Line) → is_at_once (Some (tag, c)) ≡ false
-    → known_below (Sends line (Some (tag, c)) ∷ h) ≡ below (fresh (length h) (rival_of tag h) (error_of (rival_of tag h) h)) c (known_below h)
+    → known_below (Sends line (Some (tag, c)) ∷ h) ≡ below (fresh (count_sent h) (rival_of tag h) (error_of (rival_of tag h) h)) c (known_below h)
 below_known line tag (sends.Foreign text) h e = refl
 below_known line tag sends.Asking h e =
     four (same_hold (last_tool h) line (Some (tag, sends.Asking)) h e) (same_hold (last_csy h) line (Some (tag, sends.Asking)) h e)
@@ -450,18 +450,18 @@ last_pair tag h (s ∷ xs) found =
       either false = refl
 
 sent_after : (o cr : Bool) (h : List Line) (line : List ℕ) (tag : Tag) (c : SentCommand) (us : List Use) (k : Known) (rs : List Reported) (r : Option ℕ)
-    → sending_after (parted o (length h) us (events_of h) cr k rs) tag c (pair (Sends line (Some (tag, c)) ∷ h) r)
-    ≡ parted o (length h + 1)
+    → sending_after (parted o (count_sent h) us (events_of h) cr k rs) tag c (pair (Sends line (Some (tag, c)) ∷ h) r)
+    ≡ parted o (count_sent h + 1)
     (us ++ record {
       tag = tag;
       command = c;
-      line = length h;
+      line = count_sent h;
       stage = stage.Sent;
       has_failed = false;
       rival = r;
       known = if error_of r h then nothing else k;
     } ∷ [])
-    (with_event tag (events_of h)) (cr || (o && is_some r)) (below (fresh (length h) r (error_of r h)) c k) rs
+    (with_event tag (events_of h)) (cr || (o && is_some r)) (below (fresh (count_sent h) r (error_of r h)) c k) rs
 sent_after o cr h line tag c us k rs None = refl
 sent_after o cr h line tag c us k rs (Some n) = refl
 
@@ -469,19 +469,19 @@ new_use : (line : List ℕ) (tag : Tag) (c : SentCommand) (h : List Line) (k : K
     → known_for (newest h tag c) (Sends line (Some (tag, c)) ∷ h) ≡ k
     → built (newest h tag c) stage.Sent false k ≡ seen (Sends line (Some (tag, c)) ∷ h) (newest h tag c)
 new_use line tag c h k e = sym (three (newest h tag c)
-    (ap (stage_of c) (no_marks (length h) h (omega arith))) (no_error (length h) h (omega arith)) e)
+    (ap (stage_of c) (no_marks (count_sent h) h (omega arith))) (no_error (count_sent h) h (omega arith)) e)
 
 sent_step : (o : Bool) (h : List Line) (line : List ℕ) (tag : Tag) (c : SentCommand) (k : Known) (rs : List Reported)
     → known_for (newest h tag c) (Sends line (Some (tag, c)) ∷ h) ≡ (if error_of (rival_of tag h) h then nothing else k)
-    → below (fresh (length h) (rival_of tag h) (error_of (rival_of tag h) h)) c k ≡ known_below (Sends line (Some (tag, c)) ∷ h)
+    → below (fresh (count_sent h) (rival_of tag h) (error_of (rival_of tag h) h)) c k ≡ known_below (Sends line (Some (tag, c)) ∷ h)
     → rs ≡ all_reported o (Sends line (Some (tag, c)) ∷ h)
-    → sending (parted o (length h) (map (seen (Sends line (Some (tag, c)) ∷ h)) (open_lines h)) (events_of h) (is_crossed o h) k rs) tag c
+    → sending (parted o (count_sent h) (map (seen (Sends line (Some (tag, c)) ∷ h)) (open_lines h)) (events_of h) (is_crossed o h) k rs) tag c
     ≡ witnessed o (Sends line (Some (tag, c)) ∷ h)
 sent_step o h line tag c k rs known_is below_is rs_is =
-    ap (sending_after (parted o (length h) (map (seen (Sends line (Some (tag, c)) ∷ h)) (open_lines h)) (events_of h) (is_crossed o h) k rs) tag c)
+    ap (sending_after (parted o (count_sent h) (map (seen (Sends line (Some (tag, c)) ∷ h)) (open_lines h)) (events_of h) (is_crossed o h) k rs) tag c)
     (last_pair tag (Sends line (Some (tag, c)) ∷ h) (open_lines h) None)
     ∙ sent_after o (is_crossed o h) h line tag c (map (seen (Sends line (Some (tag, c)) ∷ h)) (open_lines h)) k rs (rival_of tag h)
-    ∙ five_parts o (with_event tag (events_of h)) (add-one (length h))
+    ∙ five_parts o (with_event tag (events_of h)) (add-one (count_sent h))
     (ap (λ u. map (seen (Sends line (Some (tag, c)) ∷ h)) (open_lines h) ++ u ∷ [])
     (new_use line tag c h (if error_of (rival_of tag h) h then nothing else k) known_is)
     ∙ sym (map-append (seen (Sends line (Some (tag, c)) ∷ h)) (open_lines h) (newest h tag c ∷ [])))
@@ -490,7 +490,7 @@ sent_step o h line tag c k rs known_is below_is rs_is =
 -- ---- a line of the client
 
 foreign_known : (line : List ℕ) (tag : Tag) (c : SentCommand) (h : List Line) → is_at_once (Some (tag, c)) ≡ true
-    → below (fresh (length h) (rival_of tag h) (error_of (rival_of tag h) h)) c nothing ≡ known_below (Sends line (Some (tag, c)) ∷ h)
+    → below (fresh (count_sent h) (rival_of tag h) (error_of (rival_of tag h) h)) c nothing ≡ known_below (Sends line (Some (tag, c)) ∷ h)
 foreign_known line (Std n) c h e = absurd (false_true e)
 foreign_known line (Event n) (sends.Known c) h e = absurd (false_true e)
 foreign_known line (Event n) sends.Asking h e = absurd (false_true e)
@@ -499,14 +499,14 @@ foreign_known line (Event n) (sends.Foreign text) h e = refl
 tagged_more : (o : Bool) (h : List Line) (line : List ℕ) (tag : Tag) (c : SentCommand) (b : Bool) → is_at_once (Some (tag, c)) ≡ b
     → (if b then sending (at_once (witnessed o h) line) tag c else sending (witnessed o h) tag c) ≡ witnessed o (Sends line (Some (tag, c)) ∷ h)
 tagged_more o h line tag c true e =
-    ap (λ us. sending (parted o (length h) us (events_of h) (is_crossed o h) nothing (all_reported o h ++ reported_at_once line true)) tag c)
+    ap (λ us. sending (parted o (count_sent h) us (events_of h) (is_crossed o h) nothing (all_reported o h ++ reported_at_once line true)) tag c)
     (uses_lost line (Some (tag, c)) h e (open_lines h) (all_under h))
     ∙ sent_step o h line tag c nothing (all_reported o h ++ reported_at_once line true)
     (known_lost (newest h tag c) line (Some (tag, c)) h e (omega arith) ∙ sym (same (error_of (rival_of tag h) h) nothing))
     (foreign_known line tag c h e)
     (ap (λ b. all_reported o h ++ reported_at_once line b) (sym e))
 tagged_more o h line tag c false e =
-    ap (λ us. sending (parted o (length h) us (events_of h) (is_crossed o h) (known_below h) (all_reported o h)) tag c)
+    ap (λ us. sending (parted o (count_sent h) us (events_of h) (is_crossed o h) (known_below h) (all_reported o h)) tag c)
     (uses_same line (Some (tag, c)) h e (open_lines h))
     ∙ sent_step o h line tag c (known_below h) (all_reported o h) (new_known line tag c h e) (sym (below_known line tag c h e))
     (sym (append-nil (all_reported o h)) ∙ ap (λ b. all_reported o h ++ reported_at_once line b) (sym e))
@@ -515,6 +515,6 @@ tagged_more o h line tag c false e =
 pub sends_more : (o : Bool) (h : List Line) (line : List ℕ) (what : Option (Tag × SentCommand))
     → after (witnessed o h) (Sends line what) ≡ witnessed o (Sends line what ∷ h)
 sends_more o h line None =
-    five_parts o (events_of h) (add-one (length h)) (uses_lost line None h refl (open_lines h) (all_under h))
+    five_parts o (events_of h) (add-one (count_sent h)) (uses_lost line None h refl (open_lines h) (all_under h))
     (sym (or-false (is_crossed o h)) ∙ ap (λ b. is_crossed o h || b) (sym (and-false o))) refl refl
 sends_more o h line (Some (tag, c)) = tagged_more o h line tag c (foreign_event tag c) refl

@@ -33,7 +33,7 @@ use Rattle.witness.specs.declared.lines.Step.{Step}
 use Rattle.witness.specs.declared.lines.Step.TheVariants.{Stays, Comes, Fails, Breaks, Counts}
 use Rattle.witness.specs.declared.lines.Use.{Use}
 
--- whether the order between the two ends is known; how many lines there were; those of the client without their end, in order; the event tags
+-- whether the order between the two ends is known; how many lines of the client there were; those of them without their end, in order; the event tags
 -- that were used; whether a line was sent under a tag in use, so that nothing is known any more; what may be known for the next line; and what
 -- was reported
 pub record Dialogue : Type 0 where
@@ -287,8 +287,8 @@ abbrev pub first_under : Tag → List Use → Option ℕ
 first_under tag uses = position (λ u. tag_is u.tag tag) uses
 
 abbrev pub server_answered : Dialogue → List ℕ → Option (Tag × Signal) → Dialogue
-server_answered d line None = one_more (faulting d (reports.Other Server line))
-server_answered d line (Some (tag, signal)) = one_more (heard_under d line tag signal (first_under tag d.uses))
+server_answered d line None = faulting d (reports.Other Server line)
+server_answered d line (Some (tag, signal)) = heard_under d line tag signal (first_under tag d.uses)
 
 -- ---- lines, one after another
 

@@ -10,14 +10,20 @@ use Rattle.witness.specs.declared.lines.SentCommand.{SentCommand}
 use Rattle.witness.specs.declared.lines.Stage.{Stage}
 use Rattle.witness.specs.declared.lines.Stage.TheVariants as stage
 
--- a line of the client with a tag, and the lines that came before it, which give it its place
+-- a line of the client with a tag, and the lines that came before it: its place is the number of those of the client
 pub record Sent : Type 0 where
   pub above : List Line
   pub tag : Tag
   pub command : SentCommand
 
+-- how many lines of the client came
+abbrev pub count_sent : List Line → ℕ
+count_sent [] = 0
+count_sent (Sends line what ∷ older) = suc (count_sent older)
+count_sent (Answers line what ∷ older) = count_sent older
+
 abbrev pub place : Sent → ℕ
-place s = length s.above
+place s = count_sent s.above
 
 -- one more line of the client, if it has a tag
 abbrev pub with_sent : List Line → Option (Tag × SentCommand) → List Sent → List Sent

@@ -4,4 +4,7 @@ pub mod Known
 pub mod Histories
 pub mod Rules
 pub mod Dialogues
+pub mod Watching
+pub mod Texts
+pub mod Relaying
 pub mod Examples

@@ -75,7 +75,7 @@ is_at_once (Some (tag, what)) = foreign_event tag what
 -- one was sent below the line at a place
 abbrev pub at_once_below : ℕ → List Line → Bool
 at_once_below n [] = false
-at_once_below n (Sends line what ∷ older) = (is_at_once what && nat_lt n (length older)) || at_once_below n older
+at_once_below n (Sends line what ∷ older) = (is_at_once what && nat_lt n (count_sent older)) || at_once_below n older
 at_once_below n (Answers line what ∷ older) = at_once_below n older
 
 -- there was a fault after the `&` of the line at a place
@@ -296,7 +296,7 @@ seen h s = record {
 abbrev pub witnessed : Bool → List Line → Dialogue
 witnessed ordered h = record {
   ordered = ordered;
-  lines = length h;
+  lines = count_sent h;
   uses = map (seen h) (open_lines h);
   events = events_of h;
   crossed = is_crossed ordered h;

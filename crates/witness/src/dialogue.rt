@@ -255,12 +255,10 @@ impl Dialogue {
 
     /// A fault of the server is reported. Fails only if out of memory.
     fn fault(&mut self, report: Reported) -> Result<(), AllocError>
-        requires { self.old.lines + 1 < 2 ^ 64 }
-        ensures { Leads result self.old self.new (spec.one_more (spec.faulting self.old report)) }
+        ensures { Leads result self.old self.new (spec.faulting self.old report) }
     {
         self.reported.push(report)?;
         self.lose();
-        self.lines += 1;
         Ok(())
     }
 
@@ -274,12 +272,10 @@ impl Dialogue {
 
     /// A mark under a tag of which no command is open. Fails only if out of memory.
     fn hear_unasked(&mut self, line: &[u8], tag: Tag, mark: MarkSlice<'_>) -> Result<(), AllocError>
-        requires { self.old.lines + 1 < 2 ^ 64 }
         ensures { Leads result self.old self.new
-            (spec.one_more (spec.unasked self.old line.now tag (signal_of (the_mark mark.entry)))) }
+            (spec.unasked self.old line.now tag (signal_of (the_mark mark.entry))) }
     {
         if is_report(self.events.as_slice(), tag, mark) {
-            self.lines += 1;
             return Ok(());
         }
         let line = Text::new(self.alloc, line)?;
@@ -327,10 +323,8 @@ impl Dialogue {
 
     /// All lines after a mark for the one at a place, on this line of the connection. Does not allocate.
     fn settle(&mut self, at: usize, line: u64, heard: &Heard, is_end: bool)
-        requires place { at < length self.old.uses }
-        requires room { self.old.lines + 1 < 2 ^ 64 }
+        requires { at < length self.old.uses }
         ensures { self.new ≡ record self.old {
-          lines = self.old.lines + 1;
           uses = spec.left_over (map (spec.use_heard line heard.now) self.old.uses) at is_end;
           known = all_renewed (Renewal.Mark line heard.now) self.old.known;
         } }
@@ -338,15 +332,13 @@ impl Dialogue {
         mark_all(self.uses.as_mut_slice(), line, heard);
         remove_ended(&mut self.uses, at, is_end);
         renew(&mut self.known, &Renewal::Mark(line, *heard));
-        self.lines += 1;
     }
 
     /// A mark for the line at a place, in its turn. Fails only if out of memory.
     fn hear(&mut self, at: usize, heard: &Heard, is_end: bool) -> Result<(), AllocError>
-        requires place { at < length self.old.uses }
-        requires room { self.old.lines + 1 < 2 ^ 64 }
+        requires { at < length self.old.uses }
         ensures { (u : Use) → slice_get self.old.uses at ≡ Some u
-            → Leads result self.old self.new (spec.one_more (spec.hearing self.old at u heard.now is_end)) }
+            → Leads result self.old self.new (spec.hearing self.old at u heard.now is_end) }
     {
         let line = self.uses[at].line;
         let report = self.report(&self.uses[at], heard)?;
@@ -369,12 +361,11 @@ impl Dialogue {
 
     /// A mark for the line at a place, out of turn. Fails only if out of memory.
     fn hear_early(&mut self, at: usize, heard: &Heard, is_end: bool) -> Result<(), AllocError>
-        requires place { at < length self.old.uses }
-        requires room { self.old.lines + 1 < 2 ^ 64 }
+        requires { at < length self.old.uses }
         ensures { (u : Use) → slice_get self.old.uses at ≡ Some u
-            → Leads result self.old self.new (spec.one_more (spec.hearing
+            → Leads result self.old self.new (spec.hearing
             (spec.faulting self.old (Reported.Broken Rule.NotInTurn u.tag)) at
-            (spec.use_renewed (all_renewed Renewal.Fault) u) heard.now is_end)) }
+            (spec.use_renewed (all_renewed Renewal.Fault) u) heard.now is_end) }
     {
         let (line, tag) = (self.uses[at].line, self.uses[at].tag);
         let report = self.report_early(&self.uses[at], heard)?;
@@ -398,10 +389,9 @@ impl Dialogue {
 
     /// A mark for the line at a place, in its turn or not. Fails only if out of memory.
     fn hear_either(&mut self, at: usize, heard: &Heard, is_end: bool) -> Result<(), AllocError>
-        requires place { at < length self.old.uses }
-        requires room { self.old.lines + 1 < 2 ^ 64 }
+        requires { at < length self.old.uses }
         ensures { (u : Use) → slice_get self.old.uses at ≡ Some u
-            → Leads result self.old self.new (spec.one_more (spec.heard_at self.old at u heard.now is_end)) }
+            → Leads result self.old self.new (spec.heard_at self.old at u heard.now is_end) }
     {
         if self.is_early(at, heard) {
             return self.hear_early(at, heard, is_end);
@@ -411,25 +401,20 @@ impl Dialogue {
 
     /// A mark for the line at a place. Fails only if out of memory.
     fn hear_at(&mut self, at: usize, mark: MarkSlice<'_>) -> Result<(), AllocError>
-        requires place { at < length self.old.uses }
-        requires room { self.old.lines + 1 < 2 ^ 64 }
-        ensures { Leads result self.old self.new (spec.one_more
-            (spec.at_use self.old at (signal_of (the_mark mark.entry)) (slice_get self.old.uses at))) }
+        requires { at < length self.old.uses }
+        ensures { Leads result self.old self.new
+            (spec.at_use self.old at (signal_of (the_mark mark.entry)) (slice_get self.old.uses at)) }
     {
         let heard = heard_as(&self.uses[at].command, mark);
         self.hear_either(at, &heard, is_end(mark))
     }
 
-    /// A line of the server, given without its end. Fails only if out of memory, or after 18,446,744,073,709,551,615 lines; then nothing has
-    /// changed.
+    /// A line of the server, given without its end. Fails only if out of memory, and then nothing has changed.
     #[tactic(auto, using(crate::proofs::Readings::one_response))]
     pub fn server_line(&mut self, line: &[u8]) -> Result<(), AllocError>
         ensures ok { OnOk result (self.new ≡ spec.after self.old (server_line line.now)) }
         ensures err { OnErr result (self.new ≡ self.old) }
     {
-        if self.lines == u64::MAX {
-            return Err(AllocError);
-        }
         let Ok(response) = cut_response(line) else {
             let line = Text::new(self.alloc, line)?;
             return self.fault(Reported::Other(Side::Server, line));

@@ -6,8 +6,10 @@
 //! - `known`: what becomes of the changes of tool and frame that may hold
 //! - `effects`: what a mark reports of its command
 //! - `uses`: what a mark or a fault does to the lines that are open
-//! - `dialogue`: `Dialogue`, the lines of both ends, one at a time
-//! - `laws`: what follows for all lines; `examples`: what is known after lines that are written out
+//! - `dialogue`: `Dialogue`, the lines of both ends, one at a time; `witness`: `Witness`, their bytes
+//! - `writing`: the text of what was reported; `ledger`: that of what two recordings report
+//! - `relay`: `Relay`, which sends on what comes, and has what is reported written first
+//! - `laws`: what follows for all lines, and for the whole course of a relay; `examples`: what is known after lines that are written out
 #![tactic(auto)]
 
 mod asking;
@@ -16,8 +18,17 @@ mod effects;
 pub mod examples;
 mod known;
 pub mod laws;
+mod ledger;
 pub mod lines;
 mod marks;
+mod relay;
 mod uses;
+mod witness;
+mod writing;
 
 pub use dialogue::Dialogue;
+pub use ledger::ledger_text;
+pub use lines::{Known, Reported, Rule, SentCommand, Side, Use};
+pub use relay::Relay;
+pub use witness::Witness;
+pub use writing::{HEADER, add_told};

@@ -53,6 +53,10 @@ pub enum Rule {
     OtherData,
     /// Data or the end of a command, while one that was sent before it has neither failed nor ended.
     NotInTurn,
+    /// Only in texts of earlier versions: no command is open under the tag.
+    UnknownTag,
+    /// Only in texts of earlier versions: which of two commands under the tag ends is not known.
+    TagInUse,
 }
 
 /// What a mark does to a command of this profile.
@@ -84,7 +88,7 @@ pub enum Progress {
 /// A change of tool or frame that may hold.
 #[derive(Clone, Copy, Debug, PartialEq, Eq)]
 pub struct Standing {
-    /// The number of its line on the connection, from 0.
+    /// The number of its line among those of the client, from 0.
     pub line: u64,
     /// The line that was open last under its tag when it was sent.
     pub rival: Option<u64>,
@@ -120,7 +124,7 @@ pub enum Renewal {
 pub struct Use {
     pub tag: Tag,
     pub command: SentCommand,
-    /// The number of its line on the connection.
+    /// The number of its line among those of the client.
     pub line: u64,
     pub stage: Stage,
     /// Whether an error was read for it.
@@ -161,4 +165,8 @@ pub enum Reported {
     Unasked(Text),
     /// A line of the server that breaks a rule, by its tag.
     Broken(Rule, Tag),
+    /// The connection was opened.
+    Opened,
+    /// The connection was left.
+    Left,
 }

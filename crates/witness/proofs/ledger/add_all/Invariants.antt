@@ -1,0 +1,10 @@
+use Rattle.std.proofs.Common.{◌≡◌, ◌++◌, drop, map}
+use Rattle.contact_ledger.specs.Lines.{text_of}
+use Rattle.witness.specs.Texts.{told_line, numbered}
+use Rattle.witness.proofs.ledger.add_all.Given as goal
+
+-- what is written, and the lines that are left
+abbrev pub invariant-loop-one : goal.invariant-loop-one
+invariant-loop-one l =
+    l.text.items ++ text_of (map told_line (map (numbered l.connection) (drop l.one-index l.reported)))
+    ≡ l.fn.text.items ++ text_of (map told_line (map (numbered l.connection) l.reported))

@@ -1,0 +1,154 @@
+// The bytes of both ends of a connection.
+
+ghost use Rattle.std.specs.Prelude.{◌≡◌, ◌<◌, ◌↔◌, IsTrue, [], length, OnOk, OnErr};
+ghost use Rattle.line_framing.specs.Framing.{fed, IsLineDue};
+ghost use Rattle.line_framing.specs.Next.{next_of};
+ghost use Rattle.witness.specs.Watching as spec;
+
+use crate::dialogue::Dialogue;
+use crate::lines::Reported;
+use line_framing::{Lines, LinesFault};
+use std::alloc::{AllocError, Global};
+use std::marker::Model;
+
+/// The bytes of both ends of a connection, cut into lines. Contracts see the bytes of each end that were fed and not read, and what the lines
+/// before them report.
+///
+/// From a byte on that no line can hold, or a line that is too long, nothing more is read of that end.
+#[derive(Drop)]
+pub struct Witness {
+    up: Lines,
+    down: Lines,
+    dialogue: Dialogue,
+}
+
+impl Model for Witness {
+    ghost use Rattle.witness.specs.Watching.{Watching};
+
+    ghost Value = { Watching };
+
+    ghost view = { λ w. record { up = w.up; down = w.down; dialogue = w.dialogue } };
+}
+
+/// Feeds bytes, which after a fault are not kept. Fails only if out of memory, and then nothing has changed.
+fn feed(lines: &mut Lines, bytes: &[u8]) -> Result<(), AllocError>
+    ensures ok { OnOk result (lines.new ≡ fed lines.old bytes.now) }
+    ensures err { OnErr result (lines.new ≡ lines.old) }
+{
+    match lines.feed(bytes) {
+        Ok(()) | Err(LinesFault::Framing(_)) => Ok(()),
+        Err(LinesFault::Memory) => Err(AllocError),
+    }
+}
+
+impl Witness {
+    /// A connection without a byte; `ordered`: the order between the lines of its two ends is known. Does not allocate.
+    pub fn new(alloc: Global, ordered: bool) -> Witness
+        ensures { result ≡ spec.unwatched ordered }
+    {
+        Witness {
+            up: Lines::new(alloc),
+            down: Lines::new(alloc),
+            dialogue: Dialogue::new(alloc, ordered),
+        }
+    }
+
+    /// Bytes come from the client. Fails only if out of memory, and then nothing has changed.
+    pub fn from_client(&mut self, bytes: &[u8]) -> Result<(), AllocError>
+        ensures ok { OnOk result (self.new ≡ record self.old { up = fed self.old.up bytes.now }) }
+        ensures err { OnErr result (self.new ≡ self.old) }
+    {
+        feed(&mut self.up, bytes)
+    }
+
+    /// Bytes come from the server. Fails only if out of memory, and then nothing has changed.
+    pub fn from_server(&mut self, bytes: &[u8]) -> Result<(), AllocError>
+        ensures ok { OnOk result (self.new ≡ record self.old { down = fed self.old.down bytes.now }) }
+        ensures err { OnErr result (self.new ≡ self.old) }
+    {
+        feed(&mut self.down, bytes)
+    }
+
+    /// Whether a whole line of the client waits.
+    pub fn has_client_line(&self) -> bool
+        ensures { IsTrue result ↔ IsLineDue (next_of self.now.up.rest) }
+    {
+        self.up.has_line()
+    }
+
+    /// Whether a whole line of the server waits.
+    pub fn has_server_line(&self) -> bool
+        ensures { IsTrue result ↔ IsLineDue (next_of self.now.down.rest) }
+    {
+        self.down.has_line()
+    }
+
+    /// Reads the first line of the client, if one waits. Fails only if out of memory, and then nothing has changed.
+    pub fn read_client(&mut self) -> Result<(), AllocError>
+        ensures ok { OnOk result (self.new ≡ spec.client_read self.old) }
+        ensures shorter { OnOk result (IsLineDue (next_of self.old.up.rest)
+            → length self.new.up.rest < length self.old.up.rest) }
+        ensures err { OnErr result (self.new ≡ self.old) }
+    {
+        let Ok(Some(length)) = self.up.first_line() else {
+            return Ok(());
+        };
+        let (line, _) = self.up.rest().split_at(length);
+        self.dialogue.client_line(line)?;
+        self.up.drop_line(length);
+        Ok(())
+    }
+
+    /// Reads the first line of the server, if one waits. Fails only if out of memory, and then nothing has changed.
+    pub fn read_server(&mut self) -> Result<(), AllocError>
+        ensures ok { OnOk result (self.new ≡ spec.server_read self.old) }
+        ensures shorter { OnOk result (IsLineDue (next_of self.old.down.rest)
+            → length self.new.down.rest < length self.old.down.rest) }
+        ensures err { OnErr result (self.new ≡ self.old) }
+    {
+        let Ok(Some(length)) = self.down.first_line() else {
+            return Ok(());
+        };
+        let (line, _) = self.down.rest().split_at(length);
+        self.dialogue.server_line(line)?;
+        self.down.drop_line(length);
+        Ok(())
+    }
+
+    /// Reads the lines of the client that wait, and notes a fault behind them, after which no more bytes are kept. Fails only if out of memory, and
+    /// then has read some of them.
+    pub fn read_client_lines(&mut self) -> Result<(), AllocError>
+        ensures reads { spec.ReadsClient self.old self.new }
+        ensures all { OnOk result (IsLineDue (next_of self.new.up.rest) → ⊥) }
+    {
+        while self.has_client_line() {
+            self.read_client()?;
+        }
+        self.read_client()
+    }
+
+    /// Likewise for the server.
+    pub fn read_server_lines(&mut self) -> Result<(), AllocError>
+        ensures reads { spec.ReadsServer self.old self.new }
+        ensures all { OnOk result (IsLineDue (next_of self.new.down.rest) → ⊥) }
+    {
+        while self.has_server_line() {
+            self.read_server()?;
+        }
+        self.read_server()
+    }
+
+    /// What was reported and not taken, in order.
+    pub fn reported(&self) -> &[Reported]
+        ensures { result.now ≡ self.now.dialogue.reported }
+    {
+        self.dialogue.reported()
+    }
+
+    /// Takes all that was reported. Does not allocate.
+    pub fn clear_reported(&mut self)
+        ensures { self.new ≡ record self.old { dialogue = record (self.old.dialogue) { reported = [] } } }
+    {
+        self.dialogue.clear_reported();
+    }
+}
