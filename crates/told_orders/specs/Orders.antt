@@ -6,11 +6,11 @@ use Rattle.dme_line.specs.declared.responses.Response.{Response}
 use Rattle.dme_line.specs.declared.responses.NotResponse.{NotResponse}
 use Rattle.protocol_model.specs.Readings.{command_of, response_of}
 use Rattle.protocol_model.specs.Replies.{tag_is}
-use Rattle.told_ledger.specs.Asking.{asked}
-use Rattle.told_ledger.specs.Talking.{Talking, is_open, client_said, server_said}
-use Rattle.told_ledger.specs.declared.uses.Asked.{Asked}
-use Rattle.told_ledger.specs.declared.uses.Told.{Told}
-use Rattle.told_ledger.specs.declared.uses.Use.{Use}
+use Rattle.witness.specs.Asking.{sent, client_line, server_line}
+use Rattle.witness.specs.Dialogues.{Dialogue, after}
+use Rattle.witness.specs.declared.lines.SentCommand.{SentCommand}
+use Rattle.witness.specs.declared.lines.Reported.{Reported}
+use Rattle.witness.specs.declared.lines.Use.{Use}
 
 -- a line of the client, or of the server
 pub data Line : Type 0 where
@@ -18,14 +18,14 @@ pub data Line : Type 0 where
   Down : List ℕ → Line
 
 -- a line is read
-abbrev pub said : Talking → Line → Talking
-said t (Up line) = client_said t line
-said t (Down line) = server_said t line
+abbrev pub said : Dialogue → Line → Dialogue
+said d (Up line) = after d (client_line line)
+said d (Down line) = after d (server_line line)
 
 -- lines, one after another
-abbrev pub said_all : Talking → List Line → Talking
-said_all t [] = t
-said_all t (line ∷ lines) = said_all (said t line) lines
+abbrev pub said_all : Dialogue → List Line → Dialogue
+said_all d [] = d
+said_all d (line ∷ lines) = said_all (said d line) lines
 
 -- the lines of the client
 abbrev pub ups : List Line → List (List ℕ)
@@ -41,13 +41,17 @@ downs (Down line ∷ lines) = line ∷ downs lines
 
 -- ---- tags
 
+-- whether a command is open under a tag
+abbrev pub is_open : Tag → List Use → Bool
+is_open tag uses = list_any (λ u. tag_is u.tag tag) uses
+
 -- whether what a line of the client asks is under a tag
-abbrev pub is_under : Tag → Option (Tag × Asked) → Bool
+abbrev pub is_under : Tag → Option (Tag × SentCommand) → Bool
 is_under tag None = false
 is_under tag (Some (used, what)) = tag_is used tag
 
 abbrev pub sends : Tag → List ℕ → Bool
-sends tag line = is_under tag (asked line (command_of line))
+sends tag line = is_under tag (sent line (command_of line))
 
 -- whether one of these lines of the client sends a command under a tag
 abbrev pub some_sends : Tag → List (List ℕ) → Bool
@@ -114,6 +118,6 @@ AreAnswers t (line ∷ lines) = IsAnswer t.uses (response_of line) × AreAnswers
 -- ---- what is reported
 
 -- one list of what was reported is a prefix of another
-pub record IsPrefix (first all : List Told) : Type 0 where
-  pub rest : List Told
+pub record IsPrefix (first all : List Reported) : Type 0 where
+  pub rest : List Reported
   pub parts : all ≡ first ++ rest
