@@ -1,14 +1,12 @@
 -- What follows for the whole course of a relay.
-use Rattle.std.proofs.Common.{◌≡◌, ℕ, zero, suc, Bool, true, false, List, [], ◌∷◌, ◌++◌, take, drop, map, Option, Some, None, Result, Ok, Err}
+use Rattle.std.proofs.Common.{◌≡◌, ℕ, zero, suc, Bool, true, List, [], ◌++◌, take, drop, map, Result, Ok, Err}
 use Rattle.std.proofs.Common.{OnOk, OnErr, refl, ap, sym, ◌∙◌, subst, append_assoc, append-nil}
 use Rattle.std.proofs.lemmas.List.{take-append-drop}
 use Rattle.std.proofs.lemmas.List.{map-append}
-use Rattle.std.specs.Prelude.{slice_get}
 use Rattle.contact_ledger.specs.Lines.{text_of}
 use Rattle.contact_ledger.proofs.WrittenTexts.{text_more}
-use Rattle.dme_line.specs.declared.tags.Tag.{Tag}
 use Rattle.line_framing.specs.Framing.{Framing, IsLineDue}
-use Rattle.line_framing.specs.Next.{Front, next_of}
+use Rattle.line_framing.specs.Next.{next_of}
 use Rattle.witness.proofs.Prefixes.{prefixed, client_after, server_after}
 use Rattle.witness.specs.Dialogues.{Dialogue}
 use Rattle.witness.specs.Relaying.{Relaying, Move, FromClient, FromServer, Read, MakeDue, Write, ToServer, ToClient, Did}
