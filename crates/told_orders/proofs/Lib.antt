@@ -1,10 +1,7 @@
+pub mod Knowing
+pub mod Claiming
 pub mod Marks
-pub mod Swaps
-pub mod Doubts
+pub mod Lesser
 pub mod Counts
-pub mod Orders
-pub mod More
-pub mod Views
-pub mod Courses
-pub mod Arrivals
-mod Readings
+pub mod Swaps
+pub mod Sends

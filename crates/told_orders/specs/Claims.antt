@@ -1,5 +1,5 @@
--- What is reported, and which of two lists of reports claims more (this profile).
-use Rattle.std.specs.Prelude.{◌≡◌, ℕ, Bool, false, not, List, [], ◌∷◌, ◌++◌, filter, Option, Some, None}
+-- Which of two lists of reports claims more (this profile).
+use Rattle.std.specs.Prelude.{ℕ, Bool, false, not, List, [], ◌∷◌, ◌++◌, filter, Option, Some, None}
 use Rattle.fixed_um.specs.Shapes.{Direction}
 use Rattle.fixed_um.specs.declared.frames.Frame.{Frame}
 use Rattle.fixed_um.specs.declared.lengths.Point.{Point}
@@ -9,11 +9,6 @@ use Rattle.witness.specs.declared.lines.Reported.{Reported}
 use Rattle.witness.specs.declared.lines.Reported.TheVariants as reports
 use Rattle.witness.specs.declared.lines.Side.TheVariants.{Client}
 use Rattle.told_orders.specs.Orders.{at_once_line}
-
--- one list of what was reported is a prefix of another
-pub record IsPrefix (first all : List Reported) : Type 0 where
-  pub rest : List Reported
-  pub parts : all ≡ first ++ rest
 
 -- ---- lines that may be carried out at once
 

@@ -1,4 +1,3 @@
 pub mod Orders
 pub mod Claims
 pub mod Courses
-pub mod Examples

@@ -11,6 +11,7 @@ use Rattle.witness.specs.Asking.{sent, client_line, server_line, Signal, Error, 
 use Rattle.witness.specs.Dialogues.{Dialogue, after, foreign_event}
 use Rattle.witness.specs.Marks.{is_end}
 use Rattle.witness.specs.Rules.{is_at_once}
+use Rattle.witness.specs.declared.lines.Reported.{Reported}
 use Rattle.witness.specs.declared.lines.SentCommand.{SentCommand}
 use Rattle.witness.specs.declared.lines.Use.{Use}
 
@@ -156,3 +157,10 @@ IsAnswer uses (Err why) = Unit {0}
 abbrev pub AreAnswers : Dialogue → List (List ℕ) → Type 0
 AreAnswers d [] = Unit {0}
 AreAnswers d (line ∷ lines) = IsAnswer d.uses (response_of line) × AreAnswers (said d (Down line)) lines
+
+-- ---- what is reported
+
+-- one list of what was reported is a prefix of another
+pub record IsPrefix (first all : List Reported) : Type 0 where
+  pub rest : List Reported
+  pub parts : all ≡ first ++ rest

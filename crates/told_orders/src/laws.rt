@@ -11,9 +11,9 @@ ghost use Rattle.witness.specs.Relaying.{Relaying, Course, Relays, IsAllTold};
 ghost use Rattle.witness.specs.Texts.{told_lines};
 ghost use Rattle.witness.specs.Watching.{Watching, AreAllRead, client_lines, server_lines, ledger};
 ghost use Rattle.witness.specs.declared.lines.SentCommand.{SentCommand};
-ghost use Rattle.told_orders.specs.Claims.{IsPrefix, reported_first, in_turn, ClaimNoMore};
+ghost use Rattle.told_orders.specs.Claims.{reported_first, in_turn, ClaimNoMore};
 ghost use Rattle.told_orders.specs.Courses.{lines_of, lines_came, AreLinesOf};
-ghost use Rattle.told_orders.specs.Orders.{Line, Up, Down, said, said_all, ups, downs, two_send, answers, some_at_once, refuses, IsBehind, IsCausal, IsClear, IsCounted, IsFresh, AreFresh, AreAnswers};
+ghost use Rattle.told_orders.specs.Orders.{Line, Up, Down, said, said_all, ups, downs, two_send, answers, some_at_once, refuses, is_open, IsBehind, IsCausal, IsClear, IsCounted, IsFresh, AreFresh, AreAnswers, IsPrefix};
 
 use witness::laws::what_is_written_was_reported;
 
