@@ -105,7 +105,7 @@ map_less : (Live : ℕ → Type 0) (f g : Use → Use) → ((u v : Use) → Less
 map_less Live f g step _ _ none = none
 map_less Live f g step _ _ (one u v us vs l ls) = one (f u) (g v) (map f us) (map g vs) (step u v l) (map_less Live f g step us vs ls)
 
-append_less : (Live : ℕ → Type 0) (us vs xs ys : List Use) → LessUses Live us vs → LessUses Live xs ys → LessUses Live (us ++ xs) (vs ++ ys)
+pub append_less : (Live : ℕ → Type 0) (us vs xs ys : List Use) → LessUses Live us vs → LessUses Live xs ys → LessUses Live (us ++ xs) (vs ++ ys)
 append_less Live _ _ xs ys none more = more
 append_less Live _ _ xs ys (one u v us vs l ls) more = one u v (us ++ xs) (vs ++ ys) l (append_less Live us vs xs ys ls more)
 

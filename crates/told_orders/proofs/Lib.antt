@@ -5,3 +5,7 @@ pub mod Lesser
 pub mod Counts
 pub mod Swaps
 pub mod Sends
+pub mod Sinking
+pub mod Sorting
+pub mod More
+pub mod Commands

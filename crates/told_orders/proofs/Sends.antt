@@ -29,7 +29,7 @@ use Rattle.told_orders.proofs.Swaps.{removed_map, last_hearing}
 
 -- ---- which command was sent last under a tag, after a mark that may come out of turn
 
-open_fault : (tag : Tag) (uses : List Use) → is_open tag (map (use_renewed (all_renewed Fault)) uses) ≡ is_open tag uses
+pub open_fault : (tag : Tag) (uses : List Use) → is_open tag (map (use_renewed (all_renewed Fault)) uses) ≡ is_open tag uses
 open_fault tag [] = refl
 open_fault tag (u ∷ uses) = ap (λ (b : Bool). tag_is u.tag tag || b) (open_fault tag uses)
 
@@ -89,7 +89,8 @@ without_early d before u after h false parts c e x = absurd (false≢true e)
 -- the end of the command that was sent first under a tag, which has failed or not
 abbrev pub IsEndOf : List Use → Tag → Option (Tag × Signal) → Bool → Type 0
 IsEndOf uses tag None failed = ⊥
-IsEndOf uses tag (Some (t, signal)) failed = (tag_is tag t ≡ true) × (is_end signal ≡ true) × (has_failed_under t uses ≡ failed)
+IsEndOf uses tag (Some (t, signal)) failed =
+    (tag_is tag t ≡ true) × (is_end signal ≡ true) × (has_failed_under t uses ≡ failed) × (is_open t uses ≡ true)
 
 -- the command that was sent last is the same with the line read after and before, or it ended; e: after the line
 pub data Agrees (d : Dialogue) (tag : Tag) (r : Option (Tag × Signal)) (e : Dialogue) : Option (ℕ × Bool) → Option (ℕ × Bool) → Type 0 where
@@ -122,16 +123,16 @@ failed_first tag (x ∷ before) u after none is =
     ap (λ (b : Bool). if b then x.has_failed else has_failed_under tag (before ++ u ∷ after)) no.0 ∙ failed_first tag before u after no.1 is
 
 of_last : (d e : Dialogue) (tag t : Tag) (signal : Signal) (u : Use) (x y : Option (ℕ × Bool)) → tag_is u.tag t ≡ true
-    → has_failed_under t d.uses ≡ u.has_failed → u.line < e.lines → (is_end signal ≡ true → Without u.line e.uses) → IsLast tag u (is_end signal) x y
+    → is_open t d.uses ≡ true → has_failed_under t d.uses ≡ u.has_failed → u.line < e.lines → (is_end signal ≡ true → Without u.line e.uses) → IsLast tag u (is_end signal) x y
     → Agrees d tag (Some (t, signal)) e x y
-of_last d e tag t signal u _ _ is failed below gone (stays b) = alike b
-of_last d e tag t signal u _ _ is failed below gone (ends under end) =
-    ended u.line u.has_failed (subst (λ (x : Tag). tag_is x t ≡ true) (one_tag u.tag tag under) is, (end, failed)) below (gone end)
+of_last d e tag t signal u _ _ is there failed below gone (stays b) = alike b
+of_last d e tag t signal u _ _ is there failed below gone (ends under end) =
+    ended u.line u.has_failed (subst (λ (x : Tag). tag_is x t ≡ true) (one_tag u.tag tag under) is, end, failed, there) below (gone end)
 
 send_first : (d : Dialogue) (tag : Tag) (what : SentCommand) (line : List ℕ) (t : Tag) (signal : Signal) → IsCounted d
     → (d.ordered && is_some (line_of (last_under tag d.uses None))) ≡ false
-    → Found (λ (u : Use). tag_is u.tag t) d.uses → AfterSend d tag what line (Some (t, signal))
-send_first d tag what line t signal c free f =
+    → is_open t d.uses ≡ true → Found (λ (u : Use). tag_is u.tag t) d.uses → AfterSend d tag what line (Some (t, signal))
+send_first d tag what line t signal c free there f =
     let u : Use = f.one in
     let h : Heard = heard_as u.command signal in
     let b : Option (ℕ × Bool) = last_under tag d.uses None in
@@ -148,7 +149,7 @@ send_first d tag what line t signal c free f =
           (subst (λ (l : List Use). InList l (length f.before)) (sym f.parts) (in_there f.before u f.after))
           (ne_eqb d.lines u.line (λ e. omega (arith, e, is_below))) free
           ∙ ap (λ (e : Dialogue). sending_after e tag what (heard_last u.line h b)) (sym left);
-      agrees = of_last d (server_answered d line (Some (t, signal))) tag t signal u (heard_last u.line h b) _ f.passes
+      agrees = of_last d (server_answered d line (Some (t, signal))) tag t signal u (heard_last u.line h b) _ f.passes there
           (ap (has_failed_under t) f.parts ∙ failed_first t f.before u f.after f.passed f.passes)
           (subst (λ (n : ℕ). u.line < n) (sym (lines_answered d line (Some (t, signal)))) is_below)
           (λ end. subst (λ (e : Dialogue). Without u.line e.uses) (sym left)
@@ -175,7 +176,7 @@ if_new : (n m : ℕ) (events : List ℕ) → (m == n) ≡ false → (b : Bool)
 if_new n m events other true = refl
 if_new n m events other false = any_append n m events other
 
-report_same : (tag t : Tag) (signal : Signal) (events : List ℕ) → tag_is tag t ≡ false
+pub report_same : (tag t : Tag) (signal : Signal) (events : List ℕ) → tag_is tag t ≡ false
     → is_report t signal (with_event tag events) ≡ is_report t signal events
 report_same tag (Std n) signal events other = refl
 report_same tag (Event n) Ack events other = refl
@@ -225,5 +226,5 @@ after_send d tag what line None c free early = record {
 }
 after_send d tag what line (Some (t, signal)) c free early = go (is_open t d.uses) refl where
   go : (b : Bool) → is_open t d.uses ≡ b → AfterSend d tag what line (Some (t, signal))
-  go true is = send_first d tag what line t signal c free (find_first (λ (u : Use). tag_is u.tag t) d.uses is)
+  go true is = send_first d tag what line t signal c free is (find_first (λ (u : Use). tag_is u.tag t) d.uses is)
   go false is = send_none d tag what line t signal is (early is)

@@ -149,7 +149,7 @@ pub in_there : (before : List Use) (u : Use) (after : List Use) → InList (befo
 in_there [] u after = tt
 in_there (x ∷ before) u after = in_there before u after
 
-in_map : (f : Use → Use) (uses : List Use) (at : ℕ) → InList uses at → InList (map f uses) at
+pub in_map : (f : Use → Use) (uses : List Use) (at : ℕ) → InList uses at → InList (map f uses) at
 in_map f [] at e = e
 in_map f (u ∷ uses) zero e = tt
 in_map f (u ∷ uses) (suc at) e = in_map f uses at e
@@ -193,7 +193,7 @@ send_fault d tag what b x =
     ∙ ap (λ (s : Option Standing). below s what (all_renewed Fault d.known)) (fresh_fault d.lines (line_of b) (is_lost b)))
     refl
 
-or_no : (x y : Bool) → y ≡ false → (x || y) ≡ x
+pub or_no : (x y : Bool) → y ≡ false → (x || y) ≡ x
 or_no true y e = refl
 or_no false y e = e
 
@@ -257,7 +257,7 @@ pub removed_map : (f : Use → Use) (before : List Use) (u : Use) (after : List 
 removed_map f [] u after = refl
 removed_map f (x ∷ before) u after = ap (λ (l : List Use). f x ∷ l) (removed_map f before u after)
 
-and_no : (x y : Bool) → y ≡ false → (x && y) ≡ false
+pub and_no : (x y : Bool) → y ≡ false → (x && y) ≡ false
 and_no true y e = e
 and_no false y e = refl
 
