@@ -19,40 +19,56 @@ use Rattle.witness.specs.declared.lines.Side.TheVariants.{Server}
 use Rattle.witness.specs.declared.lines.Use.{Use}
 use Rattle.told_orders.specs.Orders.{Line, Up, Down, said, said_all, AreCounted, IsCounted, IsPrefix}
 
--- ---- what faults and marks keep, a line of the server keeps
+-- ---- what faults and marks keep, a line of the server keeps; Q: the marks that are heard
 
 abbrev pub KeptByFaults : (Dialogue → Type 0) → Type 0
 KeptByFaults P = (d : Dialogue) (x : Reported) → P d → P (faulting d x)
 
-abbrev pub KeptByMarks : (Dialogue → Type 0) → Type 0
-KeptByMarks P = (d : Dialogue) (at : ℕ) (u : Use) (h : Heard) (ended : Bool) → P d → P (hearing d at u h ended)
+abbrev pub KeptByMarks : (Dialogue → Type 0) → (Heard → Type 0) → Type 0
+KeptByMarks P Q = (d : Dialogue) (at : ℕ) (u : Use) (h : Heard) (ended : Bool) → Q h → P d → P (hearing d at u h ended)
 
-if_early : (P : Dialogue → Type 0) → KeptByFaults P → KeptByMarks P → (d : Dialogue) (at : ℕ) (u : Use) (h : Heard) (ended : Bool) → P d → (b : Bool)
+abbrev pub AreHeard : (Heard → Type 0) → Option (Tag × Signal) → Type 0
+AreHeard Q None = Unit {0}
+AreHeard Q (Some (tag, signal)) = (command : SentCommand) → Q (heard_as command signal)
+
+if_early : (P : Dialogue → Type 0) (Q : Heard → Type 0) → KeptByFaults P → KeptByMarks P Q → (d : Dialogue) (at : ℕ) (u : Use) (h : Heard) (ended : Bool)
+    → Q h → P d → (b : Bool)
     → P (if b then hearing (faulting d (reports.Broken NotInTurn u.tag)) at (use_renewed (all_renewed Fault) u) h ended else hearing d at u h ended)
-if_early P faults marks d at u h ended p true =
-    marks (faulting d (reports.Broken NotInTurn u.tag)) at (use_renewed (all_renewed Fault) u) h ended (faults d (reports.Broken NotInTurn u.tag) p)
-if_early P faults marks d at u h ended p false = marks d at u h ended p
+if_early P Q faults marks d at u h ended q p true =
+    marks (faulting d (reports.Broken NotInTurn u.tag)) at (use_renewed (all_renewed Fault) u) h ended q (faults d (reports.Broken NotInTurn u.tag) p)
+if_early P Q faults marks d at u h ended q p false = marks d at u h ended q p
 
-use_keeps : (P : Dialogue → Type 0) → KeptByFaults P → KeptByMarks P → (d : Dialogue) (at : ℕ) (signal : Signal) → P d → (u : Option Use)
-    → P (at_use d at signal u)
-use_keeps P faults marks d at signal p None = p
-use_keeps P faults marks d at signal p (Some u) =
-    if_early P faults marks d at u (heard_as u.command signal) (is_end signal) p (is_out_of_turn d.uses at u (heard_as u.command signal))
+use_keeps : (P : Dialogue → Type 0) (Q : Heard → Type 0) → KeptByFaults P → KeptByMarks P Q → (d : Dialogue) (at : ℕ) (signal : Signal)
+    → ((command : SentCommand) → Q (heard_as command signal)) → P d → (u : Option Use) → P (at_use d at signal u)
+use_keeps P Q faults marks d at signal q p None = p
+use_keeps P Q faults marks d at signal q p (Some u) =
+    if_early P Q faults marks d at u (heard_as u.command signal) (is_end signal) (q u.command) p
+    (is_out_of_turn d.uses at u (heard_as u.command signal))
 
 if_report : (P : Dialogue → Type 0) → KeptByFaults P → (d : Dialogue) (line : List ℕ) → P d → (b : Bool)
     → P (if b then d else faulting d (reports.Unasked line))
 if_report P faults d line p true = p
 if_report P faults d line p false = faults d (reports.Unasked line) p
 
-under_keeps : (P : Dialogue → Type 0) → KeptByFaults P → KeptByMarks P → (d : Dialogue) (line : List ℕ) (tag : Tag) (signal : Signal) → P d
-    → (at : Option ℕ) → P (heard_under d line tag signal at)
-under_keeps P faults marks d line tag signal p None = if_report P faults d line p (is_report tag signal d.events)
-under_keeps P faults marks d line tag signal p (Some at) = use_keeps P faults marks d at signal p (slice_get d.uses at)
+under_keeps : (P : Dialogue → Type 0) (Q : Heard → Type 0) → KeptByFaults P → KeptByMarks P Q → (d : Dialogue) (line : List ℕ) (tag : Tag)
+    (signal : Signal) → ((command : SentCommand) → Q (heard_as command signal)) → P d → (at : Option ℕ) → P (heard_under d line tag signal at)
+under_keeps P Q faults marks d line tag signal q p None = if_report P faults d line p (is_report tag signal d.events)
+under_keeps P Q faults marks d line tag signal q p (Some at) = use_keeps P Q faults marks d at signal q p (slice_get d.uses at)
 
-pub answered_keeps : (P : Dialogue → Type 0) → KeptByFaults P → KeptByMarks P → (d : Dialogue) (line : List ℕ) (what : Option (Tag × Signal)) → P d
-    → P (server_answered d line what)
-answered_keeps P faults marks d line None p = faults d (reports.Other Server line) p
-answered_keeps P faults marks d line (Some (tag, signal)) p = under_keeps P faults marks d line tag signal p (first_under tag d.uses)
+pub heard_keeps : (P : Dialogue → Type 0) (Q : Heard → Type 0) → KeptByFaults P → KeptByMarks P Q → (d : Dialogue) (line : List ℕ)
+    (what : Option (Tag × Signal)) → AreHeard Q what → P d → P (server_answered d line what)
+heard_keeps P Q faults marks d line None q p = faults d (reports.Other Server line) p
+heard_keeps P Q faults marks d line (Some (tag, signal)) q p = under_keeps P Q faults marks d line tag signal q p (first_under tag d.uses)
+
+any_heard : (what : Option (Tag × Signal)) → AreHeard (λ h. Unit {0}) what
+any_heard None = tt
+any_heard (Some (tag, signal)) = λ command. tt
+
+pub answered_keeps : (P : Dialogue → Type 0) → KeptByFaults P
+    → ((d : Dialogue) (at : ℕ) (u : Use) (h : Heard) (ended : Bool) → P d → P (hearing d at u h ended)) → (d : Dialogue) (line : List ℕ)
+    (what : Option (Tag × Signal)) → P d → P (server_answered d line what)
+answered_keeps P faults marks d line what p =
+    heard_keeps P (λ h. Unit {0}) faults (λ e at u h ended q p. marks e at u h ended p) d line what (any_heard what) p
 
 -- ---- numbers of lines, and what is known of the order
 

@@ -9,3 +9,8 @@ pub mod Sinking
 pub mod Sorting
 pub mod More
 pub mod Commands
+pub mod Views
+pub mod Claimed
+pub mod Clearing
+pub mod Courses
+pub mod Arrivals

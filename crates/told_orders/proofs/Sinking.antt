@@ -260,7 +260,7 @@ under_one_more : (d : Dialogue) (line : List ℕ) (tag : Tag) (signal : Signal) 
 under_one_more d line tag signal None = if_one_more d (faulting d (reports.Unasked line)) (is_report tag signal d.events)
 under_one_more d line tag signal (Some at) = use_one_more d at signal (slice_get d.uses at)
 
-one_more_answered : (d : Dialogue) (line : List ℕ) (r : Option (Tag × Signal))
+pub one_more_answered : (d : Dialogue) (line : List ℕ) (r : Option (Tag × Signal))
     → server_answered (one_more d) line r ≡ one_more (server_answered d line r)
 one_more_answered d line None = refl
 one_more_answered d line (Some (tag, signal)) = under_one_more d line tag signal (first_under tag d.uses)
@@ -271,7 +271,7 @@ open_unknowing : (tag : Tag) (uses : List Use) → is_open tag (map unknowing us
 open_unknowing tag [] = refl
 open_unknowing tag (u ∷ uses) = ap (λ (b : Bool). tag_is u.tag tag || b) (open_unknowing tag uses)
 
-early_unknowing : (uses : List Use) (tag : Tag) (r : Option (Tag × Signal)) → NotEarly uses tag r → NotEarly (map unknowing uses) tag r
+pub early_unknowing : (uses : List Use) (tag : Tag) (r : Option (Tag × Signal)) → NotEarly uses tag r → NotEarly (map unknowing uses) tag r
 early_unknowing uses tag None early = tt
 early_unknowing uses tag (Some (t, signal)) early = λ e. early (sym (open_unknowing t uses) ∙ e)
 

@@ -70,7 +70,7 @@ pub said_ordered : (d : Dialogue) (line : Line) → (said d line).ordered ≡ d.
 said_ordered d (Up line) = client_ordered d line (sent line (command_of line))
 said_ordered d (Down line) = ordered_answered d line (answered (response_of line))
 
-open_unknowing : (tag : Tag) (uses : List Use) → is_open tag (map unknowing uses) ≡ is_open tag uses
+pub open_unknowing : (tag : Tag) (uses : List Use) → is_open tag (map unknowing uses) ≡ is_open tag uses
 open_unknowing tag [] = refl
 open_unknowing tag (u ∷ uses) = ap (λ (b : Bool). tag_is u.tag tag || b) (open_unknowing tag uses)
 

@@ -114,12 +114,12 @@ IsClear d (Down line ∷ lines) =
     (some_at_once (ups lines) ≡ false) × IsSure d.uses (ups lines) (response_of line) × IsClear (said d (Down line)) lines
 
 -- whether a line of the server is an error
-abbrev pub is_error : Signal → Bool
-is_error Error = true
-is_error _ = false
+abbrev pub is_error_signal : Signal → Bool
+is_error_signal Error = true
+is_error_signal _ = false
 
 abbrev pub is_refusal : Result Response NotResponse → Bool
-is_refusal (Ok r) = is_error (signal_of r.mark)
+is_refusal (Ok r) = is_error_signal (signal_of r.mark)
 is_refusal (Err why) = false
 
 abbrev pub refuses : List ℕ → Bool
