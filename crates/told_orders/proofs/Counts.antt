@@ -193,6 +193,9 @@ all_counted d (line ∷ lines) c = all_counted (said d line) lines (said_counted
 pub silence_counted : (ordered : Bool) → IsCounted (silence ordered)
 silence_counted ordered = omega arith
 
+pub counted_after : (ordered : Bool) (lines : List Line) → IsCounted (said_all (silence ordered) lines)
+counted_after ordered lines = all_counted (silence ordered) lines (silence_counted ordered)
+
 -- ---- one of them is before the next line, and no other is on its line
 
 abbrev pub Without : ℕ → List Use → Type 0

@@ -1,5 +1,5 @@
 -- What a relay reads is the lines of both ends, and what it writes is what two recordings report.
-use Rattle.std.proofs.Common.{◌≡◌, ℕ, zero, suc, List, [], ◌∷◌, ◌++◌, Some, None, Ok, Err, IfOk, IsNone}
+use Rattle.std.proofs.Common.{◌≡◌, ℕ, zero, suc, true, false, List, [], ◌∷◌, ◌++◌, Some, None, Ok, Err, IfOk, IsNone}
 use Rattle.std.proofs.Common.{refl, ap, sym, ◌∙◌, subst, append_assoc, append-nil}
 use Rattle.line_framing.specs.Calls.{Call, Feed, Ask, after_calls, line_in, handed_out, bytes_fed, NoLineLeft}
 use Rattle.line_framing.specs.Framing.{Framing, IsLineDue, no_bytes, fed, after_next}

@@ -145,10 +145,10 @@ pub fn relays_read_all_lines()
 
 /// If a line of the client is read before one of the server that came just before it, a causal order stays so, and so does one that is clear too.
 pub fn earlier_commands_keep_an_order()
-    ensures causal { (d : Dialogue) (before after : List Line) (up down : List ℕ)
+    ensures causal { (d : Dialogue) (before after : List Line) (up down : List ℕ) → IsCounted d
         → IsCausal d (before ++ Down down ∷ Up up ∷ after)
         → IsCausal d (before ++ Up up ∷ Down down ∷ after) }
-    ensures clear { (d : Dialogue) (before after : List Line) (up down : List ℕ)
+    ensures clear { (d : Dialogue) (before after : List Line) (up down : List ℕ) → IsCounted d
         → IsCausal d (before ++ Down down ∷ Up up ∷ after)
         → IsClear d (before ++ Down down ∷ Up up ∷ after)
         → IsClear d (before ++ Up up ∷ Down down ∷ after) }
