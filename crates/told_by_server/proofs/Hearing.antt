@@ -368,10 +368,11 @@ stops_at P s new acts tag c after d at p so tells =
     record {
       view = all_renewed r (next u at.view);
       so = so p.n at.view at.so;
-      within = subst (λ us. AreWithin (all_renewed r (next u at.view)) us (all_renewed r d.known)) (sym only)
-          (λ waiting. absurd (false≢true (sym waiting)),
-          steps_within r (next u at.view) p.a (renews r p.a) d.known
-          (others_step p.n heard.Failed p.a (lines_after 0 p.b u p.a d.lines rising)) here.1);
+      within = subst (λ us. AreWithin (all_renewed r (next u at.view)) us (all_renewed r d.known)) (sym only) (
+        λ waiting. absurd (false≢true (sym waiting)),
+        steps_within r (next u at.view) p.a (renews r p.a) d.known
+            (others_step p.n heard.Failed p.a (lines_after 0 p.b u p.a d.lines rising)) here.1,
+      );
       shaped = subst (AreShaped (marked x heard.Failed ∷ after)) (sym only)
           (refl, shaped_renewed (all_renewed r) after p.a p.back);
       rising = subst (λ us. AreRising 0 us d.lines) (sym is) (rising_marked r 0 p.b u v p.a d.lines refl rising);
@@ -411,4 +412,3 @@ done_at P s new acts done tag c at_stage after d at p so tells =
       counted = at.counted.1;
       tells = tells;
     }
-
