@@ -6,14 +6,18 @@ use Rattle.dme_line.specs.declared.tags.Tag.{Tag}
 use Rattle.protocol_model.specs.Lines.{reply_text, reply_texts}
 use Rattle.protocol_model.specs.Readings.{response_of}
 use Rattle.protocol_model.specs.Replies.{Reply, tag_is}
-use Rattle.protocol_model.specs.declared.held.Stage.{Stage}
 use Rattle.protocol_model.proofs.table.Basics.{tag_is-refl}
 use Rattle.protocol_model.proofs.written_lines.Writable.{IsWritableReply, response_for, reply_read}
-use Rattle.told_ledger.specs.Talking.{Talking, is_open, server_said}
-use Rattle.told_ledger.specs.Watching.{server_lines}
-use Rattle.told_ledger.specs.declared.uses.Asked.{Asked}
-use Rattle.told_ledger.specs.declared.uses.Use.{Use}
-use Rattle.told_by_server.proofs.Places.{opened}
+use Rattle.witness.specs.Asking.{server_line}
+use Rattle.witness.specs.Dialogues.{Dialogue, after}
+use Rattle.witness.specs.Watching.{server_lines}
+use Rattle.witness.specs.declared.lines.Use.{Use}
+use Rattle.told_by_server.proofs.Places.{Shape, AreShaped}
+use Rattle.std.specs.List.{list_any}
+
+-- whether a command is open under a tag
+abbrev pub is_open : Tag → List Use → Bool
+is_open tag uses = list_any (λ u. tag_is u.tag tag) uses
 
 -- a line is a response under a tag under which a command is open
 abbrev pub IsHeard : List Use → Result Response NotResponse → Type 0
@@ -21,9 +25,9 @@ IsHeard uses (Ok r) = is_open r.tag uses ≡ true
 IsHeard uses (Err why) = ⊥
 
 -- so is each of these lines, one after another
-abbrev pub AreHeard : Talking → List (List ℕ) → Type 0
-AreHeard t [] = Unit {0}
-AreHeard t (line ∷ lines) = IsHeard t.uses (response_of line) × AreHeard (server_said t line) lines
+abbrev pub AreHeard : Dialogue → List (List ℕ) → Type 0
+AreHeard d [] = Unit {0}
+AreHeard d (line ∷ lines) = IsHeard d.uses (response_of line) × AreHeard (after d (server_line line)) lines
 
 or_first : (a b : Bool) → a ≡ true → (a || b) ≡ true
 or_first a b e = ap (λ (c : Bool). c || b) e
@@ -33,21 +37,24 @@ or_second true b e = refl
 or_second false b e = e
 
 -- a command among others is open under its tag
-open_there : (tag : Tag) (before : List Use) (asked : Asked) (stage : Stage) (after : List Use)
-    → is_open tag (before ++ opened tag asked stage ∷ after) ≡ true
-open_there tag [] asked stage after = or_first (tag_is tag tag) (is_open tag after) (tag_is-refl tag)
-open_there tag (u ∷ us) asked stage after =
-    or_second (tag_is u.tag tag) (is_open tag (us ++ opened tag asked stage ∷ after)) (open_there tag us asked stage after)
+open_there : (tag : Tag) (before : List Shape) (x : Shape) (after_it : List Shape) (us : List Use) → x.tag ≡ tag
+    → AreShaped (before ++ x ∷ after_it) us → is_open tag us ≡ true
+open_there tag [] x after_it [] is h = absurd h
+open_there tag [] x after_it (u ∷ us) is h =
+    or_first (tag_is u.tag tag) (is_open tag us)
+    (ap (λ (v : Use). tag_is v.tag tag) h.0 ∙ (ap (λ (t : Tag). tag_is t tag) is ∙ tag_is-refl tag))
+open_there tag (y ∷ before) x after_it [] is h = absurd h
+open_there tag (y ∷ before) x after_it (u ∷ us) is h =
+    or_second (tag_is u.tag tag) (is_open tag us) (open_there tag before x after_it us is h.1)
 
 -- a written line is for such a command
-pub heard_there : (t : Talking) (r : Reply) (before : List Use) (asked : Asked) (stage : Stage) (after : List Use) → IsWritableReply r
-    → t.uses ≡ before ++ opened (response_for r).tag asked stage ∷ after → IsHeard t.uses (response_of (reply_text r))
-heard_there t r before asked stage after w are =
-    subst (IsHeard t.uses) (sym (reply_read r w))
-    (ap (is_open (response_for r).tag) are ∙ open_there (response_for r).tag before asked stage after)
+pub heard_there : (d : Dialogue) (r : Reply) (before : List Shape) (x : Shape) (after_it : List Shape) → IsWritableReply r
+    → x.tag ≡ (response_for r).tag → AreShaped (before ++ x ∷ after_it) d.uses → IsHeard d.uses (response_of (reply_text r))
+heard_there d r before x after_it w is h =
+    subst (IsHeard d.uses) (sym (reply_read r w)) (open_there (response_for r).tag before x after_it d.uses is h)
 
 -- lines, and then more of them
-pub heard_texts : (t : Talking) (xs ys : List Reply) → AreHeard t (reply_texts xs) → AreHeard (server_lines t (reply_texts xs)) (reply_texts ys)
-    → AreHeard t (reply_texts (xs ++ ys))
-heard_texts t [] ys h g = g
-heard_texts t (x ∷ xs) ys h g = (h.0, heard_texts (server_said t (reply_text x)) xs ys h.1 g)
+pub heard_texts : (d : Dialogue) (xs ys : List Reply) → AreHeard d (reply_texts xs) → AreHeard (server_lines d (reply_texts xs)) (reply_texts ys)
+    → AreHeard d (reply_texts (xs ++ ys))
+heard_texts d [] ys h g = g
+heard_texts d (x ∷ xs) ys h g = (h.0, heard_texts (after d (server_line (reply_text x))) xs ys h.1 g)

@@ -1,8 +1,8 @@
 -- What a witness reports of a server after each list of its calls on one connection.
-use Rattle.std.proofs.Common.{◌≡◌, ℕ, zero, suc, ◌<◌, ◌≤◌, Bool, true, false, cond, not, List, [], ◌∷◌, ◌++◌}
+use Rattle.std.proofs.Common.{◌≡◌, ℕ, zero, suc, ◌<◌, ◌≤◌, Bool, true, false, cond, not, ◌&&◌, ◌||◌, List, [], ◌∷◌, ◌++◌}
 use Rattle.std.proofs.Common.{refl, sym, ap, ◌∙◌, subst, arith, append-nil, Option, Some, None, Ok, Err}
 use Rattle.std.specs.Prelude.{slice_get}
-use Rattle.std.specs.List.{list_any}
+use Rattle.std.specs.List.{list_any, list_all}
 use Rattle.std.proofs.lemmas.Bool.{false≢true, and_parts, ltb-true}
 use Rattle.fixed_um.specs.Points.{IsInVolume, zero_point}
 use Rattle.fixed_um.specs.declared.frames.Frame.{Frame}
@@ -28,89 +28,139 @@ use Rattle.server_core.specs.Steady.{IsOff}
 use Rattle.server_core.proofs.Deeds.{chosen}
 use Rattle.server_core.proofs.Reached.{reached_steady}
 use Rattle.server_core.proofs.Steadies.{nothing_runs}
-use Rattle.told_ledger.specs.Talking.{Talking, silence}
-use Rattle.told_ledger.specs.declared.uses.Told.{Told}
-use Rattle.told_ledger.specs.declared.uses.Told.TheVariants as told
-use Rattle.told_ledger.specs.Watching.{client_lines, server_lines}
-use Rattle.told_by_server.specs.Lockstep.{line_read, replies, answered, seen, all_seen}
+use Rattle.dme_line.specs.declared.tags.Tag.{Tag}
+use Rattle.protocol_model.specs.Replies.{tag_is}
+use Rattle.protocol_model.proofs.table.Basics.{tag_is-refl}
+use Rattle.witness.specs.Asking.{sent}
+use Rattle.witness.specs.Dialogues.{Dialogue, silence}
+use Rattle.witness.specs.Known.{nothing}
+use Rattle.witness.specs.Marks.{is_foreign}
+use Rattle.witness.specs.Watching.{client_lines, server_lines}
+use Rattle.witness.specs.declared.lines.Reported.{Reported}
+use Rattle.witness.specs.declared.lines.Reported.TheVariants as reports
+use Rattle.witness.specs.declared.lines.SentCommand.{SentCommand}
+use Rattle.told_by_server.specs.Lockstep.{line_read, all_read, replies, answered, seen, all_seen}
 use Rattle.told_by_server.specs.Lockstep.{keeps_out, AreAnew, IsCourse}
-use Rattle.told_by_server.specs.Reports.{is_broken, reports, NamesNoOther, IsReportOf, AreReportsOf, tool_of, frame_of, tool_named, frame_named}
-use Rattle.told_by_server.proofs.Knowing.{nothing_known}
+use Rattle.told_by_server.specs.Reports.{is_foreign_under, some_foreign, breaks_only, act_reports, NamesNoOther, IsReportOf, AreReportsOf, tool_of, frame_of, tool_named, frame_named}
+use Rattle.told_by_server.proofs.Knowing.{nothing_within}
+use Rattle.told_by_server.proofs.Selected.{nothing_so}
 use Rattle.told_by_server.proofs.Opening.{running_one, AreOpen, AreApart}
 use Rattle.told_by_server.proofs.Following.{Follows, machined_follows, turned_follows}
-use Rattle.told_by_server.proofs.Reading.{read_follows}
+use Rattle.told_by_server.proofs.Reading.{CountsLine, read_follows}
 use Rattle.line_framing.specs.Calls.{line_in}
+
+-- ---- lines that this profile does not know
+
+-- each such line is under one of these tags
+abbrev pub CountLines : (Tag → Bool) → List (List ℕ) → Type 0
+CountLines P [] = Unit {0}
+CountLines P (line ∷ lines) = CountsLine P (sent line (command_of line)) × CountLines P lines
+
+first_true : (a b : Bool) → a ≡ true → (a || b) ≡ true
+first_true a b e = ap (λ (c : Bool). c || b) e
+
+second_true : (a b : Bool) → b ≡ true → (a || b) ≡ true
+second_true true b e = refl
+second_true false b e = e
+
+counts_one : (P : Tag → Bool) (lines : List (List ℕ)) (o : Option (Tag × SentCommand))
+    → ((tag : Tag) → (is_foreign_under tag o || some_foreign lines tag) ≡ true → P tag ≡ true) → CountsLine P o
+counts_one P lines None h = tt
+counts_one P lines (Some (tag, what)) h =
+    λ foreign. h tag (first_true (tag_is tag tag && is_foreign what) (some_foreign lines tag)
+    (ap (λ (b : Bool). b && is_foreign what) (tag_is-refl tag) ∙ foreign))
+
+count_lines : (P : Tag → Bool) (lines : List (List ℕ)) → ((tag : Tag) → some_foreign lines tag ≡ true → P tag ≡ true) → CountLines P lines
+count_lines P [] h = tt
+count_lines P (line ∷ lines) h = (
+  counts_one P lines (sent line (command_of line)) h,
+  count_lines P lines
+      (λ tag e. h tag (second_true (is_foreign_under tag (sent line (command_of line))) (some_foreign lines tag) e)),
+)
+
+-- so it is of the tags of these lines themselves
+pub count_own : (lines : List (List ℕ)) → CountLines (some_foreign lines) lines
+count_own lines = count_lines (some_foreign lines) lines (λ tag e. e)
+
+pub count_parts : (P : Tag → Bool) (xs ys : List (List ℕ)) → CountLines P (xs ++ ys) → CountLines P xs × CountLines P ys
+count_parts P [] ys h = (tt, h)
+count_parts P (x ∷ xs) ys h = let rest = count_parts P xs ys h.1 in ((h.0, rest.0), rest.1)
 
 -- ---- one call
 
 -- the server is on this connection, and the witness has read all its lines
-pub record IsOn (n : ℕ) (e : ServerEnd) (t : Talking) : Type 0 where
+pub record IsOn (P : Tag → Bool) (n : ℕ) (e : ServerEnd) (t : Dialogue) : Type 0 where
   pub on : e.server.on ≡ true
   pub last : e.server.last ≡ n
-  pub follows : Follows e.server t
+  pub follows : Follows P e.server t
 
 -- a server that has moved is still on its connection
-still_on : (n : ℕ) (e f : ServerEnd) (t u : Talking) (acts : List Act) → IsOn n e t → Moves e.server f.server acts → Follows f.server u
-    → IsOn n f u
-still_on n e f t u acts h m follows = record { on = m.on ∙ IsOn.on h; last = m.last ∙ IsOn.last h; follows = follows }
+still_on : (P : Tag → Bool) (n : ℕ) (e f : ServerEnd) (t u : Dialogue) (acts : List Act) → IsOn P n e t → Moves e.server f.server acts → Follows P f.server u
+    → IsOn P n f u
+still_on P n e f t u acts h m follows = record { on = m.on ∙ IsOn.on h; last = m.last ∙ IsOn.last h; follows = follows }
 
 -- a line that is read, or none
-front_on : (n : ℕ) (e : ServerEnd) (front : Front) (t : Talking) → AreAnew e.server (line_in front) → IsOn n e t
-    → IsOn n (front_served e front)
+front_on : (P : Tag → Bool) (n : ℕ) (e : ServerEnd) (front : Front) (t : Dialogue) → AreAnew e.server (line_in front)
+    → CountLines P (line_in front) → IsOn P n e t
+    → IsOn P n (front_served e front)
     (server_lines (client_lines t (line_in front)) (reply_texts (replies e.server (line_in front))))
-front_on n e (Ok None) t anew h = h
-front_on n e (Ok (Some (line, rest))) t anew h =
-    still_on n e (front_served e (Ok (Some (line, rest)))) t _ [] h (read_moves e.server (reading_of (command_of line)))
-    (read_follows e.server line t anew (IsOn.follows h)).follows
-front_on n e (Err why) t anew h = record { on = IsOn.on h; last = IsOn.last h; follows = IsOn.follows h }
+front_on P n e (Ok None) t anew counts h = h
+front_on P n e (Ok (Some (line, rest))) t anew counts h =
+    still_on P n e (front_served e (Ok (Some (line, rest)))) t _ [] h (read_moves e.server (reading_of (command_of line)))
+    (read_follows P e.server line t anew counts.0 (IsOn.follows h)).follows
+front_on P n e (Err why) t anew counts h = record { on = IsOn.on h; last = IsOn.last h; follows = IsOn.follows h }
 
-read_on : (n : ℕ) (on : Bool) (e : ServerEnd) (front : Front) (t : Talking) → AreAnew e.server (cond on (line_in front) []) → IsOn n e t
-    → IsOn n (cond on (front_served e front) e)
+read_on : (P : Tag → Bool) (n : ℕ) (on : Bool) (e : ServerEnd) (front : Front) (t : Dialogue) → AreAnew e.server (cond on (line_in front) [])
+    → CountLines P (cond on (line_in front) []) → IsOn P n e t
+    → IsOn P n (cond on (front_served e front) e)
     (server_lines (client_lines t (cond on (line_in front) [])) (reply_texts (replies e.server (cond on (line_in front) []))))
-read_on n true e front t anew h = front_on n e front t anew h
-read_on n false e front t anew h = h
+read_on P n true e front t anew counts h = front_on P n e front t anew counts h
+read_on P n false e front t anew counts h = h
 
-turn_on : (n : ℕ) (may : Bool) (e : ServerEnd) (t : Talking) → may_turn e.server ≡ may → IsOn n e t
-    → IsOn n (cond may (serving_turned e) e) (server_lines t (reply_texts (cond may (server_turned e.server).said [])))
-turn_on n true e t is h =
+turn_on : (P : Tag → Bool) (n : ℕ) (may : Bool) (e : ServerEnd) (t : Dialogue) → may_turn e.server ≡ may → IsOn P n e t
+    → IsOn P n (cond may (serving_turned e) e) (server_lines t (reply_texts (cond may (server_turned e.server).said [])))
+turn_on P n true e t is h =
     let m = turned_moves e.server in
-    still_on n e (serving_turned e) t _ m.0 h m.1
-    (turned_follows e.server t (nothing_runs e.server.running ((and_parts _ _ is).0)) (IsOn.follows h)).follows
-turn_on n false e t is h = h
+    still_on P n e (serving_turned e) t _ m.0 h m.1
+    (turned_follows P e.server t (nothing_runs e.server.running ((and_parts _ _ is).0)) (IsOn.follows h)).follows
+turn_on P n false e t is h = h
 
-machine_on : (n : ℕ) (may : Bool) (ended : Outcome) (e : ServerEnd) (t : Talking) → may_end e.server.running ended ≡ may → IsOn n e t
-    → IsOn n (cond may (serving_machined ended e) e) (server_lines t (reply_texts (cond may (server_machined e.server ended).said [])))
-machine_on n true ended e t is h =
+machine_on : (P : Tag → Bool) (n : ℕ) (may : Bool) (ended : Outcome) (e : ServerEnd) (t : Dialogue) → may_end e.server.running ended ≡ may → IsOn P n e t
+    → IsOn P n (cond may (serving_machined ended e) e) (server_lines t (reply_texts (cond may (server_machined e.server ended).said [])))
+machine_on P n true ended e t is h =
     let m = machined_moves e.server ended in
-    still_on n e (serving_machined ended e) t _ m.0 h m.1 (machined_follows e.server ended e.server.running t is (IsOn.follows h)).follows
-machine_on n false ended e t is h = h
+    still_on P n e (serving_machined ended e) t _ m.0 h m.1 (machined_follows P e.server ended e.server.running t is (IsOn.follows h)).follows
+machine_on P n false ended e t is h = h
 
 -- no connection is taken on one
 no_accept : (n : ℕ) (s : Server) → s.on ≡ true → may_accept n s ≡ true → ⊥
 no_accept n s on may =
     let off : not s.on ≡ true = (and_parts _ _ may).0 in false≢true (sym (ap not on) ∙ off)
 
-pub call_on : (n : ℕ) (call : Call) (e : ServerEnd) (t : Talking) → gives_up call ≡ false → AreAnew e.server (line_read call e) → IsOn n e t
-    → IsOn n (behind_call call e) (seen call e t)
-call_on n (Accept m) e t stays anew h =
-    chosen (λ (f : ServerEnd). IsOn n f t) (possible (Accept m) e) _ _ (λ may. absurd (no_accept m e.server (IsOn.on h) may)) (λ other. h)
-call_on n (Feed bytes) e t stays anew h =
-    chosen (λ (f : ServerEnd). IsOn n f t) (possible (Feed bytes) e) _ _
+pub call_on : (P : Tag → Bool) (n : ℕ) (call : Call) (e : ServerEnd) (t : Dialogue) → gives_up call ≡ false → AreAnew e.server (line_read call e)
+    → CountLines P (line_read call e) → IsOn P n e t
+    → IsOn P n (behind_call call e) (seen call e t)
+call_on P n (Accept m) e t stays anew counts h =
+    chosen (λ (f : ServerEnd). IsOn P n f t) (possible (Accept m) e) _ _ (λ may. absurd (no_accept m e.server (IsOn.on h) may)) (λ other. h)
+call_on P n (Feed bytes) e t stays anew counts h =
+    chosen (λ (f : ServerEnd). IsOn P n f t) (possible (Feed bytes) e) _ _
     (λ may. record { on = IsOn.on h; last = IsOn.last h; follows = IsOn.follows h }) (λ other. h)
-call_on n ReadOne e t stays anew h = read_on n e.server.on e (next_of e.input.rest) t anew h
-call_on n Turn e t stays anew h = turn_on n (may_turn e.server) e t refl h
-call_on n (Machine ended) e t stays anew h = machine_on n (may_end e.server.running ended) ended e t refl h
-call_on n Leave e t stays anew h = absurd (false≢true (sym stays))
-call_on n Restart e t stays anew h = absurd (false≢true (sym stays))
-call_on n (Sent count) e t stays anew h =
-    chosen (λ (f : ServerEnd). IsOn n f t) (possible (Sent count) e) _ _
+call_on P n ReadOne e t stays anew counts h = read_on P n e.server.on e (next_of e.input.rest) t anew counts h
+call_on P n Turn e t stays anew counts h = turn_on P n (may_turn e.server) e t refl h
+call_on P n (Machine ended) e t stays anew counts h = machine_on P n (may_end e.server.running ended) ended e t refl h
+call_on P n Leave e t stays anew counts h = absurd (false≢true (sym stays))
+call_on P n Restart e t stays anew counts h = absurd (false≢true (sym stays))
+call_on P n (Sent count) e t stays anew counts h =
+    chosen (λ (f : ServerEnd). IsOn P n f t) (possible (Sent count) e) _ _
     (λ may. record { on = IsOn.on h; last = IsOn.last h; follows = IsOn.follows h }) (λ other. h)
 
-calls_on : (n : ℕ) (calls : List Call) (e : ServerEnd) (t : Talking) → IsCourse calls e → IsOn n e t
-    → IsOn n (behind_calls calls e) (all_seen calls e t)
-calls_on n [] e t course h = h
-calls_on n (call ∷ calls) e t course h =
-    calls_on n calls (behind_call call e) (seen call e t) course.2 (call_on n call e t course.0 course.1 h)
+calls_on : (P : Tag → Bool) (n : ℕ) (calls : List Call) (e : ServerEnd) (t : Dialogue) → IsCourse calls e
+    → CountLines P (all_read calls e) → IsOn P n e t
+    → IsOn P n (behind_calls calls e) (all_seen calls e t)
+calls_on P n [] e t course counts h = h
+calls_on P n (call ∷ calls) e t course counts h =
+    let both = count_parts P (line_read call e) (all_read calls (behind_call call e)) counts in
+    calls_on P n calls (behind_call call e) (seen call e t) course.2 both.1 (call_on P n call e t course.0 course.1 both.0 h)
 
 -- ---- at the start of a connection
 
@@ -160,8 +210,9 @@ is_false true e = absurd (false≢true e)
 is_false false e = refl
 
 -- nothing is open on a new connection, and nothing was done on it
-accepted_on : (n : ℕ) (e : ServerEnd) → may_accept n e.server ≡ true → IsOff e → IsBehind e → IsOn n (serving_accepted n e) silence
-accepted_on n e may off behind = record {
+accepted_on : (P : Tag → Bool) (n : ℕ) (ordered : Bool) (e : ServerEnd) → may_accept n e.server ≡ true → IsOff e → IsBehind e
+    → IsOn P n (serving_accepted n e) (silence ordered)
+accepted_on P n ordered e may off behind = record {
   on = refl;
   last = refl;
   follows = record {
@@ -169,9 +220,17 @@ accepted_on n e may off behind = record {
     ours = subst (λ (ws : List Waiting). AreOpen ws []) (sym none) refl;
     apart = subst AreApart (sym none) tt;
     at = record {
-      are = refl;
-      knows = nothing_known _;
-      tells = subst (AreReportsOf []) (sym (acts_none e.server.last n e.server.ledger behind (above n e.server may))) tt;
+      view = nothing;
+      so = nothing_so _;
+      within = nothing_within nothing;
+      shaped = tt;
+      rising = omega arith;
+      clear = refl;
+      counted = tt;
+      tells = record {
+        are = subst (AreReportsOf []) (sym (acts_none e.server.last n e.server.ledger behind (above n e.server may))) tt;
+        breaks = refl;
+      };
     };
     stored = subst IsInVolume (sym off.stored) zero_is_in;
     frame = subst (λ (f : Frame). IsInVolume (offset f)) (sym off.frame) zero_is_in;
@@ -181,57 +240,44 @@ accepted_on n e may off behind = record {
     none : running_one e.server.running ++ e.server.waiting ≡ []
     none = ap (λ (r : Option Line). running_one r ++ e.server.waiting) off.running ∙ off.waiting
 
-pub begun_on : (tools : List (List ℕ)) (before : List Call) (n : ℕ) → may_accept n (reached tools before).server ≡ true
-    → IsOn n (serving_accepted n (reached tools before)) silence
-begun_on tools before n may =
-    accepted_on n (reached tools before) may
+pub begun_on : (P : Tag → Bool) (ordered : Bool) (tools : List (List ℕ)) (before : List Call) (n : ℕ)
+    → may_accept n (reached tools before).server ≡ true → IsOn P n (serving_accepted n (reached tools before)) (silence ordered)
+begun_on P ordered tools before n may =
+    accepted_on P n ordered (reached tools before) may
     ((reached_steady tools before).off (is_false (reached tools before).server.on ((and_parts _ _ may).0)))
     (calls_behind before _ tt)
 
 -- ---- what is reported
 
+-- a witness of a course, with the tags of the lines of it that this profile does not know
+pub course_on : (ordered : Bool) (tools : List (List ℕ)) (before : List Call) (n : ℕ) (calls : List Call)
+    → may_accept n (reached tools before).server ≡ true → IsCourse calls (serving_accepted n (reached tools before))
+    → IsOn (some_foreign (all_read calls (serving_accepted n (reached tools before)))) n
+    (behind_calls calls (serving_accepted n (reached tools before)))
+    (all_seen calls (serving_accepted n (reached tools before)) (silence ordered))
+course_on ordered tools before n calls may course =
+    let e : ServerEnd = serving_accepted n (reached tools before) in
+    calls_on (some_foreign (all_read calls e)) n calls e (silence ordered) course (count_own (all_read calls e))
+    (begun_on (some_foreign (all_read calls e)) ordered tools before n may)
+
 -- the reports of a course are those of the acts of its connection
-pub reports_of_acts : (tools : List (List ℕ)) (before : List Call) (n : ℕ) (calls : List Call)
+pub reports_of_acts : (ordered : Bool) (tools : List (List ℕ)) (before : List Call) (n : ℕ) (calls : List Call)
     → may_accept n (reached tools before).server ≡ true → IsCourse calls (serving_accepted n (reached tools before))
-    → AreReportsOf (reports (all_seen calls (serving_accepted n (reached tools before)) silence).told)
+    → AreReportsOf (act_reports (all_seen calls (serving_accepted n (reached tools before)) (silence ordered)).reported)
     (acts_on n (behind_calls calls (serving_accepted n (reached tools before))).server.ledger)
-reports_of_acts tools before n calls may course =
-    let h : IsOn n (behind_calls calls (serving_accepted n (reached tools before)))
-    (all_seen calls (serving_accepted n (reached tools before)) silence) =
-    calls_on n calls (serving_accepted n (reached tools before)) silence course (begun_on tools before n may) in
-    subst (λ (m : ℕ). AreReportsOf (reports (all_seen calls (serving_accepted n (reached tools before)) silence).told)
-    (acts_on m (behind_calls calls (serving_accepted n (reached tools before))).server.ledger)) (IsOn.last h) (IsOn.follows h).at.tells
+reports_of_acts ordered tools before n calls may course =
+    let h = course_on ordered tools before n calls may course in
+    subst (λ (m : ℕ). AreReportsOf (act_reports (all_seen calls (serving_accepted n (reached tools before)) (silence ordered)).reported)
+    (acts_on m (behind_calls calls (serving_accepted n (reached tools before))).server.ledger)) (IsOn.last h) (IsOn.follows h).at.tells.are
 
--- no line that breaks a rule is a report of an act
-no_broken : (so_far : List Told) (acts : List Act) → AreReportsOf (reports so_far) acts → list_any is_broken so_far ≡ false
-no_broken [] acts h = refl
-no_broken (told.Other side line ∷ xs) acts h = no_broken xs acts h
-no_broken (told.Did a ∷ xs) [] h = absurd h
-no_broken (told.Did a ∷ xs) (b ∷ acts) h = no_broken xs acts h.1
-no_broken (told.MovedSomewhere p ∷ xs) [] h = absurd h
-no_broken (told.MovedSomewhere p ∷ xs) (b ∷ acts) h = no_broken xs acts h.1
-no_broken (told.FramedSomehow ∷ xs) [] h = absurd h
-no_broken (told.FramedSomehow ∷ xs) (b ∷ acts) h = no_broken xs acts h.1
-no_broken (told.Touched p d n f at ∷ xs) [] h = absurd h
-no_broken (told.Touched p d n f at ∷ xs) (b ∷ acts) h = no_broken xs acts h.1
-no_broken (told.Broken rule tag ∷ xs) [] h = absurd h
-no_broken (told.Broken rule tag ∷ xs) (b ∷ acts) h = absurd (not_broken b h.0)
-  where
-    not_broken : (b : Act) → IsReportOf (told.Broken rule tag) b → ⊥
-    not_broken b one = one
-no_broken (told.Opened ∷ xs) [] h = absurd h
-no_broken (told.Opened ∷ xs) (b ∷ acts) h = no_broken xs acts h.1
-no_broken (told.Left ∷ xs) [] h = absurd h
-no_broken (told.Left ∷ xs) (b ∷ acts) h = no_broken xs acts h.1
-
--- none is reported
-pub none_is_broken : (tools : List (List ℕ)) (before : List Call) (n : ℕ) (calls : List Call)
+-- no rule is broken but that of turns, by lines under the tags of lines that this profile does not know
+pub only_turns_are_broken : (ordered : Bool) (tools : List (List ℕ)) (before : List Call) (n : ℕ) (calls : List Call)
     → may_accept n (reached tools before).server ≡ true → IsCourse calls (serving_accepted n (reached tools before))
-    → list_any is_broken (all_seen calls (serving_accepted n (reached tools before)) silence).told ≡ false
-none_is_broken tools before n calls may course =
-    no_broken (all_seen calls (serving_accepted n (reached tools before)) silence).told
-    (acts_on n (behind_calls calls (serving_accepted n (reached tools before))).server.ledger)
-    (reports_of_acts tools before n calls may course)
+    → list_all (breaks_only (some_foreign (all_read calls (serving_accepted n (reached tools before)))))
+    (all_seen calls (serving_accepted n (reached tools before)) (silence ordered)).reported
+    ≡ true
+only_turns_are_broken ordered tools before n calls may course =
+    (IsOn.follows (course_on ordered tools before n calls may course)).at.tells.breaks
 
 -- ---- what is named
 
@@ -253,64 +299,66 @@ none_frame (Some m) frame name h e = ap Some (sym h) ∙ e
 nothing_named : {A : Type 0} (x : A) (o : Option A) → None ≡ Some x → o ≡ Some x
 nothing_named x o e = absurd (cc)
 
-tool_is : (x : Told) (a : Act) (name : List ℕ) → IsReportOf x a → tool_named x ≡ Some name → tool_of a ≡ Some name
-tool_is (told.Did b) a name h e = ap tool_of (sym h) ∙ e
-tool_is (told.Touched p d n f at) (act.Contact target dir tool frame point) name h e = none_tool n tool name h.2 e
-tool_is (told.Touched p d n f at) (act.HomedIs homed) name h e = absurd h
-tool_is (told.Touched p d n f at) act.Homed name h e = absurd h
-tool_is (told.Touched p d n f at) (act.Moved target frame) name h e = absurd h
-tool_is (told.Touched p d n f at) (act.Changed tool) name h e = absurd h
-tool_is (told.Touched p d n f at) (act.Framed frame) name h e = absurd h
-tool_is (told.MovedSomewhere p) a name h e = nothing_named name (tool_of a) e
-tool_is told.FramedSomehow a name h e = nothing_named name (tool_of a) e
-tool_is (told.Other side line) a name h e = nothing_named name (tool_of a) e
-tool_is (told.Broken rule tag) a name h e = nothing_named name (tool_of a) e
-tool_is told.Opened a name h e = nothing_named name (tool_of a) e
-tool_is told.Left a name h e = nothing_named name (tool_of a) e
+tool_is : (x : Reported) (a : Act) (name : List ℕ) → IsReportOf x a → tool_named x ≡ Some name → tool_of a ≡ Some name
+tool_is (reports.Did b) a name h e = ap tool_of (sym h) ∙ e
+tool_is (reports.Touched p d n f at) (act.Contact target dir tool frame point) name h e = none_tool n tool name h.2 e
+tool_is (reports.Touched p d n f at) (act.HomedIs homed) name h e = absurd h
+tool_is (reports.Touched p d n f at) act.Homed name h e = absurd h
+tool_is (reports.Touched p d n f at) (act.Moved target frame) name h e = absurd h
+tool_is (reports.Touched p d n f at) (act.Changed tool) name h e = absurd h
+tool_is (reports.Touched p d n f at) (act.Framed frame) name h e = absurd h
+tool_is (reports.MovedSomewhere p) a name h e = nothing_named name (tool_of a) e
+tool_is reports.FramedSomehow a name h e = nothing_named name (tool_of a) e
+tool_is (reports.Other side line) a name h e = nothing_named name (tool_of a) e
+tool_is (reports.Unasked line) a name h e = nothing_named name (tool_of a) e
+tool_is (reports.Broken rule tag) a name h e = nothing_named name (tool_of a) e
+tool_is reports.Opened a name h e = nothing_named name (tool_of a) e
+tool_is reports.Left a name h e = nothing_named name (tool_of a) e
 
-frame_is : (x : Told) (a : Act) (name : Frame) → IsReportOf x a → frame_named x ≡ Some name → frame_of a ≡ Some name
-frame_is (told.Did b) a name h e = ap frame_of (sym h) ∙ e
-frame_is (told.Touched p d n f at) (act.Contact target dir tool frame point) name h e = none_frame f frame name h.3 e
-frame_is (told.Touched p d n f at) (act.HomedIs homed) name h e = absurd h
-frame_is (told.Touched p d n f at) act.Homed name h e = absurd h
-frame_is (told.Touched p d n f at) (act.Moved target frame) name h e = absurd h
-frame_is (told.Touched p d n f at) (act.Changed tool) name h e = absurd h
-frame_is (told.Touched p d n f at) (act.Framed frame) name h e = absurd h
-frame_is (told.MovedSomewhere p) a name h e = nothing_named name (frame_of a) e
-frame_is told.FramedSomehow a name h e = nothing_named name (frame_of a) e
-frame_is (told.Other side line) a name h e = nothing_named name (frame_of a) e
-frame_is (told.Broken rule tag) a name h e = nothing_named name (frame_of a) e
-frame_is told.Opened a name h e = nothing_named name (frame_of a) e
-frame_is told.Left a name h e = nothing_named name (frame_of a) e
+frame_is : (x : Reported) (a : Act) (name : Frame) → IsReportOf x a → frame_named x ≡ Some name → frame_of a ≡ Some name
+frame_is (reports.Did b) a name h e = ap frame_of (sym h) ∙ e
+frame_is (reports.Touched p d n f at) (act.Contact target dir tool frame point) name h e = none_frame f frame name h.3 e
+frame_is (reports.Touched p d n f at) (act.HomedIs homed) name h e = absurd h
+frame_is (reports.Touched p d n f at) act.Homed name h e = absurd h
+frame_is (reports.Touched p d n f at) (act.Moved target frame) name h e = absurd h
+frame_is (reports.Touched p d n f at) (act.Changed tool) name h e = absurd h
+frame_is (reports.Touched p d n f at) (act.Framed frame) name h e = absurd h
+frame_is (reports.MovedSomewhere p) a name h e = nothing_named name (frame_of a) e
+frame_is reports.FramedSomehow a name h e = nothing_named name (frame_of a) e
+frame_is (reports.Other side line) a name h e = nothing_named name (frame_of a) e
+frame_is (reports.Unasked line) a name h e = nothing_named name (frame_of a) e
+frame_is (reports.Broken rule tag) a name h e = nothing_named name (frame_of a) e
+frame_is reports.Opened a name h e = nothing_named name (frame_of a) e
+frame_is reports.Left a name h e = nothing_named name (frame_of a) e
 
 -- the i-th report is that of the i-th act
-pair_at : (xs : List Told) (acts : List Act) (i : ℕ) (x : Told) (a : Act) → AreReportsOf xs acts → slice_get xs i ≡ Some x
+pair_at : (xs : List Reported) (acts : List Act) (i : ℕ) (x : Reported) (a : Act) → AreReportsOf xs acts → slice_get xs i ≡ Some x
     → slice_get acts i ≡ Some a → IsReportOf x a
 pair_at [] acts i x a h p q = absurd (cc)
 pair_at (y ∷ ys) [] i x a h p q = absurd h
 pair_at (y ∷ ys) (b ∷ acts) zero x a h p q =
-    subst (λ (z : Told). IsReportOf z a) (some_is y x p) (subst (IsReportOf y) (some_is b a q) h.0)
+    subst (λ (z : Reported). IsReportOf z a) (some_is y x p) (subst (IsReportOf y) (some_is b a q) h.0)
 pair_at (y ∷ ys) (b ∷ acts) (suc i) x a h p q = pair_at ys acts i x a h.1 p q
 
 -- a tool that is named is that of the act
-pub named_tool : (tools : List (List ℕ)) (before : List Call) (n : ℕ) (calls : List Call)
+pub named_tool : (ordered : Bool) (tools : List (List ℕ)) (before : List Call) (n : ℕ) (calls : List Call)
     → may_accept n (reached tools before).server ≡ true → IsCourse calls (serving_accepted n (reached tools before))
-    → (i : ℕ) (x : Told) (a : Act) (name : List ℕ)
-    → slice_get (reports (all_seen calls (serving_accepted n (reached tools before)) silence).told) i ≡ Some x
+    → (i : ℕ) (x : Reported) (a : Act) (name : List ℕ)
+    → slice_get (act_reports (all_seen calls (serving_accepted n (reached tools before)) (silence ordered)).reported) i ≡ Some x
     → slice_get (acts_on n (behind_calls calls (serving_accepted n (reached tools before))).server.ledger) i ≡ Some a
     → tool_named x ≡ Some name → tool_of a ≡ Some name
-named_tool tools before n calls may course i x a name p q e =
-    tool_is x a name (pair_at _ _ i x a (reports_of_acts tools before n calls may course) p q) e
+named_tool ordered tools before n calls may course i x a name p q e =
+    tool_is x a name (pair_at _ _ i x a (reports_of_acts ordered tools before n calls may course) p q) e
 
 -- and so is a frame
-pub named_frame : (tools : List (List ℕ)) (before : List Call) (n : ℕ) (calls : List Call)
+pub named_frame : (ordered : Bool) (tools : List (List ℕ)) (before : List Call) (n : ℕ) (calls : List Call)
     → may_accept n (reached tools before).server ≡ true → IsCourse calls (serving_accepted n (reached tools before))
-    → (i : ℕ) (x : Told) (a : Act) (name : Frame)
-    → slice_get (reports (all_seen calls (serving_accepted n (reached tools before)) silence).told) i ≡ Some x
+    → (i : ℕ) (x : Reported) (a : Act) (name : Frame)
+    → slice_get (act_reports (all_seen calls (serving_accepted n (reached tools before)) (silence ordered)).reported) i ≡ Some x
     → slice_get (acts_on n (behind_calls calls (serving_accepted n (reached tools before))).server.ledger) i ≡ Some a
     → frame_named x ≡ Some name → frame_of a ≡ Some name
-named_frame tools before n calls may course i x a name p q e =
-    frame_is x a name (pair_at _ _ i x a (reports_of_acts tools before n calls may course) p q) e
+named_frame ordered tools before n calls may course i x a name p q e =
+    frame_is x a name (pair_at _ _ i x a (reports_of_acts ordered tools before n calls may course) p q) e
 
 -- ---- the bytes of the lines
 

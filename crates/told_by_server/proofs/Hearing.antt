@@ -1,233 +1,414 @@
--- What a witness knows and reports after the lines of a server for a command.
-use Rattle.std.proofs.Common.{◌≡◌, ℕ, Bool, true, false, List, [], ◌∷◌, ◌++◌, Option, Result}
-use Rattle.std.proofs.Common.{refl, sym, ap, ◌∙◌, subst}
-use Rattle.std.specs.List.{list_any}
-use Rattle.fixed_um.specs.Shapes.{Direction}
-use Rattle.fixed_um.specs.declared.lengths.Point.{Point}
+-- What a witness that has read all lines of a server knows and has reported, and what a mark makes of it.
+use Rattle.std.proofs.Common.{◌≡◌, ℕ, ◌+◌, ◌≤◌, ◌==◌, Bool, true, false, cond, ◌&&◌, ◌||◌, not, List, [], ◌∷◌, ◌++◌, length, map, take, Some, None}
+use Rattle.std.proofs.Common.{refl, sym, ap, ◌∙◌, subst, arith, inl, inr, eq-eqb, ne_eqb, Option, append-nil}
+use Rattle.std.proofs.lemmas.Bool.{false≢true, and_parts}
+use Rattle.std.proofs.lemmas.List.Folds.{list_all-append}
+use Rattle.std.specs.List.{list_any, list_all}
 use Rattle.contact_ledger.specs.declared.acts.Act.{Act}
-use Rattle.dme_line.specs.Errors.{error_report}
-use Rattle.dme_line.specs.Homed.{written_homed}
-use Rattle.dme_line.specs.Points.{written_point, IsOnWire}
-use Rattle.dme_line.specs.Tags.{IsTag}
 use Rattle.dme_line.specs.declared.commands.Command.{Command}
-use Rattle.dme_line.specs.declared.commands.Command.TheVariants as command
-use Rattle.dme_line.specs.declared.commands.Kind.{Kind}
-use Rattle.dme_line.specs.declared.homed.NotHomedText.{NotHomedText}
-use Rattle.dme_line.specs.declared.points.NotPoint.{NotPoint}
-use Rattle.dme_line.specs.declared.responses.Mark.TheVariants as mark
 use Rattle.dme_line.specs.declared.tags.Tag.{Tag}
-use Rattle.protocol_model.specs.Lines.{reply_text}
-use Rattle.protocol_model.specs.Replies.{Reply}
-use Rattle.protocol_model.specs.declared.held.Datum.TheVariants as datum
-use Rattle.protocol_model.specs.declared.held.Stage.{Stage}
-use Rattle.protocol_model.specs.declared.held.Stage.TheVariants as stage
-use Rattle.protocol_model.proofs.table.Basics.{tag_is-refl}
-use Rattle.protocol_model.proofs.written_lines.Writable.{point_read, homed_read}
-use Rattle.told_ledger.specs.Effects.{nothing, changed, lost_by}
-use Rattle.told_ledger.specs.Judging.{given_homed, given_point}
-use Rattle.told_ledger.specs.Talking.{Talking, waits, turn_of, heard_in, heard_under, server_said}
-use Rattle.told_ledger.specs.declared.uses.Asked.{Asked}
-use Rattle.told_ledger.specs.declared.uses.Asked.TheVariants as asks
-use Rattle.told_ledger.specs.declared.uses.Known.{Known}
-use Rattle.told_ledger.specs.declared.uses.Side.TheVariants.{Client}
-use Rattle.told_ledger.specs.declared.uses.Told.{Told}
-use Rattle.told_ledger.specs.declared.uses.Told.TheVariants as told
-use Rattle.told_ledger.specs.declared.uses.Use.{Use}
-use Rattle.told_by_server.proofs.Places.{HaveOthers, found, opened, settled, hears, hears_at, said_is}
-use Rattle.told_by_server.proofs.Knowing.{Tells, tells_other, Standing, IsKnown, nothing_known, lost_known, IsAt}
-use Rattle.protocol_model.specs.Readings.{response_of}
-use Rattle.told_by_server.proofs.Answering.{heard_there, IsHeard}
+use Rattle.dme_line.specs.declared.tags.Tag.TheVariants.{Std, Event}
+use Rattle.protocol_model.proofs.table.Basics.{if_true, if_false, and_false}
+use Rattle.witness.specs.Asking.{Signal}
+use Rattle.witness.specs.Dialogues.{Dialogue, use_renewed, use_heard, unknowing, reported_by, unless_crossed, left_over, hearing, faulting, sending, sending_after}
+use Rattle.witness.specs.Dialogues.{at_once, one_more, is_out_of_turn, heard_at, answered_known, line_of, is_lost}
+use Rattle.witness.specs.Known.{nothing, faulted, with_mark, renewed, all_renewed, unless_refused, below, fresh}
+use Rattle.witness.specs.Marks.{is_error, is_foreign, stage_with}
+use Rattle.witness.specs.declared.lines.Heard.{Heard}
+use Rattle.witness.specs.declared.lines.Heard.TheVariants as heard
+use Rattle.witness.specs.declared.lines.Known.{Known}
+use Rattle.witness.specs.declared.lines.Progress.{Progress}
+use Rattle.witness.specs.declared.lines.Renewal.{Renewal}
+use Rattle.witness.specs.declared.lines.Renewal.TheVariants.{Fault, Mark, Answer}
+use Rattle.witness.specs.declared.lines.Reported.{Reported}
+use Rattle.witness.specs.declared.lines.Reported.TheVariants as reports
+use Rattle.witness.specs.declared.lines.Rule.TheVariants.{NotInTurn}
+use Rattle.witness.specs.declared.lines.SentCommand.{SentCommand}
+use Rattle.witness.specs.declared.lines.SentCommand.TheVariants as sends
+use Rattle.witness.specs.declared.lines.Side.TheVariants.{Client}
+use Rattle.witness.specs.declared.lines.Stage.{Stage}
+use Rattle.witness.specs.declared.lines.Stage.TheVariants as stage
+use Rattle.witness.specs.declared.lines.Use.{Use}
+use Rattle.told_by_server.specs.Reports.{is_other, act_reports, breaks_only, IsReportOf, AreReportsOf}
+use Rattle.told_by_server.proofs.Knowing.{IsWithin, within_itself, within_trans, within_renewed, answer_within, Becomes, below_renewed, below_lost}
+use Rattle.told_by_server.proofs.Knowing.{begun_at, pending, next, AreWithin, are_within, more_within, IsStep, AreSteps, steps_within, gone_within, nothing_left}
+use Rattle.told_by_server.proofs.Selected.{Selected, IsSo, still_so, less_so}
+use Rattle.told_by_server.proofs.Places.{Shape, opened, used, AreShaped, HaveOthers, renews, shaped_renewed, shaped_join, Split, split}
+use Rattle.told_by_server.proofs.Places.{AreRising, rising_renewed, rising_marked, rising_ended, rising_up, rising_more, lines_before, lines_after, HaveOtherLines}
+use Rattle.told_by_server.proofs.Places.{none_under, marked, own, use_same, heard_uses, ended_uses}
 
--- a witness with other commands, and other knowledge and reports
-abbrev pub with_all : Talking → List Use → Known → List Told → Talking
-with_all t uses known so_far = record { uses = uses; refused = t.refused; known = known; told = so_far }
+-- ---- reports
 
--- ---- received
+reports_step : (b : Bool) (y x : Reported) (ys xs : List Reported) → ys ≡ xs ++ x ∷ [] → cond b ys (y ∷ ys) ≡ cond b xs (y ∷ xs) ++ x ∷ []
+reports_step true y x ys xs e = e
+reports_step false y x ys xs e = ap (λ (l : List Reported). y ∷ l) e
 
--- what is reported at the first mark, and known after it
-abbrev told_first : List Told → Asked → List Told
-told_first so_far (asks.Known c) = so_far
-told_first so_far asks.Harmless = so_far
-told_first so_far (asks.Foreign line) = so_far ++ told.Other Client line ∷ []
+reports_step_other : (b : Bool) (y : Reported) (ys xs : List Reported) → ys ≡ xs → cond b ys (y ∷ ys) ≡ cond b xs (y ∷ xs)
+reports_step_other b y ys xs e = ap (λ (l : List Reported). cond b l (y ∷ l)) e
 
-abbrev known_first : Known → Asked → Known
-known_first known (asks.Known c) = known
-known_first known asks.Harmless = known
-known_first known (asks.Foreign line) = nothing
+report_last : (x : Reported) → is_other x ≡ false → act_reports (x ∷ []) ≡ x ∷ []
+report_last x e = ap (λ (b : Bool). cond b [] (x ∷ [])) e
 
-received_settled : (early : Bool) (t : Talking) (before : List Use) (tag : Tag) (asked : Asked) (after : List Use)
-    → settled early t before tag asked stage.Sent after mark.Ack
-    ≡ with_all t (before ++ opened tag asked stage.Received ∷ after) (known_first t.known asked) (told_first t.told asked)
-received_settled true t before tag (asks.Known command.AbortE) after = refl
-received_settled true t before tag (asks.Known c) after = refl
-received_settled true t before tag asks.Harmless after = refl
-received_settled true t before tag (asks.Foreign line) after = refl
-received_settled false t before tag (asks.Known c) after = refl
-received_settled false t before tag asks.Harmless after = refl
-received_settled false t before tag (asks.Foreign line) after = refl
+no_report : (x : Reported) → is_other x ≡ true → act_reports (x ∷ []) ≡ []
+no_report x e = ap (λ (b : Bool). cond b [] (x ∷ [])) e
 
-first_known : (s : Standing) (known : Known) (asked : Asked) → IsKnown s known → IsKnown s (known_first known asked)
-first_known s known (asks.Known c) h = h
-first_known s known asks.Harmless h = h
-first_known s known (asks.Foreign line) h = nothing_known s
+reports_more : (so_far : List Reported) (x : Reported) → is_other x ≡ false → act_reports (so_far ++ x ∷ []) ≡ act_reports so_far ++ x ∷ []
+reports_more [] x e = report_last x e
+reports_more (y ∷ ys) x e = reports_step (is_other y) y x (act_reports (ys ++ x ∷ [])) (act_reports ys) (reports_more ys x e)
 
-first_tells : (so_far : List Told) (acts : List Act) (asked : Asked) → Tells so_far acts → Tells (told_first so_far asked) acts
-first_tells so_far acts (asks.Known c) h = h
-first_tells so_far acts asks.Harmless h = h
-first_tells so_far acts (asks.Foreign line) h = tells_other so_far acts Client line h
+reports_other : (so_far : List Reported) (x : Reported) → is_other x ≡ true → act_reports (so_far ++ x ∷ []) ≡ act_reports so_far
+reports_other [] x e = no_report x e
+reports_other (y ∷ ys) x e =
+    reports_step_other (is_other y) y (act_reports (ys ++ x ∷ [])) (act_reports ys) (reports_other ys x e)
 
--- a command is received
-pub receives : (s : Standing) (acts : List Act) (before : List Use) (tag : Tag) (asked : Asked) (after : List Use) (t : Talking) → IsTag tag
-    → HaveOthers tag before → IsAt s acts (before ++ opened tag asked stage.Sent ∷ after) t
-    → IsAt s acts (before ++ opened tag asked stage.Received ∷ after) (server_said t (reply_text (Reply.Ack tag)))
-receives s acts before tag asked after t room others h =
-    subst (IsAt s acts (before ++ opened tag asked stage.Received ∷ after))
-    (sym (said_is t (Reply.Ack tag) room
-    ∙ (hears_at (list_any waits before) t before tag asked stage.Sent after mark.Ack h.are others refl
-    ∙ received_settled (list_any waits before) t before tag asked after)))
-    (record { are = refl; knows = first_known s t.known asked h.knows; tells = first_tells t.told acts asked h.tells })
+pair_more : (xs : List Reported) (acts : List Act) (x : Reported) (a : Act) → AreReportsOf xs acts → IsReportOf x a
+    → AreReportsOf (xs ++ x ∷ []) (acts ++ a ∷ [])
+pair_more [] [] x a h one = (one, tt)
+pair_more [] (b ∷ acts) x a h one = absurd h
+pair_more (y ∷ xs) [] x a h one = absurd h
+pair_more (y ∷ xs) (b ∷ acts) x a h one = (h.0, pair_more xs acts x a h.1 one)
 
--- ---- failed
+all_more : (P : Tag → Bool) (so_far : List Reported) (x : Reported) → list_all (breaks_only P) so_far ≡ true → breaks_only P x ≡ true
+    → list_all (breaks_only P) (so_far ++ x ∷ []) ≡ true
+all_more P so_far x h one =
+    list_all-append (breaks_only P) so_far (x ∷ [])
+    ∙ (ap (λ (b : Bool). b && (breaks_only P x && true)) h ∙ ap (λ (b : Bool). b && true) one)
 
--- the stage of a command after an error, and what is known then
-abbrev failed_stage : Asked → Stage
-failed_stage (asks.Known c) = stage.Failed
-failed_stage asks.Harmless = stage.Received
-failed_stage (asks.Foreign line) = stage.Received
+-- what was reported are the acts so far, and no rule is broken but that of turns, under one of these tags
+pub record Tells (P : Tag → Bool) (so_far : List Reported) (acts : List Act) : Type 0 where
+  pub are : AreReportsOf (act_reports so_far) acts
+  pub breaks : list_all (breaks_only P) so_far ≡ true
 
-abbrev pub known_failed : Known → Asked → Known
-known_failed known (asks.Known c) = changed known (lost_by c)
-known_failed known asks.Harmless = known
-known_failed known (asks.Foreign line) = nothing
+-- one act more is reported
+pub tells_more : (P : Tag → Bool) (so_far : List Reported) (acts : List Act) (x : Reported) (a : Act) → is_other x ≡ false
+    → breaks_only P x ≡ true → Tells P so_far acts → IsReportOf x a → Tells P (so_far ++ x ∷ []) (acts ++ a ∷ [])
+tells_more P so_far acts x a e b h one = record {
+  are = subst (λ (l : List Reported). AreReportsOf l (acts ++ a ∷ [])) (sym (reports_more so_far x e)) (pair_more (act_reports so_far) acts x a h.are one);
+  breaks = all_more P so_far x h.breaks b;
+}
 
-error_settled : (early : Bool) (t : Talking) (before : List Use) (tag : Tag) (asked : Asked) (after : List Use) (text : List ℕ)
-    → settled early t before tag asked stage.Received after (mark.Error text)
-    ≡ with_all t (before ++ opened tag asked (failed_stage asked) ∷ after) (known_failed t.known asked) t.told
-error_settled true t before tag (asks.Known command.AbortE) after text = refl
-error_settled true t before tag (asks.Known c) after text = refl
-error_settled true t before tag asks.Harmless after text = refl
-error_settled true t before tag (asks.Foreign line) after text = refl
-error_settled false t before tag (asks.Known c) after text = refl
-error_settled false t before tag asks.Harmless after text = refl
-error_settled false t before tag (asks.Foreign line) after text = refl
+-- or another line
+pub tells_other : (P : Tag → Bool) (so_far : List Reported) (acts : List Act) (x : Reported) → is_other x ≡ true → breaks_only P x ≡ true
+    → Tells P so_far acts → Tells P (so_far ++ x ∷ []) acts
+tells_other P so_far acts x e b h = record {
+  are = subst (λ (l : List Reported). AreReportsOf l acts) (sym (reports_other so_far x e)) h.are;
+  breaks = all_more P so_far x h.breaks b;
+}
 
--- what is known after the end of a command that has failed
-abbrev known_end : Known → Asked → Known
-known_end known (asks.Known c) = known
-known_end known asks.Harmless = known
-known_end known (asks.Foreign line) = nothing
+pub tells_same : (P : Tag → Bool) (so_far : List Reported) (acts : List Act) → Tells P so_far acts → Tells P (so_far ++ []) acts
+tells_same P so_far acts h = subst (λ (l : List Reported). Tells P l acts) (sym (append-nil so_far)) h
 
-end_settled : (early : Bool) (t : Talking) (before : List Use) (tag : Tag) (asked : Asked) (after : List Use)
-    → settled early t before tag asked (failed_stage asked) after mark.Done
-    ≡ with_all t (before ++ after) (known_end t.known asked) t.told
-end_settled true t before tag (asks.Known command.AbortE) after = refl
-end_settled true t before tag (asks.Known c) after = refl
-end_settled true t before tag asks.Harmless after = refl
-end_settled true t before tag (asks.Foreign line) after = refl
-end_settled false t before tag (asks.Known c) after = refl
-end_settled false t before tag asks.Harmless after = refl
-end_settled false t before tag (asks.Foreign line) after = refl
+-- ---- lines that this profile does not know
 
--- the lines of a failure
-abbrev pub says_failure : Talking → Tag → ℕ → Option Kind → Talking
-says_failure t tag code name = server_said (server_said t (reply_text (Reply.Error tag code name))) (reply_text (Reply.Done tag))
+-- the tag of such a line is one of these
+abbrev pub IsCounted : (Tag → Bool) → Tag → SentCommand → Type 0
+IsCounted P tag what = is_foreign what ≡ true → P tag ≡ true
 
-end_known : (s : Standing) (known : Known) (asked : Asked) → IsKnown s known → IsKnown s (known_end known asked)
-end_known s known (asks.Known c) h = h
-end_known s known asks.Harmless h = h
-end_known s known (asks.Foreign line) h = nothing_known s
+abbrev pub AreCounted : (Tag → Bool) → List Shape → Type 0
+AreCounted P [] = Unit {0}
+AreCounted P (x ∷ xs) = IsCounted P x.tag x.asked × AreCounted P xs
 
-errs : (t : Talking) (before : List Use) (tag : Tag) (asked : Asked) (after : List Use) (code : ℕ) (name : Option Kind) → IsTag tag
-    → HaveOthers tag before → t.uses ≡ before ++ opened tag asked stage.Received ∷ after
-    → server_said t (reply_text (Reply.Error tag code name))
-    ≡ with_all t (before ++ opened tag asked (failed_stage asked) ∷ after) (known_failed t.known asked) t.told
-errs t before tag asked after code name room others are =
-    said_is t (Reply.Error tag code name) room
-    ∙ (hears_at (list_any waits before) t before tag asked stage.Received after (mark.Error (error_report code name)) are others refl
-    ∙ error_settled (list_any waits before) t before tag asked after (error_report code name))
+pub counted_at : (P : Tag → Bool) (before : List Shape) (x : Shape) (after : List Shape) → AreCounted P (before ++ x ∷ after)
+    → IsCounted P x.tag x.asked
+counted_at P [] x after h = h.0
+counted_at P (y ∷ before) x after h = counted_at P before x after h.1
 
--- both lines of a failure are for the command
-pub fails_heard : (t : Talking) (before : List Use) (tag : Tag) (asked : Asked) (after : List Use) (code : ℕ) (name : Option Kind) → IsTag tag
-    → HaveOthers tag before → t.uses ≡ before ++ opened tag asked stage.Received ∷ after
-    → IsHeard t.uses (response_of (reply_text (Reply.Error tag code name)))
-    × IsHeard (server_said t (reply_text (Reply.Error tag code name))).uses (response_of (reply_text (Reply.Done tag)))
-fails_heard t before tag asked after code name room others are = (
-  heard_there t (Reply.Error tag code name) before asked stage.Received after room are,
-  heard_there (server_said t (reply_text (Reply.Error tag code name))) (Reply.Done tag) before asked (failed_stage asked) after room
-      (ap (λ (x : Talking). x.uses) (errs t before tag asked after code name room others are)),
-)
+counted_gone : (P : Tag → Bool) (before : List Shape) (x : Shape) (after : List Shape) → AreCounted P (before ++ x ∷ after)
+    → AreCounted P (before ++ after)
+counted_gone P [] x after h = h.1
+counted_gone P (y ∷ before) x after h = (h.0, counted_gone P before x after h.1)
 
--- a command fails: it is open no more, and nothing is reported
-pub fails_to : (s new : Standing) (acts : List Act) (before : List Use) (tag : Tag) (asked : Asked) (after : List Use) (t : Talking) (code : ℕ)
-    (name : Option Kind) → IsTag tag → HaveOthers tag before
-    → ((known : Known) → IsKnown s known → IsKnown new (known_failed known asked))
-    → IsAt s acts (before ++ opened tag asked stage.Received ∷ after) t → IsAt new acts (before ++ after) (says_failure t tag code name)
-fails_to s new acts before tag asked after t code name room others lost h =
-    let early : Bool = list_any waits before in
-    let failed : Talking = with_all t (before ++ opened tag asked (failed_stage asked) ∷ after) (known_failed t.known asked) t.told in
-    let first : server_said t (reply_text (Reply.Error tag code name)) ≡ failed = errs t before tag asked after code name room others h.are in
-    let second : server_said failed (reply_text (Reply.Done tag)) ≡ with_all failed (before ++ after) (known_end failed.known asked) failed.told =
-    said_is failed (Reply.Done tag) room
-    ∙ (hears_at early failed before tag asked (failed_stage asked) after mark.Done refl others refl
-    ∙ end_settled early failed before tag asked after) in
-    subst (IsAt new acts (before ++ after)) (sym (ap (λ (x : Talking). server_said x (reply_text (Reply.Done tag))) first ∙ second))
-    (record { are = refl; knows = end_known new (known_failed t.known asked) asked (lost t.known h.knows); tells = h.tells })
+counted_marked : (P : Tag → Bool) (before : List Shape) (x : Shape) (h : Heard) (after : List Shape) → AreCounted P (before ++ x ∷ after)
+    → AreCounted P (before ++ marked x h ∷ after)
+counted_marked P [] x h after c = c
+counted_marked P (y ∷ before) x h after c = (c.0, counted_marked P before x h after c.1)
 
-failed_known : (s : Standing) (asked : Asked) (known : Known) → IsKnown s known → IsKnown s (known_failed known asked)
-failed_known s (asks.Known c) known h = lost_known s known c h
-failed_known s asks.Harmless known h = h
-failed_known s (asks.Foreign line) known h = nothing_known s
+counted_more : (P : Tag → Bool) (xs : List Shape) (x : Shape) → AreCounted P xs → IsCounted P x.tag x.asked → AreCounted P (xs ++ x ∷ [])
+counted_more P [] x h one = (one, tt)
+counted_more P (y ∷ xs) x h one = (h.0, counted_more P xs x h.1 one)
 
-pub fails_here : (s : Standing) (acts : List Act) (before : List Use) (tag : Tag) (asked : Asked) (after : List Use) (t : Talking) (code : ℕ)
-    (name : Option Kind) → IsTag tag → HaveOthers tag before → IsAt s acts (before ++ opened tag asked stage.Received ∷ after) t
-    → IsAt s acts (before ++ after) (says_failure t tag code name)
-fails_here s acts before tag asked after t code name room others h =
-    fails_to s s acts before tag asked after t code name room others (failed_known s asked) h
+-- ---- a witness
 
--- ---- the end of the first of the open commands
+-- a witness has these open commands, all it knows is so, and it has reported these acts
+pub record IsAt (P : Tag → Bool) (s : Selected) (acts : List Act) (xs : List Shape) (d : Dialogue) : Type 0 where
+  pub view : Known
+  pub so : IsSo s view
+  pub within : AreWithin view d.uses d.known
+  pub shaped : AreShaped xs d.uses
+  pub rising : AreRising 0 d.uses d.lines
+  pub clear : d.crossed ≡ false
+  pub counted : AreCounted P xs
+  pub tells : Tells P d.reported acts
 
-pub ends_first : (s : Standing) (acts : List Act) (tag : Tag) (c : Command) (at : Stage) (after : List Use) (t : Talking) (known : Known)
-    (so_far : List Told) → IsTag tag → t.uses ≡ opened tag (asks.Known c) at ∷ after
-    → settled false t [] tag (asks.Known c) at after mark.Done ≡ with_all t after known so_far
-    → IsKnown s known → Tells so_far acts → IsAt s acts after (server_said t (reply_text (Reply.Done tag)))
-ends_first s acts tag c at after t known so_far room are is knows tells =
-    subst (IsAt s acts after)
-    (sym (said_is t (Reply.Done tag) room ∙ (hears_at false t [] tag (asks.Known c) at after mark.Done are tt refl ∙ is)))
-    (record { are = refl; knows = knows; tells = tells })
+-- ---- steps
 
--- ---- data for the first of the open commands
+-- what happens to a change below does not end it
+kept : (r : Renewal) (u : Use) → Becomes (renewed r (pending u.line u.stage)) (pending u.line u.stage)
+    → IsStep r u (use_renewed (all_renewed r) u)
+kept r u h =
+    record { waiting = λ o. o; known = λ o. within_itself (all_renewed r u.known); next = λ e. go u.has_failed e }
+  where
+    go : (b : Bool) (e : Known) → IsWithin (all_renewed r (cond b e (below (Some (pending u.line u.stage)) u.command e)))
+        (cond b (all_renewed r e) (below (Some (pending u.line u.stage)) u.command (all_renewed r e)))
+    go true e = within_itself (all_renewed r e)
+    go false e = below_renewed r (pending u.line u.stage) (pending u.line u.stage) u.command e h
 
-abbrev first_use : Talking → Tag → Command → List Use → Talking
-first_use t tag c after = record t { uses = opened tag (asks.Known c) stage.Received ∷ after }
+fault_becomes : (n : ℕ) (at : Stage) → Becomes (renewed Fault (pending n at)) (pending n at)
+fault_becomes n stage.Sent = inr refl
+fault_becomes n stage.Received = inl refl
+fault_becomes n (stage.Given d) = inl refl
+fault_becomes n stage.Lost = inl refl
 
-abbrev homed_heard : Talking → Tag → List Use → Result Bool NotHomedText → Talking
-homed_heard t tag after r =
-    let u : Use = opened tag (asks.Known command.IsHomed) stage.Received in
-    heard_in (turn_of (first_use t tag command.IsHomed after) 0 u) (first_use t tag command.IsHomed after) 0 u (given_homed r)
+faults_step : (us : List Use) → AreSteps Fault us (renews Fault us)
+faults_step [] = tt
+faults_step (u ∷ us) = (kept Fault u (fault_becomes u.line u.stage), faults_step us)
 
-pub homed_given : (t : Talking) (tag : Tag) (after : List Use) (homed : Bool) → IsTag tag
-    → t.uses ≡ opened tag (asks.Known command.IsHomed) stage.Received ∷ after
-    → server_said t (reply_text (Reply.Given tag (datum.Homed homed)))
-    ≡ with_all t (opened tag (asks.Known command.IsHomed) (stage.Given (datum.Homed homed)) ∷ after) t.known t.told
-homed_given t tag after homed room are =
-    said_is t (Reply.Given tag (datum.Homed homed)) (room, tt)
-    ∙ (ap (λ (us : List Use). hears (record t { uses = us }) tag (mark.Given (written_homed homed))) are
-    ∙ (ap (heard_under (first_use t tag command.IsHomed after) tag (mark.Given (written_homed homed)))
-    (found tag [] (opened tag (asks.Known command.IsHomed) stage.Received) after tt (tag_is-refl tag))
-    ∙ ap (homed_heard t tag after) (homed_read homed)))
+other_becomes : (m n : ℕ) (at : Stage) (h : Heard) → (m == n) ≡ false → Becomes (renewed (Mark n h) (pending m at)) (pending m at)
+other_becomes m n at h other =
+    inr (if_false (m == n) (with_mark (pending m at) (begun_at at) h) (unless_refused (pending m at) n h) other)
 
-abbrev point_heard : Talking → Tag → Point → Option Direction → List Use → Result Point NotPoint → Talking
-point_heard t tag p d after r =
-    let u : Use = opened tag (asks.Known (command.PtMeas p d)) stage.Received in
-    heard_in (turn_of (first_use t tag (command.PtMeas p d) after) 0 u) (first_use t tag (command.PtMeas p d) after) 0 u (given_point r)
+others_step : (n : ℕ) (h : Heard) (us : List Use) → HaveOtherLines n us → AreSteps (Mark n h) us (renews (Mark n h) us)
+others_step n h [] others = tt
+others_step n h (u ∷ us) others = (kept (Mark n h) u (other_becomes u.line n u.stage h others.0), others_step n h us others.1)
 
-pub point_given : (t : Talking) (tag : Tag) (p : Point) (d : Option Direction) (after : List Use) (at : Point) → IsTag tag → IsOnWire at
-    → t.uses ≡ opened tag (asks.Known (command.PtMeas p d)) stage.Received ∷ after
-    → server_said t (reply_text (Reply.Given tag (datum.Point at)))
-    ≡ with_all t (opened tag (asks.Known (command.PtMeas p d)) (stage.Given (datum.Point at)) ∷ after) t.known t.told
-point_given t tag p d after at room wire are =
-    said_is t (Reply.Given tag (datum.Point at)) (room, wire)
-    ∙ (ap (λ (us : List Use). hears (record t { uses = us }) tag (mark.Given (written_point at))) are
-    ∙ (ap (heard_under (first_use t tag (command.PtMeas p d) after) tag (mark.Given (written_point at)))
-    (found tag [] (opened tag (asks.Known (command.PtMeas p d)) stage.Received) after tt (tag_is-refl tag))
-    ∙ ap (point_heard t tag p d after) (point_read at wire)))
+steps_among : (r : Renewal) (b : List Use) (u v : Use) (a c : List Use) → AreSteps r b (renews r b) → IsStep r u v → AreSteps r a c
+    → AreSteps r (b ++ u ∷ a) (renews r b ++ v ∷ c)
+steps_among r [] u v a c front one back = (one, back)
+steps_among r (w ∷ b) u v a c front one back = (front.0, steps_among r b u v a c front.1 one back)
+
+steps_join : (r : Renewal) (b a : List Use) → AreSteps r b (renews r b) → AreSteps r a (renews r a)
+    → AreSteps r (b ++ a) (renews r b ++ renews r a)
+steps_join r [] a front back = back
+steps_join r (w ∷ b) a front back = (front.0, steps_join r b a front.1 back)
+
+-- ---- a fault
+
+pub faulting_at : (P : Tag → Bool) (s : Selected) (acts : List Act) (xs : List Shape) (d : Dialogue) (report : Reported) → is_other report ≡ true
+    → breaks_only P report ≡ true → IsAt P s acts xs d → IsAt P s acts xs (faulting d report)
+faulting_at P s acts xs d report other breaks h = record {
+  view = all_renewed Fault h.view;
+  so = still_so Fault s h.view h.so;
+  within = steps_within Fault h.view d.uses (renews Fault d.uses) d.known (faults_step d.uses) h.within;
+  shaped = shaped_renewed (all_renewed Fault) xs d.uses h.shaped;
+  rising = rising_renewed (all_renewed Fault) 0 d.uses d.lines h.rising;
+  clear = h.clear;
+  counted = h.counted;
+  tells = tells_other P d.reported acts report other breaks h.tells;
+}
+
+-- ---- lines of the client
+
+unknowing_shaped : (xs : List Shape) (us : List Use) → AreShaped xs us → AreShaped xs (map unknowing us)
+unknowing_shaped [] [] h = tt
+unknowing_shaped [] (u ∷ us) h = absurd h
+unknowing_shaped (x ∷ xs) [] h = absurd h
+unknowing_shaped (x ∷ xs) (u ∷ us) h = (ap unknowing h.0, unknowing_shaped xs us h.1)
+
+unknowing_rising : (lo : ℕ) (us : List Use) (hi : ℕ) → AreRising lo us hi → AreRising lo (map unknowing us) hi
+unknowing_rising lo [] hi h = h
+unknowing_rising lo (u ∷ us) hi h = (h.0, unknowing_rising (u.line + 1) us hi h.1)
+
+-- one that may be carried out at once
+pub at_once_at : (P : Tag → Bool) (s : Selected) (acts : List Act) (xs : List Shape) (d : Dialogue) (line : List ℕ) → IsAt P s acts xs d
+    → IsAt P s acts xs (at_once d line)
+at_once_at P s acts xs d line h = record {
+  view = h.view;
+  so = h.so;
+  within = nothing_left h.view d.uses d.known h.within;
+  shaped = unknowing_shaped xs d.uses h.shaped;
+  rising = unknowing_rising 0 d.uses d.lines h.rising;
+  clear = h.clear;
+  counted = h.counted;
+  tells = tells_other P d.reported acts (reports.Other Client line) refl refl h.tells;
+}
+
+pub one_more_at : (P : Tag → Bool) (s : Selected) (acts : List Act) (xs : List Shape) (d : Dialogue) → IsAt P s acts xs d
+    → IsAt P s acts xs (one_more d)
+one_more_at P s acts xs d h = record {
+  view = h.view;
+  so = h.so;
+  within = h.within;
+  shaped = h.shaped;
+  rising = rising_up 0 d.uses d.lines h.rising;
+  clear = h.clear;
+  counted = h.counted;
+  tells = h.tells;
+}
+
+-- one under a tag that is not in use
+first_sent : (P : Tag → Bool) (s : Selected) (acts : List Act) (xs : List Shape) (d : Dialogue) (tag : Tag) (what : SentCommand)
+    → IsCounted P tag what → IsAt P s acts xs d
+    → IsAt P s acts (xs ++ opened tag what stage.Sent ∷ []) (sending_after d tag what None)
+first_sent P s acts xs d tag what counts h =
+    let u : Use = used (opened tag what stage.Sent) d.lines d.known in record {
+      view = h.view;
+      so = h.so;
+      within = more_within h.view d.uses u d.known (below (Some (pending d.lines stage.Sent)) what d.known) h.within
+          (within_itself d.known) (within_itself (below (Some (pending d.lines stage.Sent)) what d.known));
+      shaped = shaped_join xs (opened tag what stage.Sent ∷ []) d.uses (u ∷ []) h.shaped (refl, tt);
+      rising = rising_more 0 d.uses u h.rising;
+      clear = ap (λ (b : Bool). b || (d.ordered && false)) h.clear ∙ and_false d.ordered;
+      counted = counted_more P xs (opened tag what stage.Sent) h.counted counts;
+      tells = h.tells;
+    }
+
+pub sent_at : (P : Tag → Bool) (s : Selected) (acts : List Act) (xs : List Shape) (d : Dialogue) (tag : Tag) (what : SentCommand)
+    → IsCounted P tag what → HaveOthers tag xs → IsAt P s acts xs d → IsAt P s acts (xs ++ opened tag what stage.Sent ∷ []) (sending d tag what)
+sent_at P s acts xs d tag what counts others h =
+    subst (λ o. IsAt P s acts (xs ++ opened tag what stage.Sent ∷ []) (sending_after d tag what o))
+    (sym (none_under tag xs d.uses h.shaped others)) (first_sent P s acts xs d tag what counts h)
+
+-- ---- a mark for a command
+
+-- what is reported of a mark
+abbrev pub said_of : Dialogue → Shape → ℕ → Known → Heard → List Reported
+said_of d x n k h = reported_by (unless_crossed d.crossed (use_heard n h (used x n k)).known) x.tag x.asked x.stage h
+
+-- it is at another stage
+pub stays_at : (P : Tag → Bool) (s : Selected) (acts : List Act) (before : List Shape) (x : Shape) (after : List Shape) (d : Dialogue) (h : Heard)
+    → (at : IsAt P s acts (before ++ x ∷ after) d) → (p : Split before x after d.uses)
+    → IsStep (Mark p.n h) (used x p.n p.k) (own x p.n p.k h) → Tells P (d.reported ++ said_of d x p.n p.k h) acts
+    → IsAt P s acts (before ++ marked x h ∷ after) (hearing d (length p.b) (used x p.n p.k) h false)
+stays_at P s acts before x after d h at p step tells =
+    let r : Renewal = Mark p.n h in
+    let u : Use = used x p.n p.k in
+    let v : Use = own x p.n p.k h in
+    let is : map (use_heard p.n h) d.uses ≡ renews r p.b ++ v ∷ renews r p.a = heard_uses h before x after d.uses d.lines at.rising p in
+    let rising : AreRising 0 (p.b ++ u ∷ p.a) d.lines = subst (λ us. AreRising 0 us d.lines) p.parts at.rising in
+    record {
+      view = all_renewed r at.view;
+      so = still_so r s at.view at.so;
+      within = subst (λ us. AreWithin (all_renewed r at.view) us (all_renewed r d.known)) (sym is)
+          (steps_within r at.view (p.b ++ u ∷ p.a) (renews r p.b ++ v ∷ renews r p.a) d.known
+          (steps_among r p.b u v p.a (renews r p.a) (others_step p.n h p.b (lines_before 0 p.b u p.a d.lines rising)) step
+          (others_step p.n h p.a (lines_after 0 p.b u p.a d.lines rising)))
+          (subst (λ us. AreWithin at.view us d.known) p.parts at.within));
+      shaped = subst (AreShaped (before ++ marked x h ∷ after)) (sym is)
+          (shaped_join before (marked x h ∷ after) (renews r p.b) (v ∷ renews r p.a) (shaped_renewed (all_renewed r) before p.b p.front)
+          (refl, shaped_renewed (all_renewed r) after p.a p.back));
+      rising = subst (λ us. AreRising 0 us d.lines) (sym is) (rising_marked r 0 p.b u v p.a d.lines refl rising);
+      clear = at.clear;
+      counted = counted_marked P before x h after at.counted;
+      tells = tells;
+    }
+
+-- a step of a command under these tags
+pub ends_at : (P : Tag → Bool) (s : Selected) (acts : List Act) (before : List Shape) (x : Shape) (after : List Shape) (d : Dialogue) (h : Heard)
+    → (at : IsAt P s acts (before ++ x ∷ after) d) → (p : Split before x after d.uses) → x.failed ≡ true
+    → Tells P (d.reported ++ said_of d x p.n p.k h) acts
+    → IsAt P s acts (before ++ after) (hearing d (length p.b) (used x p.n p.k) h true)
+ends_at P s acts before x after d h at p failed tells =
+    let r : Renewal = Mark p.n h in
+    let u : Use = used x p.n p.k in
+    let is : left_over (map (use_heard p.n h) d.uses) (length p.b) true ≡ renews r p.b ++ renews r p.a =
+    ended_uses h before x after d.uses d.lines at.rising p in
+    let rising : AreRising 0 (p.b ++ u ∷ p.a) d.lines = subst (λ us. AreRising 0 us d.lines) p.parts at.rising in
+    record {
+      view = all_renewed r at.view;
+      so = still_so r s at.view at.so;
+      within = subst (λ us. AreWithin (all_renewed r at.view) us (all_renewed r d.known)) (sym is)
+          (steps_within r at.view (p.b ++ p.a) (renews r p.b ++ renews r p.a) d.known
+          (steps_join r p.b p.a (others_step p.n h p.b (lines_before 0 p.b u p.a d.lines rising))
+          (others_step p.n h p.a (lines_after 0 p.b u p.a d.lines rising)))
+          (gone_within at.view p.b u p.a d.known failed (subst (λ us. AreWithin at.view us d.known) p.parts at.within)));
+      shaped = subst (AreShaped (before ++ after)) (sym is)
+          (shaped_join before after (renews r p.b) (renews r p.a) (shaped_renewed (all_renewed r) before p.b p.front)
+          (shaped_renewed (all_renewed r) after p.a p.back));
+      rising = subst (λ us. AreRising 0 us d.lines) (sym is) (rising_ended r 0 p.b u p.a d.lines rising);
+      clear = at.clear;
+      counted = counted_gone P before x after at.counted;
+      tells = tells;
+    }
+
+pub none_before : (b : List Use) → AreShaped [] b → b ≡ []
+none_before [] h = refl
+none_before (u ∷ b) h = absurd h
+
+-- what may be known for the first command, when it is answered, is so
+pub known_first : (P : Tag → Bool) (s : Selected) (acts : List Act) (x : Shape) (after : List Shape) (d : Dialogue) (h : Heard)
+    → (at : IsAt P s acts (x ∷ after) d) → (p : Split [] x after d.uses) → p.b ≡ [] → x.failed ≡ false
+    → IsSo s (unless_crossed d.crossed (use_heard p.n h (used x p.n p.k)).known)
+known_first P s acts x after d h at p first waiting =
+    let u : Use = used x p.n p.k in
+    let here : AreWithin at.view (u ∷ p.a) d.known =
+    subst (λ b. AreWithin at.view (b ++ u ∷ p.a) d.known) first (subst (λ us. AreWithin at.view us d.known) p.parts at.within) in
+    subst (λ k. IsSo s (unless_crossed d.crossed k)) (sym (ap (λ (v : Use). v.known) (use_same p.n h x p.k)))
+    (subst (IsSo s) (sym (if_false d.crossed nothing (all_renewed (Mark p.n h) (answered_known h p.k)) at.clear))
+    (still_so (Mark p.n h) s (answered_known h p.k)
+    (less_so s (answered_known h p.k) at.view (answered_less h p.k at.view (here.0 waiting)) at.so)))
+  where
+    answered_less : (g : Heard) (k e : Known) → IsWithin k e → IsWithin (answered_known g k) e
+    answered_less heard.Received k e w = w
+    answered_less heard.Failed k e w = w
+    answered_less (heard.Given g) k e w = within_trans (all_renewed Answer k) k e (answer_within k) w
+    answered_less heard.Unread k e w = within_trans (all_renewed Answer k) k e (answer_within k) w
+    answered_less heard.Complete k e w = within_trans (all_renewed Answer k) k e (answer_within k) w
+
+-- the first command fails: what it has begun is lost
+pub stops_at : (P : Tag → Bool) (s new : Selected) (acts : List Act) (tag : Tag) (c : Command) (after : List Shape) (d : Dialogue)
+    → (at : IsAt P s acts (opened tag (sends.Known c) stage.Received ∷ after) d)
+    → (p : Split [] (opened tag (sends.Known c) stage.Received) after d.uses)
+    → ((n : ℕ) (k : Known) → IsSo s k
+    → IsSo new (all_renewed (Mark n heard.Failed) (below (Some (pending n stage.Received)) (sends.Known c) k)))
+    → Tells P (d.reported ++ said_of d (opened tag (sends.Known c) stage.Received) p.n p.k heard.Failed) acts
+    → IsAt P new acts (marked (opened tag (sends.Known c) stage.Received) heard.Failed ∷ after)
+    (hearing d (length p.b) (used (opened tag (sends.Known c) stage.Received) p.n p.k) heard.Failed false)
+stops_at P s new acts tag c after d at p so tells =
+    let x : Shape = opened tag (sends.Known c) stage.Received in
+    let r : Renewal = Mark p.n heard.Failed in
+    let u : Use = used x p.n p.k in
+    let v : Use = own x p.n p.k heard.Failed in
+    let first : p.b ≡ [] = none_before p.b p.front in
+    let is : map (use_heard p.n heard.Failed) d.uses ≡ renews r p.b ++ v ∷ renews r p.a =
+    heard_uses heard.Failed [] x after d.uses d.lines at.rising p in
+    let only : map (use_heard p.n heard.Failed) d.uses ≡ v ∷ renews r p.a = is ∙ ap (λ b. renews r b ++ v ∷ renews r p.a) first in
+    let rising : AreRising 0 (p.b ++ u ∷ p.a) d.lines = subst (λ us. AreRising 0 us d.lines) p.parts at.rising in
+    let here : AreWithin at.view (u ∷ p.a) d.known =
+    subst (λ b. AreWithin at.view (b ++ u ∷ p.a) d.known) first (subst (λ us. AreWithin at.view us d.known) p.parts at.within) in
+    record {
+      view = all_renewed r (next u at.view);
+      so = so p.n at.view at.so;
+      within = subst (λ us. AreWithin (all_renewed r (next u at.view)) us (all_renewed r d.known)) (sym only) (
+        λ waiting. absurd (false≢true (sym waiting)),
+        steps_within r (next u at.view) p.a (renews r p.a) d.known
+            (others_step p.n heard.Failed p.a (lines_after 0 p.b u p.a d.lines rising)) here.1,
+      );
+      shaped = subst (AreShaped (marked x heard.Failed ∷ after)) (sym only)
+          (refl, shaped_renewed (all_renewed r) after p.a p.back);
+      rising = subst (λ us. AreRising 0 us d.lines) (sym is) (rising_marked r 0 p.b u v p.a d.lines refl rising);
+      clear = at.clear;
+      counted = at.counted;
+      tells = tells;
+    }
+
+-- the first command is done, with its act
+pub done_at : (P : Tag → Bool) (s new : Selected) (acts done : List Act) (tag : Tag) (c : Command) (at_stage : Stage) (after : List Shape)
+    (d : Dialogue) → (at : IsAt P s acts (opened tag (sends.Known c) at_stage ∷ after) d)
+    → (p : Split [] (opened tag (sends.Known c) at_stage) after d.uses)
+    → ((n : ℕ) (k : Known) → IsSo s k → IsSo new (all_renewed (Mark n heard.Complete) (below (Some (pending n at_stage)) (sends.Known c) k)))
+    → Tells P (d.reported ++ said_of d (opened tag (sends.Known c) at_stage) p.n p.k heard.Complete) done
+    → IsAt P new done after (hearing d (length p.b) (used (opened tag (sends.Known c) at_stage) p.n p.k) heard.Complete true)
+done_at P s new acts done tag c at_stage after d at p so tells =
+    let x : Shape = opened tag (sends.Known c) at_stage in
+    let r : Renewal = Mark p.n heard.Complete in
+    let u : Use = used x p.n p.k in
+    let first : p.b ≡ [] = none_before p.b p.front in
+    let is : left_over (map (use_heard p.n heard.Complete) d.uses) (length p.b) true ≡ renews r p.b ++ renews r p.a =
+    ended_uses heard.Complete [] x after d.uses d.lines at.rising p in
+    let only : left_over (map (use_heard p.n heard.Complete) d.uses) (length p.b) true ≡ renews r p.a =
+    is ∙ ap (λ b. renews r b ++ renews r p.a) first in
+    let rising : AreRising 0 (p.b ++ u ∷ p.a) d.lines = subst (λ us. AreRising 0 us d.lines) p.parts at.rising in
+    let here : AreWithin at.view (u ∷ p.a) d.known =
+    subst (λ b. AreWithin at.view (b ++ u ∷ p.a) d.known) first (subst (λ us. AreWithin at.view us d.known) p.parts at.within) in
+    record {
+      view = all_renewed r (below (Some (pending p.n at_stage)) (sends.Known c) at.view);
+      so = so p.n at.view at.so;
+      within = subst (λ us. AreWithin (all_renewed r (next u at.view)) us (all_renewed r d.known)) (sym only)
+          (steps_within r (next u at.view) p.a (renews r p.a) d.known
+          (others_step p.n heard.Complete p.a (lines_after 0 p.b u p.a d.lines rising)) here.1);
+      shaped = subst (AreShaped after) (sym only) (shaped_renewed (all_renewed r) after p.a p.back);
+      rising = subst (λ us. AreRising 0 us d.lines) (sym is) (rising_ended r 0 p.b u p.a d.lines rising);
+      clear = at.clear;
+      counted = at.counted.1;
+      tells = tells;
+    }

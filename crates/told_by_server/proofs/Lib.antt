@@ -1,8 +1,11 @@
-mod Places
 mod Knowing
-mod Answering
+mod Selected
+mod Places
 mod Hearing
+mod Replies
+mod Answering
 mod Opening
+mod Completing
 mod Following
 mod Reading
 mod Courses

@@ -9,20 +9,21 @@ use Rattle.dme_line.specs.declared.tags.Tag.{Tag}
 use Rattle.protocol_model.specs.Lines.{reply_texts}
 use Rattle.protocol_model.specs.Replies.{tag_is}
 use Rattle.protocol_model.specs.Server.{kind_in, all_fail, runs_under, waits_under, is_abort}
-use Rattle.protocol_model.specs.declared.held.Stage.TheVariants as stage
 use Rattle.protocol_model.specs.declared.lines.Line.{Line}
 use Rattle.protocol_model.specs.declared.lines.Misread.{Misread}
 use Rattle.protocol_model.specs.declared.lines.Waiting.{Waiting}
 use Rattle.protocol_model.proofs.table.Basics.{tag_is-refl, tag_is-true}
 use Rattle.server_core.specs.Kept.{IsReadingFit}
-use Rattle.told_ledger.specs.Talking.{Talking, is_open, server_said}
-use Rattle.told_ledger.specs.declared.uses.Asked.{Asked}
-use Rattle.told_ledger.specs.declared.uses.Asked.TheVariants as asks
-use Rattle.told_ledger.specs.declared.uses.Use.{Use}
-use Rattle.told_ledger.specs.Watching.{server_lines}
-use Rattle.told_by_server.proofs.Places.{HaveOthers, opened}
-use Rattle.told_by_server.proofs.Knowing.{Standing, IsAt}
-use Rattle.told_by_server.proofs.Hearing.{fails_here, fails_heard}
+use Rattle.witness.specs.Asking.{server_line}
+use Rattle.witness.specs.Dialogues.{Dialogue, after}
+use Rattle.witness.specs.Watching.{server_lines}
+use Rattle.witness.specs.declared.lines.SentCommand.{SentCommand}
+use Rattle.witness.specs.declared.lines.SentCommand.TheVariants as asks
+use Rattle.witness.specs.declared.lines.Stage.TheVariants as stage
+use Rattle.told_by_server.proofs.Places.{Shape, HaveOthers, opened}
+use Rattle.told_by_server.proofs.Selected.{Selected}
+use Rattle.told_by_server.proofs.Hearing.{IsAt}
+use Rattle.told_by_server.proofs.Replies.{fails_here, fails_heard}
 use Rattle.told_by_server.proofs.Answering.{AreHeard}
 use Rattle.protocol_model.proofs.written_lines.Writable.{AreReplies}
 
@@ -34,14 +35,14 @@ running_one None = []
 running_one (Some line) = record { tag = line.tag; reading = Ok line.command } ∷ []
 
 -- a witness has a line under this reading as what it is: a command, or a line that is not known
-abbrev pub IsAskedAs : Result Command Misread → Asked → Type 0
+abbrev pub IsAskedAs : Result Command Misread → SentCommand → Type 0
 IsAskedAs (Ok c) asked = asked ≡ asks.Known c
 IsAskedAs (Err why) (asks.Known c) = ⊥
-IsAskedAs (Err why) asks.Harmless = Unit {0}
+IsAskedAs (Err why) asks.Asking = Unit {0}
 IsAskedAs (Err why) (asks.Foreign line) = Unit {0}
 
 -- what may run or wait: under a standard tag, no abort, with lengths in the volume
-pub record IsOpen (w : Waiting) (asked : Asked) : Type 0 where
+pub record IsOpen (w : Waiting) (asked : SentCommand) : Type 0 where
   pub asks : IsAskedAs w.reading asked
   pub room : IsTag w.tag
   pub sort : is_event_tag w.tag ≡ false
@@ -49,10 +50,10 @@ pub record IsOpen (w : Waiting) (asked : Asked) : Type 0 where
   pub fit : IsReadingFit w.reading
 
 -- the commands that are open at a witness are these, each of them received
-abbrev pub AreOpen : List Waiting → List Use → Type 0
+abbrev pub AreOpen : List Waiting → List Shape → Type 0
 AreOpen [] us = us ≡ []
 AreOpen (w ∷ ws) us =
-    (asked : Asked) × (rest : List Use) × (us ≡ opened w.tag asked stage.Received ∷ rest) × IsOpen w asked × AreOpen ws rest
+    (asked : SentCommand) × (rest : List Shape) × (us ≡ opened w.tag asked stage.Received ∷ rest) × IsOpen w asked × AreOpen ws rest
 
 -- no two of them have one tag
 abbrev pub AreApart : List Waiting → Type 0
@@ -76,15 +77,11 @@ tag_apart t u e = go (tag_is u t) refl
     go true is = absurd (false≢true (sym e
         ∙ subst (λ (v : Tag). tag_is t v ≡ true) (sym (tag_is-true u t is)) (tag_is-refl t)))
 
-pub others_open : (tag : Tag) (ws : List Waiting) (us : List Use) → AreOpen ws us → waits_under tag ws ≡ false → HaveOthers tag us
+pub others_open : (tag : Tag) (ws : List Waiting) (us : List Shape) → AreOpen ws us → waits_under tag ws ≡ false → HaveOthers tag us
 others_open tag [] us h e = subst (HaveOthers tag) (sym h) tt
 others_open tag (w ∷ ws) us h e =
     let parts = or_parts (tag_is w.tag tag) (waits_under tag ws) e in
     subst (HaveOthers tag) (sym h.2) (parts.0, others_open tag ws h.1 h.4 parts.1)
-
-pub not_open : (tag : Tag) (us : List Use) → HaveOthers tag us → is_open tag us ≡ false
-not_open tag [] h = refl
-not_open tag (u ∷ us) h = or_from (tag_is u.tag tag) (is_open tag us) h.0 (not_open tag us h.1)
 
 -- a command runs or waits under a tag
 pub under_one : (tag : Tag) (running : Option Line) (ws : List Waiting) → (runs_under tag running || waits_under tag ws) ≡ false
@@ -106,14 +103,14 @@ apart_more (v ∷ ws) w h e =
     let parts = or_parts (tag_is v.tag w.tag) (waits_under w.tag ws) e in
     (waits_more v.tag ws w h.0 (tag_apart v.tag w.tag parts.0), apart_more ws w h.1 parts.1)
 
-pub open_more : (ws : List Waiting) (us : List Use) (w : Waiting) (asked : Asked) → AreOpen ws us → IsOpen w asked
+pub open_more : (ws : List Waiting) (us : List Shape) (w : Waiting) (asked : SentCommand) → AreOpen ws us → IsOpen w asked
     → AreOpen (ws ++ w ∷ []) (us ++ opened w.tag asked stage.Received ∷ [])
 open_more [] us w asked h one =
-    (asked, [], ap (λ (l : List Use). l ++ opened w.tag asked stage.Received ∷ []) h, one, refl)
+    (asked, [], ap (λ (l : List Shape). l ++ opened w.tag asked stage.Received ∷ []) h, one, refl)
 open_more (v ∷ ws) us w asked h one = (
   h.0,
   h.1 ++ opened w.tag asked stage.Received ∷ [],
-  ap (λ (l : List Use). l ++ opened w.tag asked stage.Received ∷ []) h.2,
+  ap (λ (l : List Shape). l ++ opened w.tag asked stage.Received ∷ []) h.2,
   h.3,
   open_more ws h.1 w asked h.4 one,
 )
@@ -121,7 +118,7 @@ open_more (v ∷ ws) us w asked h one = (
 -- ---- what waits fails
 
 -- none of these commands is open under a tag of what waits
-abbrev pub AreFree : List Use → List Waiting → Type 0
+abbrev pub AreFree : List Shape → List Waiting → Type 0
 AreFree before [] = Unit {0}
 AreFree before (w ∷ ws) = HaveOthers w.tag before × AreFree before ws
 
@@ -129,46 +126,46 @@ pub free_first : (ws : List Waiting) → AreFree [] ws
 free_first [] = tt
 free_first (w ∷ ws) = (tt, free_first ws)
 
-pub free_second : (u : Use) (ws : List Waiting) → waits_under u.tag ws ≡ false → AreFree (u ∷ []) ws
+pub free_second : (u : Shape) (ws : List Waiting) → waits_under u.tag ws ≡ false → AreFree (u ∷ []) ws
 free_second u [] e = tt
 free_second u (w ∷ ws) e =
     let parts = or_parts (tag_is w.tag u.tag) (waits_under u.tag ws) e in
     ((tag_apart w.tag u.tag parts.0, tt), free_second u ws parts.1)
 
 -- all that waits fails, in order
-pub all_fail_at : (s : Standing) (acts : List Act) (code : ℕ) (ws : List Waiting) (us before after : List Use) (t : Talking) → AreOpen ws us
-    → AreFree before ws → IsAt s acts (before ++ (us ++ after)) t
-    → IsAt s acts (before ++ after) (server_lines t (reply_texts (all_fail code ws)))
-all_fail_at s acts code [] us before after t h free at =
-    subst (λ (l : List Use). IsAt s acts (before ++ (l ++ after)) t) h at
-all_fail_at s acts code (w ∷ ws) us before after t h free at =
-    all_fail_at s acts code ws h.1 before after _ h.4 free.1
-    (fails_here s acts before w.tag h.0 (h.1 ++ after) t code (kind_in w.reading) h.3.room free.0
-    (subst (λ (l : List Use). IsAt s acts (before ++ (l ++ after)) t) h.2 at))
+pub all_fail_at : (P : Tag → Bool) (s : Selected) (acts : List Act) (code : ℕ) (ws : List Waiting) (us before after_it : List Shape) (t : Dialogue) → AreOpen ws us
+    → AreFree before ws → IsAt P s acts (before ++ (us ++ after_it)) t
+    → IsAt P s acts (before ++ after_it) (server_lines t (reply_texts (all_fail code ws)))
+all_fail_at P s acts code [] us before after_it t h free at =
+    subst (λ (l : List Shape). IsAt P s acts (before ++ (l ++ after_it)) t) h at
+all_fail_at P s acts code (w ∷ ws) us before after_it t h free at =
+    all_fail_at P s acts code ws h.1 before after_it _ h.4 free.1
+    (fails_here P s acts before w.tag h.0 (h.1 ++ after_it) t code (kind_in w.reading) h.3.room free.0
+    (subst (λ (l : List Shape). IsAt P s acts (before ++ (l ++ after_it)) t) h.2 at))
 
 -- each line of that is for a command that is open
-pub all_fail_heard : (s : Standing) (acts : List Act) (code : ℕ) (ws : List Waiting) (us before after : List Use) (t : Talking)
-    → AreOpen ws us → AreFree before ws → IsAt s acts (before ++ (us ++ after)) t → AreHeard t (reply_texts (all_fail code ws))
-all_fail_heard s acts code [] us before after t h free at = tt
-all_fail_heard s acts code (w ∷ ws) us before after t h free at =
-    let first : IsAt s acts (before ++ opened w.tag h.0 stage.Received ∷ (h.1 ++ after)) t =
-    subst (λ (l : List Use). IsAt s acts (before ++ (l ++ after)) t) h.2 at in
-    let two = fails_heard t before w.tag h.0 (h.1 ++ after) code (kind_in w.reading) h.3.room free.0 first.are in (
+pub all_fail_heard : (P : Tag → Bool) (s : Selected) (acts : List Act) (code : ℕ) (ws : List Waiting) (us before after_it : List Shape) (t : Dialogue)
+    → AreOpen ws us → AreFree before ws → IsAt P s acts (before ++ (us ++ after_it)) t → AreHeard t (reply_texts (all_fail code ws))
+all_fail_heard P s acts code [] us before after_it t h free at = tt
+all_fail_heard P s acts code (w ∷ ws) us before after_it t h free at =
+    let first : IsAt P s acts (before ++ opened w.tag h.0 stage.Received ∷ (h.1 ++ after_it)) t =
+    subst (λ (l : List Shape). IsAt P s acts (before ++ (l ++ after_it)) t) h.2 at in
+    let two = fails_heard P s acts before w.tag h.0 (h.1 ++ after_it) t code (kind_in w.reading) h.3.room free.0 first in (
       two.0,
       (
         two.1,
-        all_fail_heard s acts code ws h.1 before after _ h.4 free.1
-            (fails_here s acts before w.tag h.0 (h.1 ++ after) t code (kind_in w.reading) h.3.room free.0 first),
+        all_fail_heard P s acts code ws h.1 before after_it _ h.4 free.1
+            (fails_here P s acts before w.tag h.0 (h.1 ++ after_it) t code (kind_in w.reading) h.3.room free.0 first),
       ),
     )
 
 -- and can be written
-pub all_fail_said : (code : ℕ) (ws : List Waiting) (us : List Use) → AreOpen ws us → AreReplies (all_fail code ws)
+pub all_fail_said : (code : ℕ) (ws : List Waiting) (us : List Shape) → AreOpen ws us → AreReplies (all_fail code ws)
 all_fail_said code [] us h = tt
 all_fail_said code (w ∷ ws) us h = (h.3.room, (h.3.room, all_fail_said code ws h.1 h.4))
 
 -- ---- the lines of a server
 
-pub says_more : (t : Talking) (xs ys : List (List ℕ)) → server_lines t (xs ++ ys) ≡ server_lines (server_lines t xs) ys
+pub says_more : (t : Dialogue) (xs ys : List (List ℕ)) → server_lines t (xs ++ ys) ≡ server_lines (server_lines t xs) ys
 says_more t [] ys = refl
-says_more t (x ∷ xs) ys = says_more (server_said t x) xs ys
+says_more t (x ∷ xs) ys = says_more (after t (server_line x)) xs ys

@@ -1,10 +1,10 @@
 -- What a witness reports that reads the lines of a course in another order, while further lines are on their way.
-use Rattle.std.proofs.Common.{◌≡◌, ℕ, ◌≤◌, is_none, Option, Bool, true, false, cond, ◌||◌, List, [], ◌∷◌, ◌++◌, map, Some, None, Result, Ok, Err}
-use Rattle.std.proofs.Common.{refl, sym, ap, ◌∙◌, subst, arith, append_assoc, append-nil, inl, inr, ne_eqb}
-use Rattle.std.specs.Prelude.{position}
+use Rattle.std.proofs.Common.{◌≡◌, ℕ, ◌≤◌, is_none, Option, Bool, true, false, cond, not, ◌||◌, List, [], ◌∷◌, ◌++◌, map, Some, None, Result, Ok, Err}
+use Rattle.std.proofs.Common.{refl, sym, ap, ◌∙◌, subst, arith, append_assoc, append-nil, ne_eqb}
+use Rattle.std.specs.Prelude.{filter}
 use Rattle.std.proofs.lemmas.Bool.{false≢true, and_parts}
-use Rattle.std.proofs.lemmas.List.Folds.{list_all-append}
 use Rattle.contact_ledger.specs.declared.acts.Act.{Act}
+use Rattle.contact_ledger.specs.declared.acts.Act.TheVariants as act
 use Rattle.dme_line.specs.CommandText.{ReadsCommand}
 use Rattle.dme_line.specs.Tags.{IsNumbered}
 use Rattle.dme_line.specs.declared.commands.Command.{Command}
@@ -15,6 +15,9 @@ use Rattle.dme_line.specs.declared.responses.NotResponse.{NotResponse}
 use Rattle.dme_line.specs.declared.tags.Tag.{Tag}
 use Rattle.dme_line.specs.declared.tags.Tag.TheVariants.{Std, Event}
 use Rattle.dme_line.proofs.ReadWritable.{read_is_writable}
+use Rattle.fixed_um.specs.Shapes.{Direction}
+use Rattle.fixed_um.specs.declared.frames.Frame.{Frame}
+use Rattle.fixed_um.specs.declared.lengths.Point.{Point}
 use Rattle.line_framing.specs.Next.{Front, next_of}
 use Rattle.line_framing.specs.Stream.{IsStream}
 use Rattle.protocol_model.specs.Claims.{acts_on}
@@ -28,26 +31,24 @@ use Rattle.protocol_model.proofs.written_lines.Writable.{reply_read, AreReplies,
 use Rattle.server_core.specs.Calls.{Call, Accept, Feed, ReadOne, Turn, Machine, Leave, Restart, Sent, behind_call, behind_calls, reached, possible, gives_up}
 use Rattle.server_core.specs.Serving.{may_accept, may_turn, may_feed}
 use Rattle.server_core.proofs.Steadies.{nothing_runs}
-use Rattle.told_ledger.specs.Asking.{asked}
-use Rattle.told_ledger.specs.Talking.{Talking, silence, is_open, heard_under, answering, client_said, server_said}
-use Rattle.told_ledger.specs.Watching.{Watching, AreAllRead, client_lines, server_lines, ledger}
-use Rattle.told_ledger.specs.declared.uses.Told.{Told}
-use Rattle.told_ledger.specs.declared.uses.Use.{Use}
-use Rattle.told_orders.specs.Orders.{Line, Up, Down, said_all, ups, downs, is_under, some_sends, IsBehind, IsCausal, IsClear}
-use Rattle.told_orders.specs.Orders.{IsAnswer, AreAnswers, IsPrefix}
+use Rattle.witness.specs.Asking.{sent, unknown, client_line, server_line}
+use Rattle.witness.specs.Dialogues.{Dialogue, silence, after}
+use Rattle.witness.specs.Watching.{Watching, AreAllRead, client_lines, server_lines, ledger}
+use Rattle.witness.specs.declared.lines.Reported.{Reported}
+use Rattle.witness.specs.declared.lines.Reported.TheVariants as reports
+use Rattle.witness.specs.declared.lines.SentCommand.{SentCommand}
+use Rattle.witness.specs.declared.lines.Side.TheVariants.{Client, Server}
+use Rattle.witness.specs.declared.lines.Use.{Use}
+use Rattle.told_orders.specs.Claims.{is_at_once_report, in_turn, IsPart, unknown as part_unknown, known as part_known, ClaimsNoMore, same, moved, framed, touched, contact, ClaimNoMore}
 use Rattle.told_orders.specs.Courses.{AreLinesOf, whole_lines, are_whole_lines}
-use Rattle.told_orders.proofs.Courses.{ups_append, downs_append, recorded_told}
-use Rattle.told_orders.proofs.Arrivals.{whole_after}
-use Rattle.told_orders.proofs.Marks.{Found, find_first, marks_first}
-use Rattle.told_orders.proofs.More.{all_append, all_ups, all_downs, asking_refused, more_report, no_refusal_is_clear, one_use_is_clear}
-use Rattle.told_orders.proofs.More.{ups_report_nothing, server_append}
-use Rattle.told_orders.proofs.Orders.{same_told}
-use Rattle.told_orders.proofs.Swaps.{answers_are_causal, ups_are_causal, ups_after}
-use Rattle.told_by_server.specs.Lockstep.{line_read, replies, answered, seen, all_seen, AreAnew, IsCourse}
-use Rattle.told_by_server.specs.Reports.{is_other, reports, AreReportsOf}
-use Rattle.told_by_server.specs.Transit.{lines_seen, has_tag, have_tags, IsSureOf, AreReportsOfFirst, fed_by, all_fed, all_written}
+use Rattle.told_orders.specs.Orders.{Line, Up, Down, said_all, ups, downs, at_once_line, is_under, some_sends, IsBehind, IsCausal, IsPrefix}
+use Rattle.told_orders.proofs.Arrivals.{whole_after, whole_none}
+use Rattle.told_orders.proofs.Courses.{ups_append, downs_append}
+use Rattle.told_by_server.specs.Lockstep.{line_read, all_read, replies, answered, seen, all_seen, AreAnew, IsCourse}
+use Rattle.told_by_server.specs.Reports.{is_other, act_reports, some_foreign, NamesNoOther, IsReportOf, AreReportsOf}
+use Rattle.told_by_server.specs.Transit.{lines_seen, AreReportsOfFirst, fed_by, all_fed, all_written}
 use Rattle.told_by_server.proofs.Answering.{IsHeard, AreHeard}
-use Rattle.told_by_server.proofs.Courses.{IsOn, call_on, begun_on, reports_of_acts, is_false}
+use Rattle.told_by_server.proofs.Courses.{IsOn, CountLines, count_parts, count_own, call_on, begun_on, reports_of_acts, is_false}
 use Rattle.told_by_server.proofs.Following.{machined_follows, turned_follows}
 use Rattle.told_by_server.proofs.Reading.{AreAnswersTo, FollowsLine, read_follows}
 use Rattle.line_framing.specs.Calls.{line_in}
@@ -58,87 +59,74 @@ use Rattle.line_framing.proofs.FirstLine.{found}
 use Rattle.line_framing.proofs.Streams.{line_bytes-append, AreLines-append}
 use Rattle.server_core.proofs.Deeds.{chosen}
 use Rattle.server_core.proofs.Reached.{reached_steady}
-use Rattle.told_orders.proofs.Arrivals.{whole_none}
 
 -- ---- each answer comes after its command
 
 -- the lines of a call: each is for an open command, or they are the refusal of a line without a tag
-data AreFor (t : Talking) (lines : List (List ℕ)) : Type 0 where
-  commands : AreHeard t lines → AreFor t lines
-  no_tag : lines ≡ reply_text (Reply.Error (Event 0) 9001 None) ∷ [] → AreFor t lines
+data AreFor (d : Dialogue) (lines : List (List ℕ)) : Type 0 where
+  commands : AreHeard d lines → AreFor d lines
+  no_tag : lines ≡ reply_text (Reply.Error (Event 0) 9001 None) ∷ [] → AreFor d lines
 
--- each is for an open command where the line that is read has a tag
-record AreSaid (read : List (List ℕ)) (t : Talking) (lines : List (List ℕ)) : Type 0 where
-  all : AreFor t lines
-  tagged : have_tags read ≡ true → AreHeard t lines
+of_line : (r : Result (Tag × Command) LineFault) (d : Dialogue) (said : List Reply) → AreAnswersTo r d said → AreFor d (reply_texts said)
+of_line (Ok command) d said h = commands h
+of_line (Err fault.NoTag) d said h = no_tag (ap reply_texts h)
+of_line (Err (fault.UnknownCommand tag)) d said h = commands h
+of_line (Err (fault.BadArguments tag kind)) d said h = commands h
 
-of_line : (r : Result (Tag × Command) LineFault) (t : Talking) (said : List Reply) → AreAnswersTo r t said → AreFor t (reply_texts said)
-of_line (Ok command) t said h = commands h
-of_line (Err fault.NoTag) t said h = no_tag (ap reply_texts h)
-of_line (Err (fault.UnknownCommand tag)) t said h = commands h
-of_line (Err (fault.BadArguments tag kind)) t said h = commands h
+front_said : (P : Tag → Bool) (n : ℕ) (e : ServerEnd) (front : Front) (d : Dialogue) → AreAnew e.server (line_in front)
+    → CountLines P (line_in front) → IsOn P n e d
+    → AreFor (client_lines d (line_in front)) (reply_texts (replies e.server (line_in front)))
+front_said P n e (Ok None) d anew counts h = commands tt
+front_said P n e (Ok (Some (line, rest))) d anew counts h =
+    of_line (command_of line) (after d (client_line line)) (server_read e.server (reading_of (command_of line))).said
+    (read_follows P e.server line d anew counts.0 (IsOn.follows h)).heard
+front_said P n e (Err why) d anew counts h = commands tt
 
-of_tagged : (r : Result (Tag × Command) LineFault) (t : Talking) (said : List Reply) → AreAnswersTo r t said → has_tag r ≡ true
-    → AreHeard t (reply_texts said)
-of_tagged (Ok command) t said h e = h
-of_tagged (Err fault.NoTag) t said h e = absurd (false≢true e)
-of_tagged (Err (fault.UnknownCommand tag)) t said h e = h
-of_tagged (Err (fault.BadArguments tag kind)) t said h e = h
+read_said : (P : Tag → Bool) (n : ℕ) (on : Bool) (e : ServerEnd) (front : Front) (d : Dialogue) → AreAnew e.server (cond on (line_in front) [])
+    → CountLines P (cond on (line_in front) []) → IsOn P n e d
+    → AreFor (client_lines d (cond on (line_in front) [])) (reply_texts (replies e.server (cond on (line_in front) [])))
+read_said P n true e front d anew counts h = front_said P n e front d anew counts h
+read_said P n false e front d anew counts h = commands tt
 
-front_said : (n : ℕ) (e : ServerEnd) (front : Front) (t : Talking) → AreAnew e.server (line_in front) → IsOn n e t
-    → AreSaid (line_in front) (client_lines t (line_in front)) (reply_texts (replies e.server (line_in front)))
-front_said n e (Ok None) t anew h = record { all = commands tt; tagged = λ tags. tt }
-front_said n e (Ok (Some (line, rest))) t anew h =
-    let to : FollowsLine (command_of line) (client_said t line) (server_read e.server (reading_of (command_of line))) =
-    read_follows e.server line t anew (IsOn.follows h) in
-    let said : List Reply = (server_read e.server (reading_of (command_of line))).said in
-    record {
-      all = of_line (command_of line) (client_said t line) said to.heard;
-      tagged = λ tags. of_tagged (command_of line) (client_said t line) said to.heard ((and_parts (has_tag (command_of line)) true tags).0);
-    }
-front_said n e (Err why) t anew h = record { all = commands tt; tagged = λ tags. tt }
+turn_said : (P : Tag → Bool) (n : ℕ) (may : Bool) (e : ServerEnd) (d : Dialogue) → may_turn e.server ≡ may → IsOn P n e d
+    → AreHeard d (reply_texts (cond may (server_turned e.server).said []))
+turn_said P n true e d is h =
+    (turned_follows P e.server d (nothing_runs e.server.running ((and_parts _ _ is).0)) (IsOn.follows h)).heard
+turn_said P n false e d is h = tt
 
-read_said : (n : ℕ) (on : Bool) (e : ServerEnd) (front : Front) (t : Talking) → AreAnew e.server (cond on (line_in front) [])
-    → IsOn n e t
-    → AreSaid (cond on (line_in front) []) (client_lines t (cond on (line_in front) []))
-    (reply_texts (replies e.server (cond on (line_in front) [])))
-read_said n true e front t anew h = front_said n e front t anew h
-read_said n false e front t anew h = record { all = commands tt; tagged = λ tags. tt }
+machine_said : (P : Tag → Bool) (n : ℕ) (may : Bool) (ended : Outcome) (e : ServerEnd) (d : Dialogue)
+    → may_end e.server.running ended ≡ may → IsOn P n e d → AreHeard d (reply_texts (cond may (server_machined e.server ended).said []))
+machine_said P n true ended e d is h = (machined_follows P e.server ended e.server.running d is (IsOn.follows h)).heard
+machine_said P n false ended e d is h = tt
 
-turn_said : (n : ℕ) (may : Bool) (e : ServerEnd) (t : Talking) → may_turn e.server ≡ may → IsOn n e t
-    → AreHeard t (reply_texts (cond may (server_turned e.server).said []))
-turn_said n true e t is h =
-    (turned_follows e.server t (nothing_runs e.server.running ((and_parts _ _ is).0)) (IsOn.follows h)).heard
-turn_said n false e t is h = tt
-
-machine_said : (n : ℕ) (may : Bool) (ended : Outcome) (e : ServerEnd) (t : Talking) → may_end e.server.running ended ≡ may → IsOn n e t
-    → AreHeard t (reply_texts (cond may (server_machined e.server ended).said []))
-machine_said n true ended e t is h = (machined_follows e.server ended e.server.running t is (IsOn.follows h)).heard
-machine_said n false ended e t is h = tt
-
-only_commands : (t : Talking) (lines : List (List ℕ)) → AreHeard t lines → AreSaid [] t lines
-only_commands t lines h = record { all = commands h; tagged = λ tags. h }
-
-call_said : (n : ℕ) (call : Call) (e : ServerEnd) (t : Talking) → AreAnew e.server (line_read call e) → IsOn n e t
-    → AreSaid (line_read call e) (client_lines t (line_read call e)) (reply_texts (answered call e))
-call_said n (Accept m) e t anew h = only_commands t [] tt
-call_said n (Feed bytes) e t anew h = only_commands t [] tt
-call_said n ReadOne e t anew h = read_said n e.server.on e (next_of e.input.rest) t anew h
-call_said n Turn e t anew h = only_commands t _ (turn_said n (may_turn e.server) e t refl h)
-call_said n (Machine ended) e t anew h = only_commands t _ (machine_said n (may_end e.server.running ended) ended e t refl h)
-call_said n Leave e t anew h = only_commands t [] tt
-call_said n Restart e t anew h = only_commands t [] tt
-call_said n (Sent count) e t anew h = only_commands t [] tt
+call_said : (P : Tag → Bool) (n : ℕ) (call : Call) (e : ServerEnd) (d : Dialogue) → AreAnew e.server (line_read call e)
+    → CountLines P (line_read call e) → IsOn P n e d
+    → AreFor (client_lines d (line_read call e)) (reply_texts (answered call e))
+call_said P n (Accept m) e d anew counts h = commands tt
+call_said P n (Feed bytes) e d anew counts h = commands tt
+call_said P n ReadOne e d anew counts h = read_said P n e.server.on e (next_of e.input.rest) d anew counts h
+call_said P n Turn e d anew counts h = commands (turn_said P n (may_turn e.server) e d refl h)
+call_said P n (Machine ended) e d anew counts h = commands (machine_said P n (may_end e.server.running ended) ended e d refl h)
+call_said P n Leave e d anew counts h = commands tt
+call_said P n Restart e d anew counts h = commands tt
+call_said P n (Sent count) e d anew counts h = commands tt
 
 -- ---- the order of a course
 
-answer_heard : (uses : List Use) (r : Result Response NotResponse) → IsHeard uses r → IsAnswer uses r
-answer_heard uses (Ok r) h = h
-answer_heard uses (Err why) h = tt
+true_false : (b : Bool) → b ≡ true → b ≡ false → ⊥
+true_false b e f = false≢true (sym f ∙ e)
 
-answers_heard : (t : Talking) (lines : List (List ℕ)) → AreHeard t lines → AreAnswers t lines
-answers_heard t [] h = tt
-answers_heard t (line ∷ lines) h = (answer_heard t.uses (response_of line) h.0, answers_heard (server_said t line) lines h.1)
+heard_behind : (uses : List Use) (later : List (List ℕ)) (r : Result Response NotResponse) → IsHeard uses r → IsBehind uses later r
+heard_behind uses later (Ok r) h = λ none. absurd (true_false _ h none)
+heard_behind uses later (Err why) h = absurd h
+
+heard_causal : (d : Dialogue) (lines : List (List ℕ)) (rest : List Line) → AreHeard d lines → IsCausal (server_lines d lines) rest
+    → IsCausal d (map Down lines ++ rest)
+heard_causal d [] rest h causal = causal
+heard_causal d (line ∷ lines) rest h causal = (
+  heard_behind d.uses (ups (map Down lines ++ rest)) (response_of line) h.0,
+  heard_causal (after d (server_line line)) lines rest h.1 causal,
+)
 
 -- no command is sent under the tag of refusals that name none
 not_zero : (tag : Tag) → IsNumbered tag → tag_is tag (Event 0) ≡ false
@@ -148,7 +136,7 @@ not_zero (Event n) h = ne_eqb n 0 (λ e. above n h.0 e)
     above : (m : ℕ) → 1 ≤ m → m ≡ 0 → ⊥
     above m le e = omega arith
 
-zero_reads : (line : List ℕ) (r : Result (Tag × Command) LineFault) → ReadsCommand line r → is_under (Event 0) (asked line r) ≡ false
+zero_reads : (line : List ℕ) (r : Result (Tag × Command) LineFault) → ReadsCommand line r → is_under (Event 0) (sent line r) ≡ false
 zero_reads line (Ok (tag, c)) reads = not_zero tag (read_is_writable line tag c reads).tagged.numbered
 zero_reads line (Err fault.NoTag) reads = refl
 zero_reads line (Err (fault.UnknownCommand tag)) reads = not_zero tag reads.2.tagged.numbered
@@ -164,48 +152,65 @@ refusal_is_behind : (uses : List Use) (later : List (List ℕ))
 refusal_is_behind uses later =
     subst (IsBehind uses later) (sym (reply_read (Reply.Error (Event 0) 9001 None) (omega arith))) (λ none. none_sends later)
 
-downs_causal : (t : Talking) (lines : List (List ℕ)) (rest : List Line) → AreFor t lines → IsCausal (server_lines t lines) rest
-    → IsCausal t (map Down lines ++ rest)
-downs_causal t lines rest (commands h) causal = answers_are_causal t lines rest (answers_heard t lines h) causal
-downs_causal t lines rest (no_tag is) causal =
+downs_causal : (d : Dialogue) (lines : List (List ℕ)) (rest : List Line) → AreFor d lines → IsCausal (server_lines d lines) rest
+    → IsCausal d (map Down lines ++ rest)
+downs_causal d lines rest (commands h) causal = heard_causal d lines rest h causal
+downs_causal d lines rest (no_tag is) causal =
     let refusal : List ℕ = reply_text (Reply.Error (Event 0) 9001 None) in
-    subst (λ (l : List (List ℕ)). IsCausal t (map Down l ++ rest)) (sym is)
-    (refusal_is_behind t.uses (ups rest), subst (λ (l : List (List ℕ)). IsCausal (server_lines t l) rest) is causal)
+    subst (λ (l : List (List ℕ)). IsCausal d (map Down l ++ rest)) (sym is)
+    (refusal_is_behind d.uses (ups rest), subst (λ (l : List (List ℕ)). IsCausal (server_lines d l) rest) is causal)
 
-ups_causal : (t : Talking) (lines : List (List ℕ)) (rest : List Line) → IsCausal (client_lines t lines) rest
-    → IsCausal t (map Up lines ++ rest)
-ups_causal t [] rest causal = causal
-ups_causal t (line ∷ lines) rest causal = ups_causal (client_said t line) lines rest causal
+ups_causal : (d : Dialogue) (lines : List (List ℕ)) (rest : List Line) → IsCausal (client_lines d lines) rest
+    → IsCausal d (map Up lines ++ rest)
+ups_causal d [] rest causal = causal
+ups_causal d (line ∷ lines) rest causal = ups_causal (after d (client_line line)) lines rest causal
+
+only_ups : (d : Dialogue) (up : List (List ℕ)) → IsCausal d (map Up up)
+only_ups d [] = tt
+only_ups d (line ∷ up) = only_ups (after d (client_line line)) up
 
 -- with any lines of the client after them
-lines_causal : (n : ℕ) (calls : List Call) (e : ServerEnd) (t : Talking) (later : List (List ℕ)) → IsCourse calls e → IsOn n e t
-    → IsCausal t (lines_seen calls e ++ map Up later)
-lines_causal n [] e t later course h = ups_are_causal t later
-lines_causal n (call ∷ calls) e t later course h =
+lines_causal : (P : Tag → Bool) (n : ℕ) (calls : List Call) (e : ServerEnd) (d : Dialogue) (later : List (List ℕ)) → IsCourse calls e
+    → CountLines P (all_read calls e) → IsOn P n e d → IsCausal d (lines_seen calls e ++ map Up later)
+lines_causal P n [] e d later course counts h = only_ups d later
+lines_causal P n (call ∷ calls) e d later course counts h =
     let up : List (List ℕ) = line_read call e in
     let down : List (List ℕ) = reply_texts (answered call e) in
     let rest : List Line = lines_seen calls (behind_call call e) in
-    let said : AreSaid up (client_lines t up) down = call_said n call e t course.1 h in
-    subst (IsCausal t)
+    let both = count_parts P up (all_read calls (behind_call call e)) counts in
+    subst (IsCausal d)
     (sym (append_assoc (map Up up) (map Down down ++ rest) (map Up later)
     ∙ ap (λ (l : List Line). map Up up ++ l) (append_assoc (map Down down) rest (map Up later))))
-    (ups_causal t up (map Down down ++ (rest ++ map Up later))
-    (downs_causal (client_lines t up) down (rest ++ map Up later) (AreSaid.all said)
-    (lines_causal n calls (behind_call call e) (seen call e t) later course.2 (call_on n call e t course.0 course.1 h))))
+    (ups_causal d up (map Down down ++ (rest ++ map Up later))
+    (downs_causal (client_lines d up) down (rest ++ map Up later) (call_said P n call e d course.1 both.0 h)
+    (lines_causal P n calls (behind_call call e) (seen call e d) later course.2 both.1 (call_on P n call e d course.0 course.1 both.0 h))))
 
 -- ---- the same lines
 
-said_first : (t : Talking) (lines more : List Line) (u : Talking) → said_all t lines ≡ u → said_all t (lines ++ more) ≡ said_all u more
-said_first t lines more u e = all_append t lines more ∙ ap (λ (s : Talking). said_all s more) e
+all_append : (d : Dialogue) (lines more : List Line) → said_all d (lines ++ more) ≡ said_all (said_all d lines) more
+all_append d [] more = refl
+all_append d (Up line ∷ lines) more = all_append (after d (client_line line)) lines more
+all_append d (Down line ∷ lines) more = all_append (after d (server_line line)) lines more
 
-lines_are_seen : (calls : List Call) (e : ServerEnd) (t : Talking) → said_all t (lines_seen calls e) ≡ all_seen calls e t
-lines_are_seen [] e t = refl
-lines_are_seen (call ∷ calls) e t =
+all_ups : (d : Dialogue) (up : List (List ℕ)) → said_all d (map Up up) ≡ client_lines d up
+all_ups d [] = refl
+all_ups d (line ∷ up) = all_ups (after d (client_line line)) up
+
+all_downs : (d : Dialogue) (down : List (List ℕ)) → said_all d (map Down down) ≡ server_lines d down
+all_downs d [] = refl
+all_downs d (line ∷ down) = all_downs (after d (server_line line)) down
+
+said_first : (d : Dialogue) (lines more : List Line) (u : Dialogue) → said_all d lines ≡ u → said_all d (lines ++ more) ≡ said_all u more
+said_first d lines more u e = all_append d lines more ∙ ap (λ (s : Dialogue). said_all s more) e
+
+lines_are_seen : (calls : List Call) (e : ServerEnd) (d : Dialogue) → said_all d (lines_seen calls e) ≡ all_seen calls e d
+lines_are_seen [] e d = refl
+lines_are_seen (call ∷ calls) e d =
     let up : List (List ℕ) = line_read call e in
     let down : List (List ℕ) = reply_texts (answered call e) in
-    said_first t (map Up up) (map Down down ++ lines_seen calls (behind_call call e)) (client_lines t up) (all_ups t up)
-    ∙ (said_first (client_lines t up) (map Down down) (lines_seen calls (behind_call call e)) (seen call e t) (all_downs (client_lines t up) down)
-    ∙ lines_are_seen calls (behind_call call e) (seen call e t))
+    said_first d (map Up up) (map Down down ++ lines_seen calls (behind_call call e)) (client_lines d up) (all_ups d up)
+    ∙ (said_first (client_lines d up) (map Down down) (lines_seen calls (behind_call call e)) (seen call e d) (all_downs (client_lines d up) down)
+    ∙ lines_are_seen calls (behind_call call e) (seen call e d))
 
 ups_of_downs : (lines : List (List ℕ)) → ups (map Down lines) ≡ []
 ups_of_downs [] = refl
@@ -220,7 +225,8 @@ downs_of_downs [] = refl
 downs_of_downs (line ∷ lines) = ap (λ (l : List (List ℕ)). line ∷ l) (downs_of_downs lines)
 
 ups_of_ups : (lines : List (List ℕ)) → ups (map Up lines) ≡ lines
-ups_of_ups lines = ups_after [] lines
+ups_of_ups [] = refl
+ups_of_ups (line ∷ lines) = ap (λ (l : List (List ℕ)). line ∷ l) (ups_of_ups lines)
 
 -- the lines of the client in a course: that of the first call, and those of the others
 ups_seen : (call : Call) (calls : List Call) (e : ServerEnd)
@@ -234,131 +240,168 @@ ups_seen call calls e =
     ∙ ap (λ (l : List (List ℕ)). up ++ l)
     (ups_append (map Down down) rest ∙ ap (λ (l : List (List ℕ)). l ++ ups rest) (ups_of_downs down)))
 
--- ---- nothing is refused without a tag
+-- ---- what claims no more than the reports of acts
 
-under_refused : (t : Talking) (r : Response) → is_open r.tag t.uses ≡ true
-    → (heard_under t r.tag r.mark (position (λ (u : Use). tag_is u.tag r.tag) t.uses)).refused ≡ t.refused
-under_refused t r here =
-    let f : Found (λ (u : Use). tag_is u.tag r.tag) t.uses = find_first (λ (u : Use). tag_is u.tag r.tag) t.uses here in
-    ap (λ (s : Talking). s.refused) (marks_first t r.tag r.mark f.before f.one f.after f.parts f.passed f.passes)
+part_names : {A : Type 0} (x y : Option A) (a : A) → IsPart x y → NamesNoOther y a → NamesNoOther x a
+part_names _ y a (part_unknown _) h = tt
+part_names _ _ a (part_known x) h = h
 
-answering_refused : (t : Talking) (line : List ℕ) (r : Result Response NotResponse) → IsHeard t.uses r → (answering t line r).refused ≡ t.refused
-answering_refused t line (Ok r) h = under_refused t r h
-answering_refused t line (Err why) h = absurd h
+touch_less : (p : Point) (d : Option Direction) (n m : Option (List ℕ)) (f g : Option Frame) (at : Point) (a : Act) → IsPart n m → IsPart f g
+    → IsReportOf (reports.Touched p d m g at) a → IsReportOf (reports.Touched p d n f at) a
+touch_less p d n m f g at (act.Contact target dir tool frame point) tool_part frame_part h =
+    (h.0, h.1, part_names n m tool tool_part h.2, part_names f g frame frame_part h.3, h.4)
+touch_less p d n m f g at (act.HomedIs homed) tool_part frame_part h = absurd h
+touch_less p d n m f g at act.Homed tool_part frame_part h = absurd h
+touch_less p d n m f g at (act.Moved target frame) tool_part frame_part h = absurd h
+touch_less p d n m f g at (act.Changed tool) tool_part frame_part h = absurd h
+touch_less p d n m f g at (act.Framed frame) tool_part frame_part h = absurd h
 
-server_refused : (t : Talking) (lines : List (List ℕ)) → AreHeard t lines → (server_lines t lines).refused ≡ t.refused
-server_refused t [] h = refl
-server_refused t (line ∷ lines) h =
-    server_refused (server_said t line) lines h.1 ∙ answering_refused t line (response_of line) h.0
+both_left : (b : Bool) (x : Reported) (xs ys : List Reported) (acts : List Act)
+    → ((rest : List Act) → AreReportsOf ys rest → AreReportsOf xs rest) → AreReportsOf (cond b ys (x ∷ ys)) acts
+    → AreReportsOf (cond b xs (x ∷ xs)) acts
+both_left true x xs ys acts rest h = rest acts h
+both_left false x xs ys [] rest h = absurd h
+both_left false x xs ys (a ∷ acts) rest h = (h.0, rest acts h.1)
 
-client_refused : (t : Talking) (lines : List (List ℕ)) → (client_lines t lines).refused ≡ t.refused
-client_refused t [] = refl
-client_refused t (line ∷ lines) = client_refused (client_said t line) lines ∙ asking_refused t (asked line (command_of line))
+one_less : (x y : Reported) (xs ys : List Reported) (acts : List Act) → ClaimsNoMore x y
+    → ((rest : List Act) → AreReportsOf (act_reports ys) rest → AreReportsOf (act_reports xs) rest)
+    → AreReportsOf (act_reports (y ∷ ys)) acts → AreReportsOf (act_reports (x ∷ xs)) acts
+one_less _ _ xs ys acts (same r) rest h = both_left (is_other r) r (act_reports xs) (act_reports ys) acts rest h
+one_less _ _ xs ys [] (moved p frame) rest h = absurd h
+one_less _ _ xs ys (a ∷ acts) (moved p frame) rest h = (subst (IsReportOf (reports.MovedSomewhere p)) h.0 refl, rest acts h.1)
+one_less _ _ xs ys [] (framed frame) rest h = absurd h
+one_less _ _ xs ys (a ∷ acts) (framed frame) rest h = (subst (IsReportOf reports.FramedSomehow) h.0 tt, rest acts h.1)
+one_less _ _ xs ys [] (touched p d n m f g at tool frame) rest h = absurd h
+one_less _ _ xs ys (a ∷ acts) (touched p d n m f g at tool frame) rest h = (touch_less p d n m f g at a tool frame h.0, rest acts h.1)
+one_less _ _ xs ys [] (contact p d n name f in_frame at tool frame) rest h = absurd h
+one_less _ _ xs ys (a ∷ acts) (contact p d n name f in_frame at tool frame) rest h = (
+  subst (IsReportOf (reports.Touched p d n f at)) h.0
+      (refl, refl, part_names n (Some name) name tool refl, part_names f (Some in_frame) in_frame frame refl, refl),
+  rest acts h.1,
+)
 
-seen_refused : (n : ℕ) (calls : List Call) (e : ServerEnd) (t : Talking) → IsCourse calls e → IsOn n e t
-    → have_tags (ups (lines_seen calls e)) ≡ true → (all_seen calls e t).refused ≡ t.refused
-seen_refused n [] e t course h tags = refl
-seen_refused n (call ∷ calls) e t course h tags =
-    let up : List (List ℕ) = line_read call e in
-    let rest : List (List ℕ) = ups (lines_seen calls (behind_call call e)) in
-    let parts = and_parts (have_tags up) (have_tags rest)
-    (sym (list_all-append (λ (line : List ℕ). has_tag (command_of line)) up rest) ∙ (ap have_tags (sym (ups_seen call calls e)) ∙ tags)) in
-    seen_refused n calls (behind_call call e) (seen call e t) course.2 (call_on n call e t course.0 course.1 h) parts.1
-    ∙ (server_refused (client_lines t up) (reply_texts (answered call e)) (AreSaid.tagged (call_said n call e t course.1 h) parts.0)
-    ∙ client_refused t up)
+claims_of_acts : (xs ys : List Reported) (acts : List Act) → ClaimNoMore xs ys → AreReportsOf (act_reports ys) acts
+    → AreReportsOf (act_reports xs) acts
+claims_of_acts [] [] acts claims h = h
+claims_of_acts [] (y ∷ ys) acts claims h = absurd claims
+claims_of_acts (x ∷ xs) [] acts claims h = absurd claims
+claims_of_acts (x ∷ xs) (y ∷ ys) acts claims h =
+    one_less x y xs ys acts claims.0 (λ rest g. claims_of_acts xs ys rest claims.1 g) h
 
--- ---- what is reported
+-- lines of the client are no reports of acts
+left_out : (b : Bool) (line : List ℕ) (xs ys : List Reported) → act_reports xs ≡ ys
+    → act_reports (cond (not b) (reports.Other Client line ∷ xs) xs) ≡ ys
+left_out true line xs ys e = e
+left_out false line xs ys e = e
 
--- a course, with lines of the client that are on their way, is clear
-course_clear : (n : ℕ) (calls : List Call) (e : ServerEnd) (later : List (List ℕ)) → IsCourse calls e → IsOn n e silence
-    → IsSureOf (ups (lines_seen calls e)) (ups (lines_seen calls e) ++ later)
-    → IsClear (ups (lines_seen calls e) ++ later) silence (lines_seen calls e ++ map Up later)
-course_clear n calls e later course h (inl tags) =
-    no_refusal_is_clear (ups (lines_seen calls e) ++ later) silence (lines_seen calls e ++ map Up later)
-    (ap (λ (s : Talking). s.refused)
-    (said_first silence (lines_seen calls e) (map Up later) (all_seen calls e silence) (lines_are_seen calls e silence)
-    ∙ all_ups (all_seen calls e silence) later)
-    ∙ (client_refused (all_seen calls e silence) later ∙ seen_refused n calls e silence course h tags))
-course_clear n calls e later course h (inr once) =
-    one_use_is_clear (ups (lines_seen calls e) ++ later) silence (lines_seen calls e ++ map Up later) once
+in_turn_acts : (xs : List Reported) → act_reports (in_turn xs) ≡ act_reports xs
+in_turn_acts [] = refl
+in_turn_acts (reports.Other Client line ∷ xs) = left_out (at_once_line line) line (in_turn xs) (act_reports xs) (in_turn_acts xs)
+in_turn_acts (reports.Other Server line ∷ xs) = in_turn_acts xs
+in_turn_acts (reports.Unasked line ∷ xs) = in_turn_acts xs
+in_turn_acts (reports.Broken rule tag ∷ xs) = in_turn_acts xs
+in_turn_acts (reports.Did a ∷ xs) = ap (λ (l : List Reported). reports.Did a ∷ l) (in_turn_acts xs)
+in_turn_acts (reports.MovedSomewhere p ∷ xs) = ap (λ (l : List Reported). reports.MovedSomewhere p ∷ l) (in_turn_acts xs)
+in_turn_acts (reports.FramedSomehow ∷ xs) = ap (λ (l : List Reported). reports.FramedSomehow ∷ l) (in_turn_acts xs)
+in_turn_acts (reports.Touched p d n f at ∷ xs) = ap (λ (l : List Reported). reports.Touched p d n f at ∷ l) (in_turn_acts xs)
+in_turn_acts (reports.Opened ∷ xs) = ap (λ (l : List Reported). reports.Opened ∷ l) (in_turn_acts xs)
+in_turn_acts (reports.Left ∷ xs) = ap (λ (l : List Reported). reports.Left ∷ l) (in_turn_acts xs)
 
--- with all lines of the client read first, those that are on their way too, the same is reported
-same_reported : (n : ℕ) (calls : List Call) (e : ServerEnd) (later : List (List ℕ)) → IsCourse calls e → IsOn n e silence
-    → IsSureOf (ups (lines_seen calls e)) (ups (lines_seen calls e) ++ later)
-    → (all_seen calls e silence).told ≡ (ledger (ups (lines_seen calls e) ++ later) (downs (lines_seen calls e))).told
-same_reported n calls e later course h sure =
-    let lines : List Line = lines_seen calls e in
-    let up_is : ups (lines ++ map Up later) ≡ ups lines ++ later =
-    ups_append lines (map Up later) ∙ ap (λ (l : List (List ℕ)). ups lines ++ l) (ups_of_ups later) in
-    let down_is : downs (lines ++ map Up later) ≡ downs lines =
-    downs_append lines (map Up later)
-    ∙ (ap (λ (l : List (List ℕ)). downs lines ++ l) (downs_of_ups later) ∙ append-nil (downs lines)) in
-    sym (ups_report_nothing silence lines later ∙ ap (λ (s : Talking). s.told) (lines_are_seen calls e silence))
-    ∙ (same_told (lines ++ map Up later) (lines_causal n calls e silence later course h)
-    (subst (λ (l : List (List ℕ)). IsClear l silence (lines ++ map Up later)) (sym up_is) (course_clear n calls e later course h sure))
-    ∙ (ap (λ (l : List (List ℕ)). (ledger l (downs (lines ++ map Up later))).told) up_is
-    ∙ ap (λ (l : List (List ℕ)). (ledger (ups lines ++ later) l).told) down_is))
+turns_of_acts : (xs ys : List Reported) (acts : List Act) → ClaimNoMore (in_turn xs) (in_turn ys) → AreReportsOf (act_reports ys) acts
+    → AreReportsOf (act_reports xs) acts
+turns_of_acts xs ys acts claims h =
+    subst (λ l. AreReportsOf l acts) (in_turn_acts xs)
+    (claims_of_acts (in_turn xs) (in_turn ys) acts claims (subst (λ l. AreReportsOf l acts) (sym (in_turn_acts ys)) h))
 
-pub all_reported : (tools : List (List ℕ)) (before : List Call) (n : ℕ) (calls : List Call) (later : List (List ℕ))
+-- what `told_orders` proves of two recordings
+abbrev pub Recorded : Type 0
+Recorded = (lines : List Line) (later : List (List ℕ)) → IsCausal (silence false) (lines ++ map Up later)
+    → ClaimNoMore (in_turn (ledger (ups lines ++ later) (downs lines)).reported) (in_turn (said_all (silence false) lines).reported)
+
+-- a course, with any lines of the client after it
+course_causal : (tools : List (List ℕ)) (before : List Call) (n : ℕ) (calls : List Call) (later : List (List ℕ))
     → may_accept n (reached tools before).server ≡ true → IsCourse calls (serving_accepted n (reached tools before))
-    → IsSureOf (ups (lines_seen calls (serving_accepted n (reached tools before))))
-    (ups (lines_seen calls (serving_accepted n (reached tools before))) ++ later)
-    → AreReportsOf
-    (reports (ledger (ups (lines_seen calls (serving_accepted n (reached tools before))) ++ later)
-    (downs (lines_seen calls (serving_accepted n (reached tools before))))).told)
+    → IsCausal (silence false) (lines_seen calls (serving_accepted n (reached tools before)) ++ map Up later)
+course_causal tools before n calls later may course =
+    let e : ServerEnd = serving_accepted n (reached tools before) in
+    lines_causal (some_foreign (all_read calls e)) n calls e (silence false) later course (count_own (all_read calls e))
+    (begun_on (some_foreign (all_read calls e)) false tools before n may)
+
+course_acts : (tools : List (List ℕ)) (before : List Call) (n : ℕ) (calls : List Call)
+    → may_accept n (reached tools before).server ≡ true → IsCourse calls (serving_accepted n (reached tools before))
+    → AreReportsOf (act_reports (said_all (silence false) (lines_seen calls (serving_accepted n (reached tools before)))).reported)
     (acts_on n (behind_calls calls (serving_accepted n (reached tools before))).server.ledger)
-all_reported tools before n calls later may course sure =
-    subst (λ (so_far : List Told). AreReportsOf (reports so_far)
-    (acts_on n (behind_calls calls (serving_accepted n (reached tools before))).server.ledger))
-    (same_reported n calls (serving_accepted n (reached tools before)) later course (begun_on tools before n may) sure)
-    (reports_of_acts tools before n calls may course)
+course_acts tools before n calls may course =
+    let e : ServerEnd = serving_accepted n (reached tools before) in
+    subst (λ (d : Dialogue). AreReportsOf (act_reports d.reported) (acts_on n (behind_calls calls e).server.ledger))
+    (sym (lines_are_seen calls e (silence false))) (reports_of_acts false tools before n calls may course)
+
+pub all_reported : Recorded → (tools : List (List ℕ)) (before : List Call) (n : ℕ) (calls : List Call) (later : List (List ℕ))
+    → may_accept n (reached tools before).server ≡ true → IsCourse calls (serving_accepted n (reached tools before))
+    → AreReportsOf
+    (act_reports (ledger (ups (lines_seen calls (serving_accepted n (reached tools before))) ++ later)
+    (downs (lines_seen calls (serving_accepted n (reached tools before))))).reported)
+    (acts_on n (behind_calls calls (serving_accepted n (reached tools before))).server.ledger)
+all_reported recorded tools before n calls later may course =
+    let lines : List Line = lines_seen calls (serving_accepted n (reached tools before)) in
+    turns_of_acts _ (said_all (silence false) lines).reported _ (recorded lines later (course_causal tools before n calls later may course))
+    (course_acts tools before n calls may course)
 
 -- ---- a prefix of the answers
 
-step_more : (b : Bool) (x : Told) (xs ys zs : List Told) → zs ≡ xs ++ ys → cond b zs (x ∷ zs) ≡ cond b xs (x ∷ xs) ++ ys
+step_more : (b : Bool) (x : Reported) (xs ys zs : List Reported) → zs ≡ xs ++ ys → cond b zs (x ∷ zs) ≡ cond b xs (x ∷ xs) ++ ys
 step_more true x xs ys zs e = e
-step_more false x xs ys zs e = ap (λ (l : List Told). x ∷ l) e
+step_more false x xs ys zs e = ap (λ (l : List Reported). x ∷ l) e
 
-reports_append : (xs ys : List Told) → reports (xs ++ ys) ≡ reports xs ++ reports ys
+reports_append : (xs ys : List Reported) → act_reports (xs ++ ys) ≡ act_reports xs ++ act_reports ys
 reports_append [] ys = refl
-reports_append (x ∷ xs) ys = step_more (is_other x) x (reports xs) (reports ys) (reports (xs ++ ys)) (reports_append xs ys)
+reports_append (x ∷ xs) ys =
+    step_more (is_other x) x (act_reports xs) (act_reports ys) (act_reports (xs ++ ys)) (reports_append xs ys)
 
-first_of : (xs ys : List Told) (acts : List Act) → AreReportsOf (xs ++ ys) acts → AreReportsOfFirst xs acts
+first_of : (xs ys : List Reported) (acts : List Act) → AreReportsOf (xs ++ ys) acts → AreReportsOfFirst xs acts
 first_of [] ys acts h = record { first = []; others = acts; parts = refl; are = tt }
 first_of (x ∷ xs) ys [] h = absurd h
 first_of (x ∷ xs) ys (a ∷ acts) h =
     let f : AreReportsOfFirst xs acts = first_of xs ys acts h.1 in
     record { first = a ∷ f.first; others = f.others; parts = ap (λ (l : List Act). a ∷ l) f.parts; are = (h.0, f.are) }
 
-prefix_of : (first all : List Told) (acts : List Act) → IsPrefix first all → AreReportsOf (reports all) acts
-    → AreReportsOfFirst (reports first) acts
+prefix_of : (first all : List Reported) (acts : List Act) → IsPrefix first all → AreReportsOf (act_reports all) acts
+    → AreReportsOfFirst (act_reports first) acts
 prefix_of first all acts p h =
-    first_of (reports first) (reports p.rest) acts
-    (subst (λ (l : List Told). AreReportsOf l acts) (ap reports p.parts ∙ reports_append first p.rest) h)
+    first_of (act_reports first) (act_reports p.rest) acts
+    (subst (λ (l : List Reported). AreReportsOf l acts) (ap act_reports p.parts ∙ reports_append first p.rest) h)
+
+-- what `told_orders` proves of more lines
+abbrev pub Prefixes : Type 0
+Prefixes = (d : Dialogue) (lines more : List Line) → IsPrefix (said_all d lines).reported (said_all d (lines ++ more)).reported
+
+server_append : (d : Dialogue) (xs ys : List (List ℕ)) → server_lines d (xs ++ ys) ≡ server_lines (server_lines d xs) ys
+server_append d [] ys = refl
+server_append d (x ∷ xs) ys = server_append (after d (server_line x)) xs ys
 
 -- what the first lines of a server report is a prefix of what all report
-downs_prefix : (t : Talking) (read unread : List (List ℕ)) → IsPrefix (server_lines t read).told (server_lines t (read ++ unread)).told
-downs_prefix t read unread =
-    subst (λ (s : Talking). IsPrefix (server_lines t read).told s.told)
-    (said_first t (map Down read) (map Down unread) (server_lines t read) (all_downs t read)
-    ∙ (all_downs (server_lines t read) unread ∙ sym (server_append t read unread)))
-    (subst (λ (s : Talking). IsPrefix s.told (said_all t (map Down read ++ map Down unread)).told) (all_downs t read)
-    (more_report t (map Down read) (map Down unread)))
+downs_prefix : Prefixes → (d : Dialogue) (read unread : List (List ℕ))
+    → IsPrefix (server_lines d read).reported (server_lines d (read ++ unread)).reported
+downs_prefix prefixes d read unread =
+    subst (λ (s : Dialogue). IsPrefix (server_lines d read).reported s.reported)
+    (said_first d (map Down read) (map Down unread) (server_lines d read) (all_downs d read)
+    ∙ (all_downs (server_lines d read) unread ∙ sym (server_append d read unread)))
+    (subst (λ (s : Dialogue). IsPrefix s.reported (said_all d (map Down read ++ map Down unread)).reported) (all_downs d read)
+    (prefixes d (map Down read) (map Down unread)))
 
-pub first_reported : (tools : List (List ℕ)) (before : List Call) (n : ℕ) (calls : List Call) (later read unread : List (List ℕ))
-    → may_accept n (reached tools before).server ≡ true → IsCourse calls (serving_accepted n (reached tools before))
-    → IsSureOf (ups (lines_seen calls (serving_accepted n (reached tools before))))
-    (ups (lines_seen calls (serving_accepted n (reached tools before))) ++ later)
+pub first_reported : Recorded → Prefixes → (tools : List (List ℕ)) (before : List Call) (n : ℕ) (calls : List Call)
+    (later read unread : List (List ℕ)) → may_accept n (reached tools before).server ≡ true
+    → IsCourse calls (serving_accepted n (reached tools before))
     → downs (lines_seen calls (serving_accepted n (reached tools before))) ≡ read ++ unread
     → AreReportsOfFirst
-    (reports (ledger (ups (lines_seen calls (serving_accepted n (reached tools before))) ++ later) read).told)
+    (act_reports (ledger (ups (lines_seen calls (serving_accepted n (reached tools before))) ++ later) read).reported)
     (acts_on n (behind_calls calls (serving_accepted n (reached tools before))).server.ledger)
-first_reported tools before n calls later read unread may course sure parts =
-    let t : Talking = client_lines silence (ups (lines_seen calls (serving_accepted n (reached tools before))) ++ later) in
-    prefix_of (server_lines t read).told (server_lines t (read ++ unread)).told _ (downs_prefix t read unread)
-    (subst (λ (down : List (List ℕ)). AreReportsOf (reports (server_lines t down).told)
+first_reported recorded prefixes tools before n calls later read unread may course parts =
+    let d : Dialogue = client_lines (silence false) (ups (lines_seen calls (serving_accepted n (reached tools before))) ++ later) in
+    prefix_of (server_lines d read).reported (server_lines d (read ++ unread)).reported _ (downs_prefix prefixes d read unread)
+    (subst (λ (down : List (List ℕ)). AreReportsOf (act_reports (server_lines d down).reported)
     (acts_on n (behind_calls calls (serving_accepted n (reached tools before))).server.ledger)) parts
-    (all_reported tools before n calls later may course sure))
+    (all_reported recorded tools before n calls later may course))
 
 -- ---- two recordings
 
@@ -387,28 +430,32 @@ are_lines up down =
       down_lines = subst (λ (l : List (List ℕ)). IsStream down l below.0 below.1) (sym downs_are) below.2;
     }
 
--- what a witness reports of all bytes of two recordings
-recorded_is : (up down : List ℕ) (w : Watching) → AreAllRead up down w → w.talk.told ≡ (ledger (whole_lines up) (whole_lines down)).told
-recorded_is up down w all =
-    recorded_told up down w (map Up (whole_lines up) ++ map Down (whole_lines down)) all (are_lines up down)
-    ∙ (ap (λ (l : List (List ℕ)). (ledger l (downs (map Up (whole_lines up) ++ map Down (whole_lines down)))).told)
-    (both_ups (whole_lines up) (whole_lines down))
-    ∙ ap (λ (l : List (List ℕ)). (ledger (whole_lines up) l).told) (both_downs (whole_lines up) (whole_lines down)))
+-- what `told_orders` proves of the lines of two recordings
+abbrev pub Heard : Type 0
+Heard = (up down : List ℕ) (w : Watching) (lines : List Line) → AreAllRead false up down w → AreLinesOf up down lines
+    → w.dialogue.reported ≡ (ledger (ups lines) (downs lines)).reported
 
-recorded_lines : (tools : List (List ℕ)) (before : List Call) (n : ℕ) (calls : List Call) (later unread : List (List ℕ))
-    (up down : List ℕ) (w : Watching)
+-- what a witness reports of all bytes of two recordings
+recorded_is : Heard → (up down : List ℕ) (w : Watching) → AreAllRead false up down w
+    → w.dialogue.reported ≡ (ledger (whole_lines up) (whole_lines down)).reported
+recorded_is heard up down w all =
+    heard up down w (map Up (whole_lines up) ++ map Down (whole_lines down)) all (are_lines up down)
+    ∙ (ap (λ (l : List (List ℕ)). (ledger l (downs (map Up (whole_lines up) ++ map Down (whole_lines down)))).reported)
+    (both_ups (whole_lines up) (whole_lines down))
+    ∙ ap (λ (l : List (List ℕ)). (ledger (whole_lines up) l).reported) (both_downs (whole_lines up) (whole_lines down)))
+
+recorded_lines : Recorded → Prefixes → Heard → (tools : List (List ℕ)) (before : List Call) (n : ℕ) (calls : List Call)
+    (later unread : List (List ℕ)) (up down : List ℕ) (w : Watching)
     → may_accept n (reached tools before).server ≡ true → IsCourse calls (serving_accepted n (reached tools before))
-    → IsSureOf (ups (lines_seen calls (serving_accepted n (reached tools before)))) (whole_lines up)
     → whole_lines up ≡ ups (lines_seen calls (serving_accepted n (reached tools before))) ++ later
-    → downs (lines_seen calls (serving_accepted n (reached tools before))) ≡ whole_lines down ++ unread → AreAllRead up down w
-    → AreReportsOfFirst (reports w.talk.told)
+    → downs (lines_seen calls (serving_accepted n (reached tools before))) ≡ whole_lines down ++ unread → AreAllRead false up down w
+    → AreReportsOfFirst (act_reports w.dialogue.reported)
     (acts_on n (behind_calls calls (serving_accepted n (reached tools before))).server.ledger)
-recorded_lines tools before n calls later unread up down w may course sure up_is down_is all =
-    subst (λ (so_far : List Told). AreReportsOfFirst (reports so_far)
+recorded_lines recorded prefixes heard tools before n calls later unread up down w may course up_is down_is all =
+    subst (λ (so_far : List Reported). AreReportsOfFirst (act_reports so_far)
     (acts_on n (behind_calls calls (serving_accepted n (reached tools before))).server.ledger))
-    (ap (λ (l : List (List ℕ)). (ledger l (whole_lines down)).told) (sym up_is) ∙ sym (recorded_is up down w all))
-    (first_reported tools before n calls later (whole_lines down) unread may course
-    (subst (IsSureOf (ups (lines_seen calls (serving_accepted n (reached tools before))))) up_is sure) down_is)
+    (ap (λ (l : List (List ℕ)). (ledger l (whole_lines down)).reported) (sym up_is) ∙ sym (recorded_is heard up down w all))
+    (first_reported recorded prefixes tools before n calls later (whole_lines down) unread may course down_is)
 
 -- ---- the bytes of the client
 
@@ -491,38 +538,39 @@ calls_cut (call ∷ calls) e course =
 
 -- ---- the bytes of the server
 
-front_written : (n : ℕ) (e : ServerEnd) (front : Front) (t : Talking) → AreAnew e.server (line_in front) → IsOn n e t
-    → AreReplies (replies e.server (line_in front))
-front_written n e (Ok None) t anew h = tt
-front_written n e (Ok (Some (line, rest))) t anew h = (read_follows e.server line t anew (IsOn.follows h)).said
-front_written n e (Err why) t anew h = tt
+front_written : (P : Tag → Bool) (n : ℕ) (e : ServerEnd) (front : Front) (d : Dialogue) → AreAnew e.server (line_in front)
+    → CountLines P (line_in front) → IsOn P n e d → AreReplies (replies e.server (line_in front))
+front_written P n e (Ok None) d anew counts h = tt
+front_written P n e (Ok (Some (line, rest))) d anew counts h = (read_follows P e.server line d anew counts.0 (IsOn.follows h)).said
+front_written P n e (Err why) d anew counts h = tt
 
-read_written : (n : ℕ) (on : Bool) (e : ServerEnd) (front : Front) (t : Talking) → AreAnew e.server (cond on (line_in front) []) → IsOn n e t
+read_written : (P : Tag → Bool) (n : ℕ) (on : Bool) (e : ServerEnd) (front : Front) (d : Dialogue)
+    → AreAnew e.server (cond on (line_in front) []) → CountLines P (cond on (line_in front) []) → IsOn P n e d
     → AreReplies (replies e.server (cond on (line_in front) []))
-read_written n true e front t anew h = front_written n e front t anew h
-read_written n false e front t anew h = tt
+read_written P n true e front d anew counts h = front_written P n e front d anew counts h
+read_written P n false e front d anew counts h = tt
 
-turn_written : (n : ℕ) (may : Bool) (e : ServerEnd) (t : Talking) → may_turn e.server ≡ may → IsOn n e t
+turn_written : (P : Tag → Bool) (n : ℕ) (may : Bool) (e : ServerEnd) (d : Dialogue) → may_turn e.server ≡ may → IsOn P n e d
     → AreReplies (cond may (server_turned e.server).said [])
-turn_written n true e t is h =
-    (turned_follows e.server t (nothing_runs e.server.running ((and_parts _ _ is).0)) (IsOn.follows h)).said
-turn_written n false e t is h = tt
+turn_written P n true e d is h =
+    (turned_follows P e.server d (nothing_runs e.server.running ((and_parts _ _ is).0)) (IsOn.follows h)).said
+turn_written P n false e d is h = tt
 
-machine_written : (n : ℕ) (may : Bool) (ended : Outcome) (e : ServerEnd) (t : Talking) → may_end e.server.running ended ≡ may → IsOn n e t
-    → AreReplies (cond may (server_machined e.server ended).said [])
-machine_written n true ended e t is h = (machined_follows e.server ended e.server.running t is (IsOn.follows h)).said
-machine_written n false ended e t is h = tt
+machine_written : (P : Tag → Bool) (n : ℕ) (may : Bool) (ended : Outcome) (e : ServerEnd) (d : Dialogue)
+    → may_end e.server.running ended ≡ may → IsOn P n e d → AreReplies (cond may (server_machined e.server ended).said [])
+machine_written P n true ended e d is h = (machined_follows P e.server ended e.server.running d is (IsOn.follows h)).said
+machine_written P n false ended e d is h = tt
 
-call_written : (n : ℕ) (call : Call) (e : ServerEnd) (t : Talking) → AreAnew e.server (line_read call e) → IsOn n e t
-    → AreReplies (answered call e)
-call_written n (Accept m) e t anew h = tt
-call_written n (Feed bytes) e t anew h = tt
-call_written n ReadOne e t anew h = read_written n e.server.on e (next_of e.input.rest) t anew h
-call_written n Turn e t anew h = turn_written n (may_turn e.server) e t refl h
-call_written n (Machine ended) e t anew h = machine_written n (may_end e.server.running ended) ended e t refl h
-call_written n Leave e t anew h = tt
-call_written n Restart e t anew h = tt
-call_written n (Sent count) e t anew h = tt
+call_written : (P : Tag → Bool) (n : ℕ) (call : Call) (e : ServerEnd) (d : Dialogue) → AreAnew e.server (line_read call e)
+    → CountLines P (line_read call e) → IsOn P n e d → AreReplies (answered call e)
+call_written P n (Accept m) e d anew counts h = tt
+call_written P n (Feed bytes) e d anew counts h = tt
+call_written P n ReadOne e d anew counts h = read_written P n e.server.on e (next_of e.input.rest) d anew counts h
+call_written P n Turn e d anew counts h = turn_written P n (may_turn e.server) e d refl h
+call_written P n (Machine ended) e d anew counts h = machine_written P n (may_end e.server.running ended) ended e d refl h
+call_written P n Leave e d anew counts h = tt
+call_written P n Restart e d anew counts h = tt
+call_written P n (Sent count) e d anew counts h = tt
 
 downs_seen : (call : Call) (calls : List Call) (e : ServerEnd)
     → downs (lines_seen (call ∷ calls) e) ≡ reply_texts (answered call e) ++ downs (lines_seen calls (behind_call call e))
@@ -539,18 +587,20 @@ record AreWritten (calls : List Call) (e : ServerEnd) : Type 0 where
   bytes : all_written calls e ≡ line_bytes (downs (lines_seen calls e))
   whole : AreLines (downs (lines_seen calls e))
 
-calls_written : (n : ℕ) (calls : List Call) (e : ServerEnd) (t : Talking) → IsCourse calls e → IsOn n e t → AreWritten calls e
-calls_written n [] e t course h = record { bytes = refl; whole = tt }
-calls_written n (call ∷ calls) e t course h =
+calls_written : (P : Tag → Bool) (n : ℕ) (calls : List Call) (e : ServerEnd) (d : Dialogue) → IsCourse calls e
+    → CountLines P (all_read calls e) → IsOn P n e d → AreWritten calls e
+calls_written P n [] e d course counts h = record { bytes = refl; whole = tt }
+calls_written P n (call ∷ calls) e d course counts h =
     let down : List (List ℕ) = reply_texts (answered call e) in
     let others : List (List ℕ) = downs (lines_seen calls (behind_call call e)) in
+    let both = count_parts P (line_read call e) (all_read calls (behind_call call e)) counts in
     let rest : AreWritten calls (behind_call call e) =
-    calls_written n calls (behind_call call e) (seen call e t) course.2 (call_on n call e t course.0 course.1 h) in
+    calls_written P n calls (behind_call call e) (seen call e d) course.2 both.1 (call_on P n call e d course.0 course.1 both.0 h) in
     record {
       bytes = ap (λ (l : List ℕ). line_bytes down ++ l) (AreWritten.bytes rest)
           ∙ (sym (line_bytes-append down others) ∙ ap line_bytes (sym (downs_seen call calls e)));
       whole = subst AreLines (sym (downs_seen call calls e))
-          (AreLines-append down others (reply_lines (answered call e) (call_written n call e t course.1 h)) (AreWritten.whole rest));
+          (AreLines-append down others (reply_lines (answered call e) (call_written P n call e d course.1 both.0 h)) (AreWritten.whole rest));
     }
 
 -- ---- whole lines
@@ -577,20 +627,22 @@ accepted_rest tools before n may =
     ap (λ (f : Framing). f.rest)
     ((reached_steady tools before).off (is_false (reached tools before).server.on ((and_parts _ _ may).0))).input
 
-pub recorded_reported : (tools : List (List ℕ)) (before : List Call) (n : ℕ) (calls : List Call) (up down more unsent : List ℕ) (w : Watching)
+pub recorded_reported : Recorded → Prefixes → Heard → (tools : List (List ℕ)) (before : List Call) (n : ℕ) (calls : List Call)
+    (up down more unsent : List ℕ) (w : Watching)
     → may_accept n (reached tools before).server ≡ true → IsCourse calls (serving_accepted n (reached tools before))
-    → IsSureOf (ups (lines_seen calls (serving_accepted n (reached tools before)))) (whole_lines up)
     → up ≡ all_fed calls (serving_accepted n (reached tools before)) ++ more
-    → down ++ unsent ≡ all_written calls (serving_accepted n (reached tools before)) → AreAllRead up down w
-    → AreReportsOfFirst (reports w.talk.told)
+    → down ++ unsent ≡ all_written calls (serving_accepted n (reached tools before)) → AreAllRead false up down w
+    → AreReportsOfFirst (act_reports w.dialogue.reported)
     (acts_on n (behind_calls calls (serving_accepted n (reached tools before))).server.ledger)
-recorded_reported tools before n calls up down more unsent w may course sure up_is down_is all =
+recorded_reported recorded prefixes heard tools before n calls up down more unsent w may course up_is down_is all =
     let e : ServerEnd = serving_accepted n (reached tools before) in
+    let P : Tag → Bool = some_foreign (all_read calls e) in
     let cut : IsCut e.input.rest (behind_calls calls e).input.rest (all_fed calls e) (ups (lines_seen calls e)) = calls_cut calls e course in
-    let written : AreWritten calls e = calls_written n calls e silence course (begun_on tools before n may) in
+    let written : AreWritten calls e =
+    calls_written P n calls e (silence false) course (count_own (all_read calls e)) (begun_on P false tools before n may) in
     let fed_is : all_fed calls e ≡ line_bytes (ups (lines_seen calls e)) ++ (behind_calls calls e).input.rest =
     ap (λ (l : List ℕ). l ++ all_fed calls e) (sym (accepted_rest tools before n may)) ∙ IsCut.parts cut in
-    recorded_lines tools before n calls _ _ up down w may course sure
+    recorded_lines recorded prefixes heard tools before n calls _ _ up down w may course
     (ap whole_lines up_is
     ∙ whole_after (all_fed calls e) more (ups (lines_seen calls e)) (behind_calls calls e).input.rest fed_is (IsCut.whole cut))
     (whole_prefix down unsent (downs (lines_seen calls e)) (AreWritten.whole written) (down_is ∙ AreWritten.bytes written)) all

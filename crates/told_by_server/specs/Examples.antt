@@ -9,11 +9,12 @@ use Rattle.dme_line.specs.declared.commands.Command.{Command}
 use Rattle.dme_line.specs.declared.tags.Tag.TheVariants.{Std}
 use Rattle.protocol_model.specs.Ends.{ServerEnd}
 use Rattle.protocol_model.specs.Server.{new_server}
-use Rattle.protocol_model.specs.declared.held.Stage.{Stage}
 use Rattle.protocol_model.specs.declared.lines.Line.{Line}
 use Rattle.protocol_model.specs.declared.lines.Waiting.{Waiting}
-use Rattle.told_ledger.specs.Talking.{Talking, silence}
-use Rattle.told_ledger.specs.declared.uses.Asked.TheVariants as asks
+use Rattle.witness.specs.Dialogues.{Dialogue, silence}
+use Rattle.witness.specs.Known.{nothing}
+use Rattle.witness.specs.declared.lines.SentCommand.TheVariants.{Known}
+use Rattle.witness.specs.declared.lines.Stage.{Stage}
 
 -- points of the examples
 abbrev pub at : ℕ → Point
@@ -43,5 +44,16 @@ abbrev pub line : List ℕ → List ℕ
 line text = text ++ 13 ∷ 10 ∷ []
 
 -- a witness to which this command is received under the tag 00007
-abbrev pub heard : Command → Talking
-heard c = record silence { uses = record { tag = Std 7; asked = asks.Known c; stage = Stage.Received; doubtful = false } ∷ [] }
+abbrev pub heard : Command → Dialogue
+heard c = record (silence false) {
+  lines = 1;
+  uses = record {
+    tag = Std 7;
+    command = Known c;
+    line = 0;
+    stage = Stage.Received;
+    has_failed = false;
+    rival = None;
+    known = nothing;
+  } ∷ [];
+}

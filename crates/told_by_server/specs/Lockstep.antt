@@ -1,5 +1,5 @@
 -- A server and a witness that reads each line of its connection as soon as the server has read or answered it (this profile).
-use Rattle.std.specs.Prelude.{◌≡◌, ℕ, Bool, true, false, ◌||◌, if◌then◌else◌, List, [], ◌∷◌, Result, Ok, Err}
+use Rattle.std.specs.Prelude.{◌≡◌, ℕ, Bool, true, false, ◌||◌, if◌then◌else◌, List, [], ◌∷◌, ◌++◌, Result, Ok, Err}
 use Rattle.dme_line.specs.declared.tags.Tag.{Tag}
 use Rattle.dme_line.specs.declared.commands.Command.{Command}
 use Rattle.dme_line.specs.declared.reading.LineFault.{LineFault}
@@ -12,11 +12,11 @@ use Rattle.protocol_model.specs.Server.{Server, runs_under, waits_under, server_
 use Rattle.protocol_model.specs.Ends.{ServerEnd, serving_accepted}
 use Rattle.server_core.specs.Serving.{may_turn}
 use Rattle.server_core.specs.Calls.{Call, ReadOne, Turn, Machine, Leave, Restart, Sent, behind_call, behind_calls, reached, gives_up}
-use Rattle.told_ledger.specs.Talking.{Talking, silence}
-use Rattle.told_ledger.specs.declared.uses.Told.{Told}
+use Rattle.witness.specs.Dialogues.{Dialogue, silence}
+use Rattle.witness.specs.Watching.{client_lines, server_lines}
+use Rattle.witness.specs.declared.lines.Reported.{Reported}
 use Rattle.contact_ledger.specs.declared.acts.Act.{Act}
 use Rattle.protocol_model.specs.Claims.{acts_on}
-use Rattle.told_ledger.specs.Watching.{client_lines, server_lines}
 use Rattle.line_framing.specs.Calls.{line_in}
 
 -- ---- the lines of a call
@@ -25,6 +25,11 @@ use Rattle.line_framing.specs.Calls.{line_in}
 abbrev pub line_read : Call → ServerEnd → List (List ℕ)
 line_read ReadOne e = if e.server.on then line_in (next_of e.input.rest) else []
 line_read _ e = []
+
+-- the lines of the client that calls read
+abbrev pub all_read : List Call → ServerEnd → List (List ℕ)
+all_read [] e = []
+all_read (call ∷ calls) e = line_read call e ++ all_read calls (behind_call call e)
 
 -- what a server answers to a line, if there is one
 abbrev pub replies : Server → List (List ℕ) → List Reply
@@ -48,13 +53,13 @@ keeps_out _ = true
 -- ---- the witness
 
 -- it reads the line that a call reads, and then the written lines that the call answers
-abbrev pub seen : Call → ServerEnd → Talking → Talking
-seen call e t = server_lines (client_lines t (line_read call e)) (reply_texts (answered call e))
+abbrev pub seen : Call → ServerEnd → Dialogue → Dialogue
+seen call e d = server_lines (client_lines d (line_read call e)) (reply_texts (answered call e))
 
 -- it does so for each of these calls
-abbrev pub all_seen : List Call → ServerEnd → Talking → Talking
-all_seen [] e t = t
-all_seen (call ∷ calls) e t = all_seen calls (behind_call call e) (seen call e t)
+abbrev pub all_seen : List Call → ServerEnd → Dialogue → Dialogue
+all_seen [] e d = d
+all_seen (call ∷ calls) e d = all_seen calls (behind_call call e) (seen call e d)
 
 -- ---- the course of one connection
 
@@ -62,9 +67,9 @@ all_seen (call ∷ calls) e t = all_seen calls (behind_call call e) (seen call e
 abbrev pub taking : List (List ℕ) → List Call → ℕ → ServerEnd
 taking tools before n = serving_accepted n (reached tools before)
 
--- what the witness has reported after calls on it, and the acts that were done on it
-abbrev pub reported : List Call → ServerEnd → List Told
-reported calls e = (all_seen calls e silence).told
+-- what the witness has reported after calls on it, and the acts that were done on it; whether it takes the order between the two ends for known
+abbrev pub reported : Bool → List Call → ServerEnd → List Reported
+reported ordered calls e = (all_seen calls e (silence ordered)).reported
 
 abbrev pub acts_after : ℕ → List Call → ServerEnd → List Act
 acts_after n calls e = acts_on n (behind_calls calls e).server.ledger

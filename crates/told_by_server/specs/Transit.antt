@@ -1,17 +1,11 @@
 -- The lines of such a course in another order, while further lines are on their way (this profile).
-use Rattle.std.specs.Prelude.{◌≡◌, ◌⊎◌, ℕ, Bool, true, false, if◌then◌else◌, List, [], ◌∷◌, ◌++◌, map, Result, Err}
-use Rattle.std.specs.List.{list_all}
+use Rattle.std.specs.Prelude.{◌≡◌, ℕ, if◌then◌else◌, List, [], ◌∷◌, ◌++◌, map}
 use Rattle.contact_ledger.specs.declared.acts.Act.{Act}
-use Rattle.dme_line.specs.declared.tags.Tag.{Tag}
-use Rattle.dme_line.specs.declared.commands.Command.{Command}
-use Rattle.dme_line.specs.declared.reading.LineFault.{LineFault}
-use Rattle.dme_line.specs.declared.reading.LineFault.TheVariants.{NoTag}
 use Rattle.protocol_model.specs.Ends.{ServerEnd}
 use Rattle.protocol_model.specs.Lines.{reply_texts, reply_bytes}
-use Rattle.protocol_model.specs.Readings.{command_of}
 use Rattle.server_core.specs.Calls.{Call, behind_call, Feed}
-use Rattle.told_ledger.specs.declared.uses.Told.{Told}
-use Rattle.told_orders.specs.Orders.{Line, Up, Down, two_send}
+use Rattle.witness.specs.declared.lines.Reported.{Reported}
+use Rattle.told_orders.specs.Orders.{Line, Up, Down}
 use Rattle.told_by_server.specs.Lockstep.{line_read, answered}
 use Rattle.told_by_server.specs.Reports.{AreReportsOf}
 use Rattle.server_core.specs.Serving.{may_feed}
@@ -35,21 +29,8 @@ abbrev pub all_written : List Call → ServerEnd → List ℕ
 all_written [] e = []
 all_written (call ∷ calls) e = reply_bytes (answered call e) ++ all_written calls (behind_call call e)
 
--- a line has a tag
-abbrev pub has_tag : Result (Tag × Command) LineFault → Bool
-has_tag (Err NoTag) = false
-has_tag _ = true
-
-abbrev pub have_tags : List (List ℕ) → Bool
-have_tags lines = list_all (λ line. has_tag (command_of line)) lines
-
--- for which command an end is, is never in doubt: each line that the server has read has a tag, or no two of all lines of the client, with
--- those that are still on their way, use one tag
-abbrev pub IsSureOf : List (List ℕ) → List (List ℕ) → Type 0
-IsSureOf read all = (have_tags read ≡ true) ⊎ ((tag : Tag) → two_send tag all ≡ false)
-
 -- reports are those of the first of these acts, one for one, in order
-pub record AreReportsOfFirst (reports : List Told) (acts : List Act) : Type 0 where
+pub record AreReportsOfFirst (reports : List Reported) (acts : List Act) : Type 0 where
   pub first : List Act
   pub others : List Act
   pub parts : acts ≡ first ++ others

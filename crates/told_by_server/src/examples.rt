@@ -1,6 +1,6 @@
 // Examples: reports and acts, and lines that calls read and answer, that are written out.
 
-ghost use Rattle.std.specs.Prelude.{◌≡◌, [], ◌∷◌, ◌++◌, codes, Some, None, true, false, Ok, Err};
+ghost use Rattle.std.specs.Prelude.{◌≡◌, [], ◌∷◌, ◌++◌, codes, reverse, Some, None, true, false, Ok, Err};
 ghost use Rattle.fixed_um.specs.declared.frames.Frame.TheVariants.{Machine, Part};
 ghost use Rattle.contact_ledger.specs.declared.acts.Act.TheVariants as act;
 ghost use Rattle.dme_line.specs.declared.commands.Command.TheVariants as command;
@@ -12,17 +12,20 @@ ghost use Rattle.protocol_model.specs.Replies.{Ack, Given, Done, Error as Refusa
 ghost use Rattle.protocol_model.specs.declared.held.Datum.TheVariants as datum;
 ghost use Rattle.protocol_model.specs.declared.machine.Outcome.TheVariants as outcome;
 ghost use Rattle.server_core.specs.Calls.{ReadOne, Turn, Machine as Ends, Feed, Leave, Restart, Sent};
-ghost use Rattle.told_ledger.specs.Examples.{told_of_lines, Refuses, touch, touched};
-ghost use Rattle.told_ledger.specs.Talking.{silence};
-ghost use Rattle.told_ledger.specs.declared.uses.Rule.TheVariants as rule;
-ghost use Rattle.told_ledger.specs.declared.uses.Side.TheVariants.{Client};
-ghost use Rattle.told_ledger.specs.declared.uses.Told.TheVariants.{Did, MovedSomewhere, FramedSomehow, Touched, Other, Broken};
-ghost use Rattle.told_by_server.specs.Reports.{is_broken, reports, IsReportOf, AreReportsOf, tool_of, frame_of, tool_named, frame_named};
-ghost use Rattle.told_by_server.specs.Lockstep.{line_read, answered, keeps_out, seen, all_seen, uses_again, taking, reported, acts_after, IsCourse};
+ghost use Rattle.witness.specs.Asking.{Error as Refused};
+ghost use Rattle.witness.specs.Dialogues.{silence};
+ghost use Rattle.witness.specs.Examples.{touch, touched, hears_event};
+ghost use Rattle.witness.specs.Rules.{all_reported};
+ghost use Rattle.witness.specs.declared.lines.Reported.TheVariants.{Did, MovedSomewhere, FramedSomehow, Touched, Other, Unasked, Broken};
+ghost use Rattle.witness.specs.declared.lines.Rule.TheVariants as rule;
+ghost use Rattle.witness.specs.declared.lines.SentCommand.TheVariants.{Known, Asking, Foreign};
+ghost use Rattle.witness.specs.declared.lines.Side.TheVariants.{Client};
+ghost use Rattle.told_by_server.specs.Reports.{is_foreign_under, breaks_only, act_reports, IsReportOf, AreReportsOf, tool_of, frame_of, tool_named, frame_named};
+ghost use Rattle.told_by_server.specs.Lockstep.{line_read, all_read, answered, keeps_out, seen, all_seen, uses_again, taking, reported, acts_after, IsCourse};
 ghost use Rattle.protocol_model.specs.Ends.{new_server_end};
 ghost use Rattle.protocol_model.specs.Lines.{reply_text};
 ghost use Rattle.told_orders.specs.Orders.{Up, Down};
-ghost use Rattle.told_by_server.specs.Transit.{lines_seen, fed_by, all_fed, all_written, has_tag, IsSureOf, AreReportsOfFirst};
+ghost use Rattle.told_by_server.specs.Transit.{lines_seen, fed_by, all_fed, all_written, AreReportsOfFirst};
 ghost use Rattle.told_by_server.specs.Examples.{at, contact, serving, runs, waits, line, heard};
 
 /// A report is the act, or has all of it but the tool or the frame. A rule that is broken is no act.
@@ -43,11 +46,11 @@ pub fn report_rows()
     ensures broken { IsReportOf (Broken rule.NoData (Std 1)) act.Homed → ⊥ }
 {}
 
-/// Reports are those of acts one for one and in order, without the lines that this profile does not know.
+/// Reports are those of acts one for one and in order, without other lines.
 pub fn list_rows()
-    ensures unknown { reports (Other Client (codes "x") ∷ Did act.Homed ∷ []) ≡ Did act.Homed ∷ [] }
-    ensures broken { reports (Broken rule.NoData (Std 1) ∷ []) ≡ Broken rule.NoData (Std 1) ∷ [] }
-    ensures is_broken { is_broken (Broken rule.NoData (Std 1)) ≡ true }
+    ensures unknown { act_reports (Other Client (codes "x") ∷ Did act.Homed ∷ []) ≡ Did act.Homed ∷ [] }
+    ensures unasked { act_reports (Unasked (codes "x") ∷ Did act.Homed ∷ []) ≡ Did act.Homed ∷ [] }
+    ensures broken { act_reports (Broken rule.NotInTurn (Std 1) ∷ Did act.Homed ∷ []) ≡ Did act.Homed ∷ [] }
     ensures each { AreReportsOf (Did act.Homed ∷ FramedSomehow ∷ []) (act.Homed ∷ act.Framed Machine ∷ []) }
     ensures order { AreReportsOf (Did act.Homed ∷ FramedSomehow ∷ []) (act.Framed Machine ∷ act.Homed ∷ []) → ⊥ }
     ensures missing { AreReportsOf [] (act.Homed ∷ []) → ⊥ }
@@ -62,9 +65,24 @@ pub fn list_rows()
     ensures in_frame { frame_named (Touched (at 4) None None (Some Machine) (at 5)) ≡ Some Machine }
 {}
 
+/// A rule that is broken is that of turns, under the tag of a line that this profile does not know.
+pub fn rule_rows()
+    ensures turn { breaks_only (λ tag. true) (Broken rule.NotInTurn (Std 1)) ≡ true }
+    ensures other_tag { breaks_only (λ tag. false) (Broken rule.NotInTurn (Std 1)) ≡ false }
+    ensures other_rule { breaks_only (λ tag. true) (Broken rule.NoData (Std 1)) ≡ false }
+    ensures no_rule { breaks_only (λ tag. false) (Unasked (codes "x")) ≡ true }
+    ensures foreign { is_foreign_under (Std 1) (Some (Std 1, Foreign (codes "x"))) ≡ true }
+    ensures elsewhere { is_foreign_under (Std 2) (Some (Std 1, Foreign (codes "x"))) ≡ false }
+    ensures asking { is_foreign_under (Std 1) (Some (Std 1, Asking)) ≡ false }
+    ensures command { is_foreign_under (Std 1) (Some (Std 1, Known command.Home)) ≡ false }
+    ensures no_tag { is_foreign_under (Std 1) None ≡ false }
+{}
+
 /// A call reads the line at the start of the bytes, or none; it answers what the server then says.
 pub fn line_rows()
     ensures read { line_read ReadOne (serving None [] (line (codes "00001 Home()")))
+        ≡ codes "00001 Home()" ∷ [] }
+    ensures all { all_read (Turn ∷ ReadOne ∷ []) (serving None [] (line (codes "00001 Home()")))
         ≡ codes "00001 Home()" ∷ [] }
     ensures part { line_read ReadOne (serving None [] (codes "00001 Ho")) ≡ [] }
     ensures turn { line_read Turn (serving None (waits command.Home) (line (codes "00001 Home()"))) ≡ [] }
@@ -82,16 +100,16 @@ pub fn line_rows()
 
 /// The witness reads the client's line before the answers to it; a call sees the server as the calls before it have left it.
 pub fn seen_rows()
-    ensures received { (seen ReadOne (serving None [] (line (codes "00001 Home()"))) silence).told ≡ [] }
+    ensures received { (seen ReadOne (serving None [] (line (codes "00001 Home()"))) (silence true)).reported ≡ [] }
     ensures framed { (seen Turn (serving None (waits (command.SetCoordSystem MachineCsy)) [])
-        (heard (command.SetCoordSystem MachineCsy))).told ≡ Did (act.Framed Machine) ∷ [] }
+        (heard (command.SetCoordSystem MachineCsy))).reported ≡ Did (act.Framed Machine) ∷ [] }
     ensures once { (all_seen (Turn ∷ Turn ∷ []) (serving None (waits (command.SetCoordSystem MachineCsy)) [])
-        (heard (command.SetCoordSystem MachineCsy))).told ≡ Did (act.Framed Machine) ∷ [] }
+        (heard (command.SetCoordSystem MachineCsy))).reported ≡ Did (act.Framed Machine) ∷ [] }
     ensures taken { (taking [] [] 3).server.last ≡ 3 }
     ensures done { acts_after 1 (Turn ∷ []) (serving None (waits (command.SetCoordSystem MachineCsy)) [])
         ≡ act.Framed Machine ∷ [] }
     ensures elsewhere { acts_after 2 (Turn ∷ []) (serving None (waits (command.SetCoordSystem MachineCsy)) []) ≡ [] }
-    ensures whole { reported (ReadOne ∷ Turn ∷ []) (serving None []
+    ensures whole { reported false (ReadOne ∷ Turn ∷ []) (serving None []
         (line (codes "00007 SetCoordSystem(MachineCsy)"))) ≡ Did (act.Framed Machine) ∷ [] }
 {}
 
@@ -109,9 +127,11 @@ pub fn course_rows()
 
 /// Why no line may come under a tag that is in use: the witness waits for the end of a command that the server has refused without naming it.
 pub fn premise_rows()
-    ensures again { told_of_lines (touch 7 4 ∷ touch 7 4 ∷ Refuses (Event 0) ∷ (touched 7 4
-        ++ touch 8 6 ∷ touched 8 6))
-        ≡ Touched (at 4) None None None (at 4) ∷ Broken rule.NotInTurn (Std 8) ∷ [] }
+    ensures again { all_reported true (reverse (touch 7 ++ (touch 7 ++ (hears_event 0 Refused
+        ++ (touched 7 ++ (touch 8 ++ touched 8))))))
+        ≡ Unasked (codes "z") ∷ Touched (at 4) None None None (at 5)
+        ∷ Broken rule.NotInTurn (Std 8) ∷ Broken rule.NotInTurn (Std 8)
+        ∷ Touched (at 4) None None None (at 5) ∷ [] }
 {}
 
 /// The lines of a course are those of its calls, one call after another, and in each the client's first.
@@ -120,16 +140,11 @@ pub fn transit_rows()
         ≡ Down (reply_text (Done (Std 7))) ∷ [] }
     ensures read { lines_seen (ReadOne ∷ []) (serving None [] (line (codes "00001 Home()")))
         ≡ Up (codes "00001 Home()") ∷ Down (reply_text (Ack (Std 1))) ∷ [] }
-    ensures command { has_tag (Ok (Std 1, command.Home)) ≡ true }
-    ensures unknown { has_tag (Err (fault.UnknownCommand (Std 1))) ≡ true }
-    ensures arguments { has_tag (Err (fault.BadArguments (Std 1) kind.GoTo)) ≡ true }
-    ensures no_tag { has_tag (Err fault.NoTag) ≡ false }
     ensures fed { all_fed (Feed (codes "0000") ∷ Turn ∷ Feed (codes "1 ") ∷ []) (serving None [] [])
         ≡ codes "00001 " }
     ensures not_taken { fed_by (Feed (codes "00001 ")) (new_server_end []) ≡ [] }
     ensures written { all_written (Turn ∷ Turn ∷ []) (serving None (waits (command.SetCoordSystem MachineCsy)) [])
         ≡ line (codes "00007 %") }
-    ensures tags { IsSureOf [] (codes "00001 Home()" ∷ codes "00001 Home()" ∷ []) }
     ensures none { AreReportsOfFirst [] (act.Homed ∷ []) }
     ensures first { AreReportsOfFirst (Did act.Homed ∷ []) (act.Homed ∷ act.Homed ∷ []) }
     ensures other { AreReportsOfFirst (Did act.Homed ∷ []) (act.HomedIs true ∷ []) → ⊥ }
