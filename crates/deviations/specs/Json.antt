@@ -30,10 +30,14 @@ component_member name z = key name ∷ number (written_component z) ∷ []
 abbrev pub length_members : List ℕ → List ℕ → List ℕ → ℤ → ℤ → ℤ → List Token
 length_members i j k x y z = length_member i x ++ (length_member j y ++ length_member k z)
 
+-- three members that are null
+abbrev pub null_members : List ℕ → List ℕ → List ℕ → List Token
+null_members i j k = key i ∷ null ∷ key j ∷ null ∷ key k ∷ null ∷ []
+
 -- the components of a direction, or three nulls
 abbrev pub components_of : List ℕ → List ℕ → List ℕ → Option Direction → List Token
 components_of i j k (Some d) = component_member i d.i ++ (component_member j d.j ++ component_member k d.k)
-components_of i j k None = key i ∷ null ∷ key j ∷ null ∷ key k ∷ null ∷ []
+components_of i j k None = null_members i j k
 
 -- a length, or null
 abbrev pub length_or_null : List ℕ → Option ℤ → List Token
@@ -62,11 +66,13 @@ nominal_members p = length_members (codes "nominal_x") (codes "nominal_y") (code
 unfoldable pub normal_members : Option Direction → List Token
 normal_members normal = components_of (codes "normal_i") (codes "normal_j") (codes "normal_k") normal
 
-unfoldable pub measured_members : Point → List Token
-measured_members p = length_members (codes "measured_x") (codes "measured_y") (codes "measured_z") p.x p.y p.z
+unfoldable pub measured_members : Option Point → List Token
+measured_members (Some p) = length_members (codes "measured_x") (codes "measured_y") (codes "measured_z") p.x p.y p.z
+measured_members None = null_members (codes "measured_x") (codes "measured_y") (codes "measured_z")
 
-unfoldable pub deviation_members : Deviation → List Token
-deviation_members v = length_members (codes "deviation_x") (codes "deviation_y") (codes "deviation_z") v.x v.y v.z
+unfoldable pub deviation_members : Option Deviation → List Token
+deviation_members (Some v) = length_members (codes "deviation_x") (codes "deviation_y") (codes "deviation_z") v.x v.y v.z
+deviation_members None = null_members (codes "deviation_x") (codes "deviation_y") (codes "deviation_z")
 
 unfoldable pub along_member : Option ℤ → List Token
 along_member along = length_or_null (codes "deviation_along_normal") along

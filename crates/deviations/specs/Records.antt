@@ -9,6 +9,7 @@ use Rattle.fixed_um.specs.Shapes.{Direction}
 use Rattle.fixed_um.specs.Written.{written, written_component}
 use Rattle.fixed_um.specs.declared.frames.Frame.{Frame}
 use Rattle.fixed_um.specs.declared.frames.Frame.TheVariants.{Machine, Part}
+use Rattle.fixed_um.specs.declared.lengths.Point.{Point}
 use Rattle.contact_ledger.specs.Fields.{point_fields}
 use Rattle.deviations.specs.declared.along.Deviation.{Deviation}
 use Rattle.deviations.specs.Rows.{Row}
@@ -22,9 +23,15 @@ abbrev pub normal_fields : Option Direction → List (List ℕ)
 normal_fields (Some d) = written_component d.i ∷ written_component d.j ∷ written_component d.k ∷ []
 normal_fields None = [] ∷ [] ∷ [] ∷ []
 
--- the lengths of a deviation
-abbrev pub deviation_fields : Deviation → List (List ℕ)
-deviation_fields v = written v.x ∷ written v.y ∷ written v.z ∷ []
+-- the lengths of a measured point, or three empty fields
+abbrev pub measured_fields : Option Point → List (List ℕ)
+measured_fields (Some p) = point_fields p
+measured_fields None = [] ∷ [] ∷ [] ∷ []
+
+-- the lengths of a deviation, or three empty fields
+abbrev pub deviation_fields : Option Deviation → List (List ℕ)
+deviation_fields (Some v) = written v.x ∷ written v.y ∷ written v.z ∷ []
+deviation_fields None = [] ∷ [] ∷ [] ∷ []
 
 -- the deviation along the normal
 abbrev pub along_fields : Option ℤ → List (List ℕ)
@@ -51,7 +58,7 @@ header = codes "feature" ∷ codes "point" ∷ codes "nominal_x" ∷ codes "nomi
 -- the record of a row
 abbrev pub record_of : Row → List (List ℕ)
 record_of r = (r.place.feature ∷ decimal r.place.number ∷ []) ++ (point_fields r.place.touch.target ++ (normal_fields r.place.touch.dir
-    ++ (point_fields r.place.measured ++ (deviation_fields r.deviation ++ (along_fields r.along ++ ((r.place.touch.tool ∷ [])
+    ++ (measured_fields r.place.measured ++ (deviation_fields r.deviation ++ (along_fields r.along ++ ((r.place.touch.tool ∷ [])
     ++ (frame_columns r.place.touch.frame ++ connection_fields r.place.connection)))))))
 
 -- the text of a list of rows

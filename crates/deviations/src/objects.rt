@@ -8,6 +8,7 @@ ghost use Rattle.deviations.specs.Json.{
   Puts,
   length_member,
   length_members,
+  null_members,
   component_member,
   components_of,
   length_or_null,
@@ -129,6 +130,15 @@ fn put_point(
     Ok(())
 }
 
+fn put_nulls(json: &mut Writer, first: &str, second: &str, third: &str) -> Result<(), AllocError>
+    ensures { Puts result json.old json.new (null_members first.now second.now third.now) }
+{
+    put_null(json, first)?;
+    put_null(json, second)?;
+    put_null(json, third)?;
+    Ok(())
+}
+
 fn put_direction(
     alloc: Global,
     json: &mut Writer,
@@ -146,12 +156,7 @@ fn put_direction(
             put_component(alloc, json, third, i64::from(direction.k))?;
             Ok(())
         }
-        None => {
-            put_null(json, first)?;
-            put_null(json, second)?;
-            put_null(json, third)?;
-            Ok(())
-        }
+        None => put_nulls(json, first, second, third),
     }
 }
 
@@ -221,30 +226,32 @@ fn put_normal(alloc: Global, json: &mut Writer, normal: Option<Dir>) -> Result<(
 }
 
 #[tactic(auto, unfolding(crate::specs::Json::measured_members))]
-fn put_measured(alloc: Global, json: &mut Writer, point: Point) -> Result<(), AllocError>
-    ensures { Puts result json.old json.new (measured_members point) }
+fn put_measured(alloc: Global, json: &mut Writer, measured: Option<Point>) -> Result<(), AllocError>
+    ensures { Puts result json.old json.new (measured_members measured) }
 {
-    put_point(alloc, json, "measured_x", "measured_y", "measured_z", point)?;
+    match measured {
+        Some(point) => put_point(alloc, json, "measured_x", "measured_y", "measured_z", point)?,
+        None => put_nulls(json, "measured_x", "measured_y", "measured_z")?,
+    }
     Ok(())
 }
 
 #[tactic(auto, unfolding(crate::specs::Json::deviation_members))]
-fn put_deviation(alloc: Global, json: &mut Writer, deviation: Deviation) -> Result<(), AllocError>
+fn put_deviation(
+    alloc: Global,
+    json: &mut Writer,
+    deviation: Option<Deviation>,
+) -> Result<(), AllocError>
     ensures { Puts result json.old json.new (deviation_members deviation) }
 {
-    let x = i128::from(deviation.x);
-    let y = i128::from(deviation.y);
-    let z = i128::from(deviation.z);
-    put_lengths(
-        alloc,
-        json,
-        "deviation_x",
-        "deviation_y",
-        "deviation_z",
-        x,
-        y,
-        z,
-    )?;
+    let names = ("deviation_x", "deviation_y", "deviation_z");
+    match deviation {
+        Some(v) => {
+            let (x, y, z) = (i128::from(v.x), i128::from(v.y), i128::from(v.z));
+            put_lengths(alloc, json, names.0, names.1, names.2, x, y, z)?;
+        }
+        None => put_nulls(json, names.0, names.1, names.2)?,
+    }
     Ok(())
 }
 
@@ -341,8 +348,8 @@ fn put_row(alloc: Global, json: &mut Writer, row: &Row<'_>) -> Result<(), AllocE
 
 /// Appends a table as JSON (RFC 8259), in one line that ends with LF: an array with an object for each row, its members named as the
 /// columns of `write_csv` are. A length is a number in millimetres with three decimals, a component of a normal one with six, each written
-/// exactly and without floating point; `null` is written if there is no normal, or if it is not known which connection a feature comes
-/// from. Fails only if out of memory, and then appends nothing.
+/// exactly and without floating point; `null` is written if there is no normal, if it is not known which connection a feature comes from,
+/// or if a point was not measured. Fails only if out of memory, and then appends nothing.
 pub fn write_json(out: &mut Vec<u8>, rows: &[Row<'_>]) -> Result<(), AllocError>
     ensures text { Writes result out.old out.new (json_of rows.now) }
     ensures reads_back { OnOk result (tokens (array_text rows.now) ≡ json_tokens rows.now) }

@@ -9,6 +9,7 @@ ghost use Rattle.contact_ledger.specs.Fields.{point_fields};
 ghost use Rattle.deviations.specs.Records.{
   Joins,
   normal_fields,
+  measured_fields,
   deviation_fields,
   along_fields,
   frame_columns,
@@ -75,25 +76,49 @@ fn push_normal(
             push_component(alloc, columns, i64::from(direction.j))?;
             push_component(alloc, columns, i64::from(direction.k))
         }
-        None => {
-            columns.push_field(b"")?;
-            columns.push_field(b"")?;
-            columns.push_field(b"")
-        }
+        None => push_nothing(columns),
+    }
+}
+
+fn push_nothing(columns: &mut ByteRecord) -> Result<(), AllocError>
+    requires { partial_of columns.old ≡ [] }
+    ensures { Joins result columns.old columns.new ([] ∷ [] ∷ [] ∷ []) }
+{
+    columns.push_field(b"")?;
+    columns.push_field(b"")?;
+    columns.push_field(b"")
+}
+
+fn push_measured(
+    alloc: Global,
+    columns: &mut ByteRecord,
+    measured: Option<Point>,
+) -> Result<(), AllocError>
+    requires { partial_of columns.old ≡ [] }
+    ensures { Joins result columns.old columns.new (measured_fields measured) }
+{
+    match measured {
+        Some(point) => push_point(alloc, columns, point),
+        None => push_nothing(columns),
     }
 }
 
 fn push_deviation(
     alloc: Global,
     columns: &mut ByteRecord,
-    deviation: Deviation,
+    deviation: Option<Deviation>,
 ) -> Result<(), AllocError>
     requires { partial_of columns.old ≡ [] }
     ensures { Joins result columns.old columns.new (deviation_fields deviation) }
 {
-    push_length(alloc, columns, i128::from(deviation.x))?;
-    push_length(alloc, columns, i128::from(deviation.y))?;
-    push_length(alloc, columns, i128::from(deviation.z))
+    match deviation {
+        Some(deviation) => {
+            push_length(alloc, columns, i128::from(deviation.x))?;
+            push_length(alloc, columns, i128::from(deviation.y))?;
+            push_length(alloc, columns, i128::from(deviation.z))
+        }
+        None => push_nothing(columns),
+    }
 }
 
 fn push_along(
@@ -149,7 +174,7 @@ fn record_of(alloc: Global, row: &Row<'_>) -> Result<ByteRecord, AllocError>
     push_number(alloc, &mut columns, row.number())?;
     push_point(alloc, &mut columns, row.nominal())?;
     push_normal(alloc, &mut columns, row.normal())?;
-    push_point(alloc, &mut columns, row.measured())?;
+    push_measured(alloc, &mut columns, row.measured())?;
     push_deviation(alloc, &mut columns, row.deviation())?;
     push_along(alloc, &mut columns, row.along())?;
     columns.push_field(row.tool().as_bytes())?;
@@ -206,8 +231,8 @@ fn header(alloc: Global) -> Result<ByteRecord, AllocError>
 }
 
 /// Appends a table as comma-separated values (RFC 4180), a header and a record for each row: lengths in millimetres with three decimals,
-/// normals with six. A field is empty if there is no normal, or if it is not known which connection a feature comes from. Lines end
-/// with LF. Fails only if out of memory, and then appends nothing.
+/// normals with six. A field is empty if there is no normal, if it is not known which connection a feature comes from, or if a point was
+/// not measured. Lines end with LF. Fails only if out of memory, and then appends nothing.
 pub fn write_csv(out: &mut Vec<u8>, rows: &[Row<'_>]) -> Result<(), AllocError>
     ensures { Writes result out.old out.new (csv_text rows.now) }
 {

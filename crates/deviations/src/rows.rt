@@ -12,8 +12,11 @@ ghost use Rattle.deviations.specs.Rows.{
   connection_of,
   places_from,
   feature_places,
+  open_places,
+  missing_places,
   places_of,
   IsAlongNormal,
+  IsAway,
   IsRow,
 };
 
@@ -25,13 +28,13 @@ use fixed_um::{Dir, Frame, Name, Point};
 use std::alloc::{AllocError, Global};
 use std::marker::Model;
 
-/// A measured point and the touch that asked for it.
+/// A touch and the point that was measured, if it was.
 #[derive(Drop)]
 pub struct Place<'a> {
     feature: &'a Name,
     number: u64,
     touch: &'a Touch,
-    measured: Point,
+    measured: Option<Point>,
     connection: Option<u64>,
 }
 
@@ -52,11 +55,12 @@ impl<'a> Model for Place<'a> {
     ghost invariant = { λ p. IsInVolume p.touch.now.target };
 }
 
-/// A row of a table of deviations (this profile): a measured point, the touch that asked for it, and how far it lies from its target.
+/// A row of a table of deviations (this profile): a touch, the point that was measured, and how far it lies from the target; of a feature
+/// that is missing the touch alone.
 #[derive(Drop)]
 pub struct Row<'a> {
     place: Place<'a>,
-    deviation: Deviation,
+    deviation: Option<Deviation>,
     along: Option<i128>,
 }
 
@@ -106,7 +110,7 @@ fn push_places<'a>(
             feature: &feature.label,
             number,
             touch,
-            measured: *point,
+            measured: Some(*point),
             connection,
         })?;
         number += 1;
@@ -116,7 +120,42 @@ fn push_places<'a>(
     Ok(())
 }
 
-/// The places of features that are the first of those that the program asks for.
+/// Adds the places of the touches of a feature that is missing.
+fn push_open<'a>(places: &mut Vec<Place<'a>>, wanted: &'a Wanted) -> Result<(), AllocError>
+    requires { IsFeature wanted.now }
+    ensures { OnOk result (places.new.items ≡ places.old.items
+        ++ open_places wanted.now.label 1 wanted.now.touches) }
+{
+    let mut touches = wanted.touches.as_slice();
+    let mut number: u64 = 1;
+    while let [touch, others @ ..] = touches {
+        places.push(Place {
+            feature: &wanted.label,
+            number,
+            touch,
+            measured: None,
+            connection: None,
+        })?;
+        number += 1;
+        touches = others;
+    }
+    Ok(())
+}
+
+/// Likewise, of features.
+fn push_missing<'a>(places: &mut Vec<Place<'a>>, wanted: &'a [Wanted]) -> Result<(), AllocError>
+    requires { AllByRecursion IsFeature wanted.now }
+    ensures { OnOk result (places.new.items ≡ places.old.items ++ missing_places wanted.now) }
+{
+    let mut wanted = wanted;
+    while let [first, others @ ..] = wanted {
+        push_open(places, first)?;
+        wanted = others;
+    }
+    Ok(())
+}
+
+/// The places of features that are the first of those that the program asks for, and of those that are missing.
 fn places_of<'a>(
     alloc: Global,
     wanted: &'a [Wanted],
@@ -142,6 +181,7 @@ fn places_of<'a>(
         wanted = others;
         features = later;
     }
+    push_missing(&mut places, wanted)?;
     Ok(places)
 }
 
@@ -152,6 +192,20 @@ fn along_of(deviation: Deviation, normal: Option<Dir>) -> Option<i128>
     match normal {
         Some(direction) => Some(along_normal(deviation, direction)),
         None => None,
+    }
+}
+
+/// How far a point was measured from the target of a touch, and along its normal.
+fn away_of(measured: Option<Point>, touch: &Touch) -> (Option<Deviation>, Option<i128>)
+    requires { IsInVolume touch.now.target }
+    ensures { IsAway measured touch.now result.0 result.1 }
+{
+    match measured {
+        Some(point) => {
+            let deviation = Deviation::of(point, touch.target);
+            (Some(deviation), along_of(deviation, touch.dir))
+        }
+        None => (None, None),
     }
 }
 
@@ -184,21 +238,21 @@ impl<'a> Row<'a> {
         self.place.touch.dir
     }
 
-    /// Where the point was measured, in the axes of the frame.
-    pub fn measured(&self) -> Point
+    /// Where the point was measured, in the axes of the frame; nothing if the feature is missing.
+    pub fn measured(&self) -> Option<Point>
         ensures { result ≡ self.now.place.measured }
     {
         self.place.measured
     }
 
-    /// The measured point less the nominal one.
-    pub fn deviation(&self) -> Deviation
+    /// The measured point less the nominal one, if it was measured.
+    pub fn deviation(&self) -> Option<Deviation>
         ensures { result ≡ self.now.deviation }
     {
         self.deviation
     }
 
-    /// The deviation along the normal in micrometres, if there is a normal.
+    /// The deviation along the normal in micrometres, if the point was measured and there is a normal.
     pub fn along(&self) -> Option<i128>
         ensures { result ≡ self.now.along }
     {
@@ -229,8 +283,7 @@ impl<'a> Row<'a> {
     fn of(place: Place<'a>) -> Row<'a>
         ensures { IsRow place.entry result }
     {
-        let deviation = Deviation::of(place.measured, place.touch.target);
-        let along = along_of(deviation, place.touch.dir);
+        let (deviation, along) = away_of(place.measured, place.touch);
         Row {
             place,
             deviation,
@@ -239,8 +292,9 @@ impl<'a> Row<'a> {
     }
 }
 
-/// The table of deviations of features, which are the first ones of a program: a row for each measured point, in the order of the features
-/// and of their points. `NotOurs` if their labels or their counts of points are not those of the program.
+/// The table of deviations of features, which are the first ones of a program: a row for each touch of the program, in the order of its
+/// features and of their touches; one of a feature that is missing has no measured point. `NotOurs` if the labels of the features or their
+/// counts of points are not those of the program.
 #[tactic(auto, using(crate::proofs::Tables::zip_push))]
 pub fn rows_of<'a>(
     alloc: Global,
