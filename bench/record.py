@@ -49,7 +49,7 @@ def cost(dme, touches, window, with_record):
         port = free_port()
         server = served(dme, folder, port)
         words = [dme, "run", "--setup", f"{room}/machine.setup", "--host", "127.0.0.1", "--port", str(port), "--window", str(window)]
-        words += ["--record", f"{room}/part.record"] if with_record else []
+        words += ["--record", f"{room}/part.record", "--part", "0042/7"] if with_record else []
         instructions, _, printed = profiled([*words, f"{room}/part.dmis"])
         if not printed.startswith(b"STATE Done\n"):
             sys.exit(f"the run is not Done: {printed[:100]}")

@@ -1,5 +1,5 @@
 """Sources docs/dme.bash in bash, and compares its completions with what the program itself reports: its commands, the options of each, the
-forms, and the codes that `dme explain` knows.
+forms, and the codes that `dme explain` knows. The line of each command in the help is the first of its own help.
 
 `run` calls this; by itself: tests/completion.py
 """
@@ -27,7 +27,8 @@ def told(*words):
 
 
 def commands():
-    return set(re.findall(r"^  (\w+) ", told("--help")[1].partition("Commands:")[2].partition("Options:")[0], re.MULTILINE))
+    """Each command that the help lists, with its line there."""
+    return dict(re.findall(r"^  (\w+) +(.*)", told("--help")[1].partition("Usage:")[2].partition("Options:")[0], re.MULTILINE))
 
 
 def options(command):
@@ -42,7 +43,8 @@ def forms_are_whole(command, *words):
 def is_whole(name):
     """Whether the completion of these words is what the program reports."""
     if name == "commands":
-        return completed("") == commands() | {"--help", "--version"} and told("--version")[0] == 0
+        own = all(it == "help" or told(it, "--help")[1].startswith(line + "\n") for it, line in commands().items())
+        return completed("") == commands().keys() | {"--help", "--version"} and told("--version")[0] == 0 and own
     if name == "codes":
         codes = completed("explain", "")
         small = completed("explain", "p")

@@ -232,7 +232,7 @@ def run_row(refusing):
 
 def recorded_row(refusing):
     """A run that had no memory for its record says so at once. It is whole if memory came back, and else ends out of memory."""
-    (whole, file), runs = refusing.all_of(Pair(refusing, "run", "--record").run)
+    (whole, file), runs = refusing.all_of(Pair(refusing, "run", "--part 0042/7 --record").run)
     must(whole[0] == 0 and file.endswith("1 COMPLETED C\n"), "with all memory", whole, file)
     told = "dme: cannot write features: out of memory\n"
     for (status, output, errors), text in runs:

@@ -29,6 +29,9 @@ from listening import free_port, wait_for_listener
 
 EXAMPLES = ROOT / "examples"
 RECORD = (EXAMPLES / "break_inside_a_feature.record").read_bytes()
+# That of a part, which a run continues.
+PART = "0042/7"
+OF_PART = RECORD.replace(b"DME-RECORD 1\n", f"DME-RECORD 1\nPART {PART}\n".encode(), 1)
 CIRCLE = (EXAMPLES / "circle.dmis").read_bytes()
 SETUP = (EXAMPLES / "machine.setup").read_bytes()
 SECONDS = 20
@@ -111,7 +114,7 @@ def check_edited(folder):
 
 
 def run_words(port, record="part.record"):
-    return ["run", "--setup", "machine.setup", "--host", "127.0.0.1", "--port", str(port), "--record", record, "circle.dmis"]
+    return ["run", "--setup", "machine.setup", "--host", "127.0.0.1", "--port", str(port), "--record", record, "--part", PART, "circle.dmis"]
 
 
 def check_no_files(folder):
@@ -125,7 +128,7 @@ def check_no_files(folder):
 
 def check_read_only(folder):
     """Root may write each file, so another user asks then."""
-    (folder / "part.record").write_bytes(RECORD)
+    (folder / "part.record").write_bytes(OF_PART)
     (folder / "part.record").chmod(0o444)
     folder.chmod(0o755)
     program = shutil.copy(PROGRAM, folder / "dme")
@@ -133,17 +136,18 @@ def check_read_only(folder):
     words = [program, *run_words(free_port())]
     run = subprocess.run(words, cwd=folder, capture_output=True, text=True, timeout=SECONDS, **other)
     must((run.returncode, run.stdout, run.stderr) == (1, "", "dme: cannot write part.record: no permission\n"), "read-only record", run.stderr)
-    must((folder / "part.record").read_bytes() == RECORD, "read-only record was changed")
+    must((folder / "part.record").read_bytes() == OF_PART, "read-only record was changed")
 
 
 def file_words(port, option, name):
-    return ["run", "--setup", "machine.setup", "--host", "127.0.0.1", "--port", str(port), option, name, "circle.dmis"]
+    part = ["--part", PART] if option == "--record" else []
+    return ["run", "--setup", "machine.setup", "--host", "127.0.0.1", "--port", str(port), option, name, *part, "circle.dmis"]
 
 
 def check_held(folder):
     """A run whose server says nothing, or that waits for one, holds its files: another one is refused before it makes a connection."""
     features = (EXAMPLES / "break_inside_a_feature.features").read_bytes()
-    for option, name, text in (("--record", "part.record", RECORD[:400]), ("--features", "part.features", features), ("--contacts", "new", None)):
+    for option, name, text in (("--record", "part.record", OF_PART[:400]), ("--features", "part.features", features), ("--contacts", "new", None)):
         if text is not None:
             (folder / name).write_bytes(text)
         with socket.create_server(("127.0.0.1", 0)) as silent:
@@ -197,26 +201,26 @@ def refused(folder, name, option, shown):
 
 def check_link(folder):
     """A link is not written through, also one that leads nowhere."""
-    (folder / "other").write_bytes(RECORD[:400])
+    (folder / "other").write_bytes(OF_PART[:400])
     for option in ("--record", "--features"):
         for target in ("other", "nowhere"):
             (folder / "link").symlink_to(target)
             refused(folder, "link", option, "link: is a link")
             must((folder / "link").is_symlink() and not (folder / "nowhere").exists(), option, target)
             (folder / "link").unlink()
-    must((folder / "other").read_bytes() == RECORD[:400], "the file of a link was changed")
+    must((folder / "other").read_bytes() == OF_PART[:400], "the file of a link was changed")
 
 
 def check_names(folder):
     """Two names of one file, by a link or a second name, are refused before anything is opened."""
-    (folder / "part.record").write_bytes(RECORD)
+    (folder / "part.record").write_bytes(OF_PART)
     (folder / "link").symlink_to("part.record")
     os.link(folder / "part.record", folder / "other")
     for name in ("link", "other", "../" + folder.name + "/part.record"):
         run = dme(folder, *run_words(free_port())[:-1], "--log", name, "circle.dmis")
         shown = f"error: '--record' and '--log' name one file, '{name}'\n\nFor more information, try '--help'.\n"
         must((run.returncode, run.stdout, run.stderr) == (2, "", shown), name, run.stderr)
-        must((folder / "part.record").read_bytes() == RECORD, name, "the record was changed")
+        must((folder / "part.record").read_bytes() == OF_PART, name, "the record was changed")
 
 
 def check_next(folder):

@@ -219,7 +219,7 @@ SENTENCES = {  # what is found: its lines, with a label of its own, and for each
             (
                 3,
                 "refused: P10 TooFewPoints: The program asks for automatic measuring: MEAS at line {1} names 2 touches and its block has none,"
-                " and only programmed touches are measured.",
+                " and only programmed touches are measured. Write a PTMEAS for each, or delete the MEAS at line {1} and this ENDMES together.",
             )
         ],
     ),

@@ -1,8 +1,11 @@
 // A server is called, for as long as that is allowed, and left.
 
 use crate::waiting::{LOOK_MS, Patience};
+use dme_files::Fault;
 use dme_orders::OrderFault;
-use std::io::{self, Error, ErrorKind, Read};
+use refusal_guide::unknown_host;
+use std::alloc::{AllocError, Global};
+use std::io::{self, ErrorKind, Read};
 use std::net::{Net, Shutdown, TcpListener, TcpStream, ToSocketAddrs};
 use std::rt::{Clock, Files};
 use std::thread;
@@ -34,6 +37,35 @@ pub fn no_connection(error: &io::Error, is_told: bool) -> OrderFault {
     OrderFault::ConnectionFailed(if is_told { cause(error.kind()) } else { "" })
 }
 
+/// Why an attempt at a connection has failed.
+#[derive(Drop)]
+enum Missed {
+    /// No address is found for the host.
+    Unknown,
+    /// The host has an address, and there is no connection.
+    Unreached(io::Error),
+}
+
+/// Why the addresses of a host are not found. Running out of memory says nothing about the host.
+fn unfound(error: io::Error) -> Missed {
+    if error.kind() == ErrorKind::OutOfMemory {
+        Missed::Unreached(error)
+    } else {
+        Missed::Unknown
+    }
+}
+
+/// What is shown for a call that has failed.
+fn shown(alloc: Global, missed: Missed, host: &str) -> Fault {
+    match missed {
+        Missed::Unreached(error) => Fault::Order(no_connection(&error, true)),
+        Missed::Unknown => match unknown_host(alloc, host) {
+            Ok(line) => Fault::Explained(OrderFault::ConnectionFailed(""), line),
+            Err(AllocError) => Fault::Order(OrderFault::Memory),
+        },
+    }
+}
+
 /// How long an attempt may take if a stop file is looked for between two, in milliseconds.
 const ATTEMPT_MS: u64 = 1_000;
 
@@ -43,20 +75,28 @@ fn left_of<R: Clock>(rt: &R, began: Instant, seconds: u32) -> Option<Duration> {
     Duration::from_secs(seconds as u64).checked_sub(elapsed)
 }
 
-/// One attempt at a connection, which takes no longer than allowed.
+/// One attempt at a connection, which takes no longer than allowed, if that is limited.
 fn attempt<R: Net<Listener = TcpListener, Stream = TcpStream>>(
     rt: &R,
     address: (&str, u16),
-    most: Duration,
-) -> io::Result<TcpStream> {
-    let mut result = Err(Error::from(ErrorKind::NotFound));
-    for found in address.to_socket_addrs(rt)? {
-        result = TcpStream::connect_timeout(rt, &found, most);
-        if result.is_ok() {
-            break;
+    most: Option<Duration>,
+) -> Result<TcpStream, Missed> {
+    let found = match address.to_socket_addrs(rt) {
+        Ok(found) => found,
+        Err(error) => return Err(unfound(error)),
+    };
+    let mut missed = Missed::Unknown;
+    for one in found {
+        let made = match most {
+            Some(most) => TcpStream::connect_timeout(rt, &one, most),
+            None => TcpStream::connect(rt, one),
+        };
+        match made {
+            Ok(stream) => return Ok(stream),
+            Err(error) => missed = Missed::Unreached(error),
         }
     }
-    result
+    Err(missed)
 }
 
 /// Attempts a connection again and again for that many seconds, until there is one or the stop file is there.
@@ -65,56 +105,68 @@ fn attempts<R: Files + Clock + Net<Listener = TcpListener, Stream = TcpStream>>(
     address: (&str, u16),
     seconds: u32,
     patience: &Patience<'_, R>,
-) -> io::Result<Option<TcpStream>> {
-    let began = Instant::now(rt)?;
+) -> Result<Option<TcpStream>, Missed> {
+    let began = match Instant::now(rt) {
+        Ok(began) => began,
+        Err(error) => return Err(Missed::Unreached(error)),
+    };
     let look = Duration::from_millis(LOOK_MS);
     let mut left = Duration::from_secs(seconds as u64);
     for _attempt in 0..u64::MAX {
         if patience.is_stopped() {
             return Ok(None);
         }
-        let error = match attempt(rt, address, left.min(Duration::from_millis(ATTEMPT_MS))) {
+        let most = left.min(Duration::from_millis(ATTEMPT_MS));
+        let missed = match attempt(rt, address, Some(most)) {
             Ok(stream) => return Ok(Some(stream)),
-            Err(error) => error,
+            Err(missed) => missed,
         };
         match left_of(rt, began, seconds) {
             Some(more) if more > look => left = more,
-            _ => return Err(error),
+            _ => return Err(missed),
         }
         thread::sleep(rt, look);
     }
     Ok(None)
 }
 
+/// One attempt, as several are made.
+fn once<R: Net<Listener = TcpListener, Stream = TcpStream>>(
+    rt: &R,
+    address: (&str, u16),
+    most: Option<Duration>,
+) -> Result<Option<TcpStream>, Missed> {
+    match attempt(rt, address, most) {
+        Ok(stream) => Ok(Some(stream)),
+        Err(missed) => Err(missed),
+    }
+}
+
 /// Calls a server: again and again for that many seconds, or once, for as long as it may be silent.
-pub fn call_server<R: Files + Clock + Net<Listener = TcpListener, Stream = TcpStream>>(
+pub fn call_server<
+    R: Files + Clock + Net<Listener = TcpListener, Stream = TcpStream> + AllocGlobal,
+>(
     rt: &R,
     address: (&str, u16),
     wait: Option<u32>,
     patience: &Patience<'_, R>,
-) -> Result<Called, OrderFault> {
+) -> Result<Called, Fault> {
     if patience.is_stopped() {
         return Ok(Called::Stopped);
     }
     let made = match (wait, patience.seconds()) {
         (Some(seconds), _) => attempts(rt, address, seconds, patience),
-        (None, Some(seconds)) => match attempt(rt, address, Duration::from_secs(seconds as u64)) {
-            Ok(stream) => Ok(Some(stream)),
-            Err(error) => Err(error),
-        },
-        (None, None) => match TcpStream::connect(rt, address) {
-            Ok(stream) => Ok(Some(stream)),
-            Err(error) => Err(error),
-        },
+        (None, Some(seconds)) => once(rt, address, Some(Duration::from_secs(seconds as u64))),
+        (None, None) => once(rt, address, None),
     };
     let stream = match made {
         Ok(Some(stream)) => stream,
         Ok(None) => return Ok(Called::Stopped),
-        Err(error) => return Err(no_connection(&error, true)),
+        Err(missed) => return Err(shown(rt.alloc(), missed, address.0)),
     };
     match patience.limit(&stream) {
         Ok(()) => Ok(Called::Connected(stream)),
-        Err(error) => Err(no_connection(&error, true)),
+        Err(error) => Err(Fault::Order(no_connection(&error, true))),
     }
 }
 

@@ -19,6 +19,8 @@ misfit_text misfit.RecordAndFeatures =
     codes "error: the argument '--record <FILE>' cannot be used with '--features <FILE>'\n\nFor more information, try '--help'.\n"
 misfit_text misfit.RecordAndContacts =
     codes "error: the argument '--record <FILE>' cannot be used with '--contacts <FILE>'\n\nFor more information, try '--help'.\n"
+misfit_text misfit.RecordWithoutPart =
+    codes "error: the argument '--record <FILE>' requires '--part <TEXT>'\n\nFor more information, try '--help'.\n"
 misfit_text misfit.FeaturesWithoutRecord =
     codes "error: the argument '--as features' requires '--record <FILE>'\n\nFor more information, try '--help'.\n"
 misfit_text misfit.ContactsWithoutRecord =

@@ -8,7 +8,7 @@ use Rattle.clap.specs.declared.error.kind.ErrorKind.TheVariants.{OutOfMemory}
 use Rattle.clap.specs.Values.{bool_text}
 use Rattle.clap.specs.Words.{IsAmong, IsSignedIn, Row, Text, fault_of, first_of, kind_of, one_of, subcommand_of, without_minus}
 use Rattle.client_core.specs.Clients.{is_window}
-use Rattle.refusal_guide.specs.Titles.{is_called, title_of}
+use Rattle.refusal_guide.specs.Codes.{is_code_of}
 use Rattle.refusal_guide.specs.declared.topics.Topic.{Topic}
 use Rattle.deviations.specs.declared.forms.Form.TheVariants.{Csv, Json, Svg}
 use Rattle.dme_words.specs.CommandLine.{whole_line}
@@ -137,8 +137,16 @@ IsServeOf rows o =
     × IsMaybeOf (codes "timeout") rows (option_map string_bytes o.timeout) × IsMaybeOf (codes "stop") rows (option_map string_bytes o.stop)
     × IsExplainedOf rows o.explain
 
+-- whether the option with this id has no value
+abbrev pub is_lacking : Text → List Row → Bool
+is_lacking id rows = not (is_some (first_of id rows))
+
+-- a part is named if a record is
+abbrev pub names_its_part : List Row → Bool
+names_its_part rows = is_lacking (codes "record") rows || not (is_lacking (codes "part") rows)
+
 -- a run of the program against the server at the named host and port, with the named setup and window, and the named file of features,
--- record, part, file for the reported contacts, log, time limits and stop file, if any
+-- record with its part, file for the reported contacts, log, time limits and stop file, if any
 abbrev pub IsRunOf : List Row → Run → Type 0
 IsRunOf rows o =
     IsValueOf (codes "setup") rows (string_bytes o.setup) × IsValueOf (codes "host") rows (string_bytes o.host) × IsPortOf rows o.port
@@ -150,10 +158,11 @@ IsRunOf rows o =
     × IsMaybeOf (codes "timeout") rows (option_map string_bytes o.timeout) × IsMaybeOf (codes "wait") rows (option_map string_bytes o.wait)
     × IsMaybeOf (codes "stop") rows (option_map string_bytes o.stop) × IsFlagOf (codes "confirm") rows o.confirm
     × IsExplainedOf rows o.explain × IsProgramOf rows (string_bytes o.program)
+    × (names_its_part rows ≡ true)
 
--- a code that a refusal is called by, its letters in any case
+-- a code that names a refusal, its letters in any case, or a server's own errors
 abbrev pub IsCodeOf : Topic → Text → Type 0
-IsCodeOf topic code = is_called (title_of topic) code ≡ true
+IsCodeOf topic code = is_code_of topic code ≡ true
 
 -- the refusal that is called by the named code
 abbrev pub IsExplainOf : List Row → Topic → Type 0
@@ -390,10 +399,6 @@ HasNoTopic rows (NoCode code) = IsValueOf (codes "CODE") rows (string_bytes code
 HasNoTopic rows Memory = Unit {0}
 HasNoTopic rows _ = ⊥
 
--- whether the option with this id has no value
-abbrev pub is_lacking : Text → List Row → Bool
-is_lacking id rows = not (is_some (first_of id rows))
-
 -- which of the options that an audit without a record needs are not named; one at least
 pub record AreLacking (rows : List Row) (lacks : Lacks) : Type 0 where
   pub setup : lacks.setup ≡ is_lacking (codes "setup") rows
@@ -429,9 +434,21 @@ HasNoExport rows (Misfits why) = ExportMisfits rows why
 HasNoExport rows Memory = Unit {0}
 HasNoExport rows _ = ⊥
 
--- the options of an audit or of an export do not go together
+-- the options of a run do not go together
+abbrev pub RunMisfits : List Row → Misfit → Type 0
+RunMisfits rows misfit.RecordWithoutPart = HasValue (codes "record") rows × HasNone (codes "part") rows
+RunMisfits rows _ = ⊥
+
+-- likewise; or memory ran out
+abbrev pub HasNoRun : List Row → WordsFault → Type 0
+HasNoRun rows (Misfits why) = RunMisfits rows why
+HasNoRun rows Memory = Unit {0}
+HasNoRun rows _ = ⊥
+
+-- the options of an audit, of an export or of a run do not go together
 abbrev pub OptionsMisfit : Misfit → Text × List Row → Type 0
 OptionsMisfit why p = ((p.0 ≡ codes "audit") × AuditMisfits p.1 why) ⊎ ((p.0 ≡ codes "export") × ExportMisfits p.1 why)
+    ⊎ ((p.0 ≡ codes "run") × RunMisfits p.1 why)
 
 -- why a subcommand asks for nothing: no refusal has its code, its word is not a form, or its options do not go together; or memory ran out
 abbrev pub AsksForNothing : Option (Text × List Row) → WordsFault → Type 0

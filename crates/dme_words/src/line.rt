@@ -16,6 +16,37 @@ use std::alloc::{AllocError, Global};
 /// The window, and the count of connections, if none is named.
 const ONE: &str = "1";
 
+/// The commands as a person meets them, each with its own first line of help.
+const HELP: &str = "Runs DMIS inspection programs over the I++ DME interface
+
+Usage: dme <COMMAND>
+
+Before a run:
+  review    Lists everything that stands between a DMIS program and its run
+  check     Prints the I++ DME command lines of a DMIS program
+  loop      Runs a DMIS program on a simulated machine over a connection to itself, and prints the report
+
+At the machine:
+  run       Runs a DMIS program on the machine of a server, and prints the report
+
+After a run:
+  audit     Says in which runs of the server's contacts the client's features were measured
+  export    Prints how far the measured points of features lie from their nominal points
+
+For makers of clients and servers:
+  serve     Is the server of a simulated machine, and prints the contacts that it made
+  simulate  Runs a DMIS program on a simulated machine, event by event, and prints the report
+  watch     Stands between a client and a server, and writes what the server reports that it did
+  ledger    Prints what a server told that it did, from the bytes of both ends
+  judge     Shows which line of a client or a server first breaks a rule, from the bytes of both ends
+
+Help:
+  explain   Says what a refusal means and what to do about it
+  help      Print this message or the help of the given subcommand(s)
+
+Options:
+  -h, --help  Print help";
+
 /// An argument of a command.
 #[derive(Clone, Copy)]
 enum Argument {
@@ -771,6 +802,7 @@ fn bare_command<'a>(alloc: Global) -> Command<'a>
 {
     Command::new(alloc, "dme")
         .about("Runs DMIS inspection programs over the I++ DME interface")
+        .override_help(HELP)
         .subcommand_required(true)
 }
 

@@ -18,13 +18,15 @@ pub struct Lacks {
     pub is_named: bool,
 }
 
-/// Why the options of an audit or of an export do not go together. Shown as `clap` shows such a fault.
+/// Why the options of a run, an audit or an export do not go together. Shown as `clap` shows such a fault.
 #[derive(Clone, Copy, Debug, PartialEq, Eq)]
 pub enum Misfit {
     /// `--record` with `--features`.
     RecordAndFeatures,
     /// `--record` with `--contacts`.
     RecordAndContacts,
+    /// A run with `--record` and without `--part`.
+    RecordWithoutPart,
     /// `--as features` without `--record`.
     FeaturesWithoutRecord,
     /// `--as contacts` without `--record`.
@@ -62,6 +64,9 @@ impl fmt::Display for Misfit {
             ),
             Misfit::RecordAndContacts => f.write_str(
                 "error: the argument '--record <FILE>' cannot be used with '--contacts <FILE>'\n\nFor more information, try '--help'.\n",
+            ),
+            Misfit::RecordWithoutPart => f.write_str(
+                "error: the argument '--record <FILE>' requires '--part <TEXT>'\n\nFor more information, try '--help'.\n",
             ),
             Misfit::FeaturesWithoutRecord => f.write_str(
                 "error: the argument '--as features' requires '--record <FILE>'\n\nFor more information, try '--help'.\n",

@@ -11,7 +11,7 @@ ghost use Rattle.dme_words.specs.Ordered.{IsConnectionOf, HasConnection, HasLedg
 ghost use Rattle.dme_words.specs.Ordered.{HasSimulation, HasLoop, HasService, HasRun};
 ghost use Rattle.dme_words.specs.Ordered.{IsListenedOf, HasListened, IsWatchOf, HasWatch, IsJudgeOf, HasJudge};
 ghost use Rattle.dme_words.specs.Ordered.{HasNone, is_lacking, AreLacking, HasNoAudit, HasNoExport, ExportMisfits};
-ghost use Rattle.dme_words.specs.Ordered.{IsLaterAskable, IsReviewOf};
+ghost use Rattle.dme_words.specs.Ordered.{IsLaterAskable, IsReviewOf, names_its_part, HasNoRun};
 ghost use Rattle.dme_words.specs.Ordered.{IsAskable, IsReady, Asks, IsRefusal, IsCalled};
 
 use crate::line::whole_command;
@@ -32,7 +32,7 @@ use std::alloc::{AllocError, Global};
 pub enum WordsFault {
     /// A bad command line, or a call for help, with `clap`'s text.
     Line(Error),
-    /// A code that no refusal has.
+    /// A code that names no refusal.
     NoCode(String),
     /// A word that names no form.
     NoForm(String),
@@ -342,9 +342,17 @@ fn serve_order(alloc: Global, values: &ArgMatches) -> Result<Service, AllocError
     })
 }
 
-/// The values of `run`. Fails only if out of memory.
-fn run_order(alloc: Global, values: &ArgMatches) -> Result<Run, AllocError>
-    requires { HasRun (rows_of (found_of values.now)) }
+/// Whether a part is named if a record is.
+fn names_its_part(values: &ArgMatches) -> bool
+    ensures { result ≡ names_its_part (rows_of (found_of values.now)) }
+{
+    is_lacking(values, "record") || !is_lacking(values, "part")
+}
+
+/// The values of `run`, whose record has a part. Fails only if out of memory.
+fn run_values(alloc: Global, values: &ArgMatches) -> Result<Run, AllocError>
+    requires needed { HasRun (rows_of (found_of values.now)) }
+    requires part { names_its_part (rows_of (found_of values.now)) ≡ true }
     ensures named { IfOk result (IsRunOf (rows_of (found_of values.now))) }
     ensures ready { IfOk result (λ order. (1 ≤ order.port)
         × (is_window order.window ≡ true)) }
@@ -387,7 +395,21 @@ fn run_order(alloc: Global, values: &ArgMatches) -> Result<Run, AllocError>
     })
 }
 
-/// The refusal that is called by this code, its letters in any case.
+/// The values of `run`. A record is of a part, so that its points are not taken for those of another.
+fn run_order(alloc: Global, values: &ArgMatches) -> Result<Run, WordsFault>
+    requires { HasRun (rows_of (found_of values.now)) }
+    ensures named { IfOk result (IsRunOf (rows_of (found_of values.now))) }
+    ensures ready { IfOk result (λ order. (1 ≤ order.port)
+        × (is_window order.window ≡ true)) }
+    ensures none { IfErr result (HasNoRun (rows_of (found_of values.now))) }
+{
+    if !names_its_part(values) {
+        return Err(WordsFault::Misfits(Misfit::RecordWithoutPart));
+    }
+    Ok(run_values(alloc, values)?)
+}
+
+/// The refusal that this code names, its letters in any case.
 fn topic_of(code: String) -> Result<Topic, WordsFault>
     ensures ok { IfOk result (λ topic. IsCodeOf topic (string_bytes code)) }
     ensures err { IfErr result (λ fault. (fault ≡ WordsFault.NoCode code)

@@ -28,6 +28,7 @@ use Rattle.dmis_program.specs.declared.steps.Step.{Step}
 use Rattle.program_review.specs.declared.standing.Standing.{Standing}
 use Rattle.program_review.specs.declared.refusals.Found.{Found}
 use Rattle.program_review.specs.Refusals.{at_start, number_at, some_tool, context_of, due, one_more, one_less, lacking_said, is_selection}
+use Rattle.program_review.specs.Variables.{names_by}
 use Rattle.program_review.specs.Refusals.{after_said, after, is_end, listed, refusals_from, refusals_of, first_of, fault_of}
 
 -- what an open block that has this many touches lacks
@@ -249,24 +250,26 @@ goes_on : (b : Bool) (steps : List Step) (behind : Result (List Step) (Refusal �
 goes_on true steps behind more h = refl
 goes_on false steps behind more h = h ∙ sym (front_keeps steps behind)
 
-by_judgement : (keyword : Keyword) (text : List ℕ) (line : ℕ) (st : Standing) (r : Result StatementMeaning Refusal) (steps : StatementMeaning → List Step)
+by_judgement : (names : List (List ℕ)) (s : Statement) (st : Standing) (r : Result StatementMeaning Refusal) (steps : StatementMeaning → List Step)
     (behind : Result (List Step) (Refusal × ℕ)) (rest : Standing → List Found)
-    → ((m : StatementMeaning) → r ≡ Ok m → is_end keyword ≡ closes m)
-    → ((m : StatementMeaning) → r ≡ Ok m → first_of (rest (after_said st keyword m)) ≡ fault_of behind)
-    → first_of (listed text line r ++ cond (is_end keyword) [] (rest (after st keyword r))) ≡ fault_of (continued line r steps behind)
-by_judgement keyword text line st (Err e) steps behind rest ends more = refl
-by_judgement keyword text line st (Ok m) steps behind rest ends more = rw (ends m refl) (goes_on (closes m) (steps m) behind _ (more m refl))
+    → ((m : StatementMeaning) → r ≡ Ok m → is_end (keyword_of s.word) ≡ closes m)
+    → ((m : StatementMeaning) → r ≡ Ok m → first_of (rest (after_said st (keyword_of s.word) m)) ≡ fault_of behind)
+    → first_of (listed names s r ++ cond (is_end (keyword_of s.word)) [] (rest (after st (keyword_of s.word) r)))
+    ≡ fault_of (continued s.line r steps behind)
+by_judgement names s st (Err e) steps behind rest ends more = refl
+by_judgement names s st (Ok m) steps behind rest ends more = rw (ends m refl) (goes_on (closes m) (steps m) behind _ (more m refl))
 
-agrees : (frames : List (List ℕ × Point)) (fault : Option TextFault) (n : ℕ) (statements above : List Statement) (st : Standing)
-    → Matches above st → first_of (refusals_from frames fault n st statements) ≡ fault_of (steps_from frames fault n above statements)
-agrees frames fault n [] above st h = rw h.number refl
-agrees frames fault n (s ∷ statements) above st h =
+agrees : (frames : List (List ℕ × Point)) (fault : Option TextFault) (n : ℕ) (names : List (List ℕ)) (statements above : List Statement)
+    (st : Standing) → Matches above st
+    → first_of (refusals_from frames fault n names st statements) ≡ fault_of (steps_from frames fault n above statements)
+agrees frames fault n names [] above st h = rw h.number refl
+agrees frames fault n names (s ∷ statements) above st h =
     let keyword = keyword_of s.word in
     rw (due_is frames above st s h)
-    (by_judgement keyword s.word s.line st (judged frames (context_at frames above) s) (steps_of frames (context_at frames above))
-    (steps_from frames fault n (s ∷ above) statements) (λ (next : Standing). refusals_from frames fault n next statements)
+    (by_judgement names s st (judged frames (context_at frames above) s) (steps_of frames (context_at frames above))
+    (steps_from frames fault n (s ∷ above) statements) (λ (next : Standing). refusals_from frames fault n (names ++ names_by s) next statements)
     (λ m e. end_is s m (accepted_is frames (context_at frames above) s m e).said)
-    (λ m e. agrees frames fault n statements (s ∷ above) (after_said st keyword m)
+    (λ m e. agrees frames fault n (names ++ names_by s) statements (s ∷ above) (after_said st keyword m)
     (matches_after frames above st s m h (accepted_is frames (context_at frames above) s m e))))
 
 meant_keeps : (r : Result (List Step) (Refusal × ℕ)) → fault_of (meant r) ≡ fault_of r
@@ -276,7 +279,7 @@ meant_keeps (Err e) = refl
 pub first_is : (frames : List (List ℕ × Point)) (text : List ℕ) → first_of (refusals_of frames text) ≡ fault_of (program_of frames text)
 unfolding meaning_of
 first_is frames text =
-    agrees frames (text_reading text).fault (length (lines text)) (text_reading text).statements [] at_start (record {
+    agrees frames (text_reading text).fault (length (lines text)) [] (text_reading text).statements [] at_start (record {
       number = refl;
       few = omega arith;
       start = refl;

@@ -8,3 +8,4 @@ pub mod StepLacks
 pub mod Groups
 pub mod Strays
 pub mod UnusedFrames
+pub mod Variables

@@ -20,7 +20,9 @@ use Rattle.dmis_program.specs.declared.keywords.Keyword.{Keyword}
 use Rattle.dmis_program.specs.declared.keywords.Keyword.TheVariants as word
 use Rattle.dmis_program.specs.declared.sayings.StatementMeaning.{StatementMeaning}
 use Rattle.dmis_program.specs.declared.sayings.StatementMeaning.TheVariants as said
-use Rattle.program_review.specs.Groups.{group_of}
+use Rattle.program_review.specs.Variables.{names_by, group_below}
+use Rattle.program_review.specs.declared.groups.Group.{Group}
+use Rattle.program_review.specs.declared.groups.Group.TheVariants as group
 use Rattle.program_review.specs.declared.standing.Standing.{Standing}
 use Rattle.program_review.specs.declared.refusals.Found.{Found}
 
@@ -122,28 +124,30 @@ abbrev pub is_end : Keyword → Bool
 is_end word.Endfil = true
 is_end _ = false
 
--- a refusal on its line, of a statement with this word; where no statement is read there is none
-abbrev pub found_at : List ℕ → Refusal × ℕ → Found
-found_at text p = record { refusal = p.0; line = p.1; group = group_of p.0 text }
+-- a refusal on its line, of a statement of this group
+abbrev pub found_at : Group → Refusal × ℕ → Found
+found_at group p = record { refusal = p.0; line = p.1; group = group }
 
-abbrev pub listed : List ℕ → ℕ → Result StatementMeaning Refusal → List Found
-listed text line (Ok meaning) = []
-listed text line (Err refusal) = found_at text (refusal, line) ∷ []
+-- the refusal of a statement below those that declare or assign these names
+abbrev pub listed : List (List ℕ) → Statement → Result StatementMeaning Refusal → List Found
+listed names s (Ok meaning) = []
+listed names s (Err refusal) = found_at (group_below names refusal s) (refusal, s.line) ∷ []
 
 abbrev pub after : Standing → Keyword → Result StatementMeaning Refusal → Standing
 after standing keyword (Ok meaning) = after_said standing keyword meaning
 after standing keyword (Err refusal) = after_refused standing keyword refusal
 
--- the refusals of the statements from here on, and that of the text's end if no `ENDFIL` comes before it
-abbrev pub refusals_from : List (List ℕ × Point) → Option TextFault → ℕ → Standing → List Statement → List Found
-refusals_from frames fault lines standing [] = found_at [] (ended fault standing.number lines) ∷ []
-refusals_from frames fault lines standing (s ∷ statements) = listed s.word s.line (due frames standing s)
-    ++ (if is_end (keyword_of s.word) then [] else
-    refusals_from frames fault lines (after standing (keyword_of s.word) (due frames standing s)) statements)
+-- the refusals of the statements from here on, below those that declare or assign these names, and that of the text's end if no `ENDFIL`
+-- comes before it; that is a mistake
+abbrev pub refusals_from : List (List ℕ × Point) → Option TextFault → ℕ → List (List ℕ) → Standing → List Statement → List Found
+refusals_from frames fault lines names standing [] = found_at group.Mistake (ended fault standing.number lines) ∷ []
+refusals_from frames fault lines names standing (s ∷ statements) = listed names s (due frames standing s)
+    ++ (if is_end (keyword_of s.word) then [] else refusals_from frames fault lines (names ++ names_by s)
+    (after standing (keyword_of s.word) (due frames standing s)) statements)
 
 -- all refusals of a text, in the order of its statements
 abbrev pub refusals_of : List (List ℕ × Point) → List ℕ → List Found
-refusals_of frames text = refusals_from frames (text_reading text).fault (length (lines text)) at_start (text_reading text).statements
+refusals_of frames text = refusals_from frames (text_reading text).fault (length (lines text)) [] at_start (text_reading text).statements
 
 -- the first of them, as a program is refused
 abbrev pub first_of : List Found → Option (Refusal × ℕ)

@@ -6,6 +6,7 @@
 //! - `under_setup`: what a setup lacks for a program; `lacking`: for one that is accepted
 //! - `recalling`: the frames of a setup that a program does not recall
 //! - `groups`: what refused statements are for; `strays`: the touches that would be measured elsewhere without them
+//! - `variables`: the names that statements declare or assign, and the moves that are refused for one
 //! - `tasks`: the statements that a client carries out by commands, and their lines; `blocks`: the lines of a program's blocks
 //! - `laws`: what follows from the definitions
 #![tactic(auto)]
@@ -23,6 +24,7 @@ mod standing;
 mod strays;
 mod tasks;
 mod under_setup;
+mod variables;
 
 pub use blocks::block_lines;
 pub use groups::Group;

@@ -5,11 +5,14 @@ ghost use Rattle.dmis_program.specs.Keywords.{keyword_of};
 ghost use Rattle.dmis_program.specs.Meaning.{program_of, ended};
 ghost use Rattle.dmis_text.specs.declared.reading.TextFault.{TextFault};
 ghost use Rattle.program_review.specs.Refusals.{refusals_of, found_at, listed, due, after, is_end, first_of, fault_of};
+ghost use Rattle.program_review.specs.Variables.{names_by, group_below};
 
-use crate::groups::{Group, group_of};
+use crate::groups::Group;
 use crate::standing::Standing;
+use crate::variables::{group_below, push_declared};
 use dmis_program::{Frames, Keyword, Refusal, StatementFault, keyword_of_word};
 use dmis_text::{Statement, Statements, TextFault};
+use fixed_um::Name;
 use std::alloc::{AllocError, Global};
 
 /// A refusal, and the line on which its statement begins, or the line that cannot be read.
@@ -24,21 +27,35 @@ pub struct Found {
 }
 
 impl Found {
-    /// A refusal on this line, of a statement with this word; of none where the text cannot be read, or ends.
-    fn new(refusal: Refusal, line: u64, word: &[u8]) -> Found
-        ensures { result ≡ found_at word.now (refusal, line) }
+    /// The refusal of a statement, below those that declare or assign these names.
+    fn new(names: &[Name], refusal: Refusal, keyword: Keyword, statement: &Statement) -> Found
+        requires { keyword ≡ keyword_of statement.now.word }
+        ensures { result ≡ found_at (group_below names.now refusal statement.now)
+            (refusal, statement.now.line) }
+    {
+        Found {
+            refusal,
+            line: statement.line,
+            group: group_below(names, refusal, keyword, statement),
+        }
+    }
+
+    /// A refusal on this line, on which no statement is read.
+    fn of_line(refusal: Refusal, line: u64) -> Found
+        ensures { result ≡ found_at Group.Mistake (refusal, line) }
     {
         Found {
             refusal,
             line,
-            group: group_of(refusal, word),
+            group: Group::Mistake,
         }
     }
 }
 
-/// Adds the refusal of a statement, if it is refused, and gives what stands after it.
+/// Adds the refusal of a statement below those that declare or assign these names, if it is refused, and gives what stands after it.
 fn pass(
     found: &mut Vec<Found>,
+    names: &[Name],
     standing: Standing,
     frames: &Frames,
     keyword: Keyword,
@@ -46,15 +63,14 @@ fn pass(
 ) -> Result<Standing, AllocError>
     requires { keyword ≡ keyword_of statement.now.word }
     ensures listed { OnOk result (found.new.items
-        ≡ found.old.items ++ listed statement.now.word statement.now.line (due frames.now standing statement.now)) }
+        ≡ found.old.items ++ listed names.now statement.now (due frames.now standing statement.now)) }
     ensures standing { IfOk result (λ next.
         next ≡ after standing keyword (due frames.now standing statement.now)) }
 {
     match standing.judge(*found.allocator(), frames, keyword, statement) {
         Ok(meaning) => Ok(standing.after_said(keyword, &meaning)),
         Err(StatementFault::Refused(refusal)) => {
-            let line = statement.line;
-            found.push(Found::new(refusal, line, &statement.word))?;
+            found.push(Found::new(names, refusal, keyword, statement))?;
             Ok(standing.after_refused(keyword, refusal))
         }
         Err(StatementFault::Memory) => Err(AllocError),
@@ -63,12 +79,12 @@ fn pass(
 
 /// The refusal of a text that ends after that many statements and lines, without an `ENDFIL`.
 fn missing_end(number: u64, lines: u64) -> Found
-    ensures { result ≡ found_at [] (ended None number lines) }
+    ensures { result ≡ found_at Group.Mistake (ended None number lines) }
 {
     if number == 0 {
-        Found::new(Refusal::NotDmis, 1, &[])
+        Found::of_line(Refusal::NotDmis, 1)
     } else {
-        Found::new(Refusal::Truncated, lines, &[])
+        Found::of_line(Refusal::Truncated, lines)
     }
 }
 
@@ -78,6 +94,7 @@ fn all_refusals(alloc: Global, bytes: &[u8], frames: &Frames) -> Result<Vec<Foun
 {
     let mut statements = Statements::new(alloc, bytes);
     let mut standing = Standing::start();
+    let mut names: Vec<Name> = Vec::new(alloc);
     let mut found = Vec::new(alloc);
     loop {
         let statement = match statements.next() {
@@ -87,22 +104,28 @@ fn all_refusals(alloc: Global, bytes: &[u8], frames: &Frames) -> Result<Vec<Foun
                 return Ok(found);
             }
             Err(TextFault::LineTooLong(line)) => {
-                let refusal = Refusal::LineTooLong;
-                found.push(Found::new(refusal, line, &[]))?;
+                found.push(Found::of_line(Refusal::LineTooLong, line))?;
                 return Ok(found);
             }
             Err(TextFault::BadByte(line)) => {
-                let refusal = Refusal::BadByte;
-                found.push(Found::new(refusal, line, &[]))?;
+                found.push(Found::of_line(Refusal::BadByte, line))?;
                 return Ok(found);
             }
             Err(TextFault::Memory) => return Err(AllocError),
         };
         let keyword = keyword_of_word(&statement.word);
-        standing = pass(&mut found, standing, frames, keyword, &statement)?;
+        standing = pass(
+            &mut found,
+            names.as_slice(),
+            standing,
+            frames,
+            keyword,
+            &statement,
+        )?;
         if keyword == Keyword::Endfil {
             return Ok(found);
         }
+        push_declared(&mut names, &statement)?;
         statements.take_back(statement);
     }
 }

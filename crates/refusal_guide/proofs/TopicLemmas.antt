@@ -1,6 +1,9 @@
 -- The topics are all in the table.
 use Rattle.std.proofs.Common.{◌≡◌, Bool, true, false, List, [], ◌∷◌, Option, Some, None, MatchOption, cond, refl, sym, ◌∙◌, find, subst}
 use Rattle.std.proofs.lemmas.Bool.{false≢true}
+use Rattle.std.proofs.Common.{ℕ}
+use Rattle.std.specs.Option.{option_or}
+use Rattle.refusal_guide.specs.Codes.{titled, is_error_number, is_code_of, topic_of}
 use Rattle.refusal_guide.specs.declared.topics.Topic.{Topic}
 use Rattle.refusal_guide.specs.declared.topics.Topic.TheVariants as topic
 use Rattle.refusal_guide.specs.declared.topics.TheConstants.{TOPICS}
@@ -23,55 +26,61 @@ found_in p (k ∷ ks) o f = found_step p k ks (p k) o refl f (λ q e. found_in p
 not_so : (b : Bool) → b ≡ false → b ≡ true → ⊥
 not_so b e h = false≢true (sym e ∙ h)
 
-each_topic : (p : Topic → Bool) → NoneOf p TOPICS → (k : Topic) → p k ≡ true → ⊥
-each_topic p h topic.NotDmis = not_so (p topic.NotDmis) h.0
-each_topic p h topic.Truncated = not_so (p topic.Truncated) h.1.0
-each_topic p h topic.LineTooLong = not_so (p topic.LineTooLong) h.1.1.0
-each_topic p h topic.BadByte = not_so (p topic.BadByte) h.1.1.1.0
-each_topic p h topic.Unsupported = not_so (p topic.Unsupported) h.1.1.1.1.0
-each_topic p h topic.BadArguments = not_so (p topic.BadArguments) h.1.1.1.1.1.0
-each_topic p h topic.BadNumeral = not_so (p topic.BadNumeral) h.1.1.1.1.1.1.0
-each_topic p h topic.OutsideBlock = not_so (p topic.OutsideBlock) h.1.1.1.1.1.1.1.0
-each_topic p h topic.InsideBlock = not_so (p topic.InsideBlock) h.1.1.1.1.1.1.1.1.0
-each_topic p h topic.TooFewPoints = not_so (p topic.TooFewPoints) h.1.1.1.1.1.1.1.1.1.0
-each_topic p h topic.UnknownFrame = not_so (p topic.UnknownFrame) h.1.1.1.1.1.1.1.1.1.1.0
-each_topic p h topic.NotMillimetres = not_so (p topic.NotMillimetres) h.1.1.1.1.1.1.1.1.1.1.1.0
-each_topic p h topic.NoProgMode = not_so (p topic.NoProgMode) h.1.1.1.1.1.1.1.1.1.1.1.1.0
-each_topic p h topic.ZeroVector = not_so (p topic.ZeroVector) h.1.1.1.1.1.1.1.1.1.1.1.1.1.0
-each_topic p h topic.NoTool = not_so (p topic.NoTool) h.1.1.1.1.1.1.1.1.1.1.1.1.1.1.0
-each_topic p h topic.TooLarge = not_so (p topic.TooLarge) h.1.1.1.1.1.1.1.1.1.1.1.1.1.1.1.0
-each_topic p h topic.NotNumeral = not_so (p topic.NotNumeral) h.1.1.1.1.1.1.1.1.1.1.1.1.1.1.1.1.0
-each_topic p h topic.TooManyDigits = not_so (p topic.TooManyDigits) h.1.1.1.1.1.1.1.1.1.1.1.1.1.1.1.1.1.0
-each_topic p h topic.NumeralTooLarge = not_so (p topic.NumeralTooLarge) h.1.1.1.1.1.1.1.1.1.1.1.1.1.1.1.1.1.1.0
-each_topic p h topic.SetupLine = not_so (p topic.SetupLine) h.1.1.1.1.1.1.1.1.1.1.1.1.1.1.1.1.1.1.1.0
-each_topic p h topic.SetupTwice = not_so (p topic.SetupTwice) h.1.1.1.1.1.1.1.1.1.1.1.1.1.1.1.1.1.1.1.1.0
-each_topic p h topic.SetupNumeral = not_so (p topic.SetupNumeral) h.1.1.1.1.1.1.1.1.1.1.1.1.1.1.1.1.1.1.1.1.1.0
-each_topic p h topic.ScheduleLine = not_so (p topic.ScheduleLine) h.1.1.1.1.1.1.1.1.1.1.1.1.1.1.1.1.1.1.1.1.1.1.0
-each_topic p h topic.Damaged = not_so (p topic.Damaged) h.1.1.1.1.1.1.1.1.1.1.1.1.1.1.1.1.1.1.1.1.1.1.1.0
-each_topic p h topic.NotOurs = not_so (p topic.NotOurs) h.1.1.1.1.1.1.1.1.1.1.1.1.1.1.1.1.1.1.1.1.1.1.1.1.0
-each_topic p h topic.RecordDamaged = not_so (p topic.RecordDamaged) h.1.1.1.1.1.1.1.1.1.1.1.1.1.1.1.1.1.1.1.1.1.1.1.1.1.0
-each_topic p h topic.OtherPart = not_so (p topic.OtherPart) h.1.1.1.1.1.1.1.1.1.1.1.1.1.1.1.1.1.1.1.1.1.1.1.1.1.1.0
-each_topic p h topic.OtherProgram = not_so (p topic.OtherProgram) h.1.1.1.1.1.1.1.1.1.1.1.1.1.1.1.1.1.1.1.1.1.1.1.1.1.1.1.0
-each_topic p h topic.NoTag = not_so (p topic.NoTag) h.1.1.1.1.1.1.1.1.1.1.1.1.1.1.1.1.1.1.1.1.1.1.1.1.1.1.1.1.0
-each_topic p h topic.TagInUse = not_so (p topic.TagInUse) h.1.1.1.1.1.1.1.1.1.1.1.1.1.1.1.1.1.1.1.1.1.1.1.1.1.1.1.1.1.0
-each_topic p h topic.UnknownCommand = not_so (p topic.UnknownCommand) h.1.1.1.1.1.1.1.1.1.1.1.1.1.1.1.1.1.1.1.1.1.1.1.1.1.1.1.1.1.1.0
-each_topic p h topic.BadCommand = not_so (p topic.BadCommand) h.1.1.1.1.1.1.1.1.1.1.1.1.1.1.1.1.1.1.1.1.1.1.1.1.1.1.1.1.1.1.1.0
-each_topic p h topic.NoSession = not_so (p topic.NoSession) h.1.1.1.1.1.1.1.1.1.1.1.1.1.1.1.1.1.1.1.1.1.1.1.1.1.1.1.1.1.1.1.1.0
-each_topic p h topic.SessionOpen = not_so (p topic.SessionOpen) h.1.1.1.1.1.1.1.1.1.1.1.1.1.1.1.1.1.1.1.1.1.1.1.1.1.1.1.1.1.1.1.1.1.0
-each_topic p h topic.Aborted = not_so (p topic.Aborted) h.1.1.1.1.1.1.1.1.1.1.1.1.1.1.1.1.1.1.1.1.1.1.1.1.1.1.1.1.1.1.1.1.1.1.0
-each_topic p h topic.ErrorState = not_so (p topic.ErrorState) h.1.1.1.1.1.1.1.1.1.1.1.1.1.1.1.1.1.1.1.1.1.1.1.1.1.1.1.1.1.1.1.1.1.1.1.0
-each_topic p h topic.QueueFull = not_so (p topic.QueueFull) h.1.1.1.1.1.1.1.1.1.1.1.1.1.1.1.1.1.1.1.1.1.1.1.1.1.1.1.1.1.1.1.1.1.1.1.1.0
-each_topic p h topic.NotHomed = not_so (p topic.NotHomed) h.1.1.1.1.1.1.1.1.1.1.1.1.1.1.1.1.1.1.1.1.1.1.1.1.1.1.1.1.1.1.1.1.1.1.1.1.1.0
-each_topic p h topic.NoToolInHead = not_so (p topic.NoToolInHead) h.1.1.1.1.1.1.1.1.1.1.1.1.1.1.1.1.1.1.1.1.1.1.1.1.1.1.1.1.1.1.1.1.1.1.1.1.1.1.0
-each_topic p h topic.UnknownTool = not_so (p topic.UnknownTool) h.1.1.1.1.1.1.1.1.1.1.1.1.1.1.1.1.1.1.1.1.1.1.1.1.1.1.1.1.1.1.1.1.1.1.1.1.1.1.1.0
-each_topic p h topic.OutOfVolume = not_so (p topic.OutOfVolume) h.1.1.1.1.1.1.1.1.1.1.1.1.1.1.1.1.1.1.1.1.1.1.1.1.1.1.1.1.1.1.1.1.1.1.1.1.1.1.1.1.0
-each_topic p h topic.NoSurface = not_so (p topic.NoSurface) h.1.1.1.1.1.1.1.1.1.1.1.1.1.1.1.1.1.1.1.1.1.1.1.1.1.1.1.1.1.1.1.1.1.1.1.1.1.1.1.1.1.0
-each_topic p h topic.MachineFault = not_so (p topic.MachineFault) h.1.1.1.1.1.1.1.1.1.1.1.1.1.1.1.1.1.1.1.1.1.1.1.1.1.1.1.1.1.1.1.1.1.1.1.1.1.1.1.1.1.1.0
+each_topic : (p : Topic → Bool) → NoneOf p TOPICS → p topic.ServersOwn ≡ false → (k : Topic) → p k ≡ true → ⊥
+each_topic p h own topic.NotDmis = not_so (p topic.NotDmis) h.0
+each_topic p h own topic.Truncated = not_so (p topic.Truncated) h.1.0
+each_topic p h own topic.LineTooLong = not_so (p topic.LineTooLong) h.1.1.0
+each_topic p h own topic.BadByte = not_so (p topic.BadByte) h.1.1.1.0
+each_topic p h own topic.Unsupported = not_so (p topic.Unsupported) h.1.1.1.1.0
+each_topic p h own topic.BadArguments = not_so (p topic.BadArguments) h.1.1.1.1.1.0
+each_topic p h own topic.BadNumeral = not_so (p topic.BadNumeral) h.1.1.1.1.1.1.0
+each_topic p h own topic.OutsideBlock = not_so (p topic.OutsideBlock) h.1.1.1.1.1.1.1.0
+each_topic p h own topic.InsideBlock = not_so (p topic.InsideBlock) h.1.1.1.1.1.1.1.1.0
+each_topic p h own topic.TooFewPoints = not_so (p topic.TooFewPoints) h.1.1.1.1.1.1.1.1.1.0
+each_topic p h own topic.UnknownFrame = not_so (p topic.UnknownFrame) h.1.1.1.1.1.1.1.1.1.1.0
+each_topic p h own topic.NotMillimetres = not_so (p topic.NotMillimetres) h.1.1.1.1.1.1.1.1.1.1.1.0
+each_topic p h own topic.NoProgMode = not_so (p topic.NoProgMode) h.1.1.1.1.1.1.1.1.1.1.1.1.0
+each_topic p h own topic.ZeroVector = not_so (p topic.ZeroVector) h.1.1.1.1.1.1.1.1.1.1.1.1.1.0
+each_topic p h own topic.NoTool = not_so (p topic.NoTool) h.1.1.1.1.1.1.1.1.1.1.1.1.1.1.0
+each_topic p h own topic.TooLarge = not_so (p topic.TooLarge) h.1.1.1.1.1.1.1.1.1.1.1.1.1.1.1.0
+each_topic p h own topic.NotNumeral = not_so (p topic.NotNumeral) h.1.1.1.1.1.1.1.1.1.1.1.1.1.1.1.1.0
+each_topic p h own topic.TooManyDigits = not_so (p topic.TooManyDigits) h.1.1.1.1.1.1.1.1.1.1.1.1.1.1.1.1.1.0
+each_topic p h own topic.NumeralTooLarge = not_so (p topic.NumeralTooLarge) h.1.1.1.1.1.1.1.1.1.1.1.1.1.1.1.1.1.1.0
+each_topic p h own topic.SetupLine = not_so (p topic.SetupLine) h.1.1.1.1.1.1.1.1.1.1.1.1.1.1.1.1.1.1.1.0
+each_topic p h own topic.SetupTwice = not_so (p topic.SetupTwice) h.1.1.1.1.1.1.1.1.1.1.1.1.1.1.1.1.1.1.1.1.0
+each_topic p h own topic.SetupNumeral = not_so (p topic.SetupNumeral) h.1.1.1.1.1.1.1.1.1.1.1.1.1.1.1.1.1.1.1.1.1.0
+each_topic p h own topic.ScheduleLine = not_so (p topic.ScheduleLine) h.1.1.1.1.1.1.1.1.1.1.1.1.1.1.1.1.1.1.1.1.1.1.0
+each_topic p h own topic.Damaged = not_so (p topic.Damaged) h.1.1.1.1.1.1.1.1.1.1.1.1.1.1.1.1.1.1.1.1.1.1.1.0
+each_topic p h own topic.NotOurs = not_so (p topic.NotOurs) h.1.1.1.1.1.1.1.1.1.1.1.1.1.1.1.1.1.1.1.1.1.1.1.1.0
+each_topic p h own topic.RecordDamaged = not_so (p topic.RecordDamaged) h.1.1.1.1.1.1.1.1.1.1.1.1.1.1.1.1.1.1.1.1.1.1.1.1.1.0
+each_topic p h own topic.OtherPart = not_so (p topic.OtherPart) h.1.1.1.1.1.1.1.1.1.1.1.1.1.1.1.1.1.1.1.1.1.1.1.1.1.1.0
+each_topic p h own topic.OtherProgram = not_so (p topic.OtherProgram) h.1.1.1.1.1.1.1.1.1.1.1.1.1.1.1.1.1.1.1.1.1.1.1.1.1.1.1.0
+each_topic p h own topic.NoTag = not_so (p topic.NoTag) h.1.1.1.1.1.1.1.1.1.1.1.1.1.1.1.1.1.1.1.1.1.1.1.1.1.1.1.1.0
+each_topic p h own topic.TagInUse = not_so (p topic.TagInUse) h.1.1.1.1.1.1.1.1.1.1.1.1.1.1.1.1.1.1.1.1.1.1.1.1.1.1.1.1.1.0
+each_topic p h own topic.UnknownCommand = not_so (p topic.UnknownCommand) h.1.1.1.1.1.1.1.1.1.1.1.1.1.1.1.1.1.1.1.1.1.1.1.1.1.1.1.1.1.1.0
+each_topic p h own topic.BadCommand = not_so (p topic.BadCommand) h.1.1.1.1.1.1.1.1.1.1.1.1.1.1.1.1.1.1.1.1.1.1.1.1.1.1.1.1.1.1.1.0
+each_topic p h own topic.NoSession = not_so (p topic.NoSession) h.1.1.1.1.1.1.1.1.1.1.1.1.1.1.1.1.1.1.1.1.1.1.1.1.1.1.1.1.1.1.1.1.0
+each_topic p h own topic.SessionOpen = not_so (p topic.SessionOpen) h.1.1.1.1.1.1.1.1.1.1.1.1.1.1.1.1.1.1.1.1.1.1.1.1.1.1.1.1.1.1.1.1.1.0
+each_topic p h own topic.Aborted = not_so (p topic.Aborted) h.1.1.1.1.1.1.1.1.1.1.1.1.1.1.1.1.1.1.1.1.1.1.1.1.1.1.1.1.1.1.1.1.1.1.0
+each_topic p h own topic.ErrorState = not_so (p topic.ErrorState) h.1.1.1.1.1.1.1.1.1.1.1.1.1.1.1.1.1.1.1.1.1.1.1.1.1.1.1.1.1.1.1.1.1.1.1.0
+each_topic p h own topic.QueueFull = not_so (p topic.QueueFull) h.1.1.1.1.1.1.1.1.1.1.1.1.1.1.1.1.1.1.1.1.1.1.1.1.1.1.1.1.1.1.1.1.1.1.1.1.0
+each_topic p h own topic.NotHomed = not_so (p topic.NotHomed) h.1.1.1.1.1.1.1.1.1.1.1.1.1.1.1.1.1.1.1.1.1.1.1.1.1.1.1.1.1.1.1.1.1.1.1.1.1.0
+each_topic p h own topic.NoToolInHead = not_so (p topic.NoToolInHead) h.1.1.1.1.1.1.1.1.1.1.1.1.1.1.1.1.1.1.1.1.1.1.1.1.1.1.1.1.1.1.1.1.1.1.1.1.1.1.0
+each_topic p h own topic.UnknownTool = not_so (p topic.UnknownTool) h.1.1.1.1.1.1.1.1.1.1.1.1.1.1.1.1.1.1.1.1.1.1.1.1.1.1.1.1.1.1.1.1.1.1.1.1.1.1.1.0
+each_topic p h own topic.OutOfVolume = not_so (p topic.OutOfVolume) h.1.1.1.1.1.1.1.1.1.1.1.1.1.1.1.1.1.1.1.1.1.1.1.1.1.1.1.1.1.1.1.1.1.1.1.1.1.1.1.1.0
+each_topic p h own topic.NoSurface = not_so (p topic.NoSurface) h.1.1.1.1.1.1.1.1.1.1.1.1.1.1.1.1.1.1.1.1.1.1.1.1.1.1.1.1.1.1.1.1.1.1.1.1.1.1.1.1.1.0
+each_topic p h own topic.MachineFault = not_so (p topic.MachineFault) h.1.1.1.1.1.1.1.1.1.1.1.1.1.1.1.1.1.1.1.1.1.1.1.1.1.1.1.1.1.1.1.1.1.1.1.1.1.1.1.1.1.1.0
+each_topic p h own topic.ServersOwn = not_so (p topic.ServersOwn) own
 
-none_of_topics : (p : Topic → Bool) (o : Option Topic) → MatchOption o (NoneOf p TOPICS) (λ k. p k ≡ true)
-    → MatchOption o ((k : Topic) → p k ≡ true → ⊥) (λ k. p k ≡ true)
-none_of_topics p None h = each_topic p h
-none_of_topics p (Some k) h = h
+-- by whether a title begins with the code, and whether it is the number of an error
+by_number : (code : List ℕ) (found : Option Topic) (number : Bool) → found ≡ titled code → is_error_number code ≡ number
+    → MatchOption (option_or found (cond number (Some topic.ServersOwn) None)) ((k : Topic) → is_code_of k code ≡ true → ⊥)
+    (λ k. is_code_of k code ≡ true)
+by_number code (Some k) number f e = found_in (λ t. is_code_of t code) TOPICS (Some k) f
+by_number code None true f e = rw (e, ← f) refl
+by_number code None false f e = each_topic (λ t. is_code_of t code) (found_in (λ t. is_code_of t code) TOPICS None f) (rw e refl)
 
-pub topic_found : (p : Topic → Bool) (o : Option Topic) → o ≡ find p TOPICS → MatchOption o ((k : Topic) → p k ≡ true → ⊥) (λ k. p k ≡ true)
-topic_found p o f = none_of_topics p o (found_in p TOPICS o f)
+pub code_found : (code : List ℕ) (o : Option Topic) → o ≡ topic_of code
+    → MatchOption o ((k : Topic) → is_code_of k code ≡ true → ⊥) (λ k. is_code_of k code ≡ true)
+code_found code o f = subst (λ (q : Option Topic). MatchOption q ((k : Topic) → is_code_of k code ≡ true → ⊥) (λ k. is_code_of k code ≡ true))
+    (sym f) (by_number code (titled code) (is_error_number code) refl refl)

@@ -1,4 +1,6 @@
 pub mod Titles
+pub mod Codes
+pub mod Hosts
 pub mod Pages
 pub mod Lines
 pub mod Windows

@@ -85,10 +85,14 @@ abbrev pub few_text : ℕ → List ℕ → ℕ → List ℕ
 few_text line wanted touches = codes "MEAS at line " ++ (decimal line ++ (codes " names " ++ (wanted ++ (codes " touches, and its block has "
     ++ (decimal touches ++ codes ".")))))
 
--- or none at all
+-- or none at all: its MEAS and its ENDMES go together
+abbrev pub touches_word : List ℕ → List ℕ
+touches_word wanted = if bytes_eq wanted (codes "1") then codes " touch" else codes " touches"
+
 abbrev pub automatic_text : ℕ → List ℕ → List ℕ
 automatic_text line wanted = codes "The program asks for automatic measuring: MEAS at line " ++ (decimal line ++ (codes " names " ++ (wanted
-    ++ codes " touches and its block has none, and only programmed touches are measured.")))
+    ++ (touches_word wanted ++ (codes " and its block has none, and only programmed touches are measured. Write a PTMEAS for each, or delete"
+    ++ (codes " the MEAS at line " ++ (decimal line ++ codes " and this ENDMES together.")))))))
 
 abbrev pub touches_text : ℕ → List ℕ → ℕ → List ℕ
 touches_text line wanted touches = if touches == 0 then automatic_text line wanted else few_text line wanted touches

@@ -6,7 +6,7 @@ use Rattle.std.specs.Str.{bytes_eq}
 use Rattle.refusal_guide.specs.declared.topics.Topic.{Topic}
 use Rattle.refusal_guide.specs.declared.topics.Topic.TheVariants as topic
 
--- the code and the name of a topic
+-- the code and the name of a topic; a server's own error has no code
 abbrev pub title_of : Topic → List ℕ
 title_of topic.NotDmis = codes "P1 NotDmis"
 title_of topic.Truncated = codes "P2 Truncated"
@@ -51,6 +51,7 @@ title_of topic.UnknownTool = codes "9012 Unknown tool"
 title_of topic.OutOfVolume = codes "9013 Out of volume"
 title_of topic.NoSurface = codes "9014 No surface"
 title_of topic.MachineFault = codes "9015 Machine fault"
+title_of topic.ServersOwn = codes "Server's own error"
 
 -- a byte of a code: any but a space
 abbrev pub is_of_code : ℕ → Bool

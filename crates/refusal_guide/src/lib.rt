@@ -11,6 +11,7 @@
 //! - `programs`: the sentences of programs; `statements`, `blocks`, `bad_bytes`: what they are about; `arguments`, `numerals`, `names`: why
 //!   a parameter does not fit
 //! - `setups`, `schedules`, `ledgers`, `records`: the sentences of the other texts
+//! - `hosts`: a host that has no address
 //! - `strangers`: why a record is of another part or program; `touches`: in what two touches differ
 //! - `audits`: what an audit found; `contacts`: the contacts of a ledger; `nearest`: the one
 //!   that is nearest to a touch without one
@@ -24,6 +25,7 @@ mod blocks;
 mod contacts;
 pub mod examples;
 mod faults;
+mod hosts;
 mod ledgers;
 mod lines;
 mod names;
@@ -44,6 +46,7 @@ mod words;
 mod written;
 
 pub use audits::write_audit;
+pub use hosts::unknown_host;
 pub use places::{Refused, write_place};
 pub use sentences::{Passage, write_sentence};
 pub use strangers::{write_other_part, write_other_program};

@@ -109,6 +109,9 @@ impl Topic {
             }
             Topic::NoSurface => { "A touch met no surface where it searched for one." }
             Topic::MachineFault => { "The machine failed while it carried out the command." }
+            Topic::ServersOwn => {
+                "The number is not one of 9001 to 9015, which this interface gives its errors: the server gives it a meaning of its own."
+            }
         }
     }
 
@@ -138,7 +141,9 @@ impl Topic {
                 "Put the touch between a MEAS and its ENDMES; check whether a MEAS is missing above it, or an ENDMES is repeated."
             }
             Topic::InsideBlock => { "End the block above it with ENDMES." }
-            Topic::TooFewPoints => { "Write a PTMEAS for each touch, or name fewer in MEAS." }
+            Topic::TooFewPoints => {
+                "Write a PTMEAS for each touch, or name fewer in MEAS. A block without touches goes as a whole: delete its MEAS and its ENDMES together."
+            }
             Topic::UnknownFrame => {
                 "Name the setup with --setup, and check that one of its FRAME lines has the name."
             }
@@ -214,6 +219,9 @@ impl Topic {
             Topic::MachineFault => {
                 "Check the machine; once it is repaired, the same call continues with the features that are left."
             }
+            Topic::ServersOwn => {
+                "Read the text after the number in the server's line, and look the number up in the manual of the server or of its controller."
+            }
         }
     }
 
@@ -263,6 +271,7 @@ impl Topic {
             Topic::OutOfVolume => "FRAME LEFT 100 0 12.5",
             Topic::NoSurface => "PTMEAS/CART,10,20,5,0,0,1",
             Topic::MachineFault => "00010 ClearAllErrors()",
+            Topic::ServersOwn => "00008 ! Error(3, 1009, \"GoTo\", \"the server's text\")",
         }
     }
 }

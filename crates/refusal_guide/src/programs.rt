@@ -10,7 +10,8 @@ ghost use Rattle.refusal_guide.specs.Sentences.{not_dmis_said, no_statement_said
 ghost use Rattle.refusal_guide.specs.Sentences.{minor_cause, minor_said, major_said, has_minor, unsupported_said, direction_said, zero_vector_said};
 ghost use Rattle.refusal_guide.specs.Sentences.{outside_said, inside_said, frame_said, frame_named, frame_said_of, first_said, millimetres_said, prog_mode_said};
 ghost use Rattle.refusal_guide.specs.Reasons.{spot_at, spot_of, IsOfStatement, IsOfLine, IsOfPlace, IsProgramReason};
-ghost use Rattle.refusal_guide.specs.Sentences.{no_tool_said, too_large_said, automatic_text, few_text, touches_text, block_said, inside_block_said, too_few_points_said};
+ghost use Rattle.refusal_guide.specs.Sentences.{no_tool_said, too_large_said, touches_word, automatic_text, few_text, touches_text, block_said};
+ghost use Rattle.refusal_guide.specs.Sentences.{inside_block_said, too_few_points_said};
 ghost use Rattle.refusal_guide.specs.Blocks.{opened_by};
 ghost use Rattle.refusal_guide.specs.Numerals.{leftmost, empty_text, empty_said, fault_said, parameter_said, bad_numeral_said};
 ghost use Rattle.refusal_guide.specs.Arguments.{argument_said};
@@ -337,12 +338,20 @@ fn inside_block(alloc: Global, place: Place, found: Found) -> Result<Option<Reas
     }
 }
 
-/// That the block of a `MEAS` at this line has no touch.
+/// The word for the touches that a `MEAS` names.
+fn touches_word(wanted: &str) -> &'static str
+    ensures { result.now ≡ touches_word wanted.now }
+{
+    if wanted == "1" { " touch" } else { " touches" }
+}
+
+/// That the block of a `MEAS` at this line has no touch, and what leaves a program that reads.
 fn automatic_sentence(alloc: Global, line: u64, wanted: &str) -> Result<String, AllocError>
     ensures { IfOk result (λ text. string_bytes text ≡ automatic_text line wanted.now) }
 {
+    let touches = touches_word(wanted);
     format!(in alloc;
-        "The program asks for automatic measuring: MEAS at line {line} names {wanted} touches and its block has none, and only programmed touches are measured."
+        "The program asks for automatic measuring: MEAS at line {line} names {wanted}{touches} and its block has none, and only programmed touches are measured. Write a PTMEAS for each, or delete the MEAS at line {line} and this ENDMES together."
     )
 }
 

@@ -1,9 +1,12 @@
 // What `dme` refuses by a code.
 
 ghost use Rattle.std.specs.Prelude.{◌≡◌, ◌≤◌, true, find, length, MatchOption};
+ghost use Rattle.std.specs.List.{list_all};
+ghost use Rattle.std.specs.Char.{is_ascii_digit};
 ghost use Rattle.std.specs.List.{prefix_len};
 ghost use Rattle.refusal_guide.specs.declared.topics.TheConstants.{TOPICS};
 ghost use Rattle.refusal_guide.specs.Titles.{title_of, is_of_code, code_in, is_called};
+ghost use Rattle.refusal_guide.specs.Codes.{is_error_number, is_code_of, topic_of};
 
 /// What `dme` refuses by a code, or its server reports by a number.
 #[derive(Clone, Copy, Debug, PartialEq, Eq)]
@@ -94,8 +97,11 @@ pub enum Topic {
     NoSurface,
     /// The server's error for a machine that failed.
     MachineFault,
+    /// An error of a server with another number.
+    ServersOwn,
 }
 
+/// Those whose titles begin with a code.
 const TOPICS: [Topic; 43] = [
     Topic::NotDmis,
     Topic::Truncated,
@@ -173,8 +179,38 @@ fn find_topic(code: &[u8]) -> Option<Topic>
         .find(|topic| is_called(topic.title().as_bytes(), code))
 }
 
+/// Whether each byte is a digit.
+fn all_digits(code: &[u8]) -> bool
+    ensures { result ≡ list_all is_ascii_digit code.now }
+{
+    code.iter().all(|byte| byte.is_ascii_digit())
+}
+
+/// Whether a code is the number of an error, as a server writes it.
+fn is_error_number(code: &[u8]) -> bool
+    ensures { result ≡ is_error_number code.now }
+{
+    code.len() == 4 && all_digits(code)
+}
+
+/// The topic of a code, by the table and by its form.
+fn topic_of(code: &[u8]) -> Option<Topic>
+    ensures { result ≡ topic_of code.now }
+{
+    match find_topic(code) {
+        Some(topic) => Some(topic),
+        None => {
+            if is_error_number(code) {
+                Some(Topic::ServersOwn)
+            } else {
+                None
+            }
+        }
+    }
+}
+
 impl Topic {
-    /// Its code and its name, as they are printed: `P5 Unsupported`, `9012 Unknown tool`.
+    /// Its code and its name, as they are printed: `P5 Unsupported`, `9012 Unknown tool`. A server's own error has no code.
     pub fn title(self) -> &'static str
         ensures { result.now ≡ title_of self }
     {
@@ -222,15 +258,16 @@ impl Topic {
             Topic::OutOfVolume => "9013 Out of volume",
             Topic::NoSurface => "9014 No surface",
             Topic::MachineFault => "9015 Machine fault",
+            Topic::ServersOwn => "Server's own error",
         }
     }
 
-    /// The topic of a code, its letters in any case; none if no title begins with it.
+    /// The topic of a code, its letters in any case: the one whose title begins with it, and the server's own errors for every other number of
+    /// an error, which has four digits. None for any other text.
     pub fn of_code(code: &[u8]) -> Option<Topic>
-        ensures { MatchOption result
-            ((topic : Topic) → is_called (title_of topic) code.now ≡ true → ⊥)
-            (λ topic. is_called (title_of topic) code.now ≡ true) }
+        ensures { MatchOption result ((topic : Topic) → is_code_of topic code.now ≡ true → ⊥)
+            (λ topic. is_code_of topic code.now ≡ true) }
     {
-        find_topic(code)
+        topic_of(code)
     }
 }

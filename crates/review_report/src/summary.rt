@@ -5,6 +5,7 @@ ghost use Rattle.review_report.specs.Findings.{heads, summed};
 ghost use Rattle.review_report.specs.Summary.{number_of, has_lines, sums_in, order};
 
 use crate::findings::{Finding, Head, Kind, Place};
+use dmis_program::Refusal;
 use program_review::{Found, Group, Stray};
 use std::alloc::{AllocError, Global};
 
@@ -123,11 +124,22 @@ fn group_name(group: Group) -> &'static str {
     }
 }
 
+/// What deleting lines that measure otherwise would change: of a block whose touches are too few only its `ENDMES` is refused.
+fn unmeasured(found: &[Found]) -> &'static str {
+    if found
+        .iter()
+        .any(|one| matches!(one.refusal, Refusal::TooFewPoints))
+    {
+        "if deleted, what they ask for is not measured; delete an ENDMES together with its MEAS and the touches between."
+    } else {
+        "if deleted, what they ask for is not measured."
+    }
+}
+
 /// What deleting the lines of a group would change.
 fn consequence(group: Group) -> &'static str {
     match group {
         Group::Bookkeeping => "if deleted, what is measured stays the same.",
-        Group::Measuring => "if deleted, what they ask for is not measured.",
         Group::Flow => {
             "if deleted, each statement is carried out once, in order: what is measured may change, and in which coordinates."
         }
@@ -138,7 +150,7 @@ fn consequence(group: Group) -> &'static str {
         Group::Mistake => "correct them; if deleted, touches or selections may be missing.",
         Group::Other =>
             "find out what they do before you delete them: they may also set a coordinate system.",
-        Group::Coordinates | Group::ByHand => "",
+        Group::Coordinates | Group::ByHand | Group::Measuring => "",
     }
 }
 
@@ -201,6 +213,7 @@ fn add_group(
     let change = match group {
         Group::Coordinates => moved,
         Group::ByHand => by_hand,
+        Group::Measuring => unmeasured(found),
         _ => consequence(group),
     };
     let said = group_sentence(*findings.allocator(), found, group, change)?;

@@ -1,6 +1,5 @@
-use Rattle.refusal_guide.specs.Titles.{title_of, is_called}
-use Rattle.refusal_guide.proofs.TopicLemmas.{topic_found}
+use Rattle.refusal_guide.proofs.TopicLemmas.{code_found}
 use Rattle.refusal_guide.proofs.topics.Topic.of_code.Goals as goal
 
 pub returns : goal.returns
-returns c = topic_found (λ topic. is_called (title_of topic) c.args.code.now) c.find_topic.result c.find_topic.ensures
+returns c = code_found c.args.code.now c.topic_of.result c.topic_of.ensures

@@ -1,0 +1,10 @@
+use Rattle.std.proofs.Common.{◌≡◌, find, length}
+use Rattle.program_review.specs.Variables.{is_no_length, is_named}
+use Rattle.program_review.proofs.variables.is_refused_numeral.Given as goal
+
+-- those that are passed are lengths
+abbrev pub invariant-loop-left : goal.invariant-loop-left
+invariant-loop-left l = is_named l.names (find is_no_length l.left) ≡ is_named l.names (find is_no_length l.numerals)
+
+abbrev pub decreases-loop-left : goal.decreases-loop-left
+decreases-loop-left l = length l.left

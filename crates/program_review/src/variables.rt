@@ -1,0 +1,149 @@
+// The names that statements declare or assign, and the moves that are refused for one.
+
+ghost use Rattle.std.specs.Prelude.{◌≡◌, ◌++◌, OnOk, find};
+ghost use Rattle.dmis_program.specs.Keywords.{keyword_of, is_among};
+ghost use Rattle.dmis_program.specs.Parameters.{name_of, without_cart};
+ghost use Rattle.tool_rack.specs.Setups.{has_name};
+ghost use Rattle.program_review.specs.Variables.{declaring, assigning, as_list, names_in, names_by, is_no_length, refused_argument};
+ghost use Rattle.program_review.specs.Variables.{is_named, is_move, is_computed_move, group_below};
+
+use crate::groups::{Group, group_of, is_text};
+use dmis_program::{Keyword, Refusal};
+use dmis_text::{Statement, Text};
+use fixed_um::{Name, Um, read_um};
+use std::alloc::AllocError;
+
+/// Whether a word has names among its parameters.
+fn is_declaring(word: &[u8]) -> bool
+    ensures { result ≡ is_among word.now declaring }
+{
+    is_text(word, "DECL") || is_text(word, "DO") || is_text(word, "MACRO") || is_text(word, "READ")
+}
+
+/// Whether the label of a word is the name that it gives a value.
+fn is_assigning(word: &[u8]) -> bool
+    ensures { result ≡ is_among word.now assigning }
+{
+    is_text(word, "ASSIGN")
+        || is_text(word, "OBTAIN")
+        || is_text(word, "PROMPT")
+        || is_text(word, "VALUE")
+}
+
+/// Adds a text that is a name.
+fn push_name(names: &mut Vec<Name>, text: &[u8]) -> Result<(), AllocError>
+    ensures { OnOk result (names.new.items ≡ names.old.items ++ as_list (name_of text.now)) }
+{
+    if let Some(name) = Name::new(*names.allocator(), text)? {
+        names.push(name)?;
+    }
+    Ok(())
+}
+
+/// Adds those of some texts that are names.
+fn push_names(names: &mut Vec<Name>, texts: &[Text]) -> Result<(), AllocError>
+    ensures { OnOk result (names.new.items ≡ names.old.items ++ names_in texts.now) }
+{
+    let mut left = texts;
+    while let [text, others @ ..] = left {
+        push_name(names, text)?;
+        left = others;
+    }
+    Ok(())
+}
+
+/// Adds the names that a statement declares or assigns.
+pub(crate) fn push_declared(names: &mut Vec<Name>, statement: &Statement) -> Result<(), AllocError>
+    ensures { OnOk result (names.new.items ≡ names.old.items ++ names_by statement.now) }
+{
+    if is_declaring(&statement.word) {
+        return push_names(names, &statement.params);
+    }
+    if let Some(label) = &statement.label
+        && is_assigning(&statement.word)
+    {
+        return push_name(names, label);
+    }
+    Ok(())
+}
+
+/// Whether a text is not read as a length.
+fn is_no_length(text: &[u8]) -> bool
+    ensures { result ≡ is_no_length text.now }
+{
+    match read_um(text, Um::volume_limit()) {
+        Ok(_) => false,
+        Err(_) => true,
+    }
+}
+
+/// The parameters after a first `CART`.
+fn without_cart<'p, 'a>(params: &'p [Text<'a>]) -> &'p [Text<'a>]
+    ensures { result.now ≡ without_cart params.now }
+{
+    match params {
+        [first, rest @ ..] if is_text(first, "CART") => rest,
+        _ => params,
+    }
+}
+
+/// Whether a text is one of these names.
+fn has_name(names: &[Name], text: &[u8]) -> bool
+    ensures { result ≡ has_name names.now text.now }
+{
+    names.iter().any(|name| name.as_bytes() == text)
+}
+
+/// Whether the leftmost of these that is not read as a length is one of these names.
+fn is_refused_numeral(names: &[Name], numerals: &[Text]) -> bool
+    ensures { result ≡ is_named names.now (find is_no_length numerals.now) }
+{
+    let mut left = numerals;
+    while let [text, others @ ..] = left {
+        if is_no_length(text) {
+            return has_name(names, text);
+        }
+        left = others;
+    }
+    false
+}
+
+/// Whether the argument for which a `GOTO` is refused so is one of these names.
+fn is_refused_for(names: &[Name], refusal: Refusal, params: &[Text]) -> bool
+    ensures { result ≡ is_named names.now (refused_argument refusal params.now) }
+{
+    match refusal {
+        Refusal::Unsupported => match params.first() {
+            Some(text) => has_name(names, text),
+            None => false,
+        },
+        Refusal::BadNumeral(_) => is_refused_numeral(names, without_cart(params)),
+        _ => false,
+    }
+}
+
+/// Whether a word moves the machine to a point.
+fn is_move(keyword: Keyword) -> bool
+    ensures { result ≡ is_move keyword }
+{
+    match keyword {
+        Keyword::Goto => true,
+        _ => false,
+    }
+}
+
+/// What a refused statement of this keyword is for, below those that declare or assign these names. Does not allocate.
+pub(crate) fn group_below(
+    names: &[Name],
+    refusal: Refusal,
+    keyword: Keyword,
+    statement: &Statement,
+) -> Group
+    requires { keyword ≡ keyword_of statement.now.word }
+    ensures { result ≡ group_below names.now refusal statement.now }
+{
+    if is_move(keyword) && is_refused_for(names, refusal, &statement.params) {
+        return Group::Flow;
+    }
+    group_of(refusal, &statement.word)
+}
