@@ -190,14 +190,12 @@ fn prepare<'a, R: Files<File = File> + Input + Eprint + AllocGlobal>(
     Ok(talk_of(rt, client, number, call)?)
 }
 
-/// A connection within limits of time, and the note of the stop file.
-type Limited<'a, 'b, R> = (&'a TcpStream, &'a Patience<'b, R>, &'a Cell<Option<State>>);
-
-/// A client that has come to its connection takes its turns over a stream, whose lines go by.
+/// A client that has come to its connection takes its turns over a stream, whose lines go by. Where the stop file is seen, the client's state
+/// is noted.
 fn drive_stream<R: Files + Eprint + Clock + AllocGlobal, N: Watcher, F: TextFile, O: Sink>(
     rt: &R,
     client: &mut Client,
-    (stream, patience, seen): Limited<'_, '_, R>,
+    (stream, patience, seen): (&TcpStream, &Patience<'_, R>, &Cell<Option<State>>),
     (talk, watcher): (&RefCell<Talk<'_, R>>, &mut N),
     outputs: &mut RunOutputs<F, O>,
 ) -> Result<RunEnd, FilesFault> {
@@ -221,7 +219,7 @@ fn drive_stream<R: Files + Eprint + Clock + AllocGlobal, N: Watcher, F: TextFile
 fn drive_watched<R: Files + Eprint + Clock + AllocGlobal, F: TextFile, O: Sink>(
     rt: &R,
     client: &mut Client,
-    limited: Limited<'_, '_, R>,
+    limited: (&TcpStream, &Patience<'_, R>, &Cell<Option<State>>),
     follower: &mut Follower<'_, '_, R>,
     outputs: &mut RunOutputs<F, O>,
 ) -> Result<RunEnd, FilesFault> {
