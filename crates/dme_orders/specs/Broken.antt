@@ -2,6 +2,8 @@
 use Rattle.std.specs.Prelude.{◌≡◌, ℕ, Bool, true, false, if◌then◌else◌, List, [], codes, Option, Some}
 use Rattle.client_core.specs.declared.faults.ClientFault.{ClientFault}
 use Rattle.client_core.specs.declared.faults.ClientFault.TheVariants as client_fault
+use Rattle.protocol_model.specs.declared.states.Cause.{Cause}
+use Rattle.protocol_model.specs.declared.states.Cause.TheVariants as faulted
 use Rattle.server_core.specs.declared.faults.ServerFault.{ServerFault}
 use Rattle.server_core.specs.declared.faults.ServerFault.TheVariants as server_fault
 use Rattle.link_world.specs.declared.connections.pumps.PumpFault.TheVariants as pump
@@ -24,9 +26,20 @@ abbrev pub BlamesServer : Option LoopFault → (read read_now written written_no
 BlamesServer broken read read_now written written_now =
     Blames (link.Server pump.ReadFailed) broken read read_now × Blames (link.Server pump.WriteFailed) broken written written_now
 
+-- what a server has done that its client does not expect
+abbrev pub unexpected : Cause → List ℕ
+unexpected faulted.NotResponse = codes "the server sent no response, or data that its command did not ask for\n"
+unexpected faulted.LineTooLong = codes "the server sent a line of more than 65536 bytes\n"
+unexpected faulted.BadByte = codes "the server sent a CR or an LF inside a line\n"
+unexpected faulted.UnknownTag = codes "the server answered under a tag that no command has open\n"
+unexpected faulted.OutOfOrder = codes "the server sent a response that its command cannot have there\n"
+unexpected faulted.NoData = codes "the server ended a command without the data that it asks for\n"
+unexpected faulted.SecondData = codes "the server sent data twice for one command\n"
+unexpected faulted.TagsSpent = codes "the server has ended no command for so long that no tag is free\n"
+
 -- what a client's refusal says about its connection
 abbrev pub client_cause : ClientFault → List ℕ
-client_cause (client_fault.Faulted cause) = codes "the server answered what has no place\n"
+client_cause (client_fault.Faulted cause) = unexpected cause
 client_cause client_fault.NotNow = codes "the client is on no connection\n"
 client_cause client_fault.Memory = codes "the client is on no connection\n"
 

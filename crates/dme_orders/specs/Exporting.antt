@@ -12,8 +12,10 @@ use Rattle.dmis_program.specs.Meaning.{Meaning}
 use Rattle.drawings.specs.Drawing.{IsDrawing}
 use Rattle.drawings.specs.Texts.{Adds}
 use Rattle.dme_orders.specs.Input.{Named, ExportInput, ReadsExport, WhyNoExport}
+use Rattle.dme_orders.specs.Missing.{IsMissing}
 use Rattle.dme_orders.specs.Orders.{Went, Carries}
 use Rattle.dme_orders.specs.Reading.{Came}
+use Rattle.dme_orders.specs.declared.missing.Missing.{Missing}
 use Rattle.dme_orders.specs.declared.reading.FilesFault.{FilesFault}
 use Rattle.dme_orders.specs.declared.reading.FilesFault.TheVariants as files
 
@@ -27,12 +29,17 @@ IsInForm Csv program features rows text = text ≡ csv_text rows
 IsInForm Json program features rows text = text ≡ json_of rows
 IsInForm Svg program features rows text = Adds (IsDrawing program features) xml text
 
--- the features are the first ones of the program, and the text is their table in a form: a row for each measured point, in order
+-- the features are the first ones of the program, and the text is their table in a form: a row for each touch of the program, in order
 pub record LeavesTable (form : Form) (program : Meaning) (features : List Feature) (text : List ℕ) : Type 0 where
   pub rows : List Row
   pub ours : are_ours program.features features ≡ true
   pub are : AllZip IsRow (places_of program.features features) rows
   pub told : IsInForm form program features rows text
+
+-- the table of features was written, and these are missing
+pub record LeavesExport (form : Form) (input : ExportInput) (missing : Missing) (text : List ℕ) : Type 0 where
+  pub table : LeavesTable form input.program input.features text
+  pub lacks : IsMissing input.program.features input.features missing
 
 -- the features are not the first ones of the program; or memory ran out
 abbrev pub RefusesFeatures : Meaning → List Feature → FilesFault → Type 0
@@ -48,6 +55,6 @@ module _ {S F R W : Type 0} (form : Form) (s : Named S) (f : Came F) (r : Came R
     pub not_ours : are_ours input.program.features input.features ≡ false
 
   -- the table was written, or the export was not carried out: a file is blamed, or the features are not the first ones of the program
-  abbrev pub Exports : Result (Unit {0}) FilesFault → Type 0
-  Exports = Carries (ReadsExport s f r) (λ input done. LeavesTable form input.program input.features) w
+  abbrev pub Exports : Result Missing FilesFault → Type 0
+  Exports = Carries (ReadsExport s f r) (LeavesExport form) w
       (λ cause. WhyNoExport s f r cause ⊎ IsNotOurs cause)

@@ -18,6 +18,8 @@ pub mod Driving
 pub mod Reviewing
 pub mod Serving
 pub mod Explaining
+pub mod Missing
+pub mod LastLine
 pub mod Exporting
 pub mod Recorded
 pub mod OfRecords

@@ -10,9 +10,11 @@ use Rattle.dme_orders.specs.Auditing.{LeavesVerdict}
 use Rattle.dme_orders.specs.Driving.{IsFeaturesText}
 use Rattle.dme_orders.specs.Exporting.{LeavesTable}
 use Rattle.dme_orders.specs.Input.{Named, RecordInput, ReadsHeld, WhyNoneHeld}
+use Rattle.dme_orders.specs.Missing.{IsMissing}
 use Rattle.dme_orders.specs.Orders.{Went, Carries}
 use Rattle.dme_orders.specs.Reading.{Came}
 use Rattle.dme_orders.specs.Recorded.{IsOfProgram, DiffersAt, features_in, told_in}
+use Rattle.dme_orders.specs.declared.missing.Missing.{Missing}
 use Rattle.dme_orders.specs.declared.of_records.RecordText.{RecordText}
 use Rattle.dme_orders.specs.declared.of_records.RecordText.TheVariants.{Table, Features, Contacts}
 use Rattle.dme_orders.specs.declared.reading.FilesFault.{FilesFault}
@@ -23,10 +25,12 @@ abbrev pub RefusesRecord : Option Recorded → Meaning → FilesFault → Type 0
 RefusesRecord held program cause =
     ((label : List ℕ) × (cause ≡ files.OtherProgram label) × DiffersAt held program label) ⊎ (cause ≡ files.Memory)
 
--- the record is of the program, and this is the line of a verdict on its features by its acts, with the status that goes with it
-pub record LeavesRecordVerdict (input : RecordInput) (status : ℕ) (text : List ℕ) : Type 0 where
+-- the record is of the program, this is the line of a verdict on its features by its acts, with the status that goes with it, and these
+-- features are missing
+pub record LeavesRecordVerdict (input : RecordInput) (end : ℕ × Missing) (text : List ℕ) : Type 0 where
   pub same : IsOfProgram input.held input.program
-  pub verdict : LeavesVerdict input.program (features_in input.held) (told_in input.held) status text
+  pub verdict : LeavesVerdict input.program (features_in input.held) (told_in input.held) end.0 text
+  pub lacks : IsMissing input.program.features (features_in input.held) end.1
 
 -- a text in a form: the table of the features, or the text of a features file, or the text of a contacts file
 abbrev pub IsRecordText : RecordText → Meaning → List Feature → List (ℕ × Act) → List ℕ → Type 0
@@ -34,10 +38,11 @@ IsRecordText (Table form) program features told text = LeavesTable form program 
 IsRecordText Features program features told text = (are_ours program.features features ≡ true) × IsFeaturesText features text
 IsRecordText Contacts program features told text = text ≡ contacts_text told
 
--- the record is of the program, and this is its text in a form
-pub record LeavesRecordText (form : RecordText) (input : RecordInput) (done : Unit {0}) (text : List ℕ) : Type 0 where
+-- the record is of the program, this is its text in a form, and these features are missing
+pub record LeavesRecordText (form : RecordText) (input : RecordInput) (missing : Missing) (text : List ℕ) : Type 0 where
   pub same : IsOfProgram input.held input.program
   pub is : IsRecordText form input.program (features_in input.held) (told_in input.held) text
+  pub lacks : IsMissing input.program.features (features_in input.held) missing
 
 module _ {S J R W : Type 0} (s : Named S) (j : Came J) (r : Came R) (w : Went W) where
   -- all files were read, and the record is not of the program: this feature differs
@@ -56,10 +61,10 @@ module _ {S J R W : Type 0} (s : Named S) (j : Came J) (r : Came R) (w : Went W)
     pub not_ours : are_ours input.program.features (features_in input.held) ≡ false
 
   -- the line of the verdict was written, or the audit was not carried out: a file is blamed, or the record is of another program
-  abbrev pub AuditsRecord : Result ℕ FilesFault → Type 0
+  abbrev pub AuditsRecord : Result (ℕ × Missing) FilesFault → Type 0
   AuditsRecord = Carries (ReadsHeld s j r) LeavesRecordVerdict w (λ cause. WhyNoneHeld s j r cause ⊎ IsOtherProgram cause)
 
   -- the text was written, or the export was not carried out: a file is blamed, or the record is of another program, or has other features
-  abbrev pub ExportsRecord : RecordText → Result (Unit {0}) FilesFault → Type 0
+  abbrev pub ExportsRecord : RecordText → Result Missing FilesFault → Type 0
   ExportsRecord form = Carries (ReadsHeld s j r) (LeavesRecordText form) w
       (λ cause. WhyNoneHeld s j r cause ⊎ (IsOtherProgram cause ⊎ HoldsOthers cause))

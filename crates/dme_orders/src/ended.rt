@@ -3,11 +3,11 @@
 ghost use Rattle.std.specs.Prelude.{◌≡◌, ◌↔◌, IsOk, IfOk, IfErr, IfSome, None};
 ghost use Rattle.dme_orders.specs.Printed.{status_of};
 ghost use Rattle.dme_orders.specs.Verdicts.{status_of_state};
-ghost use Rattle.dme_orders.specs.Broken.{client_cause, server_cause, cause_of, IsBreakShown, break_status};
+ghost use Rattle.dme_orders.specs.Broken.{unexpected, client_cause, server_cause, cause_of, IsBreakShown, break_status};
 
 use crate::faults::OrderFault;
 use crate::verdicts::status;
-use client_core::{ClientFault, State};
+use client_core::{Cause, ClientFault, State};
 use link_world::{LoopFault, PumpFault};
 use server_core::ServerFault;
 
@@ -20,12 +20,30 @@ pub struct ConnectionEnd {
     pub broken: Option<LoopFault>,
 }
 
+/// What a server has done that its client does not expect, as a line.
+fn unexpected(cause: Cause) -> &'static str
+    ensures { result.now ≡ unexpected cause }
+{
+    match cause {
+        Cause::NotResponse => {
+            "the server sent no response, or data that its command did not ask for\n"
+        }
+        Cause::LineTooLong => "the server sent a line of more than 65536 bytes\n",
+        Cause::BadByte => "the server sent a CR or an LF inside a line\n",
+        Cause::UnknownTag => "the server answered under a tag that no command has open\n",
+        Cause::OutOfOrder => "the server sent a response that its command cannot have there\n",
+        Cause::NoData => "the server ended a command without the data that it asks for\n",
+        Cause::SecondData => "the server sent data twice for one command\n",
+        Cause::TagsSpent => "the server has ended no command for so long that no tag is free\n",
+    }
+}
+
 /// What a client's refusal says about its connection, as a line.
 fn client_cause(fault: ClientFault) -> &'static str
     ensures { result.now ≡ client_cause fault }
 {
     match fault {
-        ClientFault::Faulted(_) => "the server answered what has no place\n",
+        ClientFault::Faulted(cause) => unexpected(cause),
         ClientFault::NotNow | ClientFault::Memory => "the client is on no connection\n",
     }
 }

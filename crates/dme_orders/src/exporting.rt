@@ -6,9 +6,11 @@ ghost use Rattle.drawings.specs.Drawing.{IsDrawing};
 ghost use Rattle.drawings.specs.Texts.{Adds};
 ghost use Rattle.dme_orders.specs.Exporting.{xml, IsInForm, LeavesTable, RefusesFeatures, Exports};
 ghost use Rattle.dme_orders.specs.Input.{named, ReadsExport, WhyNoExport};
+ghost use Rattle.dme_orders.specs.Missing.{IsMissing};
 ghost use Rattle.dme_orders.specs.Orders.{went};
 ghost use Rattle.dme_orders.specs.Reading.{came};
 
+use crate::missing::{Missing, missing_of};
 use crate::reading::{FilesFault, features_from, named_setup, program_under};
 use crate::simulating::write_text;
 use byte_ports::{Sink, Source};
@@ -107,9 +109,27 @@ pub(crate) fn table_text(
     Ok(form_text(alloc, form, rows.as_slice(), program, features)?)
 }
 
+/// Likewise, with the features of the program that are missing.
+fn table_of_part(
+    alloc: Global,
+    form: Form,
+    program: &Program,
+    features: &[Feature],
+) -> Result<(Missing, Vec<u8>), FilesFault>
+    ensures leaves { IfOk result (λ end. LeavesTable form program.now features.now end.1.items) }
+    ensures lacks { IfOk result (λ end. IsMissing program.now.features features.now end.0) }
+    ensures some { IfOk result (λ end. 0 < length end.1.items) }
+    ensures refused { IfErr result (RefusesFeatures program.now features.now) }
+{
+    let missing = missing_of(alloc, program, features)?;
+    let text = table_text(alloc, form, program, features)?;
+    Ok((missing, text))
+}
+
 /// Reads a setup if one is named, then features, then a program under the setup's frames, each to the end of its text and understood
-/// before the next is read; and writes the table of the features in a form: a row for each measured point, and how far it lies from where
-/// the program asks for it. Features that are not the first ones of the program are `NotOurs`.
+/// before the next is read; and writes the table of the features in a form: a row for each touch of the program, and how far the measured
+/// point lies from where the program asks for it. Features that are not the first ones of the program are `NotOurs`. The answer is which
+/// features are missing: their rows have no measured point.
 ///
 /// It writes only once the whole table is there. A file is blamed only for its own first refusal, or because it could not be read.
 pub fn export_files<S: Source, F: Source, R: Source, W: Sink>(
@@ -117,13 +137,14 @@ pub fn export_files<S: Source, F: Source, R: Source, W: Sink>(
     form: Form,
     files: &mut ExportFiles<S, F, R>,
     sink: &mut W,
-) -> Result<(), FilesFault>
+) -> Result<Missing, FilesFault>
     ensures { Exports form (named S.left S.has_failed files.old.setup files.new.setup)
         (came F.left F.has_failed files.old.features files.new.features)
         (came R.left R.has_failed files.old.program files.new.program)
         (went W.taken W.has_failed sink.old sink.new) result }
 {
     let (features, program) = export_input(alloc, files)?;
-    let text = table_text(alloc, form, &program, features.list())?;
-    Ok(write_text(sink, text.as_slice())?)
+    let (missing, text) = table_of_part(alloc, form, &program, features.list())?;
+    write_text(sink, text.as_slice())?;
+    Ok(missing)
 }

@@ -6,7 +6,7 @@
 //! - `simulating`: a program is run by a schedule on a simulated machine
 //! - `auditing`: a client's features are judged by a server's contacts
 //! - `exporting`: what was measured is put next to what a program asks for; `explaining`: what a refusal means
-//! - `of_records`: a record is audited and exported
+//! - `of_records`: a record is audited and exported; `missing`: which features were not measured
 //! - `notes`: what an audit found, and in what a record differs from a program, besides what an order prints
 //! - `judging`: the recordings of both ends of a connection are judged
 //! - `preparing`: the files of an order over a connection are read before there is one
@@ -14,7 +14,8 @@
 //! - `driving`: a program is run on a server over a connection, and its features are kept; `confirming`: the answer that begins it
 //! - `serving`: connections are served, and what was done is kept and shown
 //! - `text_files`: files that are replaced as a whole, as the orders see them
-//! - `ends`, `ended`: the two ends of a connection and their reports; how it has ended, and what is shown of that
+//! - `ends`, `ended`: the two ends of a connection and their reports; how it has ended, and what is shown of that; `run_endings`: what a
+//!   run says last
 //! - `check`: the command lines of a program, from any reader to any writer
 //! - `plan`: the commands of a program on a new connection, as text
 //! - `reviewing`: everything that stands between a program and its run is listed
@@ -33,6 +34,7 @@ mod exporting;
 mod faults;
 mod judging;
 mod looping;
+mod missing;
 mod notes;
 mod of_records;
 mod orders;
@@ -40,6 +42,7 @@ mod plan;
 mod preparing;
 mod reading;
 mod reviewing;
+mod run_endings;
 mod serving;
 mod simulating;
 mod text_files;
@@ -56,6 +59,7 @@ pub use exporting::{ExportFiles, export_files};
 pub use faults::{InputFile, InputFiles, OrderFault, place_of, shown_fault};
 pub use judging::{Recordings, RecordingsFault, judge_recordings};
 pub use looping::{LoopTask, loop_over};
+pub use missing::Missing;
 pub use notes::{audit_notes, other_program_notes};
 pub use of_records::{RecordFiles, RecordText, audit_record, export_record};
 pub use orders::check_under_setup;
@@ -63,6 +67,7 @@ pub use plan::{first_lines, plan_text};
 pub use preparing::{features_and_program, setup_and_program};
 pub use reading::{FilesFault, Role, read_setup};
 pub use reviewing::review_program;
+pub use run_endings::{Counts, LastLine, RunEnding, StopCause, last_line};
 pub use serving::{close_service, serve_one, with_break};
 pub use simulating::{SimulationFiles, simulate};
 pub use text_files::TextFile;

@@ -5,9 +5,11 @@ ghost use Rattle.client_core.specs.Clients.{are_ours};
 ghost use Rattle.contact_ledger.specs.ContactTexts.{contacts_text};
 ghost use Rattle.contact_ledger.specs.Ledgers.{HaveOrigins};
 ghost use Rattle.tool_rack.specs.Setups.{SetupValue};
+ghost use Rattle.dme_orders.specs.Auditing.{LeavesVerdict};
 ghost use Rattle.dme_orders.specs.Driving.{IsFeaturesText};
 ghost use Rattle.dme_orders.specs.Exporting.{RefusesFeatures};
 ghost use Rattle.dme_orders.specs.Input.{named, ReadsHeld, WhyNoneHeld};
+ghost use Rattle.dme_orders.specs.Missing.{IsMissing};
 ghost use Rattle.dme_orders.specs.OfRecords.{RefusesRecord, IsRecordText, AuditsRecord, ExportsRecord};
 ghost use Rattle.dme_orders.specs.Orders.{went};
 ghost use Rattle.dme_orders.specs.Reading.{came};
@@ -15,6 +17,7 @@ ghost use Rattle.dme_orders.specs.Recorded.{IsOfProgram, features_in, told_in};
 
 use crate::auditing::audited;
 use crate::exporting::table_text;
+use crate::missing::{Missing, missing_of};
 use crate::reading::{FilesFault, named_setup, program_under, record_from};
 use crate::simulating::write_text;
 use byte_ports::{Sink, Source};
@@ -92,16 +95,35 @@ fn parts_of(alloc: Global, held: Option<Record>) -> (FeatureLedger, ServerLedger
     }
 }
 
+/// The exit status of an audit, which features of its program are missing, and the audit's line, for a part that is dropped. Fails only if
+/// out of memory.
+fn audited_part(
+    alloc: Global,
+    features: FeatureLedger,
+    ledger: ServerLedger,
+    program: Program,
+) -> Result<(u8, Missing, Vec<u8>), AllocError>
+    ensures leaves { IfOk result (λ end. LeavesVerdict program features ledger
+        end.0 end.2.items) }
+    ensures lacks { IfOk result (λ end. IsMissing program.features features end.1) }
+    ensures some { IfOk result (λ end. 0 < length end.2.items) }
+{
+    let missing = missing_of(alloc, &program, features.list())?;
+    let (status, text) = audited(alloc, features, ledger, program)?;
+    Ok((status, missing, text))
+}
+
 /// Reads a setup if one is named, then a record, then a program under the setup's frames, each to the end of its text and understood before
 /// the next is read; audits the record's features by the acts that it says a server reported; and writes the line of the verdict. The answer
-/// is the exit status: 0 if every feature has its run, else 3. A record of another program is `OtherProgram`; its part is not compared.
+/// is the exit status, 0 if every feature of the record has its run, else 3; and which features of the program are missing. A record of
+/// another program is `OtherProgram`; its part is not compared.
 ///
 /// It writes only once the whole line is there. A file is blamed only for its own first refusal, or because it could not be read.
 pub fn audit_record<S: Source, J: Source, R: Source, W: Sink>(
     alloc: Global,
     files: &mut RecordFiles<S, J, R>,
     sink: &mut W,
-) -> Result<u8, FilesFault>
+) -> Result<(u8, Missing), FilesFault>
     ensures { AuditsRecord (named S.left S.has_failed files.old.setup files.new.setup)
         (came J.left J.has_failed files.old.record files.new.record)
         (came R.left R.has_failed files.old.program files.new.program)
@@ -110,9 +132,9 @@ pub fn audit_record<S: Source, J: Source, R: Source, W: Sink>(
     let (held, program) = record_input(alloc, files)?;
     of_program(alloc, &held, &program)?;
     let (features, ledger) = parts_of(alloc, held);
-    let (status, text) = audited(alloc, features, ledger, program)?;
+    let (status, missing, text) = audited_part(alloc, features, ledger, program)?;
     write_text(sink, text.as_slice())?;
-    Ok(status)
+    Ok((status, missing))
 }
 
 /// The text of a features file. The features are refused only if they are not the first ones of the program.
@@ -167,9 +189,30 @@ fn text_in(
     }
 }
 
+/// Likewise, with the features of the program that are missing.
+fn text_of_part(
+    alloc: Global,
+    form: RecordText,
+    program: &Program,
+    features: &[Feature],
+    ledger: &ServerLedger,
+) -> Result<(Missing, Vec<u8>), FilesFault>
+    requires { HaveOrigins features.now }
+    ensures leaves { IfOk result (λ end. IsRecordText form program.now features.now ledger.now
+        end.1.items) }
+    ensures lacks { IfOk result (λ end. IsMissing program.now.features features.now end.0) }
+    ensures some { IfOk result (λ end. 0 < length end.1.items) }
+    ensures refused { IfErr result (RefusesFeatures program.now features.now) }
+{
+    let missing = missing_of(alloc, program, features)?;
+    let text = text_in(alloc, form, program, features, ledger)?;
+    Ok((missing, text))
+}
+
 /// Reads a setup if one is named, then a record, then a program under the setup's frames, each to the end of its text and understood before
 /// the next is read; and writes what the record holds in a form: the table of its features as `export_files` writes it, or the text of a
-/// features file or of a contacts file. A record of another program is `OtherProgram`; its part is not compared.
+/// features file or of a contacts file. The answer is which features of the program are missing. A record of another program is
+/// `OtherProgram`; its part is not compared.
 ///
 /// It writes only once the whole text is there. A file is blamed only for its own first refusal, or because it could not be read.
 pub fn export_record<S: Source, J: Source, R: Source, W: Sink>(
@@ -177,7 +220,7 @@ pub fn export_record<S: Source, J: Source, R: Source, W: Sink>(
     form: RecordText,
     files: &mut RecordFiles<S, J, R>,
     sink: &mut W,
-) -> Result<(), FilesFault>
+) -> Result<Missing, FilesFault>
     ensures { ExportsRecord (named S.left S.has_failed files.old.setup files.new.setup)
         (came J.left J.has_failed files.old.record files.new.record)
         (came R.left R.has_failed files.old.program files.new.program)
@@ -186,6 +229,7 @@ pub fn export_record<S: Source, J: Source, R: Source, W: Sink>(
     let (held, program) = record_input(alloc, files)?;
     of_program(alloc, &held, &program)?;
     let (features, ledger) = parts_of(alloc, held);
-    let text = text_in(alloc, form, &program, features.list(), &ledger)?;
-    Ok(write_text(sink, text.as_slice())?)
+    let (missing, text) = text_of_part(alloc, form, &program, features.list(), &ledger)?;
+    write_text(sink, text.as_slice())?;
+    Ok(missing)
 }

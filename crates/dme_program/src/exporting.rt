@@ -3,16 +3,25 @@
 use byte_ports::Writing;
 use dme_files::{Fault, NamedSource, Sources, of_output, refused};
 use dme_orders::{
-    ExportFiles, InputFiles, RecordFiles, RecordText, explain, export_files, export_record,
+    ExportFiles, InputFiles, Missing, RecordFiles, RecordText, explain, export_files, export_record,
 };
 use dme_words::{Export, RecordExport, RecordForm};
 use refusal_guide::Topic;
 use std::io;
 use std::rt::Files;
 
+/// Says on standard error which features are missing, if any are. A line that cannot be written changes nothing.
+pub fn tell_missing<R: Eprint>(rt: &R, missing: &Missing) {
+    let sentence = &missing.sentence;
+    let _ = eprint!(rt; "{sentence}");
+}
+
 /// The order `export`: its exit status.
 #[inline(never)]
-pub fn export<R: Files + Input + Print + AllocGlobal>(rt: &R, order: Export) -> Result<u8, Fault> {
+pub fn export<R: Files + Input + Print + Eprint + AllocGlobal>(
+    rt: &R,
+    order: Export,
+) -> Result<u8, Fault> {
     let mut sources = Sources::new(rt, order.explain);
     let mut sought = ExportFiles {
         setup: sources.maybe(order.setup),
@@ -20,8 +29,12 @@ pub fn export<R: Files + Input + Print + AllocGlobal>(rt: &R, order: Export) -> 
         program: sources.file(order.program),
     };
     let mut sink = Writing::new(io::writer(rt));
-    let Err(fault) = export_files(rt.alloc(), order.form, &mut sought, &mut sink) else {
-        return Ok(0);
+    let fault = match export_files(rt.alloc(), order.form, &mut sought, &mut sink) {
+        Ok(missing) => {
+            tell_missing(rt, &missing);
+            return Ok(missing.status());
+        }
+        Err(fault) => fault,
     };
     let ExportFiles {
         setup,
@@ -48,7 +61,7 @@ fn text_of(form: RecordForm) -> RecordText {
 
 /// The order `export` for a record: its exit status.
 #[inline(never)]
-pub fn export_of_record<R: Files + Input + Print + AllocGlobal>(
+pub fn export_of_record<R: Files + Input + Print + Eprint + AllocGlobal>(
     rt: &R,
     order: RecordExport,
 ) -> Result<u8, Fault> {
@@ -60,7 +73,10 @@ pub fn export_of_record<R: Files + Input + Print + AllocGlobal>(
     };
     let mut sink = Writing::new(io::writer(rt));
     match export_record(rt.alloc(), text_of(order.form), &mut sought, &mut sink) {
-        Ok(()) => Ok(0),
+        Ok(missing) => {
+            tell_missing(rt, &missing);
+            Ok(missing.status())
+        }
         Err(fault) => Err(refused(rt.alloc(), fault, record_files(rt, sought), order.explain)),
     }
 }
