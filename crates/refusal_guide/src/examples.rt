@@ -127,7 +127,12 @@ pub fn refusals_have_their_sentences()
         ++ (decimal 1 ++ codes "."))) }
     ensures automatic { said.touches_text 7 (codes "2") 0
         ≡ codes "The program asks for automatic measuring: MEAS at line " ++ (decimal 7
-        ++ codes " names 2 touches and its block has none, and only programmed touches are measured.") }
+        ++ (codes " names 2 touches and its block has none, and only programmed touches are measured. Write a PTMEAS for each, or delete the MEAS at line "
+        ++ (decimal 7 ++ codes " and this ENDMES together."))) }
+    ensures automatic_one { said.touches_text 7 (codes "1") 0
+        ≡ codes "The program asks for automatic measuring: MEAS at line " ++ (decimal 7
+        ++ (codes " names 1 touch and its block has none, and only programmed touches are measured. Write a PTMEAS for each, or delete the MEAS at line "
+        ++ (decimal 7 ++ codes " and this ENDMES together."))) }
     ensures millimetres { said.millimetres_said (codes "GOTO/1") going ≡ Some (record {
       text = codes "The unit 1 is not read: lengths are in MM.";
       at = 5;

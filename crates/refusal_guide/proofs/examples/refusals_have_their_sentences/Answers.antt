@@ -18,3 +18,6 @@ returns-clause-few c = refl
 
 pub returns-clause-automatic : goal.returns-clause-automatic
 returns-clause-automatic c = refl
+
+pub returns-clause-automatic_one : goal.returns-clause-automatic_one
+returns-clause-automatic_one c = refl
