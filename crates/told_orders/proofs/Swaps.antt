@@ -1,6 +1,6 @@
 -- A command may be read before the replies to others.
 use Rattle.std.proofs.Common.{◌≡◌, ℕ, zero, suc, ◌+◌, ◌==◌, Bool, true, false, ◌&&◌, ◌||◌, if◌then◌else◌, List, [], ◌∷◌, ◌++◌, map, length, take, remove}
-use Rattle.std.proofs.Common.{Option, Some, None, is_some, refl, ap, sym, ◌∙◌, subst, eq-eqb, eqb-true}
+use Rattle.std.proofs.Common.{Option, Some, None, is_some, refl, ap, sym, ◌∙◌, subst, eqb-true}
 use Rattle.std.proofs.lemmas.Bool.{false≢true}
 use Rattle.std.proofs.lemmas.List.{map-append}
 use Rattle.std.specs.List.{list_any}
@@ -238,10 +238,6 @@ one_tag (Std n) (Std m) e = ap Std (eqb-true n m e)
 one_tag (Std n) (Event m) e = absurd (false≢true e)
 one_tag (Event n) (Std m) e = absurd (false≢true e)
 one_tag (Event n) (Event m) e = ap Event (eqb-true n m e)
-
-pub same_tag : (tag : Tag) → tag_is tag tag ≡ true
-same_tag (Std n) = eq-eqb n n refl
-same_tag (Event n) = eq-eqb n n refl
 
 -- it is the same, or its end was read and there is none; the second argument: what was there before, with the mark
 pub data IsLast (tag : Tag) (u : Use) (ended : Bool) : Option (ℕ × Bool) → Option (ℕ × Bool) → Type 0 where
