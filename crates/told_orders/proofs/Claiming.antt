@@ -8,8 +8,6 @@ use Rattle.fixed_um.specs.declared.lengths.Point.{Point}
 use Rattle.dme_line.specs.Kinds.{kind_of}
 use Rattle.dme_line.specs.declared.commands.Command.{Command}
 use Rattle.dme_line.specs.declared.commands.Command.TheVariants as command
-use Rattle.dme_line.specs.declared.commands.Csy.{Csy}
-use Rattle.dme_line.specs.declared.commands.Csy.TheVariants.{MachineCsy, PartCsy}
 use Rattle.dme_line.specs.declared.tags.Tag.{Tag}
 use Rattle.contact_ledger.specs.declared.acts.Act.TheVariants as act
 use Rattle.protocol_model.specs.Open.{asks_data}
@@ -92,12 +90,11 @@ frame_part _ _ (claims.touched p d tool tool_too frame frame_too at a b) = b
 frame_part _ _ (claims.contact p d tool name frame in_frame at a b) = b
 
 -- one that is not the other names more
-is_named : Reported → Bool
+abbrev pub is_named : Reported → Bool
 is_named (reports.Did done) = true
 is_named _ = false
 
-named_stays : (x y : Reported) → ClaimsNoMore x y → is_named x ≡ true → is_named y ≡ true
-unfolding is_named
+pub named_stays : (x y : Reported) → ClaimsNoMore x y → is_named x ≡ true → is_named y ≡ true
 named_stays _ _ (claims.same x) e = e
 named_stays _ _ (claims.moved p frame) e = refl
 named_stays _ _ (claims.framed frame) e = refl
@@ -105,7 +102,7 @@ named_stays _ _ (claims.touched p d tool tool_too frame frame_too at a b) e = e
 named_stays _ _ (claims.contact p d tool name frame in_frame at a b) e = refl
 
 one_both : (x y : Reported) → ClaimsNoMore x y → ClaimsNoMore y x → x ≡ y
-unfolding touch_tool touch_frame is_named
+unfolding touch_tool touch_frame
 one_both _ _ (claims.same x) q = refl
 one_both _ _ (claims.moved p frame) q = absurd (false≢true (named_stays _ _ q refl))
 one_both _ _ (claims.framed frame) q = absurd (false≢true (named_stays _ _ q refl))

@@ -14,3 +14,4 @@ pub mod Claimed
 pub mod Clearing
 pub mod Courses
 pub mod Arrivals
+mod Readings

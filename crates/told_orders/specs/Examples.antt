@@ -1,6 +1,10 @@
 -- Examples: lines of both ends in orders that are written out (this profile). No law cites these definitions.
-use Rattle.std.specs.Prelude.{ℕ, true, List, [], ◌∷◌, ◌++◌, codes}
+use Rattle.std.specs.Prelude.{ℕ, pos, true, List, [], ◌∷◌, ◌++◌, codes}
 use Rattle.std.proofs.Common.{refl}
+use Rattle.fixed_um.specs.declared.lengths.Point.{Point}
+use Rattle.dme_line.specs.Written.{written_command}
+use Rattle.dme_line.specs.declared.commands.Command.TheVariants as command
+use Rattle.dme_line.specs.declared.tags.Tag.TheVariants.{Std}
 use Rattle.witness.specs.Dialogues.{Dialogue, silence}
 use Rattle.witness.specs.Relaying.{Relaying, fresh, client_came, server_came, Reads, none, client, server, IsClientRead}
 use Rattle.witness.specs.Relaying.{FromClient, FromServer, Read, Course, no_course, with_move, Relays, begun, moved}
@@ -51,13 +55,22 @@ early = Down received ∷ Up home ∷ Down ended ∷ []
 abbrev pub failed : List Line
 failed = Up home ∷ Down received ∷ Down refused ∷ Down ended ∷ []
 
+abbrev pub failed_before : List Line
+failed_before = failed ++ selecting
+
 -- the command is received, and is open
 abbrev pub homing : Dialogue
 homing = said_all (silence true) (Up home ∷ Down received ∷ [])
 
--- its tag is used once more before its end
+-- a frame is selected, and then the probe is moved twice under one tag, which is in use the second time
+abbrev pub origin : Point
+origin = record { x = pos 0; y = pos 0; z = pos 0 }
+
+abbrev pub moves : List ℕ
+moves = written_command (Std 1) (command.GoTo origin)
+
 abbrev pub crossing : List Line
-crossing = Up home ∷ Down received ∷ Up selected ∷ Down ended ∷ Down received ∷ Down ended ∷ []
+crossing = selecting ++ Up moves ∷ Up moves ∷ Down received ∷ Down ended ∷ []
 
 -- lines as bytes
 abbrev pub with_end : List ℕ → List ℕ
