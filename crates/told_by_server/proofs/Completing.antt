@@ -54,7 +54,7 @@ without_part s k h = record { tool = h.tool; zero = h.zero; frame = unless_so k.
 
 -- ---- a command fails
 
-loses : (n : ℕ) → renewed (Mark n heard.Failed) (pending n stage.Received) ≡ None
+pub loses : (n : ℕ) → renewed (Mark n heard.Failed) (pending n stage.Received) ≡ None
 loses n =
     if_true (n == n) (with_mark (pending n stage.Received) progress.Begun heard.Failed) (unless_refused (pending n stage.Received) n heard.Failed)
     (eq-eqb n n refl)

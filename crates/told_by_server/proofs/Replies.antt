@@ -48,6 +48,7 @@ use Rattle.witness.specs.declared.lines.Stage.TheVariants as stage
 use Rattle.witness.specs.declared.lines.Use.{Use}
 use Rattle.told_by_server.proofs.Knowing.{IsWithin, within_itself, within_renewed, answer_within, Becomes, below_renewed, below_lost, pending, next, IsStep}
 use Rattle.told_by_server.proofs.Selected.{Selected, IsSo}
+use Rattle.told_by_server.proofs.Completing.{loses}
 use Rattle.told_by_server.proofs.Places.{Shape, opened, used, AreShaped, HaveOthers, renews, shaped_renewed, Split, split, said_is, heard_here, marked, own}
 use Rattle.told_by_server.proofs.Hearing.{Tells, tells_other, tells_same, IsAt, faulting_at, said_of, stays_at, ends_at, stops_at, done_at, known_first}
 use Rattle.told_by_server.proofs.Answering.{heard_there, IsHeard}
@@ -128,11 +129,6 @@ receives P s acts before tag asked after_it d room others h =
 -- a command after an error
 abbrev pub failed : Tag → SentCommand → Shape
 failed tag asked = marked (opened tag asked stage.Received) heard.Failed
-
-loses : (n : ℕ) → renewed (Mark n heard.Failed) (pending n stage.Received) ≡ None
-loses n =
-    if_true (n == n) (with_mark (pending n stage.Received) progress.Begun heard.Failed) (unless_refused (pending n stage.Received) n heard.Failed)
-    (eq-eqb n n refl)
 
 failed_step : (tag : Tag) (asked : SentCommand) (n : ℕ) (k : Known)
     → IsStep (Mark n heard.Failed) (used (opened tag asked stage.Received) n k) (own (opened tag asked stage.Received) n k heard.Failed)
