@@ -1,7 +1,6 @@
 -- What a witness reports that reads the lines of a course in another order, while further lines are on their way.
 use Rattle.std.proofs.Common.{◌≡◌, ℕ, ◌≤◌, is_none, Option, Bool, true, false, cond, not, ◌||◌, List, [], ◌∷◌, ◌++◌, map, Some, None, Result, Ok, Err}
 use Rattle.std.proofs.Common.{refl, sym, ap, ◌∙◌, subst, arith, append_assoc, append-nil, ne_eqb}
-use Rattle.std.specs.Prelude.{filter}
 use Rattle.std.proofs.lemmas.Bool.{false≢true, and_parts}
 use Rattle.contact_ledger.specs.declared.acts.Act.{Act}
 use Rattle.contact_ledger.specs.declared.acts.Act.TheVariants as act
@@ -31,15 +30,14 @@ use Rattle.protocol_model.proofs.written_lines.Writable.{reply_read, AreReplies,
 use Rattle.server_core.specs.Calls.{Call, Accept, Feed, ReadOne, Turn, Machine, Leave, Restart, Sent, behind_call, behind_calls, reached, possible, gives_up}
 use Rattle.server_core.specs.Serving.{may_accept, may_turn, may_feed}
 use Rattle.server_core.proofs.Steadies.{nothing_runs}
-use Rattle.witness.specs.Asking.{sent, unknown, client_line, server_line}
+use Rattle.witness.specs.Asking.{sent, client_line, server_line}
 use Rattle.witness.specs.Dialogues.{Dialogue, silence, after}
 use Rattle.witness.specs.Watching.{Watching, AreAllRead, client_lines, server_lines, ledger}
 use Rattle.witness.specs.declared.lines.Reported.{Reported}
 use Rattle.witness.specs.declared.lines.Reported.TheVariants as reports
-use Rattle.witness.specs.declared.lines.SentCommand.{SentCommand}
 use Rattle.witness.specs.declared.lines.Side.TheVariants.{Client, Server}
 use Rattle.witness.specs.declared.lines.Use.{Use}
-use Rattle.told_orders.specs.Claims.{is_at_once_report, in_turn, IsPart, unknown as part_unknown, known as part_known, ClaimsNoMore, same, moved, framed, touched, contact, ClaimNoMore}
+use Rattle.told_orders.specs.Claims.{in_turn, IsPart, unknown as part_unknown, known as part_known, ClaimsNoMore, same, moved, framed, touched, contact, ClaimNoMore}
 use Rattle.told_orders.specs.Courses.{AreLinesOf, whole_lines, are_whole_lines}
 use Rattle.told_orders.specs.Orders.{Line, Up, Down, said_all, ups, downs, at_once_line, is_under, some_sends, IsBehind, IsCausal, IsPrefix}
 use Rattle.told_orders.proofs.Arrivals.{whole_after, whole_none}
@@ -51,7 +49,7 @@ use Rattle.told_by_server.specs.Transit.{lines_seen, AreReportsOfFirst, fed_by, 
 use Rattle.told_by_server.proofs.Answering.{IsHeard, AreHeard}
 use Rattle.told_by_server.proofs.Courses.{IsOn, CountLines, count_parts, count_own, call_on, begun_on, reports_of_acts, is_false}
 use Rattle.told_by_server.proofs.Following.{machined_follows, turned_follows}
-use Rattle.told_by_server.proofs.Reading.{AreAnswersTo, FollowsLine, read_follows}
+use Rattle.told_by_server.proofs.Reading.{AreAnswersTo, read_follows}
 use Rattle.line_framing.specs.Calls.{line_in}
 use Rattle.line_framing.specs.Content.{AreLines, line_bytes}
 use Rattle.line_framing.specs.Framing.{Framing, fed_behind}
