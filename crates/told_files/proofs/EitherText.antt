@@ -6,7 +6,7 @@ use Rattle.contact_ledger.specs.Lines.{whole_lines}
 use Rattle.contact_ledger.specs.declared.acts.Act.{Act}
 use Rattle.contact_ledger.specs.declared.faults.TextFault.{TextFault}
 use Rattle.contact_ledger.specs.declared.faults.TextFault.TheVariants.{Damaged, Memory}
-use Rattle.told_ledger.specs.declared.uses.Told.{Told}
+use Rattle.witness.specs.declared.lines.Reported.{Reported}
 use Rattle.told_files.specs.Either.{IsToldFile, AreAudited, IsDamagedAudited, reported, acted}
 use Rattle.told_files.specs.Runs.{AreRunContacts}
 use Rattle.told_files.specs.ToldTexts.{IsToldText, IsDamagedTold}
@@ -47,7 +47,7 @@ contacts_apart bytes es h told = lines_apart (whole_lines bytes) told.more es h 
 pub contacts_audited : (bytes : List ℕ) (es : List (ℕ × Act)) → IsContacts bytes es → AreAudited bytes es
 contacts_audited bytes es h = acted (contacts_apart bytes es h) h
 
-pub report_audited : (bytes : List ℕ) (es : List (ℕ × Told)) (ledger : List (ℕ × Act)) → IsToldFile bytes → IsToldText bytes es
+pub report_audited : (bytes : List ℕ) (es : List (ℕ × Reported)) (ledger : List (ℕ × Act)) → IsToldFile bytes → IsToldText bytes es
     → AreRunContacts es ledger → AreAudited bytes ledger
 report_audited bytes es ledger told h made = reported told es h made
 

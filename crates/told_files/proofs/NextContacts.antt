@@ -7,7 +7,7 @@ use Rattle.std.proofs.lemmas.Bool.{and_parts, and_from, eqb-true, eq-eqb}
 use Rattle.contact_ledger.specs.declared.acts.Act.{Act}
 use Rattle.protocol_model.specs.Claims.{MadeContact, contacts}
 use Rattle.told_files.specs.Numbering.{is_joined, second_for, number_of, open_after, numbered_from}
-use Rattle.told_ledger.specs.declared.uses.Told.{Told}
+use Rattle.witness.specs.declared.lines.Reported.{Reported}
 use Rattle.told_files.specs.Runs.{Part, Made, Doubtful, Ends, Passes, parts_of, known_contacts, is_made, lies_between, AreNext}
 use Rattle.told_files.specs.Runs.{connection_at, unnumbered, AreRunContacts}
 
@@ -270,7 +270,7 @@ next_known ls k next =
 plus_one : (n : ℕ) → n + 1 ≡ suc n
 plus_one n = omega arith
 
-pub numbered_all : (entries : List (ℕ × Told)) (ledger : List (ℕ × Act)) → ledger ≡ numbered_from true None (parts_of entries)
+pub numbered_all : (entries : List (ℕ × Reported)) (ledger : List (ℕ × Act)) → ledger ≡ numbered_from true None (parts_of entries)
     → AreRunContacts entries ledger
 numbered_all entries ledger e = subst (λ (l : List (ℕ × Act)). AreRunContacts entries l) (sym e) (record {
   alike = alike true None (parts_of entries);
@@ -282,10 +282,10 @@ numbered_all entries ledger e = subst (λ (l : List (ℕ × Act)). AreRunContact
   );
 })
 
-pub all_read : (entries reported : List (ℕ × Told)) (ledger : List (ℕ × Act)) (s : Bool) (o : Option ℕ) (i : ℕ) → entries ≡ reported
+pub all_read : (entries reported : List (ℕ × Reported)) (ledger : List (ℕ × Act)) (s : Bool) (o : Option ℕ) (i : ℕ) → entries ≡ reported
     → drop i entries ≡ [] → ledger ++ numbered_from s o (parts_of (drop i entries)) ≡ numbered_from true None (parts_of entries)
     → AreRunContacts reported ledger
 all_read entries reported ledger s o i same end e =
     let whole : ledger ++ numbered_from s o (parts_of []) ≡ numbered_from true None (parts_of entries) =
-    subst (λ (x : List (ℕ × Told)). ledger ++ numbered_from s o (parts_of x) ≡ numbered_from true None (parts_of entries)) end e in
-    subst (λ (x : List (ℕ × Told)). AreRunContacts x ledger) same (numbered_all entries ledger (sym (append-nil ledger) ∙ whole))
+    subst (λ (x : List (ℕ × Reported)). ledger ++ numbered_from s o (parts_of x) ≡ numbered_from true None (parts_of entries)) end e in
+    subst (λ (x : List (ℕ × Reported)). AreRunContacts x ledger) same (numbered_all entries ledger (sym (append-nil ledger) ∙ whole))

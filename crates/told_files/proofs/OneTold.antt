@@ -21,13 +21,13 @@ use Rattle.contact_ledger.proofs.EntryLines.{kind, direction_tail, entry_back}
 use Rattle.contact_ledger.proofs.FeatureRuns.{one_place}
 use Rattle.contact_ledger.proofs.Leaves.{direction_read}
 use Rattle.contact_ledger.proofs.OneEntry.{one_entry}
-use Rattle.told_ledger.specs.Texts.{unknown_field, tool_field, known_frame, rule_name, side_field, told_line}
-use Rattle.told_ledger.specs.declared.uses.Rule.{Rule}
-use Rattle.told_ledger.specs.declared.uses.Rule.TheVariants.{UnknownTag, OutOfOrder, NoData, SecondData, OtherData, TagInUse, NotInTurn}
-use Rattle.told_ledger.specs.declared.uses.Side.{Side}
-use Rattle.told_ledger.specs.declared.uses.Side.TheVariants.{Client, Server}
-use Rattle.told_ledger.specs.declared.uses.Told.{Told}
-use Rattle.told_ledger.specs.declared.uses.Told.TheVariants as told
+use Rattle.witness.specs.Texts.{unknown_field, tool_field, known_frame, rule_name, side_field, told_line}
+use Rattle.witness.specs.declared.lines.Rule.{Rule}
+use Rattle.witness.specs.declared.lines.Rule.TheVariants.{UnknownTag, OutOfOrder, NoData, SecondData, OtherData, TagInUse, NotInTurn}
+use Rattle.witness.specs.declared.lines.Side.{Side}
+use Rattle.witness.specs.declared.lines.Side.TheVariants.{Client, Server}
+use Rattle.witness.specs.declared.lines.Reported.{Reported}
+use Rattle.witness.specs.declared.lines.Reported.TheVariants as reports
 use Rattle.told_files.specs.Parts.{IsOtherTold, told_parts, IsToolName}
 use Rattle.told_files.specs.ToldTexts.{IsPlaced, IsInDoubt, HasNamedTool, IsToldEntry}
 use Rattle.told_files.proofs.OtherLines.{one_line, known_tail, doubt_name, other_back, View, acted, reported, view}
@@ -95,19 +95,19 @@ one_side Client Server e = let n : 62 ≡ 60 = ap (λ (t : List ℕ). slice_inde
 one_side Server Client e = let n : 60 ≡ 62 = ap (λ (t : List ℕ). slice_index t 0) e in absurd (omega (arith, n))
 one_side Server Server e = refl
 
-same_other : {r s : Side} {k l : List ℕ} → r ≡ s → k ≡ l → told.Other r k ≡ told.Other s l
-same_other p q = λ n. told.Other (p n) (q n)
+same_other : {r s : Side} {k l : List ℕ} → r ≡ s → k ≡ l → reports.Other r k ≡ reports.Other s l
+same_other p q = λ n. reports.Other (p n) (q n)
 
-same_broken : {r s : Rule} {k l : Tag} → r ≡ s → k ≡ l → told.Broken r k ≡ told.Broken s l
-same_broken p q = λ n. told.Broken (p n) (q n)
+same_broken : {r s : Rule} {k l : Tag} → r ≡ s → k ≡ l → reports.Broken r k ≡ reports.Broken s l
+same_broken p q = λ n. reports.Broken (p n) (q n)
 
 same_touched : {t u : Point} {d e : Option Direction} {m n : Option (List ℕ)} {f g : Option Frame} {p q : Point} → t ≡ u → d ≡ e → m ≡ n
-    → f ≡ g → p ≡ q → told.Touched t d m f p ≡ told.Touched u e n g q
-same_touched a b c x y = λ n. told.Touched (a n) (b n) (c n) (x n) (y n)
+    → f ≡ g → p ≡ q → reports.Touched t d m f p ≡ reports.Touched u e n g q
+same_touched a b c x y = λ n. reports.Touched (a n) (b n) (c n) (x n) (y n)
 
 one_touched : (t u : Point) (d e : Option Direction) (m n : Option (List ℕ)) (f g : Option Frame) (p q : Point)
-    → IsOtherTold (told.Touched t d m f p) → IsOtherTold (told.Touched u e n g q)
-    → told_parts (told.Touched t d m f p) ≡ told_parts (told.Touched u e n g q) → told.Touched t d m f p ≡ told.Touched u e n g q
+    → IsOtherTold (reports.Touched t d m f p) → IsOtherTold (reports.Touched u e n g q)
+    → told_parts (reports.Touched t d m f p) ≡ told_parts (reports.Touched u e n g q) → reports.Touched t d m f p ≡ reports.Touched u e n g q
 one_touched t u d e m n f g p q a b same =
     let all : point_fields t ++ (direction_fields d ++ (tool_field m ∷ (known_frame f ++ point_fields p)))
     ≡ point_fields u ++ (direction_fields e ++ (tool_field n ∷ (known_frame g ++ point_fields q))) = cc in
@@ -129,8 +129,8 @@ contact_known m (Some n) f None x y named h e same = no_frame f x y same
 contact_known m (Some n) f (Some g) x y named h e same = h
 
 contact_apart : (t u : Point) (d e : Option Direction) (m : List ℕ) (n : Option (List ℕ)) (f : Frame) (g : Option Frame) (p q : Point)
-    → m ≢ unknown_field → IsOtherTold (told.Touched u e n g q)
-    → act_fields (act.Contact t d m f p) ≡ told_parts (told.Touched u e n g q) → ⊥
+    → m ≢ unknown_field → IsOtherTold (reports.Touched u e n g q)
+    → act_fields (act.Contact t d m f p) ≡ told_parts (reports.Touched u e n g q) → ⊥
 contact_apart t u d e m n f g p q named b same =
     let all : point_fields t ++ (direction_fields d ++ (m ∷ (frame_fields f ++ point_fields p)))
     ≡ point_fields u ++ (direction_fields e ++ (tool_field n ∷ (known_frame g ++ point_fields q))) = cc in
@@ -145,98 +145,112 @@ contact_apart t u d e m n f g p q named b same =
 -- ---- what was reported
 
 -- an act and another report have different fields
-apart : (a : Act) (t : Told) → HasNamedTool a → IsOtherTold t → act_fields a ≡ told_parts t → ⊥
-apart (act.HomedIs ah) (told.Did b) g h e = h
-apart (act.HomedIs ah) (told.MovedSomewhere t2) g h e =
+apart : (a : Act) (t : Reported) → HasNamedTool a → IsOtherTold t → act_fields a ≡ told_parts t → ⊥
+apart (act.HomedIs ah) (reports.Did b) g h e = h
+apart (act.HomedIs ah) (reports.MovedSomewhere t2) g h e =
     let n : 777 ≡ 865 = ap (λ (fs : List (List ℕ)). kind fs) e in omega (arith, n)
-apart (act.HomedIs ah) told.FramedSomehow g h e =
+apart (act.HomedIs ah) reports.FramedSomehow g h e =
     let n : 777 ≡ 656 = ap (λ (fs : List (List ℕ)). kind fs) e in omega (arith, n)
-apart (act.HomedIs ah) (told.Touched t2 bd bn bf p2) g h e =
+apart (act.HomedIs ah) (reports.Touched t2 bd bn bf p2) g h e =
     let n : 777 ≡ 787 = ap (λ (fs : List (List ℕ)). kind fs) e in omega (arith, n)
-apart (act.HomedIs ah) (told.Other bs bl) g h e =
+apart (act.HomedIs ah) (reports.Other bs bl) g h e =
     let n : 777 ≡ 725 = ap (λ (fs : List (List ℕ)). kind fs) e in omega (arith, n)
-apart (act.HomedIs ah) (told.Broken br bg) g h e =
+apart (act.HomedIs ah) (reports.Unasked bl) g h e =
+    let n : 777 ≡ 657 = ap (λ (fs : List (List ℕ)). kind fs) e in omega (arith, n)
+apart (act.HomedIs ah) (reports.Broken br bg) g h e =
     let n : 777 ≡ 796 = ap (λ (fs : List (List ℕ)). kind fs) e in omega (arith, n)
-apart (act.HomedIs ah) told.Opened g h e =
+apart (act.HomedIs ah) reports.Opened g h e =
     let n : 777 ≡ 696 = ap (λ (fs : List (List ℕ)). kind fs) e in omega (arith, n)
-apart (act.HomedIs ah) told.Left g h e =
+apart (act.HomedIs ah) reports.Left g h e =
     let n : 777 ≡ 704 = ap (λ (fs : List (List ℕ)). kind fs) e in omega (arith, n)
-apart act.Homed (told.Did b) g h e = h
-apart act.Homed (told.MovedSomewhere t2) g h e =
+apart act.Homed (reports.Did b) g h e = h
+apart act.Homed (reports.MovedSomewhere t2) g h e =
     let n : 775 ≡ 865 = ap (λ (fs : List (List ℕ)). kind fs) e in omega (arith, n)
-apart act.Homed told.FramedSomehow g h e =
+apart act.Homed reports.FramedSomehow g h e =
     let n : 775 ≡ 656 = ap (λ (fs : List (List ℕ)). kind fs) e in omega (arith, n)
-apart act.Homed (told.Touched t2 bd bn bf p2) g h e =
+apart act.Homed (reports.Touched t2 bd bn bf p2) g h e =
     let n : 775 ≡ 787 = ap (λ (fs : List (List ℕ)). kind fs) e in omega (arith, n)
-apart act.Homed (told.Other bs bl) g h e =
+apart act.Homed (reports.Other bs bl) g h e =
     let n : 775 ≡ 725 = ap (λ (fs : List (List ℕ)). kind fs) e in omega (arith, n)
-apart act.Homed (told.Broken br bg) g h e =
+apart act.Homed (reports.Unasked bl) g h e =
+    let n : 775 ≡ 657 = ap (λ (fs : List (List ℕ)). kind fs) e in omega (arith, n)
+apart act.Homed (reports.Broken br bg) g h e =
     let n : 775 ≡ 796 = ap (λ (fs : List (List ℕ)). kind fs) e in omega (arith, n)
-apart act.Homed told.Opened g h e =
+apart act.Homed reports.Opened g h e =
     let n : 775 ≡ 696 = ap (λ (fs : List (List ℕ)). kind fs) e in omega (arith, n)
-apart act.Homed told.Left g h e =
+apart act.Homed reports.Left g h e =
     let n : 775 ≡ 704 = ap (λ (fs : List (List ℕ)). kind fs) e in omega (arith, n)
-apart (act.Moved t1 af) (told.Did b) g h e = h
-apart (act.Moved t1 af) (told.MovedSomewhere t2) g h e =
+apart (act.Moved t1 af) (reports.Did b) g h e = h
+apart (act.Moved t1 af) (reports.MovedSomewhere t2) g h e =
     let all : point_fields t1 ++ frame_fields af ≡ point_fields t2 ++ unknown_field ∷ [] = cc in
     let frame : frame_fields af ≡ unknown_field ∷ [] = cc in
     no_frame af [] [] (append-nil (frame_fields af) ∙ frame)
-apart (act.Moved t1 af) told.FramedSomehow g h e =
+apart (act.Moved t1 af) reports.FramedSomehow g h e =
     let n : 865 ≡ 656 = ap (λ (fs : List (List ℕ)). kind fs) e in omega (arith, n)
-apart (act.Moved t1 af) (told.Touched t2 bd bn bf p2) g h e =
+apart (act.Moved t1 af) (reports.Touched t2 bd bn bf p2) g h e =
     let n : 865 ≡ 787 = ap (λ (fs : List (List ℕ)). kind fs) e in omega (arith, n)
-apart (act.Moved t1 af) (told.Other bs bl) g h e =
+apart (act.Moved t1 af) (reports.Other bs bl) g h e =
     let n : 865 ≡ 725 = ap (λ (fs : List (List ℕ)). kind fs) e in omega (arith, n)
-apart (act.Moved t1 af) (told.Broken br bg) g h e =
+apart (act.Moved t1 af) (reports.Unasked bl) g h e =
+    let n : 865 ≡ 657 = ap (λ (fs : List (List ℕ)). kind fs) e in omega (arith, n)
+apart (act.Moved t1 af) (reports.Broken br bg) g h e =
     let n : 865 ≡ 796 = ap (λ (fs : List (List ℕ)). kind fs) e in omega (arith, n)
-apart (act.Moved t1 af) told.Opened g h e =
+apart (act.Moved t1 af) reports.Opened g h e =
     let n : 865 ≡ 696 = ap (λ (fs : List (List ℕ)). kind fs) e in omega (arith, n)
-apart (act.Moved t1 af) told.Left g h e =
+apart (act.Moved t1 af) reports.Left g h e =
     let n : 865 ≡ 704 = ap (λ (fs : List (List ℕ)). kind fs) e in omega (arith, n)
-apart (act.Changed an) (told.Did b) g h e = h
-apart (act.Changed an) (told.MovedSomewhere t2) g h e =
+apart (act.Changed an) (reports.Did b) g h e = h
+apart (act.Changed an) (reports.MovedSomewhere t2) g h e =
     let n : 657 ≡ 865 = ap (λ (fs : List (List ℕ)). kind fs) e in omega (arith, n)
-apart (act.Changed an) told.FramedSomehow g h e =
+apart (act.Changed an) reports.FramedSomehow g h e =
     let n : 657 ≡ 656 = ap (λ (fs : List (List ℕ)). kind fs) e in omega (arith, n)
-apart (act.Changed an) (told.Touched t2 bd bn bf p2) g h e =
+apart (act.Changed an) (reports.Touched t2 bd bn bf p2) g h e =
     let n : 657 ≡ 787 = ap (λ (fs : List (List ℕ)). kind fs) e in omega (arith, n)
-apart (act.Changed an) (told.Other bs bl) g h e =
+apart (act.Changed an) (reports.Other bs bl) g h e =
     let n : 657 ≡ 725 = ap (λ (fs : List (List ℕ)). kind fs) e in omega (arith, n)
-apart (act.Changed an) (told.Broken br bg) g h e =
+apart (act.Changed an) (reports.Unasked bl) g h e =
+    let word : codes "CHANGED" ≡ codes "UNASKED" = cc in
+    let n : 67 ≡ 85 = ap (λ (t : List ℕ). slice_index t 0) word in
+    omega (arith, n)
+apart (act.Changed an) (reports.Broken br bg) g h e =
     let n : 657 ≡ 796 = ap (λ (fs : List (List ℕ)). kind fs) e in omega (arith, n)
-apart (act.Changed an) told.Opened g h e =
+apart (act.Changed an) reports.Opened g h e =
     let n : 657 ≡ 696 = ap (λ (fs : List (List ℕ)). kind fs) e in omega (arith, n)
-apart (act.Changed an) told.Left g h e =
+apart (act.Changed an) reports.Left g h e =
     let n : 657 ≡ 704 = ap (λ (fs : List (List ℕ)). kind fs) e in omega (arith, n)
-apart (act.Framed af) (told.Did b) g h e = h
-apart (act.Framed af) (told.MovedSomewhere t2) g h e =
+apart (act.Framed af) (reports.Did b) g h e = h
+apart (act.Framed af) (reports.MovedSomewhere t2) g h e =
     let n : 656 ≡ 865 = ap (λ (fs : List (List ℕ)). kind fs) e in omega (arith, n)
-apart (act.Framed af) told.FramedSomehow g h e =
+apart (act.Framed af) reports.FramedSomehow g h e =
     let frame : frame_fields af ≡ unknown_field ∷ [] = cc in
     no_frame af [] [] (append-nil (frame_fields af) ∙ frame)
-apart (act.Framed af) (told.Touched t2 bd bn bf p2) g h e =
+apart (act.Framed af) (reports.Touched t2 bd bn bf p2) g h e =
     let n : 656 ≡ 787 = ap (λ (fs : List (List ℕ)). kind fs) e in omega (arith, n)
-apart (act.Framed af) (told.Other bs bl) g h e =
+apart (act.Framed af) (reports.Other bs bl) g h e =
     let n : 656 ≡ 725 = ap (λ (fs : List (List ℕ)). kind fs) e in omega (arith, n)
-apart (act.Framed af) (told.Broken br bg) g h e =
+apart (act.Framed af) (reports.Unasked bl) g h e =
+    let n : 656 ≡ 657 = ap (λ (fs : List (List ℕ)). kind fs) e in omega (arith, n)
+apart (act.Framed af) (reports.Broken br bg) g h e =
     let n : 656 ≡ 796 = ap (λ (fs : List (List ℕ)). kind fs) e in omega (arith, n)
-apart (act.Framed af) told.Opened g h e =
+apart (act.Framed af) reports.Opened g h e =
     let n : 656 ≡ 696 = ap (λ (fs : List (List ℕ)). kind fs) e in omega (arith, n)
-apart (act.Framed af) told.Left g h e =
+apart (act.Framed af) reports.Left g h e =
     let n : 656 ≡ 704 = ap (λ (fs : List (List ℕ)). kind fs) e in omega (arith, n)
-apart (act.Contact t1 ad an af p1) (told.Did b) g h e = h
-apart (act.Contact t1 ad an af p1) (told.MovedSomewhere t2) g h e =
+apart (act.Contact t1 ad an af p1) (reports.Did b) g h e = h
+apart (act.Contact t1 ad an af p1) (reports.MovedSomewhere t2) g h e =
     let n : 787 ≡ 865 = ap (λ (fs : List (List ℕ)). kind fs) e in omega (arith, n)
-apart (act.Contact t1 ad an af p1) told.FramedSomehow g h e =
+apart (act.Contact t1 ad an af p1) reports.FramedSomehow g h e =
     let n : 787 ≡ 656 = ap (λ (fs : List (List ℕ)). kind fs) e in omega (arith, n)
-apart (act.Contact t1 ad an af p1) (told.Touched t2 bd bn bf p2) g h e = contact_apart t1 t2 ad bd an bn af bf p1 p2 g h e
-apart (act.Contact t1 ad an af p1) (told.Other bs bl) g h e =
+apart (act.Contact t1 ad an af p1) (reports.Touched t2 bd bn bf p2) g h e = contact_apart t1 t2 ad bd an bn af bf p1 p2 g h e
+apart (act.Contact t1 ad an af p1) (reports.Other bs bl) g h e =
     let n : 787 ≡ 725 = ap (λ (fs : List (List ℕ)). kind fs) e in omega (arith, n)
-apart (act.Contact t1 ad an af p1) (told.Broken br bg) g h e =
+apart (act.Contact t1 ad an af p1) (reports.Unasked bl) g h e =
+    let n : 787 ≡ 657 = ap (λ (fs : List (List ℕ)). kind fs) e in omega (arith, n)
+apart (act.Contact t1 ad an af p1) (reports.Broken br bg) g h e =
     let n : 787 ≡ 796 = ap (λ (fs : List (List ℕ)). kind fs) e in omega (arith, n)
-apart (act.Contact t1 ad an af p1) told.Opened g h e =
+apart (act.Contact t1 ad an af p1) reports.Opened g h e =
     let n : 787 ≡ 696 = ap (λ (fs : List (List ℕ)). kind fs) e in omega (arith, n)
-apart (act.Contact t1 ad an af p1) told.Left g h e =
+apart (act.Contact t1 ad an af p1) reports.Left g h e =
     let n : 787 ≡ 704 = ap (λ (fs : List (List ℕ)). kind fs) e in omega (arith, n)
 
 -- a number for each name of a rule
@@ -262,143 +276,175 @@ one_rule : (r s : Rule) → rule_name r ≡ rule_name s → r ≡ s
 one_rule r s e = sym (rule_back r) ∙ (ap (λ (name : List ℕ). rule_at (rule_number name)) e ∙ rule_back s)
 
 -- what was reported other than acts is known by its fields
-one_parts : (a b : Told) → IsOtherTold a → IsOtherTold b → told_parts a ≡ told_parts b → a ≡ b
-one_parts (told.Did a) b g h e = absurd g
-one_parts (told.MovedSomewhere t1) (told.Did b) g h e = absurd h
-one_parts (told.MovedSomewhere t1) (told.MovedSomewhere t2) g h e =
+one_parts : (a b : Reported) → IsOtherTold a → IsOtherTold b → told_parts a ≡ told_parts b → a ≡ b
+one_parts (reports.Did a) b g h e = absurd g
+one_parts (reports.MovedSomewhere t1) (reports.Did b) g h e = absurd h
+one_parts (reports.MovedSomewhere t1) (reports.MovedSomewhere t2) g h e =
     let all : point_fields t1 ++ unknown_field ∷ [] ≡ point_fields t2 ++ unknown_field ∷ [] = cc in
     let same : point_fields t1 ≡ point_fields t2 = cc in
-    ap (λ (p : Point). told.MovedSomewhere p) (one_place t1 t2 g h same)
-one_parts (told.MovedSomewhere t1) told.FramedSomehow g h e =
+    ap (λ (p : Point). reports.MovedSomewhere p) (one_place t1 t2 g h same)
+one_parts (reports.MovedSomewhere t1) reports.FramedSomehow g h e =
     let n : 865 ≡ 656 = ap (λ (fs : List (List ℕ)). kind fs) e in absurd (omega (arith, n))
-one_parts (told.MovedSomewhere t1) (told.Touched t2 bd bn bf p2) g h e =
+one_parts (reports.MovedSomewhere t1) (reports.Touched t2 bd bn bf p2) g h e =
     let n : 865 ≡ 787 = ap (λ (fs : List (List ℕ)). kind fs) e in absurd (omega (arith, n))
-one_parts (told.MovedSomewhere t1) (told.Other bs bl) g h e =
+one_parts (reports.MovedSomewhere t1) (reports.Other bs bl) g h e =
     let n : 865 ≡ 725 = ap (λ (fs : List (List ℕ)). kind fs) e in absurd (omega (arith, n))
-one_parts (told.MovedSomewhere t1) (told.Broken br bg) g h e =
+one_parts (reports.MovedSomewhere t1) (reports.Unasked bl) g h e =
+    let n : 865 ≡ 657 = ap (λ (fs : List (List ℕ)). kind fs) e in absurd (omega (arith, n))
+one_parts (reports.MovedSomewhere t1) (reports.Broken br bg) g h e =
     let n : 865 ≡ 796 = ap (λ (fs : List (List ℕ)). kind fs) e in absurd (omega (arith, n))
-one_parts (told.MovedSomewhere t1) told.Opened g h e =
+one_parts (reports.MovedSomewhere t1) reports.Opened g h e =
     let n : 865 ≡ 696 = ap (λ (fs : List (List ℕ)). kind fs) e in absurd (omega (arith, n))
-one_parts (told.MovedSomewhere t1) told.Left g h e =
+one_parts (reports.MovedSomewhere t1) reports.Left g h e =
     let n : 865 ≡ 704 = ap (λ (fs : List (List ℕ)). kind fs) e in absurd (omega (arith, n))
-one_parts told.FramedSomehow (told.Did b) g h e = absurd h
-one_parts told.FramedSomehow (told.MovedSomewhere t2) g h e =
+one_parts reports.FramedSomehow (reports.Did b) g h e = absurd h
+one_parts reports.FramedSomehow (reports.MovedSomewhere t2) g h e =
     let n : 656 ≡ 865 = ap (λ (fs : List (List ℕ)). kind fs) e in absurd (omega (arith, n))
-one_parts told.FramedSomehow told.FramedSomehow g h e = refl
-one_parts told.FramedSomehow (told.Touched t2 bd bn bf p2) g h e =
+one_parts reports.FramedSomehow reports.FramedSomehow g h e = refl
+one_parts reports.FramedSomehow (reports.Touched t2 bd bn bf p2) g h e =
     let n : 656 ≡ 787 = ap (λ (fs : List (List ℕ)). kind fs) e in absurd (omega (arith, n))
-one_parts told.FramedSomehow (told.Other bs bl) g h e =
+one_parts reports.FramedSomehow (reports.Other bs bl) g h e =
     let n : 656 ≡ 725 = ap (λ (fs : List (List ℕ)). kind fs) e in absurd (omega (arith, n))
-one_parts told.FramedSomehow (told.Broken br bg) g h e =
+one_parts reports.FramedSomehow (reports.Unasked bl) g h e =
+    let n : 656 ≡ 657 = ap (λ (fs : List (List ℕ)). kind fs) e in absurd (omega (arith, n))
+one_parts reports.FramedSomehow (reports.Broken br bg) g h e =
     let n : 656 ≡ 796 = ap (λ (fs : List (List ℕ)). kind fs) e in absurd (omega (arith, n))
-one_parts told.FramedSomehow told.Opened g h e =
+one_parts reports.FramedSomehow reports.Opened g h e =
     let n : 656 ≡ 696 = ap (λ (fs : List (List ℕ)). kind fs) e in absurd (omega (arith, n))
-one_parts told.FramedSomehow told.Left g h e =
+one_parts reports.FramedSomehow reports.Left g h e =
     let n : 656 ≡ 704 = ap (λ (fs : List (List ℕ)). kind fs) e in absurd (omega (arith, n))
-one_parts (told.Touched t1 ad an af p1) (told.Did b) g h e = absurd h
-one_parts (told.Touched t1 ad an af p1) (told.MovedSomewhere t2) g h e =
+one_parts (reports.Touched t1 ad an af p1) (reports.Did b) g h e = absurd h
+one_parts (reports.Touched t1 ad an af p1) (reports.MovedSomewhere t2) g h e =
     let n : 787 ≡ 865 = ap (λ (fs : List (List ℕ)). kind fs) e in absurd (omega (arith, n))
-one_parts (told.Touched t1 ad an af p1) told.FramedSomehow g h e =
+one_parts (reports.Touched t1 ad an af p1) reports.FramedSomehow g h e =
     let n : 787 ≡ 656 = ap (λ (fs : List (List ℕ)). kind fs) e in absurd (omega (arith, n))
-one_parts (told.Touched t1 ad an af p1) (told.Touched t2 bd bn bf p2) g h e = one_touched t1 t2 ad bd an bn af bf p1 p2 g h e
-one_parts (told.Touched t1 ad an af p1) (told.Other bs bl) g h e =
+one_parts (reports.Touched t1 ad an af p1) (reports.Touched t2 bd bn bf p2) g h e = one_touched t1 t2 ad bd an bn af bf p1 p2 g h e
+one_parts (reports.Touched t1 ad an af p1) (reports.Other bs bl) g h e =
     let n : 787 ≡ 725 = ap (λ (fs : List (List ℕ)). kind fs) e in absurd (omega (arith, n))
-one_parts (told.Touched t1 ad an af p1) (told.Broken br bg) g h e =
+one_parts (reports.Touched t1 ad an af p1) (reports.Unasked bl) g h e =
+    let n : 787 ≡ 657 = ap (λ (fs : List (List ℕ)). kind fs) e in absurd (omega (arith, n))
+one_parts (reports.Touched t1 ad an af p1) (reports.Broken br bg) g h e =
     let n : 787 ≡ 796 = ap (λ (fs : List (List ℕ)). kind fs) e in absurd (omega (arith, n))
-one_parts (told.Touched t1 ad an af p1) told.Opened g h e =
+one_parts (reports.Touched t1 ad an af p1) reports.Opened g h e =
     let n : 787 ≡ 696 = ap (λ (fs : List (List ℕ)). kind fs) e in absurd (omega (arith, n))
-one_parts (told.Touched t1 ad an af p1) told.Left g h e =
+one_parts (reports.Touched t1 ad an af p1) reports.Left g h e =
     let n : 787 ≡ 704 = ap (λ (fs : List (List ℕ)). kind fs) e in absurd (omega (arith, n))
-one_parts (told.Other aside al) (told.Did b) g h e = absurd h
-one_parts (told.Other aside al) (told.MovedSomewhere t2) g h e =
+one_parts (reports.Other aside al) (reports.Did b) g h e = absurd h
+one_parts (reports.Other aside al) (reports.MovedSomewhere t2) g h e =
     let n : 725 ≡ 865 = ap (λ (fs : List (List ℕ)). kind fs) e in absurd (omega (arith, n))
-one_parts (told.Other aside al) told.FramedSomehow g h e =
+one_parts (reports.Other aside al) reports.FramedSomehow g h e =
     let n : 725 ≡ 656 = ap (λ (fs : List (List ℕ)). kind fs) e in absurd (omega (arith, n))
-one_parts (told.Other aside al) (told.Touched t2 bd bn bf p2) g h e =
+one_parts (reports.Other aside al) (reports.Touched t2 bd bn bf p2) g h e =
     let n : 725 ≡ 787 = ap (λ (fs : List (List ℕ)). kind fs) e in absurd (omega (arith, n))
-one_parts (told.Other aside al) (told.Other bs bl) g h e =
+one_parts (reports.Other aside al) (reports.Other bs bl) g h e =
     let side : side_field aside ≡ side_field bs = cc in
     let line : fields_of al ≡ fields_of bl = cc in
     same_other (one_side aside bs side) (one_line al bl line)
-one_parts (told.Other aside al) (told.Broken br bg) g h e =
+one_parts (reports.Other aside al) (reports.Unasked bl) g h e =
+    let n : 725 ≡ 657 = ap (λ (fs : List (List ℕ)). kind fs) e in absurd (omega (arith, n))
+one_parts (reports.Other aside al) (reports.Broken br bg) g h e =
     let n : 725 ≡ 796 = ap (λ (fs : List (List ℕ)). kind fs) e in absurd (omega (arith, n))
-one_parts (told.Other aside al) told.Opened g h e =
+one_parts (reports.Other aside al) reports.Opened g h e =
     let n : 725 ≡ 696 = ap (λ (fs : List (List ℕ)). kind fs) e in absurd (omega (arith, n))
-one_parts (told.Other aside al) told.Left g h e =
+one_parts (reports.Other aside al) reports.Left g h e =
     let n : 725 ≡ 704 = ap (λ (fs : List (List ℕ)). kind fs) e in absurd (omega (arith, n))
-one_parts (told.Broken ar ag) (told.Did b) g h e = absurd h
-one_parts (told.Broken ar ag) (told.MovedSomewhere t2) g h e =
+one_parts (reports.Unasked al) (reports.Did b) g h e = absurd h
+one_parts (reports.Unasked al) (reports.MovedSomewhere t2) g h e =
+    let n : 657 ≡ 865 = ap (λ (fs : List (List ℕ)). kind fs) e in absurd (omega (arith, n))
+one_parts (reports.Unasked al) reports.FramedSomehow g h e =
+    let n : 657 ≡ 656 = ap (λ (fs : List (List ℕ)). kind fs) e in absurd (omega (arith, n))
+one_parts (reports.Unasked al) (reports.Touched t2 bd bn bf p2) g h e =
+    let n : 657 ≡ 787 = ap (λ (fs : List (List ℕ)). kind fs) e in absurd (omega (arith, n))
+one_parts (reports.Unasked al) (reports.Other bs bl) g h e =
+    let n : 657 ≡ 725 = ap (λ (fs : List (List ℕ)). kind fs) e in absurd (omega (arith, n))
+one_parts (reports.Unasked al) (reports.Unasked bl) g h e =
+    let line : fields_of al ≡ fields_of bl = cc in
+    ap (λ (l : List ℕ). reports.Unasked l) (one_line al bl line)
+one_parts (reports.Unasked al) (reports.Broken br bg) g h e =
+    let n : 657 ≡ 796 = ap (λ (fs : List (List ℕ)). kind fs) e in absurd (omega (arith, n))
+one_parts (reports.Unasked al) reports.Opened g h e =
+    let n : 657 ≡ 696 = ap (λ (fs : List (List ℕ)). kind fs) e in absurd (omega (arith, n))
+one_parts (reports.Unasked al) reports.Left g h e =
+    let n : 657 ≡ 704 = ap (λ (fs : List (List ℕ)). kind fs) e in absurd (omega (arith, n))
+one_parts (reports.Broken ar ag) (reports.Did b) g h e = absurd h
+one_parts (reports.Broken ar ag) (reports.MovedSomewhere t2) g h e =
     let n : 796 ≡ 865 = ap (λ (fs : List (List ℕ)). kind fs) e in absurd (omega (arith, n))
-one_parts (told.Broken ar ag) told.FramedSomehow g h e =
+one_parts (reports.Broken ar ag) reports.FramedSomehow g h e =
     let n : 796 ≡ 656 = ap (λ (fs : List (List ℕ)). kind fs) e in absurd (omega (arith, n))
-one_parts (told.Broken ar ag) (told.Touched t2 bd bn bf p2) g h e =
+one_parts (reports.Broken ar ag) (reports.Touched t2 bd bn bf p2) g h e =
     let n : 796 ≡ 787 = ap (λ (fs : List (List ℕ)). kind fs) e in absurd (omega (arith, n))
-one_parts (told.Broken ar ag) (told.Other bs bl) g h e =
+one_parts (reports.Broken ar ag) (reports.Other bs bl) g h e =
     let n : 796 ≡ 725 = ap (λ (fs : List (List ℕ)). kind fs) e in absurd (omega (arith, n))
-one_parts (told.Broken ar ag) (told.Broken br bg) g h e =
+one_parts (reports.Broken ar ag) (reports.Unasked bl) g h e =
+    let n : 796 ≡ 657 = ap (λ (fs : List (List ℕ)). kind fs) e in absurd (omega (arith, n))
+one_parts (reports.Broken ar ag) (reports.Broken br bg) g h e =
     let rule : rule_name ar ≡ rule_name br = cc in
     let tag : written_tag ag ≡ written_tag bg = cc in
     same_broken (one_rule ar br rule)
     (one_tag ag bg [] [] g h (append-nil (written_tag ag) ∙ tag ∙ sym (append-nil (written_tag bg)))).tag
-one_parts (told.Broken ar ag) told.Opened g h e =
+one_parts (reports.Broken ar ag) reports.Opened g h e =
     let n : 796 ≡ 696 = ap (λ (fs : List (List ℕ)). kind fs) e in absurd (omega (arith, n))
-one_parts (told.Broken ar ag) told.Left g h e =
+one_parts (reports.Broken ar ag) reports.Left g h e =
     let n : 796 ≡ 704 = ap (λ (fs : List (List ℕ)). kind fs) e in absurd (omega (arith, n))
-one_parts told.Opened (told.Did b) g h e = absurd h
-one_parts told.Opened (told.MovedSomewhere t2) g h e =
+one_parts reports.Opened (reports.Did b) g h e = absurd h
+one_parts reports.Opened (reports.MovedSomewhere t2) g h e =
     let n : 696 ≡ 865 = ap (λ (fs : List (List ℕ)). kind fs) e in absurd (omega (arith, n))
-one_parts told.Opened told.FramedSomehow g h e =
+one_parts reports.Opened reports.FramedSomehow g h e =
     let n : 696 ≡ 656 = ap (λ (fs : List (List ℕ)). kind fs) e in absurd (omega (arith, n))
-one_parts told.Opened (told.Touched t2 bd bn bf p2) g h e =
+one_parts reports.Opened (reports.Touched t2 bd bn bf p2) g h e =
     let n : 696 ≡ 787 = ap (λ (fs : List (List ℕ)). kind fs) e in absurd (omega (arith, n))
-one_parts told.Opened (told.Other bs bl) g h e =
+one_parts reports.Opened (reports.Other bs bl) g h e =
     let n : 696 ≡ 725 = ap (λ (fs : List (List ℕ)). kind fs) e in absurd (omega (arith, n))
-one_parts told.Opened (told.Broken br bg) g h e =
+one_parts reports.Opened (reports.Unasked bl) g h e =
+    let n : 696 ≡ 657 = ap (λ (fs : List (List ℕ)). kind fs) e in absurd (omega (arith, n))
+one_parts reports.Opened (reports.Broken br bg) g h e =
     let n : 696 ≡ 796 = ap (λ (fs : List (List ℕ)). kind fs) e in absurd (omega (arith, n))
-one_parts told.Opened told.Opened g h e = refl
-one_parts told.Opened told.Left g h e =
+one_parts reports.Opened reports.Opened g h e = refl
+one_parts reports.Opened reports.Left g h e =
     let n : 696 ≡ 704 = ap (λ (fs : List (List ℕ)). kind fs) e in absurd (omega (arith, n))
-one_parts told.Left (told.Did b) g h e = absurd h
-one_parts told.Left (told.MovedSomewhere t2) g h e =
+one_parts reports.Left (reports.Did b) g h e = absurd h
+one_parts reports.Left (reports.MovedSomewhere t2) g h e =
     let n : 704 ≡ 865 = ap (λ (fs : List (List ℕ)). kind fs) e in absurd (omega (arith, n))
-one_parts told.Left told.FramedSomehow g h e =
+one_parts reports.Left reports.FramedSomehow g h e =
     let n : 704 ≡ 656 = ap (λ (fs : List (List ℕ)). kind fs) e in absurd (omega (arith, n))
-one_parts told.Left (told.Touched t2 bd bn bf p2) g h e =
+one_parts reports.Left (reports.Touched t2 bd bn bf p2) g h e =
     let n : 704 ≡ 787 = ap (λ (fs : List (List ℕ)). kind fs) e in absurd (omega (arith, n))
-one_parts told.Left (told.Other bs bl) g h e =
+one_parts reports.Left (reports.Other bs bl) g h e =
     let n : 704 ≡ 725 = ap (λ (fs : List (List ℕ)). kind fs) e in absurd (omega (arith, n))
-one_parts told.Left (told.Broken br bg) g h e =
+one_parts reports.Left (reports.Unasked bl) g h e =
+    let n : 704 ≡ 657 = ap (λ (fs : List (List ℕ)). kind fs) e in absurd (omega (arith, n))
+one_parts reports.Left (reports.Broken br bg) g h e =
     let n : 704 ≡ 796 = ap (λ (fs : List (List ℕ)). kind fs) e in absurd (omega (arith, n))
-one_parts told.Left told.Opened g h e =
+one_parts reports.Left reports.Opened g h e =
     let n : 704 ≡ 696 = ap (λ (fs : List (List ℕ)). kind fs) e in absurd (omega (arith, n))
-one_parts told.Left told.Left g h e = refl
+one_parts reports.Left reports.Left g h e = refl
 
-abbrev SameEntry : ℕ → ℕ → Told → Told → Type 0
-SameEntry m n t u = ◌≡◌ {A = ℕ × Told} (m, t) (n, u)
+abbrev SameEntry : ℕ → ℕ → Reported → Reported → Type 0
+SameEntry m n t u = ◌≡◌ {A = ℕ × Reported} (m, t) (n, u)
 
-same_entry : (e f : ℕ × Told) → e.0 ≡ f.0 → e.1 ≡ f.1 → e ≡ f
+same_entry : (e f : ℕ × Reported) → e.0 ≡ f.0 → e.1 ≡ f.1 → e ≡ f
 same_entry e f p q = λ n. (p n, q n)
 
-one_act : (m n : ℕ) (t u : Told) (a b : Act) → IsToldEntry (m, t) → IsToldEntry (n, u) → told_line (m, t) ≡ told_line (n, u)
-    → t ≡ told.Did a → u ≡ told.Did b → SameEntry m n t u
+one_act : (m n : ℕ) (t u : Reported) (a b : Act) → IsToldEntry (m, t) → IsToldEntry (n, u) → told_line (m, t) ≡ told_line (n, u)
+    → t ≡ reports.Did a → u ≡ reports.Did b → SameEntry m n t u
 one_act m n t u a b g h same p q =
-    let as_a = subst (λ (x : Told). IsToldEntry (m, x)) p g in
-    let as_b = subst (λ (x : Told). IsToldEntry (n, x)) q h in
-    let lines : act_line (m, a) ≡ act_line (n, b) = ap (λ (x : Told). told_line (m, x)) (sym p) ∙ same ∙ ap (λ (x : Told). told_line (n, x)) q in
+    let as_a = subst (λ (x : Reported). IsToldEntry (m, x)) p g in
+    let as_b = subst (λ (x : Reported). IsToldEntry (n, x)) q h in
+    let lines : act_line (m, a) ≡ act_line (n, b) = ap (λ (x : Reported). told_line (m, x)) (sym p) ∙ same ∙ ap (λ (x : Reported). told_line (n, x)) q in
     let both = one_entry (m, a) (n, b) as_a.0 as_b.0 lines in
-    same_entry (m, t) (n, u) (ap (λ (x : ℕ × Act). x.0) both) (p ∙ ap (λ (x : ℕ × Act). told.Did x.1) both ∙ sym q)
+    same_entry (m, t) (n, u) (ap (λ (x : ℕ × Act). x.0) both) (p ∙ ap (λ (x : ℕ × Act). reports.Did x.1) both ∙ sym q)
 
-not_one : (m n : ℕ) (t u : Told) (a : Act) → IsToldEntry (m, t) → IsToldEntry (n, u) → told_line (m, t) ≡ told_line (n, u)
-    → t ≡ told.Did a → IsOtherTold u → ⊥
+not_one : (m n : ℕ) (t u : Reported) (a : Act) → IsToldEntry (m, t) → IsToldEntry (n, u) → told_line (m, t) ≡ told_line (n, u)
+    → t ≡ reports.Did a → IsOtherTold u → ⊥
 not_one m n t u a g h same p other =
-    let as_a = subst (λ (x : Told). IsToldEntry (m, x)) p g in
-    let line : act_line (m, a) ≡ told_line (n, u) = ap (λ (x : Told). told_line (m, x)) (sym p) ∙ same in
+    let as_a = subst (λ (x : Reported). IsToldEntry (m, x)) p g in
+    let line : act_line (m, a) ≡ told_line (n, u) = ap (λ (x : Reported). told_line (m, x)) (sym p) ∙ same in
     let fields : decimal m ∷ act_fields a ≡ decimal n ∷ told_parts u =
     sym (entry_back (act_line (m, a)) m a as_a.0 refl) ∙ ap (λ (l : List ℕ). fields_of l) line ∙ other_back n u h.0.0 other in
     let parts : act_fields a ≡ told_parts u = cc in
     apart a u as_a.1 other parts
 
-one_reported : (m n : ℕ) (t u : Told) → IsToldEntry (m, t) → IsToldEntry (n, u) → told_line (m, t) ≡ told_line (n, u) → IsOtherTold t
+one_reported : (m n : ℕ) (t u : Reported) → IsToldEntry (m, t) → IsToldEntry (n, u) → told_line (m, t) ≡ told_line (n, u) → IsOtherTold t
     → IsOtherTold u → SameEntry m n t u
 one_reported m n t u g h same p q =
     let fields : decimal m ∷ told_parts t ≡ decimal n ∷ told_parts u =
@@ -407,12 +453,12 @@ one_reported m n t u g h same p q =
     let parts : told_parts t ≡ told_parts u = cc in
     same_entry (m, t) (n, u) (decimal_injective m n (omega (arith, g.0.0.1)) (omega (arith, h.0.0.1)) number) (one_parts t u p q parts)
 
-one_viewed : (m n : ℕ) (t u : Told) → IsToldEntry (m, t) → IsToldEntry (n, u) → told_line (m, t) ≡ told_line (n, u) → View t → View u
+one_viewed : (m n : ℕ) (t u : Reported) → IsToldEntry (m, t) → IsToldEntry (n, u) → told_line (m, t) ≡ told_line (n, u) → View t → View u
     → SameEntry m n t u
 one_viewed m n t u g h same (acted a p) (acted b q) = one_act m n t u a b g h same p q
 one_viewed m n t u g h same (acted a p) (reported q) = absurd (not_one m n t u a g h same p q)
 one_viewed m n t u g h same (reported p) (acted b q) = absurd (not_one n m u t b h g (sym same) q p)
 one_viewed m n t u g h same (reported p) (reported q) = one_reported m n t u g h same p q
 
-pub one_told : (e f : ℕ × Told) → IsToldEntry e → IsToldEntry f → told_line e ≡ told_line f → e ≡ f
+pub one_told : (e f : ℕ × Reported) → IsToldEntry e → IsToldEntry f → told_line e ≡ told_line f → e ≡ f
 one_told e f g h same = one_viewed e.0 f.0 e.1 f.1 g h same (view e.1 g.0.1 g.1) (view f.1 h.0.1 h.1)

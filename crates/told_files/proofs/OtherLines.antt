@@ -15,7 +15,6 @@ use Rattle.fixed_um.specs.declared.frames.Frame.TheVariants.{Machine, Part}
 use Rattle.dme_line.specs.Tags.{written_tag, four_digits}
 use Rattle.dme_line.specs.declared.tags.Tag.{Tag}
 use Rattle.dme_line.specs.declared.tags.Tag.TheVariants.{Std, Event}
-use Rattle.line_framing.specs.Content.{is_content}
 use Rattle.contact_ledger.specs.Lines.{fields_of, fields_behind, line_of}
 use Rattle.contact_ledger.specs.Fields.{IsOnWire, point_fields, direction_fields}
 use Rattle.contact_ledger.specs.Ledgers.{IsConnection}
@@ -26,13 +25,13 @@ use Rattle.contact_ledger.proofs.EntryLines.{kind, frame_tail, direction_tail}
 use Rattle.contact_ledger.proofs.LineFields.{line_fields, part_behind, made_of}
 use Rattle.contact_ledger.proofs.PlainFields.{is_plain, IsPlain, ArePlain, plain_fields_append, decimal_plain, name_plain, point_plain, frame_plain}
 use Rattle.contact_ledger.proofs.PlainFields.{direction_plain}
-use Rattle.told_ledger.specs.Texts.{unknown_field, tool_field, known_frame, rule_name, side_field, told_fields, told_line}
-use Rattle.told_ledger.specs.declared.uses.Rule.{Rule}
-use Rattle.told_ledger.specs.declared.uses.Rule.TheVariants.{UnknownTag, OutOfOrder, NoData, SecondData, OtherData, TagInUse, NotInTurn}
-use Rattle.told_ledger.specs.declared.uses.Side.{Side}
-use Rattle.told_ledger.specs.declared.uses.Side.TheVariants.{Client, Server}
-use Rattle.told_ledger.specs.declared.uses.Told.{Told}
-use Rattle.told_ledger.specs.declared.uses.Told.TheVariants as told
+use Rattle.witness.specs.Texts.{unknown_field, tool_field, known_frame, rule_name, side_field, told_fields, told_line}
+use Rattle.witness.specs.declared.lines.Rule.{Rule}
+use Rattle.witness.specs.declared.lines.Rule.TheVariants.{UnknownTag, OutOfOrder, NoData, SecondData, OtherData, TagInUse, NotInTurn}
+use Rattle.witness.specs.declared.lines.Side.{Side}
+use Rattle.witness.specs.declared.lines.Side.TheVariants.{Client, Server}
+use Rattle.witness.specs.declared.lines.Reported.{Reported}
+use Rattle.witness.specs.declared.lines.Reported.TheVariants as reports
 use Rattle.told_files.specs.Parts.{IsOtherTold, told_parts, IsToolName}
 use Rattle.told_files.specs.ToldTexts.{IsNamed, IsPlaced, IsInDoubt, IsLineText, IsWrittenTold, IsReadTold, IsToldEntry, read_act}
 
@@ -91,7 +90,7 @@ record TouchParts (target : Point) (dir : Option Direction) (tool : Option (List
 
 touch_parts : (fields r s t u : List (List ℕ)) (word : List ℕ) (p target point : Point) (d dir : Option Direction) (f frame : Option Frame)
     (tool : Option (List ℕ)) → fields ≡ point_fields p ++ r → r ≡ direction_fields d ++ s → s ≡ word ∷ t → t ≡ known_frame f ++ u
-    → codes "CONTACT" ∷ fields ≡ told_parts (told.Touched target dir tool frame point)
+    → codes "CONTACT" ∷ fields ≡ told_parts (reports.Touched target dir tool frame point)
     → TouchParts target dir tool frame point word u
 touch_parts fields r s t u word p target point d dir f frame tool i j k l e =
     let all : fields ≡ point_fields target ++ (direction_fields dir ++ (tool_field tool ∷ (known_frame frame ++ point_fields point))) = cc in
@@ -104,74 +103,87 @@ touch_parts fields r s t u word p target point d dir f frame tool i j k l e =
     let name : word ≡ tool_field tool = cc in
     record { named = name; ended = known_tail f frame u _ (sym l ∙ fourth) }
 
-pub no_last_point : (fields r s t u : List (List ℕ)) (p : Point) (d : Option Direction) (word : List ℕ) (f : Option Frame) (a : Told)
+pub no_last_point : (fields r s t u : List (List ℕ)) (p : Point) (d : Option Direction) (word : List ℕ) (f : Option Frame) (a : Reported)
     → fields ≡ point_fields p ++ r → r ≡ direction_fields d ++ s → s ≡ word ∷ t → t ≡ known_frame f ++ u → NoPoint u → IsOtherTold a
     → codes "CONTACT" ∷ fields ≡ told_parts a → ⊥
-no_last_point fields r s t u p d word f (told.Did x) i j k l none h e = h
-no_last_point fields r s t u p d word f (told.MovedSomewhere target) i j k l none h e =
+no_last_point fields r s t u p d word f (reports.Did x) i j k l none h e = h
+no_last_point fields r s t u p d word f (reports.MovedSomewhere target) i j k l none h e =
     let n : 787 ≡ 865 = ap (λ (fs : List (List ℕ)). kind fs) e in omega (arith, n)
-no_last_point fields r s t u p d word f told.FramedSomehow i j k l none h e =
+no_last_point fields r s t u p d word f reports.FramedSomehow i j k l none h e =
     let n : 787 ≡ 656 = ap (λ (fs : List (List ℕ)). kind fs) e in omega (arith, n)
-no_last_point fields r s t u p d word f (told.Touched target dir tool frame point) i j k l none h e =
+no_last_point fields r s t u p d word f (reports.Touched target dir tool frame point) i j k l none h e =
     let parts = touch_parts fields r s t u word p target point d dir f frame tool i j k l e in
     none point [] h.4 (parts.ended ∙ sym (append-nil (point_fields point)))
-no_last_point fields r s t u p d word f (told.Other side line) i j k l none h e =
+no_last_point fields r s t u p d word f (reports.Other side line) i j k l none h e =
     let n : 787 ≡ 725 = ap (λ (fs : List (List ℕ)). kind fs) e in omega (arith, n)
-no_last_point fields r s t u p d word f (told.Broken rule tag) i j k l none h e =
+no_last_point fields r s t u p d word f (reports.Unasked line) i j k l none h e =
+    let n : 787 ≡ 657 = ap (λ (fs : List (List ℕ)). kind fs) e in omega (arith, n)
+no_last_point fields r s t u p d word f (reports.Broken rule tag) i j k l none h e =
     let n : 787 ≡ 796 = ap (λ (fs : List (List ℕ)). kind fs) e in omega (arith, n)
-no_last_point fields r s t u p d word f told.Opened i j k l none h e =
+no_last_point fields r s t u p d word f reports.Opened i j k l none h e =
     let n : 787 ≡ 696 = ap (λ (fs : List (List ℕ)). kind fs) e in omega (arith, n)
-no_last_point fields r s t u p d word f told.Left i j k l none h e =
+no_last_point fields r s t u p d word f reports.Left i j k l none h e =
     let n : 787 ≡ 704 = ap (λ (fs : List (List ℕ)). kind fs) e in omega (arith, n)
 
-pub no_tool : (fields r s t u : List (List ℕ)) (p : Point) (d : Option Direction) (word : List ℕ) (f : Option Frame) (a : Told)
+pub no_tool : (fields r s t u : List (List ℕ)) (p : Point) (d : Option Direction) (word : List ℕ) (f : Option Frame) (a : Reported)
     → fields ≡ point_fields p ++ r → r ≡ direction_fields d ++ s → s ≡ word ∷ t → t ≡ known_frame f ++ u → NoTool word → IsOtherTold a
     → codes "CONTACT" ∷ fields ≡ told_parts a → ⊥
-no_tool fields r s t u p d word f (told.Did x) i j k l none h e = h
-no_tool fields r s t u p d word f (told.MovedSomewhere target) i j k l none h e =
+no_tool fields r s t u p d word f (reports.Did x) i j k l none h e = h
+no_tool fields r s t u p d word f (reports.MovedSomewhere target) i j k l none h e =
     let n : 787 ≡ 865 = ap (λ (fs : List (List ℕ)). kind fs) e in omega (arith, n)
-no_tool fields r s t u p d word f told.FramedSomehow i j k l none h e =
+no_tool fields r s t u p d word f reports.FramedSomehow i j k l none h e =
     let n : 787 ≡ 656 = ap (λ (fs : List (List ℕ)). kind fs) e in omega (arith, n)
-no_tool fields r s t u p d word f (told.Touched target dir tool frame point) i j k l none h e =
+no_tool fields r s t u p d word f (reports.Touched target dir tool frame point) i j k l none h e =
     let parts = touch_parts fields r s t u word p target point d dir f frame tool i j k l e in
     none tool (h.2, doubt_name tool frame h.5, parts.named)
-no_tool fields r s t u p d word f (told.Other side line) i j k l none h e =
+no_tool fields r s t u p d word f (reports.Other side line) i j k l none h e =
     let n : 787 ≡ 725 = ap (λ (fs : List (List ℕ)). kind fs) e in omega (arith, n)
-no_tool fields r s t u p d word f (told.Broken rule tag) i j k l none h e =
+no_tool fields r s t u p d word f (reports.Unasked line) i j k l none h e =
+    let n : 787 ≡ 657 = ap (λ (fs : List (List ℕ)). kind fs) e in omega (arith, n)
+no_tool fields r s t u p d word f (reports.Broken rule tag) i j k l none h e =
     let n : 787 ≡ 796 = ap (λ (fs : List (List ℕ)). kind fs) e in omega (arith, n)
-no_tool fields r s t u p d word f told.Opened i j k l none h e =
+no_tool fields r s t u p d word f reports.Opened i j k l none h e =
     let n : 787 ≡ 696 = ap (λ (fs : List (List ℕ)). kind fs) e in omega (arith, n)
-no_tool fields r s t u p d word f told.Left i j k l none h e =
+no_tool fields r s t u p d word f reports.Left i j k l none h e =
     let n : 787 ≡ 704 = ap (λ (fs : List (List ℕ)). kind fs) e in omega (arith, n)
 
 -- the parts of a line that is not known
-other_parts : (fields : List (List ℕ)) (t : Told) → IsOtherTold t → codes "OTHER" ∷ fields ≡ told_parts t
+other_parts : (fields : List (List ℕ)) (t : Reported) → IsOtherTold t → codes "OTHER" ∷ fields ≡ told_parts t
     → (side : Side) × (line : List ℕ) × IsLineText line × (fields ≡ side_field side ∷ fields_of line)
-other_parts fields (told.Did x) h e = absurd h
-other_parts fields (told.MovedSomewhere target) h e = let n : 725 ≡ 865 = ap (λ (fs : List (List ℕ)). kind fs) e in absurd (omega (arith, n))
-other_parts fields told.FramedSomehow h e = let n : 725 ≡ 656 = ap (λ (fs : List (List ℕ)). kind fs) e in absurd (omega (arith, n))
-other_parts fields (told.Touched target dir tool frame point) h e =
+other_parts fields (reports.Did x) h e = absurd h
+other_parts fields (reports.MovedSomewhere target) h e = let n : 725 ≡ 865 = ap (λ (fs : List (List ℕ)). kind fs) e in absurd (omega (arith, n))
+other_parts fields reports.FramedSomehow h e = let n : 725 ≡ 656 = ap (λ (fs : List (List ℕ)). kind fs) e in absurd (omega (arith, n))
+other_parts fields (reports.Touched target dir tool frame point) h e =
     let n : 725 ≡ 787 = ap (λ (fs : List (List ℕ)). kind fs) e in absurd (omega (arith, n))
-other_parts fields (told.Other side line) h e = let same : fields ≡ side_field side ∷ fields_of line = cc in (side, line, h, same)
-other_parts fields (told.Broken rule tag) h e = let n : 725 ≡ 796 = ap (λ (fs : List (List ℕ)). kind fs) e in absurd (omega (arith, n))
-other_parts fields told.Opened h e = let n : 725 ≡ 696 = ap (λ (fs : List (List ℕ)). kind fs) e in absurd (omega (arith, n))
-other_parts fields told.Left h e = let n : 725 ≡ 704 = ap (λ (fs : List (List ℕ)). kind fs) e in absurd (omega (arith, n))
+other_parts fields (reports.Other side line) h e = let same : fields ≡ side_field side ∷ fields_of line = cc in (side, line, h, same)
+other_parts fields (reports.Unasked line) h e = let n : 725 ≡ 657 = ap (λ (fs : List (List ℕ)). kind fs) e in absurd (omega (arith, n))
+other_parts fields (reports.Broken rule tag) h e = let n : 725 ≡ 796 = ap (λ (fs : List (List ℕ)). kind fs) e in absurd (omega (arith, n))
+other_parts fields reports.Opened h e = let n : 725 ≡ 696 = ap (λ (fs : List (List ℕ)). kind fs) e in absurd (omega (arith, n))
+other_parts fields reports.Left h e = let n : 725 ≡ 704 = ap (λ (fs : List (List ℕ)). kind fs) e in absurd (omega (arith, n))
 
-pub no_line : (fields : List (List ℕ)) (word : List ℕ) (t : Told) → fields ≡ word ∷ [] → IsOtherTold t
+-- fields that are not those of a line
+abbrev NoLine : List (List ℕ) → Type 0
+NoLine fields = (line : List ℕ) → IsLineText line × (fields ≡ fields_of line) → ⊥
+
+pub no_line : (fields more : List (List ℕ)) (word : List ℕ) (t : Reported) → fields ≡ word ∷ more → NoLine more → IsOtherTold t
     → codes "OTHER" ∷ fields ≡ told_parts t → ⊥
-no_line fields word t p h e =
+no_line fields more word t p none h e =
     let parts = other_parts fields t h e in
-    let both : word ∷ [] ≡ side_field parts.0 ∷ fields_of parts.1 = sym p ∙ parts.3 in
-    let none : fields_of parts.1 ≡ [] = cc in
-    some_fields parts.1 none
+    let both : word ∷ more ≡ side_field parts.0 ∷ fields_of parts.1 = sym p ∙ parts.3 in
+    let same : more ≡ fields_of parts.1 = cc in
+    none parts.1 (parts.2, same)
 
-pub no_line_text : (fields : List (List ℕ)) (word line : List ℕ) (t : Told) → fields ≡ word ∷ fields_of line
-    → (list_all is_content line ≡ true → ⊥) → IsOtherTold t → codes "OTHER" ∷ fields ≡ told_parts t → ⊥
-no_line_text fields word line t p other h e =
-    let parts = other_parts fields t h e in
-    let both : word ∷ fields_of line ≡ side_field parts.0 ∷ fields_of parts.1 = sym p ∙ parts.3 in
-    let same : fields_of line ≡ fields_of parts.1 = cc in
-    other (ap (λ (l : List ℕ). list_all is_content l) (one_line line parts.1 same) ∙ parts.2.free)
+pub no_unasked : (fields : List (List ℕ)) (t : Reported) → NoLine fields → IsOtherTold t → codes "UNASKED" ∷ fields ≡ told_parts t → ⊥
+no_unasked fields (reports.Did x) none h e = h
+no_unasked fields (reports.MovedSomewhere target) none h e = let n : 657 ≡ 865 = ap (λ (fs : List (List ℕ)). kind fs) e in omega (arith, n)
+no_unasked fields reports.FramedSomehow none h e = let n : 657 ≡ 656 = ap (λ (fs : List (List ℕ)). kind fs) e in omega (arith, n)
+no_unasked fields (reports.Touched target dir tool frame point) none h e =
+    let n : 657 ≡ 787 = ap (λ (fs : List (List ℕ)). kind fs) e in omega (arith, n)
+no_unasked fields (reports.Other side line) none h e = let n : 657 ≡ 725 = ap (λ (fs : List (List ℕ)). kind fs) e in omega (arith, n)
+no_unasked fields (reports.Unasked line) none h e = let same : fields ≡ fields_of line = cc in none line (h, same)
+no_unasked fields (reports.Broken rule tag) none h e = let n : 657 ≡ 796 = ap (λ (fs : List (List ℕ)). kind fs) e in omega (arith, n)
+no_unasked fields reports.Opened none h e = let n : 657 ≡ 696 = ap (λ (fs : List (List ℕ)). kind fs) e in omega (arith, n)
+no_unasked fields reports.Left none h e = let n : 657 ≡ 704 = ap (λ (fs : List (List ℕ)). kind fs) e in omega (arith, n)
 
 -- ---- the fields of a line
 
@@ -209,7 +221,7 @@ placed_plain None h = (record { plain = refl }, tt)
 placed_plain (Some frame) h = frame_plain frame h
 
 pub touch_plain : (target : Point) (dir : Option Direction) (tool : Option (List ℕ)) (frame : Option Frame) (point : Point)
-    → IsWrittenTold (told.Touched target dir tool frame point) → ArePlain (told_fields (told.Touched target dir tool frame point))
+    → IsWrittenTold (reports.Touched target dir tool frame point) → ArePlain (told_fields (reports.Touched target dir tool frame point))
 touch_plain target dir tool frame point h = (
   record { plain = refl },
   plain_fields_append (point_fields target) _ (point_plain target h.0) (plain_fields_append (direction_fields dir) _
@@ -219,18 +231,18 @@ touch_plain target dir tool frame point h = (
       )),
 )
 
-pub moved_plain : (target : Point) → IsOnWire target → ArePlain (told_fields (told.MovedSomewhere target))
+pub moved_plain : (target : Point) → IsOnWire target → ArePlain (told_fields (reports.MovedSomewhere target))
 moved_plain target h = (
   record { plain = refl },
   plain_fields_append (point_fields target) (unknown_field ∷ []) (point_plain target h) (record { plain = refl }, tt),
 )
 
-pub broken_plain : (rule : Rule) (tag : Tag) → ArePlain (told_fields (told.Broken rule tag))
+pub broken_plain : (rule : Rule) (tag : Tag) → ArePlain (told_fields (reports.Broken rule tag))
 broken_plain rule tag = (record { plain = refl }, (rule_plain rule, (tag_plain tag, tt)))
 
 -- a line of another maker after its connection and the way that it went
 foreign_back : (n : ℕ) (side : Side) (line : List ℕ) → IsConnection n
-    → fields_of (told_line (n, told.Other side line)) ≡ decimal n ∷ told_parts (told.Other side line)
+    → fields_of (told_line (n, reports.Other side line)) ≡ decimal n ∷ told_parts (reports.Other side line)
 unfolding fields_of
 foreign_back n side line h =
     part_behind 32 (decimal n) (line_of (codes "OTHER" ∷ side_field side ∷ line ∷ [])) (omega arith)
@@ -238,21 +250,29 @@ foreign_back n side line h =
     ∙ ap (λ (fs : List (List ℕ)). decimal n ∷ fs) (part_behind 32 (codes "OTHER") (line_of (side_field side ∷ line ∷ [])) (omega arith) refl
     ∙ ap (λ (fs : List (List ℕ)). codes "OTHER" ∷ fs) (part_behind 32 (side_field side) line (omega arith) (side_plain side)))
 
+unasked_back : (n : ℕ) (line : List ℕ) → IsConnection n
+    → fields_of (told_line (n, reports.Unasked line)) ≡ decimal n ∷ told_parts (reports.Unasked line)
+unfolding fields_of
+unasked_back n line h =
+    part_behind 32 (decimal n) (line_of (codes "UNASKED" ∷ line ∷ [])) (omega arith) (decimal_plain n (omega (arith, h.1))).plain
+    ∙ ap (λ (fs : List (List ℕ)). decimal n ∷ fs) (part_behind 32 (codes "UNASKED") line (omega arith) refl)
+
 plain_back : (n : ℕ) (fields : List (List ℕ)) → IsConnection n → ArePlain fields → fields_of (line_of (decimal n ∷ fields))
     ≡ decimal n ∷ fields
 plain_back n fields h all = line_fields (decimal n) fields (decimal_plain n (omega (arith, h.1)), all)
 
-pub other_back : (n : ℕ) (t : Told) → IsConnection n → IsOtherTold t → fields_of (told_line (n, t)) ≡ decimal n ∷ told_parts t
-other_back n (told.Did x) c h = absurd h
-other_back n (told.MovedSomewhere target) c h = plain_back n (told_fields (told.MovedSomewhere target)) c (moved_plain target h)
-other_back n told.FramedSomehow c h = plain_back n (told_fields told.FramedSomehow) c (record { plain = refl }, (record { plain = refl }, tt))
-other_back n (told.Touched target dir tool frame point) c h =
-    plain_back n (told_fields (told.Touched target dir tool frame point)) c
+pub other_back : (n : ℕ) (t : Reported) → IsConnection n → IsOtherTold t → fields_of (told_line (n, t)) ≡ decimal n ∷ told_parts t
+other_back n (reports.Did x) c h = absurd h
+other_back n (reports.MovedSomewhere target) c h = plain_back n (told_fields (reports.MovedSomewhere target)) c (moved_plain target h)
+other_back n reports.FramedSomehow c h = plain_back n (told_fields reports.FramedSomehow) c (record { plain = refl }, (record { plain = refl }, tt))
+other_back n (reports.Touched target dir tool frame point) c h =
+    plain_back n (told_fields (reports.Touched target dir tool frame point)) c
     (touch_plain target dir tool frame point (h.0, h.1, h.2, h.3, h.4))
-other_back n (told.Other side line) c h = foreign_back n side line c
-other_back n (told.Broken rule tag) c h = plain_back n (told_fields (told.Broken rule tag)) c (broken_plain rule tag)
-other_back n told.Opened c h = plain_back n (told_fields told.Opened) c (record { plain = refl }, tt)
-other_back n told.Left c h = plain_back n (told_fields told.Left) c (record { plain = refl }, tt)
+other_back n (reports.Other side line) c h = foreign_back n side line c
+other_back n (reports.Unasked line) c h = unasked_back n line c
+other_back n (reports.Broken rule tag) c h = plain_back n (told_fields (reports.Broken rule tag)) c (broken_plain rule tag)
+other_back n reports.Opened c h = plain_back n (told_fields reports.Opened) c (record { plain = refl }, tt)
+other_back n reports.Left c h = plain_back n (told_fields reports.Left) c (record { plain = refl }, tt)
 
 -- ---- the line of an act
 
@@ -262,15 +282,15 @@ act_of_contact : (n : ℕ) (target point : Point) (dir : Option Direction) (tool
     × (line ≡ told_line (n, read_act (act.Contact target dir tool frame point)))
 act_of_contact n target point dir tool frame line h e = go (bytes_eq tool unknown_field) refl
   where
-    entry : Bool → Told
-    entry true = told.Touched target dir None (Some frame) point
-    entry false = told.Did (act.Contact target dir tool frame point)
+    entry : Bool → Reported
+    entry true = reports.Touched target dir None (Some frame) point
+    entry false = reports.Did (act.Contact target dir tool frame point)
 
     read_as : (b : Bool) → bytes_eq tool unknown_field ≡ b → read_act (act.Contact target dir tool frame point) ≡ entry b
     read_as true t = rw t refl
     read_as false t = rw t refl
 
-    goal : Told → Type 0
+    goal : Reported → Type 0
     goal t = IsToldEntry (n, t) × (line ≡ told_line (n, t))
 
     of : (b : Bool) → bytes_eq tool unknown_field ≡ b → IsToldEntry (n, entry b) × (line ≡ told_line (n, entry b))
@@ -298,29 +318,30 @@ act_read n (act.Contact target dir tool frame point) line h e = act_of_contact n
 
 -- ---- lines without an entry
 
-pub data View (t : Told) : Type 0 where
-  acted : (a : Act) → t ≡ told.Did a → View t
+pub data View (t : Reported) : Type 0 where
+  acted : (a : Act) → t ≡ reports.Did a → View t
   reported : IsOtherTold t → View t
 
-pub view : (t : Told) → IsWrittenTold t → IsReadTold t → View t
-view (told.Did a) h k = acted a refl
-view (told.MovedSomewhere target) h k = reported h
-view told.FramedSomehow h k = reported tt
-view (told.Touched target dir tool frame point) h k = reported (h.0, h.1, h.2, h.3, h.4, k)
-view (told.Other side line) h k = reported h
-view (told.Broken rule tag) h k = reported h
-view told.Opened h k = reported tt
-view told.Left h k = reported tt
+pub view : (t : Reported) → IsWrittenTold t → IsReadTold t → View t
+view (reports.Did a) h k = acted a refl
+view (reports.MovedSomewhere target) h k = reported h
+view reports.FramedSomehow h k = reported tt
+view (reports.Touched target dir tool frame point) h k = reported (h.0, h.1, h.2, h.3, h.4, k)
+view (reports.Other side line) h k = reported h
+view (reports.Unasked line) h k = reported h
+view (reports.Broken rule tag) h k = reported h
+view reports.Opened h k = reported tt
+view reports.Left h k = reported tt
 
 abbrev NoEntry : List ℕ → Type 0
 NoEntry line = (e : ℕ × Act) → IsEntry e × (line ≡ act_line e) → ⊥
 
-no_act_line : (line : List ℕ) (n : ℕ) (t : Told) (a : Act) → NoEntry line → IsToldEntry (n, t) → line ≡ told_line (n, t) → t ≡ told.Did a → ⊥
+no_act_line : (line : List ℕ) (n : ℕ) (t : Reported) (a : Act) → NoEntry line → IsToldEntry (n, t) → line ≡ told_line (n, t) → t ≡ reports.Did a → ⊥
 no_act_line line n t a none h e same =
-    let written = subst (λ (x : Told). IsWrittenTold x) same h.0.1 in
-    none (n, a) ((h.0.0, written), e ∙ ap (λ (x : Told). told_line (n, x)) same)
+    let written = subst (λ (x : Reported). IsWrittenTold x) same h.0.1 in
+    none (n, a) ((h.0.0, written), e ∙ ap (λ (x : Reported). told_line (n, x)) same)
 
-pub no_number : (line word rest : List ℕ) (n : ℕ) (t : Told) → NoEntry line → fields_of line ≡ word ∷ fields_behind rest
+pub no_number : (line word rest : List ℕ) (n : ℕ) (t : Reported) → NoEntry line → fields_of line ≡ word ∷ fields_behind rest
     → ((m : ℕ) → (1 ≤ m) × (m ≤ 4000000000) × (word ≡ decimal m) → ⊥) → IsToldEntry (n, t) → line ≡ told_line (n, t) → ⊥
 no_number line word rest n t acts p none h e = go (view t h.0.1 h.1)
   where
@@ -332,8 +353,8 @@ no_number line word rest n t acts p none h e = go (view t h.0.1 h.1)
         let same : word ≡ decimal n = cc in
         none n (h.0.0.0, h.0.0.1, same)
 
-pub no_told : (line word rest : List ℕ) (n : ℕ) (t : Told) → NoEntry line → fields_of line ≡ word ∷ fields_behind rest
-    → ((x : Told) → IsOtherTold x × (fields_behind rest ≡ told_parts x) → ⊥) → IsToldEntry (n, t) → line ≡ told_line (n, t) → ⊥
+pub no_told : (line word rest : List ℕ) (n : ℕ) (t : Reported) → NoEntry line → fields_of line ≡ word ∷ fields_behind rest
+    → ((x : Reported) → IsOtherTold x × (fields_behind rest ≡ told_parts x) → ⊥) → IsToldEntry (n, t) → line ≡ told_line (n, t) → ⊥
 no_told line word rest n t acts p none h e = go (view t h.0.1 h.1)
   where
     go : View t → ⊥
@@ -344,17 +365,18 @@ no_told line word rest n t acts p none h e = go (view t h.0.1 h.1)
         let same : fields_behind rest ≡ told_parts t = cc in
         none t (other, same)
 
-as_told : (t : Told) → IsOtherTold t → IsWrittenTold t × IsReadTold t
-as_told (told.Did a) h = absurd h
-as_told (told.MovedSomewhere target) h = (h, tt)
-as_told told.FramedSomehow h = (tt, tt)
-as_told (told.Touched target dir tool frame point) h = ((h.0, h.1, h.2, h.3, h.4), h.5)
-as_told (told.Other side line) h = (h, tt)
-as_told (told.Broken rule tag) h = (h, tt)
-as_told told.Opened h = (tt, tt)
-as_told told.Left h = (tt, tt)
+as_told : (t : Reported) → IsOtherTold t → IsWrittenTold t × IsReadTold t
+as_told (reports.Did a) h = absurd h
+as_told (reports.MovedSomewhere target) h = (h, tt)
+as_told reports.FramedSomehow h = (tt, tt)
+as_told (reports.Touched target dir tool frame point) h = ((h.0, h.1, h.2, h.3, h.4), h.5)
+as_told (reports.Other side line) h = (h, tt)
+as_told (reports.Unasked line) h = (h, tt)
+as_told (reports.Broken rule tag) h = (h, tt)
+as_told reports.Opened h = (tt, tt)
+as_told reports.Left h = (tt, tt)
 
-pub told_found : (line word rest : List ℕ) (n : ℕ) (t : Told) → fields_of line ≡ word ∷ fields_behind rest
+pub told_found : (line word rest : List ℕ) (n : ℕ) (t : Reported) → fields_of line ≡ word ∷ fields_behind rest
     → (1 ≤ n) × (n ≤ 4000000000) × (word ≡ decimal n) → IsOtherTold t × (fields_behind rest ≡ told_parts t)
     → IsToldEntry (n, t) × (line ≡ told_line (n, t))
 told_found line word rest n t p q r =

@@ -12,7 +12,7 @@ use Rattle.protocol_model.specs.Claims.{MadeContact, contacts, IsServed, Serves,
 use Rattle.ledger_audit.specs.Verdicts.{AreLeast, AreFewestUnsound, IfStarts, IfNoRun}
 use Rattle.ledger_audit.specs.declared.verdicts.Verdict.{Verdict}
 use Rattle.ledger_audit.specs.declared.verdicts.Verdict.TheVariants as verdict
-use Rattle.told_ledger.specs.declared.uses.Told.{Told}
+use Rattle.witness.specs.declared.lines.Reported.{Reported}
 use Rattle.told_files.specs.Runs.{known_contacts, parts_of, AreNext, IsToldRun, AreToldRuns, SoundByTold, AreLeastTold, AreFewestUnsoundTold}
 use Rattle.told_files.specs.Runs.{connection_at, unnumbered, AreRunContacts}
 use Rattle.told_files.proofs.NextContacts.{next_known}
@@ -154,7 +154,7 @@ dropped zero n (m ∷ ms) some h = omega (arith, h)
 dropped (suc s) n [] some h = absurd (omega (arith, some, h))
 dropped (suc s) n (m ∷ ms) some h = let rest = dropped s n ms some h in omega (arith, rest)
 
-pub run_told : (entries : List (ℕ × Told)) (ledger : List (ℕ × Act)) (w : Wanted) (f : Feature) (s : ℕ) → AreRunContacts entries ledger
+pub run_told : (entries : List (ℕ × Reported)) (ledger : List (ℕ × Act)) (w : Wanted) (f : Feature) (s : ℕ) → AreRunContacts entries ledger
     → IsRun w f s (contacts ledger) → IsToldRun w f s entries
 run_told entries ledger w f s made run =
     let n = length f.points in
@@ -181,7 +181,7 @@ run_told entries ledger w f s made run =
       unbroken = λ k less. next k (omega (arith, less));
     }
 
-pub told_run : (entries : List (ℕ × Told)) (ledger : List (ℕ × Act)) (w : Wanted) (f : Feature) (s : ℕ) → AreRunContacts entries ledger
+pub told_run : (entries : List (ℕ × Reported)) (ledger : List (ℕ × Act)) (w : Wanted) (f : Feature) (s : ℕ) → AreRunContacts entries ledger
     → IsToldRun w f s entries → IsRun w f s (contacts ledger)
 told_run entries ledger w f s made told =
     let n = length f.points in
@@ -204,7 +204,7 @@ told_run entries ledger w f s made told =
 
 -- ---- all runs
 
-pub runs_told : (entries : List (ℕ × Told)) (ledger : List (ℕ × Act)) (ws : List Wanted) (fs : List Feature) (ss : List ℕ) (least : ℕ)
+pub runs_told : (entries : List (ℕ × Reported)) (ledger : List (ℕ × Act)) (ws : List Wanted) (fs : List Feature) (ss : List ℕ) (least : ℕ)
     → AreRunContacts entries ledger → AreRuns ws fs ss least (contacts ledger) → AreToldRuns ws fs ss least entries
 runs_told entries ledger ws [] [] least made h = tt
 runs_told entries ledger ws [] (s ∷ ss) least made h = absurd h
@@ -214,7 +214,7 @@ runs_told entries ledger (w ∷ ws) (f ∷ fs) [] least made h = absurd h
 runs_told entries ledger (w ∷ ws) (f ∷ fs) (s ∷ ss) least made h =
     (h.0, run_told entries ledger w f s made h.1, runs_told entries ledger ws fs ss (s + length f.points) made h.2)
 
-pub told_runs : (entries : List (ℕ × Told)) (ledger : List (ℕ × Act)) (ws : List Wanted) (fs : List Feature) (ss : List ℕ) (least : ℕ)
+pub told_runs : (entries : List (ℕ × Reported)) (ledger : List (ℕ × Act)) (ws : List Wanted) (fs : List Feature) (ss : List ℕ) (least : ℕ)
     → AreRunContacts entries ledger → AreToldRuns ws fs ss least entries → AreRuns ws fs ss least (contacts ledger)
 told_runs entries ledger ws [] [] least made h = tt
 told_runs entries ledger ws [] (s ∷ ss) least made h = absurd h
@@ -224,27 +224,27 @@ told_runs entries ledger (w ∷ ws) (f ∷ fs) [] least made h = absurd h
 told_runs entries ledger (w ∷ ws) (f ∷ fs) (s ∷ ss) least made h =
     (h.0, told_run entries ledger w f s made h.1, told_runs entries ledger ws fs ss (s + length f.points) made h.2)
 
-pub sound_told : (entries : List (ℕ × Told)) (ledger : List (ℕ × Act)) (ws : List Wanted) (fs : List Feature) → AreRunContacts entries ledger
+pub sound_told : (entries : List (ℕ × Reported)) (ledger : List (ℕ × Act)) (ws : List Wanted) (fs : List Feature) → AreRunContacts entries ledger
     → Sound ws fs ledger → SoundByTold ws fs entries
 sound_told entries ledger ws fs made h = record { starts = h.starts; runs = runs_told entries ledger ws fs h.starts 0 made h.runs }
 
-pub told_sound : (entries : List (ℕ × Told)) (ledger : List (ℕ × Act)) (ws : List Wanted) (fs : List Feature) → AreRunContacts entries ledger
+pub told_sound : (entries : List (ℕ × Reported)) (ledger : List (ℕ × Act)) (ws : List Wanted) (fs : List Feature) → AreRunContacts entries ledger
     → SoundByTold ws fs entries → Sound ws fs ledger
 told_sound entries ledger ws fs made h = record { starts = h.starts; runs = told_runs entries ledger ws fs h.starts 0 made h.runs }
 
 -- ---- a verdict
 
-pub starts_told : (entries : List (ℕ × Told)) (ledger : List (ℕ × Act)) (ws : List Wanted) (fs : List Feature) (v : Verdict)
+pub starts_told : (entries : List (ℕ × Reported)) (ledger : List (ℕ × Act)) (ws : List Wanted) (fs : List Feature) (v : Verdict)
     → AreRunContacts entries ledger → IfStarts v (λ s. AreRuns ws fs s 0 (contacts ledger)) → IfStarts v (λ s. AreToldRuns ws fs s 0 entries)
 starts_told entries ledger ws fs (verdict.Starts starts) made h = runs_told entries ledger ws fs starts 0 made h
 starts_told entries ledger ws fs (verdict.NoRun count) made h = tt
 
-pub least_told : (entries : List (ℕ × Told)) (ledger : List (ℕ × Act)) (ws : List Wanted) (fs : List Feature) (v : Verdict)
+pub least_told : (entries : List (ℕ × Reported)) (ledger : List (ℕ × Act)) (ws : List Wanted) (fs : List Feature) (v : Verdict)
     → AreRunContacts entries ledger → IfStarts v (AreLeast ws fs (contacts ledger)) → IfStarts v (AreLeastTold ws fs entries)
 least_told entries ledger ws fs (verdict.Starts starts) made h = λ others runs. h others (told_runs entries ledger ws fs others 0 made runs)
 least_told entries ledger ws fs (verdict.NoRun count) made h = tt
 
-pub fewest_told : (entries : List (ℕ × Told)) (ledger : List (ℕ × Act)) (ws : List Wanted) (fs : List Feature) (v : Verdict)
+pub fewest_told : (entries : List (ℕ × Reported)) (ledger : List (ℕ × Act)) (ws : List Wanted) (fs : List Feature) (v : Verdict)
     → AreRunContacts entries ledger → IfNoRun v (AreFewestUnsound ws fs ledger) → IfNoRun v (AreFewestUnsoundTold ws fs entries)
 fewest_told entries ledger ws fs (verdict.Starts starts) made h = tt
 fewest_told entries ledger ws fs (verdict.NoRun count) made h = record {
@@ -254,7 +254,7 @@ fewest_told entries ledger ws fs (verdict.NoRun count) made h = record {
   unsound = λ sound. h.unsound (told_sound entries ledger ws (take count fs) made sound);
 }
 
-pub runs_answer : {E : Type 0} (entries : List (ℕ × Told)) (ledger : List (ℕ × Act)) (ws : List Wanted) (fs : List Feature)
+pub runs_answer : {E : Type 0} (entries : List (ℕ × Reported)) (ledger : List (ℕ × Act)) (ws : List Wanted) (fs : List Feature)
     (r : Result Verdict E) → AreRunContacts entries ledger → IfOk r (λ v. IfStarts v (λ s. AreRuns ws fs s 0 (contacts ledger)))
     → IfOk r (λ v. IfStarts v (λ s. AreToldRuns ws fs s 0 entries))
 runs_answer entries ledger ws fs (Ok v) made h = starts_told entries ledger ws fs v made h

@@ -6,8 +6,8 @@ use Rattle.std.specs.List.{list_all, slice_split, AllByRecursion}
 use Rattle.std.proofs.lemmas.Bool.{and_parts, and_from}
 use Rattle.contact_ledger.specs.Lines.{text_of, but_last, whole_lines}
 use Rattle.contact_ledger.proofs.ContactLaws.{is_inner, IsInner, line_first}
-use Rattle.told_ledger.specs.Texts.{told_line, told_text}
-use Rattle.told_ledger.specs.declared.uses.Told.{Told}
+use Rattle.witness.specs.Texts.{told_line, told_text}
+use Rattle.witness.specs.declared.lines.Reported.{Reported}
 use Rattle.told_files.specs.ToldTexts.{AreWrittenEntries, NeverFall, told_file_lines, IsToldText, none, some, entry_back}
 use Rattle.told_files.proofs.ToldLaws.{file_inner, take_lines, take_up, entries_back, back_up, file_lines_back}
 
@@ -106,20 +106,20 @@ cut_lines n k ls h within low high =
     let parts = cut n k ls h within low high in
     rw (parts.parts) (lines_in_front (take n ls) parts.behind (all_taken n ls h) parts.inner)
 
-lines_count : (es : List (ℕ × Told)) → length (map told_line es) ≡ length es
+lines_count : (es : List (ℕ × Reported)) → length (map told_line es) ≡ length es
 lines_count [] = refl
 lines_count (e ∷ es) = ap (λ (n : ℕ). suc n) (lines_count es)
 
 plus_one : (n : ℕ) → n + 1 ≡ suc n
 plus_one n = omega arith
 
-take_written : (n : ℕ) (es : List (ℕ × Told)) → AreWrittenEntries es → AreWrittenEntries (take n es)
+take_written : (n : ℕ) (es : List (ℕ × Reported)) → AreWrittenEntries es → AreWrittenEntries (take n es)
 take_written zero [] h = tt
 take_written zero (x ∷ xs) h = tt
 take_written (suc n) [] h = tt
 take_written (suc n) (x ∷ xs) h = (h.0, take_written n xs h.1)
 
-front_read : (es : List (ℕ × Told)) (n k : ℕ) → AreWrittenEntries es → NeverFall es → n < length es → length (told_text (take n es)) ≤ k
+front_read : (es : List (ℕ × Reported)) (n k : ℕ) → AreWrittenEntries es → NeverFall es → n < length es → length (told_text (take n es)) ≤ k
     → k < length (told_text (take (suc n) es)) → IsToldText (take k (told_text es)) (map entry_back (take n es))
 front_read es n k h up within low high =
     let count = lines_count es in
@@ -129,7 +129,7 @@ front_read es n k h up within low high =
     (subst (λ (ls : List (List ℕ)). k < length (text_of (codes "DME-TOLD 1" ∷ ls))) (sym (take_lines (suc n) es)) high)
     ∙ ap (λ (ls : List (List ℕ)). codes "DME-TOLD 1" ∷ ls) (take_lines n es) ∙ file_lines_back (take n es) (take_written n es h))
 
-pub front_is_read : (es : List (ℕ × Told)) (n k : ℕ) → AreWrittenEntries es → NeverFall es → n < length es
+pub front_is_read : (es : List (ℕ × Reported)) (n k : ℕ) → AreWrittenEntries es → NeverFall es → n < length es
     → length (told_text (take n es)) ≤ k → k < length (told_text (take (n + 1) es)) → IsToldText (take k (told_text es)) (map entry_back (take n es))
 front_is_read es n k h up within low high =
     front_read es n k h up within low (subst (λ (m : ℕ). k < length (told_text (take m es))) (plus_one n) high)
@@ -137,7 +137,7 @@ front_is_read es n k h up within low high =
 zero_low : (k : ℕ) → 0 ≤ k
 zero_low k = omega arith
 
-pub header_is_torn : (es : List (ℕ × Told)) (k : ℕ) → AreWrittenEntries es → k < length (told_text [])
+pub header_is_torn : (es : List (ℕ × Reported)) (k : ℕ) → AreWrittenEntries es → k < length (told_text [])
     → IsToldText (take k (told_text es)) []
 header_is_torn es k h high =
     none (cut_lines 0 k (told_file_lines es) (file_inner es h) (omega arith) (zero_low k) high) refl

@@ -19,12 +19,12 @@ use Rattle.contact_ledger.proofs.ContactLaws.{is_inner, IsInner, line_first, wit
 use Rattle.contact_ledger.proofs.EntryLines.{entry_plain}
 use Rattle.contact_ledger.proofs.PlainFields.{is_plain, IsPlain, ArePlain, decimal_plain}
 use Rattle.contact_ledger.proofs.WrittenTexts.{line_spaced}
-use Rattle.told_ledger.specs.Effects.{touched}
-use Rattle.told_ledger.specs.Texts.{unknown_field, told_fields, told_line, told_text, side_field}
-use Rattle.told_ledger.specs.declared.uses.Side.{Side}
-use Rattle.told_ledger.specs.declared.uses.Side.TheVariants.{Client, Server}
-use Rattle.told_ledger.specs.declared.uses.Told.{Told}
-use Rattle.told_ledger.specs.declared.uses.Told.TheVariants as told
+use Rattle.witness.specs.Dialogues.{touched}
+use Rattle.witness.specs.Texts.{unknown_field, told_fields, told_line, told_text, side_field}
+use Rattle.witness.specs.declared.lines.Side.{Side}
+use Rattle.witness.specs.declared.lines.Side.TheVariants.{Client, Server}
+use Rattle.witness.specs.declared.lines.Reported.{Reported}
+use Rattle.witness.specs.declared.lines.Reported.TheVariants as reports
 use Rattle.told_files.specs.ToldTexts.{IsWrittenTold, IsWrittenEntry, AreWrittenEntries, IsReadTold, AreToldEntries, NeverFall}
 use Rattle.told_files.specs.ToldTexts.{told_file_lines, AreToldLines, IsToldText, IsDamagedTold, none, some}
 use Rattle.told_files.specs.ToldTexts.{read_tool, read_act, read_back, entry_back}
@@ -33,10 +33,10 @@ use Rattle.told_files.proofs.OtherLines.{touch_plain, moved_plain, broken_plain}
 
 -- ---- in one way
 
-same_list : (e f : ℕ × Told) (es fs : List (ℕ × Told)) → e ≡ f → es ≡ fs → e ∷ es ≡ f ∷ fs
+same_list : (e f : ℕ × Reported) (es fs : List (ℕ × Reported)) → e ≡ f → es ≡ fs → e ∷ es ≡ f ∷ fs
 same_list e f es fs p q = λ n. p n ∷ q n
 
-one_list : (es fs : List (ℕ × Told)) → AreToldEntries es → AreToldEntries fs → map told_line es ≡ map told_line fs → es ≡ fs
+one_list : (es fs : List (ℕ × Reported)) → AreToldEntries es → AreToldEntries fs → map told_line es ≡ map told_line fs → es ≡ fs
 one_list [] [] g h e = refl
 one_list [] (y ∷ ys) g h e = absurd cc
 one_list (x ∷ xs) [] g h e = absurd cc
@@ -45,7 +45,7 @@ one_list (x ∷ xs) (y ∷ ys) g h e =
     let rest : map told_line xs ≡ map told_line ys = cc in
     same_list x y xs ys (one_told x y g.0 h.0 first) (one_list xs ys g.1 h.1 rest)
 
-one_lines : (ls : List (List ℕ)) (es fs : List (ℕ × Told)) → AreToldLines ls es → AreToldLines ls fs → es ≡ fs
+one_lines : (ls : List (List ℕ)) (es fs : List (ℕ × Reported)) → AreToldLines ls es → AreToldLines ls fs → es ≡ fs
 one_lines ls es fs (none a b) (none c d) = b ∙ sym d
 one_lines ls es fs (none a b) (some c up d) = absurd cc
 one_lines ls es fs (some a up b) (none c d) = absurd cc
@@ -54,24 +54,24 @@ one_lines ls es fs (some a up b) (some c up2 d) =
     let same : map told_line es ≡ map told_line fs = cc in
     one_list es fs a c same
 
-pub one_text : (bytes : List ℕ) (es fs : List (ℕ × Told)) → IsToldText bytes es → IsToldText bytes fs → es ≡ fs
+pub one_text : (bytes : List ℕ) (es fs : List (ℕ × Reported)) → IsToldText bytes es → IsToldText bytes fs → es ≡ fs
 one_text bytes es fs g h = one_lines (whole_lines bytes) es fs g h
 
 -- ---- never both
 
-pub take_lines : (n : ℕ) (es : List (ℕ × Told)) → take n (map told_line es) ≡ map told_line (take n es)
+pub take_lines : (n : ℕ) (es : List (ℕ × Reported)) → take n (map told_line es) ≡ map told_line (take n es)
 take_lines zero [] = refl
 take_lines zero (x ∷ xs) = refl
 take_lines (suc n) [] = refl
 take_lines (suc n) (x ∷ xs) = ap (λ (r : List (List ℕ)). told_line x ∷ r) (take_lines n xs)
 
-pub take_entries : (n : ℕ) (es : List (ℕ × Told)) → AreToldEntries es → AreToldEntries (take n es)
+pub take_entries : (n : ℕ) (es : List (ℕ × Reported)) → AreToldEntries es → AreToldEntries (take n es)
 take_entries zero [] h = tt
 take_entries zero (x ∷ xs) h = tt
 take_entries (suc n) [] h = tt
 take_entries (suc n) (x ∷ xs) h = (h.0, take_entries n xs h.1)
 
-pub take_up : (n : ℕ) (es : List (ℕ × Told)) → NeverFall es → NeverFall (take n es)
+pub take_up : (n : ℕ) (es : List (ℕ × Reported)) → NeverFall es → NeverFall (take n es)
 take_up zero [] h = tt
 take_up zero (x ∷ xs) h = tt
 take_up (suc n) [] h = tt
@@ -80,31 +80,31 @@ take_up (suc zero) (x ∷ y ∷ xs) h = tt
 take_up (suc (suc n)) (x ∷ []) h = tt
 take_up (suc (suc n)) (x ∷ y ∷ xs) h = (h.0, take_up (suc n) (y ∷ xs) h.1)
 
-front_begins : (n : ℕ) (ls : List (List ℕ)) (es : List (ℕ × Told)) → 1 ≤ n → n ≤ length ls → AreToldLines ls es
-    → (fs : List (ℕ × Told)) × AreToldLines (take n ls) fs
+front_begins : (n : ℕ) (ls : List (List ℕ)) (es : List (ℕ × Reported)) → 1 ≤ n → n ≤ length ls → AreToldLines ls es
+    → (fs : List (ℕ × Reported)) × AreToldLines (take n ls) fs
 front_begins zero ls es low high h = absurd (omega (arith, low))
 front_begins (suc n) ls es low high (none a b) = let short = ap (λ (r : List (List ℕ)). length r) a in absurd (omega (arith, short, high))
 front_begins (suc n) ls es low high (some a up b) =
     (take n es, some (take_entries n es a) (take_up n es up) (rw b (ap (λ (r : List (List ℕ)). codes "DME-TOLD 1" ∷ r) (take_lines n es))))
 
-pub never_both : (bytes : List ℕ) (es : List (ℕ × Told)) (n : ℕ) → IsToldText bytes es → IsDamagedTold bytes n → ⊥
+pub never_both : (bytes : List ℕ) (es : List (ℕ × Reported)) (n : ℕ) → IsToldText bytes es → IsDamagedTold bytes n → ⊥
 never_both bytes es n h d = d.torn (front_begins n (whole_lines bytes) es d.first d.last h)
 
 -- ---- read back
 
 -- what is read of a line is what can be read, and has the same line
-record IsBack (t back : Told) : Type 0 where
+record IsBack (t back : Reported) : Type 0 where
   written : IsWrittenTold back
   known : IsReadTold back
   fields : told_fields back ≡ told_fields t
 
 tool_back : (tool : List ℕ) (frame : Option Frame) (target point : Point) (dir : Option Direction)
-    → IsWrittenTold (told.Touched target dir (Some tool) frame point)
-    → IsBack (told.Touched target dir (Some tool) frame point) (touched (read_tool tool) frame target dir point)
+    → IsWrittenTold (reports.Touched target dir (Some tool) frame point)
+    → IsBack (reports.Touched target dir (Some tool) frame point) (touched (read_tool tool) frame target dir point)
 tool_back tool frame target point dir h = go (bytes_eq tool unknown_field) refl frame h
   where
     goal : Option Frame → Option (List ℕ) → Type 0
-    goal frame read = IsBack (told.Touched target dir (Some tool) frame point) (touched read frame target dir point)
+    goal frame read = IsBack (reports.Touched target dir (Some tool) frame point) (touched read frame target dir point)
 
     is_unknown : bytes_eq tool unknown_field ≡ true → read_tool tool ≡ None
     is_unknown t = rw t refl
@@ -116,25 +116,25 @@ tool_back tool frame target point dir h = go (bytes_eq tool unknown_field) refl 
     other t same = let yes = (bytes_eq-Decides tool unknown_field).1 same in absurd cc
 
     of_unknown : (frame : Option Frame) → bytes_eq tool unknown_field ≡ true
-        → IsWrittenTold (told.Touched target dir (Some tool) frame point) → goal frame None
+        → IsWrittenTold (reports.Touched target dir (Some tool) frame point) → goal frame None
     of_unknown frame t h = record {
       written = (h.0, h.1, tt, h.3, h.4);
       known = tt;
-      fields = ap (λ (name : List ℕ). told_fields (told.Touched target dir (Some name) frame point))
+      fields = ap (λ (name : List ℕ). told_fields (reports.Touched target dir (Some name) frame point))
           (sym ((bytes_eq-Decides tool unknown_field).0 t));
     }
 
     of_known : (frame : Option Frame) → bytes_eq tool unknown_field ≡ false
-        → IsWrittenTold (told.Touched target dir (Some tool) frame point) → goal frame (Some tool)
+        → IsWrittenTold (reports.Touched target dir (Some tool) frame point) → goal frame (Some tool)
     of_known None t h = record { written = h; known = other t; fields = refl }
     of_known (Some frame) t h = record { written = h; known = other t; fields = refl }
 
     go : (b : Bool) → bytes_eq tool unknown_field ≡ b → (frame : Option Frame)
-        → IsWrittenTold (told.Touched target dir (Some tool) frame point) → goal frame (read_tool tool)
+        → IsWrittenTold (reports.Touched target dir (Some tool) frame point) → goal frame (read_tool tool)
     go true t frame h = subst (goal frame) (sym (is_unknown t)) (of_unknown frame t h)
     go false t frame h = subst (goal frame) (sym (is_known t)) (of_known frame t h)
 
-act_back : (a : Act) → IsWrittenAct a → IsBack (told.Did a) (read_act a)
+act_back : (a : Act) → IsWrittenAct a → IsBack (reports.Did a) (read_act a)
 act_back (act.HomedIs homed) h = record { written = h; known = tt; fields = refl }
 act_back act.Homed h = record { written = h; known = tt; fields = refl }
 act_back (act.Moved target frame) h = record { written = h; known = tt; fields = refl }
@@ -144,31 +144,32 @@ act_back (act.Contact target dir tool frame point) h =
     let back = tool_back tool (Some frame) target point dir h in
     record { written = back.written; known = back.known; fields = back.fields }
 
-told_back : (t : Told) → IsWrittenTold t → IsBack t (read_back t)
-told_back (told.Did a) h = act_back a h
-told_back (told.MovedSomewhere target) h = record { written = h; known = tt; fields = refl }
-told_back told.FramedSomehow h = record { written = h; known = tt; fields = refl }
-told_back (told.Touched target dir None frame point) h = record { written = h; known = tt; fields = refl }
-told_back (told.Touched target dir (Some tool) frame point) h = tool_back tool frame target point dir h
-told_back (told.Other side line) h = record { written = h; known = tt; fields = refl }
-told_back (told.Broken rule tag) h = record { written = h; known = tt; fields = refl }
-told_back told.Opened h = record { written = h; known = tt; fields = refl }
-told_back told.Left h = record { written = h; known = tt; fields = refl }
+told_back : (t : Reported) → IsWrittenTold t → IsBack t (read_back t)
+told_back (reports.Did a) h = act_back a h
+told_back (reports.MovedSomewhere target) h = record { written = h; known = tt; fields = refl }
+told_back reports.FramedSomehow h = record { written = h; known = tt; fields = refl }
+told_back (reports.Touched target dir None frame point) h = record { written = h; known = tt; fields = refl }
+told_back (reports.Touched target dir (Some tool) frame point) h = tool_back tool frame target point dir h
+told_back (reports.Other side line) h = record { written = h; known = tt; fields = refl }
+told_back (reports.Unasked line) h = record { written = h; known = tt; fields = refl }
+told_back (reports.Broken rule tag) h = record { written = h; known = tt; fields = refl }
+told_back reports.Opened h = record { written = h; known = tt; fields = refl }
+told_back reports.Left h = record { written = h; known = tt; fields = refl }
 
-pub entries_back : (es : List (ℕ × Told)) → AreWrittenEntries es → AreToldEntries (map entry_back es)
+pub entries_back : (es : List (ℕ × Reported)) → AreWrittenEntries es → AreToldEntries (map entry_back es)
 entries_back [] h = tt
 entries_back (e ∷ es) h =
     let back = told_back e.1 h.0.1 in
     (((h.0.0, back.written), back.known), entries_back es h.1)
 
-pub lines_back : (es : List (ℕ × Told)) → AreWrittenEntries es → map told_line (map entry_back es) ≡ map told_line es
+pub lines_back : (es : List (ℕ × Reported)) → AreWrittenEntries es → map told_line (map entry_back es) ≡ map told_line es
 lines_back [] h = refl
 lines_back (e ∷ es) h =
     let back = told_back e.1 h.0.1 in
     let first : told_line (entry_back e) ≡ told_line e = ap (λ (fs : List (List ℕ)). line_of (decimal e.0 ∷ fs)) back.fields in
     λ n. first n ∷ lines_back es h.1 n
 
-pub back_up : (es : List (ℕ × Told)) → NeverFall es → NeverFall (map entry_back es)
+pub back_up : (es : List (ℕ × Reported)) → NeverFall es → NeverFall (map entry_back es)
 back_up [] h = tt
 back_up (e ∷ []) h = tt
 back_up (e ∷ f ∷ es) h = (h.0, back_up (f ∷ es) h.1)
@@ -181,26 +182,27 @@ known_same tool other = go (bytes_eq tool unknown_field) refl
     go true t = absurd (other ((bytes_eq-Decides tool unknown_field).0 t))
     go false t = rw t refl
 
-told_same : (t : Told) → IsReadTold t → read_back t ≡ t
-told_same (told.Did (act.HomedIs homed)) h = refl
-told_same (told.Did act.Homed) h = refl
-told_same (told.Did (act.Moved target frame)) h = refl
-told_same (told.Did (act.Changed tool)) h = refl
-told_same (told.Did (act.Framed frame)) h = refl
-told_same (told.Did (act.Contact target dir tool frame point)) h =
+told_same : (t : Reported) → IsReadTold t → read_back t ≡ t
+told_same (reports.Did (act.HomedIs homed)) h = refl
+told_same (reports.Did act.Homed) h = refl
+told_same (reports.Did (act.Moved target frame)) h = refl
+told_same (reports.Did (act.Changed tool)) h = refl
+told_same (reports.Did (act.Framed frame)) h = refl
+told_same (reports.Did (act.Contact target dir tool frame point)) h =
     ap (λ (m : Option (List ℕ)). touched m (Some frame) target dir point) (known_same tool h)
-told_same (told.MovedSomewhere target) h = refl
-told_same told.FramedSomehow h = refl
-told_same (told.Touched target dir None frame point) h = refl
-told_same (told.Touched target dir (Some tool) None point) h =
+told_same (reports.MovedSomewhere target) h = refl
+told_same reports.FramedSomehow h = refl
+told_same (reports.Touched target dir None frame point) h = refl
+told_same (reports.Touched target dir (Some tool) None point) h =
     ap (λ (m : Option (List ℕ)). touched m None target dir point) (known_same tool h)
-told_same (told.Touched target dir (Some tool) (Some frame) point) h = absurd h
-told_same (told.Other side line) h = refl
-told_same (told.Broken rule tag) h = refl
-told_same told.Opened h = refl
-told_same told.Left h = refl
+told_same (reports.Touched target dir (Some tool) (Some frame) point) h = absurd h
+told_same (reports.Other side line) h = refl
+told_same (reports.Unasked line) h = refl
+told_same (reports.Broken rule tag) h = refl
+told_same reports.Opened h = refl
+told_same reports.Left h = refl
 
-pub entries_same : (es : List (ℕ × Told)) → AreToldEntries es → map entry_back es ≡ es
+pub entries_same : (es : List (ℕ × Reported)) → AreToldEntries es → map entry_back es ≡ es
 entries_same [] h = refl
 entries_same (e ∷ es) h =
     let first : entry_back e ≡ e = λ n. (e.0, told_same e.1 h.0.1 n) in
@@ -247,34 +249,41 @@ foreign_inner number side line n l = record {
       (inner_append (side_field side) (32 ∷ line) (side_inner side) (inner_append (codes " ") line refl l)));
 }
 
-told_inner : (e : ℕ × Told) → IsWrittenEntry e → IsInner (told_line e)
+unasked_inner : (number line : List ℕ) → list_all is_inner number ≡ true → list_all is_inner line ≡ true
+    → IsInner (line_of (number ∷ codes "UNASKED" ∷ line ∷ []))
+unasked_inner number line n l = record {
+  inner = inner_append number (32 ∷ line_of (codes "UNASKED" ∷ line ∷ [])) n (inner_append (codes " UNASKED ") line refl l);
+}
+
+told_inner : (e : ℕ × Reported) → IsWrittenEntry e → IsInner (told_line e)
 told_inner e h = go e.1 h.1
   where
     number : IsPlain (decimal e.0)
     number = decimal_plain e.0 (omega (arith, h.0.1))
 
-    go : (t : Told) → IsWrittenTold t → IsInner (told_line (e.0, t))
-    go (told.Did a) w = line_inner (decimal e.0) (act_fields a) (entry_plain (e.0, a) (h.0, w))
-    go (told.MovedSomewhere target) w = line_inner (decimal e.0) (told_fields (told.MovedSomewhere target))
+    go : (t : Reported) → IsWrittenTold t → IsInner (told_line (e.0, t))
+    go (reports.Did a) w = line_inner (decimal e.0) (act_fields a) (entry_plain (e.0, a) (h.0, w))
+    go (reports.MovedSomewhere target) w = line_inner (decimal e.0) (told_fields (reports.MovedSomewhere target))
         (number, moved_plain target w)
-    go told.FramedSomehow w = line_inner (decimal e.0) (told_fields told.FramedSomehow)
+    go reports.FramedSomehow w = line_inner (decimal e.0) (told_fields reports.FramedSomehow)
         (number, (record { plain = refl }, (record { plain = refl }, tt)))
-    go (told.Touched target dir tool frame point) w = line_inner (decimal e.0) (told_fields (told.Touched target dir tool frame point))
+    go (reports.Touched target dir tool frame point) w = line_inner (decimal e.0) (told_fields (reports.Touched target dir tool frame point))
         (number, touch_plain target dir tool frame point w)
-    go (told.Other side line) w =
+    go (reports.Other side line) w =
         foreign_inner (decimal e.0) side line (plain_inner (decimal e.0) number.plain) (content_inner line w.free)
-    go (told.Broken rule tag) w = line_inner (decimal e.0) (told_fields (told.Broken rule tag))
+    go (reports.Unasked line) w = unasked_inner (decimal e.0) line (plain_inner (decimal e.0) number.plain) (content_inner line w.free)
+    go (reports.Broken rule tag) w = line_inner (decimal e.0) (told_fields (reports.Broken rule tag))
         (number, broken_plain rule tag)
-    go told.Opened w = line_inner (decimal e.0) (told_fields told.Opened)
+    go reports.Opened w = line_inner (decimal e.0) (told_fields reports.Opened)
         (number, (record { plain = refl }, tt))
-    go told.Left w = line_inner (decimal e.0) (told_fields told.Left)
+    go reports.Left w = line_inner (decimal e.0) (told_fields reports.Left)
         (number, (record { plain = refl }, tt))
 
-entries_inner : (es : List (ℕ × Told)) → AreWrittenEntries es → AllByRecursion IsInner (map told_line es)
+entries_inner : (es : List (ℕ × Reported)) → AreWrittenEntries es → AllByRecursion IsInner (map told_line es)
 entries_inner [] h = tt
 entries_inner (e ∷ es) h = (told_inner e h.0, entries_inner es h.1)
 
-pub file_inner : (es : List (ℕ × Told)) → AreWrittenEntries es → AllByRecursion IsInner (told_file_lines es)
+pub file_inner : (es : List (ℕ × Reported)) → AreWrittenEntries es → AllByRecursion IsInner (told_file_lines es)
 file_inner es h = (record { inner = refl }, entries_inner es h)
 
 text_split : (ls : List (List ℕ)) → AllByRecursion IsInner ls → slice_split (λ b. eqb b 10) (text_of ls) ≡ ls ++ [] ∷ []
@@ -286,16 +295,16 @@ unfolding whole_lines
 text_lines ls h = rw (text_split ls h) (without_last ls)
 
 -- the lines of what was reported are those of what is read of them
-pub file_lines_back : (es : List (ℕ × Told)) → AreWrittenEntries es → told_file_lines es ≡ told_file_lines (map entry_back es)
+pub file_lines_back : (es : List (ℕ × Reported)) → AreWrittenEntries es → told_file_lines es ≡ told_file_lines (map entry_back es)
 file_lines_back es h = ap (λ (r : List (List ℕ)). codes "DME-TOLD 1" ∷ r) (sym (lines_back es h))
 
-pub written_read : (es : List (ℕ × Told)) → AreWrittenEntries es → NeverFall es → IsToldText (told_text es) (map entry_back es)
+pub written_read : (es : List (ℕ × Reported)) → AreWrittenEntries es → NeverFall es → IsToldText (told_text es) (map entry_back es)
 written_read es h up = some (entries_back es h) (back_up es up) (text_lines (told_file_lines es) (file_inner es h) ∙ file_lines_back es h)
 
-told_written : (es : List (ℕ × Told)) → AreToldEntries es → AreWrittenEntries es
+told_written : (es : List (ℕ × Reported)) → AreToldEntries es → AreWrittenEntries es
 told_written [] h = tt
 told_written (e ∷ es) h = (h.0.0, told_written es h.1)
 
-pub told_read : (es : List (ℕ × Told)) → AreToldEntries es → NeverFall es → IsToldText (told_text es) es
+pub told_read : (es : List (ℕ × Reported)) → AreToldEntries es → NeverFall es → IsToldText (told_text es) es
 told_read es h up =
-    subst (λ (x : List (ℕ × Told)). IsToldText (told_text es) x) (entries_same es h) (written_read es (told_written es h) up)
+    subst (λ (x : List (ℕ × Reported)). IsToldText (told_text es) x) (entries_same es h) (written_read es (told_written es h) up)

@@ -6,10 +6,10 @@ use Rattle.contact_ledger.specs.Lines.{whole_lines}
 use Rattle.contact_ledger.specs.Damage.{ReadsFault}
 use Rattle.contact_ledger.specs.declared.faults.TextFault.{TextFault}
 use Rattle.contact_ledger.specs.declared.faults.TextFault.TheVariants.{Damaged, Memory}
-use Rattle.told_ledger.specs.declared.uses.Told.{Told}
+use Rattle.witness.specs.declared.lines.Reported.{Reported}
 use Rattle.told_files.specs.ToldTexts.{IsToldEntry, AreToldEntries, NeverFall, last_number, told_file_lines, AreToldLines, none, some}
 use Rattle.told_files.specs.ToldTexts.{IsToldText, IsDamagedTold}
-use Rattle.told_ledger.specs.Texts.{told_line}
+use Rattle.witness.specs.Texts.{told_line}
 use Rattle.contact_ledger.proofs.FeatureReads.{take_one_more}
 use Rattle.contact_ledger.proofs.FeatureShapes.{all_more}
 use Rattle.told_files.proofs.OneTold.{one_told}
@@ -20,7 +20,7 @@ take_whole zero (x ∷ xs) e = absurd cc
 take_whole (suc n) [] e = refl
 take_whole (suc n) (x ∷ xs) e = ap (λ (y : List (List ℕ)). x ∷ y) (take_whole n xs e)
 
-map_more : (xs ys : List (ℕ × Told)) → map told_line (xs ++ ys) ≡ map told_line xs ++ map told_line ys
+map_more : (xs ys : List (ℕ × Reported)) → map told_line (xs ++ ys) ≡ map told_line xs ++ map told_line ys
 map_more [] ys = refl
 map_more (x ∷ xs) ys = ap (λ (r : List (List ℕ)). told_line x ∷ r) (map_more xs ys)
 
@@ -29,34 +29,34 @@ map_more (x ∷ xs) ys = ap (λ (r : List (List ℕ)). told_line x ∷ r) (map_m
 one_less : (n : ℕ) → suc (suc n) - 1 ≡ suc (suc n - 1)
 one_less n = omega arith
 
-last_more : (x y : ℕ × Told) (xs : List (ℕ × Told)) → last_number (x ∷ y ∷ xs) ≡ last_number (y ∷ xs)
-last_more x y xs = ap (λ (k : ℕ). option_map_or (λ (e : ℕ × Told). e.0) (slice_get (x ∷ y ∷ xs) k) 0) (one_less (length xs))
+last_more : (x y : ℕ × Reported) (xs : List (ℕ × Reported)) → last_number (x ∷ y ∷ xs) ≡ last_number (y ∷ xs)
+last_more x y xs = ap (λ (k : ℕ). option_map_or (λ (e : ℕ × Reported). e.0) (slice_get (x ∷ y ∷ xs) k) 0) (one_less (length xs))
 
-low_last : (xs : List (ℕ × Told)) (e : ℕ × Told) → NeverFall (xs ++ e ∷ []) → last_number xs ≤ e.0
+low_last : (xs : List (ℕ × Reported)) (e : ℕ × Reported) → NeverFall (xs ++ e ∷ []) → last_number xs ≤ e.0
 low_last [] e h = omega arith
 low_last (x ∷ []) e h = h.0
 low_last (x ∷ y ∷ xs) e h = subst (λ (n : ℕ). n ≤ e.0) (sym (last_more x y xs)) (low_last (y ∷ xs) e h.1)
 
-up_more : (xs : List (ℕ × Told)) (e : ℕ × Told) → NeverFall xs → last_number xs ≤ e.0 → NeverFall (xs ++ e ∷ [])
+up_more : (xs : List (ℕ × Reported)) (e : ℕ × Reported) → NeverFall xs → last_number xs ≤ e.0 → NeverFall (xs ++ e ∷ [])
 up_more [] e h low = tt
 up_more (x ∷ []) e h low = (low, tt)
 up_more (x ∷ y ∷ xs) e h low = (h.0, up_more (y ∷ xs) e h.1 (subst (λ (n : ℕ). n ≤ e.0) (last_more x y xs) low))
 
 -- a line of a lower number is no line that may follow
-pub fallen : (l : List ℕ) (read e : ℕ × Told) (last : ℕ) → IsToldEntry read → l ≡ told_line read → read.0 < last → IsToldEntry e
+pub fallen : (l : List ℕ) (read e : ℕ × Reported) (last : ℕ) → IsToldEntry read → l ≡ told_line read → read.0 < last → IsToldEntry e
     → l ≡ told_line e → last ≤ e.0 → ⊥
 fallen l read e last g says below h same low =
-    let number : read.0 ≡ e.0 = ap (λ (x : ℕ × Told). x.0) (one_told read e g h (sym says ∙ same)) in
+    let number : read.0 ≡ e.0 = ap (λ (x : ℕ × Reported). x.0) (one_told read e g h (sym says ∙ same)) in
     omega (arith, below, low, number)
 
 -- one more line
-pub record More (ls more : List (List ℕ)) (n : ℕ) (es : List (ℕ × Told)) : Type 0 where
+pub record More (ls more : List (List ℕ)) (n : ℕ) (es : List (ℕ × Reported)) : Type 0 where
   pub left : drop (n + 1) ls ≡ more
   pub read : take (n + 1) ls ≡ told_file_lines es
   pub entries : AreToldEntries es
   pub up : NeverFall es
 
-pub line_read : (ls more : List (List ℕ)) (l : List ℕ) (n : ℕ) (es new : List (ℕ × Told)) (e : ℕ × Told) → drop n ls ≡ l ∷ more
+pub line_read : (ls more : List (List ℕ)) (l : List ℕ) (n : ℕ) (es new : List (ℕ × Reported)) (e : ℕ × Reported) → drop n ls ≡ l ∷ more
     → take n ls ≡ told_file_lines es → AreToldEntries es → NeverFall es → IsToldEntry e → l ≡ told_line e → last_number es ≤ e.0
     → new ≡ es ++ e ∷ [] → More ls more n new
 line_read ls more l n es new e d r all up h w low same =
@@ -69,18 +69,18 @@ line_read ls more l n es new e d r all up h w low same =
     })
 
 -- after the last line, the lines are those of the acts
-pub lines_read : (bytes : List ℕ) (n : ℕ) (es : List (ℕ × Told)) → drop n (whole_lines bytes) ≡ []
+pub lines_read : (bytes : List ℕ) (n : ℕ) (es : List (ℕ × Reported)) → drop n (whole_lines bytes) ≡ []
     → take n (whole_lines bytes) ≡ told_file_lines es → AreToldEntries es → NeverFall es → IsToldText bytes es
 lines_read bytes n es d r all up = some all up (sym (take_whole n (whole_lines bytes) d) ∙ r)
 
 -- what the lines of entries and one more line are read as: these entries, and one whose line it is
-record IsLonger (xs es : List (ℕ × Told)) (l : List ℕ) : Type 0 where
-  entry : ℕ × Told
+record IsLonger (xs es : List (ℕ × Reported)) (l : List ℕ) : Type 0 where
+  entry : ℕ × Reported
   known : IsToldEntry entry
   line : l ≡ told_line entry
   all : es ≡ xs ++ entry ∷ []
 
-longer : (xs es : List (ℕ × Told)) (l : List ℕ) → AreToldEntries xs → AreToldEntries es → map told_line xs ++ l ∷ [] ≡ map told_line es
+longer : (xs es : List (ℕ × Reported)) (l : List ℕ) → AreToldEntries xs → AreToldEntries es → map told_line xs ++ l ∷ [] ≡ map told_line es
     → IsLonger xs es l
 longer [] [] l g all h = absurd cc
 longer [] (e ∷ []) l g all h = let same : l ≡ told_line e = cc in record { entry = e; known = all.0; line = same; all = refl }
@@ -97,17 +97,17 @@ longer (x ∷ xs) (e ∷ es) l g all h =
       all = λ n. one_told e x all.0 g.0 first n ∷ last.all n;
     }
 
-no_line : (xs es : List (ℕ × Told)) (l : List ℕ) → AreToldEntries xs
-    → ((e : ℕ × Told) → IsToldEntry e → l ≡ told_line e → last_number xs ≤ e.0 → ⊥) → AreToldLines (told_file_lines xs ++ l ∷ []) es → ⊥
+no_line : (xs es : List (ℕ × Reported)) (l : List ℕ) → AreToldEntries xs
+    → ((e : ℕ × Reported) → IsToldEntry e → l ≡ told_line e → last_number xs ≤ e.0 → ⊥) → AreToldLines (told_file_lines xs ++ l ∷ []) es → ⊥
 no_line xs es l all other (none a b) = absurd cc
 no_line xs es l all other (some a up b) =
     let rest : map told_line xs ++ l ∷ [] ≡ map told_line es = cc in
     let last = longer xs es l all a rest in
     other last.entry last.known last.line (low_last xs last.entry (subst NeverFall last.all up))
 
-pub line_damaged : (bytes : List ℕ) (more : List (List ℕ)) (l : List ℕ) (n : ℕ) (es : List (ℕ × Told))
+pub line_damaged : (bytes : List ℕ) (more : List (List ℕ)) (l : List ℕ) (n : ℕ) (es : List (ℕ × Reported))
     → drop n (whole_lines bytes) ≡ l ∷ more → take n (whole_lines bytes) ≡ told_file_lines es → AreToldEntries es → NeverFall es
-    → ((e : ℕ × Told) → IsToldEntry e → l ≡ told_line e → last_number es ≤ e.0 → ⊥) → IsDamagedTold bytes (n + 1)
+    → ((e : ℕ × Reported) → IsToldEntry e → l ≡ told_line e → last_number es ≤ e.0 → ⊥) → IsDamagedTold bytes (n + 1)
 line_damaged bytes more l n es d r all up other =
     let t = take_one_more n (whole_lines bytes) more l d in
     let back : n + 1 - 1 ≡ n = omega arith in
@@ -120,9 +120,9 @@ line_damaged bytes more l n es d r all up other =
     }
 
 -- what a refused line answers
-pub read_failed : (bytes : List ℕ) (more : List (List ℕ)) (l : List ℕ) (n : ℕ) (es : List (ℕ × Told)) (fault : TextFault)
+pub read_failed : (bytes : List ℕ) (more : List (List ℕ)) (l : List ℕ) (n : ℕ) (es : List (ℕ × Reported)) (fault : TextFault)
     → drop n (whole_lines bytes) ≡ l ∷ more → take n (whole_lines bytes) ≡ told_file_lines es → AreToldEntries es → NeverFall es
-    → ((m : ℕ) → fault ≡ Damaged m → (m ≡ n + 1) × ((e : ℕ × Told) → IsToldEntry e → l ≡ told_line e → last_number es ≤ e.0 → ⊥))
+    → ((m : ℕ) → fault ≡ Damaged m → (m ≡ n + 1) × ((e : ℕ × Reported) → IsToldEntry e → l ≡ told_line e → last_number es ≤ e.0 → ⊥))
     → ReadsFault (IsDamagedTold bytes) fault
 read_failed bytes more l n es Memory d r all up w = tt
 read_failed bytes more l n es (Damaged m) d r all up w =

@@ -3,7 +3,7 @@ use Rattle.std.specs.Prelude.{◌≡◌, ℕ, List, ◌∷◌, codes}
 use Rattle.contact_ledger.specs.ContactTexts.{IsContacts, IsDamagedContacts}
 use Rattle.contact_ledger.specs.Lines.{whole_lines}
 use Rattle.contact_ledger.specs.declared.acts.Act.{Act}
-use Rattle.told_ledger.specs.declared.uses.Told.{Told}
+use Rattle.witness.specs.declared.lines.Reported.{Reported}
 use Rattle.told_files.specs.Runs.{AreRunContacts}
 use Rattle.told_files.specs.ToldTexts.{IsToldText, IsDamagedTold}
 
@@ -14,7 +14,7 @@ pub record IsToldFile (bytes : List ℕ) : Type 0 where
 
 -- the acts that an audit judges: those of runs in what was reported, or, under any other first line, those of a server
 pub data AreAudited (bytes : List ℕ) (ledger : List (ℕ × Act)) : Type 0 where
-  reported : IsToldFile bytes → (entries : List (ℕ × Told)) → IsToldText bytes entries → AreRunContacts entries ledger
+  reported : IsToldFile bytes → (entries : List (ℕ × Reported)) → IsToldText bytes entries → AreRunContacts entries ledger
       → AreAudited bytes ledger
   acted : (IsToldFile bytes → ⊥) → IsContacts bytes ledger → AreAudited bytes ledger
 

@@ -11,8 +11,8 @@ use Rattle.contact_ledger.specs.declared.features.Feature.{Feature}
 use Rattle.dmis_program.specs.declared.features.Wanted.{Wanted}
 use Rattle.protocol_model.specs.Claims.{MadeContact, contacts, IsRun}
 use Rattle.ledger_audit.specs.Verdicts.{AreAtMost}
-use Rattle.told_ledger.specs.declared.uses.Told.{Told}
-use Rattle.told_ledger.specs.declared.uses.Told.TheVariants as told
+use Rattle.witness.specs.declared.lines.Reported.{Reported}
+use Rattle.witness.specs.declared.lines.Reported.TheVariants as reports
 
 -- ---- what each line is for runs
 
@@ -23,20 +23,21 @@ pub data Part : Type 0 where
   Ends : Part
   Passes : Part
 
-abbrev pub part_of : Told → Part
-part_of (told.Did (act.Contact target dir tool frame point)) = Made target dir tool frame point
-part_of (told.Did (act.HomedIs homed)) = Passes
-part_of (told.Did act.Homed) = Passes
-part_of (told.Did (act.Moved target frame)) = Passes
-part_of (told.Did (act.Changed tool)) = Passes
-part_of (told.Did (act.Framed frame)) = Passes
-part_of (told.MovedSomewhere target) = Passes
-part_of told.FramedSomehow = Passes
-part_of (told.Touched target dir tool frame point) = Doubtful
-part_of (told.Other side line) = Ends
-part_of (told.Broken rule tag) = Ends
-part_of told.Opened = Ends
-part_of told.Left = Ends
+abbrev pub part_of : Reported → Part
+part_of (reports.Did (act.Contact target dir tool frame point)) = Made target dir tool frame point
+part_of (reports.Did (act.HomedIs homed)) = Passes
+part_of (reports.Did act.Homed) = Passes
+part_of (reports.Did (act.Moved target frame)) = Passes
+part_of (reports.Did (act.Changed tool)) = Passes
+part_of (reports.Did (act.Framed frame)) = Passes
+part_of (reports.MovedSomewhere target) = Passes
+part_of reports.FramedSomehow = Passes
+part_of (reports.Touched target dir tool frame point) = Doubtful
+part_of (reports.Other side line) = Ends
+part_of (reports.Unasked line) = Ends
+part_of (reports.Broken rule tag) = Ends
+part_of reports.Opened = Ends
+part_of reports.Left = Ends
 
 -- a contact on its connection
 abbrev pub made_on : ℕ → Part → List MadeContact
@@ -47,10 +48,10 @@ made_on n Ends = []
 made_on n Passes = []
 
 -- what was reported, as what it is for runs
-abbrev pub entry_part : ℕ × Told → ℕ × Part
+abbrev pub entry_part : ℕ × Reported → ℕ × Part
 entry_part entry = (entry.0, part_of entry.1)
 
-abbrev pub parts_of : List (ℕ × Told) → List (ℕ × Part)
+abbrev pub parts_of : List (ℕ × Reported) → List (ℕ × Part)
 parts_of entries = map entry_part entries
 
 -- the contacts whose tool and frame are known, in order; their numbers are their places in this list, from 0 on
@@ -108,29 +109,29 @@ pub record AreNext (lines : List (ℕ × Part)) (k : ℕ) : Type 0 where
 -- ---- runs
 
 -- a feature is a run of known contacts numbered from start on, as in a ledger, and each is next to the one before it
-pub record IsToldRun (wanted : Wanted) (feature : Feature) (start : ℕ) (entries : List (ℕ × Told)) : Type 0 where
+pub record IsToldRun (wanted : Wanted) (feature : Feature) (start : ℕ) (entries : List (ℕ × Reported)) : Type 0 where
   pub run : IsRun wanted feature start (known_contacts (parts_of entries))
   pub unbroken : (k : ℕ) → k + 1 < length feature.points → AreNext (parts_of entries) (start + k)
 
 -- features are the first of the wanted ones, and theirs are such runs with these starts, none of which begins before the one before it has ended
-abbrev pub AreToldRuns : List Wanted → List Feature → List ℕ → ℕ → List (ℕ × Told) → Type 0
+abbrev pub AreToldRuns : List Wanted → List Feature → List ℕ → ℕ → List (ℕ × Reported) → Type 0
 AreToldRuns ws [] [] least entries = Unit {0}
 AreToldRuns (w ∷ ws) (f ∷ fs) (start ∷ starts) least entries =
     (least ≤ start) × IsToldRun w f start entries × AreToldRuns ws fs starts (start + length f.points) entries
 AreToldRuns _ _ _ _ _ = ⊥
 
 -- the features that a client holds are true of what was reported
-pub record SoundByTold (wanted : List Wanted) (features : List Feature) (entries : List (ℕ × Told)) : Type 0 where
+pub record SoundByTold (wanted : List Wanted) (features : List Feature) (entries : List (ℕ × Reported)) : Type 0 where
   pub starts : List ℕ
   pub runs : AreToldRuns wanted features starts 0 entries
 
 -- no choice of starts has one below these
-abbrev pub AreLeastTold : List Wanted → List Feature → List (ℕ × Told) → List ℕ → Type 0
+abbrev pub AreLeastTold : List Wanted → List Feature → List (ℕ × Reported) → List ℕ → Type 0
 AreLeastTold wanted features entries starts =
     (others : List ℕ) → AreToldRuns wanted features others 0 entries → AreAtMost starts others
 
 -- this count of the first features is the least that has no runs together
-pub record AreFewestUnsoundTold (wanted : List Wanted) (features : List Feature) (entries : List (ℕ × Told)) (count : ℕ) : Type 0 where
+pub record AreFewestUnsoundTold (wanted : List Wanted) (features : List Feature) (entries : List (ℕ × Reported)) (count : ℕ) : Type 0 where
   pub some : 1 ≤ count
   pub held : count ≤ length features
   pub before : (fewer : ℕ) → fewer < count → SoundByTold wanted (take fewer features) entries
@@ -149,7 +150,7 @@ abbrev pub unnumbered : MadeContact → MadeContact
 unnumbered made = record made { connection = 0 }
 
 -- a ledger has the known contacts, in order, and two that follow one another have one connection in it exactly if they are next to one another
-pub record AreRunContacts (entries : List (ℕ × Told)) (ledger : List (ℕ × Act)) : Type 0 where
+pub record AreRunContacts (entries : List (ℕ × Reported)) (ledger : List (ℕ × Act)) : Type 0 where
   pub alike : map unnumbered (contacts ledger) ≡ map unnumbered (known_contacts (parts_of entries))
   pub joined : (k : ℕ) → k + 1 < length (known_contacts (parts_of entries))
       → (connection_at (contacts ledger) k ≡ connection_at (contacts ledger) (k + 1)) ↔ AreNext (parts_of entries) k

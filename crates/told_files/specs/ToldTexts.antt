@@ -1,4 +1,4 @@
--- The text of what a server reported, as it is read (this profile): version 1. The lines are those of `told_ledger`.
+-- The text of what a server reported, as it is read (this profile): version 1. The lines are those of `witness`.
 use Rattle.std.specs.Prelude.{◌≡◌, ◌≢◌, ◌≤◌, ℕ, true, if◌then◌else◌, List, [], ◌∷◌, map, codes, Option, Some, None}
 use Rattle.std.specs.Prelude.{◌-◌, length, slice_get}
 use Rattle.std.specs.List.{AllByRecursion, list_all}
@@ -15,10 +15,10 @@ use Rattle.contact_ledger.specs.Ledgers.{IsConnection}
 use Rattle.contact_ledger.specs.Lines.{whole_lines}
 use Rattle.contact_ledger.specs.declared.acts.Act.{Act}
 use Rattle.contact_ledger.specs.declared.acts.Act.TheVariants as act
-use Rattle.told_ledger.specs.Effects.{touched}
-use Rattle.told_ledger.specs.Texts.{unknown_field, told_line}
-use Rattle.told_ledger.specs.declared.uses.Told.{Told}
-use Rattle.told_ledger.specs.declared.uses.Told.TheVariants as told
+use Rattle.witness.specs.Dialogues.{touched}
+use Rattle.witness.specs.Texts.{unknown_field, told_line}
+use Rattle.witness.specs.declared.lines.Reported.{Reported}
+use Rattle.witness.specs.declared.lines.Reported.TheVariants as reports
 
 -- ---- what can be written
 
@@ -37,22 +37,23 @@ pub record IsLineText (line : List ℕ) : Type 0 where
   pub free : list_all is_content line ≡ true
 
 -- what was reported with names, points, frames, directions, lines and tags that can be written
-abbrev pub IsWrittenTold : Told → Type 0
-IsWrittenTold (told.Did a) = IsWrittenAct a
-IsWrittenTold (told.MovedSomewhere target) = IsOnWire target
-IsWrittenTold told.FramedSomehow = Unit {0}
-IsWrittenTold (told.Touched target dir tool frame point) =
+abbrev pub IsWrittenTold : Reported → Type 0
+IsWrittenTold (reports.Did a) = IsWrittenAct a
+IsWrittenTold (reports.MovedSomewhere target) = IsOnWire target
+IsWrittenTold reports.FramedSomehow = Unit {0}
+IsWrittenTold (reports.Touched target dir tool frame point) =
     IsOnWire target × IsTouch dir × IsNamed tool × IsPlaced frame × IsOnWire point
-IsWrittenTold (told.Other side line) = IsLineText line
-IsWrittenTold (told.Broken rule tag) = IsTag tag
-IsWrittenTold told.Opened = Unit {0}
-IsWrittenTold told.Left = Unit {0}
+IsWrittenTold (reports.Other side line) = IsLineText line
+IsWrittenTold (reports.Unasked line) = IsLineText line
+IsWrittenTold (reports.Broken rule tag) = IsTag tag
+IsWrittenTold reports.Opened = Unit {0}
+IsWrittenTold reports.Left = Unit {0}
 
 -- what was reported that can be written next to the number of its connection
-abbrev pub IsWrittenEntry : ℕ × Told → Type 0
+abbrev pub IsWrittenEntry : ℕ × Reported → Type 0
 IsWrittenEntry entry = IsConnection entry.0 × IsWrittenTold entry.1
 
-abbrev pub AreWrittenEntries : List (ℕ × Told) → Type 0
+abbrev pub AreWrittenEntries : List (ℕ × Reported) → Type 0
 AreWrittenEntries entries = AllByRecursion IsWrittenEntry entries
 
 -- ---- what can be read
@@ -73,51 +74,52 @@ IsInDoubt (Some tool) None = tool ≢ unknown_field
 IsInDoubt (Some tool) (Some frame) = ⊥
 
 -- a ? is read as what is not known, never as the name of a tool; a touch with a tool and a frame is a contact
-abbrev pub IsReadTold : Told → Type 0
-IsReadTold (told.Did a) = HasNamedTool a
-IsReadTold (told.MovedSomewhere target) = Unit {0}
-IsReadTold told.FramedSomehow = Unit {0}
-IsReadTold (told.Touched target dir tool frame point) = IsInDoubt tool frame
-IsReadTold (told.Other side line) = Unit {0}
-IsReadTold (told.Broken rule tag) = Unit {0}
-IsReadTold told.Opened = Unit {0}
-IsReadTold told.Left = Unit {0}
+abbrev pub IsReadTold : Reported → Type 0
+IsReadTold (reports.Did a) = HasNamedTool a
+IsReadTold (reports.MovedSomewhere target) = Unit {0}
+IsReadTold reports.FramedSomehow = Unit {0}
+IsReadTold (reports.Touched target dir tool frame point) = IsInDoubt tool frame
+IsReadTold (reports.Other side line) = Unit {0}
+IsReadTold (reports.Unasked line) = Unit {0}
+IsReadTold (reports.Broken rule tag) = Unit {0}
+IsReadTold reports.Opened = Unit {0}
+IsReadTold reports.Left = Unit {0}
 
 -- what was reported that a line can be read as
-abbrev pub IsToldEntry : ℕ × Told → Type 0
+abbrev pub IsToldEntry : ℕ × Reported → Type 0
 IsToldEntry entry = IsWrittenEntry entry × IsReadTold entry.1
 
-abbrev pub AreToldEntries : List (ℕ × Told) → Type 0
+abbrev pub AreToldEntries : List (ℕ × Reported) → Type 0
 AreToldEntries entries = AllByRecursion IsToldEntry entries
 
 -- ---- a text
 
 -- no connection's number is less than the one before it
-abbrev pub NeverFall : List (ℕ × Told) → Type 0
+abbrev pub NeverFall : List (ℕ × Reported) → Type 0
 NeverFall [] = Unit {0}
 NeverFall (entry ∷ []) = Unit {0}
 NeverFall (entry ∷ next ∷ entries) = (entry.0 ≤ next.0) × NeverFall (next ∷ entries)
 
 -- the number of the last connection, 0 if there is none
-abbrev pub last_number : List (ℕ × Told) → ℕ
+abbrev pub last_number : List (ℕ × Reported) → ℕ
 last_number entries = option_map_or (λ entry. entry.0) (slice_get entries (length entries - 1)) 0
 
 -- the lines of what was reported
-abbrev pub told_file_lines : List (ℕ × Told) → List (List ℕ)
+abbrev pub told_file_lines : List (ℕ × Reported) → List (List ℕ)
 told_file_lines entries = codes "DME-TOLD 1" ∷ map told_line entries
 
 -- whole lines say this: a header and a line for each, whose numbers never fall, or there is no line
-pub data AreToldLines (lines : List (List ℕ)) (entries : List (ℕ × Told)) : Type 0 where
+pub data AreToldLines (lines : List (List ℕ)) (entries : List (ℕ × Reported)) : Type 0 where
   none : lines ≡ [] → entries ≡ [] → AreToldLines lines entries
   some : AreToldEntries entries → NeverFall entries → lines ≡ told_file_lines entries → AreToldLines lines entries
 
 -- a text says this; what follows its last LF is not examined
-abbrev pub IsToldText : List ℕ → List (ℕ × Told) → Type 0
+abbrev pub IsToldText : List ℕ → List (ℕ × Reported) → Type 0
 IsToldText bytes entries = AreToldLines (whole_lines bytes) entries
 
 -- line n of a text is the first that is unexpected
 abbrev pub IsDamagedTold : List ℕ → ℕ → Type 0
-IsDamagedTold bytes n = IsDamaged (λ lines. (entries : List (ℕ × Told)) × AreToldLines lines entries) (whole_lines bytes) n
+IsDamagedTold bytes n = IsDamaged (λ lines. (entries : List (ℕ × Reported)) × AreToldLines lines entries) (whole_lines bytes) n
 
 -- ---- reading back
 
@@ -131,19 +133,19 @@ read_known_tool None = None
 read_known_tool (Some tool) = read_tool tool
 
 -- an act as it is read from its line
-abbrev pub read_act : Act → Told
-read_act (act.HomedIs homed) = told.Did (act.HomedIs homed)
-read_act act.Homed = told.Did act.Homed
-read_act (act.Moved target frame) = told.Did (act.Moved target frame)
-read_act (act.Changed tool) = told.Did (act.Changed tool)
-read_act (act.Framed frame) = told.Did (act.Framed frame)
+abbrev pub read_act : Act → Reported
+read_act (act.HomedIs homed) = reports.Did (act.HomedIs homed)
+read_act act.Homed = reports.Did act.Homed
+read_act (act.Moved target frame) = reports.Did (act.Moved target frame)
+read_act (act.Changed tool) = reports.Did (act.Changed tool)
+read_act (act.Framed frame) = reports.Did (act.Framed frame)
 read_act (act.Contact target dir tool frame point) = touched (read_tool tool) (Some frame) target dir point
 
 -- what was reported as it is read from its line: a tool of the name ? is not known
-abbrev pub read_back : Told → Told
-read_back (told.Did a) = read_act a
-read_back (told.Touched target dir tool frame point) = touched (read_known_tool tool) frame target dir point
+abbrev pub read_back : Reported → Reported
+read_back (reports.Did a) = read_act a
+read_back (reports.Touched target dir tool frame point) = touched (read_known_tool tool) frame target dir point
 read_back other = other
 
-abbrev pub entry_back : ℕ × Told → ℕ × Told
+abbrev pub entry_back : ℕ × Reported → ℕ × Reported
 entry_back entry = (entry.0, read_back entry.1)

@@ -13,8 +13,8 @@ use std::alloc::{AllocError, Global};
 
 /// Whether features are the first ones of a program, each measured by an unbroken run of the contacts that a server reported on one
 /// connection, with their tools and frames known. As `ledger_audit::audit`; a run ends besides at a contact whose tool or frame is not known,
-/// and on its connection at a line that is not known, at a broken rule, and where the connection is opened or left. The starts count
-/// the contacts whose tool and frame are known. Fails only if out of memory.
+/// and on its connection at a line that is not known or belongs to no command, at a broken rule, and where the connection is opened or left.
+/// The starts count the contacts whose tool and frame are known. Fails only if out of memory.
 #[tactic(auto, using(crate::proofs::SameRuns::verdicts))]
 pub fn audit_told(
     alloc: Global,

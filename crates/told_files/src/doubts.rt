@@ -7,7 +7,7 @@ ghost use Rattle.told_files.specs.Runs.{part_of, parts_of, known_contacts, is_ma
 use crate::ledger::ToldLedger;
 use contact_ledger::Act;
 use std::alloc::{AllocError, Global};
-use told_ledger::Told;
+use witness::Reported;
 
 /// The contacts that were reported, and those of them whose tool or frame is not known.
 #[derive(Clone, Copy, Debug, PartialEq, Eq)]
@@ -21,30 +21,31 @@ pub struct Doubts {
 }
 
 /// Whether this is a contact, with its tool and frame known or not.
-fn is_touch(told: &Told) -> bool
+fn is_touch(told: &Reported) -> bool
     ensures { result ≡ is_touch (part_of told.now) }
 {
     match told {
-        Told::Did(Act::Contact { .. }) | Told::Touched { .. } => true,
-        Told::Did(
+        Reported::Did(Act::Contact { .. }) | Reported::Touched { .. } => true,
+        Reported::Did(
             Act::HomedIs(_) | Act::Homed | Act::Moved(_, _) | Act::Changed(_) | Act::Framed(_),
         )
-        | Told::MovedSomewhere(_)
-        | Told::FramedSomehow
-        | Told::Other(_, _)
-        | Told::Broken(_, _)
-        | Told::Opened
-        | Told::Left => false,
+        | Reported::MovedSomewhere(_)
+        | Reported::FramedSomehow
+        | Reported::Other(_, _)
+        | Reported::Unasked(_)
+        | Reported::Broken(_, _)
+        | Reported::Opened
+        | Reported::Left => false,
     }
 }
 
 /// Whether this is a contact whose tool or frame is not known.
-fn is_doubtful(told: &Told) -> bool
+fn is_doubtful(told: &Reported) -> bool
     ensures { result ≡ is_doubtful (part_of told.now) }
 {
     match told {
-        Told::Touched { .. } => true,
-        Told::Did(
+        Reported::Touched { .. } => true,
+        Reported::Did(
             Act::HomedIs(_)
             | Act::Homed
             | Act::Moved(_, _)
@@ -52,22 +53,27 @@ fn is_doubtful(told: &Told) -> bool
             | Act::Framed(_)
             | Act::Contact { .. },
         )
-        | Told::MovedSomewhere(_)
-        | Told::FramedSomehow
-        | Told::Other(_, _)
-        | Told::Broken(_, _)
-        | Told::Opened
-        | Told::Left => false,
+        | Reported::MovedSomewhere(_)
+        | Reported::FramedSomehow
+        | Reported::Other(_, _)
+        | Reported::Unasked(_)
+        | Reported::Broken(_, _)
+        | Reported::Opened
+        | Reported::Left => false,
     }
 }
 
 /// Whether this line, which is no contact, ends the runs of its connection.
-pub fn ends_runs(told: &Told) -> bool
+pub fn ends_runs(told: &Reported) -> bool
     ensures { result ≡ is_end (part_of told.now) }
 {
     match told {
-        Told::Other(_, _) | Told::Broken(_, _) | Told::Opened | Told::Left => true,
-        Told::Did(
+        Reported::Other(_, _)
+        | Reported::Unasked(_)
+        | Reported::Broken(_, _)
+        | Reported::Opened
+        | Reported::Left => true,
+        Reported::Did(
             Act::HomedIs(_)
             | Act::Homed
             | Act::Moved(_, _)
@@ -75,14 +81,14 @@ pub fn ends_runs(told: &Told) -> bool
             | Act::Framed(_)
             | Act::Contact { .. },
         )
-        | Told::MovedSomewhere(_)
-        | Told::FramedSomehow
-        | Told::Touched { .. } => false,
+        | Reported::MovedSomewhere(_)
+        | Reported::FramedSomehow
+        | Reported::Touched { .. } => false,
     }
 }
 
 /// Whether this is a contact whose tool and frame are known.
-fn is_made(told: &Told) -> bool
+fn is_made(told: &Reported) -> bool
     ensures { result ≡ is_made (part_of told.now) }
 {
     is_touch(told) && !is_doubtful(told)

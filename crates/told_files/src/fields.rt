@@ -8,16 +8,16 @@ ghost use Rattle.fixed_um.specs.declared.frames.Frame.{Frame};
 ghost use Rattle.dme_line.specs.Tags.{IsTag, four_digits, five_digits, written_tag};
 ghost use Rattle.line_framing.specs.Content.{is_content};
 ghost use Rattle.contact_ledger.specs.Lines.{fields_of, fields_behind};
-ghost use Rattle.told_ledger.specs.Texts.{tool_field, known_frame, rule_name, side_field};
+ghost use Rattle.witness.specs.Texts.{tool_field, known_frame, rule_name, side_field};
 ghost use Rattle.told_files.specs.Parts.{IsToolName};
-ghost use Rattle.told_files.specs.ToldTexts.{IsNamed, IsPlaced};
+ghost use Rattle.told_files.specs.ToldTexts.{IsNamed, IsPlaced, IsLineText};
 
 use contact_ledger::forms::{Forms, read_name};
 use contact_ledger::lines::next_field;
-use dme_line::Tag;
+use dme_line::{Tag, Text};
 use fixed_um::{Frame, Name};
 use std::alloc::{AllocError, Global};
-use told_ledger::{Rule, Side};
+use witness::{Rule, Side};
 
 /// A field that is a tool: `?` is one that is not known, and never a name. Fails only if out of memory.
 pub(crate) fn read_tool(alloc: Global, field: &[u8]) -> Result<Option<Option<Name>>, AllocError>
@@ -134,7 +134,7 @@ fn place_of_space(bytes: &[u8]) -> Option<usize>
 
 /// What follows the first space; `None` if there is no space.
 #[tactic(auto, using(crate::proofs::Cuts::field_cuts))]
-pub(crate) fn after_space(rest: &[u8]) -> Option<&[u8]>
+fn after_space(rest: &[u8]) -> Option<&[u8]>
     ensures { MatchOption result (fields_behind rest.now ≡ [])
         (λ line. fields_behind rest.now ≡ fields_of line.now) }
 {
@@ -151,8 +151,24 @@ fn is_content(byte: u8) -> bool
 }
 
 /// Whether bytes can be those of a line.
-pub(crate) fn is_line_text(line: &[u8]) -> bool
+fn is_line_text(line: &[u8]) -> bool
     ensures { result ≡ list_all is_content line.now }
 {
     line.iter().all(|byte| is_content(*byte))
+}
+
+/// The line that follows the first space, with its spaces; `None` if there is no space or if these bytes cannot be those of a line. Fails only
+/// if out of memory.
+pub(crate) fn read_line_text(alloc: Global, rest: &[u8]) -> Result<Option<Text>, AllocError>
+    ensures { IfOk result (λ found. Finds found (λ line. IsLineText line
+        × (fields_behind rest.now ≡ fields_of line))) }
+{
+    let Some(line) = after_space(rest) else {
+        return Ok(None);
+    };
+    if !is_line_text(line) {
+        return Ok(None);
+    }
+    let text = Text::new(alloc, line)?;
+    Ok(Some(text))
 }

@@ -6,9 +6,9 @@ ghost use Rattle.contact_ledger.specs.declared.acts.Act.{Act};
 ghost use Rattle.contact_ledger.specs.declared.features.Feature.{Feature};
 ghost use Rattle.dmis_program.specs.declared.features.Wanted.{Wanted};
 ghost use Rattle.protocol_model.specs.Claims.{contacts, IsRun, Sound};
-ghost use Rattle.told_ledger.specs.Texts.{told_text};
-ghost use Rattle.told_ledger.specs.declared.uses.Told.{Told};
-ghost use Rattle.told_ledger.specs.declared.uses.Told.TheVariants.{Opened, Left};
+ghost use Rattle.witness.specs.Texts.{told_text};
+ghost use Rattle.witness.specs.declared.lines.Reported.{Reported};
+ghost use Rattle.witness.specs.declared.lines.Reported.TheVariants.{Opened, Left};
 ghost use Rattle.told_files.specs.Either.{AreAudited};
 ghost use Rattle.told_files.specs.Runs.{AreRunContacts, IsToldRun, SoundByTold};
 ghost use Rattle.told_files.specs.ToldTexts.{AreWrittenEntries, AreToldEntries, NeverFall, IsToldText, IsDamagedTold, entry_back};
@@ -22,25 +22,25 @@ pub fn falling_rows()
 /// What is written is read back, with a `?` for a tool of that name; and what can be read, as it is (this profile). A witness numbers its
 /// connections one after another, so the numbers that it writes never fall.
 pub fn written_is_read()
-    ensures written { (entries : List (ℕ × Told)) → AreWrittenEntries entries → NeverFall entries
+    ensures written { (entries : List (ℕ × Reported)) → AreWrittenEntries entries → NeverFall entries
         → IsToldText (told_text entries) (map entry_back entries) }
-    ensures same { (entries : List (ℕ × Told)) → AreToldEntries entries → NeverFall entries
+    ensures same { (entries : List (ℕ × Reported)) → AreToldEntries entries → NeverFall entries
         → IsToldText (told_text entries) entries }
 {}
 
 /// A text is read in at most one way, and no text that is read has a damaged line (this profile).
 pub fn texts_are_read_in_one_way()
-    ensures one { (bytes : List ℕ) (first second : List (ℕ × Told)) → IsToldText bytes first
+    ensures one { (bytes : List ℕ) (first second : List (ℕ × Reported)) → IsToldText bytes first
         → IsToldText bytes second → first ≡ second }
-    ensures whole { (bytes : List ℕ) (entries : List (ℕ × Told)) (n : ℕ) → IsToldText bytes entries
+    ensures whole { (bytes : List ℕ) (entries : List (ℕ × Reported)) (n : ℕ) → IsToldText bytes entries
         → IsDamagedTold bytes n → ⊥ }
 {}
 
 /// Each prefix of a written text is read as what its lines say that have their LF in it (this profile): nothing if the first line is torn.
 pub fn fronts_are_read()
-    ensures header { (entries : List (ℕ × Told)) (count : ℕ) → AreWrittenEntries entries
+    ensures header { (entries : List (ℕ × Reported)) (count : ℕ) → AreWrittenEntries entries
         → count < length (told_text []) → IsToldText (take count (told_text entries)) [] }
-    ensures lines { (entries : List (ℕ × Told)) (n count : ℕ) → AreWrittenEntries entries
+    ensures lines { (entries : List (ℕ × Reported)) (n count : ℕ) → AreWrittenEntries entries
         → NeverFall entries → n < length entries → length (told_text (take n entries)) ≤ count
         → count < length (told_text (take (n + 1) entries))
         → IsToldText (take count (told_text entries)) (map entry_back (take n entries)) }
@@ -49,10 +49,10 @@ pub fn fronts_are_read()
 /// A run in the ledger of the contacts of runs is a run of known contacts of one connection, between which lie no other contact and nothing
 /// of that connection that ends runs; and features are true of that ledger exactly if they are true of what was reported (this profile).
 pub fn runs_are_those_of_what_was_reported()
-    ensures run { (entries : List (ℕ × Told)) (ledger : List (ℕ × Act)) (wanted : Wanted)
+    ensures run { (entries : List (ℕ × Reported)) (ledger : List (ℕ × Act)) (wanted : Wanted)
         (feature : Feature) (start : ℕ) → AreRunContacts entries ledger
         → IsRun wanted feature start (contacts ledger) ↔ IsToldRun wanted feature start entries }
-    ensures sound { (entries : List (ℕ × Told)) (ledger : List (ℕ × Act))
+    ensures sound { (entries : List (ℕ × Reported)) (ledger : List (ℕ × Act))
         (wanted : List Wanted) (features : List Feature) → AreRunContacts entries ledger
         → Sound wanted features ledger ↔ SoundByTold wanted features entries }
 {}

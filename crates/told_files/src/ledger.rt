@@ -6,19 +6,19 @@ ghost use Rattle.told_files.specs.ToldTexts.{last_number};
 
 use std::alloc::{AllocError, Global};
 use std::marker::Model;
-use told_ledger::Told;
+use witness::Reported;
 
 /// What a server reported, in order, each next to the number of its connection (this profile). Contracts see this list.
 #[derive(Debug, Drop)]
 pub struct ToldLedger {
-    entries: Vec<(u64, Told)>,
+    entries: Vec<(u64, Reported)>,
 }
 
 impl Model for ToldLedger {
     ghost use Rattle.std.specs.Prelude.{ℕ, List};
-    ghost use Rattle.told_ledger.specs.declared.uses.Told.{Told};
+    ghost use Rattle.witness.specs.declared.lines.Reported.{Reported};
 
-    ghost Value = { List (ℕ × Told) };
+    ghost Value = { List (ℕ × Reported) };
 
     ghost view = { λ l. l.entries.items };
 }
@@ -34,7 +34,7 @@ impl ToldLedger {
     }
 
     /// Appends what was reported on a connection. Fails only if out of memory, and is then unchanged.
-    pub(crate) fn push(&mut self, connection: u64, told: Told) -> Result<(), AllocError>
+    pub(crate) fn push(&mut self, connection: u64, told: Reported) -> Result<(), AllocError>
         ensures { Leads result self.old self.new (self.old ++ (connection, told) ∷ []) }
     {
         self.entries.push((connection, told))?;
@@ -52,7 +52,7 @@ impl ToldLedger {
     }
 
     /// What was reported in order, each next to the number of its connection.
-    pub fn entries(&self) -> &[(u64, Told)]
+    pub fn entries(&self) -> &[(u64, Reported)]
         ensures { result.now ≡ self.now }
     {
         self.entries.as_slice()

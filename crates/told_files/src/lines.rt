@@ -3,22 +3,19 @@
 ghost use Rattle.std.specs.Prelude.{◌≡◌, ◌∷◌, [], codes, IfOk};
 ghost use Rattle.fixed_um.specs.Calls.{Finds};
 ghost use Rattle.contact_ledger.specs.Lines.{fields_behind};
-ghost use Rattle.told_ledger.specs.Texts.{told_line};
+ghost use Rattle.witness.specs.Texts.{told_line};
 ghost use Rattle.told_files.specs.Parts.{IsOtherTold, told_parts};
 ghost use Rattle.told_files.specs.ToldTexts.{IsToldEntry, read_act};
 
-use crate::fields::{
-    after_space, is_line_text, read_frame, read_rule, read_side, read_tag, read_tool,
-};
+use crate::fields::{read_frame, read_line_text, read_rule, read_side, read_tag, read_tool};
 use contact_ledger::forms::{Forms, read_number};
 use contact_ledger::lines::{first_field, next_field};
 use contact_ledger::{Act, CONNECTION_MAX, read_entry};
-use dme_line::Text;
 use std::alloc::{AllocError, Global};
-use told_ledger::Told;
+use witness::Reported;
 
 /// A move in a frame that is not known, after its word.
-fn read_moved(forms: &mut Forms, rest: &[u8]) -> Option<Told>
+fn read_moved(forms: &mut Forms, rest: &[u8]) -> Option<Reported>
     ensures { Finds result (λ t. IsOtherTold t
         × (codes "MOVED" ∷ fields_behind rest.now ≡ told_parts t)) }
 {
@@ -31,11 +28,11 @@ fn read_moved(forms: &mut Forms, rest: &[u8]) -> Option<Told>
     if frame != b"?".as_slice() || next_field(rest).is_some() {
         return None;
     }
-    Some(Told::MovedSomewhere(target))
+    Some(Reported::MovedSomewhere(target))
 }
 
 /// A frame that is not known, after its word.
-fn read_framed(rest: &[u8]) -> Option<Told>
+fn read_framed(rest: &[u8]) -> Option<Reported>
     ensures { Finds result (λ t. IsOtherTold t
         × (codes "FRAMED" ∷ fields_behind rest.now ≡ told_parts t)) }
 {
@@ -45,11 +42,15 @@ fn read_framed(rest: &[u8]) -> Option<Told>
     if frame != b"?".as_slice() || next_field(rest).is_some() {
         return None;
     }
-    Some(Told::FramedSomehow)
+    Some(Reported::FramedSomehow)
 }
 
 /// A touch with a tool or in a frame that is not known, after its word. Fails only if out of memory.
-fn read_touched(alloc: Global, forms: &mut Forms, rest: &[u8]) -> Result<Option<Told>, AllocError>
+fn read_touched(
+    alloc: Global,
+    forms: &mut Forms,
+    rest: &[u8],
+) -> Result<Option<Reported>, AllocError>
     ensures { IfOk result (λ found. Finds found (λ t. IsOtherTold t
         × (codes "CONTACT" ∷ fields_behind rest.now ≡ told_parts t))) }
 {
@@ -77,7 +78,7 @@ fn read_touched(alloc: Global, forms: &mut Forms, rest: &[u8]) -> Result<Option<
     if tool.is_some() && frame.is_some() {
         return Ok(None);
     }
-    Ok(Some(Told::Touched {
+    Ok(Some(Reported::Touched {
         target,
         dir,
         tool,
@@ -87,7 +88,7 @@ fn read_touched(alloc: Global, forms: &mut Forms, rest: &[u8]) -> Result<Option<
 }
 
 /// A line that is not known, after its word. Fails only if out of memory.
-fn read_other(alloc: Global, rest: &[u8]) -> Result<Option<Told>, AllocError>
+fn read_other(alloc: Global, rest: &[u8]) -> Result<Option<Reported>, AllocError>
     ensures { IfOk result (λ found. Finds found (λ t. IsOtherTold t
         × (codes "OTHER" ∷ fields_behind rest.now ≡ told_parts t))) }
 {
@@ -97,18 +98,25 @@ fn read_other(alloc: Global, rest: &[u8]) -> Result<Option<Told>, AllocError>
     let Some(side) = read_side(side) else {
         return Ok(None);
     };
-    let Some(line) = after_space(rest) else {
+    let Some(line) = read_line_text(alloc, rest)? else {
         return Ok(None);
     };
-    if !is_line_text(line) {
+    Ok(Some(Reported::Other(side, line)))
+}
+
+/// A line of the server that belongs to no command, after its word. Fails only if out of memory.
+fn read_unasked(alloc: Global, rest: &[u8]) -> Result<Option<Reported>, AllocError>
+    ensures { IfOk result (λ found. Finds found (λ t. IsOtherTold t
+        × (codes "UNASKED" ∷ fields_behind rest.now ≡ told_parts t))) }
+{
+    let Some(line) = read_line_text(alloc, rest)? else {
         return Ok(None);
-    }
-    let text = Text::new(alloc, line)?;
-    Ok(Some(Told::Other(side, text)))
+    };
+    Ok(Some(Reported::Unasked(line)))
 }
 
 /// A rule that is broken and the tag, after their word.
-fn read_broken(rest: &[u8]) -> Option<Told>
+fn read_broken(rest: &[u8]) -> Option<Reported>
     ensures { Finds result (λ t. IsOtherTold t
         × (codes "BROKEN" ∷ fields_behind rest.now ≡ told_parts t)) }
 {
@@ -119,33 +127,33 @@ fn read_broken(rest: &[u8]) -> Option<Told>
     };
     let rule = read_rule(rule)?;
     let tag = read_tag(tag)?;
-    Some(Told::Broken(rule, tag))
+    Some(Reported::Broken(rule, tag))
 }
 
 /// That a connection was opened, where nothing follows the word.
-fn read_opened(rest: &[u8]) -> Option<Told>
+fn read_opened(rest: &[u8]) -> Option<Reported>
     ensures { Finds result (λ t. IsOtherTold t
         × (codes "OPENED" ∷ fields_behind rest.now ≡ told_parts t)) }
 {
     match next_field(rest) {
-        None => Some(Told::Opened),
+        None => Some(Reported::Opened),
         Some(_) => None,
     }
 }
 
 /// That a connection was left, where nothing follows the word.
-fn read_left(rest: &[u8]) -> Option<Told>
+fn read_left(rest: &[u8]) -> Option<Reported>
     ensures { Finds result (λ t. IsOtherTold t
         × (codes "LEFT" ∷ fields_behind rest.now ≡ told_parts t)) }
 {
     match next_field(rest) {
-        None => Some(Told::Left),
+        None => Some(Reported::Left),
         Some(_) => None,
     }
 }
 
 /// What the fields after a connection's number are, if they are not those of an act. Fails only if out of memory.
-fn read_told(alloc: Global, forms: &mut Forms, rest: &[u8]) -> Result<Option<Told>, AllocError>
+fn read_told(alloc: Global, forms: &mut Forms, rest: &[u8]) -> Result<Option<Reported>, AllocError>
     ensures { IfOk result (λ found. Finds found (λ t. IsOtherTold t
         × (fields_behind rest.now ≡ told_parts t))) }
 {
@@ -160,6 +168,8 @@ fn read_told(alloc: Global, forms: &mut Forms, rest: &[u8]) -> Result<Option<Tol
         read_touched(alloc, forms, rest)
     } else if word == b"OTHER".as_slice() {
         read_other(alloc, rest)
+    } else if word == b"UNASKED".as_slice() {
+        read_unasked(alloc, rest)
     } else if word == b"BROKEN".as_slice() {
         Ok(read_broken(rest))
     } else if word == b"OPENED".as_slice() {
@@ -172,7 +182,7 @@ fn read_told(alloc: Global, forms: &mut Forms, rest: &[u8]) -> Result<Option<Tol
 }
 
 /// What was reported by the line of an act: a contact with the tool `?` is a touch with a tool that is not known.
-fn told_of(act: Act) -> Told
+fn told_of(act: Act) -> Reported
     ensures { result ≡ read_act act }
 {
     match act {
@@ -184,7 +194,7 @@ fn told_of(act: Act) -> Told
             point,
         } => {
             if tool.as_bytes() == b"?".as_slice() {
-                Told::Touched {
+                Reported::Touched {
                     target,
                     dir,
                     tool: None,
@@ -192,7 +202,7 @@ fn told_of(act: Act) -> Told
                     point,
                 }
             } else {
-                Told::Did(Act::Contact {
+                Reported::Did(Act::Contact {
                     target,
                     dir,
                     tool,
@@ -201,7 +211,7 @@ fn told_of(act: Act) -> Told
                 })
             }
         }
-        act => Told::Did(act),
+        act => Reported::Did(act),
     }
 }
 
@@ -210,7 +220,7 @@ pub(crate) fn read_line(
     alloc: Global,
     forms: &mut Forms,
     line: &[u8],
-) -> Result<Option<(u64, Told)>, AllocError>
+) -> Result<Option<(u64, Reported)>, AllocError>
     ensures { IfOk result (λ found. Finds found (λ e. IsToldEntry e
         × (line.now ≡ told_line e))) }
 {

@@ -7,7 +7,7 @@ ghost use Rattle.told_files.specs.Runs.{part_of, AreRunContacts};
 use crate::ledger::ToldLedger;
 use contact_ledger::{Act, ServerLedger};
 use std::alloc::{AllocError, Global};
-use told_ledger::Told;
+use witness::Reported;
 
 /// Whether a contact on a connection is next to the one before it, by the connection on which the next one would be so.
 fn is_joined(open_on: Option<u64>, connection: u64) -> bool
@@ -36,7 +36,7 @@ struct Numbering {
 
 impl Numbering {
     /// Reads one line. Fails only if out of memory.
-    fn add(&mut self, alloc: Global, connection: u64, told: &Told) -> Result<(), AllocError>
+    fn add(&mut self, alloc: Global, connection: u64, told: &Reported) -> Result<(), AllocError>
         ensures ledger { OnOk result (self.new.ledger ≡ self.old.ledger
             ++ pushed self.old.second self.old.open_on connection (part_of told.now)) }
         ensures second { OnOk result (self.new.second
@@ -45,7 +45,7 @@ impl Numbering {
             ≡ open_after self.old.open_on connection (part_of told.now)) }
     {
         match told {
-            Told::Did(
+            Reported::Did(
                 Act::Contact {
                     target,
                     dir,
@@ -67,13 +67,17 @@ impl Numbering {
                 self.second = second;
                 self.open_on = Some(connection);
             }
-            Told::Did(
+            Reported::Did(
                 Act::HomedIs(_) | Act::Homed | Act::Moved(_, _) | Act::Changed(_) | Act::Framed(_),
             )
-            | Told::MovedSomewhere(_)
-            | Told::FramedSomehow => {}
-            Told::Touched { .. } => self.open_on = None,
-            Told::Other(_, _) | Told::Broken(_, _) | Told::Opened | Told::Left => {
+            | Reported::MovedSomewhere(_)
+            | Reported::FramedSomehow => {}
+            Reported::Touched { .. } => self.open_on = None,
+            Reported::Other(_, _)
+            | Reported::Unasked(_)
+            | Reported::Broken(_, _)
+            | Reported::Opened
+            | Reported::Left => {
                 if is_joined(self.open_on, connection) {
                     self.open_on = None;
                 }

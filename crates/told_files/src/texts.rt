@@ -3,8 +3,8 @@
 ghost use Rattle.std.specs.Prelude.{◌≡◌, ◌≤◌, ◌++◌, ◌∷◌, [], ℕ, OnOk, Err};
 ghost use Rattle.contact_ledger.specs.Damage.{ReadsText};
 ghost use Rattle.contact_ledger.specs.declared.faults.TextFault.TheVariants.{Damaged};
-ghost use Rattle.told_ledger.specs.Texts.{told_line};
-ghost use Rattle.told_ledger.specs.declared.uses.Told.{Told};
+ghost use Rattle.witness.specs.Texts.{told_line};
+ghost use Rattle.witness.specs.declared.lines.Reported.{Reported};
 ghost use Rattle.told_files.specs.ToldTexts.{IsToldEntry, last_number, IsToldText, IsDamagedTold};
 
 use crate::ledger::ToldLedger;
@@ -22,9 +22,9 @@ fn add_line(
     number: u64,
     line: &[u8],
 ) -> Result<(), TextFault>
-    ensures added { OnOk result ((e : ℕ × Told) × IsToldEntry e × (line.now ≡ told_line e)
+    ensures added { OnOk result ((e : ℕ × Reported) × IsToldEntry e × (line.now ≡ told_line e)
         × (last_number ledger.old ≤ e.0) × (ledger.new ≡ ledger.old ++ e ∷ [])) }
-    ensures damaged { (n : ℕ) → result ≡ Err (Damaged n) → (n ≡ number) × ((e : ℕ × Told)
+    ensures damaged { (n : ℕ) → result ≡ Err (Damaged n) → (n ≡ number) × ((e : ℕ × Reported)
         → IsToldEntry e → line.now ≡ told_line e → last_number ledger.old ≤ e.0 → ⊥) }
 {
     let damaged = Err(TextFault::Damaged(number));

@@ -1,6 +1,6 @@
 use Rattle.std.proofs.Common.{◌≡◌, sym, subst}
-use Rattle.told_ledger.specs.Texts.{told_line}
-use Rattle.told_ledger.specs.declared.uses.Told.{Told}
+use Rattle.witness.specs.Texts.{told_line}
+use Rattle.witness.specs.declared.lines.Reported.{Reported}
 use Rattle.told_files.specs.ToldTexts.{IsToldEntry}
 use Rattle.told_files.proofs.OtherLines.{act_read, no_number, no_told, told_found}
 use Rattle.told_files.proofs.lines.read_line.Goals as goal
@@ -9,7 +9,7 @@ pub returns-in-Some : goal.returns-in-Some
 returns-in-Some c =
     let found = rw c.in-Some.is at c.in_ok-connection.ensures in
     let read = act_read c.in-Some.connection c.in-Some.act c.args.line.now found.0 found.1 in
-    subst (λ (t : Told). IsToldEntry (c.in-Some.connection, t) × (c.args.line.now ≡ told_line (c.in-Some.connection, t)))
+    subst (λ (t : Reported). IsToldEntry (c.in-Some.connection, t) × (c.args.line.now ≡ told_line (c.in-Some.connection, t)))
     (sym c.told_of.ensures) read
 
 pub returns-in_default-read_number : goal.returns-in_default-read_number
