@@ -12,12 +12,8 @@ use Rattle.witness.specs.Asking.{server_line}
 use Rattle.witness.specs.Dialogues.{Dialogue, after}
 use Rattle.witness.specs.Watching.{server_lines}
 use Rattle.witness.specs.declared.lines.Use.{Use}
+use Rattle.told_orders.specs.Orders.{is_open}
 use Rattle.told_by_server.proofs.Places.{Shape, AreShaped}
-use Rattle.std.specs.List.{list_any}
-
--- whether a command is open under a tag
-abbrev pub is_open : Tag → List Use → Bool
-is_open tag uses = list_any (λ u. tag_is u.tag tag) uses
 
 -- a line is a response under a tag under which a command is open
 abbrev pub IsHeard : List Use → Result Response NotResponse → Type 0

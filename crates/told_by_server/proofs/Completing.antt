@@ -1,5 +1,5 @@
 -- What may be known once a command is done, or has failed, is so.
-use Rattle.std.proofs.Common.{◌≡◌, ℕ, ◌==◌, Bool, true, false, cond, ◌&&◌, inl, inr, List, Option, Some, None, refl, sym, ap, ◌∙◌, subst, eq-eqb}
+use Rattle.std.proofs.Common.{◌≡◌, ℕ, ◌==◌, false, Option, Some, None, refl, sym, ap, subst, eq-eqb}
 use Rattle.fixed_um.specs.Points.{point_opposite}
 use Rattle.fixed_um.specs.declared.lengths.Point.{Point}
 use Rattle.fixed_um.specs.declared.frames.Frame.{Frame}
@@ -9,17 +9,16 @@ use Rattle.dme_line.specs.declared.commands.Command.TheVariants as command
 use Rattle.dme_line.specs.declared.commands.Csy.{Csy}
 use Rattle.dme_line.specs.declared.commands.Csy.TheVariants.{MachineCsy, PartCsy}
 use Rattle.protocol_model.proofs.table.Basics.{if_true}
-use Rattle.witness.specs.Known.{nothing, with_mark, unless_refused, renewed, standing, one_renewed, all_renewed, unless_part, below}
+use Rattle.witness.specs.Known.{with_mark, unless_refused, renewed, standing, one_renewed, all_renewed, unless_part, below}
 use Rattle.witness.specs.declared.lines.Heard.TheVariants as heard
 use Rattle.witness.specs.declared.lines.Known.{Known}
 use Rattle.witness.specs.declared.lines.Progress.TheVariants as progress
 use Rattle.witness.specs.declared.lines.Renewal.{Renewal}
 use Rattle.witness.specs.declared.lines.Renewal.TheVariants.{Mark}
 use Rattle.witness.specs.declared.lines.SentCommand.TheVariants as sends
-use Rattle.witness.specs.declared.lines.Stage.{Stage}
 use Rattle.witness.specs.declared.lines.Stage.TheVariants as stage
 use Rattle.witness.specs.declared.lines.Standing.{Standing}
-use Rattle.told_by_server.proofs.Knowing.{begun_at, pending}
+use Rattle.told_by_server.proofs.Knowing.{pending}
 use Rattle.told_by_server.proofs.Selected.{Selected, is_change, IsSo, IsSoOne, IsSoTool, IsSoPart, IsSoFrame, nothing_so, still_so}
 
 -- ---- what a command changes
@@ -54,7 +53,7 @@ without_part s k h = record { tool = h.tool; zero = h.zero; frame = unless_so k.
 
 -- ---- a command fails
 
-loses : (n : ℕ) → renewed (Mark n heard.Failed) (pending n stage.Received) ≡ None
+pub loses : (n : ℕ) → renewed (Mark n heard.Failed) (pending n stage.Received) ≡ None
 loses n =
     if_true (n == n) (with_mark (pending n stage.Received) progress.Begun heard.Failed) (unless_refused (pending n stage.Received) n heard.Failed)
     (eq-eqb n n refl)

@@ -14,7 +14,6 @@ use Rattle.dme_line.specs.Tags.{IsTag}
 use Rattle.dme_line.specs.declared.commands.Command.{Command}
 use Rattle.dme_line.specs.declared.commands.Command.TheVariants as command
 use Rattle.dme_line.specs.declared.commands.Csy.TheVariants.{MachineCsy, PartCsy}
-use Rattle.dme_line.specs.declared.responses.Mark.TheVariants as mark
 use Rattle.dme_line.specs.declared.tags.Tag.{Tag}
 use Rattle.protocol_model.specs.Claims.{acts_on}
 use Rattle.protocol_model.specs.Lines.{reply_text, reply_texts}
@@ -32,12 +31,10 @@ use Rattle.protocol_model.proofs.written_lines.Writable.{difference_on_wire, opp
 use Rattle.witness.specs.Asking.{server_line}
 use Rattle.witness.specs.Dialogues.{Dialogue, after, moved, framed, reported_by}
 use Rattle.witness.specs.Dialogues as effects
-use Rattle.witness.specs.Known.{nothing, with_mark, unless_refused, renewed, all_renewed, one_renewed, unless_part, below, done, part_at, tool_of as known_tool_of, frame_of as known_frame_of}
+use Rattle.witness.specs.Known.{all_renewed, below, done, part_at, tool_of as known_tool_of, frame_of as known_frame_of}
 use Rattle.witness.specs.Watching.{server_lines}
 use Rattle.witness.specs.declared.lines.Heard.TheVariants as heard
 use Rattle.witness.specs.declared.lines.Known.{Known}
-use Rattle.witness.specs.declared.lines.Progress.TheVariants as progress
-use Rattle.witness.specs.declared.lines.Renewal.{Renewal}
 use Rattle.witness.specs.declared.lines.Renewal.TheVariants.{Mark}
 use Rattle.witness.specs.declared.lines.Reported.{Reported}
 use Rattle.witness.specs.declared.lines.Reported.TheVariants as reports
@@ -47,11 +44,11 @@ use Rattle.witness.specs.declared.lines.Stage.{Stage}
 use Rattle.witness.specs.declared.lines.Stage.TheVariants as stage
 use Rattle.told_by_server.specs.Reports.{is_other, breaks_only, NamesNoOther, IsReportOf}
 use Rattle.told_by_server.proofs.Knowing.{pending}
-use Rattle.told_by_server.proofs.Selected.{Selected, selected, is_change, IsSo, IsSoOne, IsSoFrame, IsSoTool, nothing_so, still_so, IsToolNamed, known_tool, known_frame, known_zero}
+use Rattle.told_by_server.proofs.Selected.{Selected, selected, is_change, IsSo, IsSoTool, IsToolNamed, known_tool, known_frame, known_zero}
 use Rattle.told_by_server.proofs.Completing.{completed, completed_so, stopped_so}
 use Rattle.told_by_server.proofs.Places.{Shape, opened}
 use Rattle.told_by_server.proofs.Hearing.{Tells, tells_more, tells_same, IsAt}
-use Rattle.told_by_server.proofs.Replies.{fails_here, fails_first, stops, failed, ends_first, homed_given, point_given, says_failure, fails_heard}
+use Rattle.told_by_server.proofs.Replies.{fails_here, fails_first, ends_first, homed_given, point_given, says_failure, fails_heard}
 use Rattle.told_by_server.proofs.Opening.{running_one, IsOpen, AreOpen, AreApart, free_first, all_fail_at, all_fail_heard, all_fail_said}
 use Rattle.protocol_model.specs.Readings.{response_of}
 use Rattle.dme_line.specs.Points.{IsOnWire}

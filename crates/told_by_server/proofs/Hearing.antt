@@ -1,28 +1,24 @@
 -- What a witness that has read all lines of a server knows and has reported, and what a mark makes of it.
-use Rattle.std.proofs.Common.{◌≡◌, ℕ, ◌+◌, ◌≤◌, ◌==◌, Bool, true, false, cond, ◌&&◌, ◌||◌, not, List, [], ◌∷◌, ◌++◌, length, map, take, Some, None}
-use Rattle.std.proofs.Common.{refl, sym, ap, ◌∙◌, subst, arith, inl, inr, eq-eqb, ne_eqb, Option, append-nil}
-use Rattle.std.proofs.lemmas.Bool.{false≢true, and_parts}
+use Rattle.std.proofs.Common.{◌≡◌, ℕ, ◌+◌, ◌==◌, Bool, true, false, cond, ◌&&◌, ◌||◌, List, [], ◌∷◌, ◌++◌, length, map, Some, None}
+use Rattle.std.proofs.Common.{refl, sym, ap, ◌∙◌, subst, inl, inr, append-nil}
+use Rattle.std.proofs.lemmas.Bool.{false≢true}
 use Rattle.std.proofs.lemmas.List.Folds.{list_all-append}
-use Rattle.std.specs.List.{list_any, list_all}
+use Rattle.std.specs.List.{list_all}
 use Rattle.contact_ledger.specs.declared.acts.Act.{Act}
 use Rattle.dme_line.specs.declared.commands.Command.{Command}
 use Rattle.dme_line.specs.declared.tags.Tag.{Tag}
-use Rattle.dme_line.specs.declared.tags.Tag.TheVariants.{Std, Event}
-use Rattle.protocol_model.proofs.table.Basics.{if_true, if_false, and_false}
-use Rattle.witness.specs.Asking.{Signal}
+use Rattle.protocol_model.proofs.table.Basics.{if_false, and_false}
 use Rattle.witness.specs.Dialogues.{Dialogue, use_renewed, use_heard, unknowing, reported_by, unless_crossed, left_over, hearing, faulting, sending, sending_after}
-use Rattle.witness.specs.Dialogues.{at_once, one_more, is_out_of_turn, heard_at, answered_known, line_of, is_lost}
-use Rattle.witness.specs.Known.{nothing, faulted, with_mark, renewed, all_renewed, unless_refused, below, fresh}
-use Rattle.witness.specs.Marks.{is_error, is_foreign, stage_with}
+use Rattle.witness.specs.Dialogues.{at_once, one_more, answered_known}
+use Rattle.witness.specs.Known.{nothing, with_mark, renewed, all_renewed, unless_refused, below}
+use Rattle.witness.specs.Marks.{is_foreign}
 use Rattle.witness.specs.declared.lines.Heard.{Heard}
 use Rattle.witness.specs.declared.lines.Heard.TheVariants as heard
 use Rattle.witness.specs.declared.lines.Known.{Known}
-use Rattle.witness.specs.declared.lines.Progress.{Progress}
 use Rattle.witness.specs.declared.lines.Renewal.{Renewal}
 use Rattle.witness.specs.declared.lines.Renewal.TheVariants.{Fault, Mark, Answer}
 use Rattle.witness.specs.declared.lines.Reported.{Reported}
 use Rattle.witness.specs.declared.lines.Reported.TheVariants as reports
-use Rattle.witness.specs.declared.lines.Rule.TheVariants.{NotInTurn}
 use Rattle.witness.specs.declared.lines.SentCommand.{SentCommand}
 use Rattle.witness.specs.declared.lines.SentCommand.TheVariants as sends
 use Rattle.witness.specs.declared.lines.Side.TheVariants.{Client}
@@ -30,10 +26,10 @@ use Rattle.witness.specs.declared.lines.Stage.{Stage}
 use Rattle.witness.specs.declared.lines.Stage.TheVariants as stage
 use Rattle.witness.specs.declared.lines.Use.{Use}
 use Rattle.told_by_server.specs.Reports.{is_other, act_reports, breaks_only, IsReportOf, AreReportsOf}
-use Rattle.told_by_server.proofs.Knowing.{IsWithin, within_itself, within_trans, within_renewed, answer_within, Becomes, below_renewed, below_lost}
-use Rattle.told_by_server.proofs.Knowing.{begun_at, pending, next, AreWithin, are_within, more_within, IsStep, AreSteps, steps_within, gone_within, nothing_left}
+use Rattle.told_by_server.proofs.Knowing.{IsWithin, within_itself, within_trans, answer_within, Becomes, below_renewed}
+use Rattle.told_by_server.proofs.Knowing.{begun_at, pending, next, AreWithin, more_within, IsStep, AreSteps, steps_within, gone_within, nothing_left}
 use Rattle.told_by_server.proofs.Selected.{Selected, IsSo, still_so, less_so}
-use Rattle.told_by_server.proofs.Places.{Shape, opened, used, AreShaped, HaveOthers, renews, shaped_renewed, shaped_join, Split, split}
+use Rattle.told_by_server.proofs.Places.{Shape, opened, used, AreShaped, HaveOthers, renews, shaped_renewed, shaped_join, Split}
 use Rattle.told_by_server.proofs.Places.{AreRising, rising_renewed, rising_marked, rising_ended, rising_up, rising_more, lines_before, lines_after, HaveOtherLines}
 use Rattle.told_by_server.proofs.Places.{none_under, marked, own, use_same, heard_uses, ended_uses}
 
@@ -292,7 +288,7 @@ stays_at P s acts before x after d h at p step tells =
       tells = tells;
     }
 
--- a step of a command under these tags
+-- it has failed, and ends: it is open no more
 pub ends_at : (P : Tag → Bool) (s : Selected) (acts : List Act) (before : List Shape) (x : Shape) (after : List Shape) (d : Dialogue) (h : Heard)
     → (at : IsAt P s acts (before ++ x ∷ after) d) → (p : Split before x after d.uses) → x.failed ≡ true
     → Tells P (d.reported ++ said_of d x p.n p.k h) acts

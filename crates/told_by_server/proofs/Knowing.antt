@@ -1,24 +1,21 @@
 -- What may be known for one line is what may be known for the line above it, and what that line changes.
-use Rattle.std.proofs.Common.{◌≡◌, ℕ, ◌==◌, Bool, true, false, cond, ◌&&◌, ◌⊎◌, inl, inr, List, [], ◌∷◌, ◌++◌, map, Option, Some, None}
-use Rattle.std.proofs.Common.{refl, sym, ap, ◌∙◌, subst, eq-eqb}
+use Rattle.std.proofs.Common.{◌≡◌, ℕ, Bool, true, false, cond, ◌⊎◌, inl, inr, List, [], ◌∷◌, ◌++◌, map, Option, Some, None}
+use Rattle.std.proofs.Common.{refl, sym, ap, subst}
 use Rattle.fixed_um.specs.Points.{point_opposite}
 use Rattle.fixed_um.specs.declared.lengths.Point.{Point}
 use Rattle.dme_line.specs.declared.commands.Command.{Command}
 use Rattle.dme_line.specs.declared.commands.Command.TheVariants as command
 use Rattle.dme_line.specs.declared.commands.Csy.{Csy}
 use Rattle.dme_line.specs.declared.commands.Csy.TheVariants.{MachineCsy, PartCsy}
-use Rattle.protocol_model.proofs.table.Basics.{if_true, if_false}
-use Rattle.witness.specs.Dialogues.{use_renewed, unknowing}
-use Rattle.witness.specs.Known.{nothing, at, faulted, with_mark, answering, is_rival, unless_refused, renewed, standing, one_renewed, all_renewed}
+use Rattle.protocol_model.proofs.table.Basics.{if_true}
+use Rattle.witness.specs.Dialogues.{unknowing}
+use Rattle.witness.specs.Known.{nothing, at, answering, renewed, standing, one_renewed, all_renewed}
 use Rattle.witness.specs.Known.{unless_part, below_command, below}
-use Rattle.witness.specs.Marks.{is_error}
-use Rattle.witness.specs.declared.lines.Heard.{Heard}
-use Rattle.witness.specs.declared.lines.Heard.TheVariants as heard
 use Rattle.witness.specs.declared.lines.Known.{Known}
 use Rattle.witness.specs.declared.lines.Progress.{Progress}
 use Rattle.witness.specs.declared.lines.Progress.TheVariants as progress
 use Rattle.witness.specs.declared.lines.Renewal.{Renewal}
-use Rattle.witness.specs.declared.lines.Renewal.TheVariants.{Fault, Mark, Answer}
+use Rattle.witness.specs.declared.lines.Renewal.TheVariants.{Answer}
 use Rattle.witness.specs.declared.lines.SentCommand.{SentCommand}
 use Rattle.witness.specs.declared.lines.SentCommand.TheVariants as sends
 use Rattle.witness.specs.declared.lines.Stage.{Stage}

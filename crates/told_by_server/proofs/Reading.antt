@@ -12,10 +12,8 @@ use Rattle.dme_line.specs.declared.commands.Command.TheVariants as command
 use Rattle.dme_line.specs.declared.commands.Kind.{Kind}
 use Rattle.dme_line.specs.declared.reading.LineFault.{LineFault}
 use Rattle.dme_line.specs.declared.reading.LineFault.TheVariants as fault
-use Rattle.dme_line.specs.declared.responses.Mark.TheVariants as mark
 use Rattle.dme_line.specs.declared.tags.Tag.{Tag}
 use Rattle.dme_line.specs.declared.tags.Tag.TheVariants.{Std, Event}
-use Rattle.dme_line.specs.Errors.{error_report}
 use Rattle.dme_line.proofs.ReadWritable.{read_is_writable}
 use Rattle.protocol_model.specs.Claims.{acts_on}
 use Rattle.protocol_model.specs.Lines.{reading_of, reply_text, reply_texts}
@@ -32,9 +30,8 @@ use Rattle.server_core.specs.Kept.{IsLineFit}
 use Rattle.server_core.proofs.LinesRead.{read_is_fit}
 use Rattle.server_core.proofs.Steadies.{branch}
 use Rattle.witness.specs.Asking.{sent, unknown, is_asking, client_line, server_line}
-use Rattle.witness.specs.Dialogues.{Dialogue, sending, at_once, one_more, foreign_event, sent_tagged, client_sent, faulting, heard_under, after}
+use Rattle.witness.specs.Dialogues.{Dialogue, sending, at_once, one_more, foreign_event, sent_tagged, client_sent, heard_under, after}
 use Rattle.witness.specs.Asking as witness
-use Rattle.witness.specs.Marks.{is_foreign}
 use Rattle.witness.specs.Watching.{server_lines}
 use Rattle.witness.specs.declared.lines.Reported.TheVariants as reports
 use Rattle.witness.specs.declared.lines.SentCommand.{SentCommand}

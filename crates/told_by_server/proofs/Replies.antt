@@ -1,41 +1,35 @@
 -- What a witness knows and has reported after the lines of a server for a command.
-use Rattle.std.proofs.Common.{◌≡◌, ℕ, suc, ◌==◌, Bool, true, false, cond, ◌&&◌, ◌||◌, not, List, [], ◌∷◌, ◌++◌, length, map, take, Option, Some, None, Result, Ok}
+use Rattle.std.proofs.Common.{◌≡◌, ℕ, suc, ◌==◌, Bool, true, false, cond, ◌&&◌, List, [], ◌∷◌, ◌++◌, length, map, take, Option, Some}
 use Rattle.std.proofs.Common.{refl, sym, ap, ◌∙◌, subst, eq-eqb, inl, inr}
-use Rattle.std.proofs.lemmas.Bool.{false≢true}
 use Rattle.std.proofs.lemmas.List.{map-append}
 use Rattle.std.specs.List.{list_any}
 use Rattle.fixed_um.specs.Shapes.{Direction}
 use Rattle.fixed_um.specs.declared.lengths.Point.{Point}
 use Rattle.contact_ledger.specs.declared.acts.Act.{Act}
 use Rattle.dme_line.specs.Homed.{written_homed}
-use Rattle.dme_line.specs.Kinds.{kind_of}
 use Rattle.dme_line.specs.Points.{written_point, IsOnWire}
 use Rattle.dme_line.specs.Tags.{IsTag}
 use Rattle.dme_line.specs.declared.commands.Command.{Command}
 use Rattle.dme_line.specs.declared.commands.Command.TheVariants as command
 use Rattle.dme_line.specs.declared.commands.Kind.{Kind}
-use Rattle.dme_line.specs.declared.homed.NotHomedText.{NotHomedText}
-use Rattle.dme_line.specs.declared.points.NotPoint.{NotPoint}
 use Rattle.dme_line.specs.declared.tags.Tag.{Tag}
 use Rattle.dme_line.specs.declared.tags.Tag.TheVariants.{Std, Event}
 use Rattle.protocol_model.specs.Lines.{reply_text}
-use Rattle.protocol_model.specs.Open.{asks_data}
 use Rattle.protocol_model.specs.Readings.{point_of, homed_of, response_of}
 use Rattle.protocol_model.specs.Replies.{Reply}
 use Rattle.protocol_model.specs.declared.held.Datum.{Datum}
 use Rattle.protocol_model.specs.declared.held.Datum.TheVariants as datum
 use Rattle.protocol_model.proofs.table.Basics.{if_true, if_false, and_false}
-use Rattle.protocol_model.proofs.written_lines.Writable.{point_read, homed_read, IsWritableReply, response_for}
+use Rattle.protocol_model.proofs.written_lines.Writable.{point_read, homed_read}
 use Rattle.witness.specs.Asking.{Signal, Ack, Given, Done, Error, server_line}
-use Rattle.witness.specs.Dialogues.{Dialogue, use_renewed, hearing, faulting, waits, may_not_come, is_out_of_turn, heard_at, reported_by, after}
+use Rattle.witness.specs.Dialogues.{Dialogue, use_renewed, hearing, faulting, waits, is_out_of_turn, heard_at, reported_by, after}
 use Rattle.witness.specs.Dialogues.{heard_under, first_under}
 use Rattle.witness.specs.Known.{nothing, at, with_mark, renewed, all_renewed, unless_refused, below}
-use Rattle.witness.specs.Marks.{heard_as, is_end, has_turn, is_foreign, given_homed, given_point}
+use Rattle.witness.specs.Marks.{heard_as, is_end, has_turn, given_homed, given_point}
 use Rattle.witness.specs.declared.lines.Heard.{Heard}
 use Rattle.witness.specs.declared.lines.Heard.TheVariants as heard
 use Rattle.witness.specs.declared.lines.Known.{Known}
 use Rattle.witness.specs.declared.lines.Progress.TheVariants as progress
-use Rattle.witness.specs.declared.lines.Renewal.{Renewal}
 use Rattle.witness.specs.declared.lines.Renewal.TheVariants.{Fault, Mark}
 use Rattle.witness.specs.declared.lines.Reported.{Reported}
 use Rattle.witness.specs.declared.lines.Reported.TheVariants as reports
@@ -46,12 +40,13 @@ use Rattle.witness.specs.declared.lines.Side.TheVariants.{Client}
 use Rattle.witness.specs.declared.lines.Stage.{Stage}
 use Rattle.witness.specs.declared.lines.Stage.TheVariants as stage
 use Rattle.witness.specs.declared.lines.Use.{Use}
-use Rattle.told_by_server.proofs.Knowing.{IsWithin, within_itself, within_renewed, answer_within, Becomes, below_renewed, below_lost, pending, next, IsStep}
+use Rattle.told_by_server.proofs.Knowing.{within_itself, within_renewed, answer_within, Becomes, below_renewed, below_lost, pending, IsStep}
 use Rattle.told_by_server.proofs.Selected.{Selected, IsSo}
-use Rattle.told_by_server.proofs.Places.{Shape, opened, used, AreShaped, HaveOthers, renews, shaped_renewed, Split, split, said_is, heard_here, marked, own}
-use Rattle.told_by_server.proofs.Hearing.{Tells, tells_other, tells_same, IsAt, faulting_at, said_of, stays_at, ends_at, stops_at, done_at, known_first}
+use Rattle.told_by_server.proofs.Completing.{loses}
+use Rattle.told_by_server.proofs.Places.{Shape, opened, used, HaveOthers, renews, shaped_renewed, Split, split, said_is, heard_here, marked, own}
+use Rattle.told_by_server.proofs.Hearing.{Tells, tells_other, tells_same, IsAt, faulting_at, stays_at, ends_at, stops_at, done_at, known_first}
 use Rattle.told_by_server.proofs.Answering.{heard_there, IsHeard}
-use Rattle.told_by_server.proofs.Hearing.{none_before, counted_at, IsCounted}
+use Rattle.told_by_server.proofs.Hearing.{none_before, counted_at}
 
 -- ---- turns
 
@@ -128,11 +123,6 @@ receives P s acts before tag asked after_it d room others h =
 -- a command after an error
 abbrev pub failed : Tag → SentCommand → Shape
 failed tag asked = marked (opened tag asked stage.Received) heard.Failed
-
-loses : (n : ℕ) → renewed (Mark n heard.Failed) (pending n stage.Received) ≡ None
-loses n =
-    if_true (n == n) (with_mark (pending n stage.Received) progress.Begun heard.Failed) (unless_refused (pending n stage.Received) n heard.Failed)
-    (eq-eqb n n refl)
 
 failed_step : (tag : Tag) (asked : SentCommand) (n : ℕ) (k : Known)
     → IsStep (Mark n heard.Failed) (used (opened tag asked stage.Received) n k) (own (opened tag asked stage.Received) n k heard.Failed)

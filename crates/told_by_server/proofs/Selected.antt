@@ -1,5 +1,5 @@
 -- What may be known for the first line is so at the server.
-use Rattle.std.proofs.Common.{◌≡◌, ℕ, ◌==◌, Bool, true, false, cond, ◌&&◌, ◌⊎◌, inl, inr, List, Option, Some, None, refl, sym, ap, ◌∙◌, subst}
+use Rattle.std.proofs.Common.{◌≡◌, ℕ, ◌==◌, Bool, true, false, cond, ◌&&◌, inl, inr, List, Option, Some, None, refl, sym, ap, ◌∙◌, subst}
 use Rattle.fixed_um.specs.declared.lengths.Point.{Point}
 use Rattle.fixed_um.specs.declared.frames.Frame.{Frame}
 use Rattle.fixed_um.specs.declared.frames.Frame.TheVariants.{Machine, Part}
@@ -9,8 +9,8 @@ use Rattle.dme_line.specs.declared.commands.Csy.{Csy}
 use Rattle.dme_line.specs.declared.commands.Csy.TheVariants.{MachineCsy, PartCsy}
 use Rattle.protocol_model.specs.Server.{Server}
 use Rattle.protocol_model.specs.declared.lines.Line.{Line}
-use Rattle.witness.specs.Known.{nothing, at, faulted, with_mark, answering, is_rival, unless_refused, renewed, standing, one_renewed, all_renewed}
-use Rattle.witness.specs.Known.{if_done, done, part_at, frame_in, frame_by, tool_of, frame_of}
+use Rattle.witness.specs.Known.{nothing, faulted, with_mark, answering, is_rival, unless_refused, renewed, standing, one_renewed, all_renewed}
+use Rattle.witness.specs.Known.{if_done, done, part_at, frame_by, tool_of, frame_of}
 use Rattle.witness.specs.Marks.{is_error}
 use Rattle.witness.specs.declared.lines.Heard.{Heard}
 use Rattle.witness.specs.declared.lines.Heard.TheVariants as heard

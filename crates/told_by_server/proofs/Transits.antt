@@ -1,7 +1,6 @@
 -- What a witness reports that reads the lines of a course in another order, while further lines are on their way.
 use Rattle.std.proofs.Common.{◌≡◌, ℕ, ◌≤◌, is_none, Option, Bool, true, false, cond, not, ◌||◌, List, [], ◌∷◌, ◌++◌, map, Some, None, Result, Ok, Err}
 use Rattle.std.proofs.Common.{refl, sym, ap, ◌∙◌, subst, arith, append_assoc, append-nil, ne_eqb}
-use Rattle.std.specs.Prelude.{filter}
 use Rattle.std.proofs.lemmas.Bool.{false≢true, and_parts}
 use Rattle.contact_ledger.specs.declared.acts.Act.{Act}
 use Rattle.contact_ledger.specs.declared.acts.Act.TheVariants as act
@@ -31,26 +30,26 @@ use Rattle.protocol_model.proofs.written_lines.Writable.{reply_read, AreReplies,
 use Rattle.server_core.specs.Calls.{Call, Accept, Feed, ReadOne, Turn, Machine, Leave, Restart, Sent, behind_call, behind_calls, reached, possible, gives_up}
 use Rattle.server_core.specs.Serving.{may_accept, may_turn, may_feed}
 use Rattle.server_core.proofs.Steadies.{nothing_runs}
-use Rattle.witness.specs.Asking.{sent, unknown, client_line, server_line}
+use Rattle.witness.specs.Asking.{sent, client_line, server_line}
 use Rattle.witness.specs.Dialogues.{Dialogue, silence, after}
 use Rattle.witness.specs.Watching.{Watching, AreAllRead, client_lines, server_lines, ledger}
 use Rattle.witness.specs.declared.lines.Reported.{Reported}
 use Rattle.witness.specs.declared.lines.Reported.TheVariants as reports
-use Rattle.witness.specs.declared.lines.SentCommand.{SentCommand}
 use Rattle.witness.specs.declared.lines.Side.TheVariants.{Client, Server}
 use Rattle.witness.specs.declared.lines.Use.{Use}
-use Rattle.told_orders.specs.Claims.{is_at_once_report, in_turn, IsPart, unknown as part_unknown, known as part_known, ClaimsNoMore, same, moved, framed, touched, contact, ClaimNoMore}
+use Rattle.told_orders.specs.Claims.{in_turn, IsPart, unknown as part_unknown, known as part_known, ClaimsNoMore, same, moved, framed, touched, contact, ClaimNoMore}
 use Rattle.told_orders.specs.Courses.{AreLinesOf, whole_lines, are_whole_lines}
 use Rattle.told_orders.specs.Orders.{Line, Up, Down, said_all, ups, downs, at_once_line, is_under, some_sends, IsBehind, IsCausal, IsPrefix}
 use Rattle.told_orders.proofs.Arrivals.{whole_after, whole_none}
-use Rattle.told_orders.proofs.Courses.{ups_append, downs_append}
+use Rattle.told_orders.proofs.Claimed.{ups_append, downs_append}
+use Rattle.told_orders.proofs.Courses.{recorded_told}
 use Rattle.told_by_server.specs.Lockstep.{line_read, all_read, replies, answered, seen, all_seen, AreAnew, IsCourse}
 use Rattle.told_by_server.specs.Reports.{is_other, act_reports, some_foreign, NamesNoOther, IsReportOf, AreReportsOf}
 use Rattle.told_by_server.specs.Transit.{lines_seen, AreReportsOfFirst, fed_by, all_fed, all_written}
 use Rattle.told_by_server.proofs.Answering.{IsHeard, AreHeard}
 use Rattle.told_by_server.proofs.Courses.{IsOn, CountLines, count_parts, count_own, call_on, begun_on, reports_of_acts, is_false}
 use Rattle.told_by_server.proofs.Following.{machined_follows, turned_follows}
-use Rattle.told_by_server.proofs.Reading.{AreAnswersTo, FollowsLine, read_follows}
+use Rattle.told_by_server.proofs.Reading.{AreAnswersTo, read_follows}
 use Rattle.line_framing.specs.Calls.{line_in}
 use Rattle.line_framing.specs.Content.{AreLines, line_bytes}
 use Rattle.line_framing.specs.Framing.{Framing, fed_behind}
@@ -430,31 +429,26 @@ are_lines up down =
       down_lines = subst (λ (l : List (List ℕ)). IsStream down l below.0 below.1) (sym downs_are) below.2;
     }
 
--- what `told_orders` proves of the lines of two recordings
-abbrev pub Heard : Type 0
-Heard = (up down : List ℕ) (w : Watching) (lines : List Line) → AreAllRead false up down w → AreLinesOf up down lines
-    → w.dialogue.reported ≡ (ledger (ups lines) (downs lines)).reported
-
 -- what a witness reports of all bytes of two recordings
-recorded_is : Heard → (up down : List ℕ) (w : Watching) → AreAllRead false up down w
+recorded_is : (up down : List ℕ) (w : Watching) → AreAllRead false up down w
     → w.dialogue.reported ≡ (ledger (whole_lines up) (whole_lines down)).reported
-recorded_is heard up down w all =
-    heard up down w (map Up (whole_lines up) ++ map Down (whole_lines down)) all (are_lines up down)
+recorded_is up down w all =
+    recorded_told up down w (map Up (whole_lines up) ++ map Down (whole_lines down)) all (are_lines up down)
     ∙ (ap (λ (l : List (List ℕ)). (ledger l (downs (map Up (whole_lines up) ++ map Down (whole_lines down)))).reported)
     (both_ups (whole_lines up) (whole_lines down))
     ∙ ap (λ (l : List (List ℕ)). (ledger (whole_lines up) l).reported) (both_downs (whole_lines up) (whole_lines down)))
 
-recorded_lines : Recorded → Prefixes → Heard → (tools : List (List ℕ)) (before : List Call) (n : ℕ) (calls : List Call)
+recorded_lines : Recorded → Prefixes → (tools : List (List ℕ)) (before : List Call) (n : ℕ) (calls : List Call)
     (later unread : List (List ℕ)) (up down : List ℕ) (w : Watching)
     → may_accept n (reached tools before).server ≡ true → IsCourse calls (serving_accepted n (reached tools before))
     → whole_lines up ≡ ups (lines_seen calls (serving_accepted n (reached tools before))) ++ later
     → downs (lines_seen calls (serving_accepted n (reached tools before))) ≡ whole_lines down ++ unread → AreAllRead false up down w
     → AreReportsOfFirst (act_reports w.dialogue.reported)
     (acts_on n (behind_calls calls (serving_accepted n (reached tools before))).server.ledger)
-recorded_lines recorded prefixes heard tools before n calls later unread up down w may course up_is down_is all =
+recorded_lines recorded prefixes tools before n calls later unread up down w may course up_is down_is all =
     subst (λ (so_far : List Reported). AreReportsOfFirst (act_reports so_far)
     (acts_on n (behind_calls calls (serving_accepted n (reached tools before))).server.ledger))
-    (ap (λ (l : List (List ℕ)). (ledger l (whole_lines down)).reported) (sym up_is) ∙ sym (recorded_is heard up down w all))
+    (ap (λ (l : List (List ℕ)). (ledger l (whole_lines down)).reported) (sym up_is) ∙ sym (recorded_is up down w all))
     (first_reported recorded prefixes tools before n calls later (whole_lines down) unread may course down_is)
 
 -- ---- the bytes of the client
@@ -627,14 +621,14 @@ accepted_rest tools before n may =
     ap (λ (f : Framing). f.rest)
     ((reached_steady tools before).off (is_false (reached tools before).server.on ((and_parts _ _ may).0))).input
 
-pub recorded_reported : Recorded → Prefixes → Heard → (tools : List (List ℕ)) (before : List Call) (n : ℕ) (calls : List Call)
+pub recorded_reported : Recorded → Prefixes → (tools : List (List ℕ)) (before : List Call) (n : ℕ) (calls : List Call)
     (up down more unsent : List ℕ) (w : Watching)
     → may_accept n (reached tools before).server ≡ true → IsCourse calls (serving_accepted n (reached tools before))
     → up ≡ all_fed calls (serving_accepted n (reached tools before)) ++ more
     → down ++ unsent ≡ all_written calls (serving_accepted n (reached tools before)) → AreAllRead false up down w
     → AreReportsOfFirst (act_reports w.dialogue.reported)
     (acts_on n (behind_calls calls (serving_accepted n (reached tools before))).server.ledger)
-recorded_reported recorded prefixes heard tools before n calls up down more unsent w may course up_is down_is all =
+recorded_reported recorded prefixes tools before n calls up down more unsent w may course up_is down_is all =
     let e : ServerEnd = serving_accepted n (reached tools before) in
     let P : Tag → Bool = some_foreign (all_read calls e) in
     let cut : IsCut e.input.rest (behind_calls calls e).input.rest (all_fed calls e) (ups (lines_seen calls e)) = calls_cut calls e course in
@@ -642,7 +636,7 @@ recorded_reported recorded prefixes heard tools before n calls up down more unse
     calls_written P n calls e (silence false) course (count_own (all_read calls e)) (begun_on P false tools before n may) in
     let fed_is : all_fed calls e ≡ line_bytes (ups (lines_seen calls e)) ++ (behind_calls calls e).input.rest =
     ap (λ (l : List ℕ). l ++ all_fed calls e) (sym (accepted_rest tools before n may)) ∙ IsCut.parts cut in
-    recorded_lines recorded prefixes heard tools before n calls _ _ up down w may course
+    recorded_lines recorded prefixes tools before n calls _ _ up down w may course
     (ap whole_lines up_is
     ∙ whole_after (all_fed calls e) more (ups (lines_seen calls e)) (behind_calls calls e).input.rest fed_is (IsCut.whole cut))
     (whole_prefix down unsent (downs (lines_seen calls e)) (AreWritten.whole written) (down_is ∙ AreWritten.bytes written)) all
