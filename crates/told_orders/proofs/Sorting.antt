@@ -145,7 +145,7 @@ sure_later d up later (Err why) sure = tt
 
 -- ---- a line of the server sinks below the client's later lines
 
--- the reports that are compared are none of lines that may be carried out at once
+-- the reports that are compared leave out lines that may be carried out at once
 abbrev pub Drops : (Reported → Bool) → List (List ℕ) → Type 0
 Drops f [] = Unit {0}
 Drops f (line ∷ lines) = (at_once_line line ≡ true → f (reports.Other Client line) ≡ false) × Drops f lines
