@@ -7,6 +7,7 @@ not keep the order of the two directions.
 
 - The eight examples in tests/witness/ (NAME.up is what the client sent, NAME.down what the server did), and two of them with an order.
 - Sessions of ordinary clients and servers: each contact must be known, with its tool and its frame.
+- Of all these sessions `dme ledger` reports line by line what the rules say (`told_lines`), if the program is built.
 - Sessions of others, by families: what is known of a contact must be so on the simulated server, which keeps the premises below. Each family
   must have contacts that are known.
 
@@ -23,10 +24,13 @@ import concurrent.futures
 import functools
 import pathlib
 import re
+import subprocess
 import sys
+import tempfile
 from decimal import Decimal
 from fractions import Fraction
 
+from growths import PROGRAM
 from sessions import FAMILIES, foreign_session, ordinary_session
 
 EXAMPLES = pathlib.Path(__file__).resolve().parent / "witness"
@@ -80,7 +84,8 @@ def lines_of_one_recording(up, down, order):
 
 NAMES = {it.lower(): it for it in ("StartSession EndSession ClearAllErrors IsHomed Home AbortE OnPtMeasReport GoTo PtMeas ChangeTool "
                                    "SetCsyTransformation SetCoordSystem").split()}
-ASKING = set("get getprop getprope enumprop enumallprop enumtools geterrstatuse getxtderrstatus getdmeversion onmovereporte".split())
+ASKING = set("get getprop getprope enumprop enumallprop onmovereporte geterrstatuse getxtderrstatus geterrorinfo getdmeversion getmachineclass "
+             "isuserenabled enumtools foundtool getchangetoolaction getcsytransformation getcoordsystem enumcoordsystem".split())
 NUMERAL = r"[+-]?(?:[0-9]+\.?[0-9]*|\.[0-9]+)(?:[Ee][+-]?[0-9]{1,3})?"
 POINT = re.compile(rf"X *\( *({NUMERAL}) *\) *, *Y *\( *({NUMERAL}) *\) *, *Z *\( *({NUMERAL}) *\) *")
 TOOL = re.compile(r"[!#%&*+.0-<>-~-]{1,64}")
@@ -179,7 +184,7 @@ class Line:
     """A line of the client: its tag, None if it is untagged; its command, None if it is not one of the profile; and the marks that belong to it."""
 
     def __init__(self, place, content):
-        self.place, self.marks = place, []
+        self.place, self.marks, self.text = place, [], content.decode("latin-1")
         found = re.fullmatch(r"((?!00000)[0-9]{5}|(?!E0000)E[0-9]{4}) (([^ (]*)(.*))", content.decode("latin-1"), re.DOTALL)
         self.tag = found[1] if found else None
         name = found[3].lower() if found else ""
@@ -218,7 +223,7 @@ class Response:
     """A line of the server: its tag and its mark, both None if it is no response; and the line that it belongs to, if there is one."""
 
     def __init__(self, place, content):
-        self.place, self.line = place, None
+        self.place, self.line, self.content = place, None, content.decode("latin-1")
         found = re.fullmatch(r"([0-9]{5}|E[0-9]{4}) (?:([&%]) *|([#!]) (.*)|(!))", content.decode("latin-1"), re.DOTALL)
         self.tag = found[1] if found else None
         self.mark = (found[2] or found[3] or found[5]) if found else None
@@ -227,6 +232,10 @@ class Response:
     def point(self):
         found = POINT.fullmatch(self.text)
         return numerals(found.groups(), 3, WIRE_LIMIT) if found else UNREAD
+
+    def is_homed(self):
+        found = re.fullmatch(r"IsHomed *\( *([01]) *\) *", self.text, re.IGNORECASE)
+        return found[1] == "1" if found else UNREAD
 
 
 # ---- the rules
@@ -296,7 +305,7 @@ class Connection:
 
     def holds(self, change, touch):
         """Whether a change was made, and nothing has undone it up to the touch."""
-        touched, ended = touch.place_of("#"), touch.place_of("%")
+        touched, ended = touch.place_of("#%"), touch.place_of("%")
         if not change.has_just("&%") or change.place_of("%") > touched or self.tag_is_in_doubt(change):
             return False
         if any(change.place_of("&") < it <= ended for it in self.faults):
@@ -318,14 +327,25 @@ class Connection:
     def part_frame(self, change, touch):
         if self.last_above(touch, "SetCoordSystem", "SetCsyTransformation") is not change:
             return None
+        return self.zero_point(change, touch)
+
+    def selected(self, change):
+        """The frame that a change selects, at its end."""
+        if change.argument == "machinecsy":
+            return MACHINE
+        doubt = self.tag_is_in_doubt(change) or self.tags_are_lost_at(change.place_of("%"))
+        return None if doubt else self.zero_point(change, change)
+
+    def zero_point(self, change, touch):
         zero = self.last_above(change, "SetCsyTransformation", "StartSession", "EndSession")
         return zero.argument if zero and zero.command == "SetCsyTransformation" and self.holds(zero, touch) else None
 
+    def tool_and_frame(self, line):
+        known = not self.tag_is_in_doubt(line) and not self.tags_are_lost_at(line.place_of("%"))
+        return (self.tool(line), self.frame(line)) if known else (None, None)
+
     def contact(self, touch):
-        target, direction = touch.argument
-        known = not self.tag_is_in_doubt(touch) and not self.tags_are_lost_at(touch.place_of("%"))
-        tool, frame = (self.tool(touch), self.frame(touch)) if known else (None, None)
-        return Contact(target, direction, touch.marks[1].point(), tool, frame)
+        return Contact(*touch.argument, touch.marks[1].point(), *self.tool_and_frame(touch))
 
     def contacts(self):
         touches = [it for it in self.sent if it.command == "PtMeas" and it.has_just("&#%") and it.marks[1].point() is not UNREAD]
@@ -353,14 +373,83 @@ def lengths(point):
     return " ".join(decimal(it, 3) for it in point)
 
 
+def frame_field(contact):
+    return "?" if contact.frame is None else MACHINE if contact.frame == MACHINE else f"P {lengths(contact.frame)}"
+
+
 def tool_and_frame(contact):
-    frame = "?" if contact.frame is None else MACHINE if contact.frame == MACHINE else f"P {lengths(contact.frame)}"
-    return f"{contact.tool or '?'} {frame}"
+    return f"{contact.tool or '?'} {frame_field(contact)}"
 
 
 def contact_line(contact):
     direction = " ".join(["D"] + [decimal(it, 6) for it in contact.direction]) if contact.direction else "N"
     return f"CONTACT {lengths(contact.target)} {direction} {tool_and_frame(contact)} {lengths(contact.point)}"
+
+
+def act_line(connection, line):
+    """The act of a command that is complete; None if it has none."""
+    if line.command == "PtMeas":
+        return contact_line(connection.contact(line))
+    if line.command == "IsHomed":
+        return f"HOMEDIS {int(line.marks[1].is_homed())}"
+    if line.command == "ChangeTool":
+        return f"CHANGED {line.argument}"
+    known = Contact(None, None, None, *connection.tool_and_frame(line))
+    if line.command == "GoTo":
+        return f"MOVED {lengths(line.argument[0])} {frame_field(known)}"
+    if line.command == "SetCoordSystem":
+        return f"FRAMED {frame_field(known._replace(frame=connection.selected(line)))}"
+    return "HOMED" if line.command == "Home" else None
+
+
+def broken_rule(line, stage, response):
+    """The rule that a mark of a command breaks at its stage, which is its marks so far; None if it breaks none."""
+    if stage == "" or response.mark == "&":
+        return None if stage == "" and response.mark in "&!" else "OutOfOrder"
+    if response.mark == "#":
+        reads = {"PtMeas": response.point(), "IsHomed": response.is_homed()}.get(line.command, UNREAD)
+        return "OtherData" if reads is UNREAD else "SecondData" if stage == "&#" else None
+    asks = line.command in ("PtMeas", "IsHomed")
+    return "NoData" if response.mark == "%" and asks and stage == "&" else None
+
+
+def told_of_mark(connection, response):
+    """What a mark of a line is reported as, with the marks of the line so far."""
+    line = response.line
+    before = [it for it in line.marks if it.place < response.place]
+    if line.is_foreign():
+        return [f"OTHER > {line.text}"] if not before and not line.has_event_tag() else []
+    if line.asks:
+        return []
+    stage = ""
+    for mark in before:
+        if mark.mark == "!" or broken_rule(line, stage, mark):
+            return []
+        stage += mark.mark
+    rule = broken_rule(line, stage, response)
+    if rule:
+        return [f"BROKEN {rule} {line.tag}"]
+    act = act_line(connection, line) if response.mark == "%" else None
+    return [act] if act else []
+
+
+def told_of_response(connection, response):
+    if response.mark is None:
+        return [f"OTHER < {response.content}"]
+    if response.line is None:
+        return [] if connection.is_report_by_event(response) else [f"UNASKED {response.content}"]
+    early = [f"BROKEN NotInTurn {response.tag}"] if connection.is_fault(response) else []
+    return early + told_of_mark(connection, response)
+
+
+def told_lines(lines, ordered):
+    """What a told file has of a connection, line by line, without the number of the connection."""
+    if not ordered:
+        lines = [it for it in lines if it[0] == ">"] + [it for it in lines if it[0] == "<"]
+    connection = Connection(lines, ordered)
+    told = [(it.place, [f"OTHER > {it.text}"]) for it in connection.sent if it.acts_at_once()]
+    told += [(it.place, told_of_response(connection, it)) for it in connection.responses]
+    return [line for _, some in sorted(told, key=lambda it: it[0]) for line in some]
 
 
 # ---- what lines read as, by examples
@@ -462,9 +551,31 @@ def is_so(contact, made):
 
 def check_recording(lines):
     """An ordered recording gives these lines again."""
-    up, down = (b"".join(line + b"\r\n" for side, line in lines if side == end) for end in "><")
+    up, down = recordings(lines)
     order = "".join(f"{side} {len(line) + 2}\n" for side, line in lines)
     must(lines_of_one_recording(up, down, order) == lines, "an ordered recording is read as other lines")
+
+
+def recordings(lines):
+    return (b"".join(line + b"\r\n" for side, line in lines if side == end) for end in "><")
+
+
+def ledger_of(lines, folder):
+    """What the program reports of the two recordings of a connection, line by line, without the number of the connection."""
+    for name, recording in zip(("up", "down"), recordings(lines)):
+        (folder / name).write_bytes(recording)
+    words = [PROGRAM, "ledger", "--up", folder / "up", "--down", folder / "down"]
+    told = subprocess.run(words, capture_output=True, check=True, timeout=60).stdout.decode("latin-1").split("\n")
+    must(told[0] == "DME-TOLD 1" and told[-1] == "" and all(it[:2] == "1 " for it in told[1:-1]), "no told file")
+    return [it[2:] for it in told[1:-1]]
+
+
+def check_ledger(session, folder, name):
+    """The program reports of two recordings what the rules say, line by line."""
+    due, told = told_lines(session.lines, False), ledger_of(session.lines, folder)
+    if due != told:
+        text = "\n".join(f"{side} {line.decode('latin-1')}" for side, line in session.lines)
+        raise Wrong("\n".join([name, text, "the program reports", *told, "and the rules", *due]))
 
 
 def check_session(session, must_be_known, ordered, name):
@@ -481,11 +592,14 @@ def check_session(session, must_be_known, ordered, name):
 def check_family(family, count):
     """How many contacts a family has, with and without the order, and of how many something is known. Without a name: ordinary sessions."""
     found = []
-    for seed in range(count):
-        session = foreign_session(family, seed) if family else ordinary_session(seed)
-        check_recording(session.lines)
-        for ordered in [True] if family in ONLY_WITH_ORDER else [True, False]:
-            found.append(check_session(session, not family, ordered, f"{family or 'ordinary session'} {seed}"))
+    with tempfile.TemporaryDirectory() as folder:
+        for seed in range(count):
+            session, name = foreign_session(family, seed) if family else ordinary_session(seed), f"{family or 'ordinary session'} {seed}"
+            check_recording(session.lines)
+            if PROGRAM.exists():
+                check_ledger(session, pathlib.Path(folder), name)
+            for ordered in [True] if family in ONLY_WITH_ORDER else [True, False]:
+                found.append(check_session(session, not family, ordered, name))
     contacts, known = (sum(it) for it in zip(*found))
     must(known > 0, family, "has no contact that is known")
     return contacts, known

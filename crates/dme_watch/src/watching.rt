@@ -17,7 +17,7 @@ use std::io::{self, ErrorKind, Read, Write};
 use std::net::{Net, Shutdown, TcpListener, TcpStream};
 use std::rt::{Clock, Files};
 use std::time::{Duration, Instant};
-use told_ledger::{HEADER, Relay};
+use witness::{HEADER, Relay};
 
 /// The most bytes that are read at once.
 const PIECE: usize = 65_536;

@@ -14,7 +14,7 @@ use Rattle.dme_line.specs.declared.responses.NotResponse.{NotResponse}
 use Rattle.dme_line.specs.declared.points.NotPoint.{NotPoint}
 use Rattle.dme_line.specs.declared.homed.NotHomedText.{NotHomedText}
 use Rattle.protocol_model.specs.Readings.{command_of, response_of, point_of, homed_of}
-use Rattle.told_ledger.specs.Asking.{is_harmless}
+use Rattle.witness.specs.Asking.{is_asking}
 use Rattle.line_judge.specs.declared.lines.Data.{Data}
 use Rattle.line_judge.specs.declared.lines.Data.TheVariants as data_is
 use Rattle.line_judge.specs.declared.lines.Heard.{Heard}
@@ -36,7 +36,7 @@ unknown_as harmless tag = if harmless then sent.Standard tag else sent.Unknown t
 abbrev pub sent_as : List ℕ → Result (Tag × Command) LineFault → Sent
 sent_as line (Ok (tag, command)) = sent.Command tag (kind_of command)
 sent_as line (Err NoTag) = sent.Untagged
-sent_as line (Err (UnknownCommand tag)) = unknown_as (is_harmless (drop 6 line)) tag
+sent_as line (Err (UnknownCommand tag)) = unknown_as (is_asking (drop 6 line)) tag
 sent_as line (Err (BadArguments tag kind)) = sent.Unread tag kind
 
 -- a line of the client

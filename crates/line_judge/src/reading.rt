@@ -5,47 +5,13 @@ ghost use Rattle.fixed_um.specs.declared.lengths.Point.{Point};
 ghost use Rattle.dme_line.specs.Responses.{the_mark};
 ghost use Rattle.line_framing.specs.Stream.{IsStream};
 ghost use Rattle.protocol_model.specs.Readings.{command_of, response_of};
-ghost use Rattle.told_ledger.specs.Asking as asking;
 ghost use Rattle.line_judge.specs.Lines as spec;
 
 use crate::lines::{Data, Heard, Reply, Sent, Severity};
 use dme_line::{LineFault, MarkSlice, cut_response, read_command, read_homed, read_point};
 use line_framing::{FramingFault, Line, Lines, LinesFault};
 use std::alloc::{AllocError, Global};
-
-/// Whether a text begins with a command that asks for values.
-fn asks_value(text: &[u8]) -> bool
-    ensures { result ≡ asking.asks_value text.now }
-{
-    text.starts_with(b"Get(".as_slice())
-        || text.starts_with(b"GetProp(".as_slice())
-        || text.starts_with(b"GetPropE(".as_slice())
-        || text.starts_with(b"EnumProp(".as_slice())
-}
-
-/// Whether a text begins with a command that asks what a server is.
-fn asks_state(text: &[u8]) -> bool
-    ensures { result ≡ asking.asks_state text.now }
-{
-    text.starts_with(b"EnumAllProp(".as_slice())
-        || text.starts_with(b"EnumTools(".as_slice())
-        || text.starts_with(b"GetErrStatusE(".as_slice())
-        || text.starts_with(b"GetXtdErrStatus(".as_slice())
-}
-
-/// Whether a text begins with another command that moves nothing.
-fn asks_more(text: &[u8]) -> bool
-    ensures { result ≡ asking.asks_more text.now }
-{
-    text.starts_with(b"GetDMEVersion(".as_slice()) || text.starts_with(b"OnMoveReportE(".as_slice())
-}
-
-/// Whether a text after a tag and its space is a command of the interface that changes neither tool nor frame.
-fn is_harmless(text: &[u8]) -> bool
-    ensures { result ≡ asking.is_harmless text.now }
-{
-    asks_value(text) || asks_state(text) || asks_more(text)
-}
+use witness::only_asks;
 
 /// What follows a tag and its space.
 fn behind_tag(line: &[u8]) -> &[u8]
@@ -63,7 +29,7 @@ fn sent_of(alloc: Global, line: &[u8]) -> Result<Sent, AllocError>
     match read_command(alloc, line)? {
         Ok((tag, command)) => Ok(Sent::Command(tag, command.kind())),
         Err(LineFault::NoTag) => Ok(Sent::Untagged),
-        Err(LineFault::UnknownCommand(tag)) => if is_harmless(behind_tag(line)) {
+        Err(LineFault::UnknownCommand(tag)) => if only_asks(behind_tag(line)) {
             Ok(Sent::Standard(tag))
         } else {
             Ok(Sent::Unknown(tag))

@@ -1,5 +1,5 @@
 -- A relay reads the lines of the client no later than they came, and all others in their order.
-use Rattle.std.proofs.Common.{◌≡◌, ℕ, List, [], ◌∷◌, ◌++◌, length, drop, map, Option, Some, None, Ok, Err}
+use Rattle.std.proofs.Common.{◌≡◌, ℕ, true, false, List, [], ◌∷◌, ◌++◌, length, drop, map, Option, Some, None, Ok, Err}
 use Rattle.std.proofs.Common.{refl, ap, sym, ◌∙◌, subst, append_assoc, append-nil}
 use Rattle.std.proofs.Math.Seq.{drop-append_seam}
 use Rattle.std.proofs.lemmas.List.{map-append, append_cancel_left}
@@ -11,16 +11,18 @@ use Rattle.line_framing.specs.Stream.{IsStream, fault_in}
 use Rattle.line_framing.specs.declared.faults.FramingFault.{FramingFault}
 use Rattle.line_framing.proofs.CallLists.{nothing_is_lost}
 use Rattle.line_framing.proofs.Streams.{one_stream, line_bytes-append, AreLines-append}
-use Rattle.told_ledger.specs.Relaying.{Relaying, Reads, none, client, server, Move, FromClient, FromServer, Read, MakeDue, Write, ToServer, ToClient}
-use Rattle.told_ledger.specs.Relaying.{Did, Course, with_move, Relays, begun, moved, IsAllTold}
-use Rattle.told_ledger.specs.Talking.{silence}
-use Rattle.told_ledger.specs.Texts.{told_lines}
-use Rattle.told_ledger.specs.Watching.{Watching, client_read, server_read, AreAllRead}
-use Rattle.told_ledger.specs.declared.uses.Told.{Told}
+use Rattle.witness.specs.Relaying.{Relaying, Reads, none, client, server, Move, FromClient, FromServer, Read, MakeDue, Write, ToServer, ToClient}
+use Rattle.witness.specs.Relaying.{Did, Course, with_move, Relays, begun, moved, IsAllTold}
+use Rattle.witness.specs.Dialogues.{silence}
+use Rattle.witness.specs.Texts.{told_lines}
+use Rattle.witness.specs.Watching.{Watching, client_read, server_read, AreAllRead}
+use Rattle.witness.specs.declared.lines.Reported.{Reported}
 use Rattle.told_orders.specs.Courses.{up_in, down_in, lines_read, lines_in, lines_of, whole_lines, are_whole_lines, completed, lines_coming, lines_came}
-use Rattle.told_orders.specs.Orders.{Line, Up, Down, ups, downs, IsCausal, IsClear}
-use Rattle.told_orders.proofs.Courses.{IsRead, IsAt, ups_append, downs_append, read_stream, at_course, at_client, at_server, at_reads, written_recorded}
-use Rattle.told_orders.proofs.Views.{IsSooner, same, swapped, sooner_ups, sooner_causal, sooner_clear}
+use Rattle.told_orders.specs.Orders.{Line, Up, Down, said_all, ups, downs, IsCausal, IsClear}
+use Rattle.told_orders.proofs.Claimed.{ups_append, downs_append}
+use Rattle.told_orders.proofs.Counts.{silence_counted}
+use Rattle.told_orders.proofs.Courses.{IsRead, IsAt, read_stream, at_course, at_client, at_server, at_reads, written_recorded}
+use Rattle.told_orders.proofs.Views.{IsSooner, same, swapped, sooner_causal, sooner_clear}
 
 -- ---- whole lines
 
@@ -212,24 +214,24 @@ waits_down up down came lines (Ok (Some (line, left))) w ended rest =
     }
 waits_down up down came lines (Err fault) w ended rest = subst (IsWaiting up down came) (sym (append-nil lines)) w
 
-waits_reads : (up down : List ℕ) (told : List Told) (old new : Watching) (came lines : List Line) (reads : Reads old new)
-    → IsAt up down told old lines → IsWaiting up down came lines → IsWaiting up down came (lines ++ lines_read old new reads)
-waits_reads up down told _ _ came lines (none v) at w = subst (IsWaiting up down came) (sym (append-nil lines)) w
-waits_reads up down told _ _ came lines (client old v before) at w =
-    let here : IsAt up down told v (lines ++ lines_read old v before) = at_reads up down told old v lines before at in
-    let there : IsAt up down told (client_read v) ((lines ++ lines_read old v before) ++ up_in (next_of v.up.rest)) =
-    at_client up down told v (lines ++ lines_read old v before) here in
+waits_reads : (up down : List ℕ) (taken : List Reported) (old new : Watching) (came lines : List Line) (reads : Reads old new)
+    → IsAt up down taken old lines → IsWaiting up down came lines → IsWaiting up down came (lines ++ lines_read old new reads)
+waits_reads up down taken _ _ came lines (none v) at w = subst (IsWaiting up down came) (sym (append-nil lines)) w
+waits_reads up down taken _ _ came lines (client old v before) at w =
+    let here : IsAt up down taken v (lines ++ lines_read old v before) = at_reads up down taken old v lines before at in
+    let there : IsAt up down taken (client_read v) ((lines ++ lines_read old v before) ++ up_in (next_of v.up.rest)) =
+    at_client up down taken v (lines ++ lines_read old v before) here in
     subst (IsWaiting up down came) (append_assoc lines (lines_read old v before) (up_in (next_of v.up.rest)))
     (waits_up up down came (lines ++ lines_read old v before) (next_of v.up.rest)
-    (waits_reads up down told old v came lines before at w)
+    (waits_reads up down taken old v came lines before at w)
     (read_first up (client_read v).up (ups ((lines ++ lines_read old v before) ++ up_in (next_of v.up.rest))) there.above))
-waits_reads up down told _ _ came lines (server old v before ended) at w =
-    let here : IsAt up down told v (lines ++ lines_read old v before) = at_reads up down told old v lines before at in
-    let there : IsAt up down told (server_read v) ((lines ++ lines_read old v before) ++ down_in (next_of v.down.rest)) =
-    at_server up down told v (lines ++ lines_read old v before) here in
+waits_reads up down taken _ _ came lines (server old v before ended) at w =
+    let here : IsAt up down taken v (lines ++ lines_read old v before) = at_reads up down taken old v lines before at in
+    let there : IsAt up down taken (server_read v) ((lines ++ lines_read old v before) ++ down_in (next_of v.down.rest)) =
+    at_server up down taken v (lines ++ lines_read old v before) here in
     subst (IsWaiting up down came) (append_assoc lines (lines_read old v before) (down_in (next_of v.down.rest)))
     (waits_down up down came (lines ++ lines_read old v before) (next_of v.down.rest)
-    (waits_reads up down told old v came lines before at w)
+    (waits_reads up down taken old v came lines before at w)
     (read_whole up v.up (ups (lines ++ lines_read old v before)) here.above ended)
     (read_first down (server_read v).down (downs ((lines ++ lines_read old v before) ++ down_in (next_of v.down.rest))) there.below))
 
@@ -239,7 +241,7 @@ waits_same up down came lines w =
     (subst (IsWaiting up down came) (sym (append-nil lines)) w)
 
 waits_move : (c : Course) (r new : Relaying) (move : Move) (did : Did r move new) (came lines : List Line)
-    → IsAt c.came_up c.came_down c.told r.watching lines → IsWaiting c.came_up c.came_down came lines
+    → IsAt c.came_up c.came_down c.reported r.watching lines → IsWaiting c.came_up c.came_down came lines
     → IsWaiting (with_move c r move).came_up (with_move c r move).came_down (came ++ lines_coming c move) (lines ++ lines_in r new move did)
 waits_move c r new (FromClient bytes) did came lines at w =
     subst (IsWaiting (c.came_up ++ bytes) c.came_down (came ++ map Up (completed c.came_up bytes))) (sym (append-nil lines))
@@ -249,7 +251,7 @@ waits_move c r new (FromServer bytes) did came lines at w =
     (came_from_server c.came_up c.came_down bytes came lines w)
 waits_move c r new Read did came lines at w =
     subst (λ (l : List Line). IsWaiting c.came_up c.came_down l (lines ++ lines_read r.watching new.watching did.0)) (sym (append-nil came))
-    (waits_reads c.came_up c.came_down c.told r.watching new.watching came lines did.0 at w)
+    (waits_reads c.came_up c.came_down c.reported r.watching new.watching came lines did.0 at w)
 waits_move c r new MakeDue did came lines at w = waits_same c.came_up c.came_down came lines w
 waits_move c r new Write did came lines at w = waits_same c.came_up c.came_down came lines w
 waits_move c r new (ToServer n) did came lines at w = waits_same c.came_up c.came_down came lines w
@@ -264,11 +266,11 @@ waits_course n _ _ begun = record { above = []; below = []; ups_are = whole_none
 waits_course n _ _ (moved c r new move before did) =
     waits_move c r new move did (lines_came n c r before) (lines_of n c r before) (at_course n c r before) (waits_course n c r before)
 
--- a relay that has told all has read what came, the client's lines no later
+-- a relay that has taken all has read what came, the client's lines no later
 pub read_sooner : (n : ℕ) (c : Course) (r : Relaying) (course : Relays n c r) → IsAllTold r
     → IsSooner (lines_came n c r course) (lines_of n c r course)
 read_sooner n c r course all =
-    let at : IsAt c.came_up c.came_down c.told r.watching (lines_of n c r course) = at_course n c r course in
+    let at : IsAt c.came_up c.came_down c.reported r.watching (lines_of n c r course) = at_course n c r course in
     let w : IsWaiting c.came_up c.came_down (lines_came n c r course) (lines_of n c r course) = waits_course n c r course in
     let ups_done : w.above ≡ [] =
     append_cancel_left (ups (lines_of n c r course)) w.above []
@@ -284,14 +286,13 @@ read_sooner n c r course all =
     ∙ append-nil (lines_of n c r course))
     w.order
 
-pub written_came : ((n : ℕ) (c : Course) (r : Relaying) → Relays n c r → c.written ++ r.due ≡ told_lines n c.told)
-    → (n : ℕ) (c : Course) (r : Relaying) (course : Relays n c r) (w : Watching) → IsAllTold r → IsCausal silence (lines_came n c r course)
-    → IsClear (ups (lines_came n c r course)) silence (lines_came n c r course) → AreAllRead c.came_up c.came_down w
-    → c.written ≡ told_lines n w.talk.told
-written_came written n c r course w all causal clear recorded =
+pub written_came : ((n : ℕ) (c : Course) (r : Relaying) → Relays n c r → c.written ++ r.due ≡ told_lines n c.reported)
+    → (n : ℕ) (c : Course) (r : Relaying) (course : Relays n c r) (w : Watching) → IsAllTold r → IsCausal (silence true) (lines_came n c r course)
+    → IsClear (silence true) (lines_came n c r course) → (said_all (silence true) (lines_of n c r course)).crossed ≡ false
+    → AreAllRead false c.came_up c.came_down w → c.written ≡ told_lines n w.dialogue.reported
+written_came written n c r course w all causal clear free recorded =
     let sooner : IsSooner (lines_came n c r course) (lines_of n c r course) = read_sooner n c r course all in
     written_recorded written n c r course w all
-    (sooner_causal silence (lines_came n c r course) (lines_of n c r course) sooner causal)
-    (subst (λ (l : List (List ℕ)). IsClear l silence (lines_of n c r course)) (sooner_ups (lines_came n c r course) (lines_of n c r course) sooner)
-    (sooner_clear (ups (lines_came n c r course)) silence (lines_came n c r course) (lines_of n c r course) sooner causal clear))
-    recorded
+    (sooner_causal (silence true) (lines_came n c r course) (lines_of n c r course) (silence_counted true) sooner causal)
+    (sooner_clear (silence true) (lines_came n c r course) (lines_of n c r course) (silence_counted true) sooner causal clear)
+    free recorded

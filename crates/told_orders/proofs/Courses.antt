@@ -1,5 +1,5 @@
 -- What a relay reads is the lines of both ends, and what it writes is what two recordings report.
-use Rattle.std.proofs.Common.{◌≡◌, ℕ, zero, suc, List, [], ◌∷◌, ◌++◌, Some, None, Ok, Err, IfOk, IsNone}
+use Rattle.std.proofs.Common.{◌≡◌, ℕ, zero, suc, true, false, List, [], ◌∷◌, ◌++◌, Some, None, Ok, Err, IfOk, IsNone}
 use Rattle.std.proofs.Common.{refl, ap, sym, ◌∙◌, subst, append_assoc, append-nil}
 use Rattle.line_framing.specs.Calls.{Call, Feed, Ask, after_calls, line_in, handed_out, bytes_fed, NoLineLeft}
 use Rattle.line_framing.specs.Framing.{Framing, IsLineDue, no_bytes, fed, after_next}
@@ -7,17 +7,21 @@ use Rattle.line_framing.specs.Next.{Front, next_of}
 use Rattle.line_framing.specs.Stream.{IsStream, fault_in}
 use Rattle.line_framing.proofs.CallLists.{handed_out_all}
 use Rattle.line_framing.proofs.Streams.{one_stream}
-use Rattle.told_ledger.specs.Relaying.{Relaying, Reads, none, client, server, Move, FromClient, FromServer, Read, MakeDue, Write, ToServer, ToClient}
-use Rattle.told_ledger.specs.Relaying.{Did, Course, with_move, Relays, begun, moved, IsAllTold}
-use Rattle.told_ledger.specs.Talking.{Talking, silence}
-use Rattle.told_ledger.specs.Texts.{told_lines}
-use Rattle.told_ledger.specs.Watching.{Watching, client_front, server_front, client_read, server_read, client_lines, server_lines, ledger}
-use Rattle.told_ledger.specs.Watching.{client_times, server_times, ReadsClient, ReadsServer, came, AreAllRead}
-use Rattle.told_ledger.specs.declared.uses.Told.{Told}
+use Rattle.witness.specs.Relaying.{Relaying, Reads, none, client, server, Move, FromClient, FromServer, Read, MakeDue, Write, ToServer, ToClient}
+use Rattle.witness.specs.Relaying.{Did, Course, with_move, Relays, begun, moved, IsAllTold}
+use Rattle.witness.specs.Dialogues.{Dialogue, silence}
+use Rattle.witness.specs.Texts.{told_lines}
+use Rattle.witness.specs.Watching.{Watching, client_front, server_front, client_read, server_read, client_lines, server_lines, ledger}
+use Rattle.witness.specs.Watching.{client_times, server_times, ReadsClient, ReadsServer, came, AreAllRead}
+use Rattle.witness.specs.declared.lines.Reported.{Reported}
 use Rattle.told_orders.specs.Courses.{up_in, down_in, lines_read, lines_in, lines_of, AreLinesOf}
 use Rattle.told_orders.specs.Orders.{Line, Up, Down, said_all, ups, downs, IsCausal, IsClear}
-use Rattle.told_orders.proofs.More.{all_append, after, all_after, client_append, server_append}
-use Rattle.told_orders.proofs.Orders.{same_told}
+use Rattle.witness.proofs.Prefixes.{with_reports, prefixed, client_after, server_after}
+use Rattle.told_orders.specs.Claims.{in_turn, ClaimNoMore}
+use Rattle.told_orders.proofs.Claimed.{ups_append, downs_append, causal_without, told_unordered, ordered_claim}
+use Rattle.told_orders.proofs.More.{client_append, server_append}
+use Rattle.told_orders.proofs.Sorting.{all_append, same_told}
+use Rattle.told_orders.proofs.Views.{clear_alike, silence_alike}
 
 -- ---- the bytes of one end
 
@@ -87,16 +91,6 @@ read_stream bytes f lines r ended =
 
 -- ---- a relay
 
-pub ups_append : (lines more : List Line) → ups (lines ++ more) ≡ ups lines ++ ups more
-ups_append [] more = refl
-ups_append (Up line ∷ lines) more = ap (λ (l : List (List ℕ)). line ∷ l) (ups_append lines more)
-ups_append (Down line ∷ lines) more = ups_append lines more
-
-pub downs_append : (lines more : List Line) → downs (lines ++ more) ≡ downs lines ++ downs more
-downs_append [] more = refl
-downs_append (Up line ∷ lines) more = downs_append lines more
-downs_append (Down line ∷ lines) more = ap (λ (l : List (List ℕ)). line ∷ l) (downs_append lines more)
-
 ups_in : (front : Front) → (ups (up_in front) ≡ line_in front) × (downs (up_in front) ≡ [])
 ups_in (Ok None) = (refl, refl)
 ups_in (Ok (Some (line, rest))) = (refl, refl)
@@ -107,31 +101,30 @@ downs_in (Ok None) = (refl, refl)
 downs_in (Ok (Some (line, rest))) = (refl, refl)
 downs_in (Err fault) = (refl, refl)
 
-client_front_said : (t : Talking) (front : Front) → client_front t front ≡ said_all t (up_in front)
-client_front_said t (Ok None) = refl
-client_front_said t (Ok (Some (line, rest))) = refl
-client_front_said t (Err fault) = refl
+client_front_said : (d : Dialogue) (front : Front) → client_front d front ≡ said_all d (up_in front)
+client_front_said d (Ok None) = refl
+client_front_said d (Ok (Some (line, rest))) = refl
+client_front_said d (Err fault) = refl
 
-server_front_said : (t : Talking) (front : Front) → server_front t front ≡ said_all t (down_in front)
-server_front_said t (Ok None) = refl
-server_front_said t (Ok (Some (line, rest))) = refl
-server_front_said t (Err fault) = refl
+server_front_said : (d : Dialogue) (front : Front) → server_front d front ≡ said_all d (down_in front)
+server_front_said d (Ok None) = refl
+server_front_said d (Ok (Some (line, rest))) = refl
+server_front_said d (Err fault) = refl
 
 -- a witness to whom these bytes came, and that read these lines; what it reported before was taken
-pub record IsAt (up down : List ℕ) (told : List Told) (w : Watching) (lines : List Line) : Type 0 where
-  pub talk : after told w.talk ≡ said_all silence lines
+pub record IsAt (up down : List ℕ) (taken : List Reported) (w : Watching) (lines : List Line) : Type 0 where
+  pub dialogue : prefixed taken w.dialogue ≡ said_all (silence true) lines
   pub above : IsRead up w.up (ups lines)
   pub below : IsRead down w.down (downs lines)
 
-said_more : (told : List Told) (t : Talking) (lines more : List Line) → after told t ≡ said_all silence lines
-    → after told (said_all t more) ≡ said_all silence (lines ++ more)
-said_more told t lines more same =
-    sym (all_after told t more) ∙ ap (λ (s : Talking). said_all s more) same ∙ sym (all_append silence lines more)
+said_more : (d e : Dialogue) (lines more : List Line) → d ≡ said_all (silence true) lines → e ≡ said_all d more → e ≡ said_all (silence true) (lines ++ more)
+said_more d e lines more same then = then ∙ ap (λ (x : Dialogue). said_all x more) same ∙ sym (all_append (silence true) lines more)
 
-pub at_client : (up down : List ℕ) (told : List Told) (w : Watching) (lines : List Line) → IsAt up down told w lines
-    → IsAt up down told (client_read w) (lines ++ up_in (next_of w.up.rest))
-at_client up down told w lines at = record {
-  talk = ap (after told) (client_front_said w.talk (next_of w.up.rest)) ∙ said_more told w.talk lines (up_in (next_of w.up.rest)) at.talk;
+pub at_client : (up down : List ℕ) (taken : List Reported) (w : Watching) (lines : List Line) → IsAt up down taken w lines
+    → IsAt up down taken (client_read w) (lines ++ up_in (next_of w.up.rest))
+at_client up down taken w lines at = record {
+  dialogue = said_more (prefixed taken w.dialogue) (prefixed taken (client_read w).dialogue) lines (up_in (next_of w.up.rest)) at.dialogue
+      (sym (client_after taken w.dialogue (next_of w.up.rest)) ∙ client_front_said (prefixed taken w.dialogue) (next_of w.up.rest));
   above = subst (IsRead up (after_next w.up))
       (ap (λ (l : List (List ℕ)). ups lines ++ l) (sym ((ups_in (next_of w.up.rest)).0)) ∙ sym (ups_append lines (up_in (next_of w.up.rest))))
       (read_asked up w.up (ups lines) at.above);
@@ -141,11 +134,11 @@ at_client up down told w lines at = record {
       at.below;
 }
 
-pub at_server : (up down : List ℕ) (told : List Told) (w : Watching) (lines : List Line) → IsAt up down told w lines
-    → IsAt up down told (server_read w) (lines ++ down_in (next_of w.down.rest))
-at_server up down told w lines at = record {
-  talk = ap (after told) (server_front_said w.talk (next_of w.down.rest))
-      ∙ said_more told w.talk lines (down_in (next_of w.down.rest)) at.talk;
+pub at_server : (up down : List ℕ) (taken : List Reported) (w : Watching) (lines : List Line) → IsAt up down taken w lines
+    → IsAt up down taken (server_read w) (lines ++ down_in (next_of w.down.rest))
+at_server up down taken w lines at = record {
+  dialogue = said_more (prefixed taken w.dialogue) (prefixed taken (server_read w).dialogue) lines (down_in (next_of w.down.rest)) at.dialogue
+      (sym (server_after taken w.dialogue (next_of w.down.rest)) ∙ server_front_said (prefixed taken w.dialogue) (next_of w.down.rest));
   above = subst (IsRead up w.up)
       (sym (ups_append lines (down_in (next_of w.down.rest))
       ∙ ap (λ (l : List (List ℕ)). ups lines ++ l) ((downs_in (next_of w.down.rest)).1) ∙ append-nil (ups lines)))
@@ -156,61 +149,61 @@ at_server up down told w lines at = record {
       (read_asked down w.down (downs lines) at.below);
 }
 
-at_same : (up down : List ℕ) (told : List Told) (w : Watching) (lines : List Line) → IsAt up down told w lines → IsAt up down told w (lines ++ [])
-at_same up down told w lines at = subst (IsAt up down told w) (sym (append-nil lines)) at
+at_same : (up down : List ℕ) (taken : List Reported) (w : Watching) (lines : List Line) → IsAt up down taken w lines → IsAt up down taken w (lines ++ [])
+at_same up down taken w lines at = subst (IsAt up down taken w) (sym (append-nil lines)) at
 
-pub at_reads : (up down : List ℕ) (told : List Told) (old new : Watching) (lines : List Line) (reads : Reads old new) → IsAt up down told old lines
-    → IsAt up down told new (lines ++ lines_read old new reads)
-at_reads up down told _ _ lines (none w) at = at_same up down told w lines at
-at_reads up down told _ _ lines (client old w before) at =
-    subst (IsAt up down told (client_read w)) (append_assoc lines (lines_read old w before) (up_in (next_of w.up.rest)))
-    (at_client up down told w (lines ++ lines_read old w before) (at_reads up down told old w lines before at))
-at_reads up down told _ _ lines (server old w before ended) at =
-    subst (IsAt up down told (server_read w)) (append_assoc lines (lines_read old w before) (down_in (next_of w.down.rest)))
-    (at_server up down told w (lines ++ lines_read old w before) (at_reads up down told old w lines before at))
+pub at_reads : (up down : List ℕ) (taken : List Reported) (old new : Watching) (lines : List Line) (reads : Reads old new) → IsAt up down taken old lines
+    → IsAt up down taken new (lines ++ lines_read old new reads)
+at_reads up down taken _ _ lines (none w) at = at_same up down taken w lines at
+at_reads up down taken _ _ lines (client old w before) at =
+    subst (IsAt up down taken (client_read w)) (append_assoc lines (lines_read old w before) (up_in (next_of w.up.rest)))
+    (at_client up down taken w (lines ++ lines_read old w before) (at_reads up down taken old w lines before at))
+at_reads up down taken _ _ lines (server old w before ended) at =
+    subst (IsAt up down taken (server_read w)) (append_assoc lines (lines_read old w before) (down_in (next_of w.down.rest)))
+    (at_server up down taken w (lines ++ lines_read old w before) (at_reads up down taken old w lines before at))
 
 pub at_move : (c : Course) (r new : Relaying) (move : Move) (did : Did r move new) (lines : List Line)
-    → IsAt c.came_up c.came_down c.told r.watching lines
-    → IsAt (with_move c r move).came_up (with_move c r move).came_down (with_move c r move).told new.watching (lines ++ lines_in r new move did)
+    → IsAt c.came_up c.came_down c.reported r.watching lines
+    → IsAt (with_move c r move).came_up (with_move c r move).came_down (with_move c r move).reported new.watching (lines ++ lines_in r new move did)
 at_move c r new (FromClient bytes) did lines at =
-    at_same (c.came_up ++ bytes) c.came_down c.told new.watching lines
-    (subst (λ (x : Relaying). IsAt (c.came_up ++ bytes) c.came_down c.told x.watching lines) (sym did)
-    (record { talk = at.talk; above = read_fed c.came_up bytes r.watching.up (ups lines) at.above; below = at.below }))
+    at_same (c.came_up ++ bytes) c.came_down c.reported new.watching lines
+    (subst (λ (x : Relaying). IsAt (c.came_up ++ bytes) c.came_down c.reported x.watching lines) (sym did)
+    (record { dialogue = at.dialogue; above = read_fed c.came_up bytes r.watching.up (ups lines) at.above; below = at.below }))
 at_move c r new (FromServer bytes) did lines at =
-    at_same c.came_up (c.came_down ++ bytes) c.told new.watching lines
-    (subst (λ (x : Relaying). IsAt c.came_up (c.came_down ++ bytes) c.told x.watching lines) (sym did)
-    (record { talk = at.talk; above = at.above; below = read_fed c.came_down bytes r.watching.down (downs lines) at.below }))
-at_move c r new Read did lines at = at_reads c.came_up c.came_down c.told r.watching new.watching lines did.0 at
+    at_same c.came_up (c.came_down ++ bytes) c.reported new.watching lines
+    (subst (λ (x : Relaying). IsAt c.came_up (c.came_down ++ bytes) c.reported x.watching lines) (sym did)
+    (record { dialogue = at.dialogue; above = at.above; below = read_fed c.came_down bytes r.watching.down (downs lines) at.below }))
+at_move c r new Read did lines at = at_reads c.came_up c.came_down c.reported r.watching new.watching lines did.0 at
 at_move c r new MakeDue did lines at =
-    at_same c.came_up c.came_down (c.told ++ r.watching.talk.told) new.watching lines
-    (subst (λ (x : Relaying). IsAt c.came_up c.came_down (c.told ++ r.watching.talk.told) x.watching lines) (sym did)
+    at_same c.came_up c.came_down (c.reported ++ r.watching.dialogue.reported) new.watching lines
+    (subst (λ (x : Relaying). IsAt c.came_up c.came_down (c.reported ++ r.watching.dialogue.reported) x.watching lines) (sym did)
     (record {
-      talk = ap (λ (l : List Told). record (r.watching.talk) { told = l }) (append-nil (c.told ++ r.watching.talk.told)) ∙ at.talk;
+      dialogue = ap (with_reports r.watching.dialogue) (append-nil (c.reported ++ r.watching.dialogue.reported)) ∙ at.dialogue;
       above = at.above;
       below = at.below;
     }))
 at_move c r new Write did lines at =
-    at_same c.came_up c.came_down c.told new.watching lines
-    (subst (λ (x : Relaying). IsAt c.came_up c.came_down c.told x.watching lines) (sym did) at)
+    at_same c.came_up c.came_down c.reported new.watching lines
+    (subst (λ (x : Relaying). IsAt c.came_up c.came_down c.reported x.watching lines) (sym did) at)
 at_move c r new (ToServer n) did lines at =
-    at_same c.came_up c.came_down c.told new.watching lines
-    (subst (λ (x : Relaying). IsAt c.came_up c.came_down c.told x.watching lines) (sym did.1) at)
+    at_same c.came_up c.came_down c.reported new.watching lines
+    (subst (λ (x : Relaying). IsAt c.came_up c.came_down c.reported x.watching lines) (sym did.1) at)
 at_move c r new (ToClient n) did lines at =
-    at_same c.came_up c.came_down c.told new.watching lines
-    (subst (λ (x : Relaying). IsAt c.came_up c.came_down c.told x.watching lines) (sym did.2) at)
+    at_same c.came_up c.came_down c.reported new.watching lines
+    (subst (λ (x : Relaying). IsAt c.came_up c.came_down c.reported x.watching lines) (sym did.2) at)
 
 nothing_read : IsRead [] no_bytes []
 nothing_read = record { calls = []; bytes_are = refl; left = refl; out = refl }
 
 pub at_course : (n : ℕ) (c : Course) (r : Relaying) (course : Relays n c r)
-    → IsAt c.came_up c.came_down c.told r.watching (lines_of n c r course)
-at_course n _ _ begun = record { talk = refl; above = nothing_read; below = nothing_read }
+    → IsAt c.came_up c.came_down c.reported r.watching (lines_of n c r course)
+at_course n _ _ begun = record { dialogue = refl; above = nothing_read; below = nothing_read }
 at_course n _ _ (moved c r new move before did) = at_move c r new move did (lines_of n c r before) (at_course n c r before)
 
 pub read_lines : (n : ℕ) (c : Course) (r : Relaying) (course : Relays n c r) → IsAllTold r
     → AreLinesOf c.came_up c.came_down (lines_of n c r course)
 read_lines n c r course all =
-    let at : IsAt c.came_up c.came_down c.told r.watching (lines_of n c r course) = at_course n c r course in
+    let at : IsAt c.came_up c.came_down c.reported r.watching (lines_of n c r course) = at_course n c r course in
     let above = read_stream c.came_up r.watching.up (ups (lines_of n c r course)) at.above all.client in
     let below = read_stream c.came_down r.watching.down (downs (lines_of n c r course)) at.below all.server in
     record {
@@ -223,36 +216,36 @@ read_lines n c r course all =
     }
 
 pub told_all : (n : ℕ) (c : Course) (r : Relaying) (course : Relays n c r)
-    → c.told ++ r.watching.talk.told ≡ (said_all silence (lines_of n c r course)).told
-told_all n c r course = ap (λ (t : Talking). t.told) ((at_course n c r course).talk)
+    → c.reported ++ r.watching.dialogue.reported ≡ (said_all (silence true) (lines_of n c r course)).reported
+told_all n c r course = ap (λ (d : Dialogue). d.reported) ((at_course n c r course).dialogue)
 
 -- ---- two recordings
 
 record ReadUp (old new : Watching) : Type 0 where
   lines : List (List ℕ)
-  talk : new.talk ≡ client_lines old.talk lines
+  dialogue : new.dialogue ≡ client_lines old.dialogue lines
   above : (bytes : List ℕ) (before : List (List ℕ)) → IsRead bytes old.up before → IsRead bytes new.up (before ++ lines)
   below : new.down ≡ old.down
 
 record ReadDown (old new : Watching) : Type 0 where
   lines : List (List ℕ)
-  talk : new.talk ≡ server_lines old.talk lines
+  dialogue : new.dialogue ≡ server_lines old.dialogue lines
   below : (bytes : List ℕ) (before : List (List ℕ)) → IsRead bytes old.down before → IsRead bytes new.down (before ++ lines)
 
-client_front_lines : (t : Talking) (front : Front) → client_front t front ≡ client_lines t (line_in front)
-client_front_lines t (Ok None) = refl
-client_front_lines t (Ok (Some (line, rest))) = refl
-client_front_lines t (Err fault) = refl
+client_front_lines : (d : Dialogue) (front : Front) → client_front d front ≡ client_lines d (line_in front)
+client_front_lines d (Ok None) = refl
+client_front_lines d (Ok (Some (line, rest))) = refl
+client_front_lines d (Err fault) = refl
 
-server_front_lines : (t : Talking) (front : Front) → server_front t front ≡ server_lines t (line_in front)
-server_front_lines t (Ok None) = refl
-server_front_lines t (Ok (Some (line, rest))) = refl
-server_front_lines t (Err fault) = refl
+server_front_lines : (d : Dialogue) (front : Front) → server_front d front ≡ server_lines d (line_in front)
+server_front_lines d (Ok None) = refl
+server_front_lines d (Ok (Some (line, rest))) = refl
+server_front_lines d (Err fault) = refl
 
 times_up : (n : ℕ) (w : Watching) → ReadUp w (client_times n w)
 times_up zero w = record {
   lines = [];
-  talk = refl;
+  dialogue = refl;
   above = λ bytes before read. subst (IsRead bytes w.up) (sym (append-nil before)) read;
   below = refl;
 }
@@ -261,9 +254,9 @@ times_up (suc n) w =
     let v : Watching = client_times n w in
     record {
       lines = first.lines ++ line_in (next_of v.up.rest);
-      talk = client_front_lines v.talk (next_of v.up.rest)
-          ∙ ap (λ (t : Talking). client_lines t (line_in (next_of v.up.rest))) first.talk
-          ∙ sym (client_append w.talk first.lines (line_in (next_of v.up.rest)));
+      dialogue = client_front_lines v.dialogue (next_of v.up.rest)
+          ∙ ap (λ (d : Dialogue). client_lines d (line_in (next_of v.up.rest))) first.dialogue
+          ∙ sym (client_append w.dialogue first.lines (line_in (next_of v.up.rest)));
       above = λ bytes before read.
           subst (IsRead bytes (after_next v.up)) (append_assoc before first.lines (line_in (next_of v.up.rest)))
           (read_asked bytes v.up (before ++ first.lines) (first.above bytes before read));
@@ -273,7 +266,7 @@ times_up (suc n) w =
 times_down : (n : ℕ) (w : Watching) → ReadDown w (server_times n w)
 times_down zero w = record {
   lines = [];
-  talk = refl;
+  dialogue = refl;
   below = λ bytes before read. subst (IsRead bytes w.down) (sym (append-nil before)) read;
 }
 times_down (suc n) w =
@@ -281,9 +274,9 @@ times_down (suc n) w =
     let v : Watching = server_times n w in
     record {
       lines = first.lines ++ line_in (next_of v.down.rest);
-      talk = server_front_lines v.talk (next_of v.down.rest)
-          ∙ ap (λ (t : Talking). server_lines t (line_in (next_of v.down.rest))) first.talk
-          ∙ sym (server_append w.talk first.lines (line_in (next_of v.down.rest)));
+      dialogue = server_front_lines v.dialogue (next_of v.down.rest)
+          ∙ ap (λ (d : Dialogue). server_lines d (line_in (next_of v.down.rest))) first.dialogue
+          ∙ sym (server_append w.dialogue first.lines (line_in (next_of v.down.rest)));
       below = λ bytes before read.
           subst (IsRead bytes (after_next v.down)) (append_assoc before first.lines (line_in (next_of v.down.rest)))
           (read_asked bytes v.down (before ++ first.lines) (first.below bytes before read));
@@ -299,10 +292,10 @@ bytes_came : (bytes : List ℕ) → IsRead bytes (fed no_bytes bytes) []
 bytes_came bytes = record { calls = Feed bytes ∷ []; bytes_are = append-nil bytes; left = refl; out = refl }
 
 -- what two recordings report is what their lines report, those of the client read first
-pub recorded_told : (up down : List ℕ) (w : Watching) (lines : List Line) → AreAllRead up down w → AreLinesOf up down lines
-    → w.talk.told ≡ (ledger (ups lines) (downs lines)).told
+pub recorded_told : (up down : List ℕ) (w : Watching) (lines : List Line) → AreAllRead false up down w → AreLinesOf up down lines
+    → w.dialogue.reported ≡ (ledger (ups lines) (downs lines)).reported
 recorded_told up down w lines all are =
-    let first : ReadUp (came up down) all.between = reads_up (came up down) all.between all.client in
+    let first : ReadUp (came false up down) all.between = reads_up (came false up down) all.between all.client in
     let then : ReadDown all.between w = reads_down all.between w all.server in
     let above = read_stream up all.between.up first.lines (first.above up [] (bytes_came up)) all.client_ended in
     let below = read_stream down w.down then.lines
@@ -311,18 +304,36 @@ recorded_told up down w lines all are =
     above.1 are.up_lines in
     let downs_are = one_stream down then.lines (downs lines) below.0 are.down_rest (fault_in (next_of w.down.rest)) are.down_fault
     below.1 are.down_lines in
-    ap (λ (t : Talking). t.told) then.talk
-    ∙ ap (λ (t : Talking). (server_lines t then.lines).told) first.talk
-    ∙ ap (λ (l : List (List ℕ)). (ledger l then.lines).told) ups_are.lines_are
-    ∙ ap (λ (l : List (List ℕ)). (ledger (ups lines) l).told) downs_are.lines_are
+    ap (λ (d : Dialogue). d.reported) then.dialogue
+    ∙ ap (λ (d : Dialogue). (server_lines d then.lines).reported) first.dialogue
+    ∙ ap (λ (l : List (List ℕ)). (ledger l then.lines).reported) ups_are.lines_are
+    ∙ ap (λ (l : List (List ℕ)). (ledger (ups lines) l).reported) downs_are.lines_are
 
-pub written_recorded : ((n : ℕ) (c : Course) (r : Relaying) → Relays n c r → c.written ++ r.due ≡ told_lines n c.told)
-    → (n : ℕ) (c : Course) (r : Relaying) (course : Relays n c r) (w : Watching) → IsAllTold r → IsCausal silence (lines_of n c r course)
-    → IsClear (ups (lines_of n c r course)) silence (lines_of n c r course) → AreAllRead c.came_up c.came_down w
-    → c.written ≡ told_lines n w.talk.told
-written_recorded written n c r course w all causal clear recorded =
+-- all that was reported, when it was taken
+all_taken : (n : ℕ) (c : Course) (r : Relaying) (course : Relays n c r) → IsAllTold r → c.reported ≡ (said_all (silence true) (lines_of n c r course)).reported
+all_taken n c r course all =
+    sym (append-nil c.reported) ∙ ap (λ (l : List Reported). c.reported ++ l) (sym all.taken) ∙ told_all n c r course
+
+pub written_recorded : ((n : ℕ) (c : Course) (r : Relaying) → Relays n c r → c.written ++ r.due ≡ told_lines n c.reported)
+    → (n : ℕ) (c : Course) (r : Relaying) (course : Relays n c r) (w : Watching) → IsAllTold r → IsCausal (silence true) (lines_of n c r course)
+    → IsClear (silence true) (lines_of n c r course) → (said_all (silence true) (lines_of n c r course)).crossed ≡ false
+    → AreAllRead false c.came_up c.came_down w → c.written ≡ told_lines n w.dialogue.reported
+written_recorded written n c r course w all causal clear free recorded =
+    let lines : List Line = lines_of n c r course in
     sym (append-nil c.written) ∙ ap (λ (l : List ℕ). c.written ++ l) (sym all.written) ∙ written n c r course
     ∙ ap (told_lines n)
-    (sym (append-nil c.told) ∙ ap (λ (l : List Told). c.told ++ l) (sym all.taken) ∙ told_all n c r course
-    ∙ same_told (lines_of n c r course) causal clear
-    ∙ sym (recorded_told c.came_up c.came_down w (lines_of n c r course) recorded (read_lines n c r course all)))
+    (all_taken n c r course all
+    ∙ sym (told_unordered lines free)
+    ∙ same_told lines (causal_without lines causal) (clear_alike (silence true) (silence false) lines (silence_alike true false) clear)
+    ∙ sym (recorded_told c.came_up c.came_down w lines recorded (read_lines n c r course all)))
+
+pub recordings_claim : (n : ℕ) (c : Course) (r : Relaying) (course : Relays n c r) (w : Watching) → IsAllTold r
+    → IsCausal (silence true) (lines_of n c r course) → (said_all (silence true) (lines_of n c r course)).crossed ≡ false
+    → AreAllRead false c.came_up c.came_down w → ClaimNoMore (in_turn w.dialogue.reported) (in_turn c.reported)
+recordings_claim n c r course w all causal free recorded =
+    let lines : List Line = lines_of n c r course in
+    subst (λ (l : List Reported). ClaimNoMore (in_turn w.dialogue.reported) (in_turn l)) (sym (all_taken n c r course all))
+    (subst (λ (l : List Reported). ClaimNoMore (in_turn l) (in_turn (said_all (silence true) lines).reported))
+    (ap (λ (l : List (List ℕ)). (ledger l (downs lines)).reported) (append-nil (ups lines))
+    ∙ sym (recorded_told c.came_up c.came_down w lines recorded (read_lines n c r course all)))
+    (ordered_claim lines [] (subst (IsCausal (silence true)) (sym (append-nil lines)) causal) free))

@@ -1,268 +1,286 @@
 -- More lines report more, and lines of the client report nothing until they are answered.
-use Rattle.std.proofs.Common.{◌≡◌, ℕ, true, false, List, [], ◌∷◌, ◌++◌, map, slice_get, position}
-use Rattle.std.proofs.Common.{Option, Some, None, Result, Ok, Err, refl, ap, sym, ◌∙◌, subst, append_assoc, append-nil}
+use Rattle.std.proofs.Common.{◌≡◌, ℕ, zero, suc, Bool, true, false, ◌&&◌, ◌||◌, if◌then◌else◌, List, [], ◌∷◌, ◌++◌, map, length, take, remove}
+use Rattle.std.proofs.Common.{Option, Some, None, is_some, Result, Ok, Err, refl, ap, sym, ◌∙◌, subst, append_assoc, append-nil}
+use Rattle.std.proofs.lemmas.Bool.{false≢true}
+use Rattle.std.proofs.lemmas.List.{map-append}
 use Rattle.std.proofs.lemmas.List.Folds.{list_any-append}
-use Rattle.dme_line.specs.declared.responses.Mark.{Mark}
-use Rattle.dme_line.specs.declared.responses.Mark.TheVariants as mark
+use Rattle.std.specs.List.{list_any}
 use Rattle.dme_line.specs.declared.responses.Response.{Response}
 use Rattle.dme_line.specs.declared.responses.NotResponse.{NotResponse}
 use Rattle.dme_line.specs.declared.tags.Tag.{Tag}
-use Rattle.dme_line.specs.declared.tags.Tag.TheVariants.{Std, Event}
 use Rattle.protocol_model.specs.Readings.{command_of, response_of}
 use Rattle.protocol_model.specs.Replies.{tag_is}
-use Rattle.protocol_model.specs.declared.held.Stage.TheVariants as stage
-use Rattle.told_ledger.specs.Asking.{asked}
-use Rattle.told_ledger.specs.Effects.{nothing, told_by}
-use Rattle.told_ledger.specs.Judging.{heard_as}
-use Rattle.told_ledger.specs.Talking.{Talking, silence, is_open, asking, client_said, with_told, turn_of, heard_for, heard_at, heard_under}
-use Rattle.told_ledger.specs.Talking.{unasked, refusing, answering, server_said}
-use Rattle.told_ledger.specs.Watching.{client_lines, server_lines, ledger}
-use Rattle.told_ledger.specs.declared.uses.Asked.{Asked}
-use Rattle.told_ledger.specs.declared.uses.Rule.TheVariants.{UnknownTag}
-use Rattle.told_ledger.specs.declared.uses.Side.TheVariants.{Server}
-use Rattle.told_ledger.specs.declared.uses.Told.{Told}
-use Rattle.told_ledger.specs.declared.uses.Told.TheVariants as told
-use Rattle.told_ledger.specs.declared.uses.Use.{Use}
-use Rattle.told_orders.specs.Orders.{Line, Up, Down, said, said_all, ups, downs, is_under, sends, some_sends, two_send}
-use Rattle.told_orders.specs.Orders.{IsBehind, IsCausal, IsSure, IsClear, IsPrefix}
-use Rattle.told_orders.proofs.Marks.{neither, both_not}
-use Rattle.told_orders.proofs.Swaps.{longer, IsBefore, longer_answering, ups_after}
-use Rattle.told_orders.proofs.Orders.{same_told}
+use Rattle.witness.specs.Asking.{sent, answered, Signal, signal_of}
+use Rattle.witness.specs.Dialogues.{Dialogue, silence, last_under, line_of, sending, at_once, foreign_event, client_sent, use_renewed, faulting, reported_by, waits}
+use Rattle.witness.specs.Dialogues.{is_out_of_turn, may_not_come, use_heard, left_over, unless_crossed, hearing, heard_at, is_report, unasked, server_answered}
+use Rattle.witness.specs.Known.{all_renewed}
+use Rattle.witness.specs.Marks.{heard_as, is_end, has_turn}
+use Rattle.witness.specs.Rules.{is_at_once, reported_at_once}
+use Rattle.witness.specs.Watching.{client_lines, server_lines, ledger}
+use Rattle.witness.specs.declared.lines.Heard.{Heard}
+use Rattle.witness.specs.declared.lines.Renewal.TheVariants.{Fault}
+use Rattle.witness.specs.declared.lines.Reported.{Reported}
+use Rattle.witness.specs.declared.lines.Reported.TheVariants as reports
+use Rattle.witness.specs.declared.lines.Rule.TheVariants.{NotInTurn}
+use Rattle.witness.specs.declared.lines.SentCommand.{SentCommand}
+use Rattle.witness.specs.declared.lines.Side.TheVariants.{Server}
+use Rattle.witness.specs.declared.lines.Use.{Use}
+use Rattle.told_orders.specs.Claims.{reported_first}
+use Rattle.told_orders.specs.Orders.{Line, Up, Down, said, said_all, ups, downs, is_open, is_under, some_sends, at_once_line, some_at_once}
+use Rattle.told_orders.specs.Orders.{IsBehind, IsCausal, IsClear, IsPrefix}
+use Rattle.told_orders.proofs.Counts.{answered_prefix, prefix_more, same_prefix, heard_tag}
+use Rattle.told_orders.proofs.Marks.{Found, find_first, neither, both_not, marks_first, marks_none}
+use Rattle.told_orders.proofs.Sends.{open_fault, report_same}
+use Rattle.told_orders.proofs.Sorting.{all_append, all_ups, all_downs, said_ordered, same_told}
+use Rattle.told_orders.proofs.Swaps.{InList, in_there, in_map, new_use, or_no}
 
--- ---- lines one after another
+-- ---- what a line of the client reports
 
-pub all_append : (t : Talking) (lines more : List Line) → said_all t (lines ++ more) ≡ said_all (said_all t lines) more
-all_append t [] more = refl
-all_append t (line ∷ lines) more = all_append (said t line) lines more
+if_reported : (d : Dialogue) (line : List ℕ) (tag : Tag) (what : SentCommand) (b : Bool)
+    → (if b then sending (at_once d line) tag what else sending d tag what).reported ≡ d.reported ++ reported_at_once line b
+if_reported d line tag what true = refl
+if_reported d line tag what false = sym (append-nil d.reported)
 
-pub all_ups : (t : Talking) (up : List (List ℕ)) → said_all t (map Up up) ≡ client_lines t up
-all_ups t [] = refl
-all_ups t (line ∷ up) = all_ups (client_said t line) up
+client_reported : (d : Dialogue) (line : List ℕ) (w : Option (Tag × SentCommand))
+    → (client_sent d line w).reported ≡ d.reported ++ reported_at_once line (is_at_once w)
+client_reported d line None = refl
+client_reported d line (Some (tag, what)) = if_reported d line tag what (foreign_event tag what)
 
-pub all_downs : (t : Talking) (down : List (List ℕ)) → said_all t (map Down down) ≡ server_lines t down
-all_downs t [] = refl
-all_downs t (line ∷ down) = all_downs (server_said t line) down
+up_reported : (d : Dialogue) (line : List ℕ) → (said d (Up line)).reported ≡ d.reported ++ reported_at_once line (at_once_line line)
+up_reported d line = client_reported d line (sent line (command_of line))
 
-pub client_append : (t : Talking) (up more : List (List ℕ)) → client_lines t (up ++ more) ≡ client_lines (client_lines t up) more
-client_append t [] more = refl
-client_append t (line ∷ up) more = client_append (client_said t line) up more
+pub ups_reported : (d : Dialogue) (up : List (List ℕ)) → (client_lines d up).reported ≡ d.reported ++ reported_first up
+ups_reported d [] = sym (append-nil d.reported)
+ups_reported d (line ∷ up) =
+    ups_reported (said d (Up line)) up
+    ∙ ap (λ (l : List Reported). l ++ reported_first up) (up_reported d line)
+    ∙ append_assoc d.reported (reported_at_once line (at_once_line line)) (reported_first up)
 
-pub server_append : (t : Talking) (down more : List (List ℕ)) → server_lines t (down ++ more) ≡ server_lines (server_lines t down) more
-server_append t [] more = refl
-server_append t (line ∷ down) more = server_append (server_said t line) down more
+pub ups_report_first : (d : Dialogue) (lines : List Line) (up : List (List ℕ))
+    → (said_all d (lines ++ map Up up)).reported ≡ (said_all d lines).reported ++ reported_first up
+ups_report_first d lines up =
+    ap (λ (e : Dialogue). e.reported) (all_append d lines (map Up up) ∙ all_ups (said_all d lines) up) ∙ ups_reported (said_all d lines) up
 
--- ---- what was reported before
+-- ---- what lines report comes after what was reported
 
-abbrev pub after : List Told → Talking → Talking
-after before t = record { uses = t.uses; refused = t.refused; known = t.known; told = before ++ t.told }
+said_prefix : (xs : List Reported) (d : Dialogue) (line : Line) → IsPrefix xs d.reported → IsPrefix xs (said d line).reported
+said_prefix xs d (Up line) p =
+    subst (IsPrefix xs) (sym (up_reported d line)) (prefix_more xs d.reported (reported_at_once line (at_once_line line)) p)
+said_prefix xs d (Down line) p = answered_prefix xs d line (answered (response_of line)) p
 
-with_more : (before so_far : List Told) (more : Option Told) → with_told (before ++ so_far) more ≡ before ++ with_told so_far more
-with_more before so_far None = refl
-with_more before so_far (Some x) = append_assoc before so_far (x ∷ [])
+all_prefix : (xs : List Reported) (d : Dialogue) (lines : List Line) → IsPrefix xs d.reported → IsPrefix xs (said_all d lines).reported
+all_prefix xs d [] p = p
+all_prefix xs d (line ∷ lines) p = all_prefix xs (said d line) lines (said_prefix xs d line p)
 
-asking_after : (before : List Told) (t : Talking) (a : Option (Tag × Asked)) → asking (after before t) a ≡ after before (asking t a)
-asking_after before t None = refl
-asking_after before t (Some (tag, what)) = refl
+pub more_report : (d : Dialogue) (lines more : List Line) → IsPrefix (said_all d lines).reported (said_all d (lines ++ more)).reported
+more_report d lines more =
+    subst (λ (e : Dialogue). IsPrefix (said_all d lines).reported e.reported) (sym (all_append d lines more))
+    (all_prefix (said_all d lines).reported (said_all d lines) more (same_prefix (said_all d lines).reported))
 
-refusing_after : (before : List Told) (t : Talking) (m : Mark) → refusing (after before t) m ≡ after before (refusing t m)
-refusing_after before t mark.Ack = refl
-refusing_after before t (mark.Given text) = refl
-refusing_after before t mark.Done = refl
-refusing_after before t (mark.Error text) = refl
-
-unasked_after : (before : List Told) (t : Talking) (tag : Tag) (m : Mark) → unasked (after before t) tag m ≡ after before (unasked t tag m)
-unasked_after before t (Std n) m =
-    ap (λ (l : List Told). record { uses = t.uses; refused = t.refused; known = nothing; told = l })
-    (append_assoc before t.told (told.Broken UnknownTag (Std n) ∷ []))
-unasked_after before t (Event n) m = refusing_after before t m
-
-at_after : (before : List Told) (t : Talking) (at : ℕ) (m : Mark) (u : Option Use)
-    → heard_at (after before t) at m u ≡ after before (heard_at t at m u)
-at_after before t at m None = refl
-at_after before t at m (Some u) =
-    ap (λ (l : List Told). record (heard_for t at u (heard_as u.asked m)) { told = l })
-    (with_more before t.told (told_by (turn_of t at u) t.known u (heard_as u.asked m)))
-
-under_after : (before : List Told) (t : Talking) (tag : Tag) (m : Mark) (at : Option ℕ)
-    → heard_under (after before t) tag m at ≡ after before (heard_under t tag m at)
-under_after before t tag m None = unasked_after before t tag m
-under_after before t tag m (Some at) = at_after before t at m (slice_get t.uses at)
-
-answering_after : (before : List Told) (t : Talking) (line : List ℕ) (r : Result Response NotResponse)
-    → answering (after before t) line r ≡ after before (answering t line r)
-answering_after before t line (Ok r) = under_after before t r.tag r.mark (position (λ (u : Use). tag_is u.tag r.tag) t.uses)
-answering_after before t line (Err why) =
-    ap (λ (l : List Told). record { uses = t.uses; refused = true; known = nothing; told = l })
-    (append_assoc before t.told (told.Other Server line ∷ []))
-
-said_after : (before : List Told) (t : Talking) (line : Line) → said (after before t) line ≡ after before (said t line)
-said_after before t (Up line) = asking_after before t (asked line (command_of line))
-said_after before t (Down line) = answering_after before t line (response_of line)
-
-pub all_after : (before : List Told) (t : Talking) (lines : List Line) → said_all (after before t) lines ≡ after before (said_all t lines)
-all_after before t [] = refl
-all_after before t (line ∷ lines) =
-    ap (λ (s : Talking). said_all s lines) (said_after before t line) ∙ all_after before (said t line) lines
-
--- what lines report comes after what was reported
-all_report : (t : Talking) (lines : List Line) → IsPrefix t.told (said_all t lines).told
-all_report t lines = record {
-  rest = (said_all (record t { told = [] }) lines).told;
-  parts = ap (λ (l : List Told). (said_all (record t { told = l }) lines).told) (sym (append-nil t.told))
-      ∙ ap (λ (s : Talking). s.told) (all_after t.told (record t { told = [] }) lines);
-}
-
-pub more_report : (t : Talking) (lines more : List Line) → IsPrefix (said_all t lines).told (said_all t (lines ++ more)).told
-more_report t lines more =
-    subst (λ (s : Talking). IsPrefix (said_all t lines).told s.told) (sym (all_append t lines more)) (all_report (said_all t lines) more)
-
-pub some_report : (lines more : List Line) → IsCausal silence (lines ++ more) → IsClear (ups (lines ++ more)) silence (lines ++ more)
-    → IsPrefix (said_all silence lines).told (ledger (ups (lines ++ more)) (downs (lines ++ more))).told
+pub some_report : (lines more : List Line) → IsCausal (silence false) (lines ++ more) → IsClear (silence false) (lines ++ more)
+    → IsPrefix (said_all (silence false) lines).reported (ledger (ups (lines ++ more)) (downs (lines ++ more))).reported
 some_report lines more causal clear =
-    subst (IsPrefix (said_all silence lines).told) (same_told (lines ++ more) causal clear) (more_report silence lines more)
+    subst (IsPrefix (said_all (silence false) lines).reported) (same_told (lines ++ more) causal clear) (more_report (silence false) lines more)
 
--- ---- lines of the client that are not answered
+pub first_reported : (up down : List (List ℕ)) → IsPrefix (reported_first up) (ledger up down).reported
+first_reported up down =
+    subst (λ (e : Dialogue). IsPrefix (reported_first up) e.reported) (all_downs (client_lines (silence false) up) down)
+    (all_prefix (reported_first up) (client_lines (silence false) up) (map Down down)
+    (subst (IsPrefix (reported_first up)) (sym (ups_reported (silence false) up)) (same_prefix (reported_first up))))
 
-asking_told : (t : Talking) (a : Option (Tag × Asked)) → (asking t a).told ≡ t.told
-asking_told t None = refl
-asking_told t (Some (tag, what)) = refl
+-- ---- lines of the client that are not answered: none that may be carried out at once
 
-lines_told : (t : Talking) (up : List (List ℕ)) → (client_lines t up).told ≡ t.told
-lines_told t [] = refl
-lines_told t (line ∷ up) = lines_told (client_said t line) up ∙ asking_told t (asked line (command_of line))
-
-pub ups_report_nothing : (t : Talking) (lines : List Line) (up : List (List ℕ))
-    → (said_all t (lines ++ map Up up)).told ≡ (said_all t lines).told
-ups_report_nothing t lines up =
-    ap (λ (s : Talking). s.told) (all_append t lines (map Up up) ∙ all_ups (said_all t lines) up)
-    ∙ lines_told (said_all t lines) up
-
--- a state, and one in which more commands are open after all others; the last argument: the lines of the client that opened them
-record IsLonger (t s : Talking) (up : List (List ℕ)) : Type 0 where
+-- a dialogue, and one in which more commands are open after all others; the first argument: the lines of the client that opened them
+record IsLonger (later : List (List ℕ)) (d e : Dialogue) : Type 0 where
   more : List Use
-  same : s ≡ longer t more
-  under : (tag : Tag) → some_sends tag up ≡ false → is_open tag more ≡ false
+  uses : e.uses ≡ d.uses ++ more
+  crossed : e.crossed ≡ d.crossed
+  reported : e.reported ≡ d.reported
+  under : (tag : Tag) → some_sends tag later ≡ false → is_open tag more ≡ false
+  events : (tag : Tag) (signal : Signal) → some_sends tag later ≡ false → is_report tag signal e.events ≡ is_report tag signal d.events
 
-record OpensMore (t : Talking) (a : Option (Tag × Asked)) : Type 0 where
-  more : List Use
-  same : asking t a ≡ longer t more
-  under : (tag : Tag) → is_under tag a ≡ false → is_open tag more ≡ false
-
-opens_more : (t : Talking) (a : Option (Tag × Asked)) → OpensMore t a
-opens_more t None = record {
+same_longer : (d : Dialogue) → IsLonger [] d d
+same_longer d = record {
   more = [];
-  same = ap (λ (l : List Use). record t { uses = l }) (sym (append-nil t.uses));
+  uses = sym (append-nil d.uses);
+  crossed = refl;
+  reported = refl;
   under = λ tag other. refl;
-}
-opens_more t (Some (used, what)) = record {
-  more = record { tag = used; asked = what; stage = stage.Sent; doubtful = is_open used t.uses } ∷ [];
-  same = refl;
-  under = λ tag other. both_not (tag_is used tag) false other refl;
+  events = λ tag signal other. refl;
 }
 
-lines_longer : (t : Talking) (up : List (List ℕ)) → IsLonger t (client_lines t up) up
-lines_longer t [] = record {
-  more = [];
-  same = ap (λ (l : List Use). record t { uses = l }) (sym (append-nil t.uses));
-  under = λ tag other. refl;
-}
-lines_longer t (line ∷ up) =
-    let one : OpensMore t (asked line (command_of line)) = opens_more t (asked line (command_of line)) in
-    let rest : IsLonger (client_said t line) (client_lines (client_said t line) up) up = lines_longer (client_said t line) up in
+-- ---- lines of the client
+
+sending_longer : (d e : Dialogue) (tag : Tag) (what : SentCommand) (line : List ℕ) (later : List (List ℕ))
+    → sent line (command_of line) ≡ Some (tag, what) → d.ordered ≡ false → IsLonger later (sending d tag what) e → IsLonger (line ∷ later) d e
+sending_longer d e tag what line later is free l =
+    let new : Use = new_use d.lines tag what (last_under tag d.uses None) d.known in
+    let parts : (t : Tag) → some_sends t (line ∷ later) ≡ false → (tag_is tag t ≡ false) × (some_sends t later ≡ false) =
+    λ t other. neither (tag_is tag t) (some_sends t later) (ap (λ w. is_under t w || some_sends t later) (sym is) ∙ other) in
     record {
-      more = one.more ++ rest.more;
-      same = rest.same ∙ ap (λ (s : Talking). longer s rest.more) one.same
-          ∙ ap (λ (l : List Use). record t { uses = l }) (append_assoc t.uses one.more rest.more);
-      under = λ tag other.
-          let parts = neither (sends tag line) (some_sends tag up) other in
-          list_any-append (λ (u : Use). tag_is u.tag tag) one.more rest.more
-          ∙ both_not (is_open tag one.more) (is_open tag rest.more) (one.under tag parts.0) (rest.under tag parts.1);
+      more = new ∷ l.more;
+      uses = l.uses ∙ append_assoc d.uses (new ∷ []) l.more;
+      crossed = l.crossed ∙ or_no d.crossed (d.ordered && is_some (line_of (last_under tag d.uses None)))
+          (ap (λ (o : Bool). o && is_some (line_of (last_under tag d.uses None))) free);
+      reported = l.reported;
+      under = λ t other. both_not (tag_is tag t) (is_open t l.more) (parts t other).0 (l.under t (parts t other).1);
+      events = λ t signal other. l.events t signal (parts t other).1 ∙ report_same tag t signal d.events (parts t other).0;
     }
 
-pub behind_longer : (uses more : List Use) (up : List (List ℕ)) (r : Result Response NotResponse)
-    → ((tag : Tag) → some_sends tag up ≡ false → is_open tag more ≡ false) → IsBehind uses up r → IsBefore uses more r
-behind_longer uses more up (Ok r) under behind = λ none. under r.tag (behind none)
-behind_longer uses more up (Err why) under behind = tt
+client_longer : (d e : Dialogue) (line : List ℕ) (later : List (List ℕ)) (w : Option (Tag × SentCommand)) → sent line (command_of line) ≡ w
+    → is_at_once w ≡ false → d.ordered ≡ false → IsLonger later (client_sent d line w) e → IsLonger (line ∷ later) d e
+client_longer d e line later None is waits free l = absurd (false≢true (sym waits))
+client_longer d e line later (Some (tag, what)) is waits free l =
+    sending_longer d e tag what line later is free
+    (subst (λ (b : Bool). IsLonger later (if b then sending (at_once d line) tag what else sending d tag what) e) waits l)
 
-longer_lines : (t : Talking) (more : List Use) (up down : List (List ℕ)) → ((tag : Tag) → some_sends tag up ≡ false → is_open tag more ≡ false)
-    → IsCausal t (map Down down ++ map Up up) → server_lines (longer t more) down ≡ longer (server_lines t down) more
-longer_lines t more up [] under causal = refl
-longer_lines t more up (line ∷ down) under causal =
-    ap (λ (s : Talking). server_lines s down)
-    (longer_answering t more line (response_of line)
-    (behind_longer t.uses more up (response_of line) under
-    (subst (λ (l : List (List ℕ)). IsBehind t.uses l (response_of line)) (ups_after down up) causal.0)))
-    ∙ longer_lines (server_said t line) more up down under causal.1
+ups_longer : (d : Dialogue) (later : List (List ℕ)) → some_at_once later ≡ false → d.ordered ≡ false → IsLonger later d (client_lines d later)
+ups_longer d [] waits free = same_longer d
+ups_longer d (line ∷ later) waits free =
+    let parts = neither (at_once_line line) (some_at_once later) waits in
+    client_longer d (client_lines (said d (Up line)) later) line later (sent line (command_of line)) refl parts.0 free
+    (ups_longer (said d (Up line)) later parts.1 (said_ordered d (Up line) ∙ free))
 
-unanswered_told : (t : Talking) (up down : List (List ℕ)) → IsCausal t (map Down down ++ map Up up)
-    → (server_lines (client_lines t up) down).told ≡ (server_lines t down).told
-unanswered_told t up down causal =
-    let all : IsLonger t (client_lines t up) up = lines_longer t up in
-    ap (λ (s : Talking). (server_lines s down).told) all.same
-    ∙ ap (λ (s : Talking). s.told) (longer_lines t all.more up down all.under causal)
+-- ---- lines of the server
 
-pub unanswered_report_nothing : (up later down : List (List ℕ)) → IsCausal (client_lines silence up) (map Down down ++ map Up later)
-    → (ledger (up ++ later) down).told ≡ (ledger up down).told
-unanswered_report_nothing up later down causal =
-    ap (λ (s : Talking). (server_lines s down).told) (client_append silence up later)
-    ∙ unanswered_told (client_lines silence up) later down causal
+fault_longer : (later : List (List ℕ)) (d e : Dialogue) (x : Reported) → IsLonger later d e → IsLonger later (faulting d x) (faulting e x)
+fault_longer later d e x l = record {
+  more = map (use_renewed (all_renewed Fault)) l.more;
+  uses = ap (map (use_renewed (all_renewed Fault))) l.uses ∙ map-append (use_renewed (all_renewed Fault)) d.uses l.more;
+  crossed = l.crossed;
+  reported = ap (λ (r : List Reported). r ++ x ∷ []) l.reported;
+  under = λ tag other. open_fault tag l.more ∙ l.under tag other;
+  events = l.events;
+}
 
-pub ledgers_grow : (up later down more : List (List ℕ)) → IsCausal (client_lines silence up) (map Down down ++ map Up later)
-    → IsPrefix (ledger up down).told (ledger (up ++ later) (down ++ more)).told
-ledgers_grow up later down more causal =
-    subst (λ (l : List Told). IsPrefix l (ledger (up ++ later) (down ++ more)).told) (unanswered_report_nothing up later down causal)
-    (subst (λ (s : Talking). IsPrefix (ledger (up ++ later) down).told s.told)
-    (all_downs (ledger (up ++ later) down) more ∙ sym (server_append (client_lines silence (up ++ later)) down more))
-    (all_report (ledger (up ++ later) down) (map Down more)))
+pub open_heard : (tag : Tag) (n : ℕ) (h : Heard) (uses : List Use) → is_open tag (map (use_heard n h) uses) ≡ is_open tag uses
+open_heard tag n h [] = refl
+open_heard tag n h (u ∷ uses) =
+    ap (λ (t : Tag). tag_is t tag || is_open tag (map (use_heard n h) uses)) (heard_tag n h u)
+    ∙ ap (λ (b : Bool). tag_is u.tag tag || b) (open_heard tag n h uses)
 
--- ---- what makes an order clear
+remove_longer : (uses more : List Use) (at : ℕ) → InList uses at → remove (uses ++ more) at ≡ remove uses at ++ more
+remove_longer [] more at e = absurd e
+remove_longer (u ∷ uses) more zero e = refl
+remove_longer (u ∷ uses) more (suc at) e = ap (λ (l : List Use). u ∷ l) (remove_longer uses more at e)
 
-pub one_use_is_clear : (up : List (List ℕ)) (t : Talking) (lines : List Line) → ((tag : Tag) → two_send tag up ≡ false) → IsClear up t lines
-one_use_is_clear up t [] once = tt
-one_use_is_clear up t (Up line ∷ lines) once = one_use_is_clear up (client_said t line) lines once
-one_use_is_clear up t (Down line ∷ lines) once = (sure (response_of line), one_use_is_clear up (server_said t line) lines once) where
-  sure : (r : Result Response NotResponse) → IsSure up t.refused r
-  sure (Ok r) = λ refused. once r.tag
-  sure (Err why) = tt
+left_longer : (uses more : List Use) (at : ℕ) (ended : Bool) → InList uses at → left_over (uses ++ more) at ended ≡ left_over uses at ended ++ more
+left_longer uses more at true e = remove_longer uses more at e
+left_longer uses more at false e = refl
 
-pub asking_refused : (t : Talking) (a : Option (Tag × Asked)) → (asking t a).refused ≡ t.refused
-asking_refused t None = refl
-asking_refused t (Some (tag, what)) = refl
+ahead_longer : (uses more : List Use) (at : ℕ) → InList uses at → take at (uses ++ more) ≡ take at uses
+ahead_longer [] more at e = absurd e
+ahead_longer (u ∷ uses) more zero e = refl
+ahead_longer (u ∷ uses) more (suc at) e = ap (λ (l : List Use). u ∷ l) (ahead_longer uses more at e)
 
-refusing_first : (t : Talking) (m : Mark) → (refusing t m).refused ≡ false → t.refused ≡ false
-refusing_first t mark.Ack e = e
-refusing_first t (mark.Given text) e = e
-refusing_first t mark.Done e = e
-refusing_first t (mark.Error text) e = absurd (cc)
+hearing_longer : (later : List (List ℕ)) (d e : Dialogue) (at : ℕ) (u : Use) (h : Heard) (ended : Bool) → InList d.uses at → IsLonger later d e
+    → IsLonger later (hearing d at u h ended) (hearing e at u h ended)
+hearing_longer later d e at u h ended here l = record {
+  more = map (use_heard u.line h) l.more;
+  uses = ap (λ (x : List Use). left_over (map (use_heard u.line h) x) at ended) l.uses
+      ∙ ap (λ (x : List Use). left_over x at ended) (map-append (use_heard u.line h) d.uses l.more)
+      ∙ left_longer (map (use_heard u.line h) d.uses) (map (use_heard u.line h) l.more) at ended (in_map (use_heard u.line h) d.uses at here);
+  crossed = l.crossed;
+  reported = ap (λ (r : List Reported). r ++ reported_by (unless_crossed e.crossed (use_heard u.line h u).known) u.tag u.command u.stage h) l.reported
+      ∙ ap (λ (c : Bool). d.reported ++ reported_by (unless_crossed c (use_heard u.line h u).known) u.tag u.command u.stage h) l.crossed;
+  under = λ tag other. open_heard tag u.line h l.more ∙ l.under tag other;
+  events = l.events;
+}
 
-unasked_first : (t : Talking) (tag : Tag) (m : Mark) → (unasked t tag m).refused ≡ false → t.refused ≡ false
-unasked_first t (Std n) m e = e
-unasked_first t (Event n) m e = refusing_first t m e
+if_early : (later : List (List ℕ)) (d e : Dialogue) (at : ℕ) (u : Use) (h : Heard) (ended : Bool) → InList d.uses at → IsLonger later d e → (b : Bool)
+    → IsLonger later
+    (if b then hearing (faulting d (reports.Broken NotInTurn u.tag)) at (use_renewed (all_renewed Fault) u) h ended else hearing d at u h ended)
+    (if b then hearing (faulting e (reports.Broken NotInTurn u.tag)) at (use_renewed (all_renewed Fault) u) h ended else hearing e at u h ended)
+if_early later d e at u h ended here l true =
+    hearing_longer later (faulting d (reports.Broken NotInTurn u.tag)) (faulting e (reports.Broken NotInTurn u.tag)) at (use_renewed (all_renewed Fault) u) h
+    ended (in_map (use_renewed (all_renewed Fault)) d.uses at here) (fault_longer later d e (reports.Broken NotInTurn u.tag) l)
+if_early later d e at u h ended here l false = hearing_longer later d e at u h ended here l
 
-at_refused : (t : Talking) (at : ℕ) (m : Mark) (u : Option Use) → (heard_at t at m u).refused ≡ t.refused
-at_refused t at m None = refl
-at_refused t at m (Some u) = refl
+heard_longer : (later : List (List ℕ)) (d e : Dialogue) (at : ℕ) (u : Use) (h : Heard) (ended : Bool) → InList d.uses at → IsLonger later d e
+    → IsLonger later (heard_at d at u h ended) (heard_at e at u h ended)
+heard_longer later d e at u h ended here l =
+    subst (λ (x : List Use). IsLonger later (heard_at d at u h ended)
+    (if has_turn u.command && (list_any waits x && may_not_come u h)
+    then hearing (faulting e (reports.Broken NotInTurn u.tag)) at (use_renewed (all_renewed Fault) u) h ended else hearing e at u h ended))
+    (sym (ap (take at) l.uses ∙ ahead_longer d.uses l.more at here))
+    (if_early later d e at u h ended here l (is_out_of_turn d.uses at u h))
 
-under_first : (t : Talking) (tag : Tag) (m : Mark) (at : Option ℕ) → (heard_under t tag m at).refused ≡ false → t.refused ≡ false
-under_first t tag m None e = unasked_first t tag m e
-under_first t tag m (Some at) e = sym (at_refused t at m (slice_get t.uses at)) ∙ e
+if_report : (later : List (List ℕ)) (d e : Dialogue) (line : List ℕ) → IsLonger later d e → (b : Bool)
+    → IsLonger later (if b then d else faulting d (reports.Unasked line)) (if b then e else faulting e (reports.Unasked line))
+if_report later d e line l true = l
+if_report later d e line l false = fault_longer later d e (reports.Unasked line) l
 
-answering_first : (t : Talking) (line : List ℕ) (r : Result Response NotResponse) → (answering t line r).refused ≡ false → t.refused ≡ false
-answering_first t line (Ok r) e = under_first t r.tag r.mark (position (λ (u : Use). tag_is u.tag r.tag) t.uses) e
-answering_first t line (Err why) e = absurd (cc)
+first_longer : (later : List (List ℕ)) (d e : Dialogue) (line : List ℕ) (tag : Tag) (signal : Signal) → IsLonger later d e
+    → Found (λ (u : Use). tag_is u.tag tag) d.uses
+    → IsLonger later (server_answered d line (Some (tag, signal))) (server_answered e line (Some (tag, signal)))
+first_longer later d e line tag signal l f =
+    subst (λ (x : Dialogue). IsLonger later x (server_answered e line (Some (tag, signal))))
+    (sym (marks_first d line tag signal f.before f.one f.after f.parts f.passed f.passes))
+    (subst (IsLonger later (heard_at d (length f.before) f.one (heard_as f.one.command signal) (is_end signal)))
+    (sym (marks_first e line tag signal f.before f.one (f.after ++ l.more)
+    (l.uses ∙ ap (λ (x : List Use). x ++ l.more) f.parts ∙ append_assoc f.before (f.one ∷ f.after) l.more) f.passed f.passes))
+    (heard_longer later d e (length f.before) f.one (heard_as f.one.command signal) (is_end signal)
+    (subst (λ (x : List Use). InList x (length f.before)) (sym f.parts) (in_there f.before f.one f.after)) l))
 
-all_first : (t : Talking) (lines : List Line) → (said_all t lines).refused ≡ false → t.refused ≡ false
-all_first t [] e = e
-all_first t (Up line ∷ lines) e = sym (asking_refused t (asked line (command_of line))) ∙ all_first (client_said t line) lines e
-all_first t (Down line ∷ lines) e = answering_first t line (response_of line) (all_first (server_said t line) lines e)
+none_longer : (later : List (List ℕ)) (d e : Dialogue) (line : List ℕ) (tag : Tag) (signal : Signal) → IsLonger later d e → is_open tag d.uses ≡ false
+    → some_sends tag later ≡ false → IsLonger later (server_answered d line (Some (tag, signal))) (server_answered e line (Some (tag, signal)))
+none_longer later d e line tag signal l none other =
+    subst (λ (x : Dialogue). IsLonger later x (server_answered e line (Some (tag, signal)))) (sym (marks_none d line tag signal none))
+    (subst (IsLonger later (unasked d line tag signal))
+    (sym (marks_none e line tag signal
+    (ap (is_open tag) l.uses ∙ list_any-append (λ (u : Use). tag_is u.tag tag) d.uses l.more
+    ∙ both_not (is_open tag d.uses) (is_open tag l.more) none (l.under tag other))))
+    (subst (λ (b : Bool). IsLonger later (unasked d line tag signal) (if b then e else faulting e (reports.Unasked line)))
+    (sym (l.events tag signal other)) (if_report later d e line l (is_report tag signal d.events))))
 
-pub no_refusal_is_clear : (up : List (List ℕ)) (t : Talking) (lines : List Line) → (said_all t lines).refused ≡ false → IsClear up t lines
-no_refusal_is_clear up t [] e = tt
-no_refusal_is_clear up t (Up line ∷ lines) e = no_refusal_is_clear up (client_said t line) lines e
-no_refusal_is_clear up t (Down line ∷ lines) e = (sure (response_of line), no_refusal_is_clear up (server_said t line) lines e) where
-  none : t.refused ≡ false
-  none = all_first t (Down line ∷ lines) e
+answered_longer : (later : List (List ℕ)) (d e : Dialogue) (line : List ℕ) (r : Result Response NotResponse) → IsLonger later d e
+    → IsBehind d.uses later r → IsLonger later (server_answered d line (answered r)) (server_answered e line (answered r))
+answered_longer later d e line (Err why) l behind = fault_longer later d e (reports.Other Server line) l
+answered_longer later d e line (Ok r) l behind = go (is_open r.tag d.uses) refl where
+  go : (b : Bool) → is_open r.tag d.uses ≡ b → IsLonger later (server_answered d line (answered (Ok r))) (server_answered e line (answered (Ok r)))
+  go true is = first_longer later d e line r.tag (signal_of r.mark) l (find_first (λ (u : Use). tag_is u.tag r.tag) d.uses is)
+  go false is = none_longer later d e line r.tag (signal_of r.mark) l is (behind is)
 
-  sure : (r : Result Response NotResponse) → IsSure up t.refused r
-  sure (Ok r) = λ refused. absurd (cc (refused, none))
-  sure (Err why) = tt
+pub ups_after : (down up : List (List ℕ)) → ups (map Down down ++ map Up up) ≡ up
+ups_after [] [] = refl
+ups_after [] (line ∷ up) = ap (λ (l : List (List ℕ)). line ∷ l) (ups_after [] up)
+ups_after (line ∷ down) up = ups_after down up
+
+downs_longer : (later : List (List ℕ)) (d e : Dialogue) (down : List (List ℕ)) → IsLonger later d e → IsCausal d (map Down down ++ map Up later)
+    → IsLonger later (server_lines d down) (server_lines e down)
+downs_longer later d e [] l causal = l
+downs_longer later d e (line ∷ down) l causal =
+    downs_longer later (said d (Down line)) (said e (Down line)) down
+    (answered_longer later d e line (response_of line) l
+    (subst (λ (x : List (List ℕ)). IsBehind d.uses x (response_of line)) (ups_after down later) causal.0)) causal.1
+
+-- ---- two recordings
+
+pub client_append : (d : Dialogue) (up more : List (List ℕ)) → client_lines d (up ++ more) ≡ client_lines (client_lines d up) more
+client_append d [] more = refl
+client_append d (line ∷ up) more = client_append (said d (Up line)) up more
+
+pub server_append : (d : Dialogue) (down more : List (List ℕ)) → server_lines d (down ++ more) ≡ server_lines (server_lines d down) more
+server_append d [] more = refl
+server_append d (line ∷ down) more = server_append (said d (Down line)) down more
+
+ups_ordered : (d : Dialogue) (up : List (List ℕ)) → (client_lines d up).ordered ≡ d.ordered
+ups_ordered d [] = refl
+ups_ordered d (line ∷ up) = ups_ordered (said d (Up line)) up ∙ said_ordered d (Up line)
+
+pub unanswered_report_nothing : (up later down : List (List ℕ)) → some_at_once later ≡ false
+    → IsCausal (client_lines (silence false) up) (map Down down ++ map Up later)
+    → (ledger (up ++ later) down).reported ≡ (ledger up down).reported
+unanswered_report_nothing up later down waits causal =
+    ap (λ (d : Dialogue). (server_lines d down).reported) (client_append (silence false) up later)
+    ∙ (downs_longer later (client_lines (silence false) up) (client_lines (client_lines (silence false) up) later) down
+    (ups_longer (client_lines (silence false) up) later waits (ups_ordered (silence false) up)) causal).reported
+
+pub ledgers_grow : (up later down more : List (List ℕ)) → some_at_once later ≡ false
+    → IsCausal (client_lines (silence false) up) (map Down down ++ map Up later)
+    → IsPrefix (ledger up down).reported (ledger (up ++ later) (down ++ more)).reported
+ledgers_grow up later down more waits causal =
+    subst (λ (l : List Reported). IsPrefix l (ledger (up ++ later) (down ++ more)).reported) (unanswered_report_nothing up later down waits causal)
+    (subst (λ (d : Dialogue). IsPrefix (ledger (up ++ later) down).reported d.reported)
+    (all_downs (ledger (up ++ later) down) more ∙ sym (server_append (client_lines (silence false) (up ++ later)) down more))
+    (all_prefix (ledger (up ++ later) down).reported (ledger (up ++ later) down) (map Down more) (same_prefix (ledger (up ++ later) down).reported)))

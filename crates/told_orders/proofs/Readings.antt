@@ -1,16 +1,19 @@
 -- What the lines of the examples read as.
-use Rattle.std.proofs.Common.{◌≡◌, ℕ, ◌≤◌, ◌==◌, true, false, ◌||◌, List, [], ◌∷◌, Result, Ok, refl, ap, sym, ◌∙◌, arith, eqb-true, inr}
+use Rattle.std.proofs.Common.{◌≡◌, ℕ, ◌≤◌, List, [], ◌∷◌, ◌++◌, Result, Ok, Err, refl, arith, inr}
 use Rattle.dme_line.specs.CommandText.{ReadsCommand}
+use Rattle.dme_line.specs.Tags.{written_tag}
 use Rattle.dme_line.specs.Responses.{ReadsResponse}
 use Rattle.dme_line.specs.Written.{written_command, IsWritable}
 use Rattle.dme_line.specs.declared.commands.Command.{Command}
 use Rattle.dme_line.specs.declared.commands.Command.TheVariants as command
+use Rattle.dme_line.specs.declared.commands.Csy.TheVariants.{MachineCsy}
 use Rattle.dme_line.specs.declared.reading.LineFault.{LineFault}
+use Rattle.dme_line.specs.declared.reading.LineFault.TheVariants.{NoTag}
 use Rattle.dme_line.specs.declared.responses.Mark.TheVariants as mark
 use Rattle.dme_line.specs.declared.responses.NotResponse.{NotResponse}
 use Rattle.dme_line.specs.declared.responses.Response.{Response}
 use Rattle.dme_line.specs.declared.tags.Tag.{Tag}
-use Rattle.dme_line.specs.declared.tags.Tag.TheVariants.{Std, Event}
+use Rattle.dme_line.specs.declared.tags.Tag.TheVariants.{Std}
 use Rattle.dme_line.proofs.CommandBack.{command_reads_back}
 use Rattle.dme_line.proofs.OneCommand.{one_command_reading}
 use Rattle.dme_line.proofs.OneResponse.{one_response_reading}
@@ -20,11 +23,8 @@ use Rattle.line_framing.specs.Stream.{IsStream, fault_in}
 use Rattle.line_framing.proofs.FirstLine.{first_line_at}
 use Rattle.line_framing.proofs.Streams.{stream_more, stream_end}
 use Rattle.protocol_model.specs.Readings.{command_of, response_of, reads_command, reads_response}
-use Rattle.protocol_model.specs.Replies.{tag_is}
-use Rattle.told_ledger.specs.Asking.{asked}
 use Rattle.told_orders.specs.Courses.{whole_lines}
-use Rattle.told_orders.specs.Examples.{home, received, ended, home_2, received_2, ended_2, refusal, with_end}
-use Rattle.told_orders.specs.Orders.{sends, is_under}
+use Rattle.told_orders.specs.Examples.{home, received, refused, ended, selected, home_2, ended_2, untagged, origin, moves, with_end}
 use Rattle.told_orders.proofs.Arrivals.{whole_is}
 
 one_command : (line : List ℕ) (r : Result (Tag × Command) LineFault) → ReadsCommand line r → command_of line ≡ r
@@ -60,14 +60,6 @@ ended_reads = one_response ended (Ok (record { tag = Std 1; mark = mark.Done }))
   marked = ([], refl, refl);
 })
 
-pub received_2_reads : response_of received_2 ≡ Ok (record { tag = Std 2; mark = mark.Ack })
-received_2_reads = one_response received_2 (Ok (record { tag = Std 2; mark = mark.Ack })) (record {
-  text = 38 ∷ [];
-  tagged = omega arith;
-  parts = refl;
-  marked = ([], refl, refl);
-})
-
 pub ended_2_reads : response_of ended_2 ≡ Ok (record { tag = Std 2; mark = mark.Done })
 ended_2_reads = one_response ended_2 (Ok (record { tag = Std 2; mark = mark.Done })) (record {
   text = 37 ∷ [];
@@ -76,21 +68,34 @@ ended_2_reads = one_response ended_2 (Ok (record { tag = Std 2; mark = mark.Done
   marked = ([], refl, refl);
 })
 
-pub refusal_reads : response_of refusal ≡ Ok (record { tag = Event 0; mark = mark.Error [] })
-refusal_reads = one_response refusal (Ok (record { tag = Event 0; mark = mark.Error [] })) (record {
+pub refused_reads : response_of refused ≡ Ok (record { tag = Std 1; mark = mark.Error [] })
+refused_reads = one_response refused (Ok (record { tag = Std 1; mark = mark.Error [] })) (record {
   text = 33 ∷ [];
   tagged = omega arith;
   parts = refl;
   marked = inr (refl, refl);
 })
 
--- the tag 00002 is not 00001
-other_tag : (tag : Tag) → tag_is (Std 2) tag ≡ true → (tag_is (Std 1) tag || false) ≡ false
-other_tag (Std n) e = ap (λ (m : ℕ). (1 == m) || false) (sym (eqb-true 2 n e))
-other_tag (Event n) e = refl
+pub selected_reads : command_of selected ≡ Ok (Std 1, command.SetCoordSystem MachineCsy)
+unfolding written_command
+selected_reads =
+    one_command selected (Ok (Std 1, command.SetCoordSystem MachineCsy)) (command_reads_back (Std 1) (command.SetCoordSystem MachineCsy)
+    (record { tagged = record { numbered = (omega arith, omega arith); sort = refl }; arguments = tt }))
 
-pub only_two : (tag : Tag) → sends tag home_2 ≡ true → (tag_is (Std 1) tag || false) ≡ false
-only_two tag sent = other_tag tag (ap (λ (a : Result (Tag × Command) LineFault). is_under tag (asked home_2 a)) (sym home_2_reads) ∙ sent)
+pub moves_reads : command_of moves ≡ Ok (Std 1, command.GoTo origin)
+moves_reads =
+    one_command moves (Ok (Std 1, command.GoTo origin)) (command_reads_back (Std 1) (command.GoTo origin)
+    (record {
+      tagged = record { numbered = (omega arith, omega arith); sort = refl };
+      arguments = record { x = omega arith; y = omega arith; z = omega arith };
+    }))
+
+not_empty : (xs ys : List ℕ) → ([] ≡ xs ++ (32 ∷ ys)) → ⊥
+not_empty [] ys e = absurd (cc (e))
+not_empty (x ∷ xs) ys e = absurd (cc (e))
+
+pub untagged_reads : command_of untagged ≡ Err NoTag
+untagged_reads = one_command untagged (Err NoTag) (λ tag text tagged. not_empty (written_tag tag) text tagged.parts)
 
 -- ---- bytes
 

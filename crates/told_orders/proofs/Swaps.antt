@@ -1,258 +1,316 @@
 -- A command may be read before the replies to others.
-use Rattle.std.proofs.Common.{◌≡◌, ℕ, Bool, true, false, ◌||◌, List, [], ◌∷◌, ◌++◌, map, position, Option, Some, None, Result, Ok, Err}
-use Rattle.std.proofs.Common.{refl, ap, sym, ◌∙◌, subst, append_assoc, eq-eqb}
+use Rattle.std.proofs.Common.{◌≡◌, ℕ, zero, suc, ◌+◌, ◌<◌, ◌==◌, Bool, true, false, ◌&&◌, ◌||◌, if◌then◌else◌, List, [], ◌∷◌, ◌++◌, map, length, take, remove}
+use Rattle.std.proofs.Common.{Option, Some, None, is_some, refl, ap, sym, ◌∙◌, subst, append_assoc, eq-eqb, eqb-true, ne_eqb, arith}
+use Rattle.std.proofs.lemmas.Bool.{false≢true}
+use Rattle.std.proofs.lemmas.List.{map-append}
 use Rattle.std.proofs.lemmas.List.Folds.{list_any-append}
 use Rattle.std.specs.List.{list_any}
-use Rattle.dme_line.specs.declared.responses.Mark.{Mark}
-use Rattle.dme_line.specs.declared.responses.Mark.TheVariants as mark
-use Rattle.dme_line.specs.declared.responses.Response.{Response}
-use Rattle.dme_line.specs.declared.responses.NotResponse.{NotResponse}
 use Rattle.dme_line.specs.declared.tags.Tag.{Tag}
 use Rattle.dme_line.specs.declared.tags.Tag.TheVariants.{Std, Event}
-use Rattle.protocol_model.specs.Readings.{command_of, response_of}
 use Rattle.protocol_model.specs.Replies.{tag_is}
-use Rattle.protocol_model.specs.declared.held.Stage.TheVariants as stage
-use Rattle.told_ledger.specs.Asking.{asked}
-use Rattle.told_ledger.specs.Judging.{heard_as, ends}
-use Rattle.told_ledger.specs.Talking.{Talking, is_open, asking, client_said, heard_under, unasked, refusing, answering, server_said}
-use Rattle.told_ledger.specs.Watching.{client_lines, server_lines}
-use Rattle.told_ledger.specs.declared.uses.Asked.{Asked}
-use Rattle.told_ledger.specs.declared.uses.Use.{Use}
-use Rattle.told_orders.specs.Orders.{Line, Up, Down, ups, is_under, sends, some_sends, is_of, answers, IsBehind, IsCausal, IsFresh, AreFresh, IsAnswer, AreAnswers}
-use Rattle.told_orders.proofs.Marks.{Found, find_first, neither, both_not, uses_around, hears, marks_first, marks_none}
+use Rattle.witness.specs.Asking.{Signal, Ack, Given, Error}
+use Rattle.witness.specs.Asking.{Done as DoneMark}
+use Rattle.witness.specs.Dialogues.{Dialogue, last_under, later, line_of, is_lost, with_event, sending_after, sending, unknowing, use_renewed, faulting, reported_by}
+use Rattle.witness.specs.Dialogues.{waits, is_out_of_turn, may_not_come, use_heard, left_over, unless_crossed, hearing, heard_at, is_report, unasked, first_under, heard_under, server_answered}
+use Rattle.witness.specs.Known.{nothing, is_rival, all_renewed, below, fresh}
+use Rattle.witness.specs.Marks.{heard_as, is_end, is_error, has_turn}
+use Rattle.witness.specs.declared.lines.Heard.{Heard}
+use Rattle.witness.specs.declared.lines.Known.{Known}
+use Rattle.witness.specs.declared.lines.Progress.TheVariants as Progress
+use Rattle.witness.specs.declared.lines.Renewal.TheVariants.{Fault, Mark}
+use Rattle.witness.specs.declared.lines.Reported.{Reported}
+use Rattle.witness.specs.declared.lines.Reported.TheVariants as reports
+use Rattle.witness.specs.declared.lines.Rule.TheVariants.{NotInTurn}
+use Rattle.witness.specs.declared.lines.SentCommand.{SentCommand}
+use Rattle.witness.specs.declared.lines.Side.TheVariants.{Server}
+use Rattle.witness.specs.declared.lines.Stage.TheVariants as stage
+use Rattle.witness.specs.declared.lines.Standing.{Standing}
+use Rattle.witness.specs.declared.lines.Use.{Use}
+use Rattle.told_orders.specs.Orders.{is_open, has_failed_under, AreCounted, IsCounted}
+use Rattle.told_orders.proofs.Counts.{heard_line, heard_tag, heard_failed, is_before, others_without, Without, map_without}
+use Rattle.told_orders.proofs.Knowing.{then_renewed, below_renewed}
+use Rattle.told_orders.proofs.Marks.{Found, find_first, neither, both_not, marks_first, marks_none}
 
--- ---- more commands are open, after all others
+-- ---- the command that was sent last under a tag, after a mark
 
-abbrev pub longer : Talking → List Use → Talking
-longer t more = record t { uses = t.uses ++ more }
+abbrev pub heard_last : ℕ → Heard → Option (ℕ × Bool) → Option (ℕ × Bool)
+heard_last n h None = None
+heard_last n h (Some (p, failed)) = Some (p, failed || ((p == n) && is_error h))
 
-longer_around : (b : Bool) (before : List Use) (u : Use) (after more : List Use)
-    → uses_around b before u (after ++ more) ≡ uses_around b before u after ++ more
-longer_around true before u after more = sym (append_assoc before after more)
-longer_around false before u after more = sym (append_assoc before (u ∷ after) more)
+last_if : (n : ℕ) (h : Heard) (line : ℕ) (failed : Bool) (found : Option (ℕ × Bool)) (b : Bool)
+    → (if b then Some (line, failed || ((line == n) && is_error h)) else heard_last n h found) ≡ heard_last n h (if b then Some (line, failed) else found)
+last_if n h line failed found true = refl
+last_if n h line failed found false = refl
 
-longer_hears : (t : Talking) (before : List Use) (u : Use) (after more : List Use) (m : Mark)
-    → hears (longer t more) before u (after ++ more) m ≡ longer (hears t before u after m) more
-longer_hears t before u after more m =
-    ap (λ (l : List Use). record (hears t before u after m) { uses = l })
-    (longer_around (ends (heard_as u.asked m)) before _ after more)
+later_heard : (n : ℕ) (h : Heard) (tag : Tag) (u : Use) (found : Option (ℕ × Bool))
+    → later tag (use_heard n h u) (heard_last n h found) ≡ heard_last n h (later tag u found)
+later_heard n h tag u found =
+    ap (λ (t : Tag). if tag_is t tag then Some ((use_heard n h u).line, (use_heard n h u).has_failed) else heard_last n h found) (heard_tag n h u)
+    ∙ ap (λ (m : ℕ). if tag_is u.tag tag then Some (m, (use_heard n h u).has_failed) else heard_last n h found) (heard_line n h u)
+    ∙ ap (λ (b : Bool). if tag_is u.tag tag then Some (u.line, b) else heard_last n h found) (heard_failed n h u)
+    ∙ last_if n h u.line u.has_failed found (tag_is u.tag tag)
 
-longer_refusing : (t : Talking) (more : List Use) (m : Mark) → refusing (longer t more) m ≡ longer (refusing t m) more
-longer_refusing t more mark.Ack = refl
-longer_refusing t more (mark.Given text) = refl
-longer_refusing t more mark.Done = refl
-longer_refusing t more (mark.Error text) = refl
+last_heard : (n : ℕ) (h : Heard) (tag : Tag) (uses : List Use) (found : Option (ℕ × Bool))
+    → last_under tag (map (use_heard n h) uses) (heard_last n h found) ≡ heard_last n h (last_under tag uses found)
+last_heard n h tag [] found = refl
+last_heard n h tag (u ∷ uses) found =
+    ap (last_under tag (map (use_heard n h) uses)) (later_heard n h tag u found) ∙ last_heard n h tag uses (later tag u found)
 
-longer_unasked : (t : Talking) (more : List Use) (tag : Tag) (m : Mark) → unasked (longer t more) tag m ≡ longer (unasked t tag m) more
-longer_unasked t more (Std n) m = refl
-longer_unasked t more (Event n) m = longer_refusing t more m
+pub last_fault : (tag : Tag) (uses : List Use) (found : Option (ℕ × Bool))
+    → last_under tag (map (use_renewed (all_renewed Fault)) uses) found ≡ last_under tag uses found
+last_fault tag [] found = refl
+last_fault tag (u ∷ uses) found = last_fault tag uses (later tag u found)
 
--- a response is for none of them
-abbrev pub IsBefore : List Use → List Use → Result Response NotResponse → Type 0
-IsBefore uses more (Ok r) = is_open r.tag uses ≡ false → is_open r.tag more ≡ false
-IsBefore uses more (Err why) = Unit {0}
+last_append : (tag : Tag) (us vs : List Use) (found : Option (ℕ × Bool)) → last_under tag (us ++ vs) found ≡ last_under tag vs (last_under tag us found)
+last_append tag [] vs found = refl
+last_append tag (u ∷ us) vs found = last_append tag us vs (later tag u found)
 
-longer_under : (t : Talking) (more : List Use) (tag : Tag) (m : Mark) → (is_open tag t.uses ≡ false → is_open tag more ≡ false)
-    → heard_under (longer t more) tag m (position (λ (u : Use). tag_is u.tag tag) (t.uses ++ more))
-    ≡ longer (heard_under t tag m (position (λ (u : Use). tag_is u.tag tag) t.uses)) more
-longer_under t more tag m before = go (is_open tag t.uses) refl where
-  go : (b : Bool) → is_open tag t.uses ≡ b → heard_under (longer t more) tag m (position (λ (u : Use). tag_is u.tag tag) (t.uses ++ more))
-      ≡ longer (heard_under t tag m (position (λ (u : Use). tag_is u.tag tag) t.uses)) more
-  go true is =
-      let f : Found (λ (u : Use). tag_is u.tag tag) t.uses = find_first (λ (u : Use). tag_is u.tag tag) t.uses is in
-      marks_first (longer t more) tag m f.before f.one (f.after ++ more)
-      (ap (λ (l : List Use). l ++ more) f.parts ∙ append_assoc f.before (f.one ∷ f.after) more) f.passed f.passes
-      ∙ longer_hears t f.before f.one f.after more m
-      ∙ ap (λ (s : Talking). longer s more) (sym (marks_first t tag m f.before f.one f.after f.parts f.passed f.passes))
-  go false is =
-      marks_none (longer t more) tag m
-      (list_any-append (λ (u : Use). tag_is u.tag tag) t.uses more ∙ both_not (is_open tag t.uses) (is_open tag more) is (before is))
-      ∙ longer_unasked t more tag m
-      ∙ ap (λ (s : Talking). longer s more) (sym (marks_none t tag m is))
+later_none : (tag : Tag) (u : Use) (found : Option (ℕ × Bool)) → tag_is u.tag tag ≡ false → later tag u found ≡ found
+later_none tag u found e = ap (λ (b : Bool). if b then Some (u.line, u.has_failed) else found) e
 
-pub longer_answering : (t : Talking) (more : List Use) (line : List ℕ) (r : Result Response NotResponse) → IsBefore t.uses more r
-    → answering (longer t more) line r ≡ longer (answering t line r) more
-longer_answering t more line (Ok r) before = longer_under t more r.tag r.mark before
-longer_answering t more line (Err why) before = refl
+later_this : (tag : Tag) (u : Use) (found : Option (ℕ × Bool)) → tag_is u.tag tag ≡ true → later tag u found ≡ Some (u.line, u.has_failed)
+later_this tag u found e = ap (λ (b : Bool). if b then Some (u.line, u.has_failed) else found) e
 
--- ---- no command is opened by a line of the server
+pub last_none : (tag : Tag) (uses : List Use) (found : Option (ℕ × Bool)) → is_open tag uses ≡ false → last_under tag uses found ≡ found
+last_none tag [] found e = refl
+last_none tag (u ∷ uses) found e =
+    let no = neither (tag_is u.tag tag) (is_open tag uses) e in
+    ap (last_under tag uses) (later_none tag u found no.0) ∙ last_none tag uses found no.1
 
-closed_around : (p : Use → Bool) (b : Bool) (before : List Use) (u v : Use) (after : List Use) → p v ≡ p u
-    → list_any p (before ++ u ∷ after) ≡ false → list_any p (uses_around b before v after) ≡ false
-closed_around p b before u v after same none =
-    let parts = neither (list_any p before) (list_any p (u ∷ after)) (sym (list_any-append p before (u ∷ after)) ∙ none) in
-    let rest = neither (p u) (list_any p after) parts.1 in
-    go b parts.0 rest.0 rest.1
-  where
-    go : (b : Bool) → list_any p before ≡ false → p u ≡ false → list_any p after ≡ false → list_any p (uses_around b before v after) ≡ false
-    go true x y z = list_any-append p before after ∙ both_not (list_any p before) (list_any p after) x z
-    go false x y z = list_any-append p before (v ∷ after)
-        ∙ both_not (list_any p before) (list_any p (v ∷ after)) x (both_not (p v) (list_any p after) (same ∙ y) z)
+last_any : (tag : Tag) (uses : List Use) (x y : Option (ℕ × Bool)) → is_open tag uses ≡ true → last_under tag uses x ≡ last_under tag uses y
+last_any tag [] x y e = absurd (false≢true e)
+last_any tag (u ∷ uses) x y e = go (last_any tag uses (later tag u x) (later tag u y)) (tag_is u.tag tag) refl (is_open tag uses) refl where
+  go : (is_open tag uses ≡ true → last_under tag uses (later tag u x) ≡ last_under tag uses (later tag u y)) → (b : Bool) → tag_is u.tag tag ≡ b
+      → (c : Bool) → is_open tag uses ≡ c → last_under tag uses (later tag u x) ≡ last_under tag uses (later tag u y)
+  go rest true is c there_is = ap (last_under tag uses) (later_this tag u x is ∙ sym (later_this tag u y is))
+  go rest false is true there_is = rest there_is
+  go rest false is false there_is = absurd (false≢true (sym (both_not (tag_is u.tag tag) (is_open tag uses) is there_is) ∙ e))
 
-closed_refusing : (t : Talking) (m : Mark) → (refusing t m).uses ≡ t.uses
-closed_refusing t mark.Ack = refl
-closed_refusing t (mark.Given text) = refl
-closed_refusing t mark.Done = refl
-closed_refusing t (mark.Error text) = refl
+-- ---- a command that was just sent, after a fault or a mark of another
 
-pub closed_unasked : (t : Talking) (tag : Tag) (m : Mark) → (unasked t tag m).uses ≡ t.uses
-closed_unasked t (Std n) m = refl
-closed_unasked t (Event n) m = closed_refusing t m
+line_same : (n : ℕ) (h : Heard) (b : Option (ℕ × Bool)) → line_of (heard_last n h b) ≡ line_of b
+line_same n h None = refl
+line_same n h (Some (p, failed)) = refl
 
-closed_under : (closed tag : Tag) (t : Talking) (m : Mark) → is_open closed t.uses ≡ false
-    → is_open closed (heard_under t tag m (position (λ (u : Use). tag_is u.tag tag) t.uses)).uses ≡ false
-closed_under closed tag t m none = go (is_open tag t.uses) refl where
-  go : (b : Bool) → is_open tag t.uses ≡ b
-      → is_open closed (heard_under t tag m (position (λ (u : Use). tag_is u.tag tag) t.uses)).uses ≡ false
-  go true is =
-      let f : Found (λ (u : Use). tag_is u.tag tag) t.uses = find_first (λ (u : Use). tag_is u.tag tag) t.uses is in
-      ap (λ (s : Talking). is_open closed s.uses) (marks_first t tag m f.before f.one f.after f.parts f.passed f.passes)
-      ∙ closed_around (λ (u : Use). tag_is u.tag closed) (ends (heard_as f.one.asked m)) f.before f.one _ f.after refl
-      (ap (is_open closed) (sym f.parts) ∙ none)
-  go false is =
-      ap (λ (s : Talking). is_open closed s.uses) (marks_none t tag m is)
-      ∙ ap (is_open closed) (closed_unasked t tag m) ∙ none
+abbrev pub new_use : ℕ → Tag → SentCommand → Option (ℕ × Bool) → Known → Use
+new_use n tag what b k = record {
+  tag = tag;
+  command = what;
+  line = n;
+  stage = stage.Sent;
+  has_failed = false;
+  rival = line_of b;
+  known = if is_lost b then nothing else k;
+}
 
-closed_answering : (closed : Tag) (t : Talking) (line : List ℕ) (r : Result Response NotResponse) → is_open closed t.uses ≡ false
-    → is_open closed (answering t line r).uses ≡ false
-closed_answering closed t line (Ok r) none = closed_under closed r.tag t r.mark none
-closed_answering closed t line (Err why) none = none
+new_fault : (n : ℕ) (tag : Tag) (what : SentCommand) (b : Option (ℕ × Bool)) (k : Known)
+    → use_renewed (all_renewed Fault) (new_use n tag what b k) ≡ new_use n tag what b (all_renewed Fault k)
+new_fault n tag what None k = refl
+new_fault n tag what (Some (p, true)) k = refl
+new_fault n tag what (Some (p, false)) k = refl
 
-pub stays_closed : (closed : Tag) (t : Talking) (line : List ℕ) → is_open closed t.uses ≡ false → is_open closed (server_said t line).uses ≡ false
-stays_closed closed t line none = closed_answering closed t line (response_of line) none
+fresh_fault : (n : ℕ) (rival : Option ℕ) (lost : Bool) → then_renewed Fault (fresh n rival lost) ≡ fresh n rival lost
+fresh_fault n rival true = refl
+fresh_fault n rival false = refl
 
--- ---- a command under a tag under which none is open
+-- an error of its rival
+new_hit : (m n p : ℕ) (tag : Tag) (what : SentCommand) (h : Heard) (k : Known) (failed hit : Bool)
+    → use_renewed (all_renewed (Mark n h)) (if hit then unknowing (new_use m tag what (Some (p, failed)) k) else new_use m tag what (Some (p, failed)) k)
+    ≡ new_use m tag what (Some (p, failed || hit)) (all_renewed (Mark n h) k)
+new_hit m n p tag what h k true true = refl
+new_hit m n p tag what h k true false = refl
+new_hit m n p tag what h k false true = refl
+new_hit m n p tag what h k false false = refl
 
-abbrev pub new_use : Tag → Asked → Use
-new_use tag what = record { tag = tag; asked = what; stage = stage.Sent; doubtful = false }
+new_heard : (m n : ℕ) (tag : Tag) (what : SentCommand) (b : Option (ℕ × Bool)) (k : Known) (h : Heard) → (m == n) ≡ false
+    → use_heard n h (new_use m tag what b k) ≡ new_use m tag what (heard_last n h b) (all_renewed (Mark n h) k)
+new_heard m n tag what None k h other = rw other refl
+new_heard m n tag what (Some (p, failed)) k h other = rw other (new_hit m n p tag what h k failed ((p == n) && is_error h))
 
-asks_new : (t : Talking) (tag : Tag) (what : Asked) → is_open tag t.uses ≡ false → asking t (Some (tag, what)) ≡ longer t (new_use tag what ∷ [])
-asks_new t tag what none =
-    ap (λ (b : Bool). longer t (record { tag = tag; asked = what; stage = stage.Sent; doubtful = b } ∷ [])) none
+fresh_hit : (m p : ℕ) (hit : Bool)
+    → (if hit then None else Some (record { line = m; rival = Some p; progress = Progress.Sent })) ≡ fresh m (Some p) hit
+fresh_hit m p true = refl
+fresh_hit m p false = refl
 
-same_tag : (tag : Tag) → tag_is tag tag ≡ true
+fresh_heard : (m n : ℕ) (b : Option (ℕ × Bool)) (h : Heard) → (m == n) ≡ false
+    → then_renewed (Mark n h) (fresh m (line_of b) (is_lost b)) ≡ fresh m (line_of (heard_last n h b)) (is_lost (heard_last n h b))
+fresh_heard m n None h other = rw other refl
+fresh_heard m n (Some (p, true)) h other = refl
+fresh_heard m n (Some (p, false)) h other = rw other (fresh_hit m p ((p == n) && is_error h))
+
+-- ---- one more open command, at the end
+
+abbrev pub InList : List Use → ℕ → Type 0
+InList [] at = ⊥
+InList (u ∷ uses) zero = Unit {0}
+InList (u ∷ uses) (suc at) = InList uses at
+
+pub in_there : (before : List Use) (u : Use) (after : List Use) → InList (before ++ u ∷ after) (length before)
+in_there [] u after = tt
+in_there (x ∷ before) u after = in_there before u after
+
+pub in_map : (f : Use → Use) (uses : List Use) (at : ℕ) → InList uses at → InList (map f uses) at
+in_map f [] at e = e
+in_map f (u ∷ uses) zero e = tt
+in_map f (u ∷ uses) (suc at) e = in_map f uses at e
+
+remove_append : (uses : List Use) (at : ℕ) (x : Use) → InList uses at → remove (uses ++ x ∷ []) at ≡ remove uses at ++ x ∷ []
+remove_append [] at x e = absurd e
+remove_append (u ∷ uses) zero x e = refl
+remove_append (u ∷ uses) (suc at) x e = ap (λ (l : List Use). u ∷ l) (remove_append uses at x e)
+
+left_append : (uses : List Use) (at : ℕ) (ended : Bool) (x : Use) → InList uses at → left_over (uses ++ x ∷ []) at ended ≡ left_over uses at ended ++ x ∷ []
+left_append uses at true x e = remove_append uses at x e
+left_append uses at false x e = refl
+
+ahead_append : (uses : List Use) (at : ℕ) (x : Use) → InList uses at → take at (uses ++ x ∷ []) ≡ take at uses
+ahead_append [] at x e = absurd e
+ahead_append (u ∷ uses) zero x e = refl
+ahead_append (u ∷ uses) (suc at) x e = ap (λ (l : List Use). u ∷ l) (ahead_append uses at x e)
+
+-- ---- a command is sent, and then a fault or a mark is read
+
+abbrev made : Bool → ℕ → List ℕ → List Use → Bool → Known → List Reported → Dialogue
+made o n events us c k xs = record { ordered = o; lines = n; uses = us; events = events; crossed = c; known = k; reported = xs }
+
+same_parts : (o : Bool) (n : ℕ) (events : List ℕ) (us vs : List Use) (c e : Bool) (k m : Known) (xs ys : List Reported)
+    → us ≡ vs → c ≡ e → k ≡ m → xs ≡ ys
+    → made o n events us c k xs ≡ made o n events vs e m ys
+same_parts o n events us vs c e k m xs ys p q r s =
+    ap (λ (l : List Use). made o n events l c k xs) p
+    ∙ ap (λ (b : Bool). made o n events vs b k xs) q
+    ∙ ap (λ (x : Known). made o n events vs e x xs) r
+    ∙ ap (λ (l : List Reported). made o n events vs e m l) s
+
+pub send_fault : (d : Dialogue) (tag : Tag) (what : SentCommand) (b : Option (ℕ × Bool)) (x : Reported)
+    → faulting (sending_after d tag what b) x ≡ sending_after (faulting d x) tag what b
+send_fault d tag what b x =
+    same_parts d.ordered (d.lines + 1) (with_event tag d.events) _ _ _ _ _ _ _ _
+    (map-append (use_renewed (all_renewed Fault)) d.uses (new_use d.lines tag what b d.known ∷ [])
+    ∙ ap (λ (u : Use). map (use_renewed (all_renewed Fault)) d.uses ++ u ∷ []) (new_fault d.lines tag what b d.known))
+    refl
+    (below_renewed Fault (fresh d.lines (line_of b) (is_lost b)) what d.known
+    ∙ ap (λ (s : Option Standing). below s what (all_renewed Fault d.known)) (fresh_fault d.lines (line_of b) (is_lost b)))
+    refl
+
+pub or_no : (x y : Bool) → y ≡ false → (x || y) ≡ x
+or_no true y e = refl
+or_no false y e = e
+
+send_hearing : (d : Dialogue) (tag : Tag) (what : SentCommand) (b : Option (ℕ × Bool)) (at : ℕ) (u : Use) (h : Heard) (ended : Bool)
+    → InList d.uses at → (d.lines == u.line) ≡ false → (d.ordered && is_some (line_of b)) ≡ false
+    → hearing (sending_after d tag what b) at u h ended ≡ sending_after (hearing d at u h ended) tag what (heard_last u.line h b)
+send_hearing d tag what b at u h ended here other free =
+    same_parts d.ordered (d.lines + 1) (with_event tag d.events) _ _ _ _ _ _ _ _
+    (ap (λ (l : List Use). left_over l at ended) (map-append (use_heard u.line h) d.uses (new_use d.lines tag what b d.known ∷ []))
+    ∙ left_append (map (use_heard u.line h) d.uses) at ended (use_heard u.line h (new_use d.lines tag what b d.known))
+    (in_map (use_heard u.line h) d.uses at here)
+    ∙ ap (λ (x : Use). left_over (map (use_heard u.line h) d.uses) at ended ++ x ∷ []) (new_heard d.lines u.line tag what b d.known h other))
+    (ap (λ (r : Option ℕ). d.crossed || (d.ordered && is_some r)) (sym (line_same u.line h b)))
+    (below_renewed (Mark u.line h) (fresh d.lines (line_of b) (is_lost b)) what d.known
+    ∙ ap (λ (s : Option Standing). below s what (all_renewed (Mark u.line h) d.known)) (fresh_heard d.lines u.line b h other))
+    (ap (λ (c : Bool). d.reported ++ reported_by (unless_crossed c (use_heard u.line h u).known) u.tag u.command u.stage h)
+    (or_no d.crossed (d.ordered && is_some (line_of b)) free))
+
+if_early : (d : Dialogue) (tag : Tag) (what : SentCommand) (b : Option (ℕ × Bool)) (at : ℕ) (u : Use) (h : Heard) (ended : Bool)
+    → InList d.uses at → (d.lines == u.line) ≡ false → (d.ordered && is_some (line_of b)) ≡ false → (x : Bool)
+    → (if x then hearing (faulting (sending_after d tag what b) (reports.Broken NotInTurn u.tag)) at (use_renewed (all_renewed Fault) u) h ended
+    else hearing (sending_after d tag what b) at u h ended)
+    ≡ sending_after
+    (if x then hearing (faulting d (reports.Broken NotInTurn u.tag)) at (use_renewed (all_renewed Fault) u) h ended else hearing d at u h ended)
+    tag what (heard_last u.line h b)
+if_early d tag what b at u h ended here other free true =
+    ap (λ (e : Dialogue). hearing e at (use_renewed (all_renewed Fault) u) h ended) (send_fault d tag what b (reports.Broken NotInTurn u.tag))
+    ∙ send_hearing (faulting d (reports.Broken NotInTurn u.tag)) tag what b at (use_renewed (all_renewed Fault) u) h ended
+    (in_map (use_renewed (all_renewed Fault)) d.uses at here) other free
+if_early d tag what b at u h ended here other free false = send_hearing d tag what b at u h ended here other free
+
+pub send_heard_at : (d : Dialogue) (tag : Tag) (what : SentCommand) (b : Option (ℕ × Bool)) (at : ℕ) (u : Use) (h : Heard) (ended : Bool)
+    → InList d.uses at → (d.lines == u.line) ≡ false → (d.ordered && is_some (line_of b)) ≡ false
+    → heard_at (sending_after d tag what b) at u h ended ≡ sending_after (heard_at d at u h ended) tag what (heard_last u.line h b)
+send_heard_at d tag what b at u h ended here other free =
+    ap (λ (l : List Use). if has_turn u.command && (list_any waits l && may_not_come u h)
+    then hearing (faulting (sending_after d tag what b) (reports.Broken NotInTurn u.tag)) at (use_renewed (all_renewed Fault) u) h ended
+    else hearing (sending_after d tag what b) at u h ended)
+    (ahead_append d.uses at (new_use d.lines tag what b d.known) here)
+    ∙ if_early d tag what b at u h ended here other free (is_out_of_turn d.uses at u h)
+
+-- ---- which command was sent last under a tag, after the mark
+
+pub one_tag : (a b : Tag) → tag_is a b ≡ true → a ≡ b
+one_tag (Std n) (Std m) e = ap Std (eqb-true n m e)
+one_tag (Std n) (Event m) e = absurd (false≢true e)
+one_tag (Event n) (Std m) e = absurd (false≢true e)
+one_tag (Event n) (Event m) e = ap Event (eqb-true n m e)
+
+pub same_tag : (tag : Tag) → tag_is tag tag ≡ true
 same_tag (Std n) = eq-eqb n n refl
 same_tag (Event n) = eq-eqb n n refl
 
--- one line of each end
-pub swap_asking : (t : Talking) (tag : Tag) (what : Asked) (line : List ℕ) → is_open tag t.uses ≡ false
-    → IsBefore t.uses (new_use tag what ∷ []) (response_of line)
-    → asking (server_said t line) (Some (tag, what)) ≡ server_said (asking t (Some (tag, what))) line
-swap_asking t tag what line none before =
-    asks_new (server_said t line) tag what (stays_closed tag t line none)
-    ∙ sym (longer_answering t (new_use tag what ∷ []) line (response_of line) before)
-    ∙ ap (λ (s : Talking). server_said s line) (sym (asks_new t tag what none))
+-- it is the same, or its end was read and there is none; the second argument: what was there before, with the mark
+pub data IsLast (tag : Tag) (u : Use) (ended : Bool) : Option (ℕ × Bool) → Option (ℕ × Bool) → Type 0 where
+  stays : (b : Option (ℕ × Bool)) → IsLast tag u ended b b
+  ends : tag_is u.tag tag ≡ true → ended ≡ true → IsLast tag u ended (Some (u.line, u.has_failed)) None
 
-behind_before : (uses : List Use) (tag : Tag) (what : Asked) (line : List ℕ) (r : Result Response NotResponse)
-    → asked line (command_of line) ≡ Some (tag, what)
-    → IsBehind uses (line ∷ []) r → IsBefore uses (new_use tag what ∷ []) r
-behind_before uses tag what line (Ok r) is behind =
-    λ none. ap (λ (a : Option (Tag × Asked)). is_under r.tag a || false) (sym is) ∙ behind none
-behind_before uses tag what line (Err why) is behind = tt
+pub removed_map : (f : Use → Use) (before : List Use) (u : Use) (after : List Use)
+    → remove (map f (before ++ u ∷ after)) (length before) ≡ map f before ++ map f after
+removed_map f [] u after = refl
+removed_map f (x ∷ before) u after = ap (λ (l : List Use). f x ∷ l) (removed_map f before u after)
 
-pub swap_said : (t : Talking) (up down : List ℕ) → IsFresh t.uses up → IsBehind t.uses (up ∷ []) (response_of down)
-    → client_said (server_said t down) up ≡ server_said (client_said t up) down
-swap_said t up down fresh behind = go (asked up (command_of up)) refl where
-  go : (a : Option (Tag × Asked)) → asked up (command_of up) ≡ a
-      → client_said (server_said t down) up ≡ server_said (client_said t up) down
-  go None is = ap (asking (server_said t down)) is ∙ ap (λ (a : Option (Tag × Asked)). server_said (asking t a) down) (sym is)
-  go (Some (tag, what)) is =
-      let none : is_open tag t.uses ≡ false = fresh tag (ap (is_under tag) is ∙ same_tag tag) in
-      ap (asking (server_said t down)) is
-      ∙ swap_asking t tag what down none (behind_before t.uses tag what up (response_of down) is behind)
-      ∙ ap (λ (a : Option (Tag × Asked)). server_said (asking t a) down) (sym is)
+pub and_no : (x y : Bool) → y ≡ false → (x && y) ≡ false
+and_no true y e = e
+and_no false y e = refl
 
--- a fresh line stays so while the server's lines are read
-pub stays_fresh : (t : Talking) (up down : List ℕ) → IsFresh t.uses up → IsFresh (server_said t down).uses up
-stays_fresh t up down fresh = λ tag sends_it. stays_closed tag t down (fresh tag sends_it)
+abbrev last_as : ℕ → Bool → Option (ℕ × Bool)
+last_as p failed = Some (p, failed)
 
-opens_more : (t : Talking) (a : Option (Tag × Asked)) (tag : Tag) → is_open tag (asking t a).uses ≡ false → is_open tag t.uses ≡ false
-opens_more t None tag none = none
-opens_more t (Some (used, what)) tag none =
-    let parts = neither (is_open tag t.uses) (is_open tag (record { tag = used; asked = what; stage = stage.Sent; doubtful = is_open used t.uses } ∷ []))
-    (sym (list_any-append (λ (u : Use). tag_is u.tag tag) t.uses _) ∙ none) in
-    parts.0
+not_failed : (n p : ℕ) (h : Heard) (failed : Bool) → is_error h ≡ false → heard_last n h (Some (p, failed)) ≡ Some (p, failed)
+not_failed n p h failed none =
+    ap (last_as p) (or_no failed ((p == n) && is_error h) (and_no (p == n) (is_error h) none))
 
-pub behind_first : (uses : List Use) (up : List ℕ) (later : List (List ℕ)) (r : Result Response NotResponse)
-    → IsBehind uses (up ∷ later) r → IsBehind uses (up ∷ []) r
-behind_first uses up later (Ok r) behind =
-    λ none. both_not (sends r.tag up) false ((neither (sends r.tag up) (some_sends r.tag later) (behind none)).0) refl
-behind_first uses up later (Err why) behind = tt
+last_removed : (tag : Tag) (before : List Use) (u : Use) (after : List Use) (h : Heard) → is_open u.tag before ≡ false → is_error h ≡ false
+    → IsLast tag u true (heard_last u.line h (last_under tag (before ++ u ∷ after) None))
+    (last_under tag (map (use_heard u.line h) before ++ map (use_heard u.line h) after) None)
+last_removed tag before u after h first none = go (tag_is u.tag tag) refl (is_open tag after) refl where
+  left : last_under tag (map (use_heard u.line h) before ++ map (use_heard u.line h) after) None
+      ≡ heard_last u.line h (last_under tag after (last_under tag before None))
+  left = last_append tag (map (use_heard u.line h) before) (map (use_heard u.line h) after) None
+      ∙ ap (last_under tag (map (use_heard u.line h) after)) (last_heard u.line h tag before None)
+      ∙ last_heard u.line h tag after (last_under tag before None)
 
-pub behind_later : (t : Talking) (up : List ℕ) (later : List (List ℕ)) (r : Result Response NotResponse)
-    → IsBehind t.uses (up ∷ later) r → IsBehind (client_said t up).uses later r
-behind_later t up later (Ok r) behind =
-    λ none. (neither (sends r.tag up) (some_sends r.tag later) (behind (opens_more t (asked up (command_of up)) r.tag none))).1
-behind_later t up later (Err why) behind = tt
+  all : last_under tag (before ++ u ∷ after) None ≡ last_under tag after (later tag u (last_under tag before None))
+  all = last_append tag before (u ∷ after) None
 
--- many lines of the client and one of the server
-swap_up : (t : Talking) (up : List (List ℕ)) (down : List ℕ) → AreFresh t up → IsBehind t.uses up (response_of down)
-    → client_lines (server_said t down) up ≡ server_said (client_lines t up) down
-swap_up t [] down fresh behind = refl
-swap_up t (line ∷ up) down fresh behind =
-    ap (λ (s : Talking). client_lines s up) (swap_said t line down fresh.0 (behind_first t.uses line up (response_of down) behind))
-    ∙ swap_up (client_said t line) up down fresh.1 (behind_later t line up (response_of down) behind)
+  stay : last_under tag after (later tag u (last_under tag before None)) ≡ last_under tag after (last_under tag before None)
+      → IsLast tag u true (heard_last u.line h (last_under tag (before ++ u ∷ after) None))
+      (last_under tag (map (use_heard u.line h) before ++ map (use_heard u.line h) after) None)
+  stay same = subst (IsLast tag u true (heard_last u.line h (last_under tag (before ++ u ∷ after) None)))
+      (ap (heard_last u.line h) (all ∙ same) ∙ sym left) (stays (heard_last u.line h (last_under tag (before ++ u ∷ after) None)))
 
-stay_fresh : (t : Talking) (up : List (List ℕ)) (down : List ℕ) → AreFresh t up → IsBehind t.uses up (response_of down)
-    → AreFresh (server_said t down) up
-stay_fresh t [] down fresh behind = tt
-stay_fresh t (line ∷ up) down fresh behind = (
-  stays_fresh t line down fresh.0,
-  subst (λ (s : Talking). AreFresh s up)
-      (sym (swap_said t line down fresh.0 (behind_first t.uses line up (response_of down) behind)))
-      (stay_fresh (client_said t line) up down fresh.1 (behind_later t line up (response_of down) behind)),
-)
+  go : (x : Bool) → tag_is u.tag tag ≡ x → (y : Bool) → is_open tag after ≡ y
+      → IsLast tag u true (heard_last u.line h (last_under tag (before ++ u ∷ after) None))
+      (last_under tag (map (use_heard u.line h) before ++ map (use_heard u.line h) after) None)
+  go false is y there_is = stay (ap (last_under tag after) (later_none tag u (last_under tag before None) is))
+  go true is true there_is = stay (last_any tag after (later tag u (last_under tag before None)) (last_under tag before None) there_is)
+  go true is false there_is =
+      let no : last_under tag before None ≡ None =
+      last_none tag before None (ap (λ (t : Tag). is_open t before) (sym (one_tag u.tag tag is)) ∙ first) in
+      let was : heard_last u.line h (last_under tag (before ++ u ∷ after) None) ≡ Some (u.line, u.has_failed) =
+      ap (heard_last u.line h) (all ∙ ap (last_under tag after) (later_this tag u (last_under tag before None) is)
+      ∙ last_none tag after (Some (u.line, u.has_failed)) there_is) ∙ not_failed u.line u.line h u.has_failed none in
+      let gone : last_under tag (map (use_heard u.line h) before ++ map (use_heard u.line h) after) None ≡ None =
+      left ∙ ap (λ (b : Option (ℕ × Bool)). heard_last u.line h (last_under tag after b)) no ∙ ap (heard_last u.line h) (last_none tag after None there_is) in
+      subst (λ (b : Option (ℕ × Bool)). IsLast tag u true b (last_under tag (map (use_heard u.line h) before ++ map (use_heard u.line h) after) None))
+      (sym was) (subst (IsLast tag u true (Some (u.line, u.has_failed))) (sym gone) (ends is refl))
 
-pub ups_after : (down up : List (List ℕ)) → ups (map Down down ++ map Up up) ≡ up
-ups_after [] [] = refl
-ups_after [] (line ∷ up) = ap (λ (l : List (List ℕ)). line ∷ l) (ups_after [] up)
-ups_after (line ∷ down) up = ups_after down up
-
--- many lines of each end
-pub swap_all : (t : Talking) (up down : List (List ℕ)) → AreFresh t up → IsCausal t (map Down down ++ map Up up)
-    → client_lines (server_lines t down) up ≡ server_lines (client_lines t up) down
-swap_all t up [] fresh causal = refl
-swap_all t up (line ∷ down) fresh causal =
-    let behind : IsBehind t.uses up (response_of line) =
-    subst (λ (l : List (List ℕ)). IsBehind t.uses l (response_of line)) (ups_after down up) causal.0 in
-    swap_all (server_said t line) up down (stay_fresh t up line fresh behind) causal.1
-    ∙ ap (λ (s : Talking). server_lines s down) (swap_up t up line fresh behind)
-
--- ---- what makes an order causal
-
-pub ups_are_causal : (t : Talking) (up : List (List ℕ)) → IsCausal t (map Up up)
-ups_are_causal t [] = tt
-ups_are_causal t (line ∷ up) = ups_are_causal (client_said t line) up
-
-behind_answer : (uses : List Use) (later : List (List ℕ)) (r : Result Response NotResponse) → IsAnswer uses r → IsBehind uses later r
-behind_answer uses later (Ok r) answer = λ none. absurd (cc (answer, none))
-behind_answer uses later (Err why) answer = tt
-
-pub answers_are_causal : (t : Talking) (down : List (List ℕ)) (rest : List Line) → AreAnswers t down → IsCausal (server_lines t down) rest
-    → IsCausal t (map Down down ++ rest)
-answers_are_causal t [] rest are causal = causal
-answers_are_causal t (line ∷ down) rest are causal = (
-  behind_answer t.uses (ups (map Down down ++ rest)) (response_of line) are.0,
-  answers_are_causal (server_said t line) down rest are.1 causal,
-)
-
-pub swap_answers : (t : Talking) (up down : List (List ℕ)) → AreFresh t up → AreAnswers t down
-    → client_lines (server_lines t down) up ≡ server_lines (client_lines t up) down
-swap_answers t up down fresh are =
-    swap_all t up down fresh (answers_are_causal t down (map Up up) are (ups_are_causal (server_lines t down) up))
-
--- a command, and lines that are no responses under its tag
-before_one : (uses : List Use) (tag : Tag) (what : Asked) (r : Result Response NotResponse) → is_of tag r ≡ false
-    → IsBefore uses (new_use tag what ∷ []) r
-before_one uses tag what (Ok r) other = λ none. both_not (tag_is tag r.tag) false other refl
-before_one uses tag what (Err why) other = tt
-
-pub swap_command : (t : Talking) (tag : Tag) (what : Asked) (down : List (List ℕ)) → is_open tag t.uses ≡ false
-    → list_any (answers tag) down ≡ false
-    → asking (server_lines t down) (Some (tag, what)) ≡ server_lines (asking t (Some (tag, what))) down
-swap_command t tag what [] none others = refl
-swap_command t tag what (line ∷ down) none others =
-    let parts = neither (answers tag line) (list_any (answers tag) down) others in
-    swap_command (server_said t line) tag what down (stays_closed tag t line none) parts.1
-    ∙ ap (λ (s : Talking). server_lines s down)
-    (swap_asking t tag what line none (before_one t.uses tag what (response_of line) parts.0))
+pub last_hearing : (d : Dialogue) (tag : Tag) (before : List Use) (u : Use) (after : List Use) (h : Heard) (ended : Bool) → d.uses ≡ before ++ u ∷ after
+    → is_open u.tag before ≡ false → (ended ≡ true → is_error h ≡ false)
+    → IsLast tag u ended (heard_last u.line h (last_under tag d.uses None)) (last_under tag (hearing d (length before) u h ended).uses None)
+last_hearing d tag before u after h true parts first none =
+    subst (λ (l : List Use). IsLast tag u true (heard_last u.line h (last_under tag l None))
+    (last_under tag (remove (map (use_heard u.line h) l) (length before)) None)) (sym parts)
+    (subst (λ (l : List Use). IsLast tag u true (heard_last u.line h (last_under tag (before ++ u ∷ after) None)) (last_under tag l None))
+    (sym (removed_map (use_heard u.line h) before u after)) (last_removed tag before u after h first (none refl)))
+last_hearing d tag before u after h false parts first none =
+    subst (IsLast tag u false (heard_last u.line h (last_under tag d.uses None))) (sym (last_heard u.line h tag d.uses None))
+    (stays (heard_last u.line h (last_under tag d.uses None)))

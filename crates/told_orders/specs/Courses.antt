@@ -4,9 +4,9 @@ use Rattle.line_framing.specs.Next.{Front, next_of}
 use Rattle.line_framing.specs.Stream.{IsStream}
 use Rattle.line_framing.specs.declared.faults.FramingFault.{FramingFault}
 use Rattle.line_framing.proofs.Streams.{some_stream}
-use Rattle.told_ledger.specs.Relaying.{Relaying, Reads, none, client, server, Move, FromClient, FromServer, Read, MakeDue, Write, ToServer, ToClient}
-use Rattle.told_ledger.specs.Relaying.{Did, Course, Relays, begun, moved}
-use Rattle.told_ledger.specs.Watching.{Watching}
+use Rattle.witness.specs.Relaying.{Relaying, Reads, none, client, server, Move, FromClient, FromServer, Read, MakeDue, Write, ToServer, ToClient}
+use Rattle.witness.specs.Relaying.{Did, Course, Relays, begun, moved}
+use Rattle.witness.specs.Watching.{Watching}
 use Rattle.told_orders.specs.Orders.{Line, Up, Down, ups, downs}
 
 -- the line at the front of the client's bytes, if there is one, and of the server's

@@ -1,67 +1,73 @@
 -- Examples: lines of both ends in orders that are written out (this profile). No law cites these definitions.
-use Rattle.std.specs.Prelude.{ℕ, Bool, List, [], ◌∷◌, ◌++◌, codes}
+use Rattle.std.specs.Prelude.{ℕ, pos, true, List, [], ◌∷◌, ◌++◌, codes}
 use Rattle.std.proofs.Common.{refl}
+use Rattle.fixed_um.specs.declared.lengths.Point.{Point}
+use Rattle.dme_line.specs.Written.{written_command}
 use Rattle.dme_line.specs.declared.commands.Command.TheVariants as command
 use Rattle.dme_line.specs.declared.tags.Tag.TheVariants.{Std}
-use Rattle.protocol_model.specs.declared.held.Stage.TheVariants as stage
-use Rattle.told_ledger.specs.Relaying.{Relaying, fresh, client_came, server_came, Reads, none, client, server, IsClientRead}
-use Rattle.told_ledger.specs.Relaying.{FromClient, FromServer, Read, Course, no_course, with_move, Relays, begun, moved}
-use Rattle.told_ledger.specs.Talking.{Talking, silence}
-use Rattle.told_ledger.specs.Watching.{client_read, server_read}
-use Rattle.told_ledger.specs.declared.uses.Asked.TheVariants as asks
-use Rattle.told_ledger.specs.declared.uses.Use.{Use}
+use Rattle.witness.specs.Dialogues.{Dialogue, silence}
+use Rattle.witness.specs.Relaying.{Relaying, fresh, client_came, server_came, Reads, none, client, server, IsClientRead}
+use Rattle.witness.specs.Relaying.{FromClient, FromServer, Read, Course, no_course, with_move, Relays, begun, moved}
+use Rattle.witness.specs.Watching.{client_read, server_read}
 use Rattle.told_orders.specs.Orders.{Line, Up, Down, said_all}
 
--- a command under the tag 00001, the mark that it is received, and its end
+-- a command under the tag 00001, the mark that it is received, an error of it, and its end
 abbrev pub home : List ℕ
 home = codes "00001 Home()"
 
 abbrev pub received : List ℕ
 received = codes "00001 &"
 
+abbrev pub refused : List ℕ
+refused = codes "00001 !"
+
 abbrev pub ended : List ℕ
 ended = codes "00001 %"
 
--- the same under the tag 00002
+-- another command under this tag
+abbrev pub selected : List ℕ
+selected = codes "00001 SetCoordSystem(MachineCsy)"
+
+-- the same as the first under the tag 00002
 abbrev pub home_2 : List ℕ
 home_2 = codes "00002 Home()"
-
-abbrev pub received_2 : List ℕ
-received_2 = codes "00002 &"
 
 abbrev pub ended_2 : List ℕ
 ended_2 = codes "00002 %"
 
--- an error without a command
-abbrev pub refusal : List ℕ
-refusal = codes "E0000 !"
+-- a line without a tag
+abbrev pub untagged : List ℕ
+untagged = []
 
 -- a command and its replies, in their order
 abbrev pub answered : List Line
 answered = Up home ∷ Down received ∷ Down ended ∷ []
 
-abbrev pub answered_2 : List Line
-answered_2 = Up home_2 ∷ Down received_2 ∷ Down ended_2 ∷ []
+-- the frame is selected under the same tag
+abbrev pub selecting : List Line
+selecting = Up selected ∷ Down received ∷ Down ended ∷ []
 
 -- the first reply comes before the command
 abbrev pub early : List Line
 early = Down received ∷ Up home ∷ Down ended ∷ []
 
--- the tag is used again, and something is refused between the two
-abbrev pub refused_between : List Line
-refused_between = answered ++ Down refusal ∷ answered
-
--- another tag is used after a refusal
-abbrev pub refused_before : List Line
-refused_before = answered ++ Down refusal ∷ answered_2
+-- the command fails before its end
+abbrev pub failed : List Line
+failed = Up home ∷ Down received ∷ Down refused ∷ Down ended ∷ []
 
 -- the command is received, and is open
-abbrev pub homing : Talking
-homing = said_all silence (Up home ∷ Down received ∷ [])
+abbrev pub homing : Dialogue
+homing = said_all (silence true) (Up home ∷ Down received ∷ [])
 
--- it was sent, while another was open under its tag or not
-abbrev pub sent : Bool → Use
-sent doubtful = record { tag = Std 1; asked = asks.Known command.Home; stage = stage.Sent; doubtful = doubtful }
+-- a frame is selected, and then the probe is moved twice under one tag, which is in use the second time
+abbrev pub origin : Point
+origin = record { x = pos 0; y = pos 0; z = pos 0 }
+
+abbrev pub moves : List ℕ
+moves = written_command (Std 1) (command.GoTo origin)
+
+abbrev pub crossing : List Line
+crossing = selecting ++ Up moves ∷ Up moves ∷ Down received ∷ Down ended ∷ []
 
 -- lines as bytes
 abbrev pub with_end : List ℕ → List ℕ

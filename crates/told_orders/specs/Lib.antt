@@ -1,3 +1,4 @@
 pub mod Orders
+pub mod Claims
 pub mod Courses
 pub mod Examples

@@ -1,15 +1,18 @@
 -- The lines of both ends of a connection in the order in which they are read, and what is asked of such an order (this profile).
-use Rattle.std.specs.Prelude.{◌≡◌, ℕ, Bool, true, false, ◌&&◌, ◌||◌, List, [], ◌∷◌, ◌++◌, Option, Some, None, Result, Ok, Err}
+use Rattle.std.specs.Prelude.{◌≡◌, ℕ, suc, ◌≤◌, Bool, true, false, ◌&&◌, ◌||◌, if◌then◌else◌, List, [], ◌∷◌, ◌++◌}
+use Rattle.std.specs.Prelude.{Option, Some, None, Result, Ok, Err}
 use Rattle.std.specs.List.{list_any}
 use Rattle.dme_line.specs.declared.tags.Tag.{Tag}
 use Rattle.dme_line.specs.declared.responses.Response.{Response}
 use Rattle.dme_line.specs.declared.responses.NotResponse.{NotResponse}
 use Rattle.protocol_model.specs.Readings.{command_of, response_of}
 use Rattle.protocol_model.specs.Replies.{tag_is}
-use Rattle.witness.specs.Asking.{sent, client_line, server_line}
-use Rattle.witness.specs.Dialogues.{Dialogue, after}
-use Rattle.witness.specs.declared.lines.SentCommand.{SentCommand}
+use Rattle.witness.specs.Asking.{sent, client_line, server_line, Signal, Error, signal_of}
+use Rattle.witness.specs.Dialogues.{Dialogue, after, foreign_event}
+use Rattle.witness.specs.Marks.{is_end}
+use Rattle.witness.specs.Rules.{is_at_once}
 use Rattle.witness.specs.declared.lines.Reported.{Reported}
+use Rattle.witness.specs.declared.lines.SentCommand.{SentCommand}
 use Rattle.witness.specs.declared.lines.Use.{Use}
 
 -- a line of the client, or of the server
@@ -70,40 +73,80 @@ is_of tag (Err why) = false
 abbrev pub answers : Tag → List ℕ → Bool
 answers tag line = is_of tag (response_of line)
 
+-- ---- lines that may be carried out at once
+
+-- whether a line of the client may be carried out at once, whatever is in progress: it has no valid tag, or is a foreign one under an event tag
+abbrev pub at_once_line : List ℕ → Bool
+at_once_line line = is_at_once (sent line (command_of line))
+
+abbrev pub some_at_once : List (List ℕ) → Bool
+some_at_once lines = list_any at_once_line lines
+
 -- ---- what is asked of an order
 
--- a response comes after its command: one is open under its tag, or the client sends none under it later
+-- a response comes after its command: one is open under its tag, or the client sends none under it later. So it is of a report by event
 abbrev pub IsBehind : List Use → List (List ℕ) → Result Response NotResponse → Type 0
 IsBehind uses later (Ok r) = is_open r.tag uses ≡ false → some_sends r.tag later ≡ false
 IsBehind uses later (Err why) = Unit {0}
 
 -- each response that is read comes after its command; a line that is no response may be read at any time
-abbrev pub IsCausal : Talking → List Line → Type 0
-IsCausal t [] = Unit {0}
-IsCausal t (Up line ∷ lines) = IsCausal (client_said t line) lines
-IsCausal t (Down line ∷ lines) = IsBehind t.uses (ups lines) (response_of line) × IsCausal (server_said t line) lines
+abbrev pub IsCausal : Dialogue → List Line → Type 0
+IsCausal d [] = Unit {0}
+IsCausal d (Up line ∷ lines) = IsCausal (said d (Up line)) lines
+IsCausal d (Down line ∷ lines) = IsBehind d.uses (ups lines) (response_of line) × IsCausal (said d (Down line)) lines
 
--- of a response that is read after something was refused it is known which command it is for: no two lines of the client use its tag
-abbrev pub IsSure : List (List ℕ) → Bool → Result Response NotResponse → Type 0
-IsSure up refused (Ok r) = refused ≡ true → two_send r.tag up ≡ false
-IsSure up refused (Err why) = Unit {0}
+-- whether the command that was sent first of those that are open under a tag has failed
+abbrev pub has_failed_under : Tag → List Use → Bool
+has_failed_under tag [] = false
+has_failed_under tag (u ∷ uses) = if tag_is u.tag tag then u.has_failed else has_failed_under tag uses
 
--- so of each; the first argument: all lines of the client
-abbrev pub IsClear : List (List ℕ) → Talking → List Line → Type 0
-IsClear up t [] = Unit {0}
-IsClear up t (Up line ∷ lines) = IsClear up (client_said t line) lines
-IsClear up t (Down line ∷ lines) = IsSure up t.refused (response_of line) × IsClear up (server_said t line) lines
+-- a response ends no command that has failed, or the client sends none under its tag later. With all lines of the client read first, the error
+-- looks as if it may be for the later one
+abbrev pub IsSure : List Use → List (List ℕ) → Result Response NotResponse → Type 0
+IsSure uses later (Ok r) = is_end (signal_of r.mark) ≡ true → has_failed_under r.tag uses ≡ true → some_sends r.tag later ≡ false
+IsSure uses later (Err why) = Unit {0}
+
+-- so of each response; and no line of the client that may be carried out at once comes after one of the server
+abbrev pub IsClear : Dialogue → List Line → Type 0
+IsClear d [] = Unit {0}
+IsClear d (Up line ∷ lines) = IsClear (said d (Up line)) lines
+IsClear d (Down line ∷ lines) =
+    (some_at_once (ups lines) ≡ false) × IsSure d.uses (ups lines) (response_of line) × IsClear (said d (Down line)) lines
+
+-- whether a line of the server is an error
+abbrev pub is_error_signal : Signal → Bool
+is_error_signal Error = true
+is_error_signal _ = false
+
+abbrev pub is_refusal : Result Response NotResponse → Bool
+is_refusal (Ok r) = is_error_signal (signal_of r.mark)
+is_refusal (Err why) = false
+
+abbrev pub refuses : List ℕ → Bool
+refuses line = is_refusal (response_of line)
 
 -- ---- one command
 
--- a line of the client sends no command under a tag under which one is open
-abbrev pub IsFresh : List Use → List ℕ → Type 0
-IsFresh uses line = (tag : Tag) → sends tag line ≡ true → is_open tag uses ≡ false
+-- the open commands are on lines of the client from one number on and before another, in their order
+abbrev pub AreCounted : ℕ → List Use → ℕ → Type 0
+AreCounted first [] next = first ≤ next
+AreCounted first (u ∷ uses) next = (first ≤ u.line) × AreCounted (suc u.line) uses next
 
--- lines of the client that send none, one after another
-abbrev pub AreFresh : Talking → List (List ℕ) → Type 0
-AreFresh t [] = Unit {0}
-AreFresh t (line ∷ lines) = IsFresh t.uses line × AreFresh (client_said t line) lines
+abbrev pub IsCounted : Dialogue → Type 0
+IsCounted d = AreCounted 0 d.uses d.lines
+
+-- a line of the client sends a command, which is not carried out at once, under a tag under which none is open
+abbrev pub IsNew : List Use → Option (Tag × SentCommand) → Type 0
+IsNew uses None = ⊥
+IsNew uses (Some (tag, what)) = (foreign_event tag what ≡ false) × (is_open tag uses ≡ false)
+
+abbrev pub IsFresh : List Use → List ℕ → Type 0
+IsFresh uses line = IsNew uses (sent line (command_of line))
+
+-- lines of the client that do so, one after another
+abbrev pub AreFresh : Dialogue → List (List ℕ) → Type 0
+AreFresh d [] = Unit {0}
+AreFresh d (line ∷ lines) = IsFresh d.uses line × AreFresh (said d (Up line)) lines
 
 -- a response is under a tag under which a command is open
 abbrev pub IsAnswer : List Use → Result Response NotResponse → Type 0
@@ -111,9 +154,9 @@ IsAnswer uses (Ok r) = is_open r.tag uses ≡ true
 IsAnswer uses (Err why) = Unit {0}
 
 -- lines of the server that are such responses, one after another, or no responses
-abbrev pub AreAnswers : Talking → List (List ℕ) → Type 0
-AreAnswers t [] = Unit {0}
-AreAnswers t (line ∷ lines) = IsAnswer t.uses (response_of line) × AreAnswers (server_said t line) lines
+abbrev pub AreAnswers : Dialogue → List (List ℕ) → Type 0
+AreAnswers d [] = Unit {0}
+AreAnswers d (line ∷ lines) = IsAnswer d.uses (response_of line) × AreAnswers (said d (Down line)) lines
 
 -- ---- what is reported
 

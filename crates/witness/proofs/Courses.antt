@@ -1,14 +1,12 @@
 -- What follows for the whole course of a relay.
-use Rattle.std.proofs.Common.{◌≡◌, ℕ, zero, suc, Bool, true, false, List, [], ◌∷◌, ◌++◌, take, drop, map, Option, Some, None, Result, Ok, Err}
-use Rattle.std.proofs.Common.{OnOk, refl, ap, sym, ◌∙◌, subst, append_assoc, append-nil}
+use Rattle.std.proofs.Common.{◌≡◌, ℕ, zero, suc, Bool, true, List, [], ◌++◌, take, drop, map, Result, Ok, Err}
+use Rattle.std.proofs.Common.{OnOk, OnErr, refl, ap, sym, ◌∙◌, subst, append_assoc, append-nil}
 use Rattle.std.proofs.lemmas.List.{take-append-drop}
 use Rattle.std.proofs.lemmas.List.{map-append}
-use Rattle.std.specs.Prelude.{slice_get}
 use Rattle.contact_ledger.specs.Lines.{text_of}
 use Rattle.contact_ledger.proofs.WrittenTexts.{text_more}
-use Rattle.dme_line.specs.declared.tags.Tag.{Tag}
 use Rattle.line_framing.specs.Framing.{Framing, IsLineDue}
-use Rattle.line_framing.specs.Next.{Front, next_of}
+use Rattle.line_framing.specs.Next.{next_of}
 use Rattle.witness.proofs.Prefixes.{prefixed, client_after, server_after}
 use Rattle.witness.specs.Dialogues.{Dialogue}
 use Rattle.witness.specs.Relaying.{Relaying, Move, FromClient, FromServer, Read, MakeDue, Write, ToServer, ToClient, Did}
@@ -56,6 +54,17 @@ both_parts old between new p ended q = then_reads old between new (client_part o
 pub client_stays : (old new : Watching) → ReadsServer old new → IsClientRead old → IsClientRead new
 client_stays old new reads ended =
     still_read old new (ap (λ (w : Watching). w.up) reads.1 ∙ up_stays reads.0 old) ended
+
+-- what is read last may be a fault
+pub client_last : {A E : Type 0} (old so_far new : Watching) (r : Result A E) → ReadsClient old so_far
+    → OnOk r (new ≡ client_read so_far) → OnErr r (new ≡ so_far) → ReadsClient old new
+client_last old so_far new (Ok x) reads ok err = (suc reads.0, ok ∙ ap client_read reads.1)
+client_last old so_far new (Err e) reads ok err = (reads.0, err ∙ reads.1)
+
+pub server_last : {A E : Type 0} (old so_far new : Watching) (r : Result A E) → ReadsServer old so_far
+    → OnOk r (new ≡ server_read so_far) → OnErr r (new ≡ so_far) → ReadsServer old new
+server_last old so_far new (Ok x) reads ok err = (suc reads.0, ok ∙ ap server_read reads.1)
+server_last old so_far new (Err e) reads ok err = (reads.0, err ∙ reads.1)
 
 pub either_way : {A E P : Type 0} (r : Result A E) → P → OnOk r P
 either_way (Ok x) p = p

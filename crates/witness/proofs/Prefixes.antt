@@ -4,7 +4,7 @@ use Rattle.std.specs.Prelude.{slice_get}
 use Rattle.dme_line.specs.declared.tags.Tag.{Tag}
 use Rattle.line_framing.specs.Next.{Front}
 use Rattle.protocol_model.specs.Readings.{command_of, response_of}
-use Rattle.witness.specs.Asking.{Line, Signal, sent, answered}
+use Rattle.witness.specs.Asking.{Signal, sent, answered}
 use Rattle.witness.specs.Dialogues.{Dialogue, at_once, sending, one_more, foreign_event, sent_tagged, client_sent, faulting, hearing, heard_at, at_use, use_renewed, is_out_of_turn}
 use Rattle.witness.specs.Dialogues.{is_report, unasked, heard_under, first_under, server_answered, reported_by, unless_crossed, use_heard}
 use Rattle.witness.specs.Known.{all_renewed}

@@ -1,7 +1,9 @@
 -- What a line of a client asks for, and what a line of a server answers (this profile).
-use Rattle.std.specs.Prelude.{ℕ, Bool, ◌||◌, nat_eq, if◌then◌else◌, List, drop, codes, Option, Some, None, Result, Ok, Err}
-use Rattle.std.specs.List.{starts_with}
+use Rattle.std.specs.Prelude.{ℕ, ◌==◌, Bool, false, ◌&&◌, ◌||◌, if◌then◌else◌, List, [], ◌∷◌, take, drop, codes, Option, Some, None, Result, Ok, Err}
+use Rattle.std.specs.List.{prefix_len}
 use Rattle.fixed_um.specs.declared.lengths.Point.{Point}
+use Rattle.dme_line.specs.CommandText.{is_name_part}
+use Rattle.dme_line.specs.Words.{is_word}
 use Rattle.dme_line.specs.declared.tags.Tag.{Tag}
 use Rattle.dme_line.specs.declared.commands.Command.{Command}
 use Rattle.dme_line.specs.declared.homed.NotHomedText.{NotHomedText}
@@ -16,31 +18,52 @@ use Rattle.protocol_model.specs.Readings.{command_of, response_of, point_of, hom
 use Rattle.witness.specs.declared.lines.SentCommand.{SentCommand}
 use Rattle.witness.specs.declared.lines.SentCommand.TheVariants.{Known, Asking, Foreign}
 
--- a text begins with the name of a command that asks for values, and its parenthesis
+-- the name of a command, which ends before the first space or opening parenthesis, and what follows it
+abbrev pub name_of : List ℕ → List ℕ
+name_of text = take (prefix_len is_name_part text) text
+
+abbrev pub after_name : List ℕ → List ℕ
+after_name text = drop (prefix_len is_name_part text) text
+
+-- an opening parenthesis comes first, after any number of spaces
+abbrev pub opens : List ℕ → Bool
+opens [] = false
+opens (c ∷ cs) = if c == 32 then opens cs else c == 40
+
+-- commands of the I++ DME Interface that ask for values
 abbrev pub asks_value : List ℕ → Bool
-asks_value text =
-    starts_with nat_eq text (codes "Get(")
-    || (starts_with nat_eq text (codes "GetProp(")
-    || (starts_with nat_eq text (codes "GetPropE(")
-    || starts_with nat_eq text (codes "EnumProp(")))
+asks_value name =
+    is_word (codes "Get") name
+    || (is_word (codes "GetProp") name
+    || (is_word (codes "GetPropE") name
+    || (is_word (codes "EnumProp") name
+    || (is_word (codes "EnumAllProp") name
+    || is_word (codes "OnMoveReportE") name))))
 
--- or of one that asks what a server is
+-- those that ask what a server is, and what went wrong
 abbrev pub asks_state : List ℕ → Bool
-asks_state text =
-    starts_with nat_eq text (codes "EnumAllProp(")
-    || (starts_with nat_eq text (codes "EnumTools(")
-    || (starts_with nat_eq text (codes "GetErrStatusE(")
-    || starts_with nat_eq text (codes "GetXtdErrStatus(")))
+asks_state name =
+    is_word (codes "GetErrStatusE") name
+    || (is_word (codes "GetXtdErrStatus") name
+    || (is_word (codes "GetErrorInfo") name
+    || (is_word (codes "GetDMEVersion") name
+    || (is_word (codes "GetMachineClass") name
+    || is_word (codes "IsUserEnabled") name))))
 
--- or of another that moves nothing
-abbrev pub asks_more : List ℕ → Bool
-asks_more text =
-    starts_with nat_eq text (codes "GetDMEVersion(")
-    || starts_with nat_eq text (codes "OnMoveReportE(")
+-- those that ask for tools and coordinate systems
+abbrev pub asks_setting : List ℕ → Bool
+asks_setting name =
+    is_word (codes "EnumTools") name
+    || (is_word (codes "FoundTool") name
+    || (is_word (codes "GetChangeToolAction") name
+    || (is_word (codes "GetCsyTransformation") name
+    || (is_word (codes "GetCoordSystem") name
+    || is_word (codes "EnumCoordSystem") name))))
 
--- commands of the I++ DME Interface that change neither tool nor frame: a text after a tag and its space begins with one of them
+-- a text after a tag and its space is a command that changes neither tool nor frame: its name in any case, with any number of spaces before its parenthesis
 abbrev pub is_asking : List ℕ → Bool
-is_asking text = asks_value text || (asks_state text || asks_more text)
+is_asking text =
+    (asks_value (name_of text) || (asks_state (name_of text) || asks_setting (name_of text))) && opens (after_name text)
 
 -- a line with a tag, which takes six bytes with its space, and a name that this profile does not know
 abbrev pub unknown : List ℕ → SentCommand

@@ -1,5 +1,5 @@
 -- The lines of both ends of a connection, the newest first, and which answers belong to which line of the client (this profile).
-use Rattle.std.specs.Prelude.{ℕ, ◌==◌, Bool, false, ◌&&◌, ◌||◌, if◌then◌else◌, List, [], ◌∷◌, ◌++◌, length, position, remove, slice_get}
+use Rattle.std.specs.Prelude.{ℕ, suc, ◌==◌, Bool, false, ◌&&◌, ◌||◌, if◌then◌else◌, List, [], ◌∷◌, ◌++◌, position, remove, slice_get}
 use Rattle.std.specs.Prelude.{Option, Some, None}
 use Rattle.dme_line.specs.declared.tags.Tag.{Tag}
 use Rattle.protocol_model.specs.Replies.{tag_is}

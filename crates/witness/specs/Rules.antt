@@ -1,6 +1,6 @@
 -- When the tool and the frame of a contact are known, from the lines of both ends of a connection (this profile). Nothing here is carried from line
 -- to line: each rule looks back over the lines that came, the newest first.
-use Rattle.std.specs.Prelude.{ℕ, nat_lt, Bool, true, false, ◌&&◌, ◌||◌, not, if◌then◌else◌, List, [], ◌∷◌, ◌++◌, length, map, slice_get, take}
+use Rattle.std.specs.Prelude.{ℕ, nat_lt, Bool, true, false, ◌&&◌, ◌||◌, not, if◌then◌else◌, List, [], ◌∷◌, ◌++◌, map, slice_get, take}
 use Rattle.std.specs.Prelude.{Option, Some, None, is_some}
 use Rattle.std.specs.List.{list_any}
 use Rattle.fixed_um.specs.Points.{point_opposite}
@@ -12,7 +12,7 @@ use Rattle.dme_line.specs.declared.commands.Csy.TheVariants.{MachineCsy, PartCsy
 use Rattle.dme_line.specs.declared.tags.Tag.{Tag}
 use Rattle.witness.specs.Asking.{Line, Sends, Answers, Signal}
 use Rattle.witness.specs.Dialogues.{Dialogue, with_event, is_report, foreign_event, reported_by, unless_crossed}
-use Rattle.witness.specs.Histories.{Sent, place, open_lines, first_of, marks, mark_in, is_for, error_at, rival_of, stage_of}
+use Rattle.witness.specs.Histories.{Sent, count_sent, place, open_lines, first_of, marks, mark_in, is_for, error_at, rival_of, stage_of}
 use Rattle.witness.specs.Known.{nothing, standing}
 use Rattle.witness.specs.Marks.{heard_as, is_received, is_error, is_answer, has_turn, is_foreign}
 use Rattle.witness.specs.declared.lines.Heard.{Heard}

@@ -1,6 +1,8 @@
 // What a line of a client asks for.
 
-ghost use Rattle.std.specs.Prelude.{◌≡◌, drop, IfOk};
+ghost use Rattle.std.specs.Prelude.{◌≡◌, ◌≤◌, length, drop, IfOk};
+ghost use Rattle.std.specs.List.{prefix_len};
+ghost use Rattle.dme_line.specs.CommandText.{is_name_part};
 ghost use Rattle.protocol_model.specs.Readings.{command_of};
 ghost use Rattle.witness.specs.Asking as spec;
 
@@ -8,38 +10,75 @@ use crate::lines::SentCommand;
 use dme_line::{LineFault, Tag, Text, read_command};
 use std::alloc::{AllocError, Global};
 
-/// Whether a text begins with a command that asks for values.
-fn asks_value(text: &[u8]) -> bool
-    ensures { result ≡ spec.asks_value text.now }
+/// Whether a byte belongs to a command's name.
+fn is_name_part(byte: u8) -> bool
+    ensures { result ≡ is_name_part byte }
 {
-    text.starts_with(b"Get(".as_slice())
-        || text.starts_with(b"GetProp(".as_slice())
-        || text.starts_with(b"GetPropE(".as_slice())
-        || text.starts_with(b"EnumProp(".as_slice())
+    byte != b' ' && byte != b'('
 }
 
-/// Whether a text begins with a command that asks what a server is.
-fn asks_state(text: &[u8]) -> bool
-    ensures { result ≡ spec.asks_state text.now }
+/// How many bytes of a text are its command's name.
+fn name_len(text: &[u8]) -> usize
+    ensures count { result ≡ prefix_len is_name_part text.now }
+    ensures within { result ≤ length text.now }
 {
-    text.starts_with(b"EnumAllProp(".as_slice())
-        || text.starts_with(b"EnumTools(".as_slice())
-        || text.starts_with(b"GetErrStatusE(".as_slice())
-        || text.starts_with(b"GetXtdErrStatus(".as_slice())
+    text.iter().take_while(|byte| is_name_part(**byte)).count()
 }
 
-/// Whether a text begins with another command that moves nothing.
-fn asks_more(text: &[u8]) -> bool
-    ensures { result ≡ spec.asks_more text.now }
+/// Whether an opening parenthesis comes first, after any number of spaces.
+fn opens(text: &[u8]) -> bool
+    ensures { result ≡ spec.opens text.now }
 {
-    text.starts_with(b"GetDMEVersion(".as_slice()) || text.starts_with(b"OnMoveReportE(".as_slice())
+    let mut rest = text;
+    while let [b' ', more @ ..] = rest {
+        rest = more;
+    }
+    rest.first() == Some(&b'(')
 }
 
-/// Whether a text after a tag and its space is a command that changes neither tool nor frame (this profile's list).
-fn is_asking(text: &[u8]) -> bool
+/// Whether a name is that of a command that asks for values.
+fn asks_value(name: &[u8]) -> bool
+    ensures { result ≡ spec.asks_value name.now }
+{
+    name.eq_ignore_ascii_case(b"Get")
+        || name.eq_ignore_ascii_case(b"GetProp")
+        || name.eq_ignore_ascii_case(b"GetPropE")
+        || name.eq_ignore_ascii_case(b"EnumProp")
+        || name.eq_ignore_ascii_case(b"EnumAllProp")
+        || name.eq_ignore_ascii_case(b"OnMoveReportE")
+}
+
+/// Whether it is that of one that asks what a server is, and what went wrong.
+fn asks_state(name: &[u8]) -> bool
+    ensures { result ≡ spec.asks_state name.now }
+{
+    name.eq_ignore_ascii_case(b"GetErrStatusE")
+        || name.eq_ignore_ascii_case(b"GetXtdErrStatus")
+        || name.eq_ignore_ascii_case(b"GetErrorInfo")
+        || name.eq_ignore_ascii_case(b"GetDMEVersion")
+        || name.eq_ignore_ascii_case(b"GetMachineClass")
+        || name.eq_ignore_ascii_case(b"IsUserEnabled")
+}
+
+/// Whether it is that of one that asks for tools and coordinate systems.
+fn asks_setting(name: &[u8]) -> bool
+    ensures { result ≡ spec.asks_setting name.now }
+{
+    name.eq_ignore_ascii_case(b"EnumTools")
+        || name.eq_ignore_ascii_case(b"FoundTool")
+        || name.eq_ignore_ascii_case(b"GetChangeToolAction")
+        || name.eq_ignore_ascii_case(b"GetCsyTransformation")
+        || name.eq_ignore_ascii_case(b"GetCoordSystem")
+        || name.eq_ignore_ascii_case(b"EnumCoordSystem")
+}
+
+/// Whether the text after a tag and its space is a command that changes neither tool nor frame (this profile's list): its name in any case, and an
+/// opening parenthesis, with any number of spaces between the two. Does not allocate.
+pub fn only_asks(text: &[u8]) -> bool
     ensures { result ≡ spec.is_asking text.now }
 {
-    asks_value(text) || asks_state(text) || asks_more(text)
+    let (name, rest) = text.split_at(name_len(text));
+    (asks_value(name) || asks_state(name) || asks_setting(name)) && opens(rest)
 }
 
 /// What follows a tag and its space.
@@ -54,7 +93,7 @@ fn after_tag(line: &[u8]) -> &[u8]
 fn unknown(alloc: Global, line: &[u8]) -> Result<SentCommand, AllocError>
     ensures { IfOk result (λ command. command ≡ spec.unknown line.now) }
 {
-    if is_asking(after_tag(line)) {
+    if only_asks(after_tag(line)) {
         return Ok(SentCommand::Asking);
     }
     Ok(SentCommand::Foreign(Text::new(alloc, line)?))

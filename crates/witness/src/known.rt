@@ -1,6 +1,6 @@
 // Changes of tool and frame that may hold for a line, and what becomes of them.
 
-ghost use Rattle.std.specs.Prelude.{◌≡◌, IfOk};
+ghost use Rattle.std.specs.Prelude.{◌≡◌, false, IfOk};
 ghost use Rattle.fixed_um.specs.Calls.{Leads};
 ghost use Rattle.witness.specs.Known as spec;
 
@@ -106,6 +106,27 @@ fn one_renewed<A: Drop>(by: &Renewal, one: Option<(A, Standing)>) -> Option<(A, 
         Some((to, standing)) => with_standing(to, renewed(by, standing)),
         None => None,
     }
+}
+
+/// Whether a mark for the line of this number may change what may be known of one thing.
+fn stands_on<A>(one: &Option<(A, Standing)>, line: u64) -> bool
+    ensures { result ≡ false → (h : Heard) → spec.one_renewed (Renewal.Mark line h) one.now ≡ one.now }
+{
+    match one {
+        Some((_, standing)) => standing.line == line || is_rival(line, standing.rival),
+        None => false,
+    }
+}
+
+/// Whether it may change any of what may be known.
+pub(crate) fn stand_on(known: &Known, line: u64) -> bool
+    ensures { result ≡ false → (h : Heard)
+        → spec.all_renewed (Renewal.Mark line h) known.now ≡ known.now }
+{
+    stands_on(&known.tool, line)
+        || stands_on(&known.csy, line)
+        || stands_on(&known.part, line)
+        || stands_on(&known.zero, line)
 }
 
 /// Renews all that may be known.

@@ -1,6 +1,6 @@
 // The text of what two recordings report.
 
-ghost use Rattle.std.specs.Prelude.{◌≡◌, ◌++◌, map, IfOk, OnOk};
+ghost use Rattle.std.specs.Prelude.{◌≡◌, false, ◌++◌, map, IfOk, OnOk};
 ghost use Rattle.witness.specs.Watching.{Watching, AreAllRead};
 ghost use Rattle.witness.specs.Texts.{told_text, told_lines, numbered};
 
@@ -10,7 +10,11 @@ use crate::writing::{HEADER, add_told};
 use std::alloc::{AllocError, Global};
 
 /// Adds the lines of what was reported on a connection.
-pub(crate) fn add_all(text: &mut Vec<u8>, connection: u64, reported: &[Reported]) -> Result<(), AllocError>
+pub(crate) fn add_all(
+    text: &mut Vec<u8>,
+    connection: u64,
+    reported: &[Reported],
+) -> Result<(), AllocError>
     ensures { OnOk result (text.new.items ≡ text.old.items
         ++ told_lines connection reported.now) }
 {

@@ -26,6 +26,7 @@ mod uses;
 mod witness;
 mod writing;
 
+pub use asking::only_asks;
 pub use dialogue::Dialogue;
 pub use ledger::ledger_text;
 pub use lines::{Known, Reported, Rule, SentCommand, Side, Use};

@@ -6,7 +6,7 @@ ghost use Rattle.witness.specs.Dialogues as spec;
 ghost use Rattle.witness.specs.Known.{all_renewed, is_rival, nothing};
 ghost use Rattle.witness.specs.Marks.{is_error};
 
-use crate::known::{copied, is_rival, nothing, renew};
+use crate::known::{copied, is_rival, nothing, renew, stand_on};
 use crate::lines::{Heard, Known, Renewal, Use};
 use crate::marks::{has_turn, is_answer, is_error, is_foreign, stage_with};
 use dme_line::Tag;
@@ -85,6 +85,9 @@ fn mark(used: &mut Use, line: u64, heard: &Heard)
     ensures { used.new ≡ spec.use_heard line heard.now used.old }
 {
     let is_own = used.line == line;
+    if !is_own && !is_rival(line, used.rival) && !stand_on(&used.known, line) {
+        return;
+    }
     drop_rival(used, line, heard);
     if is_own {
         mark_own(used, heard);

@@ -115,7 +115,7 @@ impl Witness {
         Ok(())
     }
 
-    /// Reads the lines of the client that wait, and notes a fault behind them, after which no more bytes are kept. Fails only if out of memory, and
+    /// Reads the lines of the client that wait, and notes a fault that follows them, from which on no more bytes are kept. Fails only if out of memory, and
     /// then has read some of them.
     pub fn read_client_lines(&mut self) -> Result<(), AllocError>
         ensures reads { spec.ReadsClient self.old self.new }

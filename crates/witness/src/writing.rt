@@ -7,7 +7,7 @@ ghost use Rattle.contact_ledger.specs.Lines.{text_of, spaced};
 ghost use Rattle.contact_ledger.specs.Fields.{point_fields, direction_fields};
 ghost use Rattle.witness.specs.Texts.{tool_field, known_frame, rule_name, side_field, told_fields, told_line, unknown_field};
 
-use crate::lines::{Rule, Side, Reported};
+use crate::lines::{Reported, Rule, Side};
 use contact_ledger::fields::{add_direction, add_frame, add_name, add_point};
 use contact_ledger::{Act, add_entry};
 use dme_line::{Tag, Text};

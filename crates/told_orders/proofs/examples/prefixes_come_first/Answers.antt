@@ -1,5 +1,5 @@
 use Rattle.std.proofs.Common.{[], ◌∷◌, refl}
-use Rattle.told_ledger.specs.declared.uses.Told.TheVariants.{FramedSomehow}
+use Rattle.witness.specs.declared.lines.Reported.TheVariants.{FramedSomehow}
 use Rattle.told_orders.proofs.examples.prefixes_come_first.Goals as goal
 
 pub returns-clause-first : goal.returns-clause-first

@@ -1,5 +1,5 @@
 use Rattle.std.proofs.Common.{refl}
-use Rattle.told_orders.proofs.Readings.{home_reads, received_reads, ended_reads}
+use Rattle.told_orders.proofs.Readings.{received_reads, ended_reads, home_reads}
 use Rattle.told_orders.proofs.examples.replies_come_after_commands.Goals as goal
 
 pub returns-clause-causal : goal.returns-clause-causal

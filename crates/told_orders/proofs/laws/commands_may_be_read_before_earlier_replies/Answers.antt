@@ -1,4 +1,4 @@
-use Rattle.told_orders.proofs.Swaps.{swap_said, swap_all, swap_answers, swap_command}
+use Rattle.told_orders.proofs.Commands.{swap_said, swap_all, swap_answers, swap_command}
 use Rattle.told_orders.proofs.laws.commands_may_be_read_before_earlier_replies.Goals as goal
 
 pub returns : goal.returns

@@ -1,5 +1,6 @@
 use Rattle.std.proofs.Common.{suc, ap, ◌∙◌}
 use Rattle.witness.specs.Watching.{client_read}
+use Rattle.witness.proofs.Courses.{client_last}
 use Rattle.witness.proofs.witness.Witness.read_client_lines.Goals as goal
 
 -- one line more
@@ -7,3 +8,7 @@ pub loop-self-preserved : goal.loop-self-preserved
 loop-self-preserved c =
     let so_far = c.loop-self.invariant in
     (suc so_far.0, c.in_ok-read_client.ensures.ok ∙ ap client_read so_far.1)
+
+pub returns-clause-reads : goal.returns-clause-reads
+returns-clause-reads c =
+    client_last _ _ _ c.read_client-2.result c.loop-self.invariant c.read_client-2.ensures.ok c.read_client-2.ensures.err

@@ -1,3 +1,0 @@
-mod Readings
-mod TextPieces
-mod Courses

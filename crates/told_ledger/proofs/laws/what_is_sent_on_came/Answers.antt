@@ -1,5 +1,0 @@
-use Rattle.told_ledger.proofs.Courses.{up_came, down_came}
-use Rattle.told_ledger.proofs.laws.what_is_sent_on_came.Goals as goal
-
-pub returns : goal.returns
-returns c = record { up = up_came; down = down_came }

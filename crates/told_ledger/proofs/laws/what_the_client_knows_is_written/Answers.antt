@@ -1,5 +1,0 @@
-use Rattle.told_ledger.proofs.Courses.{all_written}
-use Rattle.told_ledger.proofs.laws.what_the_client_knows_is_written.Goals as goal
-
-pub returns : goal.returns
-returns c = all_written

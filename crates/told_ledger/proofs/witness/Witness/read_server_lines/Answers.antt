@@ -1,9 +1,0 @@
-use Rattle.std.proofs.Common.{suc, ap, ◌∙◌}
-use Rattle.told_ledger.specs.Watching.{server_read}
-use Rattle.told_ledger.proofs.witness.Witness.read_server_lines.Goals as goal
-
--- one line more
-pub loop-self-preserved : goal.loop-self-preserved
-loop-self-preserved c =
-    let so_far = c.loop-self.invariant in
-    (suc so_far.0, c.in_ok-read_server.ensures.ok ∙ ap server_read so_far.1)
