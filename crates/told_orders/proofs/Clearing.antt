@@ -1,6 +1,6 @@
 -- What makes an order clear.
 use Rattle.std.proofs.Common.{◌≡◌, ℕ, Bool, true, false, ◌&&◌, ◌||◌, if◌then◌else◌, List, [], ◌∷◌, ◌++◌, map, remove, zero, suc, ◌==◌}
-use Rattle.std.proofs.Common.{Option, Some, None, Result, Ok, Err, refl, ap, sym, ◌∙◌, subst}
+use Rattle.std.proofs.Common.{Option, Some, None, Result, Ok, Err, refl, ap, sym, ◌∙◌}
 use Rattle.std.proofs.lemmas.Bool.{false≢true}
 use Rattle.std.proofs.lemmas.List.Folds.{list_any-append}
 use Rattle.std.specs.List.{list_any}
@@ -198,8 +198,7 @@ unfailed_clear d (Up line ∷ lines) waits e w =
     unfailed_clear (said d (Up line)) lines ((neither (at_once_line line) (some_at_once (ups lines)) waits).1) e
     (client_unfailed d line (sent line (command_of line)) w)
 unfailed_clear d (Down line ∷ lines) waits e w =
-    let parts = neither (refuses line) (list_any refuses (downs lines)) e in
-    (
+    let parts = neither (refuses line) (list_any refuses (downs lines)) e in (
       waits,
       unfailed_sure d (ups lines) (response_of line) w,
       unfailed_clear (said d (Down line)) lines waits parts.1 (answered_unfailed d line parts.0 w),

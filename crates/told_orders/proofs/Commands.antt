@@ -1,5 +1,5 @@
 -- A command may be read before the replies to others, with the same result.
-use Rattle.std.proofs.Common.{◌≡◌, ℕ, zero, suc, Bool, true, false, ◌&&◌, ◌||◌, if◌then◌else◌, List, [], ◌∷◌, ◌++◌, map, remove}
+use Rattle.std.proofs.Common.{◌≡◌, ℕ, zero, suc, Bool, true, false, ◌&&◌, if◌then◌else◌, List, [], ◌∷◌, ◌++◌, map, remove}
 use Rattle.std.proofs.Common.{Option, Some, None, is_some, Result, Ok, Err, refl, ap, sym, ◌∙◌, subst}
 use Rattle.std.proofs.lemmas.Bool.{false≢true}
 use Rattle.std.specs.List.{list_any}
@@ -11,11 +11,10 @@ use Rattle.protocol_model.specs.Replies.{tag_is}
 use Rattle.witness.specs.Asking.{sent, answered, Signal, Sends}
 use Rattle.witness.specs.Dialogues.{Dialogue, last_under, line_of, sending_after, sending, at_once, foreign_event, sent_tagged, client_sent, use_heard, left_over, server_answered, after}
 use Rattle.witness.specs.Watching.{client_lines, server_lines}
-use Rattle.witness.specs.declared.lines.Heard.{Heard}
 use Rattle.witness.specs.declared.lines.SentCommand.{SentCommand}
 use Rattle.witness.specs.declared.lines.Use.{Use}
 use Rattle.told_orders.specs.Orders.{Line, Up, Down, said, ups, is_open, is_of, answers, IsBehind, IsCausal, IsCounted, IsNew, IsFresh, AreFresh, IsAnswer, AreAnswers}
-use Rattle.told_orders.proofs.Counts.{answered_keeps, said_counted, answered_counted}
+use Rattle.told_orders.proofs.Counts.{answered_keeps, said_counted}
 use Rattle.told_orders.proofs.Marks.{neither, both_not}
 use Rattle.told_orders.proofs.More.{ups_after, open_heard}
 use Rattle.told_orders.proofs.Sends.{AfterSend, after_send, Agrees, alike, ended, IsEndOf, NotEarly, open_fault}

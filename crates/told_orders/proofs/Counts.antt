@@ -5,7 +5,7 @@ use Rattle.dme_line.specs.declared.tags.Tag.{Tag}
 use Rattle.protocol_model.specs.Readings.{command_of, response_of}
 use Rattle.witness.specs.Asking.{sent, answered, Signal}
 use Rattle.witness.specs.Dialogues.{Dialogue, silence, sending, unknowing, at_once, foreign_event, client_sent, use_renewed, faulting, after_mark, without_rival, use_heard}
-use Rattle.witness.specs.Dialogues.{answered_known, left_over, hearing, is_out_of_turn, at_use, is_report, unasked, heard_under, first_under, server_answered}
+use Rattle.witness.specs.Dialogues.{answered_known, left_over, hearing, is_out_of_turn, at_use, is_report, heard_under, first_under, server_answered}
 use Rattle.witness.specs.Known.{nothing, is_rival, all_renewed}
 use Rattle.witness.specs.Marks.{heard_as, is_end, is_error, is_answer}
 use Rattle.witness.specs.declared.lines.Heard.{Heard}

@@ -15,7 +15,7 @@ use Rattle.witness.specs.Watching.{Watching, client_front, server_front, client_
 use Rattle.witness.specs.Watching.{client_times, server_times, ReadsClient, ReadsServer, came, AreAllRead}
 use Rattle.witness.specs.declared.lines.Reported.{Reported}
 use Rattle.told_orders.specs.Courses.{up_in, down_in, lines_read, lines_in, lines_of, AreLinesOf}
-use Rattle.told_orders.specs.Orders.{Line, Up, Down, said_all, ups, downs, IsCausal, IsClear}
+use Rattle.told_orders.specs.Orders.{Line, said_all, ups, downs, IsCausal, IsClear}
 use Rattle.witness.proofs.Prefixes.{with_reports, prefixed, client_after, server_after}
 use Rattle.told_orders.specs.Claims.{in_turn, ClaimNoMore}
 use Rattle.told_orders.proofs.Claimed.{ups_append, downs_append, causal_without, told_unordered, ordered_claim}

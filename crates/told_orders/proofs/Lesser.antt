@@ -1,16 +1,16 @@
 -- Of two dialogues with the same open lines, one knows no more than the other and claims no more: so it stays, whatever lines come.
-use Rattle.std.proofs.Common.{◌≡◌, ℕ, ◌+◌, ◌==◌, ◌≤◌, Bool, true, false, ◌&&◌, ◌||◌, if◌then◌else◌, cond, List, [], ◌∷◌, ◌++◌, map, take, drop, remove, slice_get, position}
-use Rattle.std.proofs.Common.{filter, Option, Some, None, is_some, Result, Ok, Err, refl, ap, sym, ◌∙◌, subst, arith, zero, suc}
+use Rattle.std.proofs.Common.{◌≡◌, ℕ, ◌+◌, ◌==◌, Bool, true, false, ◌&&◌, ◌||◌, if◌then◌else◌, cond, List, [], ◌∷◌, ◌++◌, map, take, remove, slice_get}
+use Rattle.std.proofs.Common.{filter, Option, Some, None, is_some, refl, ap, sym, ◌∙◌, subst, zero, suc}
 use Rattle.std.proofs.lemmas.Bool.{false≢true}
 use Rattle.std.proofs.lemmas.Iterator.Adapters.{position_from-zero}
 use Rattle.std.specs.List.{list_any, position_from}
 use Rattle.dme_line.specs.declared.tags.Tag.{Tag}
 use Rattle.protocol_model.specs.Readings.{command_of, response_of}
 use Rattle.protocol_model.specs.Replies.{tag_is}
-use Rattle.witness.specs.Asking.{sent, client_line, server_line, answered, Signal}
+use Rattle.witness.specs.Asking.{sent, answered, Signal}
 use Rattle.witness.specs.Dialogues.{Dialogue, last_under, later, line_of, is_lost, with_event, sending_after, sending, unknowing, at_once, one_more, foreign_event}
-use Rattle.witness.specs.Dialogues.{sent_tagged, client_sent, use_renewed, faulting, reported_by, waits, is_out_of_turn, after_mark, without_rival, if_own, use_heard}
-use Rattle.witness.specs.Dialogues.{answered_known, left_over, unless_crossed, hearing, heard_at, at_use, is_report, unasked, heard_under, first_under, server_answered, after}
+use Rattle.witness.specs.Dialogues.{client_sent, use_renewed, faulting, reported_by, waits, is_out_of_turn, after_mark, without_rival, if_own, use_heard}
+use Rattle.witness.specs.Dialogues.{answered_known, left_over, unless_crossed, hearing, at_use, is_report, unasked, heard_under, first_under, server_answered}
 use Rattle.witness.specs.Known.{nothing, is_rival, all_renewed, below, fresh}
 use Rattle.witness.specs.Marks.{heard_as, is_end, is_error, stage_with}
 use Rattle.witness.specs.declared.lines.Heard.{Heard}
@@ -24,12 +24,11 @@ use Rattle.witness.specs.declared.lines.SentCommand.{SentCommand}
 use Rattle.witness.specs.declared.lines.Side.TheVariants.{Client, Server}
 use Rattle.witness.specs.declared.lines.Stage.{Stage}
 use Rattle.witness.specs.declared.lines.Stage.TheVariants as stage
-use Rattle.witness.specs.declared.lines.Standing.{Standing}
 use Rattle.witness.specs.declared.lines.Use.{Use}
 use Rattle.told_orders.specs.Claims.{ClaimNoMore}
-use Rattle.told_orders.specs.Orders.{Line, Up, Down, said, said_all}
-use Rattle.told_orders.proofs.Claiming.{IsFair, same_claims, more_chosen, chosen, reported_less}
-use Rattle.told_orders.proofs.Knowing.{Covers, Hits, LessKnown, nothing_less, same_known, all_less, answered_less, if_nothing, crossed_less, LessStanding, same_standing, below_less}
+use Rattle.told_orders.specs.Orders.{Line, Up, Down, said}
+use Rattle.told_orders.proofs.Claiming.{IsFair, same_claims, more_chosen, reported_less}
+use Rattle.told_orders.proofs.Knowing.{Covers, Hits, LessKnown, nothing_less, same_known, all_less, answered_less, if_nothing, crossed_less, same_standing, below_less}
 
 -- ---- open lines
 

@@ -10,12 +10,11 @@ use Rattle.dme_line.specs.declared.tags.Tag.TheVariants.{Std, Event}
 use Rattle.protocol_model.specs.Replies.{tag_is}
 use Rattle.witness.specs.Asking.{Signal, Ack, Given, Done, Error}
 use Rattle.witness.specs.Dialogues.{Dialogue, last_under, line_of, with_event, sending_after, sending, use_renewed, faulting, is_out_of_turn, use_heard, hearing, heard_at}
-use Rattle.witness.specs.Dialogues.{is_report, unasked, first_under, heard_under, server_answered}
+use Rattle.witness.specs.Dialogues.{is_report, unasked, server_answered}
 use Rattle.witness.specs.Known.{all_renewed}
 use Rattle.witness.specs.Marks.{heard_as, is_end, is_error}
 use Rattle.witness.specs.declared.lines.Heard.{Heard}
 use Rattle.witness.specs.declared.lines.Renewal.TheVariants.{Fault}
-use Rattle.witness.specs.declared.lines.Reported.{Reported}
 use Rattle.witness.specs.declared.lines.Reported.TheVariants as reports
 use Rattle.witness.specs.declared.lines.Rule.TheVariants.{NotInTurn}
 use Rattle.witness.specs.declared.lines.SentCommand.{SentCommand}
@@ -24,7 +23,7 @@ use Rattle.witness.specs.declared.lines.Use.{Use}
 use Rattle.told_orders.specs.Orders.{is_open, has_failed_under, AreCounted, IsCounted}
 use Rattle.told_orders.proofs.Counts.{lines_answered, heard_line, is_before, others_without, Without, map_without, fault_counted}
 use Rattle.told_orders.proofs.Marks.{Found, find_first, neither, both_not, marks_first, marks_none}
-use Rattle.told_orders.proofs.Swaps.{heard_last, last_fault, new_use, InList, in_there, send_fault, send_heard_at, one_tag, same_tag, IsLast, stays, ends}
+use Rattle.told_orders.proofs.Swaps.{heard_last, last_fault, new_use, InList, in_there, send_fault, send_heard_at, one_tag, IsLast, stays, ends}
 use Rattle.told_orders.proofs.Swaps.{removed_map, last_hearing}
 
 -- ---- which command was sent last under a tag, after a mark that may come out of turn

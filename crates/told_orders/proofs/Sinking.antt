@@ -1,5 +1,5 @@
 -- A line of the server is read before the client's later lines, or after them: what is reported then, and after any further lines.
-use Rattle.std.proofs.Common.{◌≡◌, ℕ, suc, ◌+◌, ◌≤◌, ◌<◌, ◌==◌, Bool, true, false, not, ◌&&◌, ◌||◌, if◌then◌else◌, cond, List, [], ◌∷◌, ◌++◌, map, filter, slice_get}
+use Rattle.std.proofs.Common.{◌≡◌, ℕ, ◌+◌, ◌≤◌, Bool, true, false, ◌&&◌, ◌||◌, if◌then◌else◌, cond, List, [], ◌∷◌, ◌++◌, map, filter, slice_get}
 use Rattle.std.proofs.Common.{Option, Some, None, is_some, Result, Ok, Err, refl, ap, sym, ◌∙◌, subst, eqb-true, arith, append-nil}
 use Rattle.std.proofs.lemmas.Bool.{false≢true}
 use Rattle.std.proofs.lemmas.List.Elements.{filter-append}
@@ -9,9 +9,9 @@ use Rattle.dme_line.specs.declared.tags.Tag.{Tag}
 use Rattle.protocol_model.specs.Readings.{command_of, response_of}
 use Rattle.protocol_model.specs.Replies.{tag_is}
 use Rattle.witness.specs.Asking.{sent, answered, Signal}
-use Rattle.witness.specs.Dialogues.{Dialogue, last_under, line_of, is_lost, with_event, sending_after, sending, unknowing, at_once, one_more, foreign_event, client_sent}
+use Rattle.witness.specs.Dialogues.{Dialogue, last_under, line_of, with_event, sending_after, sending, unknowing, at_once, one_more, foreign_event, client_sent}
 use Rattle.witness.specs.Dialogues.{faulting, is_out_of_turn, at_use, is_report, heard_under, first_under, server_answered}
-use Rattle.witness.specs.Known.{nothing, is_rival, below, fresh, tool_of, frame_of}
+use Rattle.witness.specs.Known.{nothing, below, fresh, tool_of, frame_of}
 use Rattle.witness.specs.Marks.{heard_as}
 use Rattle.witness.specs.Rules.{is_at_once}
 use Rattle.witness.specs.declared.lines.Known.{Known}
@@ -23,10 +23,10 @@ use Rattle.witness.specs.declared.lines.Side.TheVariants.{Client}
 use Rattle.witness.specs.declared.lines.Stage.TheVariants as stage
 use Rattle.witness.specs.declared.lines.Use.{Use}
 use Rattle.told_orders.specs.Claims.{IsPart, ClaimNoMore}
-use Rattle.told_orders.specs.Orders.{Line, Up, Down, said, said_all, is_open, is_under, at_once_line, sends, IsBehind, IsSure, IsCounted, has_failed_under}
-use Rattle.told_orders.proofs.Claiming.{IsFair, same_claims, claims_trans, part_trans, chosen, more_chosen}
+use Rattle.told_orders.specs.Orders.{Line, Up, Down, said, said_all, is_open, is_under, at_once_line, IsBehind, IsSure, IsCounted}
+use Rattle.told_orders.proofs.Claiming.{IsFair, same_claims, claims_trans, part_trans, chosen}
 use Rattle.told_orders.proofs.Counts.{lines_answered, ordered_answered, at_once_counted, answered_nothing, AllBlank, KnowsNothing, all_unknowing, Without}
-use Rattle.told_orders.proofs.Knowing.{Covers, LessKnown, nothing_less, same_known, if_nothing, tool_less, frame_less, LessStanding, gone, stands, below_less}
+use Rattle.told_orders.proofs.Knowing.{Covers, LessKnown, nothing_less, same_known, tool_less, frame_less, LessStanding, gone, stands, below_less}
 use Rattle.told_orders.proofs.Lesser.{LessUse, LessUses, none, one, same_use, append_less, Less, less, answered_less_line, sent_less, one_more_less, said_less}
 use Rattle.told_orders.proofs.Lesser.{alike as alike_use}
 use Rattle.told_orders.proofs.Marks.{neither}

@@ -1,6 +1,6 @@
 -- All lines of the client are read first: what is reported then.
-use Rattle.std.proofs.Common.{◌≡◌, ℕ, Bool, true, false, not, ◌&&◌, ◌||◌, if◌then◌else◌, List, [], ◌∷◌, ◌++◌, map, filter, Option, Some, None, Result, Ok, Err}
-use Rattle.std.proofs.Common.{refl, ap, sym, ◌∙◌, subst, append_assoc, append-nil}
+use Rattle.std.proofs.Common.{◌≡◌, ℕ, Bool, true, false, ◌||◌, if◌then◌else◌, List, [], ◌∷◌, ◌++◌, map, filter, Option, Some, None, Result, Ok, Err}
+use Rattle.std.proofs.Common.{refl, ap, sym, ◌∙◌, subst}
 use Rattle.std.proofs.lemmas.Bool.{false≢true}
 use Rattle.std.proofs.lemmas.List.Folds.{list_any-append}
 use Rattle.dme_line.specs.declared.responses.Response.{Response}
@@ -8,10 +8,9 @@ use Rattle.dme_line.specs.declared.responses.NotResponse.{NotResponse}
 use Rattle.dme_line.specs.declared.tags.Tag.{Tag}
 use Rattle.protocol_model.specs.Readings.{command_of, response_of}
 use Rattle.protocol_model.specs.Replies.{tag_is}
-use Rattle.witness.specs.Asking.{sent, answered, client_line, server_line}
-use Rattle.witness.specs.Dialogues.{Dialogue, silence, last_under, sending, unknowing, at_once, foreign_event, client_sent, after}
+use Rattle.witness.specs.Asking.{sent, answered}
+use Rattle.witness.specs.Dialogues.{Dialogue, silence, last_under, sending, unknowing, at_once, foreign_event, client_sent}
 use Rattle.witness.specs.Known.{tool_of, frame_of}
-use Rattle.witness.specs.Rules.{is_at_once}
 use Rattle.witness.specs.Watching.{client_lines, server_lines, ledger}
 use Rattle.witness.specs.declared.lines.Reported.{Reported}
 use Rattle.witness.specs.declared.lines.Reported.TheVariants as reports
@@ -24,7 +23,7 @@ use Rattle.told_orders.proofs.Claiming.{IsFair, all_fair, all_of, claims_both, p
 use Rattle.told_orders.proofs.Counts.{said_counted, ordered_answered, silence_counted}
 use Rattle.told_orders.proofs.Marks.{neither, both_not}
 use Rattle.told_orders.proofs.Swaps.{new_use}
-use Rattle.told_orders.proofs.Sinking.{Claims, trans, Below, below_trans, same_below, swap_below, swap_above}
+use Rattle.told_orders.proofs.Sinking.{Claims, Below, below_trans, same_below, swap_below, swap_above}
 
 -- ---- lines one after another
 

@@ -1,19 +1,16 @@
 -- A command may be read before the replies to others.
-use Rattle.std.proofs.Common.{◌≡◌, ℕ, zero, suc, ◌+◌, ◌<◌, ◌==◌, Bool, true, false, ◌&&◌, ◌||◌, if◌then◌else◌, List, [], ◌∷◌, ◌++◌, map, length, take, remove}
-use Rattle.std.proofs.Common.{Option, Some, None, is_some, refl, ap, sym, ◌∙◌, subst, append_assoc, eq-eqb, eqb-true, ne_eqb, arith}
+use Rattle.std.proofs.Common.{◌≡◌, ℕ, zero, suc, ◌+◌, ◌==◌, Bool, true, false, ◌&&◌, ◌||◌, if◌then◌else◌, List, [], ◌∷◌, ◌++◌, map, length, take, remove}
+use Rattle.std.proofs.Common.{Option, Some, None, is_some, refl, ap, sym, ◌∙◌, subst, eqb-true}
 use Rattle.std.proofs.lemmas.Bool.{false≢true}
 use Rattle.std.proofs.lemmas.List.{map-append}
-use Rattle.std.proofs.lemmas.List.Folds.{list_any-append}
 use Rattle.std.specs.List.{list_any}
 use Rattle.dme_line.specs.declared.tags.Tag.{Tag}
 use Rattle.dme_line.specs.declared.tags.Tag.TheVariants.{Std, Event}
 use Rattle.protocol_model.specs.Replies.{tag_is}
-use Rattle.witness.specs.Asking.{Signal, Ack, Given, Error}
-use Rattle.witness.specs.Asking.{Done as DoneMark}
-use Rattle.witness.specs.Dialogues.{Dialogue, last_under, later, line_of, is_lost, with_event, sending_after, sending, unknowing, use_renewed, faulting, reported_by}
-use Rattle.witness.specs.Dialogues.{waits, is_out_of_turn, may_not_come, use_heard, left_over, unless_crossed, hearing, heard_at, is_report, unasked, first_under, heard_under, server_answered}
-use Rattle.witness.specs.Known.{nothing, is_rival, all_renewed, below, fresh}
-use Rattle.witness.specs.Marks.{heard_as, is_end, is_error, has_turn}
+use Rattle.witness.specs.Dialogues.{Dialogue, last_under, later, line_of, is_lost, with_event, sending_after, unknowing, use_renewed, faulting, reported_by}
+use Rattle.witness.specs.Dialogues.{waits, is_out_of_turn, may_not_come, use_heard, left_over, unless_crossed, hearing, heard_at}
+use Rattle.witness.specs.Known.{nothing, all_renewed, below, fresh}
+use Rattle.witness.specs.Marks.{is_error, has_turn}
 use Rattle.witness.specs.declared.lines.Heard.{Heard}
 use Rattle.witness.specs.declared.lines.Known.{Known}
 use Rattle.witness.specs.declared.lines.Progress.TheVariants as Progress
@@ -22,14 +19,13 @@ use Rattle.witness.specs.declared.lines.Reported.{Reported}
 use Rattle.witness.specs.declared.lines.Reported.TheVariants as reports
 use Rattle.witness.specs.declared.lines.Rule.TheVariants.{NotInTurn}
 use Rattle.witness.specs.declared.lines.SentCommand.{SentCommand}
-use Rattle.witness.specs.declared.lines.Side.TheVariants.{Server}
 use Rattle.witness.specs.declared.lines.Stage.TheVariants as stage
 use Rattle.witness.specs.declared.lines.Standing.{Standing}
 use Rattle.witness.specs.declared.lines.Use.{Use}
-use Rattle.told_orders.specs.Orders.{is_open, has_failed_under, AreCounted, IsCounted}
-use Rattle.told_orders.proofs.Counts.{heard_line, heard_tag, heard_failed, is_before, others_without, Without, map_without}
+use Rattle.told_orders.specs.Orders.{is_open}
+use Rattle.told_orders.proofs.Counts.{heard_line, heard_tag, heard_failed}
 use Rattle.told_orders.proofs.Knowing.{then_renewed, below_renewed}
-use Rattle.told_orders.proofs.Marks.{Found, find_first, neither, both_not, marks_first, marks_none}
+use Rattle.told_orders.proofs.Marks.{neither, both_not}
 
 -- ---- the command that was sent last under a tag, after a mark
 
@@ -242,10 +238,6 @@ one_tag (Std n) (Std m) e = ap Std (eqb-true n m e)
 one_tag (Std n) (Event m) e = absurd (false≢true e)
 one_tag (Event n) (Std m) e = absurd (false≢true e)
 one_tag (Event n) (Event m) e = ap Event (eqb-true n m e)
-
-pub same_tag : (tag : Tag) → tag_is tag tag ≡ true
-same_tag (Std n) = eq-eqb n n refl
-same_tag (Event n) = eq-eqb n n refl
 
 -- it is the same, or its end was read and there is none; the second argument: what was there before, with the mark
 pub data IsLast (tag : Tag) (u : Use) (ended : Bool) : Option (ℕ × Bool) → Option (ℕ × Bool) → Type 0 where

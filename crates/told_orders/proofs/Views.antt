@@ -1,9 +1,8 @@
 -- What makes an order causal and clear depends only on the open lines, and on which of them have failed.
 use Rattle.std.proofs.Common.{◌≡◌, ℕ, zero, suc, ◌+◌, ◌==◌, Bool, true, false, ◌&&◌, ◌||◌, if◌then◌else◌, cond, List, [], ◌∷◌, ◌++◌, map, remove, slice_get}
-use Rattle.std.proofs.Common.{Option, Some, None, is_some, Result, Ok, Err, refl, ap, sym, ◌∙◌, subst}
-use Rattle.std.proofs.lemmas.Bool.{false≢true}
+use Rattle.std.proofs.Common.{Option, Some, None, Result, Ok, Err, refl, ap, sym, ◌∙◌, subst}
 use Rattle.std.proofs.lemmas.Iterator.Adapters.{position_from-zero}
-use Rattle.std.specs.List.{list_any, position_from}
+use Rattle.std.specs.List.{position_from}
 use Rattle.dme_line.specs.declared.responses.Response.{Response}
 use Rattle.dme_line.specs.declared.responses.NotResponse.{NotResponse}
 use Rattle.dme_line.specs.declared.tags.Tag.{Tag}
@@ -11,7 +10,7 @@ use Rattle.protocol_model.specs.Readings.{command_of, response_of}
 use Rattle.protocol_model.specs.Replies.{tag_is}
 use Rattle.witness.specs.Asking.{sent, answered, Signal}
 use Rattle.witness.specs.Dialogues.{Dialogue, silence, last_under, line_of, is_lost, sending_after, sending, unknowing, at_once, one_more, foreign_event, client_sent, use_renewed, faulting}
-use Rattle.witness.specs.Dialogues.{is_out_of_turn, after_mark, without_rival, if_own, use_heard, answered_known, left_over, hearing, heard_at, at_use, is_report, unasked}
+use Rattle.witness.specs.Dialogues.{is_out_of_turn, after_mark, if_own, use_heard, answered_known, left_over, hearing, at_use, is_report}
 use Rattle.witness.specs.Dialogues.{heard_under, first_under, server_answered}
 use Rattle.witness.specs.Known.{nothing, is_rival, all_renewed}
 use Rattle.witness.specs.Marks.{heard_as, is_end, is_error, stage_with}

@@ -55,6 +55,9 @@ early = Down received ∷ Up home ∷ Down ended ∷ []
 abbrev pub failed : List Line
 failed = Up home ∷ Down received ∷ Down refused ∷ Down ended ∷ []
 
+abbrev pub failed_before : List Line
+failed_before = failed ++ selecting
+
 -- the command is received, and is open
 abbrev pub homing : Dialogue
 homing = said_all (silence true) (Up home ∷ Down received ∷ [])

@@ -14,7 +14,7 @@ ghost use Rattle.witness.specs.declared.lines.Rule.TheVariants.{OutOfOrder};
 ghost use Rattle.witness.specs.declared.lines.Side.TheVariants.{Client};
 ghost use Rattle.told_orders.specs.Claims.{in_turn, ClaimNoMore};
 ghost use Rattle.told_orders.specs.Courses.{lines_of, lines_came, AreLinesOf};
-ghost use Rattle.told_orders.specs.Examples.{home, received, refused, ended, selected, home_2, ended_2, untagged, origin, answered, selecting, early, failed};
+ghost use Rattle.told_orders.specs.Examples.{home, received, refused, ended, selected, home_2, ended_2, untagged, origin, answered, selecting, early, failed_before};
 ghost use Rattle.told_orders.specs.Examples.{homing, crossing, with_end, asked_too, read_both, asked_course, course};
 ghost use Rattle.told_orders.specs.Orders.{Up, Down, said_all, ups, downs, answers, some_at_once, refuses, IsCausal, IsClear, AreFresh, AreAnswers, IsPrefix};
 
@@ -31,11 +31,10 @@ pub fn replies_come_after_commands()
 
 /// With the client's lines read first, the error of a command may be that of a later one under its tag, so that nothing is known of this one.
 pub fn tags_are_used_again_after_an_error()
-    ensures causal { IsCausal (silence false) (failed ++ selecting) }
-    ensures in_doubt { IsClear (silence false) (failed ++ selecting) → ⊥ }
-    ensures order { frame_of (said_all (silence false) (failed ++ selecting)).known ≡ Some Machine }
-    ensures ledger { frame_of (ledger (ups (failed ++ selecting)) (downs (failed ++ selecting))).known
-        ≡ None }
+    ensures causal { IsCausal (silence false) failed_before }
+    ensures in_doubt { IsClear (silence false) failed_before → ⊥ }
+    ensures order { frame_of (said_all (silence false) failed_before).known ≡ Some Machine }
+    ensures ledger { frame_of (ledger (ups failed_before) (downs failed_before)).known ≡ None }
     ensures not_failed { IsClear (silence false) (answered ++ selecting) }
     ensures errors { list_any refuses (ended ∷ refused ∷ []) ≡ true }
     ensures other { list_any refuses (ended ∷ received ∷ []) ≡ false }

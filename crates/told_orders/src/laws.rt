@@ -19,7 +19,8 @@ use witness::laws::what_is_written_was_reported;
 
 /// The open commands are on lines of the client that were read, in their order: after any lines; and after one more line.
 pub fn open_commands_are_in_order()
-    ensures all { (ordered : Bool) (lines : List Line) → IsCounted (said_all (silence ordered) lines) }
+    ensures all { (ordered : Bool) (lines : List Line)
+        → IsCounted (said_all (silence ordered) lines) }
     ensures line { (d : Dialogue) (line : Line) → IsCounted d → IsCounted (said d line) }
 {}
 
@@ -97,7 +98,8 @@ pub fn recordings_claim_no_more()
         → some_at_once (ups lines ++ later) ≡ false
         → ClaimNoMore (ledger (ups lines ++ later) (downs lines)).reported
         (said_all (silence true) lines).reported }
-    ensures first { (up down : List (List ℕ)) → IsPrefix (reported_first up) (ledger up down).reported }
+    ensures first { (up down : List (List ℕ))
+        → IsPrefix (reported_first up) (ledger up down).reported }
 {}
 
 /// Two cases in which an order is clear, where no line of the client may be carried out at once: no two of them use one tag, or the server refuses
@@ -113,7 +115,8 @@ pub fn orders_are_clear()
 /// first, nothing of what the others report changes by lines that no response is for.
 pub fn unanswered_lines_report_nothing()
     ensures order { (d : Dialogue) (lines : List Line) (up : List (List ℕ))
-        → (said_all d (lines ++ map Up up)).reported ≡ (said_all d lines).reported ++ reported_first up }
+        → (said_all d (lines ++ map Up up)).reported
+        ≡ (said_all d lines).reported ++ reported_first up }
     ensures ledger { (up later down : List (List ℕ)) → some_at_once later ≡ false
         → IsCausal (client_lines (silence false) up) (map Down down ++ map Up later)
         → (ledger (up ++ later) down).reported ≡ (ledger up down).reported }

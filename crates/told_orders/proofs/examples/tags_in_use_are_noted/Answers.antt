@@ -10,7 +10,7 @@ use Rattle.told_orders.proofs.Readings.{received_reads, ended_reads, selected_re
 use Rattle.told_orders.proofs.examples.tags_in_use_are_noted.Goals as goal
 
 pub returns-clause-causal : goal.returns-clause-causal
-returns-clause-causal c = rw (received_reads, ended_reads, selected_reads, moves_reads) 
+returns-clause-causal c = rw (received_reads, ended_reads, selected_reads, moves_reads)
     (λ e. absurd (cc), (λ e. absurd (cc), (λ e. refl, (λ e. refl, tt))))
 
 pub returns-clause-crossed : goal.returns-clause-crossed
