@@ -23,110 +23,119 @@ use Rattle.client_core.specs.Calls.{Call, Connected, Send, Feed, ReadOne, Abort,
 use Rattle.client_core.specs.Calls.{behind_calls, Plans, plans_begun}
 use Rattle.client_core.specs.Clients.{are_ours}
 use Rattle.client_core.proofs.Runs.{Holds, behind_holds}
-use Rattle.told_ledger.specs.Asking.{asked}
-use Rattle.told_ledger.specs.Talking.{Talking, silence, asking, server_said}
-use Rattle.told_ledger.specs.Watching.{client_lines, server_lines, server_front}
-use Rattle.told_ledger.specs.declared.uses.Asked.TheVariants.{Known as Asks}
-use Rattle.told_to_client.specs.Acts.{BeginsWith}
+use Rattle.witness.specs.Asking.{Sends, server_line, sent, answered}
+use Rattle.witness.specs.Dialogues.{Dialogue, silence, after}
+use Rattle.witness.specs.Watching.{client_lines, server_lines, server_front}
+use Rattle.witness.specs.declared.lines.SentCommand.TheVariants.{Known}
+use Rattle.told_orders.specs.Orders.{AreCounted, answers}
+use Rattle.told_orders.proofs.Commands.{swap_command}
+use Rattle.told_to_client.specs.Acts.{BeginsWith, BeginsToClaim}
 use Rattle.told_to_client.specs.Ahead.{Turn, Calls, Comes, Watched, written_by, line_at, read_by, called, after_turn, after_turns}
-use Rattle.told_to_client.specs.Ahead.{AreUnanswered, IsCausalCall, IsCausalTurn, AreCausal, begun_on}
-use Rattle.told_to_client.specs.Lines.{witnessed_by}
+use Rattle.told_to_client.specs.Ahead.{AreUnanswered, IsCausalCall, IsCausalTurn, AreCausal, unasked_turn, unasked_turns, begun_on}
+use Rattle.told_to_client.specs.Lines.{witnessed_by, unasked_by}
 use Rattle.told_to_client.proofs.Agreeing.{AgreesOn}
-use Rattle.told_orders.specs.Orders.{answers}
-use Rattle.told_orders.proofs.Swaps.{swap_command}
+use Rattle.told_to_client.proofs.Claiming.{Begins, begins_with, begins_to_claim}
 use Rattle.told_to_client.proofs.Growing.{answer_grows, begins_still}
-use Rattle.told_to_client.proofs.Seeing.{IsSeen, IsDrawn, sent_drawn, aborted_drawn, sending, aborting, done_seen, connected_seen, IsBehind}
-use Rattle.told_to_client.proofs.Seeing.{behind_one_more}
+use Rattle.told_to_client.proofs.Seeing.{IsSeen, IsDrawn, not_foreign, sent_drawn, aborted_drawn, sending_agrees, aborting_agrees, done_seen}
+use Rattle.told_to_client.proofs.Seeing.{connected_seen, IsBehind, behind_one_more}
 use Rattle.std.proofs.lemmas.Bool.{false≢true}
 
 -- ---- lines of the server
 
-server_last : (t : Talking) (down : List (List ℕ)) (line : List ℕ) → server_said (server_lines t down) line ≡ server_lines t (down ++ line ∷ [])
-server_last t [] line = refl
-server_last t (x ∷ down) line = server_last (server_said t x) down line
+server_last : (d : Dialogue) (down : List (List ℕ)) (line : List ℕ)
+    → after (server_lines d down) (server_line line) ≡ server_lines d (down ++ line ∷ [])
+server_last d [] line = refl
+server_last d (x ∷ down) line = server_last (after d (server_line x)) down line
 
-begins_lines : (acts : List Act) (t : Talking) (down : List (List ℕ)) → BeginsWith acts t.told → BeginsWith acts (server_lines t down).told
-begins_lines acts t [] b = b
-begins_lines acts t (line ∷ down) b = begins_lines acts (server_said t line) down
-    (begins_still acts t (server_said t line) b (answer_grows t line (response_of line)))
+begins_lines : (lossy : Bool) (acts : List Act) (d : Dialogue) (down : List (List ℕ)) → Begins lossy acts d.reported
+    → Begins lossy acts (server_lines d down).reported
+begins_lines lossy acts d [] b = b
+begins_lines lossy acts d (line ∷ down) b = begins_lines lossy acts (after d (server_line line)) down
+    (begins_still lossy acts d (after d (server_line line)) b (answer_grows d line (answered (response_of line))))
 
 -- ---- what is written
 
 -- a witness that reads the line of a command before or after lines of the server
-one_apart : (u : Talking) (x : Tag) (c : Command) (ahead : List (List ℕ)) → IsDrawn u x c
+one_apart : (d : Dialogue) (x : Tag) (c : Command) (ahead : List (List ℕ)) → AreCounted 0 d.uses d.lines → IsDrawn d x c
     → list_any (answers x) ahead ≡ false
-    → client_lines (server_lines u ahead) (command_texts (record { tag = x; command = c } ∷ []))
-    ≡ server_lines (client_lines u (command_texts (record { tag = x; command = c } ∷ []))) ahead
-one_apart u x c ahead d none =
-    asks (server_lines u ahead) ∙ (swap_command u x (Asks c) ahead d.free none
-    ∙ ap (λ (t : Talking). server_lines t ahead) (sym (asks u)))
+    → client_lines (server_lines d ahead) (command_texts (record { tag = x; command = c } ∷ []))
+    ≡ server_lines (client_lines d (command_texts (record { tag = x; command = c } ∷ []))) ahead
+one_apart d x c ahead counted k none =
+    sends (server_lines d ahead)
+    ∙ (swap_command d (written_command x c) x (Known c) ahead counted (IsDrawn.free k) (not_foreign x c) none
+    ∙ ap (λ (e : Dialogue). server_lines e ahead) (sym (sends d)))
   where
-    asks : (t : Talking) → client_lines t (command_texts (record { tag = x; command = c } ∷ [])) ≡ asking t (Some (x, Asks c))
-    asks t = ap (λ (r : Result (Tag × Command) LineFault). asking t (asked (written_command x c) r)) (command_read x c d.writable)
+    sends : (e : Dialogue) → client_lines e (command_texts (record { tag = x; command = c } ∷ []))
+        ≡ after e (Sends (written_command x c) (Some (x, Known c)))
+    sends e = ap (λ (r : Result (Tag × Command) LineFault). after e (Sends (written_command x c) (sent (written_command x c) r)))
+        (command_read x c (IsDrawn.writable k))
 
-sent_apart : (c : Client) (u : Talking) (ahead : List (List ℕ)) → AgreesOn c.table u → (l : List Planned) → c.table.tally.unsent ≡ l
-    → (number : Option ℕ) → next_number tag.Std c.table.standard c.drawn ≡ number
+sent_apart : (lossy : Bool) (c : Client) (d : Dialogue) (ahead : List (List ℕ)) → AgreesOn lossy c.table d → (l : List Planned)
+    → c.table.tally.unsent ≡ l → (number : Option ℕ) → next_number tag.Std c.table.standard c.drawn ≡ number
     → AreUnanswered (sends_next c l number).lines ahead
-    → client_lines (server_lines u ahead) (command_texts (sends_next c l number).lines)
-    ≡ server_lines (client_lines u (command_texts (sends_next c l number).lines)) ahead
-sent_apart c u ahead a [] is number drawn none = refl
-sent_apart c u ahead a (q ∷ qs) is None drawn none = refl
-sent_apart c u ahead a (q ∷ qs) is (Some n) drawn none =
-    one_apart u (tag.Std n) q.command ahead (sent_drawn c u a q qs is n drawn) none.0
+    → client_lines (server_lines d ahead) (command_texts (sends_next c l number).lines)
+    ≡ server_lines (client_lines d (command_texts (sends_next c l number).lines)) ahead
+sent_apart lossy c d ahead a [] is number drawn none = refl
+sent_apart lossy c d ahead a (q ∷ qs) is None drawn none = refl
+sent_apart lossy c d ahead a (q ∷ qs) is (Some n) drawn none =
+    one_apart d (tag.Std n) q.command ahead (AgreesOn.rising a) (sent_drawn lossy c d a q qs is n drawn) none.0
 
-abort_apart : (c : Client) (u : Talking) (ahead : List (List ℕ)) → AgreesOn c.table u → (number : Option ℕ)
+abort_apart : (lossy : Bool) (c : Client) (d : Dialogue) (ahead : List (List ℕ)) → AgreesOn lossy c.table d → (number : Option ℕ)
     → next_number tag.Event c.table.event c.event_drawn ≡ number → AreUnanswered (sends_abort c number).lines ahead
-    → client_lines (server_lines u ahead) (command_texts (sends_abort c number).lines)
-    ≡ server_lines (client_lines u (command_texts (sends_abort c number).lines)) ahead
-abort_apart c u ahead a None drawn none = refl
-abort_apart c u ahead a (Some n) drawn none =
-    one_apart u (tag.Event n) command.AbortE ahead (aborted_drawn c u a n drawn) none.0
+    → client_lines (server_lines d ahead) (command_texts (sends_abort c number).lines)
+    ≡ server_lines (client_lines d (command_texts (sends_abort c number).lines)) ahead
+abort_apart lossy c d ahead a None drawn none = refl
+abort_apart lossy c d ahead a (Some n) drawn none =
+    one_apart d (tag.Event n) command.AbortE ahead (AgreesOn.rising a) (aborted_drawn lossy c d a n drawn) none.0
 
 -- ---- what is read
 
-read_apart : (u : Talking) (ahead later : List (List ℕ)) (f : Front) → ahead ≡ line_at f ++ later
-    → server_lines u ahead ≡ server_lines (server_front u f) (drop (length (line_at f)) ahead)
-read_apart u ahead later (Ok None) is = refl
-read_apart u ahead later (Ok (Some (line, rest))) is =
-    ap (server_lines u) is ∙ ap (λ (l : List (List ℕ)). server_lines (server_said u line) (drop 1 l)) (sym is)
-read_apart u ahead later (Err fault) is = refl
+read_apart : (d : Dialogue) (ahead later : List (List ℕ)) (f : Front) → ahead ≡ line_at f ++ later
+    → server_lines d ahead ≡ server_lines (server_front d f) (drop (length (line_at f)) ahead)
+read_apart d ahead later (Ok None) is = refl
+read_apart d ahead later (Ok (Some (line, rest))) is =
+    ap (server_lines d) is ∙ ap (λ (l : List (List ℕ)). server_lines (after d (server_line line)) (drop 1 l)) (sym is)
+read_apart d ahead later (Err fault) is = refl
 
 -- ---- each turn
 
 -- the witness is as one that reads the server's lines with the client, and then those that are ahead
-record IsAhead (p : Meaning) (kept : List Feature) (window : ℕ) (w : Watched) : Type 0 where
-  with_client : Talking
+record IsAhead (lossy : Bool) (p : Meaning) (kept : List Feature) (window : ℕ) (w : Watched) : Type 0 where
+  with_client : Dialogue
   reached : IsBehind p kept window w.client
-  seen : IsSeen w.client.client with_client
-  talk : w.talk ≡ server_lines with_client w.ahead
+  seen : IsSeen lossy w.client.client with_client
+  dialogue : w.dialogue ≡ server_lines with_client w.ahead
 
-call_apart : (p : Meaning) (kept : List Feature) (window : ℕ) (plans : Plans) (call : Call) (w : Watched) (u : Talking) → Holds p w.client.client plans
-    → possible call w.client ≡ true → IsSeen w.client.client u → IsCausalCall call w
-    → client_lines (server_lines u w.ahead) (command_texts (written_by call w.client))
-    ≡ server_lines (witnessed_by call w.client u) (drop (length (read_by call w.client)) w.ahead)
-call_apart p kept window plans Send w u h may s k = sent_apart w.client.client u w.ahead (sending p plans w.client.client u h may s)
+call_apart : (lossy : Bool) (p : Meaning) (plans : Plans) (call : Call) (w : Watched) (d : Dialogue) → Holds p w.client.client plans
+    → possible call w.client ≡ true → IsSeen lossy w.client.client d → IsCausalCall call w
+    → client_lines (server_lines d w.ahead) (command_texts (written_by call w.client))
+    ≡ server_lines (witnessed_by call w.client d) (drop (length (read_by call w.client)) w.ahead)
+call_apart lossy p plans Send w d h may s k =
+    sent_apart lossy w.client.client d w.ahead (sending_agrees lossy p plans w.client.client d h may s)
     w.client.client.table.tally.unsent refl (next_number tag.Std w.client.client.table.standard w.client.client.drawn) refl k.unanswered
-call_apart p kept window plans Abort w u h may s k = abort_apart w.client.client u w.ahead (aborting p plans w.client.client u h may s)
+call_apart lossy p plans Abort w d h may s k =
+    abort_apart lossy w.client.client d w.ahead (aborting_agrees lossy p plans w.client.client d h may s)
     (next_number tag.Event w.client.client.table.event w.client.client.event_drawn) refl k.unanswered
-call_apart p kept window plans ReadOne w u h may s k = read_apart u w.ahead k.later (next_of w.client.input.rest) k.first
-call_apart p kept window plans (Feed bytes) w u h may s k = refl
-call_apart p kept window plans Resume w u h may s k = refl
-call_apart p kept window plans (Sent n) w u h may s k = refl
-call_apart p kept window plans (Connected n) w u h may s k = absurd (false≢true k.on)
-call_apart p kept window plans Leave w u h may s k = absurd (false≢true k.on)
-call_apart p kept window plans (Restart n) w u h may s k = absurd (false≢true k.on)
+call_apart lossy p plans ReadOne w d h may s k = read_apart d w.ahead k.later (next_of w.client.input.rest) k.first
+call_apart lossy p plans (Feed bytes) w d h may s k = refl
+call_apart lossy p plans Resume w d h may s k = refl
+call_apart lossy p plans (Sent n) w d h may s k = refl
+call_apart lossy p plans (Connected n) w d h may s k = absurd (false≢true k.on)
+call_apart lossy p plans Leave w d h may s k = absurd (false≢true k.on)
+call_apart lossy p plans (Restart n) w d h may s k = absurd (false≢true k.on)
 
-turn_ahead : (p : Meaning) (kept : List Feature) (window : ℕ) → IsProgram p → are_ours p.features kept ≡ true → (turn : Turn) (w : Watched)
-    → IsCausalTurn turn w → IsAhead p kept window w → IsAhead p kept window (after_turn turn w)
-turn_ahead p kept window program ours (Comes line) w causal a = record {
+turn_ahead : (lossy : Bool) (p : Meaning) (kept : List Feature) (window : ℕ) → IsProgram p → are_ours p.features kept ≡ true → (turn : Turn)
+    (w : Watched) → IsCausalTurn turn w → IsAhead lossy p kept window w
+    → IsAhead (unasked_turn turn w lossy) p kept window (after_turn turn w)
+turn_ahead lossy p kept window program ours (Comes line) w causal a = record {
   with_client = IsAhead.with_client a;
   reached = IsAhead.reached a;
   seen = IsAhead.seen a;
-  talk = ap (λ (t : Talking). server_said t line) (IsAhead.talk a) ∙ server_last (IsAhead.with_client a) w.ahead line;
+  dialogue = ap (λ (d : Dialogue). after d (server_line line)) (IsAhead.dialogue a) ∙ server_last (IsAhead.with_client a) w.ahead line;
 }
-turn_ahead p kept window program ours (Calls call) w causal a = go (possible call w.client) refl
+turn_ahead lossy p kept window program ours (Calls call) w causal a = go (possible call w.client) refl
   where
-    now : possible call w.client ≡ true → IsAhead p kept window (called call w)
+    now : possible call w.client ≡ true → IsAhead (unasked_by call w.client lossy) p kept window (called call w)
     now may =
         let b : IsBehind p kept window w.client = IsAhead.reached a in
         let h : Holds p w.client.client (plans_begun b.calls p kept window) =
@@ -135,52 +144,79 @@ turn_ahead p kept window program ours (Calls call) w causal a = go (possible cal
         record {
           with_client = witnessed_by call w.client (IsAhead.with_client a);
           reached = behind_one_more p kept window call w.client b;
-          seen = subst (λ (x : Bool). IsSeen (cond x (done_by call w.client) w.client).client
+          seen = subst (λ (x : Bool). IsSeen (unasked_by call w.client lossy) (cond x (done_by call w.client) w.client).client
               (witnessed_by call w.client (IsAhead.with_client a))) (sym may)
-              (done_seen p (plans_begun b.calls p kept window) call w.client (IsAhead.with_client a) h may (IsAhead.seen a));
-          talk = ap (λ (t : Talking). client_lines t (command_texts (written_by call w.client))) (IsAhead.talk a)
-              ∙ call_apart p kept window (plans_begun b.calls p kept window) call w (IsAhead.with_client a) h may (IsAhead.seen a)
+              (done_seen lossy p (plans_begun b.calls p kept window) call w.client (IsAhead.with_client a) h may (IsAhead.seen a));
+          dialogue = ap (λ (d : Dialogue). client_lines d (command_texts (written_by call w.client))) (IsAhead.dialogue a)
+              ∙ call_apart lossy p (plans_begun b.calls p kept window) call w (IsAhead.with_client a) h may (IsAhead.seen a)
               (causal may);
         }
 
-    go : (x : Bool) → possible call w.client ≡ x → IsAhead p kept window (cond x (called call w) w)
+    go : (x : Bool) → possible call w.client ≡ x
+        → IsAhead (cond x (unasked_by call w.client lossy) lossy) p kept window (cond x (called call w) w)
     go true may = now may
     go false never = a
 
-turns_ahead : (p : Meaning) (kept : List Feature) (window : ℕ) → IsProgram p → are_ours p.features kept ≡ true → (turns : List Turn)
-    (w : Watched) → AreCausal turns w → IsAhead p kept window w → IsAhead p kept window (after_turns turns w)
-turns_ahead p kept window program ours [] w causal a = a
-turns_ahead p kept window program ours (turn ∷ turns) w causal a =
-    turns_ahead p kept window program ours turns (after_turn turn w) causal.1 (turn_ahead p kept window program ours turn w causal.0 a)
+turns_ahead : (lossy : Bool) (p : Meaning) (kept : List Feature) (window : ℕ) → IsProgram p → are_ours p.features kept ≡ true
+    → (turns : List Turn) (w : Watched) → AreCausal turns w → IsAhead lossy p kept window w
+    → IsAhead (unasked_turns turns w lossy) p kept window (after_turns turns w)
+turns_ahead lossy p kept window program ours [] w causal a = a
+turns_ahead lossy p kept window program ours (turn ∷ turns) w causal a =
+    turns_ahead (unasked_turn turn w lossy) p kept window program ours turns (after_turn turn w) causal.1
+    (turn_ahead lossy p kept window program ours turn w causal.0 a)
 
-begun_ahead : (p : Meaning) (kept : List Feature) (window n : ℕ) → IsProgram p → are_ours p.features kept ≡ true → (calls : List Call)
-    → possible (Connected n) (behind_calls calls (new_client_end p kept window)) ≡ true
-    → IsAhead p kept window (begun_on n (behind_calls calls (new_client_end p kept window)))
-begun_ahead p kept window n program ours calls may =
+begun_ahead : (ordered : Bool) (p : Meaning) (kept : List Feature) (window n : ℕ) → IsProgram p → are_ours p.features kept ≡ true
+    → (calls : List Call) → possible (Connected n) (behind_calls calls (new_client_end p kept window)) ≡ true
+    → IsAhead false p kept window (begun_on ordered n (behind_calls calls (new_client_end p kept window)))
+begun_ahead ordered p kept window n program ours calls may =
     let e : ClientEnd = behind_calls calls (new_client_end p kept window) in
     let h : Holds p e.client (plans_begun calls p kept window) = behind_holds p kept window calls program ours in
     record {
-      with_client = silence;
+      with_client = silence ordered;
       reached = behind_one_more p kept window (Connected n) e (record { calls = calls; is = refl });
-      seen = subst (λ (x : Bool). IsSeen (cond x (done_by (Connected n) e) e).client silence) (sym may) (connected_seen n e.client h.program);
-      talk = refl;
+      seen = subst (λ (x : Bool). IsSeen false (cond x (done_by (Connected n) e) e).client (silence ordered)) (sym may)
+          (connected_seen ordered n e.client h.program);
+      dialogue = refl;
     }
 
 -- ---- the law
 
-pub reported_before : (p : Meaning) (kept : List Feature) (window n : ℕ) (calls : List Call) (turns : List Turn) → IsProgram p
+before : (ordered : Bool) (p : Meaning) (kept : List Feature) (window n : ℕ) (calls : List Call) (turns : List Turn) → IsProgram p
     → are_ours p.features kept ≡ true
     → possible (Connected n) (behind_calls calls (new_client_end p kept window)) ≡ true
-    → AreCausal turns (begun_on n (behind_calls calls (new_client_end p kept window)))
-    → BeginsWith (after_turns turns (begun_on n (behind_calls calls (new_client_end p kept window)))).client.client.table.tally.counted
-    (after_turns turns (begun_on n (behind_calls calls (new_client_end p kept window)))).talk.told
-reported_before p kept window n calls turns program ours may causal =
-    last (after_turns turns (begun_on n (behind_calls calls (new_client_end p kept window))))
-    (turns_ahead p kept window program ours turns (begun_on n (behind_calls calls (new_client_end p kept window))) causal
-    (begun_ahead p kept window n program ours calls may))
+    → AreCausal turns (begun_on ordered n (behind_calls calls (new_client_end p kept window)))
+    → Begins (unasked_turns turns (begun_on ordered n (behind_calls calls (new_client_end p kept window))) false)
+    (after_turns turns (begun_on ordered n (behind_calls calls (new_client_end p kept window)))).client.client.table.tally.counted
+    (after_turns turns (begun_on ordered n (behind_calls calls (new_client_end p kept window)))).dialogue.reported
+before ordered p kept window n calls turns program ours may causal =
+    last (unasked_turns turns (begun_on ordered n (behind_calls calls (new_client_end p kept window))) false)
+    (after_turns turns (begun_on ordered n (behind_calls calls (new_client_end p kept window))))
+    (turns_ahead false p kept window program ours turns (begun_on ordered n (behind_calls calls (new_client_end p kept window))) causal
+    (begun_ahead ordered p kept window n program ours calls may))
   where
-    last : (w : Watched) → IsAhead p kept window w → BeginsWith w.client.client.table.tally.counted w.talk.told
-    last w a =
-        let s : IsSeen w.client.client (IsAhead.with_client a) = IsAhead.seen a in
-        subst (λ (t : Talking). BeginsWith w.client.client.table.tally.counted t.told) (sym (IsAhead.talk a))
-        (begins_lines w.client.client.table.tally.counted (IsAhead.with_client a) w.ahead s.begins)
+    last : (lossy : Bool) (w : Watched) → IsAhead lossy p kept window w → Begins lossy w.client.client.table.tally.counted w.dialogue.reported
+    last lossy w a =
+        subst (λ (d : Dialogue). Begins lossy w.client.client.table.tally.counted d.reported) (sym (IsAhead.dialogue a))
+        (begins_lines lossy w.client.client.table.tally.counted (IsAhead.with_client a) w.ahead (IsSeen.begins (IsAhead.seen a)))
+
+pub reported_before : (ordered : Bool) (p : Meaning) (kept : List Feature) (window n : ℕ) (calls : List Call) (turns : List Turn) → IsProgram p
+    → are_ours p.features kept ≡ true
+    → possible (Connected n) (behind_calls calls (new_client_end p kept window)) ≡ true
+    → AreCausal turns (begun_on ordered n (behind_calls calls (new_client_end p kept window)))
+    → unasked_turns turns (begun_on ordered n (behind_calls calls (new_client_end p kept window))) false ≡ false
+    → BeginsWith (after_turns turns (begun_on ordered n (behind_calls calls (new_client_end p kept window)))).client.client.table.tally.counted
+    (after_turns turns (begun_on ordered n (behind_calls calls (new_client_end p kept window)))).dialogue.reported
+reported_before ordered p kept window n calls turns program ours may causal none =
+    begins_with _ _ (subst (λ (b : Bool). Begins b
+    (after_turns turns (begun_on ordered n (behind_calls calls (new_client_end p kept window)))).client.client.table.tally.counted
+    (after_turns turns (begun_on ordered n (behind_calls calls (new_client_end p kept window)))).dialogue.reported) none
+    (before ordered p kept window n calls turns program ours may causal))
+
+pub claimed_before : (ordered : Bool) (p : Meaning) (kept : List Feature) (window n : ℕ) (calls : List Call) (turns : List Turn) → IsProgram p
+    → are_ours p.features kept ≡ true
+    → possible (Connected n) (behind_calls calls (new_client_end p kept window)) ≡ true
+    → AreCausal turns (begun_on ordered n (behind_calls calls (new_client_end p kept window)))
+    → BeginsToClaim (after_turns turns (begun_on ordered n (behind_calls calls (new_client_end p kept window)))).client.client.table.tally.counted
+    (after_turns turns (begun_on ordered n (behind_calls calls (new_client_end p kept window)))).dialogue.reported
+claimed_before ordered p kept window n calls turns program ours may causal =
+    begins_to_claim _ _ _ (before ordered p kept window n calls turns program ours may causal)

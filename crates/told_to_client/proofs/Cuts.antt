@@ -2,7 +2,7 @@
 use Rattle.std.proofs.Common.{◌≡◌, ℕ, suc, ◌+◌, Bool, true, false, cond, ◌&&◌, ◌||◌, not, List, [], ◌∷◌, ◌++◌, length, take, refl}
 use Rattle.std.proofs.Common.{sym, ◌∙◌, ap, arith, length-append, Option, Some, None, Ok, Err, nat_lt, le_refl}
 use Rattle.std.proofs.lemmas.Bool.{false≢true, lt-ltb, le-ltb}
-use Rattle.std.specs.Prelude.{position, remove, slice_get, slice_set}
+use Rattle.std.specs.Prelude.{position, remove, slice_get}
 use Rattle.std.specs.List.{list_any, position_or_len}
 use Rattle.dme_line.specs.Kinds.{kind_of}
 use Rattle.dme_line.specs.declared.tags.Tag.{Tag}
@@ -14,20 +14,30 @@ use Rattle.protocol_model.specs.Ends.{held_kind}
 use Rattle.protocol_model.specs.declared.held.OpenCommand.{OpenCommand}
 use Rattle.protocol_model.proofs.table.Basics.{if_true, if_false, if_cases, tag_is-true}
 use Rattle.protocol_model.proofs.table.Walks.{two, same_two}
-use Rattle.told_ledger.specs.declared.uses.Asked.{Asked}
-use Rattle.told_ledger.specs.declared.uses.Asked.TheVariants.{Known, Harmless, Foreign}
-use Rattle.told_ledger.specs.declared.uses.Use.{Use}
+use Rattle.protocol_model.specs.declared.held.Stage.{Stage as OpenStage}
+use Rattle.witness.specs.declared.lines.SentCommand.{SentCommand}
+use Rattle.witness.specs.declared.lines.SentCommand.TheVariants.{Known, Asking, Foreign}
+use Rattle.witness.specs.declared.lines.Stage.{Stage}
+use Rattle.witness.specs.declared.lines.Stage.TheVariants as stage
+use Rattle.witness.specs.declared.lines.Use.{Use}
 
 -- ---- uses as a client's open commands
 
--- the kind of what was asked; of what a client does not send, any
-abbrev pub kind_by : Asked → Kind
+-- the kind of what was sent; of what a client does not send, any
+abbrev pub kind_by : SentCommand → Kind
 kind_by (Known c) = kind_of c
-kind_by Harmless = kind.AbortE
+kind_by Asking = kind.AbortE
 kind_by (Foreign line) = kind.AbortE
 
+-- a stage, as the client's
+abbrev pub stage_by : Stage → OpenStage
+stage_by stage.Sent = OpenStage.Sent
+stage_by stage.Received = OpenStage.Received
+stage_by (stage.Given d) = OpenStage.Given d
+stage_by stage.Lost = OpenStage.Failed
+
 abbrev pub entry : Use → OpenCommand
-entry u = record { tag = u.tag; kind = kind_by u.asked; stage = u.stage }
+entry u = record { tag = u.tag; kind = kind_by u.command; stage = stage_by u.stage }
 
 -- the open commands whose tags pass a test
 abbrev pub picks : (Tag → Bool) → List Use → List OpenCommand
@@ -84,10 +94,10 @@ pub record IsCut (test : Tag → Bool) (front : Bool) (us : List Use) (t : Tag) 
     pub none : list_any (has_tag t) before ≡ false
     pub here : tag_is u.tag t ≡ true
     pub picked : test u.tag ≡ true
-    pub kind_is : held_kind t (picks test us) ≡ Some (kind_by u.asked)
+    pub kind_is : held_kind t (picks test us) ≡ Some (kind_by u.command)
     pub now : Bool
     pub now_is : now ≡ (front && all_failed (picks test before))
-    pub settles : put_all (picks test before) (settled (entry u) (picks test after) (judged now (kind_by u.asked) u.stage m)) ≡ two gs e
+    pub settles : put_all (picks test before) (settled (entry u) (picks test after) (judged now (kind_by u.command) (stage_by u.stage) m)) ≡ two gs e
 
 and_true : (b : Bool) → b ≡ (b && true)
 and_true true = refl
@@ -105,7 +115,7 @@ other_tag test t u sort out = go (tag_is u.tag t) refl
     go false e = e
 
 cut_here : (test : Tag → Bool) (front : Bool) (u : Use) (us : List Use) (t : Tag) (m : Mark) (gs : List OpenCommand) (e : Effect)
-    → test u.tag ≡ true → tag_is u.tag t ≡ true → settled (entry u) (picks test us) (judged front (kind_by u.asked) u.stage m) ≡ two gs e
+    → test u.tag ≡ true → tag_is u.tag t ≡ true → settled (entry u) (picks test us) (judged front (kind_by u.command) (stage_by u.stage) m) ≡ two gs e
     → IsCut test front (u ∷ us) t m gs e
 cut_here test front u us t m gs e inside same is = record {
   before = [];
@@ -123,7 +133,7 @@ cut_here test front u us t m gs e inside same is = record {
 
 cut_past : (test : Tag → Bool) (front : Bool) (u : Use) (us : List Use) (t : Tag) (m : Mark) (gs rest : List OpenCommand) (e : Effect)
     → test u.tag ≡ true → tag_is u.tag t ≡ false → gs ≡ entry u ∷ rest
-    → IsCut test (front && is_failed u.stage) us t m rest e → IsCut test front (u ∷ us) t m gs e
+    → IsCut test (front && is_failed (stage_by u.stage)) us t m rest e → IsCut test front (u ∷ us) t m gs e
 cut_past test front u us t m gs rest e inside other is c = record {
   before = u ∷ c.before;
   u = c.u;
@@ -134,10 +144,10 @@ cut_past test front u us t m gs rest e inside other is c = record {
   picked = c.picked;
   kind_is = ap (held_kind t) (picks_in test u us inside) ∙ (if_false {A = Option Kind} (tag_is u.tag t) _ _ other ∙ c.kind_is);
   now = c.now;
-  now_is = c.now_is ∙ (and_again front (is_failed u.stage) (all_failed (picks test c.before))
+  now_is = c.now_is ∙ (and_again front (is_failed (stage_by u.stage)) (all_failed (picks test c.before))
       ∙ ap (λ (l : List OpenCommand). front && all_failed l) (sym (picks_in test u c.before inside)));
   settles = ap (λ (l : List OpenCommand).
-      put_all l (settled (entry c.u) (picks test c.after) (judged c.now (kind_by c.u.asked) c.u.stage m)))
+      put_all l (settled (entry c.u) (picks test c.after) (judged c.now (kind_by c.u.command) (stage_by c.u.stage) m)))
       (picks_in test u c.before inside) ∙ (ap (put_before (entry u)) c.settles ∙ ap (λ (l : List OpenCommand). two l e) (sym is));
 }
 
@@ -155,7 +165,7 @@ cut_out test front u us t m gs e sort out c = record {
   now = c.now;
   now_is = c.now_is ∙ ap (λ (l : List OpenCommand). front && all_failed l) (sym (picks_out test u c.before out));
   settles = ap (λ (l : List OpenCommand).
-      put_all l (settled (entry c.u) (picks test c.after) (judged c.now (kind_by c.u.asked) c.u.stage m)))
+      put_all l (settled (entry c.u) (picks test c.after) (judged c.now (kind_by c.u.command) (stage_by c.u.stage) m)))
       (picks_out test u c.before out) ∙ c.settles;
 }
 
@@ -169,12 +179,12 @@ cut test front (u ∷ us) t m gs e sort is = go (test u.tag) refl (λ f rest hea
         → ((f : Bool) (rest : List OpenCommand) → heard_in f (picks test us) t m ≡ two rest e → IsCut test f us t m rest e)
         → IsCut test front (u ∷ us) t m gs e
     inner now inside deeper = if_cases {A = Heard} (tag_is u.tag t)
-        (settled (entry u) (picks test us) (judged front (kind_by u.asked) u.stage m))
-        (put_before (entry u) (heard_in (front && is_failed u.stage) (picks test us) t m)) (two gs e) (IsCut test front (u ∷ us) t m gs e)
+        (settled (entry u) (picks test us) (judged front (kind_by u.command) (stage_by u.stage) m))
+        (put_before (entry u) (heard_in (front && is_failed (stage_by u.stage)) (picks test us) t m)) (two gs e) (IsCut test front (u ∷ us) t m gs e)
         now (λ same here. cut_here test front u us t m gs e inside same here)
-        (λ other later. put_cases (entry u) (heard_in (front && is_failed u.stage) (picks test us) t m) gs e
+        (λ other later. put_cases (entry u) (heard_in (front && is_failed (stage_by u.stage)) (picks test us) t m) gs e
         (IsCut test front (u ∷ us) t m gs e) later (λ rest heard same.
-        cut_past test front u us t m gs rest e inside other same (deeper (front && is_failed u.stage) rest heard)))
+        cut_past test front u us t m gs rest e inside other same (deeper (front && is_failed (stage_by u.stage)) rest heard)))
 
     go : (b : Bool) → test u.tag ≡ b
         → ((f : Bool) (rest : List OpenCommand) → heard_in f (picks test us) t m ≡ two rest e → IsCut test f us t m rest e)
@@ -235,10 +245,6 @@ got (v ∷ before) u after = got before u after
 pub removed : (before : List Use) (u : Use) (after : List Use) → remove (before ++ u ∷ after) (length before) ≡ before ++ after
 removed [] u after = refl
 removed (v ∷ before) u after = ap (λ (l : List Use). v ∷ l) (removed before u after)
-
-pub set_at : (before : List Use) (u v : Use) (after : List Use) → slice_set (before ++ u ∷ after) (length before) v ≡ before ++ v ∷ after
-set_at [] u v after = refl
-set_at (w ∷ before) u v after = ap (λ (l : List Use). w ∷ l) (set_at before u v after)
 
 pub taken : (before : List Use) (u : Use) (after : List Use) → take (length before) (before ++ u ∷ after) ≡ before
 taken [] u after = refl

@@ -12,8 +12,8 @@ use Rattle.dmis_program.specs.declared.features.Touch.{Touch}
 use Rattle.dmis_program.specs.declared.features.Wanted.{Wanted}
 use Rattle.protocol_model.specs.Claims.{MadeContact, contacts, Serves, IsRun}
 use Rattle.protocol_model.proofs.invariant.Moves.{done_on}
-use Rattle.told_ledger.specs.Texts.{numbered}
-use Rattle.told_ledger.specs.declared.uses.Told.{Told}
+use Rattle.witness.specs.Texts.{numbered}
+use Rattle.witness.specs.declared.lines.Reported.{Reported}
 use Rattle.told_files.specs.Runs.{Part, Made, Passes, made_on, entry_part, parts_of, known_contacts, is_made, lies_between, AreNext}
 use Rattle.told_files.specs.Runs.{IsToldRun}
 use Rattle.told_to_client.specs.Acts.{all_done}
@@ -25,7 +25,7 @@ known_more [] ks = refl
 known_more ((n, part) ∷ ls) ks = ap (λ (l : List MadeContact). made_on n part ++ l) (known_more ls ks)
     ∙ sym (append_assoc (made_on n part) (known_contacts ls) (known_contacts ks))
 
-parts_more : (es fs : List (ℕ × Told)) → parts_of (es ++ fs) ≡ parts_of es ++ parts_of fs
+parts_more : (es fs : List (ℕ × Reported)) → parts_of (es ++ fs) ≡ parts_of es ++ parts_of fs
 parts_more es fs = map-append entry_part es fs
 
 next_longer : (ls more : List (ℕ × Part)) (k : ℕ) → AreNext ls k → AreNext (ls ++ more) k
@@ -64,7 +64,7 @@ next_later first ls k h = record {
 
 -- ---- acts of one connection, as they were reported
 
-abbrev pub entries_of : ℕ → List Act → List (ℕ × Told)
+abbrev pub entries_of : ℕ → List Act → List (ℕ × Reported)
 entries_of n acts = map (numbered n) (all_done acts)
 
 abbrev lines_of : ℕ → List Act → List (ℕ × Part)
@@ -224,7 +224,7 @@ run_moved w f s r ms ks same h = record {
 -- ---- a run in what was reported
 
 -- it is still one with more reported after it
-pub run_longer : (w : Wanted) (f : Feature) (s : ℕ) (es more : List (ℕ × Told)) → IsToldRun w f s es → IsToldRun w f s (es ++ more)
+pub run_longer : (w : Wanted) (f : Feature) (s : ℕ) (es more : List (ℕ × Reported)) → IsToldRun w f s es → IsToldRun w f s (es ++ more)
 run_longer w f s es more h = record {
   run = run_moved w f s s (known_contacts (parts_of es)) (known_contacts (parts_of (es ++ more)))
       (sym (ap (λ (l : List MadeContact). take (length f.points) (drop s l))
@@ -236,7 +236,7 @@ run_longer w f s es more h = record {
 }
 
 -- a run of acts of one connection is one in what was reported of them, after and before whatever else
-pub run_reported : (w : Wanted) (f : Feature) (s n : ℕ) (es more : List (ℕ × Told)) (acts : List Act)
+pub run_reported : (w : Wanted) (f : Feature) (s n : ℕ) (es more : List (ℕ × Reported)) (acts : List Act)
     → IsRun w f s (contacts (done_on n acts))
     → IsToldRun w f (length (known_contacts (parts_of es)) + s) (es ++ (entries_of n acts ++ more))
 run_reported w f s n es more acts h =

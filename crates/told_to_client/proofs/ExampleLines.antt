@@ -7,10 +7,19 @@ use Rattle.dme_line.specs.declared.tags.Tag.TheVariants.{Std, Event}
 use Rattle.protocol_model.specs.Readings.{response_of}
 use Rattle.client_core.proofs.Readings.{one_response}
 use Rattle.told_acts.specs.Examples.{completed}
+use Rattle.told_to_client.specs.Examples.{zero}
 
 -- a command is complete
 pub completed_reads : response_of completed ≡ Ok (record { tag = Std 7; mark = mark.Done })
 completed_reads = one_response completed (Ok (record { tag = Std 7; mark = mark.Done })) (record {
+  text = 37 ∷ [];
+  tagged = omega arith;
+  parts = refl;
+  marked = ([], refl, refl);
+})
+
+pub zero_reads : response_of zero ≡ Ok (record { tag = Event 0; mark = mark.Done })
+zero_reads = one_response zero (Ok (record { tag = Event 0; mark = mark.Done })) (record {
   text = 37 ∷ [];
   tagged = omega arith;
   parts = refl;

@@ -1,78 +1,99 @@
 -- What was reported only grows.
-use Rattle.std.proofs.Common.{◌≡◌, ℕ, true, List, [], ◌∷◌, ◌++◌, refl, sym, ◌∙◌, ap, append_assoc, append-nil, Option, Some, None, Result, Ok, Err}
-use Rattle.std.specs.Prelude.{position, slice_get}
+use Rattle.std.proofs.Common.{◌≡◌, ℕ, Bool, true, false, cond, List, [], ◌∷◌, ◌++◌, refl, sym, ◌∙◌, ap, append_assoc, append-nil, Option, Some, None}
+use Rattle.std.specs.Prelude.{slice_get}
 use Rattle.dme_line.specs.declared.tags.Tag.{Tag}
-use Rattle.dme_line.specs.declared.tags.Tag.TheVariants as tag
-use Rattle.dme_line.specs.declared.responses.Mark.{Mark}
-use Rattle.dme_line.specs.declared.responses.Mark.TheVariants as mark
-use Rattle.dme_line.specs.declared.responses.Response.{Response}
-use Rattle.dme_line.specs.declared.responses.NotResponse.{NotResponse}
 use Rattle.contact_ledger.specs.declared.acts.Act.{Act}
 use Rattle.protocol_model.specs.Readings.{command_of, response_of}
-use Rattle.protocol_model.specs.Replies.{tag_is}
-use Rattle.told_ledger.specs.Asking.{asked}
-use Rattle.told_ledger.specs.Effects.{told_by}
-use Rattle.told_ledger.specs.Judging.{heard_as}
-use Rattle.told_ledger.specs.Talking.{Talking, asking, answering, unasked, with_told, turn_of, heard_under, heard_at, heard_for}
-use Rattle.told_ledger.specs.declared.uses.Asked.{Asked}
-use Rattle.told_ledger.specs.declared.uses.Rule.TheVariants.{UnknownTag}
-use Rattle.told_ledger.specs.declared.uses.Side.TheVariants.{Server}
-use Rattle.told_ledger.specs.declared.uses.Told.{Told}
-use Rattle.told_ledger.specs.declared.uses.Told.TheVariants as told
-use Rattle.told_ledger.specs.declared.uses.Use.{Use}
-use Rattle.told_to_client.specs.Acts.{all_done, BeginsWith}
+use Rattle.witness.specs.Asking.{Signal, sent, answered}
+use Rattle.witness.specs.Dialogues.{Dialogue, unless_crossed, use_heard, use_renewed, reported_by, is_out_of_turn, hearing, heard_at, at_use, faulting}
+use Rattle.witness.specs.Dialogues.{is_report, unasked, heard_under, first_under, server_answered, foreign_event, at_once, sending}
+use Rattle.witness.specs.Dialogues.{client_sent}
+use Rattle.witness.specs.Known.{all_renewed}
+use Rattle.witness.specs.Marks.{heard_as, is_end}
+use Rattle.witness.specs.declared.lines.Heard.{Heard}
+use Rattle.witness.specs.declared.lines.Renewal.TheVariants.{Fault}
+use Rattle.witness.specs.declared.lines.Reported.{Reported}
+use Rattle.witness.specs.declared.lines.Reported.TheVariants as reports
+use Rattle.witness.specs.declared.lines.Rule.TheVariants.{NotInTurn}
+use Rattle.witness.specs.declared.lines.SentCommand.{SentCommand}
+use Rattle.witness.specs.declared.lines.Side.TheVariants.{Client, Server}
+use Rattle.witness.specs.declared.lines.Use.{Use}
 use Rattle.told_orders.specs.Orders.{Line, Up, Down, said, said_all}
+use Rattle.told_to_client.proofs.Claiming.{Begins}
 
 -- more is reported
-pub record Grows (t u : Talking) : Type 0 where
-  pub more : List Told
-  pub parts : u.told ≡ t.told ++ more
+pub record Grows (d e : Dialogue) : Type 0 where
+  pub more : List Reported
+  pub parts : e.reported ≡ d.reported ++ more
 
-pub grows_not : (t u : Talking) → u.told ≡ t.told → Grows t u
-grows_not t u same = record { more = []; parts = same ∙ sym (append-nil t.told) }
+pub grows_not : (d e : Dialogue) → e.reported ≡ d.reported → Grows d e
+grows_not d e same = record { more = []; parts = same ∙ sym (append-nil d.reported) }
 
-with_grows : (t u : Talking) (o : Option Told) → u.told ≡ with_told t.told o → Grows t u
-with_grows t u None is = grows_not t u is
-with_grows t u (Some x) is = record { more = x ∷ []; parts = is }
+mark_grows : (d : Dialogue) (at : ℕ) (u : Use) (h : Heard) (ended : Bool) → Grows d (heard_at d at u h ended)
+mark_grows d at u h ended = go (is_out_of_turn d.uses at u h)
+  where
+    more : Dialogue → Use → List Reported
+    more e v = reported_by (unless_crossed e.crossed (use_heard v.line h v).known) v.tag v.command v.stage h
 
-place_grows : (t : Talking) (at : ℕ) (m : Mark) (o : Option Use) → Grows t (heard_at t at m o)
-place_grows t at m None = grows_not t t refl
-place_grows t at m (Some u) = with_grows t (heard_for t at u (heard_as u.asked m))
-    (told_by (turn_of t at u) t.known u (heard_as u.asked m)) refl
+    early : Dialogue
+    early = faulting d (reports.Broken NotInTurn u.tag)
 
-unasked_grows : (t : Talking) (x : Tag) (m : Mark) → Grows t (unasked t x m)
-unasked_grows t (tag.Std n) m = record { more = told.Broken UnknownTag (tag.Std n) ∷ []; parts = refl }
-unasked_grows t (tag.Event n) mark.Ack = grows_not t t refl
-unasked_grows t (tag.Event n) (mark.Given text) = grows_not t t refl
-unasked_grows t (tag.Event n) mark.Done = grows_not t t refl
-unasked_grows t (tag.Event n) (mark.Error text) = grows_not t (record t { refused = true }) refl
+    late : Use
+    late = use_renewed (all_renewed Fault) u
 
--- a mark under a tag
-pub under_grows : (t : Talking) (x : Tag) (m : Mark) (at : Option ℕ) → Grows t (heard_under t x m at)
-under_grows t x m None = unasked_grows t x m
-under_grows t x m (Some at) = place_grows t at m (slice_get t.uses at)
+    go : (b : Bool) → Grows d (cond b (hearing (faulting d (reports.Broken NotInTurn u.tag)) at (use_renewed (all_renewed Fault) u) h ended)
+        (hearing d at u h ended))
+    go true = record {
+      more = reports.Broken NotInTurn u.tag ∷ more early late;
+      parts = append_assoc d.reported (reports.Broken NotInTurn u.tag ∷ []) (more early late);
+    }
+    go false = record { more = more d u; parts = refl }
+
+place_grows : (d : Dialogue) (at : ℕ) (signal : Signal) (o : Option Use) → Grows d (at_use d at signal o)
+place_grows d at signal None = grows_not d d refl
+place_grows d at signal (Some u) = mark_grows d at u (heard_as u.command signal) (is_end signal)
+
+unasked_grows : (d : Dialogue) (line : List ℕ) (x : Tag) (signal : Signal) → Grows d (unasked d line x signal)
+unasked_grows d line x signal = go (is_report x signal d.events)
+  where
+    go : (b : Bool) → Grows d (cond b d (faulting d (reports.Unasked line)))
+    go true = grows_not d d refl
+    go false = record { more = reports.Unasked line ∷ []; parts = refl }
+
+under_grows : (d : Dialogue) (line : List ℕ) (x : Tag) (signal : Signal) (at : Option ℕ) → Grows d (heard_under d line x signal at)
+under_grows d line x signal None = unasked_grows d line x signal
+under_grows d line x signal (Some at) = place_grows d at signal (slice_get d.uses at)
 
 -- a line of the server
-pub answer_grows : (t : Talking) (line : List ℕ) (r : Result Response NotResponse) → Grows t (answering t line r)
-answer_grows t line (Ok r) = under_grows t r.tag r.mark (position (λ u. tag_is u.tag r.tag) t.uses)
-answer_grows t line (Err why) = record { more = told.Other Server line ∷ []; parts = refl }
+pub answer_grows : (d : Dialogue) (line : List ℕ) (o : Option (Tag × Signal)) → Grows d (server_answered d line o)
+answer_grows d line None = record { more = reports.Other Server line ∷ []; parts = refl }
+answer_grows d line (Some (x, signal)) = under_grows d line x signal (first_under x d.uses)
 
--- a line of the client reports nothing
-pub asking_grows : (t : Talking) (o : Option (Tag × Asked)) → Grows t (asking t o)
-asking_grows t None = grows_not t t refl
-asking_grows t (Some (x, what)) = grows_not t (asking t (Some (x, what))) refl
+-- a line of the client
+sent_grows : (d : Dialogue) (line : List ℕ) (o : Option (Tag × SentCommand)) → Grows d (client_sent d line o)
+sent_grows d line None = record { more = reports.Other Client line ∷ []; parts = refl }
+sent_grows d line (Some (x, what)) = go (foreign_event x what)
+  where
+    go : (b : Bool) → Grows d (cond b (sending (at_once d line) x what) (sending d x what))
+    go true = record { more = reports.Other Client line ∷ []; parts = refl }
+    go false = grows_not d (sending d x what) refl
 
-said_grows : (t : Talking) (line : Line) → Grows t (said t line)
-said_grows t (Up line) = asking_grows t (asked line (command_of line))
-said_grows t (Down line) = answer_grows t line (response_of line)
+said_grows : (d : Dialogue) (line : Line) → Grows d (said d line)
+said_grows d (Up line) = sent_grows d line (sent line (command_of line))
+said_grows d (Down line) = answer_grows d line (answered (response_of line))
 
--- what was reported still begins with these acts
-pub begins_still : (acts : List Act) (t u : Talking) → BeginsWith acts t.told → Grows t u → BeginsWith acts u.told
-begins_still acts t u b g = record {
-  more = b.more ++ g.more;
-  parts = g.parts ∙ (ap (λ (l : List Told). l ++ g.more) b.parts ∙ append_assoc (all_done acts) b.more g.more);
+-- what was reported still begins with what it did
+pub begins_still : (lossy : Bool) (acts : List Act) (d e : Dialogue) → Begins lossy acts d.reported → Grows d e → Begins lossy acts e.reported
+begins_still lossy acts d e b g = record {
+  first = Begins.first b;
+  more = Begins.more b ++ g.more;
+  parts = g.parts ∙ (ap (λ (l : List Reported). l ++ g.more) (Begins.parts b) ∙ append_assoc (Begins.first b) (Begins.more b) g.more);
+  exact = Begins.exact b;
+  claims = Begins.claims b;
 }
 
-pub begins_after : (acts : List Act) (t : Talking) (lines : List Line) → BeginsWith acts t.told → BeginsWith acts (said_all t lines).told
-begins_after acts t [] b = b
-begins_after acts t (line ∷ lines) b = begins_after acts (said t line) lines (begins_still acts t (said t line) b (said_grows t line))
+pub begins_after : (lossy : Bool) (acts : List Act) (d : Dialogue) (lines : List Line) → Begins lossy acts d.reported
+    → Begins lossy acts (said_all d lines).reported
+begins_after lossy acts d [] b = b
+begins_after lossy acts d (line ∷ lines) b =
+    begins_after lossy acts (said d line) lines (begins_still lossy acts d (said d line) b (said_grows d line))

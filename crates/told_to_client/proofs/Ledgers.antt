@@ -13,7 +13,7 @@ use Rattle.dmis_program.specs.declared.features.Wanted.{Wanted}
 use Rattle.protocol_model.specs.Claims.{MadeContact, contacts, Serves, IsRun, AreRuns, Sound}
 use Rattle.protocol_model.proofs.invariant.Moves.{done_on}
 use Rattle.protocol_model.proofs.invariant.Served.{contacts_more}
-use Rattle.told_ledger.specs.declared.uses.Told.{Told}
+use Rattle.witness.specs.declared.lines.Reported.{Reported}
 use Rattle.told_files.specs.Numbering.{numbered_from}
 use Rattle.told_files.specs.Runs.{parts_of, known_contacts, IsToldRun, AreToldRuns, SoundByTold, connection_at, unnumbered, AreRunContacts}
 use Rattle.told_files.proofs.NextContacts.{numbered_all}
@@ -61,7 +61,7 @@ raise_same n None (Some b) e = absurd (cc)
 raise_same n (Some a) None e = absurd (cc)
 raise_same n (Some a) (Some b) e = let same : suc (n + a) ≡ suc (n + b) = cc in ap (λ (x : ℕ). Some x) (omega (arith, same))
 
-pub are_raised : (n : ℕ) (es : List (ℕ × Told)) (l : List (ℕ × Act)) → AreRunContacts es l → AreRunContacts es (renumbered n l)
+pub are_raised : (n : ℕ) (es : List (ℕ × Reported)) (l : List (ℕ × Act)) → AreRunContacts es l → AreRunContacts es (renumbered n l)
 are_raised n es l h = record {
   alike = ap (map unnumbered) (raised_contacts n l) ∙ (unnumbered_raised n (contacts l) ∙ h.alike);
   joined = λ k less. (
@@ -163,11 +163,11 @@ placed_run w f s n m acts h = record {
 -- ---- one run
 
 -- where contacts of other connections come first, a run of a ledger is one in what was reported
-record IsJoin (n : ℕ) (es : List (ℕ × Told)) (l : List (ℕ × Act)) : Type 0 where
+record IsJoin (n : ℕ) (es : List (ℕ × Reported)) (l : List (ℕ × Act)) : Type 0 where
   made : AreRunContacts es l
   above : AreAbove n (contacts l)
 
-joins : (n : ℕ) (es : List (ℕ × Told)) → IsJoin n es (renumbered n (numbered_from true None (parts_of es)))
+joins : (n : ℕ) (es : List (ℕ × Reported)) → IsJoin n es (renumbered n (numbered_from true None (parts_of es)))
 joins n es =
     let l : List (ℕ × Act) = numbered_from true None (parts_of es) in
     record {
@@ -175,14 +175,14 @@ joins n es =
       above = subst (AreAbove n) (sym (raised_contacts n l)) (raised_above n (contacts l));
     }
 
-as_long : (es : List (ℕ × Told)) (l : List (ℕ × Act)) → AreRunContacts es l → length (contacts l) ≡ length (known_contacts (parts_of es))
+as_long : (es : List (ℕ × Reported)) (l : List (ℕ × Act)) → AreRunContacts es l → length (contacts l) ≡ length (known_contacts (parts_of es))
 as_long es l h = sym (many (contacts l)) ∙ (ap length h.alike ∙ many (known_contacts (parts_of es)))
   where
     many : (ms : List MadeContact) → length (map unnumbered ms) ≡ length ms
     many [] = refl
     many (m ∷ ms) = ap suc (many ms)
 
-early_run : (w : Wanted) (f : Feature) (s n m : ℕ) (es more : List (ℕ × Told)) (acts : List Act) (l : List (ℕ × Act)) → IsJoin n es l
+early_run : (w : Wanted) (f : Feature) (s n m : ℕ) (es more : List (ℕ × Reported)) (acts : List Act) (l : List (ℕ × Act)) → IsJoin n es l
     → s + length f.points ≤ length (contacts l) → IsRun w f s (contacts l ++ contacts (done_on n acts))
     → IsToldRun w f s (es ++ (entries_of m acts ++ more))
 early_run w f s n m es more acts l j within h =
@@ -192,7 +192,7 @@ early_run w f s n m es more acts l j within h =
     ∙ take-append-le (length f.points) (drop s (contacts l)) (contacts (done_on n acts))
     (let long = length-drop s (contacts l) in omega (arith, long, within))) h))
 
-late_run : (w : Wanted) (f : Feature) (s n m : ℕ) (es more : List (ℕ × Told)) (acts : List Act) (l : List (ℕ × Act)) → IsJoin n es l
+late_run : (w : Wanted) (f : Feature) (s n m : ℕ) (es more : List (ℕ × Reported)) (acts : List Act) (l : List (ℕ × Act)) → IsJoin n es l
     → length (contacts l) ≤ s → IsRun w f s (contacts l ++ contacts (done_on n acts))
     → IsToldRun w f s (es ++ (entries_of m acts ++ more))
 late_run w f s n m es more acts l j after h =
@@ -205,7 +205,7 @@ late_run w f s n m es more acts l j after h =
     (ap (λ (x : ℕ). take (length f.points) (drop x (contacts l ++ contacts (done_on n acts)))) (sym at)
     ∙ ap (take (length f.points)) (drop-append-add (contacts l) (contacts (done_on n acts)) r)) h)))
 
-no_run : (w : Wanted) (f : Feature) (s n : ℕ) (es : List (ℕ × Told)) (acts : List Act) (l : List (ℕ × Act)) → IsJoin n es l
+no_run : (w : Wanted) (f : Feature) (s n : ℕ) (es : List (ℕ × Reported)) (acts : List Act) (l : List (ℕ × Act)) → IsJoin n es l
     → s < length (contacts l) → length (contacts l) < s + length f.points
     → IsRun w f s (contacts l ++ contacts (done_on n acts)) → ⊥
 no_run w f s n es acts l j before after h =
@@ -221,7 +221,7 @@ no_run w f s n es acts l j before after h =
     (serves_at h.connection w.touches f.points (take (length f.points) (drop s (contacts l) ++ contacts (done_on n acts))) run)
     (above_behind n s (contacts l) (IsJoin.above j)) (done_at n acts)
 
-one_run : (w : Wanted) (f : Feature) (s n m : ℕ) (es more : List (ℕ × Told)) (acts : List Act) (l : List (ℕ × Act)) → IsJoin n es l
+one_run : (w : Wanted) (f : Feature) (s n m : ℕ) (es more : List (ℕ × Reported)) (acts : List Act) (l : List (ℕ × Act)) → IsJoin n es l
     → IsRun w f s (contacts l ++ contacts (done_on n acts)) → IsToldRun w f s (es ++ (entries_of m acts ++ more))
 one_run w f s n m es more acts l j h = go (cases_lt s (length (contacts l))) (cases_lt (length (contacts l)) (s + length f.points))
   where
@@ -232,7 +232,7 @@ one_run w f s n m es more acts l j h = go (cases_lt s (length (contacts l))) (ca
     go (inl before) (inr within) = early_run w f s n m es more acts l j within h
     go (inl before) (inl after) = absurd (no_run w f s n es acts l j before after h)
 
-all_runs : (ws : List Wanted) (fs : List Feature) (ss : List ℕ) (least n m : ℕ) (es more : List (ℕ × Told)) (acts : List Act)
+all_runs : (ws : List Wanted) (fs : List Feature) (ss : List ℕ) (least n m : ℕ) (es more : List (ℕ × Reported)) (acts : List Act)
     (l : List (ℕ × Act)) → IsJoin n es l → AreRuns ws fs ss least (contacts l ++ contacts (done_on n acts))
     → AreToldRuns ws fs ss least (es ++ (entries_of m acts ++ more))
 all_runs ws [] [] least n m es more acts l j h = tt
@@ -249,7 +249,7 @@ all_runs (w ∷ ws) (f ∷ fs) (s ∷ ss) least n m es more acts l j h = (
 
 -- if features are sound for each ledger for which the earlier ones are, with these acts of one connection after it, they are true of what was
 -- reported earlier with what was reported of these acts after it, and whatever then
-pub still_true : (ws : List Wanted) (fs gs : List Feature) (n m : ℕ) (es more : List (ℕ × Told)) (acts : List Act)
+pub still_true : (ws : List Wanted) (fs gs : List Feature) (n m : ℕ) (es more : List (ℕ × Reported)) (acts : List Act)
     → SoundByTold ws fs es → ((l : List (ℕ × Act)) → Sound ws fs l → Sound ws gs (l ++ done_on n acts))
     → SoundByTold ws gs (es ++ (entries_of m acts ++ more))
 still_true ws fs gs n m es more acts h then =
@@ -263,7 +263,7 @@ still_true ws fs gs n m es more acts h then =
     }
 
 -- and they stay so, whatever else is reported
-all_longer : (ws : List Wanted) (fs : List Feature) (ss : List ℕ) (least : ℕ) (es more : List (ℕ × Told))
+all_longer : (ws : List Wanted) (fs : List Feature) (ss : List ℕ) (least : ℕ) (es more : List (ℕ × Reported))
     → AreToldRuns ws fs ss least es → AreToldRuns ws fs ss least (es ++ more)
 all_longer ws [] [] least es more h = tt
 all_longer ws [] (s ∷ ss) least es more h = absurd h
@@ -272,5 +272,5 @@ all_longer (w ∷ ws) (f ∷ fs) [] least es more h = absurd h
 all_longer (w ∷ ws) (f ∷ fs) (s ∷ ss) least es more h =
     (h.0, run_longer w f s es more h.1, all_longer ws fs ss (s + length f.points) es more h.2)
 
-pub true_longer : (ws : List Wanted) (fs : List Feature) (es more : List (ℕ × Told)) → SoundByTold ws fs es → SoundByTold ws fs (es ++ more)
+pub true_longer : (ws : List Wanted) (fs : List Feature) (es more : List (ℕ × Reported)) → SoundByTold ws fs es → SoundByTold ws fs (es ++ more)
 true_longer ws fs es more h = record { starts = h.starts; runs = all_longer ws fs h.starts 0 es more h.runs }

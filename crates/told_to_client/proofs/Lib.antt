@@ -1,9 +1,11 @@
 pub mod Agreeing
 pub mod Aheading
+pub mod Claiming
 pub mod Cuts
 pub mod Entries
 pub mod ExampleLines
 pub mod Growing
+pub mod Holding
 pub mod Knowing
 pub mod Ledgers
 pub mod Marks

@@ -1,106 +1,184 @@
 -- What a witness does at a mark of a command that a client sent, next to what the client does.
-use Rattle.std.proofs.Common.{◌≡◌, Bool, true, false, cond, ◌&&◌, List, ◌∷◌, ◌++◌, length, take, refl}
-use Rattle.std.proofs.Common.{sym, ◌∙◌, ap, subst, None}
+use Rattle.std.proofs.Common.{◌≡◌, ℕ, Bool, true, false, cond, ◌&&◌, ◌||◌, not, List, [], ◌∷◌, ◌++◌, length, map, take, refl}
+use Rattle.std.proofs.Common.{sym, ◌∙◌, ap, subst, eq-eqb, Option, Some, None}
 use Rattle.std.proofs.lemmas.Bool.{false≢true}
-use Rattle.std.specs.Prelude.{position, slice_get, slice_set, remove, if◌then◌else◌}
+use Rattle.std.proofs.lemmas.List.{map-append, length-map}
+use Rattle.std.specs.Prelude.{position, slice_get, remove, ◌==◌}
 use Rattle.std.specs.List.{list_any}
 use Rattle.dme_line.specs.Kinds.{kind_of}
 use Rattle.dme_line.specs.declared.tags.Tag.{Tag}
+use Rattle.dme_line.specs.declared.commands.Kind.{Kind}
+use Rattle.dme_line.specs.declared.commands.Kind.TheVariants as kind
 use Rattle.dme_line.specs.declared.commands.Command.{Command}
-use Rattle.dme_line.specs.declared.responses.Mark.{Mark as Marked}
 use Rattle.protocol_model.specs.Replies.{Mark, tag_is}
 use Rattle.protocol_model.specs.Open.{Verdict, Becomes, Breaks, Closes, Counts, Refused, judged, judged_given, judged_done, fits, asks_data}
 use Rattle.protocol_model.specs.declared.held.Datum.{Datum}
-use Rattle.protocol_model.specs.declared.held.Stage.{Stage}
-use Rattle.told_ledger.specs.Effects.{changed, done_by, lost_by, act_of, told_of, changed_by, step_of}
-use Rattle.told_ledger.specs.Judging.{heard_as, stage_behind, step, in_turn, ends}
-use Rattle.told_ledger.specs.Talking.{Talking, waits, turn_of, with_told, heard_in, heard_at, heard_under}
-use Rattle.told_ledger.specs.declared.uses.Asked.{Asked}
-use Rattle.told_ledger.specs.declared.uses.Asked.TheVariants.{Known as Asks}
-use Rattle.told_ledger.specs.declared.uses.Change.TheVariants as change
-use Rattle.told_ledger.specs.declared.uses.Heard.{Heard}
-use Rattle.told_ledger.specs.declared.uses.Heard.TheVariants as heard
-use Rattle.told_ledger.specs.declared.uses.Known.{Known}
-use Rattle.told_ledger.specs.declared.uses.Step.{Step}
-use Rattle.told_ledger.specs.declared.uses.Turn.{Turn}
-use Rattle.told_ledger.specs.declared.uses.Turn.TheVariants.{InTurn, Early, Doubtful}
-use Rattle.told_ledger.specs.declared.uses.Use.{Use}
-use Rattle.told_to_client.proofs.Cuts.{has_tag, found_at, got, removed, set_at, taken}
+use Rattle.protocol_model.specs.declared.held.Stage.{Stage as OpenStage}
+use Rattle.witness.specs.Asking.{Signal}
+use Rattle.witness.specs.Dialogues.{Dialogue, waits, use_renewed, after_mark, answered_known, without_rival, unknowing, use_heard, left_over}
+use Rattle.witness.specs.Dialogues.{is_out_of_turn, hearing, at_use, heard_at, heard_under, server_answered, reported_by, report_of}
+use Rattle.witness.specs.Dialogues.{act_of, unless_crossed, faulting}
+use Rattle.witness.specs.Known.{all_renewed, is_rival}
+use Rattle.witness.specs.Marks.{heard_as, is_end, step, stage_after, is_answer, is_error, has_turn, is_foreign}
+use Rattle.witness.specs.declared.lines.Heard.{Heard}
+use Rattle.witness.specs.declared.lines.Heard.TheVariants as heard
+use Rattle.witness.specs.declared.lines.Known.{Known}
+use Rattle.witness.specs.declared.lines.Progress.{Progress}
+use Rattle.witness.specs.declared.lines.Progress.TheVariants as progress
+use Rattle.witness.specs.declared.lines.Renewal.TheVariants as renewal
+use Rattle.witness.specs.declared.lines.Reported.{Reported}
+use Rattle.witness.specs.declared.lines.Reported.TheVariants as reports
+use Rattle.witness.specs.declared.lines.Rule.TheVariants.{NotInTurn}
+use Rattle.witness.specs.declared.lines.SentCommand.{SentCommand}
+use Rattle.witness.specs.declared.lines.SentCommand.TheVariants.{Known as Sends}
+use Rattle.witness.specs.declared.lines.Stage.{Stage}
+use Rattle.witness.specs.declared.lines.Stage.TheVariants as stage
+use Rattle.witness.specs.declared.lines.Step.{Step}
+use Rattle.witness.specs.declared.lines.Use.{Use}
+use Rattle.told_to_client.proofs.Agreeing.{IsOurs, AreOurs, is_lost}
+use Rattle.told_to_client.proofs.Cuts.{stage_by, has_tag, found_at, got, removed, taken}
+use Rattle.told_to_client.proofs.Holding.{line_is, by_stage, Carries}
+
+-- ---- the uses after a mark
+
+-- what is known of the others, and the use itself
+abbrev pub marked : ℕ → Heard → Known → Known
+marked line h k = all_renewed (renewal.Mark line h) k
+
+abbrev pub others : ℕ → Heard → List Use → List Use
+others line h us = map (use_renewed (marked line h)) us
+
+abbrev pub own : Heard → Use → Use
+own h u = use_renewed (marked u.line h) (after_mark (use_renewed (answered_known h) u) h)
+
+no_rival : (line : ℕ) (h : Heard) (u : Use) → u.rival ≡ None → without_rival line h u ≡ u
+no_rival line h u alone = ap (λ (r : Option ℕ). cond (is_rival line r && is_error h) (unknowing u) u) alone
+
+own_heard : (h : Heard) (u : Use) → u.rival ≡ None → use_heard u.line h u ≡ own h u
+own_heard h u alone =
+    ap (λ (b : Bool). use_renewed (marked u.line h) (cond b (after_mark (use_renewed (answered_known h) (without_rival u.line h u)) h)
+    (without_rival u.line h u))) (eq-eqb u.line u.line refl)
+    ∙ ap (λ (v : Use). use_renewed (marked u.line h) (after_mark (use_renewed (answered_known h) v) h)) (no_rival u.line h u alone)
+
+other_heard : (line : ℕ) (h : Heard) (u : Use) → u.rival ≡ None → (u.line == line) ≡ false
+    → use_heard line h u ≡ use_renewed (marked line h) u
+other_heard line h u alone other =
+    ap (λ (b : Bool). use_renewed (marked line h) (cond b (after_mark (use_renewed (answered_known h) (without_rival line h u)) h)
+    (without_rival line h u))) other
+    ∙ ap (use_renewed (marked line h)) (no_rival line h u alone)
+
+either : (a b : Bool) → (a || b) ≡ false → (a ≡ false) × (b ≡ false)
+either true b e = absurd (false≢true (sym e))
+either false b e = (refl, e)
+
+all_heard : (line : ℕ) (h : Heard) (us : List Use) → AreOurs us → list_any (line_is line) us ≡ false
+    → map (use_heard line h) us ≡ others line h us
+all_heard line h [] ours none = refl
+all_heard line h (u ∷ us) (one, ours) none =
+    let parts = either (u.line == line) (list_any (line_is line) us) none in
+    ap (λ (v : Use). v ∷ map (use_heard line h) us) (other_heard line h u (IsOurs.alone one) parts.0)
+    ∙ ap (λ (vs : List Use). use_renewed (marked line h) u ∷ vs) (all_heard line h us ours parts.1)
+
+-- the uses around one, after a mark of it
+abbrev pub uses_after : List Use → Use → List Use → Heard → Bool → List Use
+uses_after before u after h true = others u.line h before ++ others u.line h after
+uses_after before u after h false = others u.line h before ++ own h u ∷ others u.line h after
+
+left_around : (before : List Use) (u : Use) (after : List Use) (n : ℕ) (ended : Bool) (h : Heard) → n ≡ length (others u.line h before)
+    → left_over (others u.line h before ++ own h u ∷ others u.line h after) n ended ≡ uses_after before u after h ended
+left_around before u after n true h is =
+    ap (remove (others u.line h before ++ own h u ∷ others u.line h after)) is
+    ∙ removed (others u.line h before) (own h u) (others u.line h after)
+left_around before u after n false h is = refl
+
+uses_are : (uses before : List Use) (u : Use) (after : List Use) (h : Heard) (ended : Bool) → uses ≡ before ++ u ∷ after
+    → AreOurs before → AreOurs after → u.rival ≡ None → list_any (line_is u.line) before ≡ false → list_any (line_is u.line) after ≡ false
+    → left_over (map (use_heard u.line h) uses) (length before) ended ≡ uses_after before u after h ended
+uses_are uses before u after h ended parts ours_before ours_after alone none_before none_after =
+    ap (λ (l : List Use). left_over (map (use_heard u.line h) l) (length before) ended) parts
+    ∙ (ap (λ (l : List Use). left_over l (length before) ended) (map-append (use_heard u.line h) before (u ∷ after)
+    ∙ (ap (λ (l : List Use). l ++ map (use_heard u.line h) (u ∷ after)) (all_heard u.line h before ours_before none_before)
+    ∙ (ap (λ (v : Use). others u.line h before ++ v ∷ map (use_heard u.line h) after) (own_heard h u alone)
+    ∙ ap (λ (l : List Use). others u.line h before ++ own h u ∷ l) (all_heard u.line h after ours_after none_after))))
+    ∙ left_around before u after (length before) ended h (sym (length-map before (use_renewed (marked u.line h)))))
+
+-- ---- the mark is in turn
+
+-- where it is an answer to what has not failed, the use waits for none
+abbrev pub IsInTurn : List Use → Use → Heard → Type 0
+IsInTurn before u h = is_answer h ≡ true → u.has_failed ≡ false → (has_turn u.command && list_any waits before) ≡ false
+
+in_turn : (turn wait answer failed error : Bool) → (answer ≡ true → failed ≡ false → (turn && wait) ≡ false)
+    → (turn && (wait && ((answer && not failed) || (error && false)))) ≡ false
+in_turn false wait answer failed error h = refl
+in_turn true false answer failed error h = refl
+in_turn true true true false error h = absurd (false≢true (sym (h refl refl)))
+in_turn true true true true true h = refl
+in_turn true true true true false h = refl
+in_turn true true false failed true h = refl
+in_turn true true false failed false h = refl
+
+turn_kept : (uses before : List Use) (u : Use) (after : List Use) (c : Command) (h : Heard) → uses ≡ before ++ u ∷ after
+    → u.command ≡ Sends c → IsInTurn before u h → is_out_of_turn uses (length before) u h ≡ false
+turn_kept uses before u after c h parts sends turn =
+    ap (λ (l : List Use). has_turn u.command && (list_any waits (take (length before) l)
+    && ((is_answer h && not u.has_failed) || (is_error h && is_foreign u.command)))) parts
+    ∙ (ap (λ (l : List Use). has_turn u.command && (list_any waits l
+    && ((is_answer h && not u.has_failed) || (is_error h && is_foreign u.command)))) (taken before u after)
+    ∙ (ap (λ (a : SentCommand). has_turn u.command && (list_any waits before
+    && ((is_answer h && not u.has_failed) || (is_error h && is_foreign a)))) sends
+    ∙ in_turn (has_turn u.command) (list_any waits before) (is_answer h) u.has_failed (is_error h) turn))
 
 -- ---- a mark for the first use of its tag
 
--- whether it is the turn of a use with these before it
-abbrev pub turn_behind : List Use → Turn
-turn_behind before = cond (list_any waits before) Early InTurn
-
--- the uses after a mark for one of them
-abbrev pub uses_around : List Use → Use → List Use → Stage → Heard → List Use
-uses_around before u after s h = cond (ends h) (before ++ after) (before ++ (record u { stage = s }) ∷ after)
-
--- what a witness becomes if a mark does this to a command of this profile
-abbrev pub after_step : Talking → List Use → Use → List Use → Command → Step → Heard → Talking
-after_step t before u after c s h = record {
-  uses = uses_around before u after (stage_behind u.stage s) h;
-  refused = t.refused;
-  known = changed t.known (changed_by t.known c s);
-  told = with_told t.told (told_of t.known u.tag c s);
+-- what a witness becomes, if the mark reports this
+abbrev pub marked_as : Dialogue → List Use → Use → List Use → Heard → Bool → List Reported → Dialogue
+marked_as d before u after h ended reports = record {
+  ordered = d.ordered;
+  lines = d.lines;
+  uses = uses_after before u after h ended;
+  events = d.events;
+  crossed = d.crossed;
+  known = marked u.line h d.known;
+  reported = d.reported ++ reports;
 }
 
-turn_is : (t : Talking) (before : List Use) (u : Use) (after : List Use) → t.uses ≡ before ++ u ∷ after → u.doubtful ≡ false
-    → turn_of t (length before) u ≡ turn_behind before
-turn_is t before u after parts calm =
-    ap (λ (b : Bool). if b && t.refused then Doubtful else (if list_any waits (take (length before) t.uses) then Early else InTurn)) calm
-    ∙ (ap (λ (l : List Use). if list_any waits (take (length before) l) then Early else InTurn) parts
-    ∙ ap (λ (l : List Use). if list_any waits l then Early else InTurn) (taken before u after))
+-- what is reported of it
+abbrev pub reports_of : Use → Heard → Command → List Reported
+reports_of u h c = report_of (own h u).known u.tag c (step (asks_data (kind_of c)) u.stage h)
 
-around_is : (uses before : List Use) (u : Use) (after : List Use) (s : Stage) (h : Heard) → uses ≡ before ++ u ∷ after
-    → (if ends h then remove uses (length before) else slice_set uses (length before) (record u { stage = s }))
-    ≡ uses_around before u after s h
-around_is uses before u after s h parts =
-    ap (λ (l : List Use). if ends h then remove l (length before) else slice_set l (length before) (record u { stage = s })) parts
-    ∙ (ap (λ (l : List Use). if ends h then l else slice_set (before ++ u ∷ after) (length before) (record u { stage = s }))
-    (removed before u after)
-    ∙ ap (λ (l : List Use). if ends h then before ++ after else l) (set_at before u (record u { stage = s }) after))
+hearing_is : (d : Dialogue) (before : List Use) (u : Use) (after : List Use) (h : Heard) (ended : Bool) (c : Command)
+    → d.uses ≡ before ++ u ∷ after → AreOurs before → AreOurs after → u.rival ≡ None → u.command ≡ Sends c
+    → list_any (line_is u.line) before ≡ false → list_any (line_is u.line) after ≡ false → d.crossed ≡ false
+    → hearing d (length before) u h ended ≡ marked_as d before u after h ended (reports_of u h c)
+hearing_is d before u after h ended c parts ours_before ours_after alone sends none_before none_after straight =
+    ap (λ (l : List Use). record {
+      ordered = d.ordered;
+      lines = d.lines;
+      uses = l;
+      events = d.events;
+      crossed = d.crossed;
+      known = marked u.line h d.known;
+      reported = d.reported ++ reported_by (unless_crossed d.crossed (use_heard u.line h u).known) u.tag u.command u.stage h;
+    }) (uses_are d.uses before u after h ended parts ours_before ours_after alone none_before none_after)
+    ∙ (ap (λ (b : Bool). marked_as d before u after h ended
+    (reported_by (unless_crossed b (use_heard u.line h u).known) u.tag u.command u.stage h)) straight
+    ∙ (ap (λ (v : Use). marked_as d before u after h ended (reported_by v.known u.tag u.command u.stage h)) (own_heard h u alone)
+    ∙ ap (λ (a : SentCommand). marked_as d before u after h ended (reported_by (own h u).known u.tag a u.stage h)) sends))
 
--- a step that is not in doubt is that of the command
-known_step : (turn : Turn) (t : Talking) (before : List Use) (u : Use) (after : List Use) (c : Command) (h : Heard) (early : Bool)
-    → turn ≡ cond early Early InTurn → u.asked ≡ Asks c → t.uses ≡ before ++ u ∷ after
-    → heard_in turn t (length before) u h ≡ after_step t before u after c (step_of turn c u.stage h) h
-known_step turn t before u after c h early is asks parts = go early is
-  where
-    shape : (a : Asked) → a ≡ Asks c → (e : Bool) →
-        heard_in (cond e Early InTurn) t (length before) (record u { asked = a }) h
-        ≡ record {
-          uses = (if ends h then remove t.uses (length before)
-              else slice_set t.uses (length before) (record u { asked = a; stage = stage_behind u.stage (step_of (cond e Early InTurn) c u.stage h) }));
-          refused = t.refused;
-          known = changed t.known (changed_by t.known c (step_of (cond e Early InTurn) c u.stage h));
-          told = with_told t.told (told_of t.known u.tag c (step_of (cond e Early InTurn) c u.stage h));
-        }
-    shape a same true = rw same refl
-    shape a same false = rw same refl
-
-    go : (e : Bool) → turn ≡ cond e Early InTurn → heard_in turn t (length before) u h
-        ≡ after_step t before u after c (step_of turn c u.stage h) h
-    go e now = rw now (shape u.asked asks e
-        ∙ ap (λ (l : List Use). record {
-          uses = l;
-          refused = t.refused;
-          known = changed t.known (changed_by t.known c (step_of (cond e Early InTurn) c u.stage h));
-          told = with_told t.told (told_of t.known u.tag c (step_of (cond e Early InTurn) c u.stage h));
-        }) (around_is t.uses before u after (stage_behind u.stage (step_of (cond e Early InTurn) c u.stage h)) h parts))
-
--- the mark that a witness hears is for the first use of its tag
-pub heard_first : (t : Talking) (tag : Tag) (m : Marked) (before : List Use) (u : Use) (after : List Use) (c : Command)
-    → t.uses ≡ before ++ u ∷ after → list_any (has_tag tag) before ≡ false → tag_is u.tag tag ≡ true → u.doubtful ≡ false
-    → u.asked ≡ Asks c
-    → heard_under t tag m (position (has_tag tag) t.uses)
-    ≡ after_step t before u after c (step_of (turn_behind before) c u.stage (heard_as u.asked m)) (heard_as u.asked m)
-heard_first t tag m before u after c parts none here calm asks =
-    ap (heard_under t tag m) (ap (position (has_tag tag)) parts ∙ found_at tag before u after none here)
-    ∙ (ap (heard_at t (length before) m) (ap (λ (l : List Use). slice_get l (length before)) parts ∙ got before u after)
-    ∙ (ap (λ (turn : Turn). heard_in turn t (length before) u (heard_as u.asked m)) (turn_is t before u after parts calm)
-    ∙ known_step (turn_behind before) t before u after c (heard_as u.asked m) (list_any waits before) refl asks parts))
+pub heard_first : (d : Dialogue) (line : List ℕ) (tag : Tag) (signal : Signal) (h : Heard) (before : List Use) (u : Use) (after : List Use)
+    (c : Command) → d.uses ≡ before ++ u ∷ after → list_any (has_tag tag) before ≡ false → tag_is u.tag tag ≡ true
+    → AreOurs before → AreOurs after → u.rival ≡ None → u.command ≡ Sends c
+    → list_any (line_is u.line) before ≡ false → list_any (line_is u.line) after ≡ false → d.crossed ≡ false
+    → heard_as u.command signal ≡ h → IsInTurn before u h
+    → server_answered d line (Some (tag, signal)) ≡ marked_as d before u after h (is_end signal) (reports_of u h c)
+heard_first d line tag signal h before u after c parts none here ours_before ours_after alone sends none_before none_after straight is turn =
+    ap (heard_under d line tag signal) (ap (position (has_tag tag)) parts ∙ found_at tag before u after none here)
+    ∙ (ap (at_use d (length before) signal) (ap (λ (l : List Use). slice_get l (length before)) parts ∙ got before u after)
+    ∙ (ap (λ (x : Heard). heard_at d (length before) u x (is_end signal)) is
+    ∙ (ap (λ (b : Bool). cond b (hearing (faulting d (reports.Broken NotInTurn u.tag)) (length before) (use_renewed (all_renewed renewal.Fault) u) h (is_end signal))
+    (hearing d (length before) u h (is_end signal))) (turn_kept d.uses before u after c h parts sends turn)
+    ∙ hearing_is d before u after h (is_end signal) c parts ours_before ours_after alone sends none_before none_after straight)))
 
 -- ---- the two tables of marks
 
@@ -111,70 +189,144 @@ heard_of (Mark.Given d) = heard.Given d
 heard_of Mark.Done = heard.Complete
 heard_of Mark.Error = heard.Failed
 
+-- whether it ends a command
+abbrev pub ends : Mark → Bool
+ends Mark.Ack = false
+ends (Mark.Given d) = false
+ends Mark.Done = true
+ends Mark.Error = false
+
+-- what a mark makes of a change
+abbrev pub Carried : Bool → Stage → Heard → Stage → Type 0
+Carried asks s h later = (waits : Bool) → Carries (cond (waits && not asks) (by_stage s) None) h (cond (waits && not asks) (by_stage later) None)
+
+abbrev pub CarriedOut : Bool → Stage → Heard → Type 0
+CarriedOut asks s h = (waits : Bool) → Carries (cond (waits && not asks) (by_stage s) None) h (Some progress.Done)
+
+-- the stage is as the client's, and failed if an error came
+abbrev pub IsStaged : Stage → Mark → Step → OpenStage → Type 0
+IsStaged s m st next =
+    (stage_by (stage_after s st) ≡ next) × ((is_lost s || is_error (heard_of m)) ≡ is_lost (stage_after s st))
+
+-- nothing is reported
+abbrev pub IsQuiet : Command → Step → Type 0
+IsQuiet c st = (k : Known) (tag : Tag) → report_of k tag c st ≡ []
+
 -- what a witness does where a client does this: the same to the stage; it reports only what the client counts
 abbrev pub Follows : Command → Stage → Mark → Step → Verdict → Type 0
 Follows c s m st (Becomes next) =
-    (ends (heard_of m) ≡ false) × (stage_behind s st ≡ next)
-    × ((known : Known) (tag : Tag) → (told_of known tag c st ≡ None) × (changed_by known c st ≡ change.Keeps))
-Follows c s m st Breaks =
-    (ends (heard_of m) ≡ false) × (stage_behind s st ≡ Stage.Failed)
-    × ((known : Known) (tag : Tag) → (told_of known tag c st ≡ None) × (changed_by known c st ≡ lost_by c))
-Follows c s m st Closes =
-    (ends (heard_of m) ≡ true) × ((known : Known) (tag : Tag) → (told_of known tag c st ≡ None) × (changed_by known c st ≡ change.Keeps))
+    (ends m ≡ false) × IsStaged s m st next × IsQuiet c st × Carried (asks_data (kind_of c)) s (heard_of m) (stage_after s st)
+Follows c s m st Breaks = (ends m ≡ false) × IsStaged s m st OpenStage.Failed × IsQuiet c st
+Follows c s m st Closes = (ends m ≡ true) × IsQuiet c st × CarriedOut (asks_data (kind_of c)) s (heard_of m)
 Follows c s m st (Counts given) =
-    (ends (heard_of m) ≡ true)
-    × ((known : Known) (tag : Tag) → (told_of known tag c st ≡ act_of known c given) × (changed_by known c st ≡ done_by known c))
+    (ends m ≡ true) × ((k : Known) (tag : Tag) → report_of k tag c st ≡ act_of k c given) × CarriedOut (asks_data (kind_of c)) s (heard_of m)
 Follows c s m st (Refused cause) = Unit {0}
 
-given_follows : (b asks front : Bool) (c : Command) (s : Stage) (d : Datum) → (b ≡ true → front ≡ true)
-    → Follows c s (Mark.Given d) (in_turn front (step asks s (heard.Given d))) (judged_given b s d)
-given_follows false asks front c s d may = tt
-given_follows true asks front c Stage.Sent d may = tt
-given_follows true asks front c Stage.Received d may =
-    subst (λ (f : Bool). Follows c Stage.Received (Mark.Given d) (in_turn f (step asks Stage.Received (heard.Given d))) (Becomes (Stage.Given d)))
-    (sym (may refl)) (refl, refl, λ known tag. (refl, refl))
-given_follows true asks front c (Stage.Given e) d may = tt
-given_follows true asks front c Stage.Failed d may = tt
+nothing_carried : (b : Bool) (h : Heard) (later : Option Progress) → Carries (cond b None None) h later
+nothing_carried true h later s p is = absurd (cc)
+nothing_carried false h later s p is = absurd (cc)
 
-first_holds : (a b : Bool) → (a && b) ≡ true → a ≡ true
-first_holds true b e = refl
+not_asked : (b : Bool) → (b && not true) ≡ false
+not_asked true = refl
+not_asked false = refl
+
+asked_carried : (asks b : Bool) (s later : Stage) (h : Heard) → asks ≡ true
+    → Carries (cond (b && not asks) (by_stage s) None) h (cond (b && not asks) (by_stage later) None)
+asked_carried asks b s later h is =
+    subst (λ (x : Bool). Carries (cond (b && not x) (by_stage s) None) h (cond (b && not x) (by_stage later) None)) (sym is)
+    (subst (λ (x : Bool). Carries (cond x (by_stage s) None) h (cond x (by_stage later) None)) (sym (not_asked b))
+    (nothing_carried false h None))
+
+sent_carried : (b : Bool) → Carries (cond b (Some progress.Sent) None) heard.Received (cond b (Some progress.Begun) None)
+sent_carried true s p is =
+    let same : p ≡ progress.Sent = cc in
+    rw same (record { progress = progress.Begun; is = refl; reached = refl })
+sent_carried false s p is = absurd (cc)
+
+begun_out : (b : Bool) → Carries (cond b (Some progress.Begun) None) heard.Complete (Some progress.Done)
+begun_out true s p is =
+    let same : p ≡ progress.Begun = cc in
+    rw same (record { progress = progress.Done; is = refl; reached = refl })
+begun_out false s p is = absurd (cc)
+
+fits_asks : (k : Kind) (d : Datum) → fits k d ≡ true → asks_data k ≡ true
+fits_asks kind.PtMeas d e = refl
+fits_asks kind.IsHomed d e = refl
+fits_asks kind.StartSession d e = absurd (false≢true e)
+fits_asks kind.EndSession d e = absurd (false≢true e)
+fits_asks kind.ClearAllErrors d e = absurd (false≢true e)
+fits_asks kind.Home d e = absurd (false≢true e)
+fits_asks kind.OnPtMeasReport d e = absurd (false≢true e)
+fits_asks kind.GoTo d e = absurd (false≢true e)
+fits_asks kind.ChangeTool d e = absurd (false≢true e)
+fits_asks kind.SetCsyTransformation d e = absurd (false≢true e)
+fits_asks kind.SetCoordSystem d e = absurd (false≢true e)
+fits_asks kind.AbortE d e = absurd (false≢true e)
+
+first_holds : (a b : Bool) → (a && b) ≡ true → (a ≡ true) × (b ≡ true)
+first_holds true b e = (refl, e)
 first_holds false b e = absurd (false≢true e)
 
--- the table: where the client is at the front, a witness lets data and ends come
-pub follows : (front may : Bool) (c : Command) (s : Stage) (m : Mark) → (front ≡ true → may ≡ true)
-    → Follows c s m (in_turn may (step (asks_data (kind_of c)) s (heard_of m))) (judged front (kind_of c) s m)
-follows front may c s (Mark.Given d) lets =
-    given_follows (front && fits (kind_of c) d) (asks_data (kind_of c)) may c s d
-    (λ e. lets (first_holds front (fits (kind_of c) d) e))
-follows front true c Stage.Sent Mark.Ack lets = (refl, refl, λ known tag. (refl, refl))
-follows front false c Stage.Sent Mark.Ack lets = (refl, refl, λ known tag. (refl, refl))
-follows front may c Stage.Received Mark.Ack lets = tt
-follows front may c (Stage.Given e) Mark.Ack lets = tt
-follows front may c Stage.Failed Mark.Ack lets = tt
-follows front true c Stage.Sent Mark.Error lets = (refl, refl, λ known tag. (refl, refl))
-follows front false c Stage.Sent Mark.Error lets = (refl, refl, λ known tag. (refl, refl))
-follows front true c Stage.Received Mark.Error lets = (refl, refl, λ known tag. (refl, refl))
-follows front false c Stage.Received Mark.Error lets = (refl, refl, λ known tag. (refl, refl))
-follows front true c (Stage.Given e) Mark.Error lets = (refl, refl, λ known tag. (refl, refl))
-follows front false c (Stage.Given e) Mark.Error lets = (refl, refl, λ known tag. (refl, refl))
-follows front true c Stage.Failed Mark.Error lets = (refl, refl, λ known tag. (refl, refl))
-follows front false c Stage.Failed Mark.Error lets = (refl, refl, λ known tag. (refl, refl))
-follows true false c s Mark.Done lets = absurd (false≢true (lets refl))
-follows true true c s Mark.Done lets = go (asks_data (kind_of c)) s
+given_follows : (b asks : Bool) (c : Command) (s : Stage) (d : Datum) → asks_data (kind_of c) ≡ asks → (b ≡ true → asks ≡ true)
+    → Follows c s (Mark.Given d) (step asks s (heard.Given d)) (judged_given b (stage_by s) d)
+given_follows false asks c s d same lets = tt
+given_follows true asks c stage.Sent d same lets = tt
+given_follows true asks c stage.Received d same lets = (
+  refl,
+  (refl, refl),
+  (λ k tag. refl),
+  λ b. asked_carried (asks_data (kind_of c)) b stage.Received (stage.Given d) (heard.Given d) (same ∙ lets refl),
+)
+given_follows true asks c (stage.Given e) d same lets = tt
+given_follows true asks c stage.Lost d same lets = tt
+
+-- the table
+pub follows : (front : Bool) (c : Command) (s : Stage) (m : Mark)
+    → Follows c s m (step (asks_data (kind_of c)) s (heard_of m)) (judged front (kind_of c) (stage_by s) m)
+follows front c s (Mark.Given d) = given_follows (front && fits (kind_of c) d) (asks_data (kind_of c)) c s d refl
+    (λ e. fits_asks (kind_of c) d (first_holds front (fits (kind_of c) d) e).1)
+follows front c stage.Sent Mark.Ack = (refl, (refl, refl), (λ k tag. refl), λ b. sent_carried (b && not (asks_data (kind_of c))))
+follows front c stage.Received Mark.Ack = tt
+follows front c (stage.Given e) Mark.Ack = tt
+follows front c stage.Lost Mark.Ack = tt
+follows front c stage.Sent Mark.Error = (refl, (refl, refl), λ k tag. refl)
+follows front c stage.Received Mark.Error = (refl, (refl, refl), λ k tag. refl)
+follows front c (stage.Given e) Mark.Error = (refl, (refl, refl), λ k tag. refl)
+follows front c stage.Lost Mark.Error =
+    (refl, (refl, refl), (λ k tag. refl), λ b. nothing_carried (b && not (asks_data (kind_of c))) heard.Failed _)
+follows front c s Mark.Done = go front (asks_data (kind_of c)) s refl
   where
-    go : (asks : Bool) (s : Stage) → Follows c s Mark.Done (in_turn true (step asks s heard.Complete)) (judged_done true asks s)
-    go asks Stage.Failed = (refl, λ known tag. (refl, refl))
-    go true Stage.Sent = tt
-    go false Stage.Sent = tt
-    go true Stage.Received = tt
-    go false Stage.Received = (refl, λ known tag. (refl, refl))
-    go true (Stage.Given e) = (refl, λ known tag. (refl, refl))
-    go false (Stage.Given e) = (refl, λ known tag. (refl, refl))
-follows false may c s Mark.Done lets = go may (asks_data (kind_of c)) s
-  where
-    go : (f asks : Bool) (s : Stage) → Follows c s Mark.Done (in_turn f (step asks s heard.Complete)) (judged_done false asks s)
-    go true asks Stage.Failed = (refl, λ known tag. (refl, refl))
-    go false asks Stage.Failed = (refl, λ known tag. (refl, refl))
-    go f asks Stage.Sent = tt
-    go f asks Stage.Received = tt
-    go f asks (Stage.Given e) = tt
+    go : (f asks : Bool) (s : Stage) → asks_data (kind_of c) ≡ asks
+        → Follows c s Mark.Done (step asks s heard.Complete) (judged_done f asks (stage_by s))
+    go f asks stage.Lost same =
+        (refl, (λ k tag. refl), λ b. nothing_carried (b && not (asks_data (kind_of c))) heard.Complete (Some progress.Done))
+    go true true stage.Sent same = tt
+    go true false stage.Sent same = tt
+    go true true stage.Received same = tt
+    go true false stage.Received same = (refl, (λ k tag. refl), λ b. begun_out (b && not (asks_data (kind_of c))))
+    go true true (stage.Given e) same =
+        (refl, (λ k tag. refl), λ b. nothing_carried (b && not (asks_data (kind_of c))) heard.Complete (Some progress.Done))
+    go true false (stage.Given e) same =
+        (refl, (λ k tag. refl), λ b. nothing_carried (b && not (asks_data (kind_of c))) heard.Complete (Some progress.Done))
+    go false asks stage.Sent same = tt
+    go false asks stage.Received same = tt
+    go false asks (stage.Given e) same = tt
+
+-- an answer to what has not failed is expected at the front only
+abbrev pub IsTaken : Verdict → Type 0
+IsTaken (Becomes next) = Unit {0}
+IsTaken Breaks = Unit {0}
+IsTaken Closes = Unit {0}
+IsTaken (Counts given) = Unit {0}
+IsTaken (Refused cause) = ⊥
+
+pub needs_front : (front : Bool) (k : Kind) (s : Stage) (m : Mark) → is_answer (heard_of m) ≡ true → is_lost s ≡ false
+    → IsTaken (judged front k (stage_by s) m) → front ≡ true
+needs_front true k s m answer calm taken = refl
+needs_front false k s Mark.Ack answer calm taken = absurd (false≢true answer)
+needs_front false k s Mark.Error answer calm taken = absurd (false≢true answer)
+needs_front false k s (Mark.Given d) answer calm taken = absurd (taken)
+needs_front false k stage.Sent Mark.Done answer calm taken = absurd (taken)
+needs_front false k stage.Received Mark.Done answer calm taken = absurd (taken)
+needs_front false k (stage.Given e) Mark.Done answer calm taken = absurd (taken)
+needs_front false k stage.Lost Mark.Done answer calm taken = absurd (false≢true (sym calm))

@@ -1,9 +1,8 @@
 -- What each expected mark does, next to what a witness does at it.
-use Rattle.std.proofs.Common.{◌≡◌, ℕ, Bool, true, false, cond, ◌&&◌, ◌||◌, not, List, [], ◌∷◌, ◌++◌, refl, sym, ◌∙◌, ap, subst, suc}
+use Rattle.std.proofs.Common.{◌≡◌, ℕ, Bool, true, false, cond, ◌&&◌, ◌||◌, not, List, [], ◌∷◌, ◌++◌, map, refl, sym, ◌∙◌, ap, subst, suc}
 use Rattle.std.proofs.Common.{Option, Some, None, Err}
 use Rattle.std.proofs.lemmas.Bool.{false≢true}
 use Rattle.std.proofs.lemmas.List.{map-append}
-use Rattle.std.specs.Prelude.{position}
 use Rattle.std.specs.List.{list_any}
 use Rattle.dme_line.specs.Kinds.{kind_of, is_event_kind}
 use Rattle.dme_line.specs.declared.tags.Tag.{Tag}
@@ -11,17 +10,19 @@ use Rattle.dme_line.specs.declared.tags.Tag.TheVariants as tag
 use Rattle.dme_line.specs.declared.commands.Kind.{Kind}
 use Rattle.dme_line.specs.declared.commands.Command.{Command}
 use Rattle.dme_line.specs.declared.commands.Command.TheVariants as command
-use Rattle.dme_line.specs.declared.responses.Mark.{Mark as Marked}
 use Rattle.dmis_program.specs.declared.features.Wanted.{Wanted}
 use Rattle.protocol_model.specs.Replies.{Mark}
-use Rattle.protocol_model.specs.Open.{Verdict, Effect, Heard as Heardings, Becomes, Breaks, Closes, Counts, Refused, judged, settled, put_before, heard_in}
+use Rattle.protocol_model.specs.Open.{Verdict, Effect, Heard as Heardings, Becomes, Breaks, Closes, Counts, Refused, judged, judged_given, settled, put_before, heard_in}
+use Rattle.protocol_model.specs.Open.{asks_data, fits}
 use Rattle.protocol_model.specs.Client.{Tally, Table, act_of as act_for, counted_next, tallied, begins_session, tells_homed, passed_over, measured}
 use Rattle.protocol_model.specs.Ends.{held_kind}
 use Rattle.protocol_model.specs.declared.held.Datum.{Datum}
-use Rattle.protocol_model.specs.declared.held.Stage.{Stage}
+use Rattle.protocol_model.specs.declared.held.Stage.{Stage as OpenStage}
 use Rattle.protocol_model.specs.declared.held.OpenCommand.{OpenCommand}
 use Rattle.protocol_model.specs.declared.plans.Planned.{Planned}
 use Rattle.protocol_model.specs.declared.states.Cause.{Cause}
+use Rattle.contact_ledger.specs.declared.acts.Act.{Act}
+use Rattle.protocol_model.proofs.table.Basics.{and_false}
 use Rattle.protocol_model.proofs.invariant.Touching.{Keeps, measured_keeps}
 use Rattle.protocol_model.proofs.plan.Marks.{HasNoAbort}
 use Rattle.protocol_model.proofs.plan.PassedOver.{passes, passed_no_abort}
@@ -31,79 +32,80 @@ use Rattle.protocol_model.proofs.undisturbed_run.Following.{IsGiven, AreFilled}
 use Rattle.protocol_model.proofs.written_lines.PlainClient.{HaveArguments}
 use Rattle.client_core.proofs.Fronts.{live_kinds, Fronted, fronted, IsAskedLast}
 use Rattle.client_core.proofs.Homing.{told_asks}
-use Rattle.told_ledger.specs.Effects.{changed, done_by, lost_by, act_of, may_come, step_of}
-use Rattle.told_ledger.specs.Judging.{heard_as}
-use Rattle.told_ledger.specs.Talking.{Talking, waits, with_told, heard_under}
-use Rattle.told_ledger.specs.declared.uses.Asked.{Asked}
-use Rattle.told_ledger.specs.declared.uses.Asked.TheVariants.{Known as Asks}
-use Rattle.told_ledger.specs.declared.uses.Change.TheVariants as change
-use Rattle.told_ledger.specs.declared.uses.Heard.{Heard}
-use Rattle.told_ledger.specs.declared.uses.Known.{Known}
-use Rattle.told_ledger.specs.declared.uses.Step.{Step}
-use Rattle.told_ledger.specs.declared.uses.Told.{Told}
-use Rattle.told_ledger.specs.declared.uses.Turn.TheVariants.{InTurn, Early}
-use Rattle.told_ledger.specs.declared.uses.Use.{Use}
-use Rattle.told_to_client.specs.Acts.{all_done}
-use Rattle.told_to_client.proofs.Cuts.{kind_by, entry, picks, picks_more, all_failed, put_all, put_fine, has_tag, IsCut, cut}
-use Rattle.told_to_client.proofs.Knowing.{listed, TellsAs, known_after, Agrees, passed_agrees}
-use Rattle.told_to_client.proofs.Marks.{turn_behind, after_step, heard_first, heard_of, Follows, follows}
-use Rattle.told_to_client.proofs.Agreeing.{is_standard, is_event, IsOurs, AreOurs, ours_front, command_in, live}
-use Rattle.told_to_client.proofs.Agreeing.{live_in, live_more, none_live, event_rests, standard_waits, sorts, failed_wait, live_are}
-use Rattle.told_to_client.proofs.Agreeing.{no_kinds, commands_of, passed_commands, IsNext, AgreesOn, staged_ours}
-use Rattle.told_to_client.proofs.Replying.{picks_staged, picks_other, picks_without, live_same, live_without, with_uses, stays_is, goes_is}
-use Rattle.told_to_client.proofs.Replying.{told_more, Around, around, still_ours, others_ours, calm_with, same_waits, becomes_alike}
-use Rattle.told_to_client.proofs.Replying.{closed_failed, counted_calm, counted_front, failed_waits}
+use Rattle.witness.specs.Asking.{Signal}
+use Rattle.witness.specs.Dialogues.{Dialogue, waits, server_answered, act_of, report_of}
+use Rattle.witness.specs.Known.{all_renewed}
+use Rattle.witness.specs.Marks.{heard_as, is_end, step, stage_after, has_turn}
+use Rattle.witness.specs.declared.lines.Heard.{Heard}
+use Rattle.witness.specs.declared.lines.Heard.TheVariants as heard
+use Rattle.witness.specs.declared.lines.Known.{Known}
+use Rattle.witness.specs.declared.lines.Progress.{Progress}
+use Rattle.witness.specs.declared.lines.Progress.TheVariants as progress
+use Rattle.witness.specs.declared.lines.Renewal.TheVariants as renewal
+use Rattle.witness.specs.declared.lines.Reported.{Reported}
+use Rattle.witness.specs.declared.lines.SentCommand.{SentCommand}
+use Rattle.witness.specs.declared.lines.SentCommand.TheVariants.{Known as Sends}
+use Rattle.witness.specs.declared.lines.Stage.{Stage}
+use Rattle.witness.specs.declared.lines.Step.{Step}
+use Rattle.witness.specs.declared.lines.Use.{Use}
+use Rattle.told_orders.specs.Orders.{AreCounted}
+use Rattle.told_to_client.specs.Acts.{all_done, Claims}
+use Rattle.told_to_client.proofs.Agreeing.{is_standard, is_event, is_lost, IsOurs, AreOurs, ours_join, ours_front, command_in, live}
+use Rattle.told_to_client.proofs.Agreeing.{live_in, live_more, none_live, event_rests, standard_waits, sorts, failed_rests, failed_wait, live_are}
+use Rattle.told_to_client.proofs.Agreeing.{same_failed, no_kinds, commands_of, passed_commands, IsNext, AgreesOn}
+use Rattle.told_to_client.proofs.Claiming.{claims_more, claims_same}
+use Rattle.told_to_client.proofs.Cuts.{kind_by, stage_by, entry, picks, picks_more, all_failed, put_all, put_fine, IsCut, cut}
+use Rattle.told_to_client.proofs.Holding.{none_before, none_after, so_far, by_stage, Holds, front_done, holds_moved, holds_fits, answer_moves, aside_moves}
+use Rattle.told_to_client.proofs.Holding.{Carries}
+use Rattle.told_to_client.proofs.Knowing.{Selected, selected_after, Fits, Tells, TellsAs, Agrees, passed_agrees}
+use Rattle.told_to_client.proofs.Marks.{own, uses_after, marked_as, reports_of, heard_first, heard_of, ends, Follows, follows}
+use Rattle.told_to_client.proofs.Marks.{IsInTurn, IsQuiet, Carried, CarriedOut, IsTaken, needs_front}
+use Rattle.told_to_client.proofs.Replying.{picks_kept, picks_gone, picks_other, live_gone, Around, around, own_stage, own_ours, marked_agrees}
+use Rattle.told_to_client.proofs.Replying.{quiet_exact, rest_carries, next_kept, next_closed, IsCounted, next_counted, becomes_alike, same_waits}
+use Rattle.told_to_client.proofs.Replying.{closed_failed, counted_calm, counted_front}
 
 not_event : (u : Use) → is_standard u.tag ≡ true → is_event u.tag ≡ false
 not_event u is = sorts u.tag ∙ ap not is
 
--- ---- a standard command is at another stage, or is gone uncounted
+not_standard : (u : Use) → is_event u.tag ≡ true → is_standard u.tag ≡ false
+not_standard u is = go u.tag is
+  where
+    go : (t : Tag) → is_event t ≡ true → is_standard t ≡ false
+    go (tag.Std n) e = absurd (false≢true e)
+    go (tag.Event n) e = refl
 
-stays_agrees : (b : Table) (t : Talking) (before : List Use) (u : Use) (after : List Use) (hs : List OpenCommand) (s : Stage)
-    → Around b t before u after → is_standard u.tag ≡ true
-    → picks is_standard before ++ staged (entry u) s ∷ picks is_standard after ≡ hs
-    → waits (record u { stage = s }) ≡ waits u
-    → AgreesOn (tabled hs b.event b.tally) (with_uses t (before ++ (record u { stage = s }) ∷ after) t.known t.told)
-stays_agrees b t before u after hs s a is same alike = let g = a.agrees in record {
-  ours = still_ours b t before u after s a;
-  standard = picks_staged is_standard before u after s is ∙ same;
-  event = picks_other is_event before u after s (not_event u is) ∙ (ap (picks is_event) (sym a.parts) ∙ g.event);
-  told = g.told;
-  arguments = g.arguments;
-  no_abort = g.no_abort;
-  calm = λ calm. calm_with b t (before ++ (record u { stage = s }) ∷ after) g
-      (live_same before u (record u { stage = s }) after refl alike ∙ ap live (sym a.parts)) calm;
-}
+-- ---- a use is at another stage, or is gone uncounted
 
-fails_agrees : (b : Table) (t : Talking) (before : List Use) (u : Use) (after : List Use) (hs : List OpenCommand) (known : Known)
-    → Around b t before u after → is_standard u.tag ≡ true
-    → picks is_standard before ++ staged (entry u) Stage.Failed ∷ picks is_standard after ≡ hs
-    → AgreesOn (tabled hs b.event (record (b.tally) { failed = true }))
-    (with_uses t (before ++ (record u { stage = Stage.Failed }) ∷ after) known t.told)
-fails_agrees b t before u after hs known a is same = let g = a.agrees in record {
-  ours = still_ours b t before u after Stage.Failed a;
-  standard = picks_staged is_standard before u after Stage.Failed is ∙ same;
-  event = picks_other is_event before u after Stage.Failed (not_event u is) ∙ (ap (picks is_event) (sym a.parts) ∙ g.event);
-  told = g.told;
-  arguments = g.arguments;
-  no_abort = g.no_abort;
-  calm = λ calm. absurd (false≢true (sym calm));
-}
+-- the entry of a use after its mark
+own_entry : (u : Use) (h : Heard) (s : OpenStage) → stage_by (own h u).stage ≡ s → entry (own h u) ≡ staged (entry u) s
+own_entry u h s is = ap (λ (x : OpenStage). staged (entry u) x) is
 
-closes_agrees : (b : Table) (t : Talking) (before : List Use) (u : Use) (after : List Use) (hs : List OpenCommand)
-    → Around b t before u after → is_standard u.tag ≡ true → picks is_standard before ++ picks is_standard after ≡ hs → waits u ≡ false
-    → AgreesOn (tabled hs b.event b.tally) (with_uses t (before ++ after) t.known t.told)
-closes_agrees b t before u after hs a is same rests = let g = a.agrees in record {
-  ours = others_ours b t before u after a;
-  standard = picks_more is_standard before after ∙ same;
-  event = picks_without is_event before u after (not_event u is) ∙ (ap (picks is_event) (sym a.parts) ∙ g.event);
-  told = g.told;
-  arguments = g.arguments;
-  no_abort = g.no_abort;
-  calm = λ calm. calm_with b t (before ++ after) g (live_without before u after rests ∙ ap live (sym a.parts)) calm;
-}
+kept_in : (test : Tag → Bool) (before : List Use) (u : Use) (after : List Use) (h : Heard) (s : OpenStage) (hs : List OpenCommand)
+    → test u.tag ≡ true → stage_by (own h u).stage ≡ s → picks test before ++ staged (entry u) s ∷ picks test after ≡ hs
+    → picks test (uses_after before u after h false) ≡ hs
+kept_in test before u after h s hs is stage_is same = picks_kept test before u after h is
+    ∙ (ap (λ (x : OpenCommand). picks test before ++ x ∷ picks test after) (own_entry u h s stage_is) ∙ same)
 
--- ---- a standard command is counted
+kept_out : (lossy : Bool) (b : Table) (d : Dialogue) (test : Tag → Bool) (before : List Use) (u : Use) (after : List Use) (h : Heard)
+    (ended : Bool) (hs : List OpenCommand) → d.uses ≡ before ++ u ∷ after → test u.tag ≡ false → picks test d.uses ≡ hs
+    → picks test (uses_after before u after h ended) ≡ hs
+kept_out lossy b d test before u after h ended hs parts is same =
+    picks_other test before u after h ended is ∙ (ap (picks test) (sym parts) ∙ same)
+
+-- a tally in which nothing is counted, and what then agrees
+quiet_agrees : (lossy : Bool) (b : Table) (d : Dialogue) (before : List Use) (u : Use) (after : List Use) (h : Heard) (ended : Bool)
+    (standard event : List OpenCommand) (failed : Bool) → Around lossy b d before u after → (ended ≡ false → IsOurs (own h u))
+    → picks is_standard (uses_after before u after h ended) ≡ standard → picks is_event (uses_after before u after h ended) ≡ event
+    → (failed ≡ false → IsNext lossy (marked_as d before u after h ended []) (record (b.tally) { failed = failed }))
+    → AgreesOn lossy (tabled standard event (record (b.tally) { failed = failed })) (marked_as d before u after h ended [])
+quiet_agrees lossy b d before u after h ended standard event failed a one standard_is event_is calm =
+    let g : AgreesOn lossy b d = Around.agrees a in
+    marked_agrees lossy b d before u after h ended [] standard event (record (b.tally) { failed = failed }) a one standard_is event_is
+    (quiet_exact lossy (all_done b.tally.counted) d.reported (AgreesOn.exact g))
+    (claims_same b.tally.counted d.reported [] (AgreesOn.claims g) refl)
+    (AgreesOn.arguments g) (AgreesOn.no_abort g) calm
+
+-- ---- a command is counted
 
 abbrev first_command : List Command → Command → Command
 first_command [] d = d
@@ -122,14 +124,26 @@ passed_next false lives unsent rest e none = e
 passed_next true lives unsent rest e none = ap (λ (l : List Command). l ++ commands_of (passed_over true unsent)) (none refl)
     ∙ passed_commands true unsent rest (ap (λ (l : List Command). l ++ commands_of unsent) (sym (none refl)) ∙ e)
 
-counts_agrees : (ws : List Wanted) (b : Table) (t : Talking) (before : List Use) (u : Use) (after : List Use) (hs : List OpenCommand)
-    (given : Option Datum) (c : Command)
-    → Around b t before u after → is_standard u.tag ≡ true → picks is_standard before ++ picks is_standard after ≡ hs
-    → u.asked ≡ Asks c → waits u ≡ true → list_any waits before ≡ false → b.tally.failed ≡ false → IsGiven (kind_of c) given
+-- what a witness knows of a command that is complete, when it reports it
+known_fits : (lossy : Bool) (before : List Use) (u : Use) (after : List Use) (lines : ℕ) (base : Selected)
+    → AreCounted 0 (before ++ u ∷ after) lines → list_any waits before ≡ false → Holds lossy (before ++ u ∷ after) u.line base u.known
+    → Fits lossy base (own heard.Complete u).known
+known_fits lossy before u after lines base rising none holds =
+    holds_fits lossy (before ++ u ∷ after) u.line base (own heard.Complete u).known (front_done before u after lines rising none)
+    (holds_moved lossy lossy (before ++ u ∷ after) (before ++ u ∷ after) u.line (renewal.Mark u.line heard.Complete) base
+    (all_renewed renewal.Answer u.known) (aside_moves lossy (before ++ u ∷ after) u.line heard.Complete)
+    (holds_moved lossy lossy (before ++ u ∷ after) (before ++ u ∷ after) u.line renewal.Answer base u.known
+    (answer_moves lossy (before ++ u ∷ after) u.line (front_done before u after lines rising none)) holds))
+
+counts_agrees : (lossy : Bool) (ws : List Wanted) (b : Table) (d : Dialogue) (before : List Use) (u : Use) (after : List Use)
+    (hs : List OpenCommand) (given : Option Datum) (c : Command)
+    → Around lossy b d before u after → is_standard u.tag ≡ true → picks is_standard before ++ picks is_standard after ≡ hs
+    → u.command ≡ Sends c → waits u ≡ true → list_any waits before ≡ false → b.tally.failed ≡ false → IsGiven (kind_of c) given
     → live_kinds b.standard ≡ kind_of c ∷ live_kinds hs → IsAskedLast (live_kinds b.standard)
-    → AgreesOn (tabled hs b.event (counted_next ws (kind_of c) given b.tally.todo b.tally))
-    (with_uses t (before ++ after) (known_after t.known c) (with_told t.told (act_of t.known c given)))
-counts_agrees ws b t before u after hs given c a is same asks waits_now none calm given_one kinds last = go b.tally.todo refl
+    → Carries (so_far u) heard.Complete (Some progress.Done)
+    → AgreesOn lossy (tabled hs b.event (counted_next ws (kind_of c) given b.tally.todo b.tally))
+    (marked_as d before u after heard.Complete true (act_of (own heard.Complete u).known c given))
+counts_agrees lossy ws b d before u after hs given c a is same sends waits_now none calm given_one kinds last carries = go b.tally.todo refl
   where
     y : Tally
     y = b.tally
@@ -137,39 +151,52 @@ counts_agrees ws b t before u after hs given c a is same asks waits_now none cal
     over : Bool
     over = tells_homed (kind_of c) given
 
-    lives : live t.uses ≡ c ∷ live after
+    g : AgreesOn lossy b d
+    g = Around.agrees a
+
+    lives : live d.uses ≡ c ∷ live after
     lives = ap live (Around.parts a) ∙ (live_more before (u ∷ after)
         ∙ (ap (λ (l : List Command). l ++ live (u ∷ after)) (none_live before none)
-        ∙ (live_in u after waits_now ∙ ap (λ (x : Asked). command_in x ∷ live after) asks)))
+        ∙ (live_in u after waits_now ∙ ap (λ (x : SentCommand). command_in x ∷ live after) sends)))
 
-    left : live (before ++ after) ≡ live after
-    left = live_more before after ∙ ap (λ (l : List Command). l ++ live after) (none_live before none)
+    left : live (uses_after before u after heard.Complete true) ≡ live after
+    left = live_gone before u after heard.Complete ∙ ap (λ (l : List Command). l ++ live after) (none_live before none)
 
-    standard_is : picks is_standard (before ++ after) ≡ hs
-    standard_is = picks_more is_standard before after ∙ same
+    standard_is : picks is_standard (uses_after before u after heard.Complete true) ≡ hs
+    standard_is = picks_gone is_standard before u after heard.Complete ∙ same
+
+    kinds_left : live_kinds hs ≡ map kind_of (live (before ++ after))
+    kinds_left = ap live_kinds (sym (picks_more is_standard before after ∙ same))
+        ∙ live_are (before ++ after) (ours_join before after (Around.earlier a) (Around.later a))
 
     left_none : over ≡ true → live after ≡ []
     left_none e =
         let asked : IsAskedLast (kind_of c ∷ live_kinds hs) = subst IsAskedLast kinds last in
         let empty : live_kinds hs ≡ [] = asked.0 (told_asks (kind_of c) given e) in
-        sym left ∙ no_kinds (live (before ++ after))
-        (sym (live_are (before ++ after) (others_ours b t before u after a)) ∙ (ap live_kinds standard_is ∙ empty))
+        sym (live_more before after ∙ ap (λ (l : List Command). l ++ live after) (none_live before none))
+        ∙ no_kinds (live (before ++ after)) (sym kinds_left ∙ empty)
 
-    next : IsNext (live t.uses) t.known y
-    next = AgreesOn.calm (Around.agrees a) calm
+    next : IsNext lossy d y
+    next = AgreesOn.calm g calm
+
+    counted : IsCounted lossy d before u after heard.Complete (IsNext.base next) (selected_after (IsNext.base next) c)
+    counted = next_counted lossy d y before u after heard.Complete c (Around.parts a) (Around.rising a) waits_now none sends carries next
+
+    fits : Fits lossy (IsNext.base next) (own heard.Complete u).known
+    fits = known_fits lossy before u after d.lines (IsNext.base next) (Around.rising a) none (IsCounted.fits counted)
 
     whole : c ∷ (live after ++ commands_of y.unsent) ≡ commands_of y.todo
     whole = ap (λ (l : List Command). l ++ commands_of y.unsent) (sym lives) ∙ IsNext.commands next
 
-    go : (todo : List Planned) → y.todo ≡ todo → AgreesOn (tabled hs b.event (counted_next ws (kind_of c) given todo y))
-        (with_uses t (before ++ after) (known_after t.known c) (with_told t.told (act_of t.known c given)))
+    go : (todo : List Planned) → y.todo ≡ todo → AgreesOn lossy (tabled hs b.event (counted_next ws (kind_of c) given todo y))
+        (marked_as d before u after heard.Complete true (act_of (own heard.Complete u).known c given))
     go [] todo_is = absurd (no_more c (live after ++ commands_of y.unsent) (whole ∙ ap commands_of todo_is))
     go (q ∷ rest) todo_is =
         let now : c ∷ (live after ++ commands_of y.unsent) ≡ q.command ∷ commands_of rest = whole ∙ ap commands_of todo_is in
         let first : c ≡ q.command = ap (λ (l : List Command). first_command l c) now in
-        let others : live after ++ commands_of y.unsent ≡ commands_of rest = ap other_commands now in
-        let agrees : TellsAs t.known q.command q.does × Agrees (known_after t.known q.command) rest =
-        subst (Agrees t.known) todo_is (IsNext.agrees next) in
+        let rest_is : live after ++ commands_of y.unsent ≡ commands_of rest = ap other_commands now in
+        let agrees : TellsAs (IsNext.base next) q.command q.does × Agrees (selected_after (IsNext.base next) q.command) rest =
+        subst (Agrees (IsNext.base next)) todo_is (IsNext.agrees next) in
         let mid : Tally = record y {
           session = y.session || begins_session (kind_of c);
           todo = passed_over over rest;
@@ -177,29 +204,33 @@ counts_agrees ws b t before u after hs given c a is same asks waits_now none cal
           counted = y.counted ++ act_for q.does given;
           completed = suc y.completed;
         } in
-        let keeps : Keeps mid (measured ws q.does given mid) = measured_keeps ws q.does given mid in
-        let g : AgreesOn b t = Around.agrees a in
-        record {
-          ours = others_ours b t before u after a;
-          standard = standard_is;
-          event = picks_without is_event before u after (not_event u is) ∙ (ap (picks is_event) (sym (Around.parts a)) ∙ g.event);
-          told = told_more t.told (act_of t.known c given)
-              ∙ (ap (λ (l : List Told). l ++ listed (act_of t.known c given)) g.told
-              ∙ (ap (λ (l : List Told). all_done y.counted ++ l)
-              (ap (λ (x : Command). listed (act_of t.known x given)) first
-              ∙ agrees.0 given (subst (λ (x : Command). IsGiven (kind_of x) given) first given_one))
-              ∙ (sym (map-append _ y.counted (act_for q.does given)) ∙ ap all_done (sym keeps.counted))));
-          arguments = subst HaveArguments (sym keeps.unsent) (passes HaveArguments (λ p qs e f. f.1) over y.unsent g.arguments);
-          no_abort = subst HasNoAbort (sym keeps.unsent) (passed_no_abort over y.unsent g.no_abort);
-          calm = λ e. record {
-            commands = ap (λ (l : List Planned). live (before ++ after) ++ commands_of l) keeps.unsent
-                ∙ (ap (λ (l : List Command). l ++ commands_of (passed_over over y.unsent)) left
-                ∙ (passed_next over (live after) y.unsent rest others left_none ∙ ap commands_of (sym keeps.todo)));
-            agrees = subst (Agrees (known_after t.known c)) (sym keeps.todo)
-                (passed_agrees (known_after t.known c) over rest
-                (subst (λ (x : Command). Agrees (known_after t.known x) rest) (sym first) agrees.1));
-          };
-        }
+        let end : Tally = measured ws q.does given mid in
+        let keeps : Keeps mid end = measured_keeps ws q.does given mid in
+        let reports : List Reported = act_of (own heard.Complete u).known c given in
+        let tells : Tells lossy (act_for q.does given) reports =
+        subst (λ (x : Command). Tells lossy (act_for q.does given) (act_of (own heard.Complete u).known x given)) (sym first)
+        (agrees.0 lossy (own heard.Complete u).known fits given (subst (λ (x : Command). IsGiven (kind_of x) given) first given_one)) in
+        marked_agrees lossy b d before u after heard.Complete true reports hs b.event end a (λ e. absurd (false≢true (sym e)))
+        standard_is
+        (kept_out lossy b d is_event before u after heard.Complete true b.event (Around.parts a) (not_event u is) (AgreesOn.event g))
+        (λ e. ap (λ (l : List Reported). l ++ reports) (AgreesOn.exact g e)
+        ∙ (ap (λ (l : List Reported). all_done y.counted ++ l) (Tells.exact tells e)
+        ∙ (sym (map-append _ y.counted (act_for q.does given)) ∙ ap all_done (sym keeps.counted))))
+        (subst (λ (l : List Act). Claims l (d.reported ++ reports)) (sym keeps.counted)
+        (claims_more y.counted (act_for q.does given) d.reported reports (AgreesOn.claims g) (Tells.shown tells)))
+        (subst HaveArguments (sym keeps.unsent) (passes HaveArguments (λ p qs e f. f.1) over y.unsent (AgreesOn.arguments g)))
+        (subst HasNoAbort (sym keeps.unsent) (passed_no_abort over y.unsent (AgreesOn.no_abort g)))
+        (λ e. record {
+          base = selected_after (IsNext.base next) c;
+          commands = ap (λ (l : List Planned). live (uses_after before u after heard.Complete true) ++ commands_of l) keeps.unsent
+              ∙ (ap (λ (l : List Command). l ++ commands_of (passed_over over y.unsent)) left
+              ∙ (passed_next over (live after) y.unsent rest rest_is left_none ∙ ap commands_of (sym keeps.todo)));
+          agrees = subst (Agrees (selected_after (IsNext.base next) c)) (sym keeps.todo)
+              (passed_agrees (selected_after (IsNext.base next) c) over rest
+              (subst (λ (x : Command). Agrees (selected_after (IsNext.base next) x) rest) (sym first) agrees.1));
+          known = IsCounted.known counted;
+          last = IsCounted.last counted;
+        })
 
 -- ---- an expected mark of a standard command
 
@@ -217,57 +248,153 @@ no_answer hs gs e cause is = clash (sym (put_refused hs cause) ∙ is)
     clash : ◌≡◌ {A = Heardings} (Err cause) (two gs e) → ⊥
     clash same = cc
 
-standard_by : (ws : List Wanted) (b : Table) (t : Talking) (before : List Use) (u : Use) (after : List Use) (m : Mark) (st : Step)
+-- what a mark reports
+abbrev step_for : Use → Command → Mark → Step
+step_for u c m = step (asks_data (kind_of c)) u.stage (heard_of m)
+
+-- where the client has a tally, a witness reports nothing, and the use is at another stage
+quiet_is : (d : Dialogue) (before : List Use) (u : Use) (after : List Use) (c : Command) (m : Mark) (ended : Bool) → ends m ≡ ended
+    → IsQuiet c (step_for u c m)
+    → marked_as d before u after (heard_of m) (ends m) (reports_of u (heard_of m) c) ≡ marked_as d before u after (heard_of m) ended []
+quiet_is d before u after c m ended is quiet =
+    ap (λ (e : Bool). marked_as d before u after (heard_of m) e (reports_of u (heard_of m) c)) is
+    ∙ ap (λ (l : List Reported). marked_as d before u after (heard_of m) ended l) (quiet (own (heard_of m) u).known u.tag)
+
+-- the mark that counts
+counting : (front : Bool) (k : Kind) (s : OpenStage) (m : Mark) (given : Option Datum) → judged front k s m ≡ Counts given
+    → heard_of m ≡ heard.Complete
+counting front k s Mark.Done given v = refl
+counting front k OpenStage.Sent Mark.Ack given v = absurd (cc)
+counting front k OpenStage.Received Mark.Ack given v = absurd (cc)
+counting front k (OpenStage.Given e) Mark.Ack given v = absurd (cc)
+counting front k OpenStage.Failed Mark.Ack given v = absurd (cc)
+counting front k OpenStage.Sent Mark.Error given v = absurd (cc)
+counting front k OpenStage.Received Mark.Error given v = absurd (cc)
+counting front k (OpenStage.Given e) Mark.Error given v = absurd (cc)
+counting front k OpenStage.Failed Mark.Error given v = absurd (cc)
+counting front k s (Mark.Given d) given v = go (front && fits k d) s v
+  where
+    go : (b : Bool) (s : OpenStage) → judged_given b s d ≡ Counts given → heard.Given d ≡ heard.Complete
+    go false s v = absurd (cc)
+    go true OpenStage.Sent v = absurd (cc)
+    go true OpenStage.Received v = absurd (cc)
+    go true (OpenStage.Given e) v = absurd (cc)
+    go true OpenStage.Failed v = absurd (cc)
+
+-- what a mark carries of a use
+kept_carries : (u : Use) (h : Heard) (c : Command) → u.command ≡ Sends c → waits (own h u) ≡ waits u
+    → Carried (asks_data (kind_of c)) u.stage h (stage_after u.stage (step (asks_data (kind_of c)) u.stage h))
+    → Carries (so_far u) h (so_far (own h u))
+kept_carries u h c sends same carried =
+    let asks : asks_data (kind_by u.command) ≡ asks_data (kind_of c) = ap (λ (x : SentCommand). asks_data (kind_by x)) sends in
+    let before : so_far u ≡ cond (waits u && not (asks_data (kind_of c))) (by_stage u.stage) None =
+    ap (λ (x : Bool). cond (waits u && not x) (by_stage u.stage) None) asks in
+    let later : so_far (own h u) ≡ cond (waits u && not (asks_data (kind_of c)))
+    (by_stage (stage_after u.stage (step (asks_data (kind_of c)) u.stage h))) None =
+    ap (λ (x : Bool). cond (waits (own h u) && not x) (by_stage (own h u).stage) None) asks
+    ∙ (ap (λ (x : Bool). cond (x && not (asks_data (kind_of c))) (by_stage (own h u).stage) None) same
+    ∙ ap (λ (x : Stage). cond (waits u && not (asks_data (kind_of c))) (by_stage x) None) (own_stage u h c sends)) in
+    subst (λ (x : Option Progress). Carries x h (so_far (own h u))) (sym before)
+    (subst (λ (x : Option Progress). Carries (cond (waits u && not (asks_data (kind_of c))) (by_stage u.stage) None) h x) (sym later)
+    (carried (waits u)))
+
+out_carries : (u : Use) (h : Heard) (c : Command) → u.command ≡ Sends c → CarriedOut (asks_data (kind_of c)) u.stage h
+    → Carries (so_far u) h (Some progress.Done)
+out_carries u h c sends carried = subst (λ (x : Option Progress). Carries x h (Some progress.Done))
+    (ap (λ (x : SentCommand). cond (waits u && not (asks_data (kind_by x))) (by_stage u.stage) None) (sym sends)) (carried (waits u))
+
+-- a standard use that waits has not failed
+waiting_calm : (u : Use) → IsOurs u → is_event u.tag ≡ false → waits u ≡ true → is_lost u.stage ≡ false
+waiting_calm u one event waiting = go (is_lost u.stage) refl
+  where
+    go : (b : Bool) → is_lost u.stage ≡ b → is_lost u.stage ≡ false
+    go false is = is
+    go true is = absurd (false≢true (sym (standard_waits u one event ∙ ap not (same_failed u.stage ∙ is)) ∙ waiting))
+
+-- what is reported of a command that is counted
+count_is : (d : Dialogue) (before : List Use) (u : Use) (after : List Use) (c : Command) (m : Mark) (given : Option Datum) → ends m ≡ true
+    → heard_of m ≡ heard.Complete → ((k : Known) (tag : Tag) → report_of k tag c (step_for u c m) ≡ act_of k c given)
+    → marked_as d before u after (heard_of m) (ends m) (reports_of u (heard_of m) c)
+    ≡ marked_as d before u after heard.Complete true (act_of (own heard.Complete u).known c given)
+count_is d before u after c m given is it reports =
+    ap (λ (e : Bool). marked_as d before u after (heard_of m) e (reports_of u (heard_of m) c)) is
+    ∙ (ap (λ (l : List Reported). marked_as d before u after (heard_of m) true l) (reports (own (heard_of m) u).known u.tag)
+    ∙ ap (λ (h : Heard). marked_as d before u after h true (act_of (own h u).known c given)) it)
+
+standard_by : (lossy : Bool) (ws : List Wanted) (b : Table) (d : Dialogue) (before : List Use) (u : Use) (after : List Use) (m : Mark)
     (hs : List OpenCommand) (e : Effect) (front : Bool) (c : Command)
-    → Around b t before u after → is_standard u.tag ≡ true → u.asked ≡ Asks c → Leads front b before
+    → Around lossy b d before u after → is_standard u.tag ≡ true → u.command ≡ Sends c → Leads front b before
     → Fronted (not b.tally.failed) (live_kinds b.standard) (live_kinds hs) e
     → (b.tally.failed ≡ false → IsAskedLast (live_kinds b.standard))
-    → (v : Verdict) → judged front (kind_of c) u.stage m ≡ v
+    → (v : Verdict) → judged front (kind_of c) (stage_by u.stage) m ≡ v
     → put_all (picks is_standard before) (settled (entry u) (picks is_standard after) v) ≡ two hs e
-    → Follows c u.stage m st v
-    → AgreesOn (tabled hs b.event (tallied ws e b.tally)) (after_step t before u after c st (heard_of m))
-standard_by ws b t before u after m st hs e front c a is asks leads fronts last (Becomes next) v settles f =
+    → Follows c u.stage m (step_for u c m) v
+    → AgreesOn lossy (tabled hs b.event (tallied ws e b.tally))
+    (marked_as d before u after (heard_of m) (ends m) (reports_of u (heard_of m) c))
+standard_by lossy ws b d before u after m hs e front c a is sends leads fronts last (Becomes next) v settles f =
     let same = same_two _ _ _ _ (sym (put_fine (picks is_standard before) (staged (entry u) next ∷ picks is_standard after) Effect.Quiet)
     ∙ settles) in
-    subst (λ (x : Effect). AgreesOn (tabled hs b.event (tallied ws x b.tally)) (after_step t before u after c st (heard_of m))) same.1
-    (subst (AgreesOn (tabled hs b.event b.tally))
-    (sym (stays_is t before u after c st (heard_of m) next change.Keeps f.0 f.1 (f.2 t.known u.tag).0 (f.2 t.known u.tag).1))
-    (stays_agrees b t before u after hs next a is same.0
-    (same_waits u next (Around.one a) (becomes_alike front (kind_of c) u.stage m next v))))
-standard_by ws b t before u after m st hs e front c a is asks leads fronts last Breaks v settles f =
+    let own_one : IsOurs (own (heard_of m) u) = own_ours u (heard_of m) c (Around.one a) sends f.1.1 in
+    let stage_is : stage_by (own (heard_of m) u).stage ≡ next = ap stage_by (own_stage u (heard_of m) c sends) ∙ f.1.0 in
+    let alike : waits (own (heard_of m) u) ≡ waits u = same_waits u (heard_of m) next (Around.one a) own_one stage_is
+    (becomes_alike front (kind_of c) (stage_by u.stage) m next v) in
+    subst (λ (x : Effect). AgreesOn lossy (tabled hs b.event (tallied ws x b.tally))
+    (marked_as d before u after (heard_of m) (ends m) (reports_of u (heard_of m) c))) same.1
+    (subst (AgreesOn lossy (tabled hs b.event b.tally)) (sym (quiet_is d before u after c m false f.0 f.2))
+    (quiet_agrees lossy b d before u after (heard_of m) false hs b.event b.tally.failed a (λ x. own_one)
+    (kept_in is_standard before u after (heard_of m) next hs is stage_is same.0)
+    (kept_out lossy b d is_event before u after (heard_of m) false b.event (Around.parts a) (not_event u is) (AgreesOn.event (Around.agrees a)))
+    (λ calm. next_kept lossy d b.tally before u after (heard_of m) [] (Around.parts a) (Around.rising a) alike
+    (kept_carries u (heard_of m) c sends alike f.3)
+    (λ answer waiting. (leads (needs_front front (kind_of c) u.stage m answer (waiting_calm u (Around.one a) (not_event u is) waiting)
+    (subst IsTaken (sym v) tt))).0)
+    (AgreesOn.calm (Around.agrees a) calm))))
+standard_by lossy ws b d before u after m hs e front c a is sends leads fronts last Breaks v settles f =
     let same = same_two _ _ _ _
-    (sym (put_fine (picks is_standard before) (staged (entry u) Stage.Failed ∷ picks is_standard after) Effect.Failure) ∙ settles) in
-    subst (λ (x : Effect). AgreesOn (tabled hs b.event (tallied ws x b.tally)) (after_step t before u after c st (heard_of m))) same.1
-    (subst (AgreesOn (tabled hs b.event (record (b.tally) { failed = true })))
-    (sym (stays_is t before u after c st (heard_of m) Stage.Failed (lost_by c) f.0 f.1 (f.2 t.known u.tag).0 (f.2 t.known u.tag).1))
-    (fails_agrees b t before u after hs (changed t.known (lost_by c)) a is same.0))
-standard_by ws b t before u after m st hs e front c a is asks leads fronts last Closes v settles f =
+    (sym (put_fine (picks is_standard before) (staged (entry u) OpenStage.Failed ∷ picks is_standard after) Effect.Failure) ∙ settles) in
+    let own_one : IsOurs (own (heard_of m) u) = own_ours u (heard_of m) c (Around.one a) sends f.1.1 in
+    let stage_is : stage_by (own (heard_of m) u).stage ≡ OpenStage.Failed = ap stage_by (own_stage u (heard_of m) c sends) ∙ f.1.0 in
+    subst (λ (x : Effect). AgreesOn lossy (tabled hs b.event (tallied ws x b.tally))
+    (marked_as d before u after (heard_of m) (ends m) (reports_of u (heard_of m) c))) same.1
+    (subst (AgreesOn lossy (tabled hs b.event (record (b.tally) { failed = true }))) (sym (quiet_is d before u after c m false f.0 f.2))
+    (quiet_agrees lossy b d before u after (heard_of m) false hs b.event true a (λ x. own_one)
+    (kept_in is_standard before u after (heard_of m) OpenStage.Failed hs is stage_is same.0)
+    (kept_out lossy b d is_event before u after (heard_of m) false b.event (Around.parts a) (not_event u is) (AgreesOn.event (Around.agrees a)))
+    (λ calm. absurd (false≢true (sym calm)))))
+standard_by lossy ws b d before u after m hs e front c a is sends leads fronts last Closes v settles f =
     let same = same_two _ _ _ _ (sym (put_fine (picks is_standard before) (picks is_standard after) Effect.Quiet) ∙ settles) in
-    subst (λ (x : Effect). AgreesOn (tabled hs b.event (tallied ws x b.tally)) (after_step t before u after c st (heard_of m))) same.1
-    (subst (AgreesOn (tabled hs b.event b.tally))
-    (sym (goes_is t before u after c st (heard_of m) None change.Keeps f.0 (f.1 t.known u.tag).0 (f.1 t.known u.tag).1))
-    (closes_agrees b t before u after hs a is same.0
-    (failed_waits u (Around.one a) (closed_failed front (kind_of c) u.stage m v))))
-standard_by ws b t before u after m st hs e front c a is asks leads fronts last (Counts given) v settles f =
-    let same = same_two _ _ _ _ (sym (put_fine (picks is_standard before) (picks is_standard after) (Effect.Count (kind_by u.asked) given))
+    let rests : waits u ≡ false = failed_rests u (Around.one a) (closed_failed front (kind_of c) (stage_by u.stage) m v) in
+    subst (λ (x : Effect). AgreesOn lossy (tabled hs b.event (tallied ws x b.tally))
+    (marked_as d before u after (heard_of m) (ends m) (reports_of u (heard_of m) c))) same.1
+    (subst (AgreesOn lossy (tabled hs b.event b.tally)) (sym (quiet_is d before u after c m true f.0 f.1))
+    (quiet_agrees lossy b d before u after (heard_of m) true hs b.event b.tally.failed a (λ x. absurd (false≢true (sym x)))
+    (picks_gone is_standard before u after (heard_of m) ∙ same.0)
+    (kept_out lossy b d is_event before u after (heard_of m) true b.event (Around.parts a) (not_event u is) (AgreesOn.event (Around.agrees a)))
+    (λ calm. next_closed lossy d b.tally before u after (heard_of m) [] (Around.parts a) (Around.rising a) rests
+    (AgreesOn.calm (Around.agrees a) calm))))
+standard_by lossy ws b d before u after m hs e front c a is sends leads fronts last (Counts given) v settles f =
+    let same = same_two _ _ _ _ (sym (put_fine (picks is_standard before) (picks is_standard after) (Effect.Count (kind_by u.command) given))
     ∙ settles) in
-    let counted : Effect.Count (kind_of c) given ≡ e = ap (λ (x : Asked). Effect.Count (kind_by x) given) (sym asks) ∙ same.1 in
-    let lead = leads (counted_front front (kind_of c) u.stage m given v) in
+    let counted : Effect.Count (kind_of c) given ≡ e = ap (λ (x : SentCommand). Effect.Count (kind_by x) given) (sym sends) ∙ same.1 in
+    let lead = leads (counted_front front (kind_of c) (stage_by u.stage) m given v) in
     let fronted_now : Fronted (not b.tally.failed) (live_kinds b.standard) (live_kinds hs) (Effect.Count (kind_of c) given) =
     subst (λ (x : Effect). Fronted (not b.tally.failed) (live_kinds b.standard) (live_kinds hs) x) (sym counted) fronts in
-    subst (λ (x : Effect). AgreesOn (tabled hs b.event (tallied ws x b.tally)) (after_step t before u after c st (heard_of m))) counted
-    (subst (AgreesOn (tabled hs b.event (counted_next ws (kind_of c) given b.tally.todo b.tally)))
-    (sym (goes_is t before u after c st (heard_of m) (act_of t.known c given) (done_by t.known c) f.0 (f.1 t.known u.tag).0
-    (f.1 t.known u.tag).1))
-    (counts_agrees ws b t before u after hs given c a is same.0 asks
-    (standard_waits u (Around.one a) (not_event u is) ∙ ap not (counted_calm front (kind_of c) u.stage m given v))
-    lead.0 lead.1 fronted_now.2 fronted_now.1 (last lead.1)))
-standard_by ws b t before u after m st hs e front c a is asks leads fronts last (Refused cause) v settles f =
+    let it : heard_of m ≡ heard.Complete = counting front (kind_of c) (stage_by u.stage) m given v in
+    let waits_now : waits u ≡ true = standard_waits u (Around.one a) (not_event u is)
+    ∙ ap not (counted_calm front (kind_of c) (stage_by u.stage) m given v) in
+    subst (λ (x : Effect). AgreesOn lossy (tabled hs b.event (tallied ws x b.tally))
+    (marked_as d before u after (heard_of m) (ends m) (reports_of u (heard_of m) c))) counted
+    (subst (AgreesOn lossy (tabled hs b.event (counted_next ws (kind_of c) given b.tally.todo b.tally)))
+    (sym (count_is d before u after c m given f.0 it f.1))
+    (counts_agrees lossy ws b d before u after hs given c a is same.0 sends waits_now lead.0 lead.1 fronted_now.2 fronted_now.1 (last lead.1)
+    (subst (λ (h : Heard). Carries (so_far u) h (Some progress.Done)) it (out_carries u (heard_of m) c sends f.2))))
+standard_by lossy ws b d before u after m hs e front c a is sends leads fronts last (Refused cause) v settles f =
     absurd (no_answer (picks is_standard before) hs e cause settles)
 
 -- a mark reads as what the client hears
-abbrev pub ReadsAs : Tag → List OpenCommand → Marked → Mark → Type 0
-ReadsAs t hs marked m = (c : Command) → held_kind t hs ≡ Some (kind_of c) → heard_as (Asks c) marked ≡ heard_of m
+pub record ReadsAs (t : Tag) (hs : List OpenCommand) (signal : Signal) (m : Mark) : Type 0 where
+  pub heard : (c : Command) → held_kind t hs ≡ Some (kind_of c) → heard_as (Sends c) signal ≡ heard_of m
+  pub ended : is_end signal ≡ ends m
 
 parts_of_and : (a b : Bool) → (a && b) ≡ true → (a ≡ true) × (b ≡ true)
 parts_of_and true b e = (refl, e)
@@ -277,72 +404,85 @@ not_true : (b : Bool) → not b ≡ true → b ≡ false
 not_true true e = absurd (false≢true e)
 not_true false e = refl
 
-no_waits : (before : List Use) (k : Kind) → list_any waits before ≡ false → may_come (turn_behind before) k ≡ true
-no_waits before k none = ap (λ (b : Bool). may_come (cond b Early InTurn) k) none
+taken_by : (xs ys : List OpenCommand) (h : OpenCommand) (gs : List OpenCommand) (e : Effect) (v : Verdict)
+    → put_all xs (settled h ys v) ≡ two gs e → IsTaken v
+taken_by xs ys h gs e (Becomes next) is = tt
+taken_by xs ys h gs e Breaks is = tt
+taken_by xs ys h gs e Closes is = tt
+taken_by xs ys h gs e (Counts given) is = tt
+taken_by xs ys h gs e (Refused cause) is = no_answer xs gs e cause is
 
 -- what a witness becomes at the mark
-abbrev step_at : Command → List Use → Use → Mark → Step
-step_at c before u m = step_of (turn_behind before) c u.stage (heard_of m)
+mark_first : (lossy : Bool) (b : Table) (d : Dialogue) (line : List ℕ) (test : Tag → Bool) (hs : List OpenCommand) (tag : Tag) (signal : Signal)
+    (m : Mark) (front : Bool) (gs : List OpenCommand) (e : Effect) → picks test d.uses ≡ hs → ReadsAs tag hs signal m
+    → (k : IsCut test front d.uses tag m gs e) → (a : Around lossy b d k.before k.u k.after) → IsInTurn k.before k.u (heard_of m)
+    → server_answered d line (Some (tag, signal))
+    ≡ marked_as d k.before k.u k.after (heard_of m) (ends m) (reports_of k.u (heard_of m) (IsOurs.command (Around.one a)))
+mark_first lossy b d line test hs tag signal m front gs e held reads k a turn =
+    let one : IsOurs k.u = Around.one a in
+    let kind_is : held_kind tag hs ≡ Some (kind_of (IsOurs.command one)) =
+    ap (held_kind tag) (sym held) ∙ (k.kind_is ∙ ap (λ (x : SentCommand). Some (kind_by x)) (IsOurs.sends one)) in
+    heard_first d line tag signal (heard_of m) k.before k.u k.after (IsOurs.command one) k.parts k.none k.here (Around.earlier a)
+    (Around.later a) (IsOurs.alone one) (IsOurs.sends one) (none_before 0 k.before k.u k.after d.lines (Around.rising a))
+    (none_after 0 k.before k.u k.after d.lines (Around.rising a)) (AgreesOn.straight (Around.agrees a))
+    (ap (λ (x : SentCommand). heard_as x signal) (IsOurs.sends one) ∙ ReadsAs.heard reads (IsOurs.command one) kind_is) turn
+    ∙ ap (λ (x : Bool). marked_as d k.before k.u k.after (heard_of m) x (reports_of k.u (heard_of m) (IsOurs.command one)))
+    (ReadsAs.ended reads)
 
-mark_first : (test : Tag → Bool) (t : Talking) (hs : List OpenCommand) (tag : Tag) (marked : Marked) (m : Mark) (front : Bool)
-    (gs : List OpenCommand) (e : Effect) → picks test t.uses ≡ hs → ReadsAs tag hs marked m → (k : IsCut test front t.uses tag m gs e)
-    → (one : IsOurs k.u) → heard_under t tag marked (position (has_tag tag) t.uses)
-    ≡ after_step t k.before k.u k.after one.command (step_at one.command k.before k.u m) (heard_of m)
-mark_first test t hs tag marked m front gs e held reads k one =
-    let kind_is : held_kind tag hs ≡ Some (kind_of one.command) =
-    ap (held_kind tag) (sym held) ∙ (k.kind_is ∙ ap (λ (a : Asked). Some (kind_by a)) one.asks) in
-    let heard : heard_as k.u.asked marked ≡ heard_of m = ap (λ (a : Asked). heard_as a marked) one.asks ∙ reads one.command kind_is in
-    heard_first t tag marked k.before k.u k.after one.command k.parts k.none k.here one.calm one.asks
-    ∙ ap (λ (h : Heard). after_step t k.before k.u k.after one.command (step_of (turn_behind k.before) one.command k.u.stage h) h) heard
+-- how it settles, by the command
+settles_by : (test : Tag → Bool) (before : List Use) (u : Use) (after : List Use) (m : Mark) (now : Bool) (hs : List OpenCommand) (e : Effect)
+    (c : Command) → u.command ≡ Sends c
+    → put_all (picks test before) (settled (entry u) (picks test after) (judged now (kind_by u.command) (stage_by u.stage) m)) ≡ two hs e
+    → put_all (picks test before) (settled (entry u) (picks test after) (judged now (kind_of c) (stage_by u.stage) m)) ≡ two hs e
+settles_by test before u after m now hs e c sends is =
+    ap (λ (x : SentCommand). put_all (picks test before)
+    (settled (entry u) (picks test after) (judged now (kind_by x) (stage_by u.stage) m))) (sym sends) ∙ is
 
--- the client's table and the witness agree after it, where the command is found
-standard_at : (ws : List Wanted) (b : Table) (t : Talking) (n : ℕ) (m : Mark) (marked : Marked) (hs : List OpenCommand) (e : Effect)
-    → (k : IsCut is_standard (not b.tally.failed) t.uses (tag.Std n) m hs e) → Around b t k.before k.u k.after → (one : IsOurs k.u)
-    → Leads k.now b k.before → ReadsAs (tag.Std n) b.standard marked m
-    → Fronted (not b.tally.failed) (live_kinds b.standard) (live_kinds hs) e
-    → (b.tally.failed ≡ false → IsAskedLast (live_kinds b.standard)) → AgreesOn b t
-    → AgreesOn (tabled hs b.event (tallied ws e b.tally)) (heard_under t (tag.Std n) marked (position (has_tag (tag.Std n)) t.uses))
-standard_at ws b t n m marked hs e k a one leads reads fronts last g =
-    subst (AgreesOn (tabled hs b.event (tallied ws e b.tally)))
-    (sym (mark_first is_standard t b.standard (tag.Std n) marked m (not b.tally.failed) hs e g.standard reads k one))
-    (standard_by ws b t k.before k.u k.after m (step_at one.command k.before k.u m) hs e k.now one.command a k.picked one.asks leads
-    fronts last (judged k.now (kind_of one.command) k.u.stage m) refl
-    (ap (λ (x : Asked). put_all (picks is_standard k.before)
-    (settled (entry k.u) (picks is_standard k.after) (judged k.now (kind_by x) k.u.stage m))) (sym one.asks) ∙ k.settles)
-    (follows k.now (may_come (turn_behind k.before) (kind_of one.command)) one.command k.u.stage m
-    (λ now. no_waits k.before (kind_of one.command) (leads now).0)))
-
-leads_at : (b : Table) (t : Talking) (tag : Tag) (m : Mark) (hs : List OpenCommand) (e : Effect)
-    → (k : IsCut is_standard (not b.tally.failed) t.uses tag m hs e) → AgreesOn b t → Leads k.now b k.before
-leads_at b t tag m hs e k g now =
+leads_at : (lossy : Bool) (b : Table) (d : Dialogue) (tag : Tag) (m : Mark) (hs : List OpenCommand) (e : Effect)
+    → (k : IsCut is_standard (not b.tally.failed) d.uses tag m hs e) → AgreesOn lossy b d → Leads k.now b k.before
+leads_at lossy b d tag m hs e k g now =
     let both = parts_of_and (not b.tally.failed) (all_failed (picks is_standard k.before)) (sym k.now_is ∙ now) in (
-      failed_wait k.before (ours_front k.before (k.u ∷ k.after) (subst AreOurs k.parts g.ours)) both.1,
+      failed_wait k.before (ours_front k.before (k.u ∷ k.after) (subst AreOurs k.parts (AgreesOn.ours g))) both.1,
       not_true b.tally.failed both.0,
     )
 
+-- the client's table and the witness agree after it, where the command is found
+standard_at : (lossy : Bool) (ws : List Wanted) (b : Table) (d : Dialogue) (line : List ℕ) (n : ℕ) (m : Mark) (signal : Signal)
+    (hs : List OpenCommand) (e : Effect) → (k : IsCut is_standard (not b.tally.failed) d.uses (tag.Std n) m hs e)
+    → Around lossy b d k.before k.u k.after → Leads k.now b k.before → ReadsAs (tag.Std n) b.standard signal m
+    → Fronted (not b.tally.failed) (live_kinds b.standard) (live_kinds hs) e
+    → (b.tally.failed ≡ false → IsAskedLast (live_kinds b.standard))
+    → AgreesOn lossy (tabled hs b.event (tallied ws e b.tally)) (server_answered d line (Some (tag.Std n, signal)))
+standard_at lossy ws b d line n m signal hs e k a leads reads fronts last =
+    let one : IsOurs k.u = Around.one a in
+    let c : Command = IsOurs.command one in
+    let settles = settles_by is_standard k.before k.u k.after m k.now hs e c (IsOurs.sends one) k.settles in
+    subst (AgreesOn lossy (tabled hs b.event (tallied ws e b.tally)))
+    (sym (mark_first lossy b d line is_standard b.standard (tag.Std n) signal m (not b.tally.failed) hs e (AgreesOn.standard (Around.agrees a))
+    reads k a
+    (λ answer calm. ap (λ (x : Bool). has_turn k.u.command && x) (leads (needs_front k.now (kind_of c) k.u.stage m answer
+    (sym (IsOurs.lost one) ∙ calm) (taken_by (picks is_standard k.before) (picks is_standard k.after) (entry k.u) hs e
+    (judged k.now (kind_of c) (stage_by k.u.stage) m) settles))).0 ∙ and_false (has_turn k.u.command))))
+    (standard_by lossy ws b d k.before k.u k.after m hs e k.now c a k.picked (IsOurs.sends one) leads fronts last
+    (judged k.now (kind_of c) (stage_by k.u.stage) m) refl settles (follows k.now c k.u.stage m))
+
 -- and so they do after it
-pub standard_agrees : (ws : List Wanted) (b : Table) (t : Talking) (n : ℕ) (m : Mark) (marked : Marked) (hs : List OpenCommand) (e : Effect)
-    → heard_in (not b.tally.failed) b.standard (tag.Std n) m ≡ two hs e → ReadsAs (tag.Std n) b.standard marked m
-    → AreFilled b.standard → (b.tally.failed ≡ false → IsAskedLast (live_kinds b.standard)) → AgreesOn b t
-    → AgreesOn (tabled hs b.event (tallied ws e b.tally)) (heard_under t (tag.Std n) marked (position (has_tag (tag.Std n)) t.uses))
-standard_agrees ws b t n m marked hs e is reads filled last g =
-    found (cut is_standard (not b.tally.failed) t.uses (tag.Std n) m hs e refl
-    (ap (λ (l : List OpenCommand). heard_in (not b.tally.failed) l (tag.Std n) m) g.standard ∙ is))
+pub standard_agrees : (lossy : Bool) (ws : List Wanted) (b : Table) (d : Dialogue) (line : List ℕ) (n : ℕ) (m : Mark) (signal : Signal)
+    (hs : List OpenCommand) (e : Effect)
+    → heard_in (not b.tally.failed) b.standard (tag.Std n) m ≡ two hs e → ReadsAs (tag.Std n) b.standard signal m
+    → AreFilled b.standard → (b.tally.failed ≡ false → IsAskedLast (live_kinds b.standard)) → AgreesOn lossy b d
+    → AgreesOn lossy (tabled hs b.event (tallied ws e b.tally)) (server_answered d line (Some (tag.Std n, signal)))
+standard_agrees lossy ws b d line n m signal hs e is reads filled last g =
+    found (cut is_standard (not b.tally.failed) d.uses (tag.Std n) m hs e refl
+    (ap (λ (l : List OpenCommand). heard_in (not b.tally.failed) l (tag.Std n) m) (AgreesOn.standard g) ∙ is))
   where
-    found : (k : IsCut is_standard (not b.tally.failed) t.uses (tag.Std n) m hs e)
-        → AgreesOn (tabled hs b.event (tallied ws e b.tally)) (heard_under t (tag.Std n) marked (position (has_tag (tag.Std n)) t.uses))
-    found k = standard_at ws b t n m marked hs e k (around b t k.before k.u k.after g k.parts)
-        (Around.one (around b t k.before k.u k.after g k.parts)) (leads_at b t (tag.Std n) m hs e k g) reads
-        (fronted (not b.tally.failed) b.standard (tag.Std n) m hs e is filled) last g
+    found : (k : IsCut is_standard (not b.tally.failed) d.uses (tag.Std n) m hs e)
+        → AgreesOn lossy (tabled hs b.event (tallied ws e b.tally)) (server_answered d line (Some (tag.Std n, signal)))
+    found k = standard_at lossy ws b d line n m signal hs e k (around lossy b d k.before k.u k.after g k.parts)
+        (leads_at lossy b d (tag.Std n) m hs e k g) reads
+        (fronted (not b.tally.failed) b.standard (tag.Std n) m hs e is filled) last
 
 -- ---- an expected mark of an event command
-
-not_standard : (u : Use) → is_event u.tag ≡ true → is_standard u.tag ≡ false
-not_standard u is = go u.tag is
-  where
-    go : (t : Tag) → is_event t ≡ true → is_standard t ≡ false
-    go (tag.Std n) e = absurd (false≢true e)
-    go (tag.Event n) e = refl
 
 -- it is an abort
 the_abort : (c : Command) → is_event_kind (kind_of c) ≡ true → c ≡ command.AbortE
@@ -359,103 +499,92 @@ the_abort (command.ChangeTool n) e = absurd (false≢true e)
 the_abort (command.SetCsyTransformation p) e = absurd (false≢true e)
 the_abort (command.SetCoordSystem s) e = absurd (false≢true e)
 
-event_stays : (b : Table) (t : Talking) (before : List Use) (u : Use) (after : List Use) (hs : List OpenCommand) (s : Stage)
-    → Around b t before u after → is_event u.tag ≡ true
-    → picks is_event before ++ staged (entry u) s ∷ picks is_event after ≡ hs
-    → AgreesOn (tabled b.standard hs b.tally) (with_uses t (before ++ (record u { stage = s }) ∷ after) t.known t.told)
-event_stays b t before u after hs s a is same = let g = a.agrees in record {
-  ours = still_ours b t before u after s a;
-  standard = picks_other is_standard before u after s (not_standard u is) ∙ (ap (picks is_standard) (sym a.parts) ∙ g.standard);
-  event = picks_staged is_event before u after s is ∙ same;
-  told = g.told;
-  arguments = g.arguments;
-  no_abort = g.no_abort;
-  calm = λ calm. calm_with b t (before ++ (record u { stage = s }) ∷ after) g
-      (live_same before u (record u { stage = s }) after refl
-      (event_rests (record u { stage = s }) (staged_ours u s a.one) is ∙ sym (event_rests u a.one is)) ∙ ap live (sym a.parts)) calm;
-}
+act_none : (k : Known) (c : Command) (given : Option Datum) → is_event_kind (kind_of c) ≡ true → act_of k c given ≡ []
+act_none k c given e = ap (λ (x : Command). act_of k x given) (the_abort c e)
 
-event_goes : (b : Table) (t : Talking) (before : List Use) (u : Use) (after : List Use) (hs : List OpenCommand)
-    → Around b t before u after → is_event u.tag ≡ true → picks is_event before ++ picks is_event after ≡ hs
-    → AgreesOn (tabled b.standard hs b.tally) (with_uses t (before ++ after) t.known t.told)
-event_goes b t before u after hs a is same = let g = a.agrees in record {
-  ours = others_ours b t before u after a;
-  standard = picks_without is_standard before u after (not_standard u is) ∙ (ap (picks is_standard) (sym a.parts) ∙ g.standard);
-  event = picks_more is_event before after ∙ same;
-  told = g.told;
-  arguments = g.arguments;
-  no_abort = g.no_abort;
-  calm = λ calm. calm_with b t (before ++ after) g (live_without before u after (event_rests u a.one is) ∙ ap live (sym a.parts)) calm;
-}
+-- the command is kept
+event_stays : (lossy : Bool) (b : Table) (d : Dialogue) (before : List Use) (u : Use) (after : List Use) (m : Mark) (hs : List OpenCommand)
+    (c : Command) (next : OpenStage) → Around lossy b d before u after → is_event u.tag ≡ true → u.command ≡ Sends c
+    → picks is_event before ++ staged (entry u) next ∷ picks is_event after ≡ hs
+    → stage_by (own (heard_of m) u).stage ≡ next → IsOurs (own (heard_of m) u)
+    → AgreesOn lossy (tabled b.standard hs b.tally) (marked_as d before u after (heard_of m) false [])
+event_stays lossy b d before u after m hs c next a is sends same stage_is own_one =
+    let rests : waits u ≡ false = event_rests u (Around.one a) is in
+    quiet_agrees lossy b d before u after (heard_of m) false b.standard hs b.tally.failed a (λ x. own_one)
+    (kept_out lossy b d is_standard before u after (heard_of m) false b.standard (Around.parts a) (not_standard u is)
+    (AgreesOn.standard (Around.agrees a)))
+    (kept_in is_event before u after (heard_of m) next hs is stage_is same)
+    (λ calm. next_kept lossy d b.tally before u after (heard_of m) [] (Around.parts a) (Around.rising a)
+    (event_rests (own (heard_of m) u) own_one is ∙ sym rests) (rest_carries u (heard_of m) (so_far (own (heard_of m) u)) rests)
+    (λ answer waiting. absurd (false≢true (sym rests ∙ waiting))) (AgreesOn.calm (Around.agrees a) calm))
 
-lost_none : (c : Command) → is_event_kind (kind_of c) ≡ true → lost_by c ≡ change.Keeps
-lost_none c e = ap lost_by (the_abort c e)
+-- or gone
+event_goes : (lossy : Bool) (b : Table) (d : Dialogue) (before : List Use) (u : Use) (after : List Use) (m : Mark) (hs : List OpenCommand)
+    → Around lossy b d before u after → is_event u.tag ≡ true → picks is_event before ++ picks is_event after ≡ hs
+    → AgreesOn lossy (tabled b.standard hs b.tally) (marked_as d before u after (heard_of m) true [])
+event_goes lossy b d before u after m hs a is same =
+    quiet_agrees lossy b d before u after (heard_of m) true b.standard hs b.tally.failed a (λ x. absurd (false≢true (sym x)))
+    (kept_out lossy b d is_standard before u after (heard_of m) true b.standard (Around.parts a) (not_standard u is)
+    (AgreesOn.standard (Around.agrees a)))
+    (picks_gone is_event before u after (heard_of m) ∙ same)
+    (λ calm. next_closed lossy d b.tally before u after (heard_of m) [] (Around.parts a) (Around.rising a)
+    (event_rests u (Around.one a) is) (AgreesOn.calm (Around.agrees a) calm))
 
-done_none : (known : Known) (c : Command) → is_event_kind (kind_of c) ≡ true → done_by known c ≡ change.Keeps
-done_none known c e = ap (done_by known) (the_abort c e)
-
-act_none : (known : Known) (c : Command) (given : Option Datum) → is_event_kind (kind_of c) ≡ true → act_of known c given ≡ None
-act_none known c given e = ap (λ (x : Command). act_of known x given) (the_abort c e)
-
-event_by : (b : Table) (t : Talking) (before : List Use) (u : Use) (after : List Use) (m : Mark) (st : Step) (hs : List OpenCommand)
+event_by : (lossy : Bool) (b : Table) (d : Dialogue) (before : List Use) (u : Use) (after : List Use) (m : Mark) (hs : List OpenCommand)
     (e : Effect) (c : Command)
-    → Around b t before u after → is_event u.tag ≡ true → is_event_kind (kind_of c) ≡ true
+    → Around lossy b d before u after → is_event u.tag ≡ true → is_event_kind (kind_of c) ≡ true → u.command ≡ Sends c
     → (v : Verdict) → put_all (picks is_event before) (settled (entry u) (picks is_event after) v) ≡ two hs e
-    → Follows c u.stage m st v → AgreesOn (tabled b.standard hs b.tally) (after_step t before u after c st (heard_of m))
-event_by b t before u after m st hs e c a is sort (Becomes next) settles f =
+    → Follows c u.stage m (step_for u c m) v
+    → AgreesOn lossy (tabled b.standard hs b.tally) (marked_as d before u after (heard_of m) (ends m) (reports_of u (heard_of m) c))
+event_by lossy b d before u after m hs e c a is sort sends (Becomes next) settles f =
     let same = same_two _ _ _ _ (sym (put_fine (picks is_event before) (staged (entry u) next ∷ picks is_event after) Effect.Quiet)
     ∙ settles) in
-    subst (AgreesOn (tabled b.standard hs b.tally))
-    (sym (stays_is t before u after c st (heard_of m) next change.Keeps f.0 f.1 (f.2 t.known u.tag).0 (f.2 t.known u.tag).1))
-    (event_stays b t before u after hs next a is same.0)
-event_by b t before u after m st hs e c a is sort Breaks settles f =
+    subst (AgreesOn lossy (tabled b.standard hs b.tally)) (sym (quiet_is d before u after c m false f.0 f.2))
+    (event_stays lossy b d before u after m hs c next a is sends same.0
+    (ap stage_by (own_stage u (heard_of m) c sends) ∙ f.1.0) (own_ours u (heard_of m) c (Around.one a) sends f.1.1))
+event_by lossy b d before u after m hs e c a is sort sends Breaks settles f =
     let same = same_two _ _ _ _
-    (sym (put_fine (picks is_event before) (staged (entry u) Stage.Failed ∷ picks is_event after) Effect.Failure) ∙ settles) in
-    subst (AgreesOn (tabled b.standard hs b.tally))
-    (sym (stays_is t before u after c st (heard_of m) Stage.Failed change.Keeps f.0 f.1 (f.2 t.known u.tag).0
-    ((f.2 t.known u.tag).1 ∙ lost_none c sort)))
-    (event_stays b t before u after hs Stage.Failed a is same.0)
-event_by b t before u after m st hs e c a is sort Closes settles f =
+    (sym (put_fine (picks is_event before) (staged (entry u) OpenStage.Failed ∷ picks is_event after) Effect.Failure) ∙ settles) in
+    subst (AgreesOn lossy (tabled b.standard hs b.tally)) (sym (quiet_is d before u after c m false f.0 f.2))
+    (event_stays lossy b d before u after m hs c OpenStage.Failed a is sends same.0
+    (ap stage_by (own_stage u (heard_of m) c sends) ∙ f.1.0) (own_ours u (heard_of m) c (Around.one a) sends f.1.1))
+event_by lossy b d before u after m hs e c a is sort sends Closes settles f =
     let same = same_two _ _ _ _ (sym (put_fine (picks is_event before) (picks is_event after) Effect.Quiet) ∙ settles) in
-    subst (AgreesOn (tabled b.standard hs b.tally))
-    (sym (goes_is t before u after c st (heard_of m) None change.Keeps f.0 (f.1 t.known u.tag).0 (f.1 t.known u.tag).1))
-    (event_goes b t before u after hs a is same.0)
-event_by b t before u after m st hs e c a is sort (Counts given) settles f =
-    let same = same_two _ _ _ _ (sym (put_fine (picks is_event before) (picks is_event after) (Effect.Count (kind_by u.asked) given))
+    subst (AgreesOn lossy (tabled b.standard hs b.tally)) (sym (quiet_is d before u after c m true f.0 f.1))
+    (event_goes lossy b d before u after m hs a is same.0)
+event_by lossy b d before u after m hs e c a is sort sends (Counts given) settles f =
+    let same = same_two _ _ _ _ (sym (put_fine (picks is_event before) (picks is_event after) (Effect.Count (kind_by u.command) given))
     ∙ settles) in
-    subst (AgreesOn (tabled b.standard hs b.tally))
-    (sym (goes_is t before u after c st (heard_of m) None change.Keeps f.0 ((f.1 t.known u.tag).0 ∙ act_none t.known c given sort)
-    ((f.1 t.known u.tag).1 ∙ done_none t.known c sort)))
-    (event_goes b t before u after hs a is same.0)
-event_by b t before u after m st hs e c a is sort (Refused cause) settles f = absurd (no_answer (picks is_event before) hs e cause settles)
+    subst (AgreesOn lossy (tabled b.standard hs b.tally))
+    (sym (quiet_is d before u after c m true f.0 (λ k tag. f.1 k tag ∙ act_none k c given sort)))
+    (event_goes lossy b d before u after m hs a is same.0)
+event_by lossy b d before u after m hs e c a is sort sends (Refused cause) settles f =
+    absurd (no_answer (picks is_event before) hs e cause settles)
 
-always_comes : (turn : Bool) (k : Kind) → is_event_kind k ≡ true → may_come (cond turn Early InTurn) k ≡ true
-always_comes true k e = e
-always_comes false k e = refl
-
-event_at : (b : Table) (t : Talking) (n : ℕ) (m : Mark) (marked : Marked) (hs : List OpenCommand) (e : Effect)
-    → (k : IsCut is_event true t.uses (tag.Event n) m hs e) → Around b t k.before k.u k.after → (one : IsOurs k.u)
-    → ReadsAs (tag.Event n) b.event marked m → AgreesOn b t
-    → AgreesOn (tabled b.standard hs b.tally) (heard_under t (tag.Event n) marked (position (has_tag (tag.Event n)) t.uses))
-event_at b t n m marked hs e k a one reads g =
-    subst (AgreesOn (tabled b.standard hs b.tally))
-    (sym (mark_first is_event t b.event (tag.Event n) marked m true hs e g.event reads k one))
-    (event_by b t k.before k.u k.after m (step_at one.command k.before k.u m) hs e one.command a k.picked (one.sort ∙ k.picked)
-    (judged k.now (kind_of one.command) k.u.stage m)
-    (ap (λ (x : Asked). put_all (picks is_event k.before)
-    (settled (entry k.u) (picks is_event k.after) (judged k.now (kind_by x) k.u.stage m))) (sym one.asks) ∙ k.settles)
-    (follows k.now (may_come (turn_behind k.before) (kind_of one.command)) one.command k.u.stage m
-    (λ now. always_comes (list_any waits k.before) (kind_of one.command) (one.sort ∙ k.picked))))
+event_at : (lossy : Bool) (b : Table) (d : Dialogue) (line : List ℕ) (n : ℕ) (m : Mark) (signal : Signal) (hs : List OpenCommand) (e : Effect)
+    → (k : IsCut is_event true d.uses (tag.Event n) m hs e) → Around lossy b d k.before k.u k.after
+    → ReadsAs (tag.Event n) b.event signal m
+    → AgreesOn lossy (tabled b.standard hs b.tally) (server_answered d line (Some (tag.Event n, signal)))
+event_at lossy b d line n m signal hs e k a reads =
+    let one : IsOurs k.u = Around.one a in
+    let c : Command = IsOurs.command one in
+    let sort : is_event_kind (kind_of c) ≡ true = IsOurs.sort one ∙ k.picked in
+    subst (AgreesOn lossy (tabled b.standard hs b.tally))
+    (sym (mark_first lossy b d line is_event b.event (tag.Event n) signal m true hs e (AgreesOn.event (Around.agrees a)) reads k a
+    (λ answer calm. ap (λ (x : SentCommand). has_turn x && list_any waits k.before) (IsOurs.sends one)
+    ∙ ap (λ (x : Bool). not x && list_any waits k.before) sort)))
+    (event_by lossy b d k.before k.u k.after m hs e c a k.picked sort (IsOurs.sends one)
+    (judged k.now (kind_of c) (stage_by k.u.stage) m)
+    (settles_by is_event k.before k.u k.after m k.now hs e c (IsOurs.sends one) k.settles) (follows k.now c k.u.stage m))
 
 -- they agree after it
-pub event_agrees : (b : Table) (t : Talking) (n : ℕ) (m : Mark) (marked : Marked) (hs : List OpenCommand) (e : Effect)
-    → heard_in true b.event (tag.Event n) m ≡ two hs e → ReadsAs (tag.Event n) b.event marked m → AgreesOn b t
-    → AgreesOn (tabled b.standard hs b.tally) (heard_under t (tag.Event n) marked (position (has_tag (tag.Event n)) t.uses))
-event_agrees b t n m marked hs e is reads g =
-    found (cut is_event true t.uses (tag.Event n) m hs e refl
-    (ap (λ (l : List OpenCommand). heard_in true l (tag.Event n) m) g.event ∙ is))
+pub event_agrees : (lossy : Bool) (b : Table) (d : Dialogue) (line : List ℕ) (n : ℕ) (m : Mark) (signal : Signal) (hs : List OpenCommand)
+    (e : Effect) → heard_in true b.event (tag.Event n) m ≡ two hs e → ReadsAs (tag.Event n) b.event signal m → AgreesOn lossy b d
+    → AgreesOn lossy (tabled b.standard hs b.tally) (server_answered d line (Some (tag.Event n, signal)))
+event_agrees lossy b d line n m signal hs e is reads g =
+    found (cut is_event true d.uses (tag.Event n) m hs e refl
+    (ap (λ (l : List OpenCommand). heard_in true l (tag.Event n) m) (AgreesOn.event g) ∙ is))
   where
-    found : (k : IsCut is_event true t.uses (tag.Event n) m hs e)
-        → AgreesOn (tabled b.standard hs b.tally) (heard_under t (tag.Event n) marked (position (has_tag (tag.Event n)) t.uses))
-    found k = event_at b t n m marked hs e k (around b t k.before k.u k.after g k.parts)
-        (Around.one (around b t k.before k.u k.after g k.parts)) reads g
+    found : (k : IsCut is_event true d.uses (tag.Event n) m hs e)
+        → AgreesOn lossy (tabled b.standard hs b.tally) (server_answered d line (Some (tag.Event n, signal)))
+    found k = event_at lossy b d line n m signal hs e k (around lossy b d k.before k.u k.after g k.parts) reads

@@ -1,5 +1,5 @@
 -- The connections of a client, one after another: the features that it holds are true of what a witness wrote of them.
-use Rattle.std.proofs.Common.{◌≡◌, ℕ, ◌<◌, Bool, true, false, cond, ◌&&◌, List, [], ◌∷◌, ◌++◌, map, refl, sym, ◌∙◌, ap, subst}
+use Rattle.std.proofs.Common.{◌≡◌, ℕ, ◌<◌, Bool, true, false, cond, ◌&&◌, ◌||◌, List, [], ◌∷◌, ◌++◌, map, refl, sym, ◌∙◌, ap, subst}
 use Rattle.std.proofs.Common.{arith, append_assoc, append-nil, is_some, nat_lt, nat_le, Option, Some, None}
 use Rattle.std.proofs.lemmas.Bool.{false≢true, ltb-true, lt-ltb}
 use Rattle.std.proofs.lemmas.List.{map-append}
@@ -27,17 +27,17 @@ use Rattle.told_acts.proofs.Counts.{Grows, grows_told, heard_grows, numbered_don
 use Rattle.told_acts.proofs.Sounds.{sound_served, served_ours}
 use Rattle.told_acts.proofs.Tells.{told_are_sound}
 use Rattle.told_acts.proofs.Views.{read_all}
-use Rattle.told_ledger.specs.Talking.{silence}
-use Rattle.told_ledger.specs.Texts.{numbered as on_connection}
-use Rattle.told_ledger.specs.declared.uses.Told.{Told}
+use Rattle.witness.specs.Dialogues.{silence}
+use Rattle.witness.specs.Texts.{numbered as on_connection}
+use Rattle.witness.specs.declared.lines.Reported.{Reported}
 use Rattle.told_files.specs.Numbering.{numbered_from}
 use Rattle.told_files.specs.Runs.{parts_of, SoundByTold}
 use Rattle.told_files.proofs.NextContacts.{numbered_all}
 use Rattle.told_files.proofs.SameRuns.{told_sound}
 use Rattle.told_to_client.specs.Acts.{all_done, BeginsWith}
 use Rattle.told_orders.specs.Orders.{Line, said_all}
-use Rattle.told_to_client.specs.Lines.{witnessed}
-use Rattle.told_to_client.specs.Visits.{stays, Visit, is_visit, calls_of, told_of, behind_visits, told_of_all, BeginSo, written_of}
+use Rattle.told_to_client.specs.Lines.{witnessed, unasked}
+use Rattle.told_to_client.specs.Visits.{stays, Visit, is_visit, calls_of, told_of, behind_visits, told_of_all, some_unasked, BeginSo, written_of}
 use Rattle.told_to_client.proofs.Entries.{entries_of}
 use Rattle.told_to_client.proofs.Ledgers.{still_true, true_longer}
 use Rattle.told_to_client.proofs.Seeing.{told_begins}
@@ -176,7 +176,7 @@ off_calls c (call ∷ calls) e is on =
 -- ---- one connection
 
 -- a client after a connection, and what was reported of it after what was reported earlier
-record IsVisited (p : Meaning) (es : List (ℕ × Told)) (n : ℕ) (d : Client) (reported : List Told) : Type 0 where
+record IsVisited (p : Meaning) (es : List (ℕ × Reported)) (n : ℕ) (d : Client) (reported : List Reported) : Type 0 where
   program : d.program ≡ p
   sound : SoundByTold p.features d.table.tally.features (es ++ map (on_connection n) reported)
 
@@ -192,16 +192,16 @@ may_anew n c may =
     ap (λ (b : Bool). b && nat_le n connection_most) (lt-ltb 0 n (omega (arith, above))) ∙ second.1
 
 -- these are the first features of the program
-sound_ours : (p : Meaning) (fs : List Feature) (es : List (ℕ × Told)) → SoundByTold p.features fs es → are_ours p.features fs ≡ true
+sound_ours : (p : Meaning) (fs : List Feature) (es : List (ℕ × Reported)) → SoundByTold p.features fs es → are_ours p.features fs ≡ true
 sound_ours p fs es h =
     let l : List (ℕ × Act) = numbered_from true None (parts_of es) in
     served_ours p.features fs (contacts l) (sound_served p.features fs l (told_sound es l p.features fs (numbered_all es l refl) h))
 
-told_parts : (n : ℕ) (acts : List Act) (reported : List Told) → (b : BeginsWith acts reported)
+told_parts : (n : ℕ) (acts : List Act) (reported : List Reported) → (b : BeginsWith acts reported)
     → entries_of n acts ++ map (on_connection n) b.more ≡ map (on_connection n) reported
 told_parts n acts reported b = sym (ap (map (on_connection n)) b.parts ∙ map-append (on_connection n) (all_done acts) b.more)
 
-connected_visit : (n m : ℕ) (c : Client) (calls : List Call) (reported : List Told) (es : List (ℕ × Told)) → IsProgram c.program
+connected_visit : (n m : ℕ) (c : Client) (calls : List Call) (reported : List Reported) (es : List (ℕ × Reported)) → IsProgram c.program
     → list_all stays calls ≡ true → SoundByTold c.program.features c.table.tally.features es
     → possible (Connected n) (anew c) ≡ true
     → BeginsWith (behind_calls calls (end_connected n (anew c))).client.table.tally.counted reported
@@ -219,7 +219,7 @@ connected_visit n m c calls reported es program on sound may begins =
     (program_stays p fs c.window (Connected n ∷ calls) program ours) in
     record {
       program = stays_is;
-      sound = subst (λ (l : List (ℕ × Told)). SoundByTold p.features (behind_calls calls e).client.table.tally.features (es ++ l))
+      sound = subst (λ (l : List (ℕ × Reported)). SoundByTold p.features (behind_calls calls e).client.table.tally.features (es ++ l))
           (told_parts m acts reported begins)
           (still_true p.features fs (behind_calls calls e).client.table.tally.features n m es (map (on_connection m) begins.more) acts sound
           (λ l h. subst (λ (k : List (ℕ × Act)). Sound p.features (behind_calls calls e).client.table.tally.features (l ++ k))
@@ -230,75 +230,87 @@ connected_visit n m c calls reported es program on sound may begins =
     }
 
 -- what a witness that reads with the client reports begins with what is counted
-begins_connected : (n : ℕ) (c : Client) (calls : List Call) (unread : List Line) → IsProgram c.program
+begins_connected : (ordered : Bool) (n : ℕ) (c : Client) (calls : List Call) (unread : List Line) → IsProgram c.program
     → are_ours c.program.features c.table.tally.features ≡ true → possible (Connected n) (anew c) ≡ true
+    → unasked calls (end_connected n (anew c)) false ≡ false
     → BeginsWith (behind_calls calls (end_connected n (anew c))).client.table.tally.counted
-    (said_all (witnessed calls (end_connected n (anew c)) silence) unread).told
-begins_connected n c calls unread program ours may =
-    subst (λ (b : Bool). BeginsWith (behind_calls calls (cond b (end_connected n (anew c)) (anew c))).client.table.tally.counted
-    (said_all (witnessed calls (cond b (end_connected n (anew c)) (anew c)) (cond b silence silence)) unread).told) may
-    (told_begins c.program c.table.tally.features c.window (Connected n ∷ calls) unread program ours)
+    (said_all (witnessed calls (end_connected n (anew c)) (silence ordered)) unread).reported
+begins_connected ordered n c calls unread program ours may none =
+    subst (λ (b : Bool). unasked calls (cond b (end_connected n (anew c)) (anew c)) (cond b false false) ≡ false
+    → BeginsWith (behind_calls calls (cond b (end_connected n (anew c)) (anew c))).client.table.tally.counted
+    (said_all (witnessed calls (cond b (end_connected n (anew c)) (anew c)) (cond b (silence ordered) (silence ordered))) unread).reported) may
+    (told_begins ordered c.program c.table.tally.features c.window (Connected n ∷ calls) unread program ours) none
 
-left_visit : (n : ℕ) (c d : Client) (es : List (ℕ × Told)) (reported : List Told) → d ≡ client_left c
+left_visit : (n : ℕ) (c d : Client) (es : List (ℕ × Reported)) (reported : List Reported) → d ≡ client_left c
     → SoundByTold c.program.features c.table.tally.features es → IsVisited c.program es n d reported
 left_visit n c d es reported is sound = subst (λ (x : Client). IsVisited c.program es n x reported) (sym is) (record {
   program = refl;
   sound = true_longer c.program.features c.table.tally.features es (map (on_connection n) reported) sound;
 })
 
-one_visit : (v : Visit) (e : ClientEnd) (es : List (ℕ × Told)) → IsProgram e.client.program → list_all stays v.calls ≡ true
+one_visit : (ordered : Bool) (v : Visit) (e : ClientEnd) (es : List (ℕ × Reported)) → IsProgram e.client.program
+    → list_all stays v.calls ≡ true → unasked (calls_of v) e false ≡ false
     → SoundByTold e.client.program.features e.client.table.tally.features es
     → IsVisited e.client.program es v.number (behind_calls (calls_of v) e).client
-    (said_all (witnessed (calls_of v) e silence) v.unread).told
-one_visit v e es program on sound = go (may_connect v.own (client_left e.client)) refl
+    (said_all (witnessed (calls_of v) e (silence ordered)) v.unread).reported
+one_visit ordered v e es program on none sound = go (may_connect v.own (client_left e.client)) refl none
   where
     go : (b : Bool) → may_connect v.own (client_left e.client) ≡ b
+        → unasked v.calls (cond b (end_connected v.own (end_left e)) (end_left e)) (cond b false false) ≡ false
         → IsVisited e.client.program es v.number (behind_calls v.calls (cond b (end_connected v.own (end_left e)) (end_left e))).client
-        (said_all (witnessed v.calls (cond b (end_connected v.own (end_left e)) (end_left e)) (cond b silence silence)) v.unread).told
-    go true may =
+        (said_all (witnessed v.calls (cond b (end_connected v.own (end_left e)) (end_left e)) (cond b (silence ordered) (silence ordered)))
+        v.unread).reported
+    go true may none_now =
         let again = may_anew v.own e.client may in
         connected_visit v.own v.number e.client v.calls
-        (said_all (witnessed v.calls (end_connected v.own (end_left e)) silence) v.unread).told es program on sound again
-        (begins_connected v.own e.client v.calls v.unread program
-        (sound_ours e.client.program e.client.table.tally.features es sound) again)
-    go false never = left_visit v.number e.client (behind_calls v.calls (end_left e)).client es
-        (said_all (witnessed v.calls (end_left e) silence) v.unread).told (off_calls e.client v.calls (end_left e) refl on) sound
+        (said_all (witnessed v.calls (end_connected v.own (end_left e)) (silence ordered)) v.unread).reported es program on sound again
+        (begins_connected ordered v.own e.client v.calls v.unread program
+        (sound_ours e.client.program e.client.table.tally.features es sound) again none_now)
+    go false never none_now = left_visit v.number e.client (behind_calls v.calls (end_left e)).client es
+        (said_all (witnessed v.calls (end_left e) (silence ordered)) v.unread).reported (off_calls e.client v.calls (end_left e) refl on) sound
 
 -- ---- connections, one after another
 
-visits_true : (p : Meaning) → IsProgram p → (vs : List Visit) (e : ClientEnd) (es : List (ℕ × Told)) → e.client.program ≡ p
-    → list_all is_visit vs ≡ true → SoundByTold p.features e.client.table.tally.features es
-    → SoundByTold p.features (behind_visits vs e).client.table.tally.features (es ++ told_of_all vs e)
-visits_true p program [] e es same on sound =
-    subst (λ (l : List (ℕ × Told)). SoundByTold p.features e.client.table.tally.features l) (sym (append-nil es)) sound
-visits_true p program (v ∷ vs) e es same on sound =
+no_line : (a b : Bool) → (a || b) ≡ false → (a ≡ false) × (b ≡ false)
+no_line true b e = absurd (false≢true (sym e))
+no_line false b e = (refl, e)
+
+visits_true : (ordered : Bool) (p : Meaning) → IsProgram p → (vs : List Visit) (e : ClientEnd) (es : List (ℕ × Reported))
+    → e.client.program ≡ p → list_all is_visit vs ≡ true → some_unasked vs e ≡ false
+    → SoundByTold p.features e.client.table.tally.features es
+    → SoundByTold p.features (behind_visits vs e).client.table.tally.features (es ++ told_of_all ordered vs e)
+visits_true ordered p program [] e es same on none sound =
+    subst (λ (l : List (ℕ × Reported)). SoundByTold p.features e.client.table.tally.features l) (sym (append-nil es)) sound
+visits_true ordered p program (v ∷ vs) e es same on none sound =
     let parts = both (is_visit v) (list_all is_visit vs) on in
+    let quiet = no_line (unasked (calls_of v) e false) (some_unasked vs (behind_calls (calls_of v) e)) none in
     let one : IsVisited e.client.program (es ++ v.others) v.number (behind_calls (calls_of v) e).client
-    (said_all (witnessed (calls_of v) e silence) v.unread).told =
-    one_visit v e (es ++ v.others) (subst IsProgram (sym same) program) parts.0
+    (said_all (witnessed (calls_of v) e (silence ordered)) v.unread).reported =
+    one_visit ordered v e (es ++ v.others) (subst IsProgram (sym same) program) parts.0 quiet.0
     (subst (λ (q : Meaning). SoundByTold q.features e.client.table.tally.features (es ++ v.others)) (sym same)
     (true_longer p.features e.client.table.tally.features es v.others sound)) in
-    let now : SoundByTold e.client.program.features (behind_calls (calls_of v) e).client.table.tally.features (es ++ told_of v e) =
-    subst (λ (l : List (ℕ × Told)). SoundByTold e.client.program.features (behind_calls (calls_of v) e).client.table.tally.features l)
-    (append_assoc es v.others (map (on_connection v.number) (said_all (witnessed (calls_of v) e silence) v.unread).told))
-    (IsVisited.sound one) in
-    subst (λ (l : List (ℕ × Told)). SoundByTold p.features
+    let now : SoundByTold e.client.program.features (behind_calls (calls_of v) e).client.table.tally.features (es ++ told_of ordered v e) =
+    subst (λ (l : List (ℕ × Reported)). SoundByTold e.client.program.features (behind_calls (calls_of v) e).client.table.tally.features l)
+    (append_assoc es v.others
+    (map (on_connection v.number) (said_all (witnessed (calls_of v) e (silence ordered)) v.unread).reported)) (IsVisited.sound one) in
+    subst (λ (l : List (ℕ × Reported)). SoundByTold p.features
     (behind_visits vs (behind_calls (calls_of v) e)).client.table.tally.features l)
-    (append_assoc es (told_of v e) (told_of_all vs (behind_calls (calls_of v) e)))
-    (visits_true p program vs (behind_calls (calls_of v) e) (es ++ told_of v e) (IsVisited.program one ∙ same) parts.1
-    (subst (λ (q : Meaning). SoundByTold q.features (behind_calls (calls_of v) e).client.table.tally.features (es ++ told_of v e)) same
+    (append_assoc es (told_of ordered v e) (told_of_all ordered vs (behind_calls (calls_of v) e)))
+    (visits_true ordered p program vs (behind_calls (calls_of v) e) (es ++ told_of ordered v e) (IsVisited.program one ∙ same) parts.1 quiet.1
+    (subst (λ (q : Meaning). SoundByTold q.features (behind_calls (calls_of v) e).client.table.tally.features (es ++ told_of ordered v e)) same
     now))
 
-pub held_are_true : (p : Meaning) (kept : List Feature) (window : ℕ) (visits : List Visit) (earlier : List (ℕ × Told)) → IsProgram p
-    → list_all is_visit visits ≡ true → SoundByTold p.features kept earlier
+pub held_are_true : (ordered : Bool) (p : Meaning) (kept : List Feature) (window : ℕ) (visits : List Visit) (earlier : List (ℕ × Reported))
+    → IsProgram p → list_all is_visit visits ≡ true → some_unasked visits (new_client_end p kept window) ≡ false
+    → SoundByTold p.features kept earlier
     → SoundByTold p.features (behind_visits visits (new_client_end p kept window)).client.table.tally.features
-    (earlier ++ told_of_all visits (new_client_end p kept window))
-held_are_true p kept window visits earlier program on sound =
-    visits_true p program visits (new_client_end p kept window) earlier refl on sound
+    (earlier ++ told_of_all ordered visits (new_client_end p kept window))
+held_are_true ordered p kept window visits earlier program on none sound =
+    visits_true ordered p program visits (new_client_end p kept window) earlier refl on none sound
 
 -- ---- any witness
 
-any_visit : (v : Visit) (e : ClientEnd) (es : List (ℕ × Told)) (reported : List Told) → IsProgram e.client.program
+any_visit : (v : Visit) (e : ClientEnd) (es : List (ℕ × Reported)) (reported : List Reported) → IsProgram e.client.program
     → list_all stays v.calls ≡ true → SoundByTold e.client.program.features e.client.table.tally.features es
     → BeginsWith (behind_calls (calls_of v) e).client.table.tally.counted reported
     → IsVisited e.client.program es v.number (behind_calls (calls_of v) e).client reported
@@ -313,11 +325,11 @@ any_visit v e es reported program on sound begins = go (may_connect v.own (clien
     go false never begins_now = left_visit v.number e.client (behind_calls v.calls (end_left e)).client es reported
         (off_calls e.client v.calls (end_left e) refl on) sound
 
-any_true : (p : Meaning) → IsProgram p → (vs : List Visit) (rs : List (List Told)) (e : ClientEnd) (es : List (ℕ × Told))
+any_true : (p : Meaning) → IsProgram p → (vs : List Visit) (rs : List (List Reported)) (e : ClientEnd) (es : List (ℕ × Reported))
     → e.client.program ≡ p → list_all is_visit vs ≡ true → BeginSo vs rs e → SoundByTold p.features e.client.table.tally.features es
     → SoundByTold p.features (behind_visits vs e).client.table.tally.features (es ++ written_of vs rs)
 any_true p program [] [] e es same on begin sound =
-    subst (λ (l : List (ℕ × Told)). SoundByTold p.features e.client.table.tally.features l) (sym (append-nil es)) sound
+    subst (λ (l : List (ℕ × Reported)). SoundByTold p.features e.client.table.tally.features l) (sym (append-nil es)) sound
 any_true p program [] (r ∷ rs) e es same on begin sound = absurd begin
 any_true p program (v ∷ vs) [] e es same on begin sound = absurd begin
 any_true p program (v ∷ vs) (r ∷ rs) e es same on begin sound =
@@ -326,18 +338,18 @@ any_true p program (v ∷ vs) (r ∷ rs) e es same on begin sound =
     any_visit v e (es ++ v.others) r (subst IsProgram (sym same) program) parts.0
     (subst (λ (q : Meaning). SoundByTold q.features e.client.table.tally.features (es ++ v.others)) (sym same)
     (true_longer p.features e.client.table.tally.features es v.others sound)) begin.0 in
-    let written : List (ℕ × Told) = v.others ++ map (on_connection v.number) r in
+    let written : List (ℕ × Reported) = v.others ++ map (on_connection v.number) r in
     let now : SoundByTold e.client.program.features (behind_calls (calls_of v) e).client.table.tally.features (es ++ written) =
-    subst (λ (l : List (ℕ × Told)). SoundByTold e.client.program.features (behind_calls (calls_of v) e).client.table.tally.features l)
+    subst (λ (l : List (ℕ × Reported)). SoundByTold e.client.program.features (behind_calls (calls_of v) e).client.table.tally.features l)
     (append_assoc es v.others (map (on_connection v.number) r)) (IsVisited.sound one) in
-    subst (λ (l : List (ℕ × Told)). SoundByTold p.features
+    subst (λ (l : List (ℕ × Reported)). SoundByTold p.features
     (behind_visits vs (behind_calls (calls_of v) e)).client.table.tally.features l)
     (append_assoc es written (written_of vs rs))
     (any_true p program vs rs (behind_calls (calls_of v) e) (es ++ written) (IsVisited.program one ∙ same) parts.1 begin.1
     (subst (λ (q : Meaning). SoundByTold q.features (behind_calls (calls_of v) e).client.table.tally.features (es ++ written)) same now))
 
-pub held_are_true_so : (p : Meaning) (kept : List Feature) (window : ℕ) (visits : List Visit) (reports : List (List Told))
-    (earlier : List (ℕ × Told)) → IsProgram p → list_all is_visit visits ≡ true → BeginSo visits reports (new_client_end p kept window)
+pub held_are_true_so : (p : Meaning) (kept : List Feature) (window : ℕ) (visits : List Visit) (reports : List (List Reported))
+    (earlier : List (ℕ × Reported)) → IsProgram p → list_all is_visit visits ≡ true → BeginSo visits reports (new_client_end p kept window)
     → SoundByTold p.features kept earlier
     → SoundByTold p.features (behind_visits visits (new_client_end p kept window)).client.table.tally.features
     (earlier ++ written_of visits reports)

@@ -1,15 +1,17 @@
 -- A witness that reads lines of the server before the client does (this profile).
-use Rattle.std.specs.Prelude.{◌≡◌, ℕ, true, false, if◌then◌else◌, List, [], ◌∷◌, ◌++◌, drop, length, Some, None, Ok, Err}
+use Rattle.std.specs.Prelude.{◌≡◌, ℕ, Bool, true, false, if◌then◌else◌, List, [], ◌∷◌, ◌++◌, drop, length, Some, None, Ok, Err}
 use Rattle.std.specs.List.{list_any}
 use Rattle.line_framing.specs.Next.{Front, next_of}
 use Rattle.protocol_model.specs.Client.{client_sent, client_aborted}
 use Rattle.protocol_model.specs.Ends.{ClientEnd}
 use Rattle.protocol_model.specs.Lines.{command_texts}
 use Rattle.protocol_model.specs.declared.lines.Line.{Line}
-use Rattle.told_ledger.specs.Talking.{Talking, silence, server_said}
-use Rattle.told_ledger.specs.Watching.{client_lines}
+use Rattle.witness.specs.Asking.{server_line}
+use Rattle.witness.specs.Dialogues.{Dialogue, silence, after}
+use Rattle.witness.specs.Watching.{client_lines}
 use Rattle.client_core.specs.Calls.{Call, Connected, Send, ReadOne, Abort, possible, behind_call}
 use Rattle.told_orders.specs.Orders.{answers}
+use Rattle.told_to_client.specs.Lines.{unasked_call}
 use Rattle.told_to_client.specs.Visits.{stays}
 
 -- a call of the client, or a line of the server that the witness reads before the client does
@@ -20,7 +22,7 @@ pub data Turn : Type 0 where
 -- a client, its witness, and the lines that the witness has read and the client has not
 pub record Watched : Type 0 where
   pub client : ClientEnd
-  pub talk : Talking
+  pub dialogue : Dialogue
   pub ahead : List (List ℕ)
 
 -- the commands that a call writes
@@ -44,13 +46,17 @@ read_by _ e = []
 abbrev pub called : Call → Watched → Watched
 called call w = record {
   client = behind_call call w.client;
-  talk = client_lines w.talk (command_texts (written_by call w.client));
+  dialogue = client_lines w.dialogue (command_texts (written_by call w.client));
   ahead = drop (length (read_by call w.client)) w.ahead;
 }
 
 abbrev pub after_turn : Turn → Watched → Watched
 after_turn (Calls call) w = if possible call w.client then called call w else w
-after_turn (Comes line) w = record { client = w.client; talk = server_said w.talk line; ahead = w.ahead ++ line ∷ [] }
+after_turn (Comes line) w = record {
+  client = w.client;
+  dialogue = after w.dialogue (server_line line);
+  ahead = w.ahead ++ line ∷ [];
+}
 
 abbrev pub after_turns : List Turn → Watched → Watched
 after_turns [] w = w
@@ -77,6 +83,15 @@ abbrev pub AreCausal : List Turn → Watched → Type 0
 AreCausal [] w = Unit {0}
 AreCausal (turn ∷ turns) w = IsCausalTurn turn w × AreCausal turns (after_turn turn w)
 
--- a connection is begun, of which the witness has read nothing
-abbrev pub begun_on : ℕ → ClientEnd → Watched
-begun_on n e = record { client = behind_call (Connected n) e; talk = silence; ahead = [] }
+-- whether the client read a line that belongs to no command, or one came before
+abbrev pub unasked_turn : Turn → Watched → Bool → Bool
+unasked_turn (Calls call) w came = unasked_call call w.client came
+unasked_turn (Comes line) w came = came
+
+abbrev pub unasked_turns : List Turn → Watched → Bool → Bool
+unasked_turns [] w came = came
+unasked_turns (turn ∷ turns) w came = unasked_turns turns (after_turn turn w) (unasked_turn turn w came)
+
+-- a connection is begun, of which the witness has read nothing; the first argument: the order between the two ends is known to it
+abbrev pub begun_on : Bool → ℕ → ClientEnd → Watched
+begun_on ordered n e = record { client = behind_call (Connected n) e; dialogue = silence ordered; ahead = [] }

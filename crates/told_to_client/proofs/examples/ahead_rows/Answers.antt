@@ -4,14 +4,17 @@ use Rattle.dme_line.specs.declared.responses.Response.{Response}
 use Rattle.dme_line.specs.declared.responses.NotResponse.{NotResponse}
 use Rattle.dme_line.specs.declared.tags.Tag.TheVariants.{Std}
 use Rattle.told_acts.specs.Examples.{completed}
-use Rattle.told_ledger.specs.Talking.{answering}
+use Rattle.witness.specs.Asking.{answered}
+use Rattle.witness.specs.Dialogues.{server_answered}
 use Rattle.told_orders.specs.Orders.{is_of}
 use Rattle.told_to_client.specs.Examples.{watching}
-use Rattle.told_to_client.proofs.ExampleLines.{completed_reads}
+use Rattle.told_to_client.specs.Lines.{is_unasked}
+use Rattle.told_to_client.proofs.ExampleLines.{completed_reads, zero_reads}
 use Rattle.told_to_client.proofs.examples.ahead_rows.Goals as goal
 
 pub returns-clause-told : goal.returns-clause-told
-returns-clause-told c = ap (λ (r : Result Response NotResponse). (answering watching completed r).told) completed_reads
+returns-clause-told c =
+    ap (λ (r : Result Response NotResponse). (server_answered watching completed (answered r)).reported) completed_reads
 
 pub returns-clause-causal : goal.returns-clause-causal
 returns-clause-causal c = (tt, ((λ may. record { on = refl; later = []; first = refl; unanswered = tt }), tt))
@@ -31,3 +34,6 @@ returns-clause-answered c = λ h. false≢true (sym h.0
 
 pub returns-clause-unanswered : goal.returns-clause-unanswered
 returns-clause-unanswered c = (ap (λ (r : Result Response NotResponse). is_of (Std 8) r || false) completed_reads, tt)
+
+pub returns-clause-unasked_read : goal.returns-clause-unasked_read
+returns-clause-unasked_read c = ap (λ (r : Result Response NotResponse). false || is_unasked r) zero_reads

@@ -1,19 +1,24 @@
-use Rattle.std.proofs.Common.{◌≡◌, List, [], ◌∷◌, ◌++◌, map, refl, ap, Result}
+use Rattle.std.proofs.Common.{◌≡◌, true, false, ◌||◌, List, [], ◌∷◌, ◌++◌, map, refl, ap, Result}
 use Rattle.contact_ledger.specs.declared.acts.Act.TheVariants as act
 use Rattle.dme_line.specs.declared.responses.Response.{Response}
 use Rattle.dme_line.specs.declared.responses.NotResponse.{NotResponse}
 use Rattle.told_acts.specs.Examples.{completed}
-use Rattle.told_ledger.specs.Talking.{silence, answering}
-use Rattle.told_ledger.specs.Texts.{numbered}
-use Rattle.told_ledger.specs.declared.uses.Told.{Told}
-use Rattle.told_ledger.specs.declared.uses.Told.TheVariants.{Did, Left}
-use Rattle.told_to_client.proofs.ExampleLines.{completed_reads}
+use Rattle.witness.specs.Asking.{answered}
+use Rattle.witness.specs.Dialogues.{silence, server_answered}
+use Rattle.witness.specs.Texts.{numbered}
+use Rattle.witness.specs.declared.lines.Reported.{Reported}
+use Rattle.witness.specs.declared.lines.Reported.TheVariants.{Did, Left}
+use Rattle.told_to_client.specs.Lines.{is_unasked}
+use Rattle.told_to_client.proofs.ExampleLines.{completed_reads, zero_reads}
 use Rattle.told_to_client.proofs.examples.visit_rows.Goals as goal
 
 pub returns-clause-told : goal.returns-clause-told
 returns-clause-told c = ap (λ (r : Result Response NotResponse).
-    (6, Left) ∷ (map (numbered 7) (answering silence completed r).told
-    ++ (6, Left) ∷ (map (numbered 8) (answering silence completed r).told ++ []))) completed_reads
+    (6, Left) ∷ (map (numbered 7) (server_answered (silence true) completed (answered r)).reported
+    ++ (6, Left) ∷ (map (numbered 8) (server_answered (silence true) completed (answered r)).reported ++ []))) completed_reads
+
+pub returns-clause-unasked : goal.returns-clause-unasked
+returns-clause-unasked c = ap (λ (r : Result Response NotResponse). (false || is_unasked r) || false) zero_reads
 
 pub returns-clause-begins : goal.returns-clause-begins
 returns-clause-begins c = (record { more = Did act.Homed ∷ []; parts = refl }, (record { more = []; parts = refl }, tt))
@@ -24,5 +29,5 @@ returns-clause-too_few c = λ h. h.1
 pub returns-clause-not_so : goal.returns-clause-not_so
 returns-clause-not_so c = λ h. let b = h.0 in none (Did act.Homed) b.more b.parts
   where
-    none : (x : Told) (more : List Told) → ◌≡◌ {A = List Told} [] (x ∷ more) → ⊥
+    none : (x : Reported) (more : List Reported) → ◌≡◌ {A = List Reported} [] (x ∷ more) → ⊥
     none x more e = cc

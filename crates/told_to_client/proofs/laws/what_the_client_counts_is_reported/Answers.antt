@@ -1,8 +1,10 @@
-use Rattle.told_to_client.proofs.Seeing.{told_is_counted, told_begins}
+use Rattle.told_to_client.proofs.Seeing.{told_is_counted, told_is_claimed, told_begins, told_begins_to_claim}
 use Rattle.told_to_client.proofs.laws.what_the_client_counts_is_reported.Goals as goal
 
-pub returns-clause-told : goal.returns-clause-told
-returns-clause-told c = told_is_counted
-
-pub returns-clause-begins : goal.returns-clause-begins
-returns-clause-begins c = told_begins
+pub returns : goal.returns
+returns c = record {
+  told = told_is_counted;
+  claims = told_is_claimed;
+  begins = told_begins;
+  begins_to_claim = told_begins_to_claim;
+}
