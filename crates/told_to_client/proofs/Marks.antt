@@ -104,7 +104,7 @@ uses_are uses before u after h ended parts ours_before ours_after alone none_bef
 
 -- ---- the mark is in turn
 
--- where it is an answer to what has not failed, the use waits for none
+-- if it is an answer to what has not failed, the use waits for none
 abbrev pub IsInTurn : List Use → Use → Heard → Type 0
 IsInTurn before u h = is_answer h ≡ true → u.has_failed ≡ false → (has_turn u.command && list_any waits before) ≡ false
 
