@@ -1,7 +1,7 @@
 """Each limit, and one more: statements of a program, touches of a feature, bytes of a line. What has to be linear is.
 
 The expected results are computed here. Rows test other limits: 64 waiting commands and one more (`homes` of test_calls), all tags held (`aborts
-9999` there, and the tests of `test_units` for standard tags), connection 4,000,000,000 and the next number (`connected`, `accept`).
+9999` there), connection 4,000,000,000 and the next number (`connected`, `accept`).
 
 `run` calls this; by itself: tests/limits.py [NAME ..]
 """

@@ -1,4 +1,4 @@
-// What no clause says about framing, in addition to the rows of test_texts.
+// What no clause says about framing, in addition to the rows of test_texts: a line outlives its buffer; and the longest line.
 
 use line_framing::{FramingFault, Line, Lines, LinesFault};
 use std::alloc::Global;
@@ -26,38 +26,6 @@ fn is_nothing(answer: &Result<Option<Line>, LinesFault>) -> bool {
 
 fn is_refused(answer: &Result<Option<Line>, LinesFault>, due: FramingFault) -> bool {
     matches!(answer, Err(LinesFault::Framing(fault)) if *fault == due)
-}
-
-/// Whether a byte of the replies, the one at this place, gives the line that ends with it, and otherwise none.
-fn comes_with_its_last(lines: &mut Lines, index: usize, byte: u8) -> bool {
-    let answer = fed(lines, &[byte]);
-    match index {
-        40 => is_line(&answer, b"00008 # X(10.002), Y(20.000), Z(25.000)"),
-        49 => is_line(&answer, b"00008 %"),
-        _ => is_nothing(&answer),
-    }
-}
-
-/// Whether the replies give both lines if they come at once, and no more.
-fn come_at_once(lines: &mut Lines) -> bool {
-    is_line(
-        &fed(lines, REPLIES),
-        b"00008 # X(10.002), Y(20.000), Z(25.000)",
-    ) && is_line(&lines.next_line(), b"00008 %")
-        && is_nothing(&lines.next_line())
-}
-
-#[test]
-fn lines_come_with_their_last_byte(rt: HostRuntime) {
-    let mut lines = Lines::new(rt.alloc());
-    for (index, byte) in REPLIES.iter().enumerate() {
-        assert!(rt;
-            comes_with_its_last(&mut lines, index, *byte),
-            "after byte {index}"
-        );
-    }
-    assert_eq!(rt; lines.rest().len(), 0);
-    assert!(rt; come_at_once(&mut lines));
 }
 
 /// Whether 65,536 bytes, one by one, give no line.

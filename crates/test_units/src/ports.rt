@@ -59,29 +59,6 @@ fn pieces(alloc: Global, call: u64) -> Result<Pieces, AllocError> {
     Ok(source)
 }
 
-// Whether a source whose pull number `call` fails gives these answers to pulls of at most two bytes.
-fn pulls(
-    alloc: Global,
-    call: u64,
-    answers: [Result<usize, Failed>; 5],
-) -> Result<bool, AllocError> {
-    let mut source = pieces(alloc, call)?;
-    for answer in answers {
-        if source.pull(&mut [0; 2]) != answer {
-            return Ok(false);
-        }
-    }
-    Ok(true)
-}
-
-#[test]
-fn pieces_come_one_a_pull_until_the_set_call(rt: HostRuntime) -> Result<(), Fail> {
-    let failed: Result<usize, Failed> = Err(Failed);
-    assert!(rt; pulls(rt.alloc(), 0, [Ok(2), Ok(1), Ok(2), Ok(0), Ok(0)])?);
-    assert!(rt; pulls(rt.alloc(), 3, [Ok(2), Ok(1), failed, failed, failed])?);
-    Ok(())
-}
-
 // Whether all bytes come from such a source in at most that many pulls, or this fault; and whether it then fails only after a failure.
 fn comes_to(
     alloc: Global,
