@@ -1,5 +1,5 @@
 #!/usr/bin/env python3
-"""The layers of the crates, their dependencies, and where a change begins: checks crates.txt by the rule of the layers, the table of
+"""The layers of the crates, their dependencies, and where a change begins: checks crates.txt by its headings, the table of
 docs/ARCHITECTURE.md by crates.txt, and the definitions and modules of its other table by the crates' files.
 
 `run` calls this; by itself: tests/layers.py, and tests/layers.py --write to write the table.
@@ -13,17 +13,9 @@ from generated import ROOT, is_present
 
 PAGE = ROOT / "docs" / "ARCHITECTURE.md"
 
-# The lowest first. A crate uses crates of its own layer and of earlier layers, and no crate uses one of USED_BY_NONE.
-LAYERS = {
-    "values and texts": "fixed_um dmis_text dmis_program dme_line line_framing byte_ports contact_ledger tool_rack",
-    "the model": "protocol_model protocol_examples session_telling witness told_orders line_judge",
-    "the two ends": "command_queue dme_tags resume_plan server_core client_core told_acts",
-    "both ends together, and results": "link_world ledger_audit told_files told_by_server told_to_client run_record record_keeping record_laws recorded_runs deviations drawings refusal_guide program_review review_report",
-    "orders": "dme_words dme_orders",
-    "the edge": "dme_files dme_sockets dme_run dme_serve dme_watch dme_program dme_c",
-    "tests and measuring": "test_texts test_calls test_units bench_world",
-}
-USED_BY_NONE = {"protocol_examples", "dme_program", "dme_c"} | set(LAYERS["tests and measuring"].split())
+CRATES = ROOT / "crates.txt"
+TESTS = "tests and measuring"
+USED_BY_NONE = {"protocol_examples", "dme_program", "dme_c"}
 
 
 def read(text):
@@ -32,13 +24,28 @@ def read(text):
     return {name.split()[0]: below.split() for name, colon, below in lines if colon}
 
 
+def layers_of(text):
+    """The crates of each layer, the lowest first, by the headings: a crate uses crates of its own layer and of earlier ones."""
+    layers, names = {}, []
+    for line in text.splitlines():
+        if line.startswith("## "):
+            names = layers.setdefault(line.removeprefix("## "), [])
+        elif ":" in line and not line.startswith("#"):
+            names.append(line.split(":")[0].split()[0])
+    return layers
+
+
+LAYERS = layers_of(CRATES.read_text())
+
+
 def faults_of(crates):
-    """What breaks the rule of the layers."""
-    level = {it: at for at, names in enumerate(LAYERS.values()) for it in names.split()}
-    faults = [f"{it} has no layer" for it in sorted(crates.keys() - level)] + [f"{it} is no crate" for it in sorted(level.keys() - crates)]
+    """What breaks the rule of the layers. No crate uses one of USED_BY_NONE, or of the tests."""
+    level = {it: at for at, names in enumerate(LAYERS.values()) for it in names}
+    unused = USED_BY_NONE | set(LAYERS.get(TESTS, []))
+    faults = [f"{it} has no layer" for it in sorted(crates.keys() - level)]
     for name in sorted(crates.keys() & level):
         for below in crates[name]:
-            if below in USED_BY_NONE:
+            if below in unused:
                 faults.append(f"{name} uses {below}, which nothing may use")
             elif below in level and level[below] > level[name]:
                 faults.append(f"{name} uses {below}, which is of a higher layer")
@@ -67,9 +74,9 @@ def row(name, crates):
 def table(crates):
     """What each crate uses, layer by layer."""
     text = "| Crate | Stands on | Of the toolchain |\n|---|---|---|\n"
-    ordered = {it: crates[it] for names in LAYERS.values() for it in names.split() if it in crates}
+    ordered = {it: crates[it] for names in LAYERS.values() for it in names if it in crates}
     for layer, names in LAYERS.items():
-        text += f"| **{layer}** | | |\n" + "".join(row(it, ordered) for it in names.split() if it in ordered)
+        text += f"| **{layer}** | | |\n" + "".join(row(it, ordered) for it in names if it in ordered)
     return text
 
 
@@ -89,7 +96,7 @@ def faults_of_directions(page):
 
 def check_layers():
     """Whether the layers are kept and the table is up to date, and whether planted mistakes are found."""
-    crates = read((ROOT / "crates.txt").read_text())
+    crates = read(CRATES.read_text())
     faults = faults_of(crates) + faults_of_directions(PAGE.read_text())
     if not is_present(PAGE, pathlib.Path(__file__).name, table(crates)):
         faults.append(f"{PAGE.relative_to(ROOT)}: the table is not that of crates.txt: tests/layers.py --write")
