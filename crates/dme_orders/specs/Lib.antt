@@ -23,3 +23,4 @@ pub mod LastLine
 pub mod Exporting
 pub mod Recorded
 pub mod OfRecords
+pub mod RunErrors

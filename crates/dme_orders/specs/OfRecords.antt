@@ -1,5 +1,6 @@
 -- What auditing and exporting the record of a run leaves (this profile).
-use Rattle.std.specs.Prelude.{◌≡◌, ◌⊎◌, ℕ, List, Option, true, false, Result}
+use Rattle.std.specs.Prelude.{◌≡◌, ◌⊎◌, ℕ, List, Option, true, false, Result, string_bytes}
+use Rattle.std.specs.List.{flat_map}
 use Rattle.client_core.specs.Clients.{are_ours}
 use Rattle.contact_ledger.specs.ContactTexts.{contacts_text}
 use Rattle.contact_ledger.specs.declared.acts.Act.{Act}
@@ -15,6 +16,8 @@ use Rattle.dme_orders.specs.Orders.{Went, Carries}
 use Rattle.dme_orders.specs.Reading.{Came}
 use Rattle.dme_orders.specs.Recorded.{IsOfProgram, DiffersAt, features_in, told_in}
 use Rattle.dme_orders.specs.declared.missing.Missing.{Missing}
+use Rattle.dme_orders.specs.RunErrors.{errors_in, error_line}
+use Rattle.dme_orders.specs.declared.of_records.RecordNotes.{RecordNotes}
 use Rattle.dme_orders.specs.declared.of_records.RecordText.{RecordText}
 use Rattle.dme_orders.specs.declared.of_records.RecordText.TheVariants.{Table, Features, Contacts}
 use Rattle.dme_orders.specs.declared.reading.FilesFault.{FilesFault}
@@ -25,12 +28,13 @@ abbrev pub RefusesRecord : Option Recorded → Meaning → FilesFault → Type 0
 RefusesRecord held program cause =
     ((label : List ℕ) × (cause ≡ files.OtherProgram label) × DiffersAt held program label) ⊎ (cause ≡ files.Memory)
 
--- the record is of the program, this is the line of a verdict on its features by its acts, with the status that goes with it, and these
--- features are missing
-pub record LeavesRecordVerdict (input : RecordInput) (end : ℕ × Missing) (text : List ℕ) : Type 0 where
+-- the record is of the program, this is the line of a verdict on its features by its acts, with the status that goes with it, these
+-- features are missing, and these lines name the errors in the runs of its features
+pub record LeavesRecordVerdict (input : RecordInput) (end : ℕ × RecordNotes) (text : List ℕ) : Type 0 where
   pub same : IsOfProgram input.held input.program
   pub verdict : LeavesVerdict input.program (features_in input.held) (told_in input.held) end.0 text
-  pub lacks : IsMissing input.program.features (features_in input.held) end.1
+  pub lacks : IsMissing input.program.features (features_in input.held) end.1.missing
+  pub errors : string_bytes end.1.errors ≡ flat_map error_line (errors_in input.held)
 
 -- a text in a form: the table of the features, or the text of a features file, or the text of a contacts file
 abbrev pub IsRecordText : RecordText → Meaning → List Feature → List (ℕ × Act) → List ℕ → Type 0
@@ -61,7 +65,7 @@ module _ {S J R W : Type 0} (s : Named S) (j : Came J) (r : Came R) (w : Went W)
     pub not_ours : are_ours input.program.features (features_in input.held) ≡ false
 
   -- the line of the verdict was written, or the audit was not carried out: a file is blamed, or the record is of another program
-  abbrev pub AuditsRecord : Result (ℕ × Missing) FilesFault → Type 0
+  abbrev pub AuditsRecord : Result (ℕ × RecordNotes) FilesFault → Type 0
   AuditsRecord = Carries (ReadsHeld s j r) LeavesRecordVerdict w (λ cause. WhyNoneHeld s j r cause ⊎ IsOtherProgram cause)
 
   -- the text was written, or the export was not carried out: a file is blamed, or the record is of another program, or has other features

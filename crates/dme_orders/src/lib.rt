@@ -6,7 +6,8 @@
 //! - `simulating`: a program is run by a schedule on a simulated machine
 //! - `auditing`: a client's features are judged by a server's contacts
 //! - `exporting`: what was measured is put next to what a program asks for; `explaining`: what a refusal means
-//! - `of_records`: a record is audited and exported; `missing`: which features were not measured
+//! - `of_records`: a record is audited and exported; `missing`: which features were not measured; `run_errors`: what the
+//!   server reported meanwhile
 //! - `notes`: what an audit found, and in what a record differs from a program, besides what an order prints
 //! - `judging`: the recordings of both ends of a connection are judged
 //! - `preparing`: the files of an order over a connection are read before there is one
@@ -43,6 +44,7 @@ mod preparing;
 mod reading;
 mod reviewing;
 mod run_endings;
+mod run_errors;
 mod serving;
 mod simulating;
 mod text_files;
@@ -61,7 +63,7 @@ pub use judging::{Recordings, RecordingsFault, judge_recordings};
 pub use looping::{LoopTask, loop_over};
 pub use missing::Missing;
 pub use notes::{audit_notes, other_program_notes};
-pub use of_records::{RecordFiles, RecordText, audit_record, export_record};
+pub use of_records::{RecordFiles, RecordNotes, RecordText, audit_record, export_record};
 pub use orders::check_under_setup;
 pub use plan::{first_lines, plan_text};
 pub use preparing::{features_and_program, setup_and_program};

@@ -19,6 +19,7 @@ use crate::auditing::audited;
 use crate::exporting::table_text;
 use crate::missing::{Missing, missing_of};
 use crate::reading::{FilesFault, named_setup, program_under, record_from};
+use crate::run_errors::errors_of;
 use crate::simulating::write_text;
 use byte_ports::{Sink, Source};
 use contact_ledger::{Feature, FeatureLedger, ServerLedger, write_contacts, write_features};
@@ -113,17 +114,27 @@ fn audited_part(
     Ok((status, missing, text))
 }
 
+/// What an audit of a record says besides its verdict.
+#[derive(Debug, Drop)]
+pub struct RecordNotes {
+    /// Which features of the program are missing.
+    pub missing: Missing,
+    /// A line for each error that the server reported during the run of a feature, as
+    /// `dme: BORE: during its run the server reported 00009 Error(..)`; empty if there is none.
+    pub errors: String,
+}
+
 /// Reads a setup if one is named, then a record, then a program under the setup's frames, each to the end of its text and understood before
 /// the next is read; audits the record's features by the acts that it says a server reported; and writes the line of the verdict. The answer
-/// is the exit status, 0 if every feature of the record has its run, else 3; and which features of the program are missing. A record of
-/// another program is `OtherProgram`; its part is not compared.
+/// is the exit status, 0 if every feature of the record has its run, else 3; which features of the program are missing; and the errors that
+/// the server reported during the run of a feature. A record of another program is `OtherProgram`; its part is not compared.
 ///
 /// It writes only once the whole line is there. A file is blamed only for its own first refusal, or because it could not be read.
 pub fn audit_record<S: Source, J: Source, R: Source, W: Sink>(
     alloc: Global,
     files: &mut RecordFiles<S, J, R>,
     sink: &mut W,
-) -> Result<(u8, Missing), FilesFault>
+) -> Result<(u8, RecordNotes), FilesFault>
     ensures { AuditsRecord (named S.left S.has_failed files.old.setup files.new.setup)
         (came J.left J.has_failed files.old.record files.new.record)
         (came R.left R.has_failed files.old.program files.new.program)
@@ -131,10 +142,11 @@ pub fn audit_record<S: Source, J: Source, R: Source, W: Sink>(
 {
     let (held, program) = record_input(alloc, files)?;
     of_program(alloc, &held, &program)?;
+    let errors = errors_of(alloc, &held)?;
     let (features, ledger) = parts_of(alloc, held);
     let (status, missing, text) = audited_part(alloc, features, ledger, program)?;
     write_text(sink, text.as_slice())?;
-    Ok((status, missing))
+    Ok((status, RecordNotes { missing, errors }))
 }
 
 /// The text of a features file. The features are refused only if they are not the first ones of the program.

@@ -3,7 +3,8 @@
 use byte_ports::Writing;
 use dme_files::{Fault, NamedSource, Sources, of_output, refused};
 use dme_orders::{
-    ExportFiles, InputFiles, Missing, RecordFiles, RecordText, explain, export_files, export_record,
+    ExportFiles, InputFiles, Missing, RecordFiles, RecordNotes, RecordText, explain, export_files,
+    export_record,
 };
 use dme_words::{Export, RecordExport, RecordForm};
 use refusal_guide::Topic;
@@ -11,9 +12,16 @@ use std::io;
 use std::rt::Files;
 
 /// Says on standard error which features are missing, if any are. A line that cannot be written changes nothing.
-pub fn tell_missing<R: Eprint>(rt: &R, missing: &Missing) {
+fn tell_missing<R: Eprint>(rt: &R, missing: &Missing) {
     let sentence = &missing.sentence;
     let _ = eprint!(rt; "{sentence}");
+}
+
+/// Says on standard error what an audit of a record names besides. A line that cannot be written changes nothing.
+pub fn tell_notes<R: Eprint>(rt: &R, notes: &RecordNotes) {
+    tell_missing(rt, &notes.missing);
+    let errors = &notes.errors;
+    let _ = eprint!(rt; "{errors}");
 }
 
 /// The order `export`: its exit status.

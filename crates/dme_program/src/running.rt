@@ -6,7 +6,7 @@ ghost use Rattle.dme_words.specs.Ordered.{IsReady};
 ghost use Rattle.dme_program.specs.Blamed.{OnSetup};
 
 use crate::connecting::loop_program;
-use crate::exporting::{explain_topic, export, export_of_record, record_files, tell_missing};
+use crate::exporting::{explain_topic, export, export_of_record, record_files, tell_notes};
 use crate::judging::judge;
 use crate::tracing::ErrorOutput;
 use crate::version;
@@ -237,8 +237,8 @@ fn audit_of_record<R: Files + Input + Print + Eprint + AllocGlobal>(
     };
     let mut sink = Writing::new(io::writer(rt));
     let result = match audit_record(rt.alloc(), &mut sought, &mut sink) {
-        Ok((status, missing)) => {
-            tell_missing(rt, &missing);
+        Ok((status, notes)) => {
+            tell_notes(rt, &notes);
             Ok(status)
         }
         Err(fault) => Err(fault),

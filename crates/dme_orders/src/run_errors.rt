@@ -1,0 +1,45 @@
+// The errors that a record names for the features of its part.
+
+ghost use Rattle.std.specs.Prelude.{◌≡◌, ◌++◌, OnOk, IfOk, string_bytes};
+ghost use Rattle.std.specs.List.{flat_map};
+ghost use Rattle.dme_orders.specs.RunErrors.{error_line, errors_in};
+
+use run_record::{Record, RunError};
+use session_telling::visible;
+use std::alloc::{AllocError, Global};
+
+/// Appends the line of an error. Fails only if out of memory.
+fn push_error(alloc: Global, text: &mut String, error: &RunError) -> Result<(), AllocError>
+    ensures { OnOk result (string_bytes text.new
+        ≡ string_bytes text.old ++ error_line error.now) }
+{
+    let label = &error.label;
+    let shown = visible(alloc, error.text.as_bytes())?;
+    writeln!(
+        text,
+        "dme: {label}: during its run the server reported {shown}"
+    )
+}
+
+/// The lines of errors. Fails only if out of memory.
+fn lines_of(alloc: Global, errors: &[RunError]) -> Result<String, AllocError>
+    ensures { IfOk result (λ text. string_bytes text ≡ flat_map error_line errors.now) }
+{
+    let mut text = String::new(alloc);
+    for error in errors {
+        push_error(alloc, &mut text, error)?;
+    }
+    Ok(text)
+}
+
+/// The lines of the errors that a server reported during the runs of a record's features; none for a record that is not begun. Fails only
+/// if out of memory.
+pub(crate) fn errors_of(alloc: Global, held: &Option<Record>) -> Result<String, AllocError>
+    ensures { IfOk result (λ text. string_bytes text
+        ≡ flat_map error_line (errors_in held.now)) }
+{
+    match held {
+        Some(held) => lines_of(alloc, held.errors()),
+        None => Ok(String::new(alloc)),
+    }
+}
