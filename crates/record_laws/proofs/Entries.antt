@@ -134,7 +134,7 @@ record AreAlike (a b : Kept) : Type 0 where
   last : a.last ≡ b.last
 
 -- an entry that follows one follows the other, and leaves alike
-OneAlike : List Wanted → Kept → Entry → Kept → Type 0
+abbrev OneAlike : List Wanted → Kept → Entry → Kept → Type 0
 OneAlike ws mid e new = (other : Kept) × Follows ws mid e other × AreAlike other new
 
 one_alike : (ws : List Wanted) (old mid new : Kept) (e : Entry) → AreAlike mid old → Follows ws old e new → OneAlike ws mid e new
@@ -184,7 +184,7 @@ one_alike ws old mid new (Completed n label) h f =
     )
 
 -- and so do entries, one after another
-AllAlike : List Wanted → Kept → List Entry → Kept → Type 0
+abbrev AllAlike : List Wanted → Kept → List Entry → Kept → Type 0
 AllAlike ws mid es new = (other : Kept) × Follow ws mid es other × AreAlike other new
 
 all_alike : (ws : List Wanted) (es : List Entry) (old mid new : Kept) → AreAlike mid old → Follow ws old es new → AllAlike ws mid es new
