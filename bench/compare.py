@@ -24,7 +24,7 @@ sys.path.insert(0, str(ROOT / "tests"))
 from rows import program_rows
 
 # Parts of the input of test_calls that plain programs play too.
-PLAYED = ("program", "setup", "client", "marks", "texts", "server")
+PLAYED = ("program", "setup", "client", "server")
 
 CHANGED = int(sys.argv[1]) if len(sys.argv) > 1 else 4_000
 

@@ -44,8 +44,6 @@ RETRIED_ROWS = {
     "features": ("features", "DME-FEATURES 2;FEATURE A 1 1 M;1.000 2.000 3.000;END;FEATURE B 1 1 P 100.000 0.000 0.000;0.000 0.000 0.000;END;"),
     "contacts": ("contacts", "DME-CONTACTS 1;1 HOMEDIS 0;1 HOMED;2 MOVED -0.001 0.000 1.000 M;2 CHANGED P1;2 FRAMED P 1.000 0.000 0.000;"
                              "3 CONTACT 1.000 2.000 3.000 D -1.000000 0.500000 1.000000 P2 P 0.000 0.000 1.000 1.001 2.000 3.000;"),
-    "reports": ("reports TWO 1", "8 more"),
-    "schedule_played": ("homings THREE 3", "connect;accept 1;quiet;clientrestart 0;serverrestart;connect;accept 2;quiet"),
 }
 
 # A command on files, which prints everything or nothing.

@@ -1,35 +1,34 @@
-// What became of worlds, one a line.
+// What became of worlds: one a line, or their files.
 
-use crate::shown::push_text;
-use crate::stop::Stop;
+use crate::fresh::{Made, Task, play, push_world};
+use crate::shown::{push_display, push_text};
+use crate::stop::Pushed;
 use contact_ledger::{write_contacts, write_features};
 use dmis_program::Program;
 use ledger_audit::{Verdict, audit};
 use link_world::World;
-use std::alloc::{AllocError, Global};
-
-pub(crate) fn push_number(alloc: Global, out: &mut Vec<u8>, number: u64) -> Result<(), AllocError> {
-    push_text(out, format!(in alloc; "{number}")?.as_str())
-}
+use std::alloc::AllocError;
 
 /// The verdict of an audit: `RUNS` with the numbers at which the runs begin, or `NONE` with the count of the first features that have none.
-fn push_verdict(alloc: Global, out: &mut Vec<u8>, verdict: &Verdict) -> Result<(), AllocError> {
-    match verdict {
-        Verdict::Starts(starts) => {
-            push_text(out, "RUNS")?;
-            for start in starts.as_slice() {
-                out.push(b' ')?;
-                push_number(alloc, out, *start)?;
-            }
-            Ok(())
+fn push_verdict(out: &mut Vec<u8>, verdict: &Verdict) -> Result<(), AllocError> {
+    let starts = match verdict {
+        Verdict::Starts(starts) => starts,
+        Verdict::NoRun(count) => {
+            push_text(out, "NONE ")?;
+            return push_display(out, count);
         }
-        Verdict::NoRun(count) => push_text(out, format!(in alloc; "NONE {count}")?.as_str()),
+    };
+    push_text(out, "RUNS")?;
+    for start in starts.as_slice() {
+        push_text(out, " ")?;
+        push_display(out, start)?;
     }
+    Ok(())
 }
 
 /// The text of the features that a client holds, with `;` for the end of each line.
-fn push_features(alloc: Global, out: &mut Vec<u8>, world: &World) -> Result<(), AllocError> {
-    let mut text = Vec::new(alloc);
+fn push_features(out: &mut Vec<u8>, world: &World) -> Result<(), AllocError> {
+    let mut text = Vec::new(*out.allocator());
     write_features(&mut text, world.features())?;
     for byte in text.as_slice() {
         out.push(if *byte == b'\n' { b';' } else { *byte })?;
@@ -39,30 +38,48 @@ fn push_features(alloc: Global, out: &mut Vec<u8>, world: &World) -> Result<(), 
 
 /// The client's state, the counts of the acts that it has counted, of the server's contacts and of all its acts, the verdict of an audit of
 /// both, and the features; `|` between them.
-pub(crate) fn push_world(
-    alloc: Global,
-    out: &mut Vec<u8>,
-    program: &Program,
-    world: &World,
-) -> Result<(), Stop> {
+pub(crate) fn push_ended(out: &mut Vec<u8>, program: &Program, world: &World) -> Pushed {
+    let alloc = *out.allocator();
     let state = world.state();
     let counted = world.counted().len();
     let contacts = world.ledger().contacts();
-    push_text(
-        out,
-        format!(in alloc; "{state:?}|{counted}|{contacts}|")?.as_str(),
-    )?;
+    let text = format!(in alloc; "{state:?}|{counted}|{contacts}|")?;
+    push_text(out, text.as_str())?;
     let verdict = audit(alloc, program, world.features(), world.ledger())?;
-    push_verdict(alloc, out, &verdict)?;
+    push_verdict(out, &verdict)?;
     out.push(b'|')?;
-    push_features(alloc, out, world)?;
-    out.push(b'\n')?;
-    Ok(())
+    push_features(out, world)?;
+    Ok(out.push(b'\n')?)
 }
 
 /// The texts of the features and of the contacts, each as its file has it.
-pub(crate) fn push_files(out: &mut Vec<u8>, world: &World) -> Result<(), Stop> {
+pub(crate) fn push_files(out: &mut Vec<u8>, world: &World) -> Pushed {
     write_features(out, world.features())?;
-    write_contacts(out, world.ledger())?;
-    Ok(())
+    Ok(write_contacts(out, world.ledger())?)
+}
+
+/// A world after a text of instructions: what became of it, or its files if no program is given.
+#[derive(Drop)]
+struct Played<'a> {
+    text: &'a [u8],
+    program: Option<&'a Program>,
+}
+
+impl Task<World> for Played<'_> {
+    fn push(&mut self, out: &mut Vec<u8>, world: &mut World) -> Pushed {
+        play(*out.allocator(), world, self.text)?;
+        match self.program {
+            Some(program) => push_ended(out, program, world),
+            None => push_files(out, world),
+        }
+    }
+}
+
+/// Likewise for a new world.
+pub(crate) fn push_played(
+    out: &mut Vec<u8>,
+    made: Made<'_>,
+    (text, program): (&[u8], Option<&Program>),
+) -> Pushed {
+    push_world(out, made, &mut Played { text, program })
 }

@@ -4,9 +4,9 @@
 // instructions whose events are not made again; `finish`, which brings the world to its end; `report`; or `files`, the texts of both files.
 // It shows the state, how many bytes the client has written on its last connection, and how many acts are done and counted.
 
-use crate::client;
-use crate::shown::{lined, push_debug, push_features, push_text};
-use crate::stop::Stop;
+use crate::parts::Answers;
+use crate::shown::{lined, push_acts, push_debug, push_features, push_text};
+use crate::stop::{Pushed, Stop};
 use crate::tried::{Called, front, push_appended, push_tried};
 use contact_ledger::{write_contacts, write_features};
 use link_world::{
@@ -15,67 +15,52 @@ use link_world::{
 use std::alloc::{AllocError, Global};
 
 /// The state and the counts.
-fn push_told(alloc: Global, out: &mut Vec<u8>, world: &World) -> Result<(), AllocError> {
+fn push_told(out: &mut Vec<u8>, world: &World) -> Result<(), AllocError> {
     let (state, written) = (world.state(), world.written().len());
     let (done, counted) = (world.ledger().acts().len(), world.counted().len());
-    let told = format!(in alloc; "{state:?}, {written} written, {done} done, {counted} counted")?;
+    let told = format!(in *out.allocator();
+        "{state:?}, {written} written, {done} done, {counted} counted"
+    )?;
     push_text(out, told.as_str())
-}
-
-fn push_readers(alloc: Global, out: &mut Vec<u8>, world: &World) -> Result<(), AllocError> {
-    push_told(alloc, out, world)?;
-    push_debug(alloc, out, &(world.running(), world.ledger().acts()))?;
-    out.extend_from_slice(world.written())?;
-    push_debug(alloc, out, world.setup())?;
-    client::push_acts(out, world.counted())?;
-    push_features(alloc, out, world.features())
 }
 
 // ---- the calls
 
-/// An event happens.
-impl Called<Event, WorldFault> for World {
-    fn push_all(&self, alloc: Global, out: &mut Vec<u8>) -> Result<(), AllocError> {
-        push_readers(alloc, out, self)
-    }
+/// A call for which memory can be short.
+#[derive(Clone, Copy)]
+enum Call<'a> {
+    Step(Event),
+    /// The first two events of a world. If memory is short for the first of them, the second cannot happen.
+    Run,
+    /// A schedule of one event.
+    Play(&'a Schedule),
+}
 
-    fn make(&mut self, event: &Event) -> Result<bool, WorldFault> {
-        self.step(*event)?;
-        Ok(true)
+/// The first two events of a world happen.
+fn run_two(world: &mut World) -> Result<(), WorldFault> {
+    match world.run(&[Event::Connect, Event::Accept(1)]) {
+        RunCount { done: 2, .. } => Ok(()),
+        RunCount { memory: 1, .. } => Err(WorldFault::Memory),
+        _ => Err(WorldFault::NotNow),
     }
 }
 
-/// The first two events of a world happen. If memory is short for the first of them, the second cannot.
-impl Called<(), WorldFault> for World {
-    fn push_all(&self, alloc: Global, out: &mut Vec<u8>) -> Result<(), AllocError> {
-        push_readers(alloc, out, self)
+impl Called<Call<'_>, WorldFault> for World {
+    fn push_all(&self, out: &mut Vec<u8>) -> Result<(), AllocError> {
+        push_told(out, self)?;
+        push_debug(out, &(self.running(), self.ledger().acts()))?;
+        out.extend_from_slice(self.written())?;
+        push_debug(out, self.setup())?;
+        push_acts(out, self.counted())?;
+        push_features(out, self.features())
     }
 
-    fn make(&mut self, _call: &()) -> Result<bool, WorldFault> {
-        match self.run(&[Event::Connect, Event::Accept(1)]) {
-            RunCount {
-                done: 2,
-                not_now: 0,
-                memory: 0,
-            } => Ok(true),
-            RunCount {
-                done: 0,
-                not_now: 1,
-                memory: 1,
-            } => Err(WorldFault::Memory),
-            _ => Err(WorldFault::NotNow),
+    fn make(&mut self, call: &Call<'_>) -> Result<bool, WorldFault> {
+        match *call {
+            Call::Step(event) => self.step(event)?,
+            Call::Run => run_two(self)?,
+            Call::Play(schedule) => schedule.play(self).map_err(|_| WorldFault::Memory)?,
         }
-    }
-}
-
-/// A schedule of one event is played.
-impl Called<Schedule, AllocError> for World {
-    fn push_all(&self, alloc: Global, out: &mut Vec<u8>) -> Result<(), AllocError> {
-        push_readers(alloc, out, self)
-    }
-
-    fn make(&mut self, schedule: &Schedule) -> Result<bool, AllocError> {
-        schedule.play(self)?;
         Ok(true)
     }
 }
@@ -85,49 +70,46 @@ fn schedule(alloc: Global, row: &str) -> Result<Schedule, Stop> {
     Ok(Schedule::read(alloc, text.as_slice())?)
 }
 
+/// A call that must succeed.
+fn push_call(out: &mut Vec<u8>, world: &mut World, call: Call<'_>) -> Pushed {
+    push_tried(out, world, WorldFault::Memory, &call)
+}
+
 /// The event of a row happens.
-fn push_step(alloc: Global, out: &mut Vec<u8>, world: &mut World, row: &str) -> Result<(), Stop> {
-    let schedule = schedule(alloc, row)?;
+fn push_step(out: &mut Vec<u8>, world: &mut World, row: &str) -> Pushed {
+    let schedule = schedule(*out.allocator(), row)?;
     match schedule.instructions() {
-        [Instruction::Once(event)] => push_tried(alloc, out, world, WorldFault::Memory, event),
+        [Instruction::Once(event)] => push_call(out, world, Call::Step(*event)),
         _ => Err(Stop::Row),
     }
 }
 
-/// A call of this word.
-fn push_call(
-    alloc: Global,
-    out: &mut Vec<u8>,
-    world: &mut World,
-    (word, rest): (&str, &str),
-    row: &str,
-) -> Result<(), Stop> {
+/// A call of a row.
+fn push_called(out: &mut Vec<u8>, world: &mut World, row: &str) -> Pushed {
+    let alloc = *out.allocator();
+    let (word, rest) = row.split_once(" ").unwrap_or((row, ""));
     match word {
-        "run" => push_tried(alloc, out, world, WorldFault::Memory, &()),
-        "play" => push_tried(alloc, out, world, AllocError, &schedule(alloc, rest)?),
+        "run" => push_call(out, world, Call::Run),
+        "play" => push_call(out, world, Call::Play(&schedule(alloc, rest)?)),
         "then" => Ok(schedule(alloc, rest)?.play(world)?),
-        _ => push_step(alloc, out, world, row),
+        _ => push_step(out, world, row),
     }
 }
 
 // ---- what is made of a world
 
-fn push_report(alloc: Global, out: &mut Vec<u8>, world: &World) -> Result<(), Stop> {
+fn push_report(out: &mut Vec<u8>, world: &World) -> Pushed {
     let report = world.report().ok().ok_or(Stop::Refused)?;
-    let mut text = front(alloc)?;
+    let mut text = front(*out.allocator())?;
     let written = write_report(&mut text, &report);
     push_appended(out, text.as_slice(), written)
 }
 
-fn push_features_file(alloc: Global, out: &mut Vec<u8>, world: &World) -> Result<(), Stop> {
-    let mut text = front(alloc)?;
+fn push_files(out: &mut Vec<u8>, world: &World) -> Pushed {
+    let mut text = front(*out.allocator())?;
     let written = write_features(&mut text, world.features());
-    push_appended(out, text.as_slice(), written)
-}
-
-fn push_files(alloc: Global, out: &mut Vec<u8>, world: &World) -> Result<(), Stop> {
-    push_features_file(alloc, out, world)?;
-    let mut text = front(alloc)?;
+    push_appended(out, text.as_slice(), written)?;
+    let mut text = front(*out.allocator())?;
     let written = write_contacts(&mut text, world.ledger());
     push_appended(out, text.as_slice(), written)
 }
@@ -142,9 +124,9 @@ struct Finished<'a> {
 }
 
 impl Called<(), WorldFault> for Finished<'_> {
-    fn push_all(&self, alloc: Global, out: &mut Vec<u8>) -> Result<(), AllocError> {
+    fn push_all(&self, out: &mut Vec<u8>) -> Result<(), AllocError> {
         match self.world.features().split_at_checked(self.held) {
-            Some((held, _)) => push_features(alloc, out, held),
+            Some((held, _)) => push_features(out, held),
             None => push_text(out, "fewer"),
         }
     }
@@ -155,50 +137,36 @@ impl Called<(), WorldFault> for Finished<'_> {
     }
 }
 
-fn push_finished(alloc: Global, out: &mut Vec<u8>, world: &mut World) -> Result<(), Stop> {
-    let machine = Simulated::new(alloc, world.setup())?;
+/// A world is brought to its end: the state, and the labels of the features. How many acts are done depends on how often it was started.
+fn push_finished(out: &mut Vec<u8>, world: &mut World) -> Pushed {
+    let machine = Simulated::new(*out.allocator(), world.setup())?;
     let held = world.features().len();
     let mut finished = Finished {
         world,
         machine,
         held,
     };
-    push_tried(alloc, out, &mut finished, WorldFault::Memory, &())
-}
-
-/// A call that changes a world, and its state afterwards.
-fn push_changed(
-    alloc: Global,
-    out: &mut Vec<u8>,
-    world: &mut World,
-    row: &str,
-) -> Result<(), Stop> {
-    if row == "finish" {
-        push_finished(alloc, out, world)?;
-        return Ok(push_labels(alloc, out, world)?);
-    }
-    let words = row.split_once(" ").unwrap_or((row, ""));
-    push_call(alloc, out, world, words, row)?;
-    Ok(push_told(alloc, out, world)?)
-}
-
-/// The state, and the labels of the features. How many acts are done depends on how often the end was started.
-fn push_labels(alloc: Global, out: &mut Vec<u8>, world: &World) -> Result<(), AllocError> {
-    push_debug(alloc, out, &world.state())?;
-    for feature in world.features() {
+    push_tried(out, &mut finished, WorldFault::Memory, &())?;
+    push_debug(out, &finished.world.state())?;
+    for feature in finished.world.features() {
         push_text(out, " ")?;
         out.extend_from_slice(feature.label.as_bytes())?;
     }
     Ok(())
 }
 
-/// What a row shows.
-pub(crate) fn answer(alloc: Global, world: &mut World, row: &str) -> Result<Vec<u8>, Stop> {
-    let mut out = Vec::new(alloc);
-    match row {
-        "report" => push_report(alloc, &mut out, world)?,
-        "files" => push_files(alloc, &mut out, world)?,
-        _ => push_changed(alloc, &mut out, world, row)?,
+impl Answers for World {
+    fn answer(&mut self, alloc: Global, row: &str) -> Result<Vec<u8>, Stop> {
+        let mut out = Vec::new(alloc);
+        match row {
+            "report" => push_report(&mut out, self)?,
+            "files" => push_files(&mut out, self)?,
+            "finish" => push_finished(&mut out, self)?,
+            _ => {
+                push_called(&mut out, self, row)?;
+                push_told(&mut out, self)?;
+            }
+        }
+        Ok(out)
     }
-    Ok(out)
 }

@@ -1,81 +1,132 @@
-// What worlds are made of, and what is done with them.
+// What clients, servers and worlds are made of, and what is done with new ones. Each is owned here alone, since a function that owns one
+// takes the prover as long as ten others.
 
-use crate::client;
-use crate::stop::Stop;
+use crate::stop::{Pushed, Stop};
+use client_core::Client;
+use contact_ledger::{FeatureLedger, read_features};
 use dmis_program::Program;
 use link_world::{NewFault, Schedule, World};
+use server_core::Server;
 use std::alloc::Global;
 use tool_rack::Setup;
 
-/// What a world is made of: the texts of its program and of its setup, and its window.
+/// What both ends are made of: the text of the features that the client holds, empty if there are none; the texts of the program and of
+/// the setup; and the window.
 #[derive(Clone, Copy)]
 pub(crate) struct Made<'a> {
+    pub(crate) held: &'a str,
     pub(crate) program: &'a str,
     pub(crate) setup: &'a str,
     pub(crate) window: u8,
 }
 
-impl<'a> Made<'a> {
-    /// Likewise for what a client is made of, and a setup.
-    pub(crate) fn of(client: client::Made<'a>, setup: &'a str) -> Made<'a> {
-        Made {
-            program: client.program,
-            setup,
-            window: client.window,
-        }
-    }
+/// What a new client, server or world is made for.
+pub(crate) trait Task<E> {
+    /// What it does with it, and shows.
+    fn push(&mut self, out: &mut Vec<u8>, end: &mut E) -> Pushed;
 }
 
-fn read_setup(alloc: Global, made: Made<'_>) -> Result<Setup, Stop> {
+/// What a new client and a new server are made for.
+pub(crate) trait BothTask {
+    /// What it does with them, and shows.
+    fn push_both(&mut self, out: &mut Vec<u8>, ends: (&mut Client, &mut Server)) -> Pushed;
+}
+
+pub(crate) fn read_setup(alloc: Global, made: Made<'_>) -> Result<Setup, Stop> {
     Ok(Setup::read(alloc, made.setup.as_bytes())?)
 }
 
-fn read_program(alloc: Global, made: Made<'_>, setup: &Setup) -> Result<Program, Stop> {
+pub(crate) fn read_program(alloc: Global, made: Made<'_>) -> Result<Program, Stop> {
+    let setup = read_setup(alloc, made)?;
     Ok(Program::read(alloc, made.program.as_bytes(), setup.frames())?)
 }
 
-/// A new world; `None` if memory is short for it.
-fn new_world(alloc: Global, program: Program, setup: Setup, window: u8) -> Result<World, Stop> {
-    match World::new(alloc, program, setup, window) {
+fn new_client(alloc: Global, made: Made<'_>) -> Result<Client, Stop> {
+    let program = read_program(alloc, made)?;
+    let features = if made.held.is_empty() {
+        FeatureLedger::new(alloc)
+    } else {
+        read_features(alloc, made.held.as_bytes())?
+    };
+    match Client::new(alloc, program, features, made.window) {
+        Ok(client) => Ok(client),
+        Err(_) => Err(Stop::Row),
+    }
+}
+
+fn new_server(alloc: Global, made: Made<'_>) -> Result<Server, Stop> {
+    Ok(Server::new(alloc, read_setup(alloc, made)?)?)
+}
+
+fn new_world(alloc: Global, made: Made<'_>) -> Result<World, Stop> {
+    let program = read_program(alloc, made)?;
+    let setup = read_setup(alloc, made)?;
+    match World::new(alloc, program, setup, made.window) {
         Ok(world) => Ok(world),
         Err(NewFault::Memory) => Err(Stop::Refused),
         Err(NewFault::BadWindow(_, _)) => Err(Stop::Row),
     }
 }
 
-/// A world in which nothing has happened.
-fn read_world(alloc: Global, made: Made<'_>) -> Result<World, Stop> {
-    let setup = read_setup(alloc, made)?;
-    let program = read_program(alloc, made, &setup)?;
-    new_world(alloc, program, setup, made.window)
-}
-
-/// The instructions of a text are played.
-pub(crate) fn play(alloc: Global, world: &mut World, text: &[u8]) -> Result<(), Stop> {
-    let schedule = Schedule::read(alloc, text)?;
-    Ok(schedule.play(world)?)
-}
-
-/// What a new world is made for.
-pub(crate) trait WorldTask {
-    /// What is done with it.
-    fn done(&mut self, alloc: Global, world: &mut World) -> Result<(), Stop>;
-}
-
-/// A task of a new world is done. Only this function owns a world: one that owns a world takes the prover as long as ten others.
-pub(crate) fn do_task<T: WorldTask>(
-    alloc: Global,
+/// What a task of a new client shows.
+pub(crate) fn push_client<T: Task<Client>>(
+    out: &mut Vec<u8>,
     made: Made<'_>,
     task: &mut T,
-) -> Result<(), Stop> {
-    let mut world = read_world(alloc, made)?;
-    let done = task.done(alloc, &mut world);
+) -> Pushed {
+    let mut client = new_client(*out.allocator(), made)?;
+    let done = task.push(out, &mut client);
+    drop(client);
+    done
+}
+
+/// What a task of a new server shows.
+pub(crate) fn push_server<T: Task<Server>>(
+    out: &mut Vec<u8>,
+    made: Made<'_>,
+    task: &mut T,
+) -> Pushed {
+    let mut server = new_server(*out.allocator(), made)?;
+    let done = task.push(out, &mut server);
+    drop(server);
+    done
+}
+
+/// What a task of a new world shows.
+pub(crate) fn push_world<T: Task<World>>(
+    out: &mut Vec<u8>,
+    made: Made<'_>,
+    task: &mut T,
+) -> Pushed {
+    let mut world = new_world(*out.allocator(), made)?;
+    let done = task.push(out, &mut world);
     drop(world);
     done
 }
 
-/// The program that worlds are made of.
-pub(crate) fn program_of(alloc: Global, made: Made<'_>) -> Result<Program, Stop> {
-    let setup = read_setup(alloc, made)?;
-    read_program(alloc, made, &setup)
+/// A task of a client with a new server.
+#[derive(Drop)]
+struct WithServer<'a, T> {
+    made: Made<'a>,
+    task: &'a mut T,
+}
+
+impl<T: BothTask> Task<Client> for WithServer<'_, T> {
+    fn push(&mut self, out: &mut Vec<u8>, client: &mut Client) -> Pushed {
+        let mut server = new_server(*out.allocator(), self.made)?;
+        let done = self.task.push_both(out, (client, &mut server));
+        drop(server);
+        done
+    }
+}
+
+/// What a task of a new client and a new server shows.
+pub(crate) fn push_both<T: BothTask>(out: &mut Vec<u8>, made: Made<'_>, task: &mut T) -> Pushed {
+    push_client(out, made, &mut WithServer { made, task })
+}
+
+/// The instructions of a text are played.
+pub(crate) fn play(alloc: Global, world: &mut World, text: &[u8]) -> Pushed {
+    let schedule = Schedule::read(alloc, text)?;
+    Ok(schedule.play(world)?)
 }

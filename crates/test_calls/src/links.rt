@@ -9,12 +9,11 @@
 // this may lack some of what it measured or did until then. So it first comes to the next connection, and continues from there; if
 // everything was measured, what comes in is that of `last replies NAME` and `last commands NAME`.
 
-use crate::client::{self, ClientTask, Made, connect};
-use crate::hostile;
-use crate::server::{self, BothTask, ServerTask, accept, is_on, push_both_task};
+use crate::fresh::{BothTask, Made, Task, push_both, push_client, push_server};
 use crate::shown::{lined, push_answer, push_debug, push_features, push_lines, push_text};
-use crate::stop::Stop;
+use crate::stop::{Pushed, Stop};
 use crate::tried::{Called, Tries};
+use crate::{hostile, server};
 use byte_ports::{Pieces, Ports, Takes};
 use client_core::Client;
 use contact_ledger::Feature;
@@ -35,9 +34,10 @@ pub(crate) struct Script<'a> {
     pub(crate) last_commands: &'a str,
 }
 
-/// What a row asks for.
+/// What a row asks for: a call by its word, and of the client's ports, or the server's where there is no client.
 #[derive(Clone, Copy)]
-struct Asked {
+struct Asked<'a> {
+    word: &'a str,
     least: usize,
     bound: u32,
     read: u32,
@@ -46,136 +46,102 @@ struct Asked {
     again: u32,
 }
 
-/// What a row without words asks for: all at once, and no call that fails.
-fn plain() -> Asked {
-    Asked {
-        least: 1,
-        bound: 1_000,
-        read: 0,
-        write: 0,
-        takes: 1_000,
-        again: 0,
+impl<'a> Asked<'a> {
+    /// What a row without words asks for: all at once, and no call that fails.
+    fn plain(word: &'a str) -> Asked<'a> {
+        Asked {
+            word,
+            least: 1,
+            bound: 1_000,
+            read: 0,
+            write: 0,
+            takes: 1_000,
+            again: 0,
+        }
+    }
+
+    /// A word with its number.
+    fn ask(&mut self, pair: &str) -> Pushed {
+        let (word, number) = pair.split_once(" ").ok_or(Stop::Row)?;
+        let number: u32 = number.parse().ok().ok_or(Stop::Row)?;
+        match word {
+            "least" => self.least = number as usize,
+            "bound" => self.bound = number,
+            "read" => self.read = number,
+            "write" => self.write = number,
+            "takes" => self.takes = number,
+            "again" => self.again = number,
+            _ => return Err(Stop::Row),
+        }
+        Ok(())
+    }
+
+    /// New ports, into which these pieces come, one a line.
+    fn ports(&self, alloc: Global, pieces: &str) -> Result<MemoryPorts, Stop> {
+        let mut source = match self.read {
+            0 => Pieces::new(alloc),
+            call => Pieces::failing_at(alloc, call as u64),
+        };
+        for piece in pieces.lines() {
+            source.add(lined(alloc, piece)?.as_slice())?;
+        }
+        let most = self.takes.max(1) as usize;
+        let sink = match self.write {
+            0 => Takes::new(alloc, most),
+            call => Takes::failing_at(alloc, most, call as u64),
+        };
+        Ok(Ports { source, sink })
     }
 }
-
-/// A word with its number.
-fn ask(asked: &mut Asked, pair: &str) -> Result<(), Stop> {
-    let (word, number) = pair.split_once(" ").ok_or(Stop::Row)?;
-    let number: u32 = number.parse().ok().ok_or(Stop::Row)?;
-    match word {
-        "least" => asked.least = number as usize,
-        "bound" => asked.bound = number,
-        "read" => asked.read = number,
-        "write" => asked.write = number,
-        "takes" => asked.takes = number,
-        "again" => asked.again = number,
-        _ => return Err(Stop::Row),
-    }
-    Ok(())
-}
-
-fn words_of(words: &str) -> Result<Asked, Stop> {
-    let mut asked = plain();
-    for pair in words.split(", ") {
-        ask(&mut asked, pair)?;
-    }
-    Ok(asked)
-}
-
-/// A source of pieces, one a line.
-fn source(alloc: Global, asked: Asked, pieces: &str) -> Result<Pieces, Stop> {
-    let mut source = match asked.read {
-        0 => Pieces::new(alloc),
-        call => Pieces::failing_at(alloc, call as u64),
-    };
-    for piece in pieces.lines() {
-        source.add(lined(alloc, piece)?.as_slice())?;
-    }
-    Ok(source)
-}
-
-fn sink(alloc: Global, asked: Asked) -> Takes {
-    let most = asked.takes.max(1) as usize;
-    match asked.write {
-        0 => Takes::new(alloc, most),
-        call => Takes::failing_at(alloc, most, call as u64),
-    }
-}
-
-/// What a row asks for, and what comes in: `all`, or the text that is given there.
-fn parted<'a>(row: &'a str, all: &'a str) -> Result<(Asked, &'a str), Stop> {
-    let (words, text) = row.split_once(" < ").ok_or(Stop::Row)?;
-    Ok((words_of(words)?, if text == "all" { all } else { text }))
-}
-
-// ---- either side
 
 /// What comes in on a side, and what goes out.
 type MemoryPorts = Ports<Pieces, Takes>;
 
-/// Those of both sides.
-type BothPorts = LoopPorts<Pieces, Takes, Pieces, Takes>;
-
-fn new_ports(alloc: Global, asked: Asked, pieces: &str) -> Result<MemoryPorts, Stop> {
-    let source = source(alloc, asked, pieces)?;
-    Ok(Ports {
-        source,
-        sink: sink(alloc, asked),
-    })
-}
-
 // ---- what is shown
 
 /// The state of a client.
-fn push_state(alloc: Global, out: &mut Vec<u8>, client: &Client) -> Result<(), AllocError> {
+fn push_state(out: &mut Vec<u8>, client: &Client) -> Result<(), AllocError> {
     let state = client.state();
     let connection = if client.is_on() { "on" } else { "off" };
-    push_text(
-        out,
-        format!(in alloc; " {state:?} {connection}: ")?.as_str(),
-    )
+    let text = format!(in *out.allocator(); " {state:?} {connection}: ")?;
+    push_text(out, text.as_str())
 }
 
 /// The state of a client, what went out, and its features.
-fn push_client(
-    alloc: Global,
-    out: &mut Vec<u8>,
-    client: &Client,
-    output: &Takes,
-) -> Result<(), AllocError> {
-    push_state(alloc, out, client)?;
+fn push_left(out: &mut Vec<u8>, client: &Client, output: &Takes) -> Result<(), AllocError> {
+    push_state(out, client)?;
     push_lines(out, output.taken())?;
-    push_features(alloc, out, client.features())
+    push_features(out, client.features())
 }
 
-/// The state of a server, and what went out.
-fn push_server(out: &mut Vec<u8>, server: &mut Server, output: &Takes) -> Result<(), AllocError> {
-    push_text(out, if is_on(server) { " on: " } else { " off: " })?;
+/// Whether a server takes bytes, as it does on a connection; and what went out.
+fn push_served(out: &mut Vec<u8>, server: &mut Server, output: &Takes) -> Result<(), AllocError> {
+    let is_on = server.feed(b"").is_ok();
+    push_text(out, if is_on { " on: " } else { " off: " })?;
     push_lines(out, output.taken())
+}
+
+/// What a client is and has to send, and the features that it held.
+fn push_held(out: &mut Vec<u8>, client: &Client, held: usize) -> Result<(), AllocError> {
+    push_state(out, client)?;
+    push_lines(out, client.out())?;
+    match client.features().split_at_checked(held) {
+        Some((first, _)) => push_features(out, first),
+        None => push_text(out, "fewer"),
+    }
 }
 
 /// A watcher that keeps the number and the label of each feature.
 #[derive(Drop)]
 struct Told {
-    alloc: Global,
     text: Vec<u8>,
     is_short: bool,
 }
 
 impl Told {
-    fn new(alloc: Global) -> Told {
-        Told {
-            alloc,
-            text: Vec::new(alloc),
-            is_short: false,
-        }
-    }
-
     fn push(&mut self, number: usize, feature: &Feature) -> Result<(), AllocError> {
-        push_text(
-            &mut self.text,
-            format!(in self.alloc; "{number} ")?.as_str(),
-        )?;
+        let text = format!(in *self.text.allocator(); "{number} ")?;
+        push_text(&mut self.text, text.as_str())?;
         self.text.extend_from_slice(feature.label.as_bytes())?;
         push_text(&mut self.text, ";")
     }
@@ -204,114 +170,132 @@ impl Watcher for Told {
     fn turned(&mut self, _client: &Client) {}
 }
 
-// ---- a client
+// ---- calls, each on a connection of its own
 
-/// One turn of a client.
-fn push_turned(
-    alloc: Global,
-    out: &mut Vec<u8>,
-    client: &mut Client,
-    ports: &mut MemoryPorts,
-    asked: Asked,
-) -> Result<(), AllocError> {
-    let answer = client_turns(client, ports, asked.least, asked.bound as u64);
-    push_answer(alloc, out, &answer)?;
-    push_client(alloc, out, client, &ports.sink)
-}
-
-/// A whole run of a client.
-fn push_ran(
-    alloc: Global,
-    out: &mut Vec<u8>,
-    client: &mut Client,
-    ports: &mut MemoryPorts,
-) -> Result<(), AllocError> {
-    let answer = run_link(client, ports);
-    push_answer(alloc, out, &answer)?;
-    push_client(alloc, out, client, &ports.sink)
-}
-
-/// What is reported to the watcher of a whole run.
-fn push_watched(
-    alloc: Global,
-    out: &mut Vec<u8>,
-    client: &mut Client,
-    ports: &mut MemoryPorts,
-) -> Result<(), AllocError> {
-    let mut told = Told::new(alloc);
-    let answer = watch_link(client, ports, &mut told, &mut Onward);
-    push_answer(alloc, out, &answer)?;
-    told.push_to(out)
-}
-
-/// What a client's call of this word answers, and what it leaves.
-fn push_called(
-    alloc: Global,
-    out: &mut Vec<u8>,
-    client: &mut Client,
-    ports: &mut MemoryPorts,
-    (asked, word): (Asked, &str),
-) -> Result<(), AllocError> {
-    match word {
-        "turns" => push_turned(alloc, out, client, ports, asked),
-        "runs" => push_ran(alloc, out, client, ports),
-        _ => push_watched(alloc, out, client, ports),
-    }
-}
-
-/// A call of this word of a client or a server over new ports, into which these pieces come, or the last ones if everything was measured.
-#[derive(Drop)]
+/// A call over new ports, into which these pieces come.
+#[derive(Clone, Copy)]
 struct Call<'a> {
-    asked: Asked,
-    pieces: &'a str,
-    last_pieces: &'a str,
-    word: &'a str,
+    asked: Asked<'a>,
+    script: Script<'a>,
 }
 
-impl Call<'_> {
-    fn push_of(
-        &self,
-        alloc: Global,
-        out: &mut Vec<u8>,
-        client: &mut Client,
-        pieces: &str,
-    ) -> Result<(), Stop> {
-        let mut ports = new_ports(alloc, self.asked, pieces)?;
-        let asked = (self.asked, self.word);
-        Ok(push_called(alloc, out, client, &mut ports, asked)?)
+/// A client, a server or both, of which a call is made.
+trait Side {
+    /// What all readers answer, but for what may be measured or done until memory is short; the client has held this many features before.
+    fn push_kept(&self, out: &mut Vec<u8>, held: usize) -> Result<(), AllocError>;
+
+    /// How many features the client holds.
+    fn held(&self) -> usize;
+
+    /// It comes to the connection of this number, and shows what the call answers and leaves.
+    fn call(&mut self, out: &mut Vec<u8>, call: &Call<'_>, number: u64, told: &mut Told) -> Pushed;
+}
+
+impl Side for Client {
+    fn push_kept(&self, out: &mut Vec<u8>, held: usize) -> Result<(), AllocError> {
+        push_held(out, self, held)
     }
-}
 
-impl ClientTask for Call<'_> {
-    fn push(&self, alloc: Global, out: &mut Vec<u8>, client: &mut Client) -> Result<(), Stop> {
-        if self.asked.again > 0 {
-            let mut calling = Calling::new(alloc, client);
-            return push_again(alloc, out, &mut calling, self);
+    fn held(&self) -> usize {
+        self.features().len()
+    }
+
+    fn call(&mut self, out: &mut Vec<u8>, call: &Call<'_>, number: u64, told: &mut Told) -> Pushed {
+        self.connected(number)?;
+        let asked = call.asked;
+        let mut ports = asked.ports(*out.allocator(), call.script.replies)?;
+        match asked.word {
+            "turns" => {
+                let answer = client_turns(self, &mut ports, asked.least, asked.bound as u64);
+                push_answer(out, &answer)?;
+            }
+            "runs" => push_answer(out, &run_link(self, &mut ports))?,
+            _ => {
+                let answer = watch_link(self, &mut ports, told, &mut Onward);
+                push_answer(out, &answer)?;
+                return Ok(told.push_to(out)?);
+            }
         }
-        connect(client)?;
-        self.push_of(alloc, out, client, self.pieces)
+        Ok(push_left(out, self, &ports.sink)?)
     }
 }
 
-// ---- calls that are made again
+impl Side for Server {
+    fn push_kept(&self, out: &mut Vec<u8>, _held: usize) -> Result<(), AllocError> {
+        hostile::push_server(out, self)
+    }
 
-/// What calls have shown, each on a connection of its own.
-pub(crate) trait Shows {
-    fn shown(&self) -> &[u8];
+    fn held(&self) -> usize {
+        0
+    }
+
+    fn call(
+        &mut self,
+        out: &mut Vec<u8>,
+        call: &Call<'_>,
+        number: u64,
+        _told: &mut Told,
+    ) -> Pushed {
+        self.accept(number)?;
+        let asked = call.asked;
+        let mut ports = asked.ports(*out.allocator(), call.script.commands)?;
+        let mut machine = Simulated::new(*out.allocator(), self.setup())?;
+        if asked.word == "serves" {
+            let bound = asked.bound as u64;
+            let answer = serve_turns(self, &mut machine, &mut ports, asked.least, bound);
+            push_answer(out, &answer)?;
+        } else {
+            push_answer(out, &serve_link(self, &mut machine, &mut ports))?;
+        }
+        Ok(push_served(out, self, &ports.sink)?)
+    }
 }
 
-/// Makes a call that comes to a connection, and appends what it shows.
-fn push_again<C, V: Called<C, Stop> + Shows>(
-    alloc: Global,
-    out: &mut Vec<u8>,
-    value: &mut V,
-    call: &C,
-) -> Result<(), Stop> {
-    let mut tries = Tries::new(alloc);
-    let done = tries.call(value, Stop::Refused, call);
-    tries.push(out)?;
-    done?;
-    Ok(out.extend_from_slice(value.shown())?)
+/// Both sides; the server's ports take and give all at once.
+#[derive(Drop)]
+struct Both<'c, 's> {
+    client: &'c mut Client,
+    server: &'s mut Server,
+}
+
+impl Side for Both<'_, '_> {
+    /// Also whether the machine is homed, on which connection the server is, and its first act.
+    fn push_kept(&self, out: &mut Vec<u8>, held: usize) -> Result<(), AllocError> {
+        push_held(out, self.client, held)?;
+        let view = self.server.view();
+        push_debug(out, &(view.homed, view.connection))?;
+        push_debug(out, &self.server.ledger().acts().first())
+    }
+
+    fn held(&self) -> usize {
+        self.client.features().len()
+    }
+
+    fn call(&mut self, out: &mut Vec<u8>, call: &Call<'_>, number: u64, told: &mut Told) -> Pushed {
+        self.client.connected(number)?;
+        self.server.accept(number)?;
+        let alloc = *out.allocator();
+        let mut ports = LoopPorts {
+            client: call.asked.ports(alloc, call.script.replies)?,
+            server: Asked::plain("loops").ports(alloc, call.script.commands)?,
+        };
+        let mut machine = Simulated::new(alloc, self.server.setup())?;
+        let answer = loop_link(self.client, self.server, &mut machine, &mut ports, told);
+        push_answer(out, &answer)?;
+        push_left(out, self.client, &ports.client.sink)?;
+        Ok(push_served(out, self.server, &ports.server.sink)?)
+    }
+}
+
+/// Calls of a side: the number of its last connection, how many features the client held before, what the last call has shown, and what was
+/// reported to a watcher in all.
+#[derive(Drop)]
+struct Calling<'a, S> {
+    side: &'a mut S,
+    last: u64,
+    held: usize,
+    shown: Vec<u8>,
+    told: Told,
 }
 
 /// What an answer of either side begins with.
@@ -323,405 +307,122 @@ fn begins(shown: &[u8], answer: &[u8]) -> bool {
     inner.starts_with(answer)
 }
 
-/// Whether memory was short for a call that shows this. A port that fails has no memory for what goes out.
-fn judged(shown: &[u8]) -> Result<bool, Stop> {
-    if begins(shown, b"Memory") {
-        return Err(Stop::Refused);
-    }
-    if begins(shown, b"WriteFailed") {
-        return Err(Stop::Memory);
-    }
-    Ok(true)
-}
-
-/// The first of these features.
-fn push_first(
-    alloc: Global,
-    out: &mut Vec<u8>,
-    features: &[Feature],
-    count: usize,
-) -> Result<(), AllocError> {
-    match features.split_at_checked(count) {
-        Some((first, _)) => push_features(alloc, out, first),
-        None => push_text(out, "fewer"),
-    }
-}
-
-/// What a client is and has to send, and the features that it held.
-fn push_held(
-    alloc: Global,
-    out: &mut Vec<u8>,
-    client: &Client,
-    held: usize,
-) -> Result<(), AllocError> {
-    push_state(alloc, out, client)?;
-    push_lines(out, client.out())?;
-    push_first(alloc, out, client.features(), held)
-}
-
-/// A client that comes to its next connection for each call.
-#[derive(Drop)]
-struct Calling<'a> {
-    alloc: Global,
-    client: &'a mut Client,
-    held: usize,
-    last: u64,
-    shown: Vec<u8>,
-    /// What was reported to a watcher in all runs.
-    told: Told,
-}
-
-impl<'a> Calling<'a> {
-    fn new(alloc: Global, client: &'a mut Client) -> Calling<'a> {
-        let held = client.features().len();
-        Calling {
-            alloc,
-            client,
-            held,
-            last: 0,
-            shown: Vec::new(alloc),
-            told: Told::new(alloc),
-        }
+impl<S: Side> Called<Call<'_>, Stop> for Calling<'_, S> {
+    fn push_all(&self, out: &mut Vec<u8>) -> Result<(), AllocError> {
+        self.side.push_kept(out, self.held)
     }
 
-    fn watch(&mut self, asked: Asked, pieces: &str) -> Result<(), Stop> {
-        let mut ports = new_ports(self.alloc, asked, pieces)?;
-        let answer = watch_link(self.client, &mut ports, &mut self.told, &mut Onward);
-        push_answer(self.alloc, &mut self.shown, &answer)?;
-        Ok(self.told.push_to(&mut self.shown)?)
-    }
-
-    /// The call over new ports, into which these pieces come.
-    fn show(&mut self, call: &Call<'_>, pieces: &str) -> Result<(), Stop> {
-        if call.word == "watches" {
-            return self.watch(call.asked, pieces);
-        }
-        call.push_of(self.alloc, &mut self.shown, self.client, pieces)
-    }
-}
-
-impl Shows for Calling<'_> {
-    fn shown(&self) -> &[u8] {
-        self.shown.as_slice()
-    }
-}
-
-impl Called<Call<'_>, Stop> for Calling<'_> {
-    fn push_all(&self, alloc: Global, out: &mut Vec<u8>) -> Result<(), AllocError> {
-        push_held(alloc, out, self.client, self.held)
-    }
-
+    /// The call on the next connection. A port that fails has no memory for what goes out.
     fn make(&mut self, call: &Call<'_>) -> Result<bool, Stop> {
         self.last = self.last.saturating_add(1);
-        let is_last = self.client.features().len() > self.held;
-        let pieces = if is_last {
-            call.last_pieces
-        } else {
-            call.pieces
-        };
-        self.shown = Vec::new(self.alloc);
-        self.client.connected(self.last)?;
-        self.show(call, pieces)?;
-        judged(self.shown.as_slice())
-    }
-}
-
-/// A server that comes to its next connection for each call.
-#[derive(Drop)]
-struct Serving<'a> {
-    alloc: Global,
-    server: &'a mut Server,
-    last: u64,
-    shown: Vec<u8>,
-}
-
-impl Shows for Serving<'_> {
-    fn shown(&self) -> &[u8] {
-        self.shown.as_slice()
-    }
-}
-
-impl Called<Call<'_>, Stop> for Serving<'_> {
-    fn push_all(&self, alloc: Global, out: &mut Vec<u8>) -> Result<(), AllocError> {
-        hostile::push_server(alloc, out, self.server)
-    }
-
-    fn make(&mut self, call: &Call<'_>) -> Result<bool, Stop> {
-        self.last = self.last.saturating_add(1);
-        self.shown = Vec::new(self.alloc);
-        self.server.accept(self.last)?;
-        call.serve(self.alloc, &mut self.shown, self.server)?;
-        judged(self.shown.as_slice())
-    }
-}
-
-// ---- a server
-
-/// One turn of a server.
-fn push_served(
-    alloc: Global,
-    out: &mut Vec<u8>,
-    server: &mut Server,
-    machine: &mut Simulated,
-    ports: &mut MemoryPorts,
-    asked: Asked,
-) -> Result<(), AllocError> {
-    let answer = serve_turns(server, machine, ports, asked.least, asked.bound as u64);
-    push_answer(alloc, out, &answer)?;
-    push_server(out, server, &ports.sink)
-}
-
-/// A whole run of a server.
-fn push_connection(
-    alloc: Global,
-    out: &mut Vec<u8>,
-    server: &mut Server,
-    machine: &mut Simulated,
-    ports: &mut MemoryPorts,
-) -> Result<(), AllocError> {
-    let answer = serve_link(server, machine, ports);
-    push_answer(alloc, out, &answer)?;
-    push_server(out, server, &ports.sink)
-}
-
-/// What a server's call of this word answers, and what it leaves.
-fn push_server_called(
-    alloc: Global,
-    out: &mut Vec<u8>,
-    server: &mut Server,
-    ports: &mut MemoryPorts,
-    (asked, word): (Asked, &str),
-) -> Result<(), AllocError> {
-    let mut machine = Simulated::new(alloc, server.setup())?;
-    match word {
-        "serves" => push_served(alloc, out, server, &mut machine, ports, asked),
-        _ => push_connection(alloc, out, server, &mut machine, ports),
+        self.shown = Vec::new(*self.shown.allocator());
+        let is_last = self.side.held() > self.held;
+        let call = if is_last { call.last() } else { *call };
+        self.side
+            .call(&mut self.shown, &call, self.last, &mut self.told)?;
+        match call.asked.again {
+            0 => Ok(true),
+            _ if begins(self.shown.as_slice(), b"Memory") => Err(Stop::Refused),
+            _ if begins(self.shown.as_slice(), b"WriteFailed") => Err(Stop::Memory),
+            _ => Ok(true),
+        }
     }
 }
 
 impl Call<'_> {
-    fn serve(&self, alloc: Global, out: &mut Vec<u8>, server: &mut Server) -> Result<(), Stop> {
-        let mut ports = new_ports(alloc, self.asked, self.pieces)?;
-        let asked = (self.asked, self.word);
-        Ok(push_server_called(alloc, out, server, &mut ports, asked)?)
+    /// Likewise if everything was measured.
+    fn last(&self) -> Self {
+        let script = Script {
+            replies: self.script.last_replies,
+            commands: self.script.last_commands,
+            ..self.script
+        };
+        Call { script, ..*self }
     }
-}
 
-impl ServerTask for Call<'_> {
-    fn push(&self, alloc: Global, out: &mut Vec<u8>, server: &mut Server) -> Result<(), Stop> {
-        if self.asked.again > 0 {
-            let mut serving = Serving {
-                alloc,
-                server,
-                last: 0,
-                shown: Vec::new(alloc),
-            };
-            return push_again(alloc, out, &mut serving, self);
+    /// Makes it of a side, after the connection of this number, and appends what it shows. It is made again if the row asks for that.
+    fn push_made<S: Side>(&self, out: &mut Vec<u8>, side: &mut S, last: u64) -> Pushed {
+        let alloc = *out.allocator();
+        let held = side.held();
+        let mut calling = Calling {
+            side,
+            last,
+            held,
+            shown: Vec::new(alloc),
+            told: Told {
+                text: Vec::new(alloc),
+                is_short: false,
+            },
+        };
+        let mut tries = Tries::new(alloc);
+        if self.asked.again == 0 {
+            tries.make_once();
         }
-        accept(server)?;
-        self.serve(alloc, out, server)
+        let done = tries.call(&mut calling, Stop::Refused, self);
+        tries.push(out)?;
+        done?;
+        Ok(out.extend_from_slice(calling.shown.as_slice())?)
     }
 }
 
-// ---- both
-
-/// What a run of both sides in turn answers on the simulated machine.
-fn push_looped(
-    alloc: Global,
-    out: &mut Vec<u8>,
-    client: &mut Client,
-    server: &mut Server,
-    ports: &mut BothPorts,
-) -> Result<(), AllocError> {
-    let mut machine = Simulated::new(alloc, server.setup())?;
-    let mut told = Told::new(alloc);
-    let answer = loop_link(client, server, &mut machine, ports, &mut told);
-    push_answer(alloc, out, &answer)
+impl Task<Client> for Call<'_> {
+    fn push(&mut self, out: &mut Vec<u8>, client: &mut Client) -> Pushed {
+        self.push_made(out, client, 0)
+    }
 }
 
-/// Likewise, and what it leaves on both sides.
-fn push_both(
-    alloc: Global,
-    out: &mut Vec<u8>,
-    client: &mut Client,
-    server: &mut Server,
-    ports: &mut BothPorts,
-) -> Result<(), AllocError> {
-    push_looped(alloc, out, client, server, ports)?;
-    push_client(alloc, out, client, &ports.client.sink)?;
-    push_server(out, server, &ports.server.sink)
+impl Task<Server> for Call<'_> {
+    fn push(&mut self, out: &mut Vec<u8>, server: &mut Server) -> Pushed {
+        self.push_made(out, server, 0)
+    }
 }
 
-/// A run of both sides over new ports; those of the server take and give all at once.
-#[derive(Drop)]
-struct Loop<'a> {
-    asked: Asked,
-    replies: &'a str,
+/// What homes the machine.
+const HOMED: &str = "accept 1 / 00001 StartSession() / turn / 00002 Home() / turn / done / leave";
+
+impl BothTask for Call<'_> {
+    /// If it is made again, the machine is homed.
+    fn push_both(
+        &mut self,
+        out: &mut Vec<u8>,
+        (client, server): (&mut Client, &mut Server),
+    ) -> Pushed {
+        let mut last = 0u64;
+        if self.asked.again > 0 {
+            server::call_all(*out.allocator(), server, HOMED)?;
+            last = 1;
+        }
+        self.push_made(out, &mut Both { client, server }, last)
+    }
+}
+
+/// What a row of ports shows: a turn or a run of a client or a server, what is reported to a watcher, or a loop.
+pub(crate) fn push_row<'a>(
+    out: &mut Vec<u8>,
+    made: Made<'_>,
     script: Script<'a>,
-}
-
-impl Loop<'_> {
-    fn push_run(
-        &self,
-        alloc: Global,
-        out: &mut Vec<u8>,
-        client: &mut Client,
-        server: &mut Server,
-        (replies, commands): (&str, &str),
-    ) -> Result<(), Stop> {
-        let mut ports = LoopPorts {
-            client: new_ports(alloc, self.asked, replies)?,
-            server: new_ports(alloc, plain(), commands)?,
-        };
-        Ok(push_both(alloc, out, client, server, &mut ports)?)
+    (word, row): (&'a str, &'a str),
+) -> Pushed {
+    let (words, given) = row.split_once(" < ").ok_or(Stop::Row)?;
+    let mut asked = Asked::plain(word);
+    for pair in words.split(", ") {
+        asked.ask(pair)?;
     }
-}
-
-impl BothTask for Loop<'_> {
-    fn push(
-        &self,
-        alloc: Global,
-        out: &mut Vec<u8>,
-        client: &mut Client,
-        server: &mut Server,
-    ) -> Result<(), Stop> {
-        if self.asked.again > 0 {
-            return push_looped_again(alloc, out, client, server, self);
+    let replies = if given == "all" {
+        script.replies
+    } else {
+        given
+    };
+    let mut call = Call {
+        asked,
+        script: Script { replies, ..script },
+    };
+    match word {
+        "loops" => push_both(out, made, &mut call),
+        "turns" | "runs" | "watches" => push_client(out, made, &mut call),
+        _ => {
+            call.script.commands = given;
+            push_server(out, made, &mut call)
         }
-        connect(client)?;
-        accept(server)?;
-        let script = (self.replies, self.script.commands);
-        self.push_run(alloc, out, client, server, script)
     }
-}
-
-/// Both sides, which come to their next connection for each run.
-#[derive(Drop)]
-struct Looping<'a> {
-    alloc: Global,
-    client: &'a mut Client,
-    server: &'a mut Server,
-    held: usize,
-    last: u64,
-    shown: Vec<u8>,
-}
-
-impl Shows for Looping<'_> {
-    fn shown(&self) -> &[u8] {
-        self.shown.as_slice()
-    }
-}
-
-/// Whether the machine is homed, on which connection the server is, and its first act.
-fn push_homed(alloc: Global, out: &mut Vec<u8>, server: &Server) -> Result<(), AllocError> {
-    let view = server.view();
-    push_debug(alloc, out, &(view.homed, view.connection))?;
-    push_debug(alloc, out, &server.ledger().acts().first())
-}
-
-impl Called<Loop<'_>, Stop> for Looping<'_> {
-    fn push_all(&self, alloc: Global, out: &mut Vec<u8>) -> Result<(), AllocError> {
-        push_held(alloc, out, self.client, self.held)?;
-        push_homed(alloc, out, self.server)
-    }
-
-    fn make(&mut self, call: &Loop<'_>) -> Result<bool, Stop> {
-        self.last = self.last.saturating_add(1);
-        let is_last = self.client.features().len() > self.held;
-        let script = if is_last {
-            (call.script.last_replies, call.script.last_commands)
-        } else {
-            (call.replies, call.script.commands)
-        };
-        self.shown = Vec::new(self.alloc);
-        self.client.connected(self.last)?;
-        self.server.accept(self.last)?;
-        call.push_run(
-            self.alloc,
-            &mut self.shown,
-            self.client,
-            self.server,
-            script,
-        )?;
-        judged(self.shown.as_slice())
-    }
-}
-
-/// Both sides run on a machine that is homed.
-fn push_looped_again(
-    alloc: Global,
-    out: &mut Vec<u8>,
-    client: &mut Client,
-    server: &mut Server,
-    call: &Loop<'_>,
-) -> Result<(), Stop> {
-    let homed = "accept 1 / 00001 StartSession() / turn / 00002 Home() / turn / done / leave";
-    server::call_all(alloc, server, homed)?;
-    let held = client.features().len();
-    let mut looping = Looping {
-        alloc,
-        client,
-        server,
-        held,
-        last: 1,
-        shown: Vec::new(alloc),
-    };
-    push_again(alloc, out, &mut looping, call)
-}
-
-// ---- rows
-
-/// What a row of a server's ports shows: a turn or a run.
-pub(crate) fn push_server_row(
-    alloc: Global,
-    out: &mut Vec<u8>,
-    setup: &str,
-    (word, row): (&str, &str),
-) -> Result<(), Stop> {
-    let (asked, pieces) = parted(row, "")?;
-    let call = Call {
-        asked,
-        pieces,
-        last_pieces: pieces,
-        word,
-    };
-    server::push_task(alloc, out, setup, &call)
-}
-
-/// What a row of a loop shows.
-fn push_loop_row(
-    alloc: Global,
-    out: &mut Vec<u8>,
-    ends: (Made<'_>, &str),
-    script: Script<'_>,
-    row: &str,
-) -> Result<(), Stop> {
-    let (asked, replies) = parted(row, script.replies)?;
-    let task = Loop {
-        asked,
-        replies,
-        script,
-    };
-    push_both_task(alloc, out, ends, &task)
-}
-
-/// What a row of a client's ports shows: a loop, a turn, a run, or what is reported to a watcher.
-pub(crate) fn push_client_row(
-    alloc: Global,
-    out: &mut Vec<u8>,
-    (made, setup): (Made<'_>, &str),
-    script: Script<'_>,
-    (word, row): (&str, &str),
-) -> Result<(), Stop> {
-    if word == "loops" {
-        return push_loop_row(alloc, out, (made, setup), script, row);
-    }
-    let (asked, pieces) = parted(row, script.replies)?;
-    let call = Call {
-        asked,
-        pieces,
-        last_pieces: script.last_replies,
-        word,
-    };
-    client::push_task(alloc, out, made, &call)
 }

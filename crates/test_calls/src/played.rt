@@ -1,47 +1,17 @@
 // A new world through many events: each shows `1` if it happens, else `0`; `show` and `files` are not events.
 
-use crate::ended::{push_files, push_world};
-use crate::fresh::{Made, WorldTask, do_task, program_of};
+use crate::ended::{push_ended, push_files};
+use crate::fresh::{Made, Task, push_world, read_program};
 use crate::shown::push_text;
-use crate::stop::Stop;
+use crate::stop::{Pushed, Stop};
 use dmis_program::Program;
 use link_world::{Event, Instruction, Machine, Schedule, Simulated, World, WorldFault};
-use std::alloc::Global;
 
-/// The instruction of a row.
-fn instruction_of(alloc: Global, row: &str) -> Result<Instruction, Stop> {
-    let schedule = Schedule::read(alloc, row.as_bytes()).ok().ok_or(Stop::Row)?;
-    match schedule.instructions() {
-        [instruction] => Ok(*instruction),
-        _ => Err(Stop::Row),
-    }
-}
-
-/// The event that an instruction is in the present world; none if it is not an event.
-fn event_of<M: Machine>(
-    world: &World,
-    machine: &mut M,
-    instruction: Instruction,
-) -> Result<Option<Event>, Stop> {
-    match instruction {
-        Instruction::Once(event) => Ok(Some(event)),
-        Instruction::Auto => {
-            let number = world.ledger().contacts();
-            Ok(
-                world
-                    .running()
-                    .map(|job| Event::Machine(machine.answer(job, number))),
-            )
-        }
-        _ => Err(Stop::Row),
-    }
-}
+/// At most this many bytes are moved at once.
+const PIECE_MOST: usize = 2_000;
 
 /// Whether an event happens.
-fn happens(world: &mut World, event: Option<Event>) -> Result<bool, Stop> {
-    let Some(event) = event else {
-        return Ok(false);
-    };
+fn happens(world: &mut World, event: Event) -> Result<bool, Stop> {
     match world.step(event) {
         Ok(()) => Ok(true),
         Err(WorldFault::NotNow) => Ok(false),
@@ -49,128 +19,111 @@ fn happens(world: &mut World, event: Option<Event>) -> Result<bool, Stop> {
     }
 }
 
-/// At most this many bytes are moved at once.
-const PIECE_MOST: usize = 2_000;
-
-/// This many bytes move.
-fn piece_moves(is_up: bool, count: usize) -> Event {
-    if is_up {
-        Event::Up(count)
-    } else {
-        Event::Down(count)
-    }
-}
-
 /// One event moves all bytes that wait on their way, up to the given number. Answers whether there were any.
 fn moves_all(world: &mut World, is_up: bool) -> Result<bool, Stop> {
     for less in 0..PIECE_MOST {
-        if happens(world, Some(piece_moves(is_up, PIECE_MOST - less)))? {
+        let count = PIECE_MOST - less;
+        let moves = if is_up {
+            Event::Up(count)
+        } else {
+            Event::Down(count)
+        };
+        if happens(world, moves)? {
             return Ok(true);
         }
     }
     Ok(false)
 }
 
-/// Whether the event of a row happens, if this many connections were made before.
-fn row_happens<M: Machine>(
-    alloc: Global,
+/// Whether the one event of an instruction happens; a machine that ends what runs is one.
+fn instruction_happens<M: Machine>(
     world: &mut World,
     machine: &mut M,
-    connections: u64,
-    row: &str,
+    schedule: &Schedule,
 ) -> Result<bool, Stop> {
-    match row {
-        "accept" => happens(world, Some(Event::Accept(connections))),
-        "up all" => moves_all(world, true),
-        "down all" => moves_all(world, false),
-        _ => {
-            let event = event_of(world, machine, instruction_of(alloc, row)?)?;
-            happens(world, event)
+    match schedule.instructions() {
+        [Instruction::Once(event)] => happens(world, *event),
+        [Instruction::Auto] => {
+            let number = world.ledger().contacts();
+            match world.running().map(|job| machine.answer(job, number)) {
+                Some(outcome) => happens(world, Event::Machine(outcome)),
+                None => Ok(false),
+            }
         }
+        _ => Err(Stop::Row),
     }
 }
 
-/// The event of a row: `1` if it happens, else `0`; and how many connections have been made after it.
-fn push_event<M: Machine>(
-    alloc: Global,
-    out: &mut Vec<u8>,
-    (world, machine): (&mut World, &mut M),
-    connections: u64,
-    row: &str,
-) -> Result<u64, Stop> {
-    let happened = row_happens(alloc, world, machine, connections, row)?;
-    push_text(out, if happened { "1" } else { "0" })?;
-    Ok(connections.saturating_add(u64::from(happened && row == "connect")))
-}
-
-/// A row: an event, or the world, or its files.
-fn push_row<M: Machine>(
-    alloc: Global,
-    (out, program): (&mut Vec<u8>, &Program),
-    (world, machine): (&mut World, &mut M),
-    connections: u64,
-    row: &str,
-) -> Result<u64, Stop> {
-    match row {
-        "show" => {
-            out.push(b'|')?;
-            push_world(alloc, out, program, world)?;
-            Ok(connections)
-        }
-        "files" => {
-            out.push(b'\n')?;
-            push_files(out, world)?;
-            Ok(connections)
-        }
-        _ => push_event(alloc, out, (world, machine), connections, row),
-    }
-}
-
-fn push_rows<M: Machine>(
-    alloc: Global,
-    (out, program): (&mut Vec<u8>, &Program),
-    (world, machine): (&mut World, &mut M),
-    rows: &str,
-) -> Result<(), Stop> {
-    let mut connections = 0;
-    for row in rows.lines() {
-        connections = push_row(alloc, (out, program), (world, machine), connections, row)?;
-    }
-    Ok(())
-}
-
-/// The rows of a new world are written.
+/// The rows of a new world, which has made this many connections.
 #[derive(Drop)]
 struct Rows<'a> {
-    out: &'a mut Vec<u8>,
     program: &'a Program,
     rows: &'a str,
+    connections: u64,
 }
 
-impl WorldTask for Rows<'_> {
-    fn done(&mut self, alloc: Global, world: &mut World) -> Result<(), Stop> {
-        let mut machine = Simulated::new(alloc, world.setup())?;
-        push_rows(
-            alloc,
-            (self.out, self.program),
-            (world, &mut machine),
-            self.rows,
-        )
+impl Rows<'_> {
+    /// The event of a row: `1` if it happens, else `0`.
+    fn push_event<M: Machine>(
+        &mut self,
+        out: &mut Vec<u8>,
+        (world, machine): (&mut World, &mut M),
+        row: &str,
+    ) -> Pushed {
+        let happened = match row {
+            "accept" => happens(world, Event::Accept(self.connections))?,
+            "up all" => moves_all(world, true)?,
+            "down all" => moves_all(world, false)?,
+            _ => {
+                let schedule = Schedule::read(*out.allocator(), row.as_bytes())?;
+                instruction_happens(world, machine, &schedule)?
+            }
+        };
+        if happened && row == "connect" {
+            self.connections = self.connections.saturating_add(1);
+        }
+        Ok(push_text(out, if happened { "1" } else { "0" })?)
+    }
+
+    /// A row: an event, or the world, or its files.
+    fn push_row<M: Machine>(
+        &mut self,
+        out: &mut Vec<u8>,
+        (world, machine): (&mut World, &mut M),
+        row: &str,
+    ) -> Pushed {
+        match row {
+            "show" => {
+                out.push(b'|')?;
+                push_ended(out, self.program, world)
+            }
+            "files" => {
+                out.push(b'\n')?;
+                push_files(out, world)
+            }
+            _ => self.push_event(out, (world, machine), row),
+        }
+    }
+}
+
+impl Task<World> for Rows<'_> {
+    fn push(&mut self, out: &mut Vec<u8>, world: &mut World) -> Pushed {
+        let mut machine = Simulated::new(*out.allocator(), world.setup())?;
+        let rows = self.rows;
+        for row in rows.lines() {
+            self.push_row(out, (world, &mut machine), row)?;
+        }
+        Ok(())
     }
 }
 
 /// What the rows of a part of events show of a new world.
-pub(crate) fn push_events(
-    alloc: Global,
-    out: &mut Vec<u8>,
-    made: Made<'_>,
-    rows: &str,
-) -> Result<(), Stop> {
-    let program = program_of(alloc, made)?;
+pub(crate) fn push_events(out: &mut Vec<u8>, made: Made<'_>, rows: &str) -> Pushed {
+    let program = read_program(*out.allocator(), made)?;
     let mut task = Rows {
-        out,
         program: &program,
         rows,
+        connections: 0,
     };
-    do_task(alloc, made, &mut task)
+    push_world(out, made, &mut task)
 }

@@ -3,87 +3,17 @@
 // An action is a line that is fed and read, or a word for another call; it shows the lines that are answered, each with `;` for its end, or
 // why the call is refused. `homes n` reads 65 commands `Home()` with the tags that follow number n.
 
-use crate::client::{self, ClientTask, Made};
 use crate::hostile;
+use crate::parts::Answers;
 use crate::shown::{
-    push_act, push_debug, push_direction, push_display, push_frame, push_lines, push_point,
-    push_text,
+    push_debug, push_direction, push_entry, push_frame, push_lines, push_point, push_text,
 };
-use crate::stop::Stop;
+use crate::stop::{Pushed, Stop};
 use crate::tried::{Called, Tries, front, push_appended};
-use client_core::Client;
-use fixed_um::{Dir, Frame, Name, Point, Um, read_um};
+use fixed_um::{Point, Um, read_um};
 use link_world::write_contact_rows;
 use server_core::{Job, Outcome, Server, ServerFault};
 use std::alloc::{AllocError, Global};
-use tool_rack::Setup;
-
-fn new_server(alloc: Global, setup: &str) -> Result<Server, Stop> {
-    let setup = Setup::read(alloc, setup.as_bytes())?;
-    Ok(Server::new(alloc, setup)?)
-}
-
-/// What a new server is made for.
-pub(crate) trait ServerTask {
-    /// What it shows.
-    fn push(&self, alloc: Global, out: &mut Vec<u8>, server: &mut Server) -> Result<(), Stop>;
-}
-
-/// What a task of a new server shows.
-pub(crate) fn push_task<T: ServerTask>(
-    alloc: Global,
-    out: &mut Vec<u8>,
-    setup: &str,
-    task: &T,
-) -> Result<(), Stop> {
-    let mut server = new_server(alloc, setup)?;
-    let done = task.push(alloc, out, &mut server);
-    drop(server);
-    done
-}
-
-/// What a new client and a new server are made for.
-pub(crate) trait BothTask {
-    /// What it shows.
-    fn push(
-        &self,
-        alloc: Global,
-        out: &mut Vec<u8>,
-        client: &mut Client,
-        server: &mut Server,
-    ) -> Result<(), Stop>;
-}
-
-/// A client with a new server of a setup.
-#[derive(Drop)]
-struct WithServer<'a, T> {
-    setup: &'a str,
-    task: &'a T,
-}
-
-impl<T: BothTask> ClientTask for WithServer<'_, T> {
-    fn push(&self, alloc: Global, out: &mut Vec<u8>, client: &mut Client) -> Result<(), Stop> {
-        let mut server = new_server(alloc, self.setup)?;
-        let done = self.task.push(alloc, out, client, &mut server);
-        drop(server);
-        done
-    }
-}
-
-/// What a task of a new client and a new server shows.
-pub(crate) fn push_both_task<T: BothTask>(
-    alloc: Global,
-    out: &mut Vec<u8>,
-    (made, setup): (Made<'_>, &str),
-    task: &T,
-) -> Result<(), Stop> {
-    client::push_task(alloc, out, made, &WithServer { setup, task })
-}
-
-/// A new server accepts connection 1.
-pub(crate) fn accept(server: &mut Server) -> Result<(), Stop> {
-    Ok(server.accept(1)?)
-}
 
 /// What was answered is sent.
 fn take_out(server: &mut Server) {
@@ -97,21 +27,15 @@ pub(crate) fn is_on(server: &mut Server) -> bool {
 }
 
 fn length(numeral: &str) -> Um {
-    match read_um(numeral.as_bytes(), Um::wire_limit()) {
-        Ok(length) => length,
-        Err(_) => Um::zero(),
-    }
+    read_um(numeral.as_bytes(), Um::wire_limit()).unwrap_or(Um::zero())
 }
 
 /// Three numerals with a space between them.
 fn point(text: &str) -> Point {
     let (x, rest) = text.split_once(" ").unwrap_or((text, ""));
     let (y, z) = rest.split_once(" ").unwrap_or((rest, ""));
-    Point {
-        x: length(x),
-        y: length(y),
-        z: length(z),
-    }
+    let (x, y, z) = (length(x), length(y), length(z));
+    Point { x, y, z }
 }
 
 /// A call for which memory can be short.
@@ -124,15 +48,15 @@ enum Call<'a> {
 }
 
 impl Called<Call<'_>, ServerFault> for Server {
-    fn push_all(&self, alloc: Global, out: &mut Vec<u8>) -> Result<(), AllocError> {
+    fn push_all(&self, out: &mut Vec<u8>) -> Result<(), AllocError> {
         let may = (
             self.has_line(),
             self.may_turn(),
             self.may_end(&Outcome::Done),
         );
-        push_debug(alloc, out, &may)?;
-        push_debug(alloc, out, self.setup())?;
-        hostile::push_server(alloc, out, self)
+        push_debug(out, &may)?;
+        push_debug(out, self.setup())?;
+        hostile::push_server(out, self)
     }
 
     fn make(&mut self, call: &Call<'_>) -> Result<bool, ServerFault> {
@@ -146,30 +70,6 @@ impl Called<Call<'_>, ServerFault> for Server {
     }
 }
 
-/// Makes a call, and once more if memory is short for it.
-fn make(tries: &mut Tries, server: &mut Server, call: Call<'_>) -> Result<bool, ServerFault> {
-    tries.call(server, ServerFault::Memory, &call)
-}
-
-fn feed_line(
-    tries: &mut Tries,
-    server: &mut Server,
-    line: &[u8],
-    end: &[u8],
-) -> Result<bool, ServerFault> {
-    make(tries, server, Call::Feed(line))?;
-    make(tries, server, Call::Feed(end))?;
-    make(tries, server, Call::Read)
-}
-
-/// One byte more than a line may have.
-fn feed_long(server: &mut Server) -> Result<bool, ServerFault> {
-    for _ in 0..65_537 {
-        server.feed(b"A")?;
-    }
-    server.read_one()
-}
-
 /// The tag of a number.
 fn tag(number: u32) -> [u8; 5] {
     let mut tag = *b"00000";
@@ -179,15 +79,6 @@ fn tag(number: u32) -> [u8; 5] {
         left /= 10;
     }
     tag
-}
-
-/// 65 commands `Home()` with the tags that follow this number, with no turn between them.
-fn feed_homes(tries: &mut Tries, server: &mut Server, number: u32) -> Result<bool, ServerFault> {
-    for nth in 1..=65u32 {
-        let tag = tag(number.saturating_add(nth));
-        feed_line(tries, server, &tag, b" Home()\r\n")?;
-    }
-    Ok(true)
 }
 
 /// How what runs ends, by its word.
@@ -200,197 +91,178 @@ fn outcome(word: &str, rest: &str) -> Outcome {
     }
 }
 
-/// Another call that reads no line, by its word.
-fn called_alone(server: &mut Server, word: &str, rest: &str) -> Result<(), ServerFault> {
-    match word {
-        "accept" => server.accept(rest.parse().unwrap_or(0)),
-        "leave" => {
-            server.leave();
-            Ok(())
+/// A server through the calls of a row.
+#[derive(Drop)]
+struct Driven<'a> {
+    server: &'a mut Server,
+    tries: Tries,
+}
+
+impl Driven<'_> {
+    /// Makes a call, and once more if memory is short for it.
+    fn make(&mut self, call: Call<'_>) -> Result<bool, ServerFault> {
+        self.tries.call(self.server, ServerFault::Memory, &call)
+    }
+
+    fn feed_line(&mut self, line: &[u8], end: &[u8]) -> Result<bool, ServerFault> {
+        self.make(Call::Feed(line))?;
+        self.make(Call::Feed(end))?;
+        self.make(Call::Read)
+    }
+
+    /// 65 commands `Home()` with the tags that follow this number, with no turn between them.
+    fn feed_homes(&mut self, number: u32) -> Result<bool, ServerFault> {
+        for nth in 1..=65u32 {
+            let tag = tag(number.saturating_add(nth));
+            self.feed_line(&tag, b" Home()\r\n")?;
         }
-        _ => {
-            server.restart();
-            Ok(())
+        Ok(true)
+    }
+
+    /// One byte more than a line may have.
+    fn feed_long(&mut self) -> Result<bool, ServerFault> {
+        for _ in 0..65_537 {
+            self.server.feed(b"A")?;
+        }
+        self.server.read_one()
+    }
+
+    /// A call by its word, of any other word the action itself is a line; false where no line was read.
+    fn call(&mut self, action: &str) -> Result<bool, ServerFault> {
+        let (word, rest) = action.split_once(" ").unwrap_or((action, ""));
+        match word {
+            "turn" => self.make(Call::Turn),
+            "done" | "missed" | "fault" | "touched" => self.make(Call::Machine(word, rest)),
+            "read" => self.make(Call::Read),
+            "clear" => {
+                self.feed_line(b"09999 ClearAllErrors()", b"\r\n")?;
+                self.make(Call::Turn)
+            }
+            "long" => self.feed_long(),
+            "homes" => self.feed_homes(rest.parse().unwrap_or(0)),
+            "bad" => self.feed_line(rest.as_bytes(), b"\n"),
+            "accept" => {
+                self.server.accept(rest.parse().unwrap_or(0))?;
+                Ok(true)
+            }
+            "leave" => {
+                self.server.leave();
+                Ok(true)
+            }
+            "restart" => {
+                self.server.restart();
+                Ok(true)
+            }
+            _ => self.feed_line(action.as_bytes(), b"\r\n"),
         }
     }
 }
 
-/// The errors are cleared.
-fn clear(tries: &mut Tries, server: &mut Server) -> Result<bool, ServerFault> {
-    feed_line(tries, server, b"09999 ClearAllErrors()", b"\r\n")?;
-    make(tries, server, Call::Turn)
-}
+// ---- what is shown of it
 
-/// A call that reads lines, by its word: of any other word the action itself is the line.
-fn called_reading(
-    tries: &mut Tries,
-    server: &mut Server,
-    (word, rest): (&str, &str),
-    action: &str,
-) -> Result<bool, ServerFault> {
-    match word {
-        "read" => make(tries, server, Call::Read),
-        "homes" => feed_homes(tries, server, rest.parse().unwrap_or(0)),
-        "bad" => feed_line(tries, server, rest.as_bytes(), b"\n"),
-        "long" => feed_long(server),
-        _ => feed_line(tries, server, action.as_bytes(), b"\r\n"),
-    }
-}
-
-/// A call by its word; false where no line was read.
-pub(crate) fn called(
-    tries: &mut Tries,
-    server: &mut Server,
-    action: &str,
-) -> Result<bool, ServerFault> {
-    let (word, rest) = action.split_once(" ").unwrap_or((action, ""));
-    match word {
-        "accept" | "leave" | "restart" => {
-            called_alone(server, word, rest)?;
-            Ok(true)
-        }
-        "turn" => make(tries, server, Call::Turn),
-        "done" | "missed" | "fault" | "touched" => make(tries, server, Call::Machine(word, rest)),
-        "clear" => clear(tries, server),
-        _ => called_reading(tries, server, (word, rest), action),
-    }
-}
-
-fn push_word(out: &mut Vec<u8>, is: bool, yes: &str, no: &str) -> Result<(), AllocError> {
-    out.extend_from_slice(if is { yes.as_bytes() } else { no.as_bytes() })
-}
-
-fn push_connection(
-    alloc: Global,
-    out: &mut Vec<u8>,
-    connection: Option<u64>,
-) -> Result<(), AllocError> {
-    match connection {
-        Some(number) => push_text(out, format!(in alloc; "on {number};")?.as_str()),
-        None => out.extend_from_slice(b"off;"),
-    }
-}
-
-/// The tool in the head, followed by `;`.
-fn push_tool(out: &mut Vec<u8>, tool: Option<&Name>) -> Result<(), AllocError> {
-    match tool {
-        Some(tool) => out.extend_from_slice(tool.as_bytes())?,
-        None => out.extend_from_slice(b"no tool")?,
-    }
-    out.extend_from_slice(b";")
-}
-
-/// The frame that is selected and the place that is stored, each followed by `;`.
-fn push_frames(out: &mut Vec<u8>, frame: Frame, stored: Point) -> Result<(), AllocError> {
-    push_frame(out, frame)?;
-    out.extend_from_slice(b";")?;
-    push_point(out, stored)?;
-    out.extend_from_slice(b";")
-}
-
-pub(crate) fn push_state(
-    alloc: Global,
-    out: &mut Vec<u8>,
-    server: &Server,
-) -> Result<(), AllocError> {
+/// The connection, whether a session is open and the machine is homed, the tool, the frame and what is stored for it, and whether there is
+/// an error, each followed by `;`.
+pub(crate) fn push_state(out: &mut Vec<u8>, server: &Server) -> Result<(), AllocError> {
     let view = server.view();
-    push_connection(alloc, out, view.connection)?;
-    push_word(out, view.session, "session;", "no session;")?;
-    push_word(out, view.homed, "homed;", "not homed;")?;
-    push_tool(out, view.tool)?;
-    push_frames(out, view.frame, view.stored)?;
-    push_word(out, view.error, "error;", "no error;")
+    match view.connection {
+        Some(number) => push_text(out, format!(in *out.allocator(); "on {number};")?.as_str())?,
+        None => push_text(out, "off;")?,
+    }
+    push_text(
+        out,
+        if view.session {
+            "session;"
+        } else {
+            "no session;"
+        },
+    )?;
+    push_text(out, if view.homed { "homed;" } else { "not homed;" })?;
+    match view.tool {
+        Some(tool) => out.extend_from_slice(tool.as_bytes())?,
+        None => push_text(out, "no tool")?,
+    }
+    push_text(out, ";")?;
+    push_frame(out, view.frame)?;
+    push_text(out, ";")?;
+    push_point(out, view.stored)?;
+    push_text(out, if view.error { ";error;" } else { ";no error;" })
 }
 
-/// A word and a place.
-fn push_place(out: &mut Vec<u8>, word: &[u8], target: Point) -> Result<(), AllocError> {
-    out.extend_from_slice(word)?;
-    push_point(out, target)
-}
-
-/// A word, a place and a direction.
-fn push_touch(out: &mut Vec<u8>, target: Point, dir: Option<Dir>) -> Result<(), AllocError> {
-    push_place(out, b"Touch ", target)?;
-    out.extend_from_slice(b" ")?;
-    push_direction(out, dir)
-}
-
-/// A word and a tool.
-fn push_change(out: &mut Vec<u8>, tool: &[u8]) -> Result<(), AllocError> {
-    out.extend_from_slice(b"Change ")?;
-    out.extend_from_slice(tool)
-}
-
+/// What runs, with its place and direction or its tool.
 pub(crate) fn push_job(out: &mut Vec<u8>, server: &Server) -> Result<(), AllocError> {
     match server.running() {
-        None => out.extend_from_slice(b"nothing"),
-        Some(Job::Home) => out.extend_from_slice(b"Home"),
-        Some(Job::Move(target)) => push_place(out, b"Move ", *target),
-        Some(Job::Touch(target, dir)) => push_touch(out, *target, *dir),
-        Some(Job::Change(tool)) => push_change(out, tool.as_bytes()),
+        None => push_text(out, "nothing"),
+        Some(Job::Home) => push_text(out, "Home"),
+        Some(Job::Move(target)) => {
+            push_text(out, "Move ")?;
+            push_point(out, *target)
+        }
+        Some(Job::Touch(target, dir)) => {
+            push_text(out, "Touch ")?;
+            push_point(out, *target)?;
+            push_text(out, " ")?;
+            push_direction(out, *dir)
+        }
+        Some(Job::Change(tool)) => {
+            push_text(out, "Change ")?;
+            out.extend_from_slice(tool.as_bytes())
+        }
     }
 }
 
-pub(crate) fn push_ledger(
-    alloc: Global,
-    out: &mut Vec<u8>,
-    server: &Server,
-) -> Result<(), AllocError> {
+pub(crate) fn push_ledger(out: &mut Vec<u8>, server: &Server) -> Result<(), AllocError> {
     for (connection, act) in server.ledger().acts() {
-        push_display(alloc, out, connection)?;
-        push_text(out, " ")?;
-        push_act(out, act)?;
+        push_entry(out, *connection, act)?;
     }
     Ok(())
 }
 
 /// The lines that a call answers, which are sent, and why it is refused.
-fn push_called(
-    alloc: Global,
-    out: &mut Vec<u8>,
-    server: &mut Server,
-    action: &str,
-) -> Result<(), Stop> {
-    let mut tries = Tries::new(alloc);
-    let done = called(&mut tries, server, action);
-    tries.push(out)?;
-    push_lines(out, server.out())?;
-    take_out(server);
+fn push_called(out: &mut Vec<u8>, server: &mut Server, action: &str) -> Pushed {
+    let tries = Tries::new(*out.allocator());
+    let mut driven = Driven { server, tries };
+    let done = driven.call(action);
+    driven.tries.push(out)?;
+    push_lines(out, driven.server.out())?;
+    take_out(driven.server);
     match done {
         Ok(true) => Ok(()),
         Ok(false) => Ok(push_text(out, "no line;")?),
-        Err(fault) => Ok(push_debug(alloc, out, &fault)?),
+        Err(fault) => Ok(push_debug(out, &fault)?),
     }
 }
 
 /// The rows of the contacts.
-fn push_rows(alloc: Global, out: &mut Vec<u8>, server: &Server) -> Result<(), Stop> {
-    let mut text = front(alloc)?;
+fn push_rows(out: &mut Vec<u8>, server: &Server) -> Pushed {
+    let mut text = front(*out.allocator())?;
     let written = write_contact_rows(&mut text, server.ledger());
     push_appended(out, text.as_slice(), written)
 }
 
-/// What an action shows: the text of a reader, or what a call answers.
-pub(crate) fn answer(alloc: Global, server: &mut Server, action: &str) -> Result<Vec<u8>, Stop> {
-    let mut text = Vec::new(alloc);
-    match action {
-        "contact rows" => push_rows(alloc, &mut text, server)?,
-        "state" => push_state(alloc, &mut text, server)?,
-        "running" => push_job(&mut text, server)?,
-        "ledger" => push_ledger(alloc, &mut text, server)?,
-        _ => push_called(alloc, &mut text, server, action)?,
+impl Answers for Server {
+    fn answer(&mut self, alloc: Global, action: &str) -> Result<Vec<u8>, Stop> {
+        let mut text = Vec::new(alloc);
+        match action {
+            "contact rows" => push_rows(&mut text, self)?,
+            "state" => push_state(&mut text, self)?,
+            "running" => push_job(&mut text, self)?,
+            "ledger" => push_ledger(&mut text, self)?,
+            _ => push_called(&mut text, self, action)?,
+        }
+        Ok(text)
     }
-    Ok(text)
 }
 
 /// Actions that all succeed; what is answered is sent.
-pub(crate) fn call_all(alloc: Global, server: &mut Server, actions: &str) -> Result<(), Stop> {
-    let mut tries = Tries::none(alloc);
+pub(crate) fn call_all(alloc: Global, server: &mut Server, actions: &str) -> Pushed {
+    let mut tries = Tries::new(alloc);
+    tries.make_once();
+    let mut driven = Driven { server, tries };
     for action in actions.split(" / ") {
-        if !called(&mut tries, server, action)? {
+        if !driven.call(action)? {
             return Err(Stop::Row);
         }
-        take_out(server);
+        take_out(driven.server);
     }
     Ok(())
 }

@@ -25,6 +25,9 @@ pub(crate) enum Stop {
     ForEver,
 }
 
+/// What a function answers that writes what a row shows.
+pub(crate) type Pushed = Result<(), Stop>;
+
 /// A call that must succeed is refused: the program is out of memory, or the line is not a row.
 fn memory_or_row(is_memory: bool) -> Stop {
     if is_memory { Stop::Memory } else { Stop::Row }

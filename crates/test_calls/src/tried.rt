@@ -5,26 +5,16 @@
 // `refused for ever` if memory is short again.
 
 use crate::shown::{push_lines, push_text};
-use crate::stop::Stop;
+use crate::stop::{Pushed, Stop};
 use std::alloc::{AllocError, Global};
 
 /// A value whose calls `C` are made again. `F` is why one is refused.
 pub(crate) trait Called<C, F> {
     /// Appends what all readers of the value answer.
-    fn push_all(&self, alloc: Global, out: &mut Vec<u8>) -> Result<(), AllocError>;
+    fn push_all(&self, out: &mut Vec<u8>) -> Result<(), AllocError>;
 
     /// Makes a call; false if there was nothing to do.
     fn make(&mut self, call: &C) -> Result<bool, F>;
-}
-
-fn readers_of<C, F, V: Called<C, F>>(
-    alloc: Global,
-    value: &V,
-    _call: &C,
-) -> Result<Vec<u8>, AllocError> {
-    let mut text = Vec::new(alloc);
-    value.push_all(alloc, &mut text)?;
-    Ok(text)
 }
 
 /// What came of the calls of a row for which memory was short.
@@ -47,22 +37,9 @@ impl Tries {
         }
     }
 
-    /// Each call is made once.
-    pub(crate) fn none(alloc: Global) -> Tries {
-        Tries {
-            alloc,
-            is_on: false,
-            told: Vec::new(alloc),
-            stop: None,
-        }
-    }
-
-    /// Reports that memory was short and the value is as before.
-    fn tell(&mut self, before: &[u8], now: &[u8]) -> Result<(), Stop> {
-        if before != now {
-            return Err(Stop::Changed);
-        }
-        Ok(push_text(&mut self.told, "refused, as before; ")?)
+    /// Each call is made once from now on.
+    pub(crate) fn make_once(&mut self) {
+        self.is_on = false;
     }
 
     /// What the call answers; it is made once more if memory is short for it.
@@ -72,13 +49,18 @@ impl Tries {
         memory: F,
         call: &C,
     ) -> Result<Result<bool, F>, Stop> {
-        let before = readers_of(self.alloc, value, call)?;
+        let mut before = Vec::new(self.alloc);
+        value.push_all(&mut before)?;
         match value.make(call) {
             Err(fault) if fault == memory => {}
             answer => return Ok(answer),
         }
-        let now = readers_of(self.alloc, value, call)?;
-        self.tell(before.as_slice(), now.as_slice())?;
+        let mut now = Vec::new(self.alloc);
+        value.push_all(&mut now)?;
+        if before.as_slice() != now.as_slice() {
+            return Err(Stop::Changed);
+        }
+        push_text(&mut self.told, "refused, as before; ")?;
         match value.make(call) {
             Err(fault) if fault == memory => Err(Stop::ForEver),
             answer => Ok(answer),
@@ -105,7 +87,7 @@ impl Tries {
     }
 
     /// Appends what was reported; an `Err` if a call did not behave as required.
-    pub(crate) fn push(&self, out: &mut Vec<u8>) -> Result<(), Stop> {
+    pub(crate) fn push(&self, out: &mut Vec<u8>) -> Pushed {
         out.extend_from_slice(self.told.as_slice())?;
         match self.stop {
             Some(stop) => Err(stop),
@@ -116,13 +98,12 @@ impl Tries {
 
 /// Makes a call of a value that must succeed.
 pub(crate) fn push_tried<C, F: PartialEq + Copy, V: Called<C, F>>(
-    alloc: Global,
     out: &mut Vec<u8>,
     value: &mut V,
     memory: F,
     call: &C,
-) -> Result<(), Stop> {
-    let mut tries = Tries::new(alloc);
+) -> Pushed {
+    let mut tries = Tries::new(*out.allocator());
     let is_made = tries.call(value, memory, call).is_ok();
     tries.push(out)?;
     if is_made { Ok(()) } else { Err(Stop::Row) }
@@ -141,7 +122,7 @@ pub(crate) fn push_appended(
     out: &mut Vec<u8>,
     text: &[u8],
     answer: Result<(), AllocError>,
-) -> Result<(), Stop> {
+) -> Pushed {
     match (text.strip_prefix(FRONT), answer) {
         (Some(appended), Ok(())) => Ok(push_lines(out, appended)?),
         (Some([]), Err(AllocError)) => Err(Stop::Refused),
