@@ -1,0 +1,2 @@
+-- Examples: histories that are written out (this profile).
+use Rattle.std.specs.Prelude.{ℕ}
