@@ -120,7 +120,7 @@ no_at_once L sort i j a all n effect h fits k p none u = go (sent_at n (lines h)
     go (Some w) is may = by_place w is may
 
 -- for a line in its turn
-ended_out : (effect : Effect) (now : Option Frame) (ended : Bool) (o : Option (Option (Tag × SentCommand))) → may_in_turn effect now ended o ≡ true
+pub ended_out : (effect : Effect) (now : Option Frame) (ended : Bool) (o : Option (Option (Tag × SentCommand))) → may_in_turn effect now ended o ≡ true
     → ended ≡ true → ⊥
 ended_out effect now ended None may e = false≢true may
 ended_out effect now ended (Some w) may e =

@@ -9,3 +9,4 @@ pub mod Reports
 pub mod Held
 pub mod Lasting
 pub mod Tools
+pub mod Frames

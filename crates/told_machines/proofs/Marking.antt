@@ -135,7 +135,7 @@ done_none i (Said (Answers line what) ∷ h) is calm =
     go (stays done clear quiet) rest = (calm_none i (mark_in what (lines h)) (is_fault what (lines h)) clear, rest done quiet)
 
 -- a change that is done has ended
-done_ended : (ms : List Heard) → progress_of ms ≡ Some Done → list_any is_complete ms ≡ true
+pub done_ended : (ms : List Heard) → progress_of ms ≡ Some Done → list_any is_complete ms ≡ true
 done_ended [] is = absurd (cc)
 done_ended (e ∷ ms) is =
     let both : (progress_of ms ≡ Some Begun) × (e ≡ heard.Complete) = done_mark e (progress_of ms) is in

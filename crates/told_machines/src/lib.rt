@@ -8,4 +8,4 @@
 
 mod laws;
 
-pub use laws::known_tools_are_so;
+pub use laws::known_tools_and_frames_are_so;
