@@ -115,9 +115,11 @@ csy_zero : (line : List ℕ) (tag : Tag) (p : Point) (h : List Line) (o : Option
     → IsCsy (Sends line (Some (tag, sends.Known (command.SetCsyTransformation p))) ∷ h) (unless_part o)
 csy_zero line tag p h None is = tt
 csy_zero line tag p h (Some (PartCsy, s)) is = tt
-csy_zero line tag p h (Some (MachineCsy, s)) is =
-    (line_stays s (Sends line (Some (tag, sends.Known (command.SetCsyTransformation p)))) h is.0, is.1,
-    quiet_more (may_select MachineCsy) (place s) line (Some (tag, sends.Known (command.SetCsyTransformation p))) h refl is.2)
+csy_zero line tag p h (Some (MachineCsy, s)) is = (
+  line_stays s (Sends line (Some (tag, sends.Known (command.SetCsyTransformation p)))) h is.0,
+  is.1,
+  quiet_more (may_select MachineCsy) (place s) line (Some (tag, sends.Known (command.SetCsyTransformation p))) h refl is.2,
+)
 
 csy_command : (line : List ℕ) (tag : Tag) (h : List Line) (c : Command) (o : Option (Csy × Sent)) → IsCsy h o
     → IsCsy (Sends line (Some (tag, sends.Known c)) ∷ h)

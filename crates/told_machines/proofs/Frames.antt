@@ -136,7 +136,7 @@ unselected : (i : ℕ) (cause : Cause) (effect : Effect) (h : List Entry) → Ke
     → is_selection i cause effect ≡ true → ⊥
 unselected i cause effect h k ended e =
     let mine : ActsWithin (Does (InTurn i) effect) h =
-        subst (λ (c : Cause). ActsWithin (Does c effect) h) (its_selection i cause effect e).0 (Keeps.within k).0 in
+    subst (λ (c : Cause). ActsWithin (Does c effect) h) (its_selection i cause effect e).0 (Keeps.within k).0 in
     ended_out effect (frame_now h) (has_ended i (lines h)) (sent_at i (lines h)) mine ended
 
 selection_stays : (i : ℕ) (all h : List Entry) → Keeps all → IsPast all h → has_ended i (lines h) ≡ true
@@ -181,7 +181,7 @@ zero_fits at z s all is_line is last_is =
     let line_of : IsLine z (lines all) = line_through z s (lines all) last_is.0 is_line in
     let p : Point = last_is.1.0 in
     let sent : sent_at (place z) (lines all) ≡ Some (Some (z.tag, sends.Known (command.SetCsyTransformation p))) =
-        IsLine.sent line_of ∙ ap (λ (c : SentCommand). Some (Some (z.tag, c))) last_is.1.1 in
+    IsLine.sent line_of ∙ ap (λ (c : SentCommand). Some (Some (z.tag, c))) last_is.1.1 in
     record {
       above = sent_within (place z) (Some (z.tag, z.command)) s.above (IsLine.sent last_is.0);
       no_touch = refl;
@@ -215,7 +215,7 @@ machine_fits : (s u : Sent) (p : Point) (d : Option Direction) (all : List Entry
 machine_fits s u p d all iu is last_is =
     let is_line : IsLine s (lines all) = line_through s u (lines all) last_is.0 iu in
     let sent : sent_at (place s) (lines all) ≡ Some (Some (s.tag, sends.Known (command.SetCoordSystem MachineCsy))) =
-        IsLine.sent is_line ∙ ap (λ (c : SentCommand). Some (Some (s.tag, c))) last_is.1 in
+    IsLine.sent is_line ∙ ap (λ (c : SentCommand). Some (Some (s.tag, c))) last_is.1 in
     record {
       above = sent_within (place s) (Some (s.tag, s.command)) u.above (IsLine.sent last_is.0);
       no_touch = refl;
@@ -225,7 +225,7 @@ machine_fits s u p d all iu is last_is =
       quiet = λ n effect h t acts lt le e some.
           below_quiet (may_select MachineCsy) (place s) u all iu (touch_quiet MachineCsy u.command u.tag p d is) last_is.2
           n effect h t acts lt le (λ w may. known_selects MachineCsy effect w some
-            (subst (λ (f : Option Frame). line_may effect f w ≡ true) (ap (λ x. so x) e) may));
+          (subst (λ (f : Option Frame). line_may effect f w ≡ true) (ap (λ x. so x) e) may));
       loss = λ effect h acts some. no_frame_lost effect acts some;
     }
 
@@ -251,11 +251,11 @@ part_made : (at : Point) (z s : Sent) (line : List ℕ) (what : Option (Tag × S
     → last frame_selected h ≡ Some (InTurn (place s), Some (Part at))
 part_made at z s line what e all h kept t mark d zero_is_there made =
     let ended : has_ended (place s) (Answers line what ∷ lines h) ≡ true =
-        end_after (place s) e (mark_in what (lines h)) (marks (place s) (lines h)) mark d in
+    end_after (place s) e (mark_in what (lines h)) (marks (place s) (lines h)) mark d in
     let same : before_last (is_selection (place s)) all ≡ before_last (is_selection (place s)) h =
-        selection_stays (place s) all (Said (Answers line what) ∷ h) kept t ended in
+    selection_stays (place s) all (Said (Answers line what) ∷ h) kept t ended in
     let part : part_selected (place s) all ≡ Some (Part at) =
-        part_is_at at z s all zero_is_there (λ none. selected_once (place s) (part_selected (place s) h) h made (sym same ∙ none)) in
+    part_is_at at z s all zero_is_there (λ none. selected_once (place s) (part_selected (place s) h) h made (sym same ∙ none)) in
     made ∙ (ap (λ x. Some (InTurn (place s), part_when (there zero_now x))) (sym same) ∙ ap (λ x. Some (InTurn (place s), x)) part)
 
 part_fits : (at : Point) (z s u : Sent) (p : Point) (d : Option Direction) (all : List Entry) → Keeps all → IsLine u (lines all)
@@ -265,7 +265,7 @@ part_fits : (at : Point) (z s u : Sent) (p : Point) (d : Option Direction) (all 
 part_fits at z s u p d all kept iu is last_is zero_is_there =
     let is_line : IsLine s (lines all) = line_through s u (lines all) last_is.0 iu in
     let sent : sent_at (place s) (lines all) ≡ Some (Some (s.tag, sends.Known (command.SetCoordSystem PartCsy))) =
-        IsLine.sent is_line ∙ ap (λ (c : SentCommand). Some (Some (s.tag, c))) last_is.1 in
+    IsLine.sent is_line ∙ ap (λ (c : SentCommand). Some (Some (s.tag, c))) last_is.1 in
     record {
       above = sent_within (place s) (Some (s.tag, s.command)) u.above (IsLine.sent last_is.0);
       no_touch = refl;
@@ -329,7 +329,7 @@ known_frame_had : (frame : Frame) (u : Sent) (p : Point) (d : Option Direction) 
     → frame_of (all_for u (Answers line what ∷ lines h)) ≡ Some frame → HadFrame what h frame
 known_frame_had frame u p d at line what h k iu mark is given known =
     elim (frame_is (done (may_hold_for u (last_csy u.above) all)) (done (may_hold_for u (last_part u.above) all)) frame known) [
-        inl both ↦ in_machine both.0 both.1
+      | inl both ↦ in_machine both.0 both.1
       | inr part ↦ in_part part.0 part.1 part.2 part.3
     ]
   where
@@ -357,7 +357,7 @@ known_frame_had frame u p d at line what h k iu mark is given known =
             let csy_last : IsLast AsksCsy may_select u.above (Some (PartCsy, held.0)) = subst (IsLast AsksCsy may_select u.above) held.1 (csy_is u.above) in
             let same : last_zero (held.0).above ≡ Some (zero_at, zero.0) = sym (part_last PartCsy held.0 u.above held.1) ∙ zero.1 in
             let zero_last : IsLast AsksZero may_store (held.0).above (Some (zero_at, zero.0)) =
-                subst (IsLast AsksZero may_store (held.0).above) same (zero_is (held.0).above) in
+            subst (IsLast AsksZero may_store (held.0).above) same (zero_is (held.0).above) in
             frame_had (Part zero_at) held.0 u p d at line what h k iu mark is given held.2
             (part_fits zero_at zero.0 held.0 u p d (Said (Answers line what) ∷ h) k line_u is csy_last
             (zero_there zero_at zero.0 held.0 (Said (Answers line what) ∷ h) (line_through held.0 u (Answers line what ∷ lines h) csy_last.0 line_u)
@@ -381,6 +381,6 @@ known_frame line what h k i r frame e named =
     one_of (IsToldFrame what h) (reported_of true line what (lines h)) i r
     (reports_are (IsToldFrame what h) (frame_plain what h) line what (lines h)
     (λ u p d at iu mark is given. frame_named what h p d at _ _ (λ f known.
-      known_frame_had f u p d at line what h k iu mark is given
-      (known_all frame_of f (is_crossed true (lines h)) u (Answers line what ∷ lines h) refl known))))
+    known_frame_had f u p d at line what h k iu mark is given
+    (known_all frame_of f (is_crossed true (lines h)) u (Answers line what ∷ lines h) refl known))))
     e frame named

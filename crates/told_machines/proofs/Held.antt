@@ -55,7 +55,7 @@ standing_done a b s h e = go (at_once_below (place s) h) (is_doubtful s h) refl 
     go false true is f = absurd (cc)
     go false false is f =
         let all : (fault_since (place s) h ≡ false) × (b ≡ a) × (progress_of (marks (place s) h) ≡ Some progress.Done) =
-            progress_done a b s (fault_since (place s) h) (progress_of (marks (place s) h)) f in
+        progress_done a b s (fault_since (place s) h) (progress_of (marks (place s) h)) f in
         (is, all.0, all.1, all.2)
 
 -- ---- for a line
@@ -69,7 +69,7 @@ held_for {A} a u (Some (b, s)) h e = go (done_before (place s) (place u) h) refl
     go false is f = absurd (cc)
     go true is f =
         let all : (at_once_below (place s) h ≡ false) × (fault_since (place s) h ≡ false) × (b ≡ a)
-                × (progress_of (marks (place s) h) ≡ Some progress.Done) = standing_done a b s h f in
+        × (progress_of (marks (place s) h) ≡ Some progress.Done) = standing_done a b s h f in
         (s, ap (λ (x : A). Some (x, s)) all.2, record { order = is; none = all.0; calm = all.1; is_done = all.3 })
 
 -- what is known is known of all lines, if it is at all

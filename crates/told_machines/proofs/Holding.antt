@@ -110,7 +110,7 @@ no_at_once L sort i j a all n effect h fits k p none u = go (sent_at n (lines h)
   where
     by_place : (w : Option (Tag × SentCommand)) → sent_at n (lines h) ≡ Some w → is_at_once w ≡ true → ⊥
     by_place w is once = elim (cases_order n i) [
-        inl same ↦ Fits.in_turn fits h p (subst (λ (m : ℕ). may_at_once (sent_at m (lines h)) ≡ true) same (ap may_at_once is ∙ once))
+      | inl same ↦ Fits.in_turn fits h p (subst (λ (m : ℕ). may_at_once (sent_at m (lines h)) ≡ true) same (ap may_at_once is ∙ once))
       | inr (inl above) ↦ none_crossed n i (TakesTool None) h (Keeps.before k).0 above u
       | inr (inr below) ↦ false≢true (sym none ∙ below_at_once i n w (lines h) is once below)
     ]
@@ -135,16 +135,16 @@ changes_now : {A : Type 0} (L : Type 0) (sort : Effect → Option A) (i j : ℕ)
     → ((other : Effect) → keep_order effect other ≡ true) → keep_order Touches effect ≡ true
     → Now L sort i j a (Does (InTurn n) effect ∷ h)
 changes_now L sort i j a all n effect h fits k p done u e some keeps kept = elim (cases_order n i) [
-    inl same ↦ absurd (ended_out effect (frame_now h) (has_ended i (lines h)) (sent_at i (lines h))
-        (subst (λ (m : ℕ). may_in_turn effect (frame_now h) (has_ended m (lines h)) (sent_at m (lines h)) ≡ true) same (Keeps.within k).0)
-        (has_end i h done))
+  | inl same ↦ absurd (ended_out effect (frame_now h) (has_ended i (lines h)) (sent_at i (lines h))
+      (subst (λ (m : ℕ). may_in_turn effect (frame_now h) (has_ended m (lines h)) (sent_at m (lines h)) ≡ true) same (Keeps.within k).0)
+      (has_end i h done))
   | inr (inl above) ↦ absurd (crossing n i effect h (Keeps.in_order k).0 above
-        (unshown_for (TakesTool None) effect i h (λ other f. keeps other) u))
+      (unshown_for (TakesTool None) effect i h (λ other f. keeps other) u))
   | inr (inr below) ↦ elim (cases_lt j n) [
-        inl lower ↦ crossed n lower (or_left (is_for_line n (InTurn n) && keep_order Touches effect) (unshown Touches n h)
-            (and_from (n == n) (keep_order Touches effect) (same_place n) kept))
-      | inr within ↦ absurd (Fits.quiet fits n effect h p (Keeps.within k).0 below within e some)
-    ]
+    | inl lower ↦ crossed n lower (or_left (is_for_line n (InTurn n) && keep_order Touches effect) (unshown Touches n h)
+        (and_from (n == n) (keep_order Touches effect) (same_place n) kept))
+    | inr within ↦ absurd (Fits.quiet fits n effect h p (Keeps.within k).0 below within e some)
+  ]
 ]
 
 now_done : {A : Type 0} (L : Type 0) (sort : Effect → Option A) (i j : ℕ) (a : A) (all : List Entry) (n : ℕ) (effect : Effect) (h : List Entry)
@@ -179,8 +179,8 @@ pub holding : {A : Type 0} (L : Type 0) (sort : Effect → Option A) (i j : ℕ)
 holding L sort i j a all [] fits k p none calm done = absurd (cc)
 holding L sort i j a all (Said (Sends line what) ∷ h) fits k p none calm done =
     let before : (unshown (TakesTool None) i h ≡ true) × Now L sort i j a h =
-        holding L sort i j a all h fits (rest_kept (Said (Sends line what)) h k) (past (Said (Sends line what)) h p)
-        (or_parts (is_at_once what && nat_lt i (count_sent (lines h))) (at_once_below i (lines h)) none).1 calm done in
+    holding L sort i j a all h fits (rest_kept (Said (Sends line what)) h k) (past (Said (Sends line what)) h p)
+    (or_parts (is_at_once what && nat_lt i (count_sent (lines h))) (at_once_below i (lines h)) none).1 calm done in
     (before.0, now_sent L sort i j a line what h before.1)
 holding {A} L sort i j a all (Said (Answers line what) ∷ h) fits k p none calm done =
     go (done_step i (mark_in what (lines h)) (is_fault what (lines h)) (fault_since i (lines h)) (marks i (lines h)) done calm)
@@ -201,14 +201,15 @@ holding {A} L sort i j a all (Said (Answers line what) ∷ h) fits k p none calm
         (still clear before.0, now_answered L sort i j a line what h clear before.1)
 holding L sort i j a all (Does ForNoLine effect ∷ h) fits k p none calm done =
     let before : (unshown (TakesTool None) i h ≡ true) × Now L sort i j a h =
-        holding L sort i j a all h fits (rest_kept (Does ForNoLine effect) h k) (past (Does ForNoLine effect) h p) none calm done in
+    holding L sort i j a all h fits (rest_kept (Does ForNoLine effect) h k) (past (Does ForNoLine effect) h p) none calm done in
     (before.0, now_lost L sort i j a all effect h fits (Keeps.within k).0 before.1)
 holding L sort i j a all (Does (AtOnce n) effect ∷ h) fits k p none calm done =
     let before : (unshown (TakesTool None) i h ≡ true) × Now L sort i j a h =
-        holding L sort i j a all h fits (rest_kept (Does (AtOnce n) effect) h k) (past (Does (AtOnce n) effect) h p) none calm done in
+    holding L sort i j a all h fits (rest_kept (Does (AtOnce n) effect) h k) (past (Does (AtOnce n) effect) h p) none calm done in
     absurd (no_at_once L sort i j a all n effect h fits k (past (Does (AtOnce n) effect) h p) none before.0)
 holding L sort i j a all (Does (InTurn n) effect ∷ h) fits k p none calm done =
     let before : (unshown (TakesTool None) i h ≡ true) × Now L sort i j a h =
-        holding L sort i j a all h fits (rest_kept (Does (InTurn n) effect) h k) (past (Does (InTurn n) effect) h p) none calm done in
-    (or_right (is_for_line i (InTurn n) && true) (unshown (TakesTool None) i h) before.0,
-    now_in_turn L sort i j a all n effect h fits k (past (Does (InTurn n) effect) h p) done before.0 before.1)
+    holding L sort i j a all h fits (rest_kept (Does (InTurn n) effect) h k) (past (Does (InTurn n) effect) h p) none calm done in (
+      or_right (is_for_line i (InTurn n) && true) (unshown (TakesTool None) i h) before.0,
+      now_in_turn L sort i j a all n effect h fits k (past (Does (InTurn n) effect) h p) done before.0 before.1,
+    )

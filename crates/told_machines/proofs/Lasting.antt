@@ -89,7 +89,7 @@ made_sent i line what e all h w k t is mark done clear = go (mark_is what (lines
     made =
         let at : MadeAt (is_fault what (lines h)) h (Some (i, e)) = subst (MadeAt (is_fault what (lines h)) h) mark (Keeps.made k).0 in
         let calm : IfTrue (is_done (progress_with (progress_of (marks i (lines h))) e)) (MadeSent i h (sent_at i (lines h))) =
-            subst (λ (b : Bool). IfTrue (not b && is_done (progress_with (progress_of (marks i (lines h))) e)) (MadeSent i h (sent_at i (lines h)))) clear at in
+        subst (λ (b : Bool). IfTrue (not b && is_done (progress_with (progress_of (marks i (lines h))) e)) (MadeSent i h (sent_at i (lines h)))) clear at in
         subst (λ p. IfTrue (is_done p) (MadeSent i h (sent_at i (lines h)))) done calm
 
     go : IsMarked (lines h) (mark_in what (lines h)) → MadeSent i h (Some w)
@@ -118,14 +118,14 @@ below_quiet may i u all iu not_this quiet n effect h t acts lt le known = go (do
   where
     go : (w : Option (Tag × SentCommand)) × (sent_at n (lines h) ≡ Some w) × (line_may effect (frame_now h) w ≡ true) → ⊥
     go it = elim (cases_lt n (place u)) [
-        inl below ↦ false≢true (sym (quiet n it.0 lt (sym (IsLine.above iu n below) ∙ agrees all h t n it.0 it.1)) ∙ known it.0 it.2)
+      | inl below ↦ false≢true (sym (quiet n it.0 lt (sym (IsLine.above iu n below) ∙ agrees all h t n it.0 it.1)) ∙ known it.0 it.2)
       | inr above ↦
           let same : n ≡ place u = omega (arith, le, above) in
           let line : sent_at n (lines all) ≡ Some (Some (u.tag, u.command)) =
-              ap (λ (m : ℕ). sent_at m (lines all)) same ∙ IsLine.sent iu in
+          ap (λ (m : ℕ). sent_at m (lines all)) same ∙ IsLine.sent iu in
           let it_is : it.0 ≡ Some (u.tag, u.command) = sent_as n all h (Some (u.tag, u.command)) it.0 t line it.1 in
           false≢true (sym not_this ∙ (ap may (sym it_is) ∙ known it.0 it.2))
-      ]
+    ]
 
 -- ---- touches
 
@@ -135,7 +135,7 @@ pub not_lost : (j : ℕ) (line : List ℕ) (what : Option (Tag × Signal)) (h : 
 not_lost j line what h k mark lost =
     let told : is_told (Some (j, heard.Complete)) h ≡ true = subst (λ m. is_told m h ≡ true) mark (Keeps.told k).0 in
     let was : is_lost_before (is_contact j) h ≡ true =
-        (and_parts (not (is_fault what (lines h))) (is_lost_before (is_contact j) h) lost).1 in
+    (and_parts (not (is_fault what (lines h))) (is_lost_before (is_contact j) h) lost).1 in
     false≢true (sym (ap not was) ∙ told)
 
 -- the contact was made
@@ -145,12 +145,12 @@ pub not_never : (u : Sent) (p : Point) (d : Option Direction) (at : Point) (line
 not_never u p d at line what h k iu mark given none =
     let touched : has_contact (Some (place u, heard.Complete)) h ≡ true = subst (λ m. has_contact m h ≡ true) mark (Keeps.touched k).0 in
     let at_sent : (not (point_given (Some (Some (u.tag, u.command))) (marks (place u) (lines h)))
-            || is_some (before_last (is_contact (place u)) h)) ≡ true =
-        subst (λ o. (not (point_given o (marks (place u) (lines h)))
-            || is_some (before_last (is_contact (place u)) h)) ≡ true) (IsLine.sent iu) touched in
+    || is_some (before_last (is_contact (place u)) h)) ≡ true =
+    subst (λ o. (not (point_given o (marks (place u) (lines h)))
+    || is_some (before_last (is_contact (place u)) h)) ≡ true) (IsLine.sent iu) touched in
     let at_stage : (not (has_point (stage.Given (datum.Point at)))
-            || is_some (before_last (is_contact (place u)) h)) ≡ true =
-        subst (λ s. (not (has_point s) || is_some (before_last (is_contact (place u)) h)) ≡ true) given at_sent in
+    || is_some (before_last (is_contact (place u)) h)) ≡ true =
+    subst (λ s. (not (has_point s) || is_some (before_last (is_contact (place u)) h)) ≡ true) given at_sent in
     false≢true (ap is_some (sym none) ∙ at_stage)
 
 -- a touch that ends with its data had no error
@@ -160,9 +160,9 @@ pub ended_sound : (u : Sent) (p : Point) (d : Option Direction) (at : Point) (li
     → IsSound (stage_of (sends.Known (command.PtMeas p d)) (marks (place u) (Answers line what ∷ lines h)))
 ended_sound u p d at line what h mark is given =
     let one : with_mark (place u) (mark_in what (lines h)) (marks (place u) (lines h)) ≡ heard.Complete ∷ marks (place u) (lines h) =
-        ap (λ m. with_mark (place u) m (marks (place u) (lines h))) mark
-        ∙ ap (λ (b : Bool). if b then heard.Complete ∷ marks (place u) (lines h) else marks (place u) (lines h)) (same_place (place u)) in
+    ap (λ m. with_mark (place u) m (marks (place u) (lines h))) mark
+    ∙ ap (λ (b : Bool). if b then heard.Complete ∷ marks (place u) (lines h) else marks (place u) (lines h)) (same_place (place u)) in
     let before : stage_of (sends.Known (command.PtMeas p d)) (marks (place u) (lines h)) ≡ stage.Given (datum.Point at) =
-        sym (ap (λ c. stage_of c (marks (place u) (lines h))) is) ∙ given in
+    sym (ap (λ c. stage_of c (marks (place u) (lines h))) is) ∙ given in
     subst (λ ms. IsSound (stage_of (sends.Known (command.PtMeas p d)) ms)) (sym one)
     (subst (λ s. IsSound (stage_after s (step true s heard.Complete))) (sym before) tt)

@@ -72,7 +72,7 @@ early_none i [] is = tt
 early_none i (Said (Sends line what) ∷ h) is = early_none i h is
 early_none i (Said (Answers line what) ∷ h) is =
     let both : (is_it i (out_of_turn what (lines h)) ≡ false) × IsEarly (progress_of (marks i (lines h))) =
-        early_step i (mark_in what (lines h)) (is_fault what (lines h)) (marks i (lines h)) is in
+    early_step i (mark_in what (lines h)) (is_fault what (lines h)) (marks i (lines h)) is in
     (both.0, early_none i h both.1)
 early_none i (Does cause effect ∷ h) is = early_none i h is
 

@@ -70,7 +70,7 @@ crossing_at n v effect shown [] c l lt u = false≢true u
 crossing_at n v effect shown (Said (Sends line what) ∷ h) c l lt u = crossing_at n v effect shown h c l lt u
 crossing_at n v effect shown (Said (Answers line what) ∷ h) c l lt u =
     let hidden : is_it v (out_of_turn what (lines h)) ≡ false =
-        not-true (is_it v (out_of_turn what (lines h))) (both_left (not (is_it v (out_of_turn what (lines h)))) (unshown effect v h) u) in
+    not-true (is_it v (out_of_turn what (lines h))) (both_left (not (is_it v (out_of_turn what (lines h)))) (unshown effect v h) u) in
     crossing_at n v effect (with_shown (out_of_turn what (lines h)) shown) h c
     (listed_more v (out_of_turn what (lines h)) shown hidden l) lt
     (both_right (not (is_it v (out_of_turn what (lines h)))) (unshown effect v h) u)

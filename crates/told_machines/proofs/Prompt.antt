@@ -83,13 +83,13 @@ prompt_none c i j [] d early is = tt
 prompt_none c i j (Said (Sends line what) ∷ h) d early is = prompt_none c i j h d early is
 prompt_none c i j (Said (Answers line what) ∷ h) d early is =
     let upper : (is_it i (out_of_turn what (lines h)) ≡ false) × IsEarly (progress_of (marks i (lines h))) =
-        early_step i (mark_in what (lines h)) (is_fault what (lines h)) (marks i (lines h)) early in
+    early_step i (mark_in what (lines h)) (is_fault what (lines h)) (marks i (lines h)) early in
     let parts : ((not (is_for is_answer j (mark_in what (lines h))) || is_done (progress_of (marks i (lines h)))) ≡ true)
-            × (done_before i j (lines h) ≡ true) =
-        and_parts (not (is_for is_answer j (mark_in what (lines h))) || is_done (progress_of (marks i (lines h)))) (done_before i j (lines h)) d in
+    × (done_before i j (lines h) ≡ true) =
+    and_parts (not (is_for is_answer j (mark_in what (lines h))) || is_done (progress_of (marks i (lines h)))) (done_before i j (lines h)) d in
     let lower : (is_it j (out_of_turn what (lines h)) ≡ false) × IsSound (stage_of (Known c) (marks j (lines h))) =
-        prompt_mark c j (mark_in what (lines h)) (is_fault what (lines h)) (is_done (progress_of (marks i (lines h)))) (marks j (lines h))
-        (early_not_done (progress_of (marks i (lines h))) upper.1) is parts.0 in
+    prompt_mark c j (mark_in what (lines h)) (is_fault what (lines h)) (is_done (progress_of (marks i (lines h)))) (marks j (lines h))
+    (early_not_done (progress_of (marks i (lines h))) upper.1) is parts.0 in
     (lower.0, prompt_none c i j h parts.1 upper.1 lower.1)
 prompt_none c i j (Does cause effect ∷ h) d early is = prompt_none c i j h d early is
 
@@ -108,7 +108,7 @@ touch_prompt c i j [] d is = tt
 touch_prompt c i j (Said (Sends line what) ∷ h) d is = touch_prompt c i j h d is
 touch_prompt c i j (Said (Answers line what) ∷ h) d is =
     let before : done_before i j (lines h) ≡ true =
-        (and_parts (not (is_for is_answer j (mark_in what (lines h))) || is_done (progress_of (marks i (lines h)))) (done_before i j (lines h)) d).1 in
+    (and_parts (not (is_for is_answer j (mark_in what (lines h))) || is_done (progress_of (marks i (lines h)))) (done_before i j (lines h)) d).1 in
     let sound : IsSound (stage_of (Known c) (marks j (lines h))) = sound_before c j (mark_in what (lines h)) (marks j (lines h)) is in
     (λ begun. prompt_none c i j h before (subst IsEarly (sym begun) tt) sound, touch_prompt c i j h before sound)
 touch_prompt c i j (Does cause effect ∷ h) d is = touch_prompt c i j h d is

@@ -146,9 +146,9 @@ marks_are P plain k tag (sends.Foreign line) s e on = other_are P plain tag line
 marks_are P plain k tag (sends.Known c) s e on =
     step_are P plain k tag c (step (asks_data (kind_of c)) s e)
     (λ given counts p d at is point.
-      let both : (s ≡ stage.Given (datum.Point at)) × (e ≡ heard.Complete) =
-          counts_point (asks_data (kind_of c)) s e at (counts ∙ ap Counts point) in
-      on p d at (ap sends.Known is) both.0 both.1)
+    let both : (s ≡ stage.Given (datum.Point at)) × (e ≡ heard.Complete) =
+    counts_point (asks_data (kind_of c)) s e at (counts ∙ ap Counts point) in
+    on p d at (ap sends.Known is) both.0 both.1)
 
 -- ---- a line of the server
 

@@ -55,7 +55,7 @@ tool_fits : (tool : List ℕ) (s u : Sent) (p : Point) (d : Option Direction) (a
 tool_fits tool s u p d all iu is last_is =
     let is_line : IsLine s (lines all) = line_through s u (lines all) last_is.0 iu in
     let sent : sent_at (place s) (lines all) ≡ Some (Some (s.tag, sends.Known (command.ChangeTool tool))) =
-        IsLine.sent is_line ∙ ap (λ (c : SentCommand). Some (Some (s.tag, c))) last_is.1 in
+    IsLine.sent is_line ∙ ap (λ (c : SentCommand). Some (Some (s.tag, c))) last_is.1 in
     record {
       above = sent_within (place s) (Some (s.tag, s.command)) u.above (IsLine.sent last_is.0);
       no_touch = refl;
@@ -115,7 +115,7 @@ known_tool line what h k i r tool e named =
     one_of (IsToldTool what h) (reported_of true line what (lines h)) i r
     (reports_are (IsToldTool what h) (tool_plain what h) line what (lines h)
     (λ u p d at iu mark is given. tool_named what h p d at _ _ (λ t known.
-      tool_had t u p d at line what h k iu mark is given
-      (held_for t u (last_tool u.above) (Answers line what ∷ lines h)
-      (known_all tool_of t (is_crossed true (lines h)) u (Answers line what ∷ lines h) refl known)))))
+    tool_had t u p d at line what h k iu mark is given
+    (held_for t u (last_tool u.above) (Answers line what ∷ lines h)
+    (known_all tool_of t (is_crossed true (lines h)) u (Answers line what ∷ lines h) refl known)))))
     e tool named

@@ -6,6 +6,7 @@
 //! - `laws`: what follows; `examples`: histories that are written out
 #![tactic(auto)]
 
+pub mod examples;
 mod laws;
 
 pub use laws::known_tools_and_frames_are_so;
