@@ -1,7 +1,6 @@
 -- The last line above that may change a tool, a frame or a zero point.
-use Rattle.std.proofs.Common.{◌≡◌, ℕ, zero, suc, ◌<◌, ◌≤◌, ◌==◌, Bool, true, false, ◌&&◌, ◌||◌, not, if◌then◌else◌, List, [], ◌∷◌}
+use Rattle.std.proofs.Common.{◌≡◌, ℕ, suc, ◌<◌, ◌==◌, Bool, true, false, if◌then◌else◌, List, [], ◌∷◌}
 use Rattle.std.proofs.Common.{Option, Some, None, refl, ap, sym, ◌∙◌, subst, arith}
-use Rattle.std.proofs.lemmas.Bool.{false≢true, eqb-true}
 use Rattle.fixed_um.specs.Points.{point_opposite}
 use Rattle.fixed_um.specs.declared.frames.Frame.{Frame}
 use Rattle.fixed_um.specs.declared.frames.Frame.TheVariants.{Machine}
@@ -13,10 +12,10 @@ use Rattle.dme_line.specs.declared.commands.Csy.TheVariants.{MachineCsy, PartCsy
 use Rattle.dme_line.specs.declared.tags.Tag.{Tag}
 use Rattle.witness.specs.Asking.{Line, Sends, Answers, Signal}
 use Rattle.witness.specs.Histories.{Sent, count_sent, place}
-use Rattle.witness.specs.Rules.{tool_after, csy_after, zero_after, part_after, unless_part, below_sent, last_tool, last_csy, last_zero, last_part}
+use Rattle.witness.specs.Rules.{tool_after, csy_after, zero_after, unless_part, last_tool, last_csy, last_zero, last_part}
 use Rattle.witness.specs.declared.lines.SentCommand.{SentCommand}
 use Rattle.witness.specs.declared.lines.SentCommand.TheVariants as sends
-use Rattle.told_machines.specs.Machines.{Effect, TakesTool, SelectsFrame, StoresZero, sent_at}
+use Rattle.told_machines.specs.Machines.{TakesTool, SelectsFrame, StoresZero, sent_at}
 use Rattle.told_machines.specs.Premises.{line_may}
 use Rattle.told_machines.proofs.Places.{sent_within, IsLine, line_stays, line_begins}
 

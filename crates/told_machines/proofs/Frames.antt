@@ -1,11 +1,10 @@
 -- The frame that is known of a contact is the one that the machine had.
-use Rattle.std.proofs.Common.{◌≡◌, ℕ, ◌<◌, ◌≤◌, ◌==◌, Bool, true, false, ◌&&◌, not, if◌then◌else◌, List, [], ◌∷◌, Option, Some, None, is_some}
+use Rattle.std.proofs.Common.{◌≡◌, ℕ, ◌==◌, Bool, true, false, if◌then◌else◌, List, [], ◌∷◌, Option, Some, None, is_some}
 use Rattle.std.proofs.Common.{refl, ap, sym, ◌∙◌, subst, inl, inr}
 use Rattle.std.specs.Prelude.{◌⊎◌}
 use Rattle.std.specs.Prelude.{slice_get}
 use Rattle.std.specs.List.{list_any}
 use Rattle.std.proofs.lemmas.Bool.{false≢true, or_right, eqb-true}
-use Rattle.fixed_um.specs.Points.{point_opposite}
 use Rattle.fixed_um.specs.Shapes.{Direction}
 use Rattle.fixed_um.specs.declared.frames.Frame.{Frame}
 use Rattle.fixed_um.specs.declared.frames.Frame.TheVariants.{Machine, Part}
@@ -19,19 +18,19 @@ use Rattle.protocol_model.specs.declared.held.Datum.TheVariants as datum
 use Rattle.witness.specs.Asking.{Line, Sends, Answers, Signal}
 use Rattle.witness.specs.Dialogues.{touched}
 use Rattle.witness.specs.Histories.{Sent, place, mark_in, with_mark, marks, stage_of}
-use Rattle.witness.specs.Known.{done, part_at, frame_in, frame_by, frame_of}
-use Rattle.witness.specs.Rules.{is_fault, is_crossed, at_once_below, fault_since, progress_with, progress_of, last_csy, last_zero, last_part, may_hold_for, all_for, reported_of}
+use Rattle.witness.specs.Known.{done, frame_by, frame_of}
+use Rattle.witness.specs.Rules.{is_crossed, at_once_below, fault_since, progress_with, progress_of, last_csy, last_zero, last_part, may_hold_for, all_for, reported_of, known_for}
 use Rattle.witness.specs.declared.lines.Heard.{Heard}
 use Rattle.witness.specs.declared.lines.Heard.TheVariants as heard
-use Rattle.witness.specs.declared.lines.Progress.TheVariants.{Begun, Done}
+use Rattle.witness.specs.declared.lines.Progress.TheVariants.{Done}
 use Rattle.witness.specs.declared.lines.Reported.{Reported}
 use Rattle.witness.specs.declared.lines.SentCommand.{SentCommand}
 use Rattle.witness.specs.declared.lines.SentCommand.TheVariants as sends
 use Rattle.witness.specs.declared.lines.Stage.TheVariants as stage
 use Rattle.told_machines.specs.Machines.{Effect, TakesTool, SelectsFrame, StoresZero, Touches, Cause, InTurn, AtOnce, ForNoLine, Entry, Said, Does}
-use Rattle.told_machines.specs.Machines.{lines, sent_at, frame_selected, zero_stored, last, or_before, so, zero_now, frame_now, before_last, is_for_line}
+use Rattle.told_machines.specs.Machines.{lines, sent_at, frame_selected, zero_stored, last, so, zero_now, frame_now, before_last, is_for_line}
 use Rattle.told_machines.specs.Machines.{is_contact, is_selection, there, part_of, part_when, part_selected}
-use Rattle.told_machines.specs.Premises.{Keeps, ActsWithin, selects_frame, takes_a_tool, line_may, is_complete, has_ended}
+use Rattle.told_machines.specs.Premises.{Keeps, KeepsUnlessCrossed, ActsWithin, selects_frame, takes_a_tool, line_may, is_complete, has_ended}
 use Rattle.told_machines.specs.Contacts.{contact_frame, HadFrame}
 use Rattle.told_machines.proofs.Places.{same_place, IsLine, sent_within, line_through, line_stays}
 use Rattle.told_machines.proofs.Changes.{AsksCsy, frame_of_csy, may_select, csy_is, AsksZero, may_store, zero_is, IsLast, part_last}
@@ -41,8 +40,8 @@ use Rattle.told_machines.proofs.Holding.{ended_out, IsPast, whole, past, kept_pa
 use Rattle.told_machines.proofs.There.{IsOf, There, never, had, lost_there, had_there, IsPrompt}
 use Rattle.told_machines.proofs.Prompt.{touch_prompt}
 use Rattle.told_machines.proofs.Reports.{one_of, IsPlain, reports_are}
-use Rattle.told_machines.proofs.Lasting.{contact_of, known_in_turn, made_sent, below_quiet, not_never, ended_sound, not_lost}
-use Rattle.told_machines.proofs.Held.{IsHeld, Holds, held_for, known_all}
+use Rattle.told_machines.proofs.Lasting.{contact_of, known_in_turn, made_sent, below_quiet, not_never, ended_sound}
+use Rattle.told_machines.proofs.Held.{IsHeld, Holds, held_for, known_all, known_uncrossed}
 
 -- ---- what may select a frame, and store a zero point
 
@@ -374,13 +373,13 @@ frame_named what h p d at (Some t) (Some f) has frame e = has frame e
 frame_plain : (what : Option (Tag × Signal)) (h : List Entry) (r : Reported) → IsPlain r → IsToldFrame what h r
 frame_plain what h r plain frame e = let it : None ≡ Some frame = sym plain.1 ∙ e in absurd (cc)
 
-pub known_frame : (line : List ℕ) (what : Option (Tag × Signal)) (h : List Entry) → Keeps (Said (Answers line what) ∷ h)
+pub known_frame : (line : List ℕ) (what : Option (Tag × Signal)) (h : List Entry) → KeepsUnlessCrossed (Said (Answers line what) ∷ h)
     → (i : ℕ) (r : Reported) (frame : Frame) → slice_get (reported_of true line what (lines h)) i ≡ Some r → contact_frame r ≡ Some frame
     → HadFrame what h frame
 known_frame line what h k i r frame e named =
     one_of (IsToldFrame what h) (reported_of true line what (lines h)) i r
     (reports_are (IsToldFrame what h) (frame_plain what h) line what (lines h)
     (λ u p d at iu mark is given. frame_named what h p d at _ _ (λ f known.
-    known_frame_had f u p d at line what h k iu mark is given
+    known_frame_had f u p d at line what h (k (known_uncrossed frame_of f (is_crossed true (lines h)) (known_for u (Answers line what ∷ lines h)) refl known)) iu mark is given
     (known_all frame_of f (is_crossed true (lines h)) u (Answers line what ∷ lines h) refl known))))
     e frame named

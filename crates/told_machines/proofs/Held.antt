@@ -1,16 +1,14 @@
 -- A change that is known for a line holds by the rules.
-use Rattle.std.proofs.Common.{◌≡◌, ℕ, Bool, true, false, ◌&&◌, ◌||◌, if◌then◌else◌, List, Option, Some, None, refl, ap, sym, ◌∙◌, subst}
-use Rattle.std.proofs.lemmas.Bool.{false≢true, or_parts}
+use Rattle.std.proofs.Common.{◌≡◌, Bool, true, false, ◌||◌, if◌then◌else◌, List, Option, Some, None, refl, ap, sym, ◌∙◌}
 use Rattle.witness.specs.Asking.{Line}
 use Rattle.witness.specs.Dialogues.{unless_crossed}
-use Rattle.witness.specs.Histories.{Sent, place, rival_of, marks}
-use Rattle.witness.specs.Known.{nothing, standing, done, if_done}
-use Rattle.witness.specs.Rules.{at_once_below, fault_since, is_doubtful, progress_of, so_far, unless_fault, by_progress, standing_of}
+use Rattle.witness.specs.Histories.{Sent, place, marks}
+use Rattle.witness.specs.Known.{nothing, standing, done}
+use Rattle.witness.specs.Rules.{at_once_below, fault_since, is_doubtful, progress_of, unless_fault, by_progress, standing_of}
 use Rattle.witness.specs.Rules.{done_before, may_hold_for, all_for, known_for}
 use Rattle.witness.specs.declared.lines.Known.{Known}
 use Rattle.witness.specs.declared.lines.Progress.{Progress}
 use Rattle.witness.specs.declared.lines.Progress.TheVariants as progress
-use Rattle.witness.specs.declared.lines.Standing.{Standing}
 
 -- the change on the line of `s` holds for the line of `u`
 pub record IsHeld (s u : Sent) (h : List Line) : Type 0 where
@@ -81,3 +79,9 @@ known_all {A} look a false u h none e = go (is_doubtful u h) e
     go : (b : Bool) → look (if b then nothing else all_for u h) ≡ Some a → look (all_for u h) ≡ Some a
     go true f = let it : None ≡ Some a = sym none ∙ f in absurd (cc)
     go false f = f
+
+-- nothing is, once a tag was used while in use
+pub known_uncrossed : {A : Type 0} (look : Known → Option A) (a : A) (crossed : Bool) (k : Known) → look nothing ≡ None
+    → look (unless_crossed crossed k) ≡ Some a → crossed ≡ false
+known_uncrossed look a true k none e = let it : None ≡ Some a = sym none ∙ e in absurd (cc)
+known_uncrossed look a false k none e = refl

@@ -1,24 +1,22 @@
 -- A change that holds by the rules: what the machine has since then, if its server keeps the premises.
-use Rattle.std.proofs.Common.{◌≡◌, ℕ, zero, suc, ◌<◌, ◌≤◌, ◌==◌, Bool, true, false, ◌&&◌, ◌||◌, not, if◌then◌else◌, nat_lt, List, [], ◌∷◌}
-use Rattle.std.proofs.Common.{Option, Some, None, is_some, inl, inr, refl, ap, sym, ◌∙◌, subst, arith}
+use Rattle.std.proofs.Common.{◌≡◌, ℕ, ◌<◌, ◌≤◌, ◌==◌, Bool, true, false, ◌&&◌, not, nat_lt, List, [], ◌∷◌}
+use Rattle.std.proofs.Common.{Option, Some, None, is_some, inl, inr, refl, ap, sym, ◌∙◌, subst}
 use Rattle.std.proofs.lemmas.Bool.{false≢true, and_parts, and_from, or_left, or_right, or_parts, cases_order, cases_lt}
 use Rattle.fixed_um.specs.declared.frames.Frame.{Frame}
 use Rattle.dme_line.specs.declared.tags.Tag.{Tag}
-use Rattle.witness.specs.Asking.{Line, Sends, Answers, Signal}
-use Rattle.witness.specs.Histories.{Sent, count_sent, mark_in, is_for, marks}
-use Rattle.witness.specs.Marks.{is_received}
-use Rattle.witness.specs.Rules.{is_fault, is_at_once, at_once_below, fault_since, progress_with, progress_of, is_done}
+use Rattle.witness.specs.Asking.{Sends, Answers, Signal}
+use Rattle.witness.specs.Histories.{count_sent, mark_in, marks}
+use Rattle.witness.specs.Rules.{is_fault, is_at_once, at_once_below, fault_since, progress_with, progress_of}
 use Rattle.witness.specs.declared.lines.Heard.{Heard}
-use Rattle.witness.specs.declared.lines.Progress.{Progress}
-use Rattle.witness.specs.declared.lines.Progress.TheVariants.{Begun, Done}
+use Rattle.witness.specs.declared.lines.Progress.TheVariants.{Done}
 use Rattle.witness.specs.declared.lines.SentCommand.{SentCommand}
-use Rattle.told_machines.specs.Machines.{Effect, TakesTool, SelectsFrame, StoresZero, Touches, Cause, InTurn, AtOnce, ForNoLine, Entry, Said, Does}
-use Rattle.told_machines.specs.Machines.{lines, sent_at, last, or_before, before_last, is_for_line, frame_now}
-use Rattle.told_machines.specs.Premises.{Always, IfTrue, ActsWithin, ActsInOrder, ActsBefore, ChangesAreMade, LossesAreReported, TouchesAreMade, Keeps}
-use Rattle.told_machines.specs.Premises.{may_in_turn, may_at_once, line_may, has_ended, keep_order, comes_in_order, none_below, MadeSent, MadeAt}
-use Rattle.told_machines.specs.Premises.{is_for_none, is_unreported, is_lost_before, out_of_turn}
-use Rattle.told_machines.proofs.Places.{sent_stays, mark_is, below_at_once, same_place}
-use Rattle.told_machines.proofs.Orders.{is_it, unshown, keeps_more, unshown_for, crossing, none_crossed, NoneShown, did_last, did_there, cause_of}
+use Rattle.told_machines.specs.Machines.{Effect, TakesTool, SelectsFrame, StoresZero, Touches, InTurn, AtOnce, ForNoLine, Entry, Said, Does}
+use Rattle.told_machines.specs.Machines.{lines, sent_at, last, or_before, is_for_line, frame_now}
+use Rattle.told_machines.specs.Premises.{ActsWithin, Keeps}
+use Rattle.told_machines.specs.Premises.{may_in_turn, may_at_once, line_may, has_ended, keep_order}
+use Rattle.told_machines.specs.Premises.{is_unreported, out_of_turn}
+use Rattle.told_machines.proofs.Places.{sent_stays, below_at_once, same_place}
+use Rattle.told_machines.proofs.Orders.{is_it, unshown, unshown_for, crossing, none_crossed, did_last}
 use Rattle.told_machines.proofs.Marking.{IsEarly, early_none, IsDoneBy, ends, stays, done_step, calm_none, has_end}
 
 pub rest_kept : (entry : Entry) (h : List Entry) → Keeps (entry ∷ h) → Keeps h

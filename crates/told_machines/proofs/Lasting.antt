@@ -1,40 +1,31 @@
 -- Changes, contacts and touches, as a history that keeps the premises has them.
-use Rattle.std.proofs.Common.{◌≡◌, ℕ, suc, ◌<◌, ◌≤◌, ◌==◌, Bool, true, false, ◌&&◌, ◌||◌, not, if◌then◌else◌, List, [], ◌∷◌, Option, Some, None, is_some}
+use Rattle.std.proofs.Common.{◌≡◌, ℕ, ◌<◌, ◌≤◌, Bool, true, false, ◌&&◌, ◌||◌, not, if◌then◌else◌, List, ◌∷◌, Option, Some, None, is_some}
 use Rattle.std.proofs.Common.{refl, ap, sym, ◌∙◌, subst, arith, inl, inr}
-use Rattle.std.specs.Prelude.{slice_get}
-use Rattle.std.proofs.lemmas.Bool.{false≢true, eqb-true, and_parts, cases_lt, cases_order}
+use Rattle.std.proofs.lemmas.Bool.{false≢true, eqb-true, and_parts, cases_lt}
 use Rattle.fixed_um.specs.Shapes.{Direction}
-use Rattle.fixed_um.specs.declared.frames.Frame.{Frame}
 use Rattle.fixed_um.specs.declared.lengths.Point.{Point}
 use Rattle.dme_line.specs.declared.commands.Command.{Command}
 use Rattle.dme_line.specs.declared.commands.Command.TheVariants as command
 use Rattle.dme_line.specs.declared.tags.Tag.{Tag}
 use Rattle.dme_line.specs.declared.tags.Tag.TheVariants.{Std, Event}
 use Rattle.protocol_model.specs.declared.held.Datum.TheVariants as datum
-use Rattle.witness.specs.Asking.{Line, Sends, Answers, Signal}
-use Rattle.witness.specs.Dialogues.{touched}
+use Rattle.witness.specs.Asking.{Answers, Signal}
 use Rattle.witness.specs.Histories.{Sent, place, mark_in, with_mark, marks, stage_of}
 use Rattle.witness.specs.Marks.{step, stage_after}
-use Rattle.witness.specs.Known.{tool_of, frame_of}
-use Rattle.witness.specs.Rules.{is_fault, is_at_once, is_done, is_crossed, progress_with, progress_of, last_tool, reported_of}
+use Rattle.witness.specs.Rules.{is_fault, is_at_once, is_done, progress_with, progress_of}
 use Rattle.witness.specs.declared.lines.Heard.{Heard}
 use Rattle.witness.specs.declared.lines.Heard.TheVariants as heard
 use Rattle.witness.specs.declared.lines.Progress.TheVariants.{Done}
-use Rattle.witness.specs.declared.lines.Reported.{Reported}
 use Rattle.witness.specs.declared.lines.SentCommand.{SentCommand}
 use Rattle.witness.specs.declared.lines.SentCommand.TheVariants as sends
 use Rattle.witness.specs.declared.lines.Stage.TheVariants as stage
 use Rattle.told_machines.specs.Machines.{Effect, TakesTool, SelectsFrame, StoresZero, Touches, Cause, InTurn, AtOnce, ForNoLine, Entry, Said, Does}
-use Rattle.told_machines.specs.Machines.{lines, sent_at, tool_taken, last, so, tool_now, frame_now, before_last, is_for_line, is_contact, there}
+use Rattle.told_machines.specs.Machines.{lines, sent_at, frame_now, before_last, is_contact}
 use Rattle.told_machines.specs.Premises.{Keeps, ActsWithin, IfTrue, MadeSent, line_may, may_in_turn, may_at_once, has_ended, is_told, is_lost_before, has_contact, has_point, point_given, MadeAt}
-use Rattle.told_machines.specs.Contacts.{contact_tool, contact_frame, HadTool}
-use Rattle.told_machines.proofs.Places.{same_place, IsLine, IsMarked, mark_is, sent_within, sent_stays, line_through, line_stays}
-use Rattle.told_machines.proofs.Changes.{AsksTool, may_take, IsLast, tool_is}
-use Rattle.told_machines.proofs.Holding.{IsPast, whole, past, agrees, Fits}
-use Rattle.told_machines.proofs.There.{IsOf, There, never, had, lost_there, had_there, IsPrompt}
-use Rattle.told_machines.proofs.Prompt.{IsSound, touch_prompt}
-use Rattle.told_machines.proofs.Reports.{AllOf, one_of, IsPlain, OnContact, known_at, reports_are}
-use Rattle.told_machines.proofs.Held.{IsHeld, Holds, held_for, known_all}
+use Rattle.told_machines.proofs.Places.{same_place, IsLine, IsMarked, mark_is}
+use Rattle.told_machines.proofs.Holding.{IsPast, past, agrees}
+use Rattle.told_machines.proofs.There.{IsOf}
+use Rattle.told_machines.proofs.Prompt.{IsSound}
 
 -- ---- contacts
 

@@ -1,9 +1,8 @@
 -- A mark and a change whose marks must be just `&` and then `%`.
-use Rattle.std.proofs.Common.{◌≡◌, ℕ, ◌==◌, Bool, true, false, ◌&&◌, ◌||◌, not, if◌then◌else◌, List, [], ◌∷◌, Option, Some, None, refl, ap, sym, ◌∙◌, subst}
+use Rattle.std.proofs.Common.{◌≡◌, ℕ, ◌==◌, Bool, true, false, ◌&&◌, ◌||◌, if◌then◌else◌, List, [], ◌∷◌, Option, Some, None, refl, ap, sym, subst}
 use Rattle.std.specs.List.{list_any}
-use Rattle.std.proofs.lemmas.Bool.{false≢true, eqb-true, or_parts}
-use Rattle.dme_line.specs.declared.tags.Tag.{Tag}
-use Rattle.witness.specs.Asking.{Line, Sends, Answers, Signal}
+use Rattle.std.proofs.lemmas.Bool.{eqb-true, or_parts}
+use Rattle.witness.specs.Asking.{Sends, Answers}
 use Rattle.witness.specs.Histories.{mark_in, is_for, with_mark, marks}
 use Rattle.witness.specs.Marks.{is_received}
 use Rattle.witness.specs.Rules.{is_fault, fault_since, progress_with, progress_of}

@@ -1,12 +1,11 @@
 -- What the machine does for lines in their order: what it did for a line, and has not been shown by a mark out of turn.
-use Rattle.std.proofs.Common.{◌≡◌, ℕ, zero, suc, ◌<◌, ◌==◌, Bool, true, false, ◌&&◌, ◌||◌, not, if◌then◌else◌, nat_lt, List, [], ◌∷◌}
-use Rattle.std.proofs.Common.{Option, Some, None, refl, ap, sym, ◌∙◌, subst, arith}
-use Rattle.std.proofs.lemmas.Bool.{false≢true, eqb-true, lt-ltb, and_parts, and_from, or_cases, or_left, or_right, or_parts, or_from, not-true, not_from_false}
-use Rattle.dme_line.specs.declared.tags.Tag.{Tag}
-use Rattle.witness.specs.Asking.{Line, Sends, Answers, Signal}
+use Rattle.std.proofs.Common.{◌≡◌, ℕ, ◌<◌, ◌==◌, Bool, true, false, ◌&&◌, ◌||◌, not, if◌then◌else◌, nat_lt, List, [], ◌∷◌}
+use Rattle.std.proofs.Common.{Option, Some, None, refl, ap, sym, ◌∙◌, subst}
+use Rattle.std.proofs.lemmas.Bool.{false≢true, eqb-true, lt-ltb, and_from, or_right, or_from, not-true}
+use Rattle.witness.specs.Asking.{Sends, Answers}
 use Rattle.told_machines.specs.Machines.{Effect, TakesTool, SelectsFrame, StoresZero, Touches, Cause, InTurn, AtOnce, ForNoLine, Entry, Said, Does}
 use Rattle.told_machines.specs.Machines.{lines, last, or_before, before_last, is_for_line}
-use Rattle.told_machines.specs.Premises.{keep_order, out_of_turn, with_shown, is_listed, is_in_order, comes_in_order, is_not_below, none_below}
+use Rattle.told_machines.specs.Premises.{keep_order, out_of_turn, with_shown, is_listed, comes_in_order, none_below}
 use Rattle.told_machines.proofs.Places.{same_place}
 
 -- it is this line

@@ -1,12 +1,12 @@
 -- Lines of the client by their places.
-use Rattle.std.proofs.Common.{◌≡◌, ℕ, zero, suc, ◌<◌, ◌≤◌, ◌==◌, Bool, true, false, ◌&&◌, ◌||◌, not, if◌then◌else◌, nat_lt, List, [], ◌∷◌, ◌++◌}
-use Rattle.std.proofs.Common.{Option, Some, None, refl, ap, sym, ◌∙◌, subst, arith}
+use Rattle.std.proofs.Common.{◌≡◌, ℕ, zero, suc, ◌<◌, ◌==◌, Bool, true, false, ◌&&◌, ◌||◌, if◌then◌else◌, nat_lt, List, [], ◌∷◌, ◌++◌}
+use Rattle.std.proofs.Common.{Option, Some, None, refl, ap, ◌∙◌, arith}
 use Rattle.std.specs.Prelude.{remove, slice_get}
-use Rattle.std.proofs.lemmas.Bool.{false≢true, ne_eqb, eq-eqb, eqb-true, lt-ltb, or_right}
+use Rattle.std.proofs.lemmas.Bool.{ne_eqb, eq-eqb, eqb-true, lt-ltb, or_right}
 use Rattle.dme_line.specs.declared.tags.Tag.{Tag}
 use Rattle.witness.specs.Asking.{Line, Sends, Answers, Signal}
-use Rattle.witness.specs.Histories.{Sent, count_sent, place, open_lines, with_sent, first_of, line_at, without, after_answer, owner, for_line, mark_in}
-use Rattle.witness.specs.Marks.{heard_as, is_end}
+use Rattle.witness.specs.Histories.{Sent, count_sent, place, open_lines, first_of, line_at, without, owner, for_line, mark_in}
+use Rattle.witness.specs.Marks.{is_end}
 use Rattle.witness.specs.Rules.{is_at_once, at_once_below}
 use Rattle.witness.specs.declared.lines.Heard.{Heard}
 use Rattle.witness.specs.declared.lines.SentCommand.{SentCommand}
@@ -21,7 +21,7 @@ not_place_above n m p = ne_eqb n m (λ e. omega (arith, p, e))
 pub same_place : (n : ℕ) → (n == n) ≡ true
 same_place n = eq-eqb n n refl
 
--- a line that was sent stands at a place before the number of them
+-- the place of a line is less than the number of lines that were sent
 pub sent_within : (n : ℕ) (w : Option (Tag × SentCommand)) (h : List Line) → sent_at n h ≡ Some w → n < count_sent h
 sent_within n w [] e = absurd (cc)
 sent_within n w (Sends line what ∷ h) e = go (n == count_sent h) refl e (sent_within n w h)

@@ -1,11 +1,10 @@
 -- A touch whose data come after the end of a change above it, and which has no error: none of its marks came out of turn before.
-use Rattle.std.proofs.Common.{◌≡◌, ℕ, ◌==◌, Bool, true, false, ◌&&◌, ◌||◌, not, if◌then◌else◌, List, [], ◌∷◌, Option, Some, None, refl, ap, sym, ◌∙◌, subst}
+use Rattle.std.proofs.Common.{◌≡◌, ℕ, ◌==◌, Bool, true, false, ◌&&◌, ◌||◌, not, if◌then◌else◌, List, [], ◌∷◌, Option, Some, None, refl, sym, ◌∙◌, subst}
 use Rattle.std.proofs.lemmas.Bool.{false≢true, and_parts}
 use Rattle.dme_line.specs.Kinds.{kind_of}
 use Rattle.dme_line.specs.declared.commands.Command.{Command}
-use Rattle.dme_line.specs.declared.tags.Tag.{Tag}
 use Rattle.protocol_model.specs.Open.{asks_data}
-use Rattle.witness.specs.Asking.{Line, Sends, Answers, Signal}
+use Rattle.witness.specs.Asking.{Sends, Answers}
 use Rattle.witness.specs.Histories.{mark_in, is_for, with_mark, marks, stage_of}
 use Rattle.witness.specs.Marks.{is_received, is_error, is_answer, step, stage_after}
 use Rattle.witness.specs.Rules.{is_fault, is_done, done_before, progress_of}

@@ -1,5 +1,5 @@
 -- What a line of the server reports: no contact, or that of a touch which it ends.
-use Rattle.std.proofs.Common.{◌≡◌, ℕ, zero, suc, Bool, true, false, List, [], ◌∷◌, ◌++◌, Option, Some, None, refl, ap, sym, ◌∙◌, subst}
+use Rattle.std.proofs.Common.{◌≡◌, ℕ, zero, suc, Bool, true, false, List, [], ◌∷◌, ◌++◌, Option, Some, None, refl, ap, ◌∙◌, subst}
 use Rattle.std.specs.Prelude.{slice_get}
 use Rattle.fixed_um.specs.Shapes.{Direction}
 use Rattle.fixed_um.specs.declared.frames.Frame.{Frame}
@@ -7,19 +7,17 @@ use Rattle.fixed_um.specs.declared.lengths.Point.{Point}
 use Rattle.dme_line.specs.Kinds.{kind_of}
 use Rattle.dme_line.specs.declared.commands.Command.{Command}
 use Rattle.dme_line.specs.declared.commands.Command.TheVariants as command
-use Rattle.dme_line.specs.declared.commands.Csy.{Csy}
 use Rattle.dme_line.specs.declared.tags.Tag.{Tag}
 use Rattle.dme_line.specs.declared.tags.Tag.TheVariants.{Std, Event}
-use Rattle.contact_ledger.specs.declared.acts.Act.TheVariants as act
 use Rattle.protocol_model.specs.Open.{asks_data}
 use Rattle.protocol_model.specs.declared.held.Datum.{Datum}
 use Rattle.protocol_model.specs.declared.held.Datum.TheVariants as datum
-use Rattle.witness.specs.Asking.{Line, Sends, Answers, Signal}
+use Rattle.witness.specs.Asking.{Line, Answers, Signal}
 use Rattle.witness.specs.Dialogues.{unless_crossed, reported_by, report_of, act_of, other_at, touched, moved, framed, is_report}
 use Rattle.witness.specs.Histories.{Sent, place, open_lines, first_of, line_at, owner, for_line, mark_in, marks, stage_of}
 use Rattle.witness.specs.Known.{tool_of, frame_of, frame_in, done}
 use Rattle.witness.specs.Marks.{heard_as, step}
-use Rattle.witness.specs.Rules.{known_for, is_crossed, comes_early, early, by_mark, by_owner, unless_report, by_answer, reported_of, events_of}
+use Rattle.witness.specs.Rules.{known_for, is_crossed, comes_early, early, by_owner, unless_report, by_answer, reported_of, events_of}
 use Rattle.witness.specs.declared.lines.Heard.{Heard}
 use Rattle.witness.specs.declared.lines.Heard.TheVariants as heard
 use Rattle.witness.specs.declared.lines.Known.{Known}

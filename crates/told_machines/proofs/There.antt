@@ -1,9 +1,8 @@
 -- What the machine had at a contact, or at a selection, of a line below a change that holds.
-use Rattle.std.proofs.Common.{◌≡◌, ℕ, ◌<◌, ◌==◌, Bool, true, false, ◌&&◌, ◌||◌, not, if◌then◌else◌, nat_lt, List, [], ◌∷◌}
-use Rattle.std.proofs.Common.{Option, Some, None, is_some, refl, ap, sym, ◌∙◌, subst}
-use Rattle.std.proofs.lemmas.Bool.{false≢true, and_from, or_parts}
-use Rattle.dme_line.specs.declared.tags.Tag.{Tag}
-use Rattle.witness.specs.Asking.{Line, Sends, Answers, Signal}
+use Rattle.std.proofs.Common.{◌≡◌, ℕ, Bool, true, false, ◌&&◌, not, if◌then◌else◌, nat_lt, List, [], ◌∷◌}
+use Rattle.std.proofs.Common.{Option, Some, None, refl, ap, sym, ◌∙◌, subst}
+use Rattle.std.proofs.lemmas.Bool.{and_from, or_parts}
+use Rattle.witness.specs.Asking.{Line, Sends, Answers}
 use Rattle.witness.specs.Histories.{count_sent, mark_in, marks}
 use Rattle.witness.specs.Rules.{is_fault, is_at_once, at_once_below, fault_since, progress_of}
 use Rattle.witness.specs.declared.lines.Progress.TheVariants.{Begun, Done}

@@ -1,41 +1,36 @@
 -- The tool that is known of a contact is the one that the machine had.
-use Rattle.std.proofs.Common.{◌≡◌, ℕ, suc, ◌<◌, ◌≤◌, ◌==◌, Bool, true, false, ◌&&◌, ◌||◌, not, if◌then◌else◌, List, [], ◌∷◌, Option, Some, None, is_some}
-use Rattle.std.proofs.Common.{refl, ap, sym, ◌∙◌, subst, arith, inl, inr}
+use Rattle.std.proofs.Common.{◌≡◌, ℕ, true, List, [], ◌∷◌, Option, Some, None, is_some}
+use Rattle.std.proofs.Common.{refl, ap, sym, ◌∙◌, subst}
 use Rattle.std.specs.Prelude.{slice_get}
-use Rattle.std.proofs.lemmas.Bool.{false≢true, eqb-true, and_parts, cases_lt, cases_order}
+use Rattle.std.proofs.lemmas.Bool.{false≢true}
 use Rattle.fixed_um.specs.Shapes.{Direction}
 use Rattle.fixed_um.specs.declared.frames.Frame.{Frame}
 use Rattle.fixed_um.specs.declared.lengths.Point.{Point}
-use Rattle.dme_line.specs.declared.commands.Command.{Command}
 use Rattle.dme_line.specs.declared.commands.Command.TheVariants as command
 use Rattle.dme_line.specs.declared.tags.Tag.{Tag}
-use Rattle.dme_line.specs.declared.tags.Tag.TheVariants.{Std, Event}
 use Rattle.protocol_model.specs.declared.held.Datum.TheVariants as datum
-use Rattle.witness.specs.Asking.{Line, Sends, Answers, Signal}
+use Rattle.witness.specs.Asking.{Answers, Signal}
 use Rattle.witness.specs.Dialogues.{touched}
-use Rattle.witness.specs.Histories.{Sent, place, mark_in, with_mark, marks, stage_of}
-use Rattle.witness.specs.Marks.{step, stage_after}
-use Rattle.witness.specs.Known.{tool_of, frame_of}
-use Rattle.witness.specs.Rules.{is_fault, is_at_once, is_done, is_crossed, progress_with, progress_of, last_tool, reported_of}
-use Rattle.witness.specs.declared.lines.Heard.{Heard}
+use Rattle.witness.specs.Histories.{Sent, place, mark_in, marks, stage_of}
+use Rattle.witness.specs.Known.{tool_of}
+use Rattle.witness.specs.Rules.{is_crossed, last_tool, reported_of, known_for}
 use Rattle.witness.specs.declared.lines.Heard.TheVariants as heard
-use Rattle.witness.specs.declared.lines.Progress.TheVariants.{Done}
 use Rattle.witness.specs.declared.lines.Reported.{Reported}
 use Rattle.witness.specs.declared.lines.SentCommand.{SentCommand}
 use Rattle.witness.specs.declared.lines.SentCommand.TheVariants as sends
 use Rattle.witness.specs.declared.lines.Stage.TheVariants as stage
-use Rattle.told_machines.specs.Machines.{Effect, TakesTool, SelectsFrame, StoresZero, Touches, Cause, InTurn, AtOnce, ForNoLine, Entry, Said, Does}
-use Rattle.told_machines.specs.Machines.{lines, sent_at, tool_taken, last, so, tool_now, frame_now, before_last, is_for_line, is_contact, there}
-use Rattle.told_machines.specs.Premises.{Keeps, ActsWithin, IfTrue, MadeSent, line_may, may_in_turn, may_at_once, has_ended, is_told, is_lost_before, has_contact, has_point, point_given, MadeAt}
-use Rattle.told_machines.specs.Contacts.{contact_tool, contact_frame, HadTool}
-use Rattle.told_machines.proofs.Places.{same_place, IsLine, IsMarked, mark_is, sent_within, sent_stays, line_through, line_stays}
+use Rattle.told_machines.specs.Machines.{Effect, TakesTool, SelectsFrame, StoresZero, Touches, Entry, Said}
+use Rattle.told_machines.specs.Machines.{lines, sent_at, tool_taken, so, tool_now, frame_now, is_contact, there}
+use Rattle.told_machines.specs.Premises.{Keeps, KeepsUnlessCrossed, line_may}
+use Rattle.told_machines.specs.Contacts.{contact_tool, HadTool}
+use Rattle.told_machines.proofs.Places.{IsLine, sent_within, line_through, line_stays}
 use Rattle.told_machines.proofs.Changes.{AsksTool, may_take, IsLast, tool_is}
-use Rattle.told_machines.proofs.Holding.{IsPast, whole, past, agrees, Fits}
-use Rattle.told_machines.proofs.There.{IsOf, There, never, had, lost_there, had_there, IsPrompt}
-use Rattle.told_machines.proofs.Prompt.{IsSound, touch_prompt}
-use Rattle.told_machines.proofs.Reports.{AllOf, one_of, IsPlain, OnContact, known_at, reports_are}
-use Rattle.told_machines.proofs.Lasting.{contact_of, sent_as, known_in_turn, made_sent, does_may, below_quiet, not_lost, not_never, ended_sound}
-use Rattle.told_machines.proofs.Held.{IsHeld, Holds, held_for, known_all}
+use Rattle.told_machines.proofs.Holding.{whole, Fits}
+use Rattle.told_machines.proofs.There.{There, never, had, lost_there, had_there}
+use Rattle.told_machines.proofs.Prompt.{touch_prompt}
+use Rattle.told_machines.proofs.Reports.{one_of, IsPlain, reports_are}
+use Rattle.told_machines.proofs.Lasting.{contact_of, known_in_turn, made_sent, below_quiet, not_lost, not_never, ended_sound}
+use Rattle.told_machines.proofs.Held.{IsHeld, Holds, held_for, known_all, known_uncrossed}
 
 -- ---- the tool
 
@@ -108,14 +103,14 @@ tool_named what h p d at (Some t) (Some f) has tool e = has tool e
 tool_plain : (what : Option (Tag × Signal)) (h : List Entry) (r : Reported) → IsPlain r → IsToldTool what h r
 tool_plain what h r plain tool e = let it : None ≡ Some tool = sym plain.0 ∙ e in absurd (cc)
 
-pub known_tool : (line : List ℕ) (what : Option (Tag × Signal)) (h : List Entry) → Keeps (Said (Answers line what) ∷ h)
+pub known_tool : (line : List ℕ) (what : Option (Tag × Signal)) (h : List Entry) → KeepsUnlessCrossed (Said (Answers line what) ∷ h)
     → (i : ℕ) (r : Reported) (tool : List ℕ) → slice_get (reported_of true line what (lines h)) i ≡ Some r → contact_tool r ≡ Some tool
     → HadTool what h tool
 known_tool line what h k i r tool e named =
     one_of (IsToldTool what h) (reported_of true line what (lines h)) i r
     (reports_are (IsToldTool what h) (tool_plain what h) line what (lines h)
     (λ u p d at iu mark is given. tool_named what h p d at _ _ (λ t known.
-    tool_had t u p d at line what h k iu mark is given
+    tool_had t u p d at line what h (k (known_uncrossed tool_of t (is_crossed true (lines h)) (known_for u (Answers line what ∷ lines h)) refl known)) iu mark is given
     (held_for t u (last_tool u.above) (Answers line what ∷ lines h)
     (known_all tool_of t (is_crossed true (lines h)) u (Answers line what ∷ lines h) refl known)))))
     e tool named

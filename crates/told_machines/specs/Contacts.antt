@@ -1,5 +1,5 @@
 -- The tool and the frame that a witness reports of a contact, and those that the machine had (this profile).
-use Rattle.std.specs.Prelude.{◌≡◌, ℕ, Bool, true, List, [], ◌∷◌, Option, Some, None}
+use Rattle.std.specs.Prelude.{◌≡◌, ℕ, List, Option, Some, None}
 use Rattle.fixed_um.specs.declared.frames.Frame.{Frame}
 use Rattle.contact_ledger.specs.declared.acts.Act.{Act}
 use Rattle.contact_ledger.specs.declared.acts.Act.TheVariants as act

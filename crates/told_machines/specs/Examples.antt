@@ -1,13 +1,13 @@
 -- Examples: histories that are written out, in the order in which things happen (this profile). No contract but theirs cites these definitions.
-use Rattle.std.specs.Prelude.{◌≡◌, ℕ, true, List, [], ◌∷◌, ◌++◌, codes, map, reverse, Option, Some, None, pos, negsuc}
+use Rattle.std.specs.Prelude.{ℕ, true, List, [], ◌∷◌, ◌++◌, codes, map, reverse, Option, Some, None, pos, negsuc}
 use Rattle.fixed_um.specs.declared.frames.Frame.{Frame}
 use Rattle.fixed_um.specs.declared.frames.Frame.TheVariants.{Machine, Part}
 use Rattle.fixed_um.specs.declared.lengths.Point.{Point}
 use Rattle.dme_line.specs.declared.commands.Command.TheVariants as command
 use Rattle.witness.specs.Asking.{Line, Ack, Done, Error}
-use Rattle.witness.specs.Examples.{of_each, asks, tool, other_tool, machine, part, zero_point, touch, foreign, untagged, hears, hears_event, given, done, touched, point}
+use Rattle.witness.specs.Examples.{of_each, asks, tool, other_tool, machine, part, zero_point, touch, foreign, untagged, hears, hears_event, given, done, touched}
 use Rattle.witness.specs.Rules.{all_reported}
-use Rattle.told_machines.specs.Machines.{Effect, TakesTool, SelectsFrame, StoresZero, Touches, Cause, InTurn, AtOnce, ForNoLine, Entry, Said, Does}
+use Rattle.told_machines.specs.Machines.{Effect, TakesTool, SelectsFrame, StoresZero, Touches, InTurn, AtOnce, ForNoLine, Entry, Said, Does}
 use Rattle.told_machines.specs.Machines.{lines, tool_at_contact, frame_at_contact}
 use Rattle.told_machines.specs.Premises.{Always, ActsWithin, ActsInOrder, ActsBefore, ChangesAreMade, LossesAreReported, TouchesAreMade}
 
@@ -99,6 +99,11 @@ fell_off = says (tool 1 ++ touch 2) ++ (changed 0 1 ++ (loses None ++ (says (hea
 abbrev pub late_end : List Entry
 late_end = says (other_tool 1) ++ (takes 0 p2 ++ says (done 1 ++ (tool 2 ++ touch 3)))
     ++ (says (hears 3 Ack) ++ (meets 2 ++ (says (hears 3 given) ++ (takes 1 p1 ++ says (done 2 ++ hears 3 Done)))))
+
+-- a tag is used while in use; the second line is refused, and then the first is carried out. By the tags it is the other way round
+abbrev pub used_again : List Entry
+used_again = says (tool 5 ++ (other_tool 5 ++ (touch 6 ++ (hears 5 Error ++ hears 5 Done))))
+    ++ (takes 0 p1 ++ (says (done 5) ++ contact 2 6))
 
 -- ---- histories that break one premise
 

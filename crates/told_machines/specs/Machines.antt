@@ -1,5 +1,5 @@
 -- What a machine does between the lines of both ends of a connection (this profile). The newest comes first.
-use Rattle.std.specs.Prelude.{ℕ, ◌==◌, Bool, true, false, if◌then◌else◌, List, [], ◌∷◌, Option, Some, None}
+use Rattle.std.specs.Prelude.{ℕ, ◌==◌, Bool, false, if◌then◌else◌, List, [], ◌∷◌, Option, Some, None}
 use Rattle.fixed_um.specs.declared.frames.Frame.{Frame}
 use Rattle.fixed_um.specs.declared.frames.Frame.TheVariants.{Part}
 use Rattle.fixed_um.specs.declared.lengths.Point.{Point}
@@ -8,7 +8,7 @@ use Rattle.witness.specs.Asking.{Line, Sends, Answers}
 use Rattle.witness.specs.Histories.{count_sent}
 use Rattle.witness.specs.declared.lines.SentCommand.{SentCommand}
 
--- the machine takes a tool, None if it is none or one without a name; it selects a frame, None if a contacts file cannot name it; it stores a zero
+-- the machine takes a tool, None if it has none then, or one without a name; it selects a frame, None if a contacts file cannot name it; it stores a zero
 -- point of the part, in machine axes; or it makes the contact that a touch reports
 pub data Effect : Type 0 where
   TakesTool : Option (List ℕ) → Effect

@@ -1,5 +1,6 @@
 -- What a server must keep, so that what a witness knows is so on its machine (this profile). Each premise speaks of one entry of a history and
--- looks back over those before it.
+-- looks back over those before it. A reply is for the first line under its tag that has no end: it answers only lines that it has read, and gives
+-- each at most one end.
 use Rattle.std.specs.Prelude.{◌≡◌, ℕ, ◌==◌, nat_lt, Bool, true, false, ◌&&◌, ◌||◌, not, if◌then◌else◌, List, [], ◌∷◌, Option, Some, None, is_some}
 use Rattle.std.specs.List.{list_any}
 use Rattle.fixed_um.specs.Points.{point_opposite}
@@ -10,12 +11,11 @@ use Rattle.dme_line.specs.declared.commands.Command.TheVariants as command
 use Rattle.dme_line.specs.declared.commands.Csy.{Csy}
 use Rattle.dme_line.specs.declared.commands.Csy.TheVariants.{MachineCsy, PartCsy}
 use Rattle.dme_line.specs.declared.tags.Tag.{Tag}
-use Rattle.protocol_model.specs.declared.held.Datum.{Datum}
 use Rattle.protocol_model.specs.declared.held.Datum.TheVariants as datum
 use Rattle.witness.specs.Asking.{Line, Sends, Answers, Signal}
-use Rattle.witness.specs.Histories.{mark_in, is_for, marks, stage_of}
+use Rattle.witness.specs.Histories.{mark_in, marks, stage_of}
 use Rattle.witness.specs.Marks.{is_received}
-use Rattle.witness.specs.Rules.{is_fault, is_at_once, is_done, progress_with, progress_of}
+use Rattle.witness.specs.Rules.{is_fault, is_at_once, is_done, is_crossed, progress_with, progress_of}
 use Rattle.witness.specs.declared.lines.Heard.{Heard}
 use Rattle.witness.specs.declared.lines.Heard.TheVariants as heard
 use Rattle.witness.specs.declared.lines.SentCommand.{SentCommand}
@@ -267,3 +267,7 @@ pub record Keeps (h : List Entry) : Type 0 where
   pub made : Always ChangesAreMade h
   pub told : Always LossesAreReported h
   pub touched : Always TouchesAreMade h
+
+-- as long as no line was sent under a tag under which another was open; then nothing is known any more
+abbrev pub KeepsUnlessCrossed : List Entry → Type 0
+KeepsUnlessCrossed h = is_crossed true (lines h) ≡ false → Keeps h

@@ -2,10 +2,10 @@
 
 ghost use Rattle.std.specs.Prelude.{◌≡◌, [], ◌∷◌, reverse, Some, None, codes, pos, negsuc};
 ghost use Rattle.fixed_um.specs.declared.frames.Frame.TheVariants.{Machine, Part};
-ghost use Rattle.told_machines.specs.Examples.{known, tool_had, frame_had, p1, p2, plain, in_part, crosswise, sent_untagged, sent_foreign, homed, fell_off, late_end};
+ghost use Rattle.told_machines.specs.Examples.{known, tool_had, frame_had, p1, p2, plain, in_part, crosswise, sent_untagged, sent_foreign, homed, fell_off, late_end, used_again};
 ghost use Rattle.told_machines.specs.Examples.{acts_late, touch_takes, zero_selects, change_first, once_late, not_made, not_held, two_clients, no_contact};
 ghost use Rattle.told_machines.specs.Examples.{BreaksWithin, BreaksOrder, BreaksBefore, BreaksMade, BreaksReported, BreaksTouched};
-ghost use Rattle.told_machines.specs.Premises.{Keeps};
+ghost use Rattle.told_machines.specs.Premises.{Keeps, KeepsUnlessCrossed};
 
 /// What is known is so.
 pub fn known_in_ordinary_histories()
@@ -40,6 +40,14 @@ pub fn what_servers_may_do()
     ensures late_end { Keeps (reverse late_end) }
     ensures late_end_known { known late_end ≡ (None, None) ∷ [] }
     ensures late_end_tool { tool_had 2 late_end ≡ Some p2 }
+{}
+
+/// Once a tag was used while in use, a server need keep nothing more.
+pub fn once_a_tag_is_used_again()
+    ensures again { KeepsUnlessCrossed (reverse used_again) }
+    ensures again_not { Keeps (reverse used_again) → ⊥ }
+    ensures again_known { known used_again ≡ (None, None) ∷ [] }
+    ensures again_tool { tool_had 2 used_again ≡ Some p1 }
 {}
 
 /// A line acts between its being sent and its end, and only as such a line may.
