@@ -1,0 +1,4 @@
+pub mod Machines
+pub mod Premises
+pub mod Contacts
+pub mod Examples

@@ -1,0 +1,26 @@
+// What follows from the premises. Each function has laws for its contract and does nothing.
+
+ghost use Rattle.std.specs.Prelude.{◌≡◌, ℕ, true, List, ◌∷◌, Option, Some, slice_get};
+ghost use Rattle.fixed_um.specs.declared.frames.Frame.{Frame as OneFrame};
+ghost use Rattle.dme_line.specs.declared.tags.Tag.{Tag};
+ghost use Rattle.witness.specs.Asking.{Answers, Signal};
+ghost use Rattle.witness.specs.Rules.{reported_of};
+ghost use Rattle.witness.specs.declared.lines.Reported.{Reported as OneReport};
+ghost use Rattle.told_machines.specs.Contacts.{contact_tool, contact_frame, HadTool, HadFrame};
+ghost use Rattle.told_machines.specs.Machines.{Entry, Said, lines};
+ghost use Rattle.told_machines.specs.Premises.{KeepsUnlessCrossed};
+
+/// Where a contact is reported with a tool or a frame that is known, the machine had it at the contact: in each history that keeps the premises,
+/// up to a line of the server and with it, and for each report that this line brings. It is the end of a touch then, whose contact was made.
+pub fn known_tools_and_frames_are_so()
+    ensures tool { (line : List ℕ) (what : Option (Tag × Signal)) (h : List Entry)
+        → KeepsUnlessCrossed (Said (Answers line what) ∷ h)
+        → (i : ℕ) (r : OneReport) (tool : List ℕ)
+        → slice_get (reported_of true line what (lines h)) i ≡ Some r
+        → contact_tool r ≡ Some tool → HadTool what h tool }
+    ensures frame { (line : List ℕ) (what : Option (Tag × Signal)) (h : List Entry)
+        → KeepsUnlessCrossed (Said (Answers line what) ∷ h)
+        → (i : ℕ) (r : OneReport) (frame : OneFrame)
+        → slice_get (reported_of true line what (lines h)) i ≡ Some r
+        → contact_frame r ≡ Some frame → HadFrame what h frame }
+{}
