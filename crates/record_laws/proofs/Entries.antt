@@ -163,18 +163,20 @@ one_alike ws old mid new (Completed n label) h f =
           (subst (λ (k : ℕ). k + length w.touches ≤ length (contacts old.told)) (sym h.used) run.unused);
       serves = subst (λ (l : List (ℕ × Act)). Serves n w.touches c.points (drop (length (contacts l) - length w.touches) (contacts l)))
           (sym h.told) run.serves;
-    } in
-    (
+    } in (
       with_completed mid n w c.points,
-      (f.0, record {
-        wanted = w;
-        points = c.points;
-        next = ap (λ (l : List Feature). slice_get ws (length l)) h.features ∙ c.next;
-        label_is = c.label_is;
-        same = c.same ∙ sym h.last;
-        run = moved;
-        more = refl;
-      }),
+      (
+        f.0,
+        record {
+          wanted = w;
+          points = c.points;
+          next = ap (λ (l : List Feature). slice_get ws (length l)) h.features ∙ c.next;
+          label_is = c.label_is;
+          same = c.same ∙ sym h.last;
+          run = moved;
+          more = refl;
+        },
+      ),
       subst (λ (k : Kept). AreAlike (with_completed mid n w c.points) k) (sym c.more) (record {
         features = ap (λ (l : List Feature). l ++ completed_feature n w c.points ∷ []) h.features;
         told = h.told;
