@@ -191,6 +191,7 @@ zero_fits at z s all is_line is last_is =
       quiet = λ n effect h t acts lt le e some.
           below_quiet (may_store {A = Bool} true) (place z) s all is_line (part_quiet s.command PartCsy s.tag is) last_is.2
           n effect h t acts lt le (λ w may. known_stores effect (frame_now h) w some may);
+      loses = λ l tool. absurd l;
       loss = λ effect h acts some. no_zero_lost effect acts some;
     }
 
@@ -208,6 +209,11 @@ touch_quiet : (csy : Csy) (c : SentCommand) (tag : Tag) (p : Point) (d : Option 
     → may_select csy (Some (tag, c)) ≡ false
 touch_quiet csy c tag p d is = ap (λ (x : SentCommand). may_select csy (Some (tag, x))) is
 
+-- no frame is lost
+held_last : (cause : Cause) (h : List Entry) → ⊥ ⊎ (last frame_selected h ≡ Some (cause, Some Machine)) → last frame_selected h ≡ Some (cause, Some Machine)
+held_last cause h (inl l) = absurd l
+held_last cause h (inr e) = e
+
 machine_fits : (s u : Sent) (p : Point) (d : Option Direction) (all : List Entry) → IsLine u (lines all)
     → u.command ≡ sends.Known (command.PtMeas p d) → IsLast AsksCsy may_select u.above (Some (MachineCsy, s))
     → Fits ⊥ frame_selected (place s) (place u) (Some Machine) all
@@ -224,7 +230,8 @@ machine_fits s u p d all iu is last_is =
       quiet = λ n effect h t acts lt le e some.
           below_quiet (may_select MachineCsy) (place s) u all iu (touch_quiet MachineCsy u.command u.tag p d is) last_is.2
           n effect h t acts lt le (λ w may. known_selects MachineCsy effect w some
-          (subst (λ (f : Option Frame). line_may effect f w ≡ true) (ap (λ x. so x) e) may));
+          (subst (λ (f : Option Frame). line_may effect f w ≡ true) (ap (λ x. so x) (held_last (InTurn (place s)) h e)) may));
+      loses = λ l tool. absurd l;
       loss = λ effect h acts some. no_frame_lost effect acts some;
     }
 
@@ -275,6 +282,7 @@ part_fits at z s u p d all kept iu is last_is zero_is_there =
       quiet = λ n effect h t acts lt le e some.
           below_quiet (may_select PartCsy) (place s) u all iu (touch_quiet PartCsy u.command u.tag p d is) last_is.2
           n effect h t acts lt le (λ w may. part_selects effect (frame_now h) w some may);
+      loses = λ l tool. absurd l;
       loss = λ effect h acts some. no_frame_lost effect acts some;
     }
 

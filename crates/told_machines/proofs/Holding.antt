@@ -1,6 +1,7 @@
 -- A change that holds by the rules: what the machine has since then, if its server keeps the premises.
-use Rattle.std.proofs.Common.{◌≡◌, ℕ, ◌<◌, ◌≤◌, ◌==◌, Bool, true, false, ◌&&◌, not, nat_lt, List, [], ◌∷◌}
+use Rattle.std.proofs.Common.{◌≡◌, ℕ, ◌<◌, ◌≤◌, ◌==◌, Bool, true, false, ◌&&◌, not, if◌then◌else◌, nat_lt, List, [], ◌∷◌}
 use Rattle.std.proofs.Common.{Option, Some, None, is_some, inl, inr, refl, ap, sym, ◌∙◌, subst}
+use Rattle.std.specs.Prelude.{◌⊎◌}
 use Rattle.std.proofs.lemmas.Bool.{false≢true, and_parts, and_from, or_left, or_right, or_parts, cases_order, cases_lt}
 use Rattle.fixed_um.specs.declared.frames.Frame.{Frame}
 use Rattle.dme_line.specs.declared.tags.Tag.{Tag}
@@ -57,7 +58,8 @@ pub record Fits {A : Type 0} (L : Type 0) (sort : Effect → Option A) (i j : �
       → is_fault what (lines h) ≡ false → last sort h ≡ Some (InTurn i, a)
   pub in_turn : (h : List Entry) → IsPast all h → may_at_once (sent_at i (lines h)) ≡ true → ⊥
   pub quiet : (n : ℕ) (effect : Effect) (h : List Entry) → IsPast all h → ActsWithin (Does (InTurn n) effect) h → i < n → n ≤ j
-      → last sort h ≡ Some (InTurn i, a) → is_some (sort effect) ≡ true → ⊥
+      → L ⊎ (last sort h ≡ Some (InTurn i, a)) → is_some (sort effect) ≡ true → ⊥
+  pub loses : L → (tool : Option (List ℕ)) → is_some (sort (TakesTool tool)) ≡ true
   pub loss : (effect : Effect) (h : List Entry) → ActsWithin (Does ForNoLine effect) h → is_some (sort effect) ≡ true → L
 
 -- now: it holds; or something was done for a line below `j`, and not shown; or it was lost, and that is not reported
@@ -93,12 +95,12 @@ not_none o b e f = let it : None ≡ Some b = sym e ∙ f in absurd (cc)
 now_lost : {A : Type 0} (L : Type 0) (sort : Effect → Option A) (i j : ℕ) (a : A) (all : List Entry) (effect : Effect) (h : List Entry)
     → Fits L sort i j a all → ActsWithin (Does ForNoLine effect) h → Now L sort i j a h → Now L sort i j a (Does ForNoLine effect ∷ h)
 now_lost {A} L sort i j a all effect h fits acts (crossed v lt u) = crossed v lt u
-now_lost {A} L sort i j a all effect h fits acts (lost l u) = lost l refl
+now_lost {A} L sort i j a all effect h fits acts (lost l u) = lost l (ap (λ (b : Bool). if b then true else is_unreported h) acts)
 now_lost {A} L sort i j a all effect h fits acts (holds e) = go (sort effect) refl
   where
     go : (o : Option A) → sort effect ≡ o → Now L sort i j a (Does ForNoLine effect ∷ h)
     go None is = holds (ap (λ (x : Option A). or_before ForNoLine x (last sort h)) is ∙ e)
-    go (Some b) is = lost (Fits.loss fits effect h acts (some_is (sort effect) b is)) refl
+    go (Some b) is = lost (Fits.loss fits effect h acts (some_is (sort effect) b is)) (ap (λ (b : Bool). if b then true else is_unreported h) acts)
 
 -- for a line at once: none may
 no_at_once : {A : Type 0} (L : Type 0) (sort : Effect → Option A) (i j : ℕ) (a : A) (all : List Entry) (n : ℕ) (effect : Effect) (h : List Entry)
@@ -129,7 +131,7 @@ ended_out effect now ended (Some w) may e =
 -- it changes what is looked at
 changes_now : {A : Type 0} (L : Type 0) (sort : Effect → Option A) (i j : ℕ) (a : A) (all : List Entry) (n : ℕ) (effect : Effect) (h : List Entry)
     → Fits L sort i j a all → Keeps (Does (InTurn n) effect ∷ h) → IsPast all h → progress_of (marks i (lines h)) ≡ Some Done
-    → unshown (TakesTool None) i h ≡ true → last sort h ≡ Some (InTurn i, a) → is_some (sort effect) ≡ true
+    → unshown (TakesTool None) i h ≡ true → L ⊎ (last sort h ≡ Some (InTurn i, a)) → is_some (sort effect) ≡ true
     → ((other : Effect) → keep_order effect other ≡ true) → keep_order Touches effect ≡ true
     → Now L sort i j a (Does (InTurn n) effect ∷ h)
 changes_now L sort i j a all n effect h fits k p done u e some keeps kept = elim (cases_order n i) [
@@ -152,11 +154,11 @@ now_done : {A : Type 0} (L : Type 0) (sort : Effect → Option A) (i j : ℕ) (a
 now_done L sort i j a all n effect h fits k p done u e None is =
     holds (ap (λ x. or_before (InTurn n) x (last sort h)) is ∙ e)
 now_done L sort i j a all n (TakesTool tool) h fits k p done u e (Some b) is =
-    changes_now L sort i j a all n (TakesTool tool) h fits k p done u e (some_is (sort (TakesTool tool)) b is) (λ other. refl) refl
+    changes_now L sort i j a all n (TakesTool tool) h fits k p done u (inr e) (some_is (sort (TakesTool tool)) b is) (λ other. refl) refl
 now_done L sort i j a all n (SelectsFrame frame) h fits k p done u e (Some b) is =
-    changes_now L sort i j a all n (SelectsFrame frame) h fits k p done u e (some_is (sort (SelectsFrame frame)) b is) (λ other. refl) refl
+    changes_now L sort i j a all n (SelectsFrame frame) h fits k p done u (inr e) (some_is (sort (SelectsFrame frame)) b is) (λ other. refl) refl
 now_done L sort i j a all n (StoresZero point) h fits k p done u e (Some b) is =
-    changes_now L sort i j a all n (StoresZero point) h fits k p done u e (some_is (sort (StoresZero point)) b is) (λ other. refl) refl
+    changes_now L sort i j a all n (StoresZero point) h fits k p done u (inr e) (some_is (sort (StoresZero point)) b is) (λ other. refl) refl
 now_done L sort i j a all n Touches h fits k p done u e (Some b) is =
     absurd (not_none (sort Touches) b (Fits.no_touch fits) is)
 
@@ -167,7 +169,11 @@ now_in_turn L sort i j a all n effect h fits k p done u (holds e) =
     now_done L sort i j a all n effect h fits k p done u e (sort effect) refl
 now_in_turn L sort i j a all n effect h fits k p done u (crossed v lt x) =
     crossed v lt (or_right (is_for_line v (InTurn n) && keep_order Touches effect) (unshown Touches v h) x)
-now_in_turn L sort i j a all n effect h fits k p done u (lost l x) = lost l x
+now_in_turn L sort i j a all n (TakesTool tool) h fits k p done u (lost l x) =
+    changes_now L sort i j a all n (TakesTool tool) h fits k p done u (inl l) (Fits.loses fits l tool) (λ other. refl) refl
+now_in_turn L sort i j a all n (SelectsFrame frame) h fits k p done u (lost l x) = lost l x
+now_in_turn L sort i j a all n (StoresZero point) h fits k p done u (lost l x) = lost l x
+now_in_turn L sort i j a all n Touches h fits k p done u (lost l x) = lost l x
 
 -- ---- all entries
 

@@ -10,3 +10,4 @@ pub mod Held
 pub mod Lasting
 pub mod Tools
 pub mod Frames
+pub mod Later

@@ -60,6 +60,7 @@ tool_fits tool s u p d all iu is last_is =
       quiet = λ n effect h t acts lt le e some.
           below_quiet (may_take {A = List ℕ} []) (place s) u all iu (ap (λ (c : SentCommand). may_take {A = List ℕ} [] (Some (u.tag, c))) is) last_is.2
           n effect h t acts lt le (λ w may. known_takes effect w some (frame_now h) may);
+      loses = λ l tool. refl;
       loss = λ effect h acts some. tt;
     }
 

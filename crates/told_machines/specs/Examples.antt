@@ -95,6 +95,10 @@ abbrev pub fell_off : List Entry
 fell_off = says (tool 1 ++ touch 2) ++ (changed 0 1 ++ (loses None ++ (says (hears 2 Ack) ++ (meets 1 ++ (says (hears_event 0 Error)
     ++ says (hears 2 given ++ hears 2 Done))))))
 
+-- a tool falls off, and is taken again before a touch
+abbrev pub taken_again : List Entry
+taken_again = says (tool 1) ++ (changed 0 1 ++ (loses None ++ (says (tool 2 ++ touch 3) ++ (changed 1 2 ++ contact 2 3))))
+
 -- a touch is carried out before the change above it, which ends after its data
 abbrev pub late_end : List Entry
 late_end = says (other_tool 1) ++ (takes 0 p2 ++ says (done 1 ++ (tool 2 ++ touch 3)))

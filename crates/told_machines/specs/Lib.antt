@@ -1,4 +1,5 @@
 pub mod Machines
 pub mod Premises
 pub mod Contacts
+pub mod Relays
 pub mod Examples

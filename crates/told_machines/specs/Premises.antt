@@ -213,14 +213,14 @@ is_for_none (InTurn n) = false
 is_for_none (AtOnce n) = false
 is_for_none ForNoLine = true
 
--- something was, and no fault came since
+-- a tool was, no line changed it since, and no fault came since
 abbrev pub is_unreported : List Entry → Bool
 is_unreported [] = false
 is_unreported (Said (Sends line what) ∷ h) = is_unreported h
 is_unreported (Said (Answers line what) ∷ h) = not (is_fault what (lines h)) && is_unreported h
-is_unreported (Does cause effect ∷ h) = is_for_none cause || is_unreported h
+is_unreported (Does cause effect ∷ h) = if takes_a_tool effect then is_for_none cause else is_unreported h
 
--- something was before the last of these effects, and no fault came since
+-- so it was before the last of these effects, and no fault came since
 abbrev pub is_lost_before : (Cause → Effect → Bool) → List Entry → Bool
 is_lost_before is_it [] = false
 is_lost_before is_it (Said (Sends line what) ∷ h) = is_lost_before is_it h

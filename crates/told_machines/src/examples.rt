@@ -2,7 +2,7 @@
 
 ghost use Rattle.std.specs.Prelude.{◌≡◌, [], ◌∷◌, reverse, Some, None, codes, pos, negsuc};
 ghost use Rattle.fixed_um.specs.declared.frames.Frame.TheVariants.{Machine, Part};
-ghost use Rattle.told_machines.specs.Examples.{known, tool_had, frame_had, p1, p2, plain, in_part, crosswise, sent_untagged, sent_foreign, homed, fell_off, late_end, used_again};
+ghost use Rattle.told_machines.specs.Examples.{known, tool_had, frame_had, p1, p2, plain, in_part, crosswise, sent_untagged, sent_foreign, homed, fell_off, late_end, used_again, taken_again};
 ghost use Rattle.told_machines.specs.Examples.{acts_late, touch_takes, zero_selects, change_first, once_late, not_made, not_held, two_clients, no_contact};
 ghost use Rattle.told_machines.specs.Examples.{BreaksWithin, BreaksOrder, BreaksBefore, BreaksMade, BreaksReported, BreaksTouched};
 ghost use Rattle.told_machines.specs.Premises.{Keeps, KeepsUnlessCrossed};
@@ -18,6 +18,9 @@ pub fn known_in_ordinary_histories()
         ≡ (None, Some (Part (record { x = negsuc 0; y = pos 0; z = pos 0 }))) ∷ [] }
     ensures part_frame { frame_had 2 in_part
         ≡ Some (Some (Part (record { x = negsuc 0; y = pos 0; z = pos 0 }))) }
+    ensures again { Keeps (reverse taken_again) }
+    ensures again_known { known taken_again ≡ (p1, None) ∷ [] }
+    ensures again_tool { tool_had 2 taken_again ≡ Some p1 }
 {}
 
 /// A rule that would let these be known would be wrong: the server keeps the premises, and the last change that ended well is not the tool.
