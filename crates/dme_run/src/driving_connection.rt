@@ -13,12 +13,12 @@ use crate::recording::{
 use crate::stopping::Watched;
 use crate::warning::warn;
 use byte_ports::{Ports, Sink, Writing};
-use client_core::{Client, ClientFault, State};
+use client_core::{Client, State};
 use contact_ledger::{CONNECTION_MAX, FeatureLedger, ServerLedger};
 use dme_files::{Fault, LockedFile, NamedFile, Sources, of_output, refused, unwritten};
 use dme_orders::{
-    ConnectionEnd, Counts, FilesFault, InputFiles, LastLine, OrderFault, RunEnd, RunEnding,
-    RunOutputs, TextFile, drive, features_and_program, kept_client, last_line,
+    Counts, FilesFault, InputFiles, LastLine, OrderFault, RunEnd, RunEnding, RunOutputs, TextFile,
+    drive, features_and_program, kept_client, last_line,
 };
 use dme_sockets::{
     Called, HeardPort, Log, Patience, PatientSink, PatientSource, Refusals, SaidPort, Side,
@@ -26,7 +26,7 @@ use dme_sockets::{
 };
 use dme_words::Run;
 use dmis_program::Program;
-use link_world::{LoopFault, PumpFault, Watcher};
+use link_world::Watcher;
 use program_review::{TaskLine, task_lines};
 use record_keeping::{Beginning, Recorder};
 use recorded_runs::RecordedRun;
@@ -63,19 +63,6 @@ fn with_both_unwritten<R: Eprint>(
     with_unwritten(rt, verdict, first)
 }
 
-/// Whether a connection was broken off for a line that the client did not expect.
-fn is_unexpected(broken: Option<LoopFault>) -> bool {
-    matches!(
-        broken,
-        Some(LoopFault::Client(PumpFault::Core(ClientFault::Faulted(_))))
-    )
-}
-
-/// Whether a run was halted, and its connection not broken off: its server may still end the last command.
-fn is_halted(ended: &ConnectionEnd) -> bool {
-    matches!(ended.state, State::Halted) && ended.broken.is_none()
-}
-
 /// What is shown for a connection that the server's last line has broken off, with that line.
 fn with_line<R: AllocGlobal>(
     alloc: Global,
@@ -100,9 +87,10 @@ fn client_verdict<R: AllocGlobal>(
     driven: RunEnd,
     (patience, talk): (&Patience<'_, R>, &RefCell<Talk<'_, R>>),
 ) -> Result<u8, Fault> {
+    let is_for_a_line = driven.ended.is_for_a_line();
     match driven.ended.verdict(true) {
         Ok(status) => Ok(status),
-        Err(fault) if is_unexpected(driven.ended.broken) => Err(with_line(alloc, fault, talk)),
+        Err(fault) if is_for_a_line => Err(with_line(alloc, fault, talk)),
         Err(fault) => Err(patience.shown(alloc, fault, "server")),
     }
 }
@@ -314,7 +302,7 @@ fn drive_called<
         outputs,
     );
     if let Ok(driven) = &driven
-        && is_halted(&driven.ended)
+        && driven.ended.is_open()
     {
         leave(&stream);
     }
@@ -482,15 +470,10 @@ fn drive_program<
     requires { is_window call.old.window ≡ true }
 {
     let (kept, program) = read;
-    let mut client = kept_client(rt.alloc(), program, kept, call.window)?;
     if let Some(name) = &call.features {
-        tell_kept(
-            rt,
-            name.as_str(),
-            client.features(),
-            client.program().features(),
-        );
+        tell_kept(rt, name.as_str(), kept.list(), program.features())?;
     }
+    let mut client = kept_client(rt.alloc(), program, kept, call.window)?;
     let told = ServerLedger::new(rt.alloc());
     let done = drive_made(rt, &mut client, (1, &told), None, (call, patience));
     drop(told);

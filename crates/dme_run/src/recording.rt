@@ -192,7 +192,7 @@ fn begun<R: Files<File = File> + Input + Eprint + AllocGlobal>(
         let name = String::from_str(rt.alloc(), name)?;
         return Err(Fault::Order(cannot_write(name, error.kind())));
     }
-    tell_kept(rt, name, beginning.features.list(), program.features());
+    tell_kept(rt, name, beginning.features.list(), program.features())?;
     Ok(beginning)
 }
 
