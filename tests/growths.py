@@ -24,6 +24,8 @@ EXAMPLES = ROOT / "examples"
 PROGRAM = ROOT / "crates" / "dme_program" / "out" / "dme_program"
 CALLS = ROOT / "crates" / "test_calls" / "out" / "test_calls"
 WANT = (4, "dme: out of memory\n")
+# The last line of a run, after that.
+STOPPED = "dme: stopped: 0 of 1 feature complete. Remove the cause, then make the same call.\n"
 SECONDS = 20
 
 # A call of pumps or of a whole connection, on what follows `replies ONE` or `commands ONE`, and what it answers if there is memory.
@@ -198,7 +200,8 @@ class Pair:
             server = self.started("serve", port, number, counts, folder)
             wait_for_listener(port, lambda: server.poll() is not None, SECONDS)
             client = self.started("run", port, number, counts, folder)
-            given = {"run": ended(client)}
+            status, output, errors = ended(client)
+            given = {"run": (status, output, errors.removesuffix(STOPPED) if status else errors)}
             if self.looked_at == "run" and given["run"][0] != 0:
                 # A server whose client never comes would wait forever.
                 server.kill()

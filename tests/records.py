@@ -37,6 +37,7 @@ SETUP = (EXAMPLES / "machine.setup").read_bytes()
 SECONDS = 20
 OTHERS = ("", "2", "X", "M", "1.000", "-1.000000", "4000000001", "END")
 MISSING = "dme: 0 of 1 feature: C is missing\n"
+STOPPED = "dme: stopped: 0 of 1 feature complete. Remove the cause, then make the same call.\n"
 
 
 def dme(folder, *words):
@@ -235,7 +236,7 @@ def check_next(folder):
         port = free_port()
         server = served(folder, port)
         run = dme(folder, *file_words(port, option, "part"))
-        must((run.returncode, run.stdout, run.stderr) == (1, "", "dme: cannot write part: its .new is no plain file\n"), option, "a link", run.stderr)
+        must((run.returncode, run.stdout, run.stderr) == (1, "", f"dme: cannot write part: its .new is no plain file\n{STOPPED}"), option, "a link", run.stderr)
         must((folder / "other").read_text() == "other" and (folder / "part").read_text() == "", option, "a link is written")
         server.kill()
         server.communicate()

@@ -11,8 +11,8 @@ use Rattle.protocol_model.specs.declared.plans.Planned.{Planned}
 use Rattle.dmis_program.specs.Meaning.{Meaning}
 use Rattle.protocol_model.specs.Plan.{plan}
 use Rattle.protocol_model.specs.declared.plans.Start.TheVariants.{NewConnection}
-use Rattle.dme_orders.specs.Plan.{lines_behind, plan_text}
-use Rattle.dme_orders.specs.Numbered.{number_behind, number_behind_all, line_under, lines_from}
+use Rattle.dme_orders.specs.Plan.{lines_behind, plan_text, shown_line, shown_behind}
+use Rattle.dme_orders.specs.Numbered.{number_behind, number_behind_all, line_under, lines_from, shown_from}
 
 -- the next number is that of one command more
 number_step : (count : ℕ) (b : Bool) → (count % 9999 + 1 == 9999) ≡ b → cond b 1 (count % 9999 + 1 + 1) ≡ (count + 1) % 9999 + 1
@@ -26,6 +26,13 @@ lines_counted count (p ∷ ps) =
     append_assoc (written_command (Std (count % 9999 + 1)) p.command) (10 ∷ []) (lines_from (number_behind (count % 9999 + 1)) ps)
     ∙ ap (λ (text : List ℕ). written_command (Std (count % 9999 + 1)) p.command ++ (10 ∷ text))
     (ap (λ (n : ℕ). lines_from n ps) (number_step count (count % 9999 + 1 == 9999) refl) ∙ lines_counted (count + 1) ps)
+
+-- likewise as they are shown
+pub shown_counted : (count : ℕ) (ps : List Planned) → shown_from (count % 9999 + 1) ps ≡ shown_behind count ps
+shown_counted count [] = refl
+shown_counted count (p ∷ ps) =
+    ap (λ (text : List ℕ). shown_line (Std (count % 9999 + 1)) p.command ++ text)
+    (ap (λ (n : ℕ). shown_from n ps) (number_step count (count % 9999 + 1 == 9999) refl) ∙ shown_counted (count + 1) ps)
 
 -- text after other text, with a byte of its own
 pub some_after : (front back : List ℕ) → 0 < length (front ++ 10 ∷ back)

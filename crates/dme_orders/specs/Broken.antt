@@ -1,9 +1,11 @@
 -- Why a connection was broken off, and what is shown for that (this profile).
-use Rattle.std.specs.Prelude.{◌≡◌, ℕ, Bool, true, false, if◌then◌else◌, List, [], codes, Option, Some}
+use Rattle.std.specs.Prelude.{◌≡◌, ℕ, Bool, true, false, if◌then◌else◌, List, [], codes, Option, Some, None}
 use Rattle.client_core.specs.declared.faults.ClientFault.{ClientFault}
 use Rattle.client_core.specs.declared.faults.ClientFault.TheVariants as client_fault
 use Rattle.protocol_model.specs.declared.states.Cause.{Cause}
 use Rattle.protocol_model.specs.declared.states.Cause.TheVariants as faulted
+use Rattle.protocol_model.specs.declared.states.State.{State}
+use Rattle.protocol_model.specs.declared.states.State.TheVariants as state
 use Rattle.server_core.specs.declared.faults.ServerFault.{ServerFault}
 use Rattle.server_core.specs.declared.faults.ServerFault.TheVariants as server_fault
 use Rattle.link_world.specs.declared.connections.pumps.PumpFault.TheVariants as pump
@@ -79,3 +81,13 @@ abbrev pub break_status : LoopFault → ℕ
 break_status (link.Client pump.Memory) = 4
 break_status (link.Server pump.Memory) = 4
 break_status _ = 1
+
+-- a connection was broken off for a line that the client did not expect
+abbrev pub is_for_a_line : Option LoopFault → Bool
+is_for_a_line (Some (link.Client (pump.Core (client_fault.Faulted cause)))) = true
+is_for_a_line _ = false
+
+-- a run was halted and its connection not broken off: its server may still end the last command
+abbrev pub is_open : State → Option LoopFault → Bool
+is_open state.Halted None = true
+is_open _ _ = false

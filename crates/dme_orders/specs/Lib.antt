@@ -1,3 +1,4 @@
+pub mod Calls
 pub mod Confirming
 pub mod Plan
 pub mod Numbered
@@ -19,6 +20,7 @@ pub mod Reviewing
 pub mod Serving
 pub mod Explaining
 pub mod Missing
+pub mod Kept
 pub mod LastLine
 pub mod Exporting
 pub mod Recorded

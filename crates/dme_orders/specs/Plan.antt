@@ -1,6 +1,6 @@
 -- The plan of a program as text: the commands of the whole plan on a new connection as lines under tags that are counted up (the lines are
 -- those of the I++ DME Interface version 1, the tags this profile's).
-use Rattle.std.specs.Prelude.{ℕ, ◌+◌, ◌%◌, Bool, true, false, List, [], ◌∷◌, ◌++◌, length, take}
+use Rattle.std.specs.Prelude.{ℕ, ◌+◌, ◌%◌, Bool, true, false, List, [], ◌∷◌, ◌++◌, length, take, codes}
 use Rattle.std.specs.List.{position}
 use Rattle.std.specs.Option.{option_map_or}
 use Rattle.dme_line.specs.declared.commands.Command.{Command}
@@ -33,6 +33,20 @@ count_to_touch ps = option_map_or (λ at. at + 1) (position (λ p. is_touch p.co
 -- the commands of the plan for what is left after that many features, on a new connection, up to the first touch
 abbrev pub first_commands : Meaning → ℕ → List Planned
 first_commands program completed = take (count_to_touch (plan program completed NewConnection)) (plan program completed NewConnection)
+
+-- what is added to the line of a command that is not sent to a machine that is homed
+abbrev pub homing_mark : Command → List ℕ
+homing_mark command.Home = codes ", only if it is not homed; if it is, the tags below are one less"
+homing_mark _ = []
+
+-- the line of a command as it is shown before a run, with its end
+abbrev pub shown_line : Tag → Command → List ℕ
+shown_line tag c = codes "dme:   " ++ (written_command tag c ++ (homing_mark c ++ (10 ∷ [])))
+
+-- the lines of commands after that many others, as they are shown
+abbrev pub shown_behind : ℕ → List Planned → List ℕ
+shown_behind count [] = []
+shown_behind count (p ∷ ps) = shown_line (tag_behind count) p.command ++ shown_behind (count + 1) ps
 
 -- the text of the plan of a program of which nothing is completed
 abbrev pub plan_text : Meaning → List ℕ

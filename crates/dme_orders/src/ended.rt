@@ -4,6 +4,7 @@ ghost use Rattle.std.specs.Prelude.{◌≡◌, ◌↔◌, IsOk, IfOk, IfErr, IfS
 ghost use Rattle.dme_orders.specs.Printed.{status_of};
 ghost use Rattle.dme_orders.specs.Verdicts.{status_of_state};
 ghost use Rattle.dme_orders.specs.Broken.{unexpected, client_cause, server_cause, cause_of, IsBreakShown, break_status};
+ghost use Rattle.dme_orders.specs.Broken.{is_for_a_line, is_open};
 
 use crate::faults::OrderFault;
 use crate::verdicts::status;
@@ -95,6 +96,26 @@ pub fn shown_break(fault: LoopFault, is_told: bool) -> OrderFault
 }
 
 impl ConnectionEnd {
+    /// Whether it was broken off for a line that the client did not expect.
+    pub fn is_for_a_line(&self) -> bool
+        ensures { result ≡ is_for_a_line self.now.broken }
+    {
+        matches!(
+            self.broken,
+            Some(LoopFault::Client(PumpFault::Core(ClientFault::Faulted(_))))
+        )
+    }
+
+    /// Whether the run was halted, and its connection not broken off: the server may still end the last command.
+    pub fn is_open(&self) -> bool
+        ensures { result ≡ is_open self.now.state self.now.broken }
+    {
+        match (self.state, self.broken) {
+            (State::Halted, None) => true,
+            _ => false,
+        }
+    }
+
     /// The exit status of an order whose connection was not broken off, by its client's last state; else what is shown for the break.
     pub fn verdict(self, is_told: bool) -> Result<u8, OrderFault>
         ensures can { IsOk result ↔ (self.broken ≡ None) }

@@ -15,8 +15,9 @@
 //! - `driving`: a program is run on a server over a connection, and its features are kept; `confirming`: the answer that begins it
 //! - `serving`: connections are served, and what was done is kept and shown
 //! - `text_files`: files that are replaced as a whole, as the orders see them
-//! - `ends`, `ended`: the two ends of a connection and their reports; how it has ended, and what is shown of that; `run_endings`: what a
-//!   run says last
+//! - `ends`, `ended`: the two ends of a connection and their reports; how it has ended, and what is shown of that; `run_beginnings`,
+//!   `run_endings`: what a run says before it connects, and last
+//! - `calls`: why a server that was called has not answered
 //! - `check`: the command lines of a program, from any reader to any writer
 //! - `plan`: the commands of a program on a new connection, as text
 //! - `reviewing`: everything that stands between a program and its run is listed
@@ -25,6 +26,7 @@
 #![tactic(auto)]
 
 mod auditing;
+mod calls;
 mod check;
 mod confirming;
 mod driving;
@@ -43,6 +45,7 @@ mod plan;
 mod preparing;
 mod reading;
 mod reviewing;
+mod run_beginnings;
 mod run_endings;
 mod run_errors;
 mod serving;
@@ -51,6 +54,7 @@ mod text_files;
 mod verdicts;
 
 pub use auditing::{AuditFiles, audit_files};
+pub use calls::refused_call;
 pub use check::{CheckFault, check_plan};
 pub use confirming::is_confirmed;
 pub use driving::{RunEnd, RunOutputs, drive};
@@ -69,6 +73,7 @@ pub use plan::{first_lines, plan_text};
 pub use preparing::{features_and_program, setup_and_program};
 pub use reading::{FilesFault, Role, read_setup};
 pub use reviewing::review_program;
+pub use run_beginnings::kept_text;
 pub use run_endings::{Counts, LastLine, RunEnding, StopCause, last_line};
 pub use serving::{close_service, serve_one, with_break};
 pub use simulating::{SimulationFiles, simulate};

@@ -4,14 +4,34 @@ ghost use Rattle.std.specs.Prelude.{◌≡◌, ◌<◌, ◌≤◌, [], length, �
 ghost use Rattle.std.specs.List.{position};
 ghost use Rattle.dme_line.specs.Kinds.{kind_of, is_event_kind};
 ghost use Rattle.dme_line.specs.Written.{HasVolumeLengths};
+ghost use Rattle.dme_line.specs.declared.tags.Tag.TheVariants.{Std};
 ghost use Rattle.resume_plan.specs.Sendable.{IsSendable};
-ghost use Rattle.dme_orders.specs.Plan.{count_to_touch, first_commands, is_touch, lines_behind, plan_text};
-ghost use Rattle.dme_orders.specs.Numbered.{number_behind, number_behind_all, line_under, lines_from};
+ghost use Rattle.dme_orders.specs.Plan.{count_to_touch, first_commands, is_touch, plan_text};
+ghost use Rattle.dme_orders.specs.Plan.{homing_mark, shown_line, shown_behind};
+ghost use Rattle.dme_orders.specs.Numbered.{number_behind, number_behind_all, line_under, lines_from, shown_from};
 
 use dme_line::{Command, Tag, write_command};
 use dmis_program::Program;
 use resume_plan::{Commands, Planned, Planning, Start, plan};
 use std::alloc::{AllocError, Global};
+
+/// What is added to the line of a command that is not sent to a machine that is homed.
+fn homing_mark(command: &Command) -> &'static str
+    ensures { result.now ≡ homing_mark command.now }
+{
+    match command {
+        Command::Home => ", only if it is not homed; if it is, the tags below are one less",
+        _ => "",
+    }
+}
+
+/// The number after another.
+fn next_number(number: u32) -> u32
+    requires { number ≤ 9999 }
+    ensures { result ≡ number_behind number }
+{
+    if number == 9999 { 1 } else { number + 1 }
+}
 
 /// Lines of commands so far, and the number of the next tag.
 #[derive(Drop)]
@@ -43,11 +63,24 @@ impl Lines {
     {
         write_command(&mut self.text, Tag::Std(self.number), command)?;
         self.text.push(b'\n')?;
-        self.number = if self.number == 9999 {
-            1
-        } else {
-            self.number + 1
-        };
+        self.number = next_number(self.number);
+        Ok(())
+    }
+
+    /// Likewise, as it is shown before a run.
+    fn push_shown(&mut self, command: &Command) -> Result<(), AllocError>
+        requires standard { is_event_kind (kind_of command.now) ≡ false }
+        requires lengths { HasVolumeLengths command.now }
+        ensures text { OnOk result (self.new.text.items ≡ self.old.text.items
+            ++ shown_line (Std self.old.number) command.now) }
+        ensures number { OnOk result (self.new.number ≡ number_behind self.old.number) }
+    {
+        self.text.extend_from_slice(b"dme:   ")?;
+        write_command(&mut self.text, Tag::Std(self.number), command)?;
+        self.text
+            .extend_from_slice(homing_mark(command).as_bytes())?;
+        self.text.push(b'\n')?;
+        self.number = next_number(self.number);
         Ok(())
     }
 
@@ -61,6 +94,18 @@ impl Lines {
     {
         for planned in commands {
             self.push(&planned.command)?;
+        }
+        Ok(())
+    }
+
+    /// Adds the lines of commands, as they are shown before a run.
+    fn push_all_shown(&mut self, commands: &[Planned]) -> Result<(), AllocError>
+        requires { All IsSendable commands.now }
+        ensures { OnOk result (self.new.text.items ≡ self.old.text.items
+            ++ shown_from self.old.number commands.now) }
+    {
+        for planned in commands {
+            self.push_shown(&planned.command)?;
         }
         Ok(())
     }
@@ -80,13 +125,13 @@ impl Lines {
     }
 }
 
-/// Commands as lines. Fails only if out of memory.
-fn lines_text(alloc: Global, commands: &[Planned]) -> Result<Vec<u8>, AllocError>
+/// Commands as lines that are shown before a run. Fails only if out of memory.
+fn shown_text(alloc: Global, commands: &[Planned]) -> Result<Vec<u8>, AllocError>
     requires { All IsSendable commands.now }
-    ensures { IfOk result (λ text. text.items ≡ lines_behind 0 commands.now) }
+    ensures { IfOk result (λ text. text.items ≡ shown_behind 0 commands.now) }
 {
     let mut lines = Lines::new(alloc);
-    lines.push_all(commands)?;
+    lines.push_all_shown(commands)?;
     Ok(lines.text)
 }
 
@@ -118,8 +163,8 @@ fn count_to_touch(commands: &[Planned]) -> usize
     }
 }
 
-/// The commands up to the first touch, as a plan begins on a new connection if that many features are completed, as lines. The caller must
-/// ensure that the program has that many features. Fails only if out of memory.
+/// The commands up to the first touch, as a plan begins on a new connection if that many features are completed, as lines that are shown
+/// before a run. The caller must ensure that the program has that many features. Fails only if out of memory.
 #[tactic(auto, using(crate::proofs::PlanLemmas::first_are_sendable))]
 pub fn first_lines(
     alloc: Global,
@@ -128,12 +173,12 @@ pub fn first_lines(
 ) -> Result<Vec<u8>, AllocError>
     requires { completed ≤ length program.now.features }
     ensures { IfOk result (λ text. text.items
-        ≡ lines_behind 0 (first_commands program.now completed)) }
+        ≡ shown_behind 0 (first_commands program.now completed)) }
 {
     let commands = plan(alloc, program, completed, Start::NewConnection)?;
     let commands = commands.as_slice();
     let (first, _) = commands.split_at(count_to_touch(commands));
-    lines_text(alloc, first)
+    shown_text(alloc, first)
 }
 
 /// The text of the plan of a program on a new connection, with no feature completed. Fails only if out of memory.

@@ -7,15 +7,18 @@ use crate::growing_files::{FeaturesFile, ReportedContacts};
 use crate::holding::{HeldFiles, refuse_meeting};
 use crate::keeping::{is_confirmed, tell_kept, tell_next};
 use crate::progress::Progress;
-use crate::recording::{Follower, Lent, OpenRecord, RecordWords, open_record, record_words};
+use crate::recording::{
+    Follower, Lent, OpenRecord, RecordWords, kept_in, open_record, record_words,
+};
+use crate::stopping::Watched;
 use crate::warning::warn;
 use byte_ports::{Ports, Sink, Writing};
-use client_core::{Client, ClientFault, State};
+use client_core::{Client, State};
 use contact_ledger::{CONNECTION_MAX, FeatureLedger, ServerLedger};
 use dme_files::{Fault, LockedFile, NamedFile, Sources, of_output, refused, unwritten};
 use dme_orders::{
-    ConnectionEnd, FilesFault, InputFiles, OrderFault, RunEnd, RunOutputs, TextFile, drive,
-    features_and_program, kept_client,
+    Counts, FilesFault, InputFiles, LastLine, OrderFault, RunEnd, RunEnding, RunOutputs, TextFile,
+    drive, features_and_program, kept_client, last_line,
 };
 use dme_sockets::{
     Called, HeardPort, Log, Patience, PatientSink, PatientSource, Refusals, SaidPort, Side,
@@ -23,12 +26,12 @@ use dme_sockets::{
 };
 use dme_words::Run;
 use dmis_program::Program;
-use link_world::{LoopFault, PumpFault, Watcher};
+use link_world::Watcher;
 use program_review::{TaskLine, task_lines};
 use record_keeping::{Beginning, Recorder};
 use recorded_runs::RecordedRun;
 use std::alloc::{AllocError, Global};
-use std::cell::RefCell;
+use std::cell::{Cell, RefCell};
 use std::fs::File;
 use std::io;
 use std::net::{Net, TcpListener, TcpStream};
@@ -60,19 +63,6 @@ fn with_both_unwritten<R: Eprint>(
     with_unwritten(rt, verdict, first)
 }
 
-/// Whether a connection was broken off for a line that the client did not expect.
-fn is_unexpected(broken: Option<LoopFault>) -> bool {
-    matches!(
-        broken,
-        Some(LoopFault::Client(PumpFault::Core(ClientFault::Faulted(_))))
-    )
-}
-
-/// Whether a run was halted, and its connection not broken off: its server may still end the last command.
-fn is_halted(ended: &ConnectionEnd) -> bool {
-    matches!(ended.state, State::Halted) && ended.broken.is_none()
-}
-
 /// What is shown for a connection that the server's last line has broken off, with that line.
 fn with_line<R: AllocGlobal>(
     alloc: Global,
@@ -97,9 +87,10 @@ fn client_verdict<R: AllocGlobal>(
     driven: RunEnd,
     (patience, talk): (&Patience<'_, R>, &RefCell<Talk<'_, R>>),
 ) -> Result<u8, Fault> {
+    let is_for_a_line = driven.ended.is_for_a_line();
     match driven.ended.verdict(true) {
         Ok(status) => Ok(status),
-        Err(fault) if is_unexpected(driven.ended.broken) => Err(with_line(alloc, fault, talk)),
+        Err(fault) if is_for_a_line => Err(with_line(alloc, fault, talk)),
         Err(fault) => Err(patience.shown(alloc, fault, "server")),
     }
 }
@@ -135,6 +126,12 @@ struct Call<'a> {
     tasks: &'a [TaskLine],
     /// The files that grow once the connection is made.
     held: &'a mut HeldFiles,
+    /// In which state the client was when the stop file was seen.
+    seen: Cell<Option<State>>,
+    /// How the run has ended before its connection, if it has.
+    early: Option<RunEnding>,
+    /// What the run says last.
+    last: &'a mut Option<LastLine>,
 }
 
 /// What is shown of the lines of a client's connection of this number, and of its server's errors.
@@ -156,7 +153,7 @@ fn talk_of<'a, R: Files<File = File> + Eprint + AllocGlobal>(
 fn confirm<R: Input + Eprint + AllocGlobal>(
     rt: &R,
     client: &Client,
-    call: &Call<'_>,
+    call: &mut Call<'_>,
 ) -> Result<(), Fault> {
     let must_wait = call.order.confirm;
     if client.features().is_empty() && !must_wait {
@@ -164,6 +161,7 @@ fn confirm<R: Input + Eprint + AllocGlobal>(
     }
     tell_next(rt, client, call.tasks)?;
     if must_wait && !is_confirmed(rt) {
+        call.early = Some(RunEnding::NotConfirmed);
         return Err(Fault::NotConfirmed);
     }
     Ok(())
@@ -180,11 +178,12 @@ fn prepare<'a, R: Files<File = File> + Input + Eprint + AllocGlobal>(
     Ok(talk_of(rt, client, number, call)?)
 }
 
-/// A client that has come to its connection takes its turns over a stream, whose lines go by.
+/// A client that has come to its connection takes its turns over a stream, whose lines go by. Where the stop file is seen, the client's state
+/// is noted.
 fn drive_stream<R: Files + Eprint + Clock + AllocGlobal, N: Watcher, F: TextFile, O: Sink>(
     rt: &R,
     client: &mut Client,
-    (stream, patience): (&TcpStream, &Patience<'_, R>),
+    (stream, patience, seen): (&TcpStream, &Patience<'_, R>, &Cell<Option<State>>),
     (talk, watcher): (&RefCell<Talk<'_, R>>, &mut N),
     outputs: &mut RunOutputs<F, O>,
 ) -> Result<RunEnd, FilesFault> {
@@ -193,7 +192,7 @@ fn drive_stream<R: Files + Eprint + Clock + AllocGlobal, N: Watcher, F: TextFile
         source: HeardPort::new(source, Side::Server, talk),
         sink: SaidPort::new(PatientSink::new(stream, patience), Side::Client, talk),
     };
-    let mut steering = StopFile::new(patience, stream);
+    let mut steering = Watched::new(StopFile::new(patience, stream), seen);
     drive(
         rt.alloc(),
         client,
@@ -208,7 +207,7 @@ fn drive_stream<R: Files + Eprint + Clock + AllocGlobal, N: Watcher, F: TextFile
 fn drive_watched<R: Files + Eprint + Clock + AllocGlobal, F: TextFile, O: Sink>(
     rt: &R,
     client: &mut Client,
-    limited: (&TcpStream, &Patience<'_, R>),
+    limited: (&TcpStream, &Patience<'_, R>, &Cell<Option<State>>),
     follower: &mut Follower<'_, '_, R>,
     outputs: &mut RunOutputs<F, O>,
 ) -> Result<RunEnd, FilesFault> {
@@ -261,7 +260,8 @@ fn drive_connection<R: Files<File = File> + Eprint + Clock + AllocGlobal, F: Tex
 {
     let (stream, call, patience) = limited;
     begin_connection(rt, client, before, call, follower)?;
-    match drive_watched(rt, client, (stream, patience), follower, outputs) {
+    let limited = (stream, patience, &call.seen);
+    match drive_watched(rt, client, limited, follower, outputs) {
         Ok(driven) => Ok(driven),
         Err(fault) => Err(Fault::Order(of_output(rt, fault))),
     }
@@ -302,7 +302,7 @@ fn drive_called<
         outputs,
     );
     if let Ok(driven) = &driven
-        && is_halted(&driven.ended)
+        && driven.ended.is_open()
     {
         leave(&stream);
     }
@@ -349,7 +349,10 @@ fn drive_client<
     drop(outputs);
     match driven {
         Ok(Some(driven)) => shown_end(rt, driven, call, why, (patience, follower.talk)),
-        Ok(None) => Ok(patience.not_begun()),
+        Ok(None) => {
+            call.early = Some(RunEnding::NotBegun);
+            Ok(patience.not_begun())
+        }
         Err(fault) => Err(fault),
     }
 }
@@ -388,9 +391,9 @@ fn drive_followed<
     }
 }
 
-/// A client that is made runs its program on a server, followed by its record, if there is one; its report is written on standard output.
-/// `before` is the number of its connection, and what servers reported before it.
-fn drive_made<
+/// A client that is made runs its program on a server once it is confirmed, followed by its record, if there is one; its report is written on
+/// standard output. `before` is the number of its connection, and what servers reported before it.
+fn drive_prepared<
     R: Files<File = File>
         + Input
         + Print
@@ -415,6 +418,40 @@ fn drive_made<
     done
 }
 
+/// Likewise; what the run says last is noted.
+fn drive_made<
+    R: Files<File = File>
+        + Input
+        + Print
+        + Eprint
+        + Clock
+        + Net<Listener = TcpListener, Stream = TcpStream>
+        + AllocGlobal,
+>(
+    rt: &R,
+    client: &mut Client,
+    before: (u64, &ServerLedger),
+    record: Option<(String, Recorder<LockedFile>)>,
+    limited: (&mut Call<'_>, &Patience<'_, R>),
+) -> Result<u8, Fault>
+    requires { may_connect before.0 client.old.client ≡ true }
+{
+    let (call, patience) = limited;
+    let kept = client.features().len();
+    let done = drive_prepared(rt, client, before, record, (&mut *call, patience));
+    let how = match call.early.take() {
+        Some(how) => how,
+        None => RunEnding::Left(client.state(), call.seen.get()),
+    };
+    let counts = Counts {
+        kept,
+        complete: client.features().len(),
+        asked: client.program().features().len(),
+    };
+    *call.last = last_line(how, counts);
+    done
+}
+
 /// A program on a server, without a record.
 fn drive_program<
     R: Files<File = File>
@@ -433,15 +470,10 @@ fn drive_program<
     requires { is_window call.old.window ≡ true }
 {
     let (kept, program) = read;
-    let mut client = kept_client(rt.alloc(), program, kept, call.window)?;
     if let Some(name) = &call.features {
-        tell_kept(
-            rt,
-            name.as_str(),
-            client.features(),
-            client.program().features(),
-        );
+        tell_kept(rt, name.as_str(), kept.list(), program.features())?;
     }
+    let mut client = kept_client(rt.alloc(), program, kept, call.window)?;
     let told = ServerLedger::new(rt.alloc());
     let done = drive_made(rt, &mut client, (1, &told), None, (call, patience));
     drop(told);
@@ -619,6 +651,25 @@ fn drive_read<
     }
 }
 
+/// What a run says last that its stop file has kept from beginning; nothing, if its record is refused.
+fn last_of_none<R: Files + Input + AllocGlobal>(
+    rt: &R,
+    sources: &mut Sources<'_, R>,
+    (features, program): (&FeatureLedger, &Program),
+    record: Option<&RecordWords>,
+) -> Option<LastLine> {
+    let kept = match record {
+        Some(words) => kept_in(rt, sources, words, program)?,
+        None => features.list().len(),
+    };
+    let counts = Counts {
+        kept,
+        complete: kept,
+        asked: program.features().len(),
+    };
+    last_line(RunEnding::NotBegun, counts)
+}
+
 /// A run that has read what it needs, on a server, unless the stop file is there.
 fn drive_input<
     R: Files<File = File>
@@ -634,20 +685,22 @@ fn drive_input<
     order: &mut Run,
     given: (RunInput, Option<RecordWords>),
     limited: (Option<u32>, &Patience<'_, R>),
-    held: &mut HeldFiles,
+    kept: (&mut HeldFiles, &mut Option<LastLine>),
 ) -> Result<u8, Fault>
     requires { is_window order.old.window ≡ true }
 {
     let (input, record) = given;
     let (wait, patience) = limited;
-    if patience.is_stopped() {
-        return Ok(patience.not_begun());
-    }
+    let (held, last) = kept;
     let RunInput {
         read,
         features,
         tasks,
     } = input;
+    if patience.is_stopped() {
+        *last = last_of_none(rt, sources, (&read.0, &read.1), record.as_ref());
+        return Ok(patience.not_begun());
+    }
     let log = order.log.take();
     let window = order.window;
     let mut call = Call {
@@ -657,7 +710,10 @@ fn drive_input<
         log,
         wait,
         tasks: tasks.as_slice(),
-        held,
+        held: &mut *held,
+        seen: Cell::new(None),
+        early: None,
+        last: &mut *last,
     };
     let done = drive_read(rt, sources, read, record, &mut call, patience);
     drop(call);
@@ -679,10 +735,11 @@ fn run_limited<
     order: &mut Run,
     record: Option<RecordWords>,
     limits: (Option<u32>, &Patience<'_, R>),
-    held: &mut HeldFiles,
+    kept: (&mut HeldFiles, &mut Option<LastLine>),
 ) -> Result<u8, Fault>
     requires { is_window order.old.window ≡ true }
 {
+    let (held, last) = kept;
     let name = record.as_ref().map(|words| words.name.as_str());
     held.hold(
         rt,
@@ -693,12 +750,37 @@ fn run_limited<
     let mut sources = Sources::new(rt, is_explained);
     let names = take_names(rt.alloc(), order);
     match read_run(rt, &mut sources, names, is_explained) {
-        Ok(input) => drive_input(rt, &mut sources, order, (input, record), limits, held),
+        Ok(input) => drive_input(
+            rt,
+            &mut sources,
+            order,
+            (input, record),
+            limits,
+            (&mut *held, &mut *last),
+        ),
         Err(fault) => Err(fault),
     }
 }
 
-/// Carries out a run: its exit status.
+/// Shows why a run was not carried out, if it was not, and then what it says last: its exit status.
+fn tell_last<R: Eprint>(
+    rt: &R,
+    done: Result<u8, Fault>,
+    last: Option<LastLine>,
+) -> Result<u8, Fault> {
+    let Some(last) = last else { return done };
+    let status = match done {
+        Ok(status) => status,
+        Err(fault) => {
+            let _ = eprint!(rt; "{fault}");
+            fault.status()
+        }
+    };
+    let _ = eprint!(rt; "{last}");
+    Ok(status)
+}
+
+/// Carries out a run: its exit status. What it says last is noted.
 fn run_order<
     R: Files<File = File>
         + Input
@@ -707,7 +789,7 @@ fn run_order<
         + Clock
         + Net<Listener = TcpListener, Stream = TcpStream>
         + AllocGlobal,
->(rt: &R, order: &mut Run) -> Result<u8, Fault>
+>(rt: &R, order: &mut Run, last: &mut Option<LastLine>) -> Result<u8, Fault>
     requires { is_window order.old.window ≡ true }
 {
     let timeout = seconds_of("timeout", order.timeout.take())?;
@@ -716,7 +798,13 @@ fn run_order<
     let record = record_words(order.record.take(), order.part.take(), order.explain)?;
     let patience = Patience::new(rt, timeout, order.stop.take());
     let mut held = HeldFiles::none();
-    let done = run_limited(rt, order, record, (wait, &patience), &mut held);
+    let done = run_limited(
+        rt,
+        order,
+        record,
+        (wait, &patience),
+        (&mut held, &mut *last),
+    );
     held.release(rt);
     drop(patience);
     done
@@ -735,7 +823,8 @@ pub fn run_program<
 >(rt: &R, mut order: Run) -> Result<u8, Fault>
     requires { is_window order.window ≡ true }
 {
-    let done = run_order(rt, &mut order);
+    let mut last = None;
+    let done = run_order(rt, &mut order, &mut last);
     drop(order);
-    done
+    tell_last(rt, done, last)
 }

@@ -3,11 +3,12 @@
 use byte_ports::Reading;
 use client_core::Client;
 use contact_ledger::Feature;
-use dme_orders::{OrderFault, first_lines};
+use dme_orders::{OrderFault, first_lines, kept_text};
 use dme_sockets::touches_of;
 use dmis_program::{Touch, Wanted};
 use fixed_um::Frame;
 use program_review::{Task, TaskLine};
+use std::alloc::AllocError;
 use std::io;
 
 /// The frame of the last of touches.
@@ -47,21 +48,22 @@ fn tell_other_frame<R: Eprint>(rt: &R, feature: &Feature, wanted: &Wanted) -> io
 }
 
 /// Reports how many features a file gives back, if it gives any, and which of them are in another frame than the program asks for. Lines
-/// that cannot be written change nothing.
-pub fn tell_kept<R: Eprint>(rt: &R, name: &str, features: &[Feature], wanted: &[Wanted]) {
-    let kept = features.len();
-    let total = wanted.len();
-    if kept == 0 {
-        return;
+/// that cannot be written change nothing. Fails only if out of memory.
+pub fn tell_kept<R: Eprint + AllocGlobal>(
+    rt: &R,
+    name: &str,
+    features: &[Feature],
+    wanted: &[Wanted],
+) -> Result<(), AllocError> {
+    if features.is_empty() {
+        return Ok(());
     }
-    if kept == total {
-        let _ = eprintln!(rt; "dme: all {kept} features kept from {name}, nothing is measured");
-    } else {
-        let _ = eprintln!(rt; "dme: {kept} of {total} features kept from {name}");
-    }
-    for at in 0..kept.min(total) {
+    let line = kept_text(rt.alloc(), features.len(), wanted.len(), name)?;
+    let _ = eprint!(rt; "{line}");
+    for at in 0..features.len().min(wanted.len()) {
         let _ = tell_other_frame(rt, &features[at], &wanted[at]);
     }
+    Ok(())
 }
 
 /// The line of the touch of a program with this number, from 0.
@@ -107,12 +109,8 @@ pub fn tell_next<R: Eprint + AllocGlobal>(
     tell_next_feature(rt, wanted, held, tasks);
     let text = first_lines(rt.alloc(), client.program(), held)?;
     let _ = eprintln!(rt; "dme: it begins from where the probe stands, with");
-    for line in text.as_slice().split(|byte| *byte == b'\n') {
-        let shown = str::from_utf8(line).unwrap_or("");
-        if !shown.is_empty() {
-            let _ = eprintln!(rt; "dme:   {shown}");
-        }
-    }
+    let shown = str::from_utf8(text.as_slice()).unwrap_or("");
+    let _ = eprint!(rt; "{shown}");
     Ok(())
 }
 

@@ -4,6 +4,7 @@
 //! - `holding`: the files that a run locks before it reads any
 //! - `growing_files`: the files of features and of contacts, which grow during a run; `recording`: its record, which is one too
 //! - `keeping`: what a run reports before it connects; `warning`: what a setup lacks for a program
+//! - `stopping`: in which state a client is when the stop file is seen
 //! - `progress`: lines that report how far a run is
 #![tactic(auto)]
 
@@ -13,6 +14,7 @@ mod holding;
 mod keeping;
 mod progress;
 mod recording;
+mod stopping;
 mod warning;
 
 pub use driving_connection::run_program;

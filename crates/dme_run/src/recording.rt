@@ -163,6 +163,19 @@ fn beginning_of(
     }
 }
 
+/// How many features a record completes, without a change of its file; nothing if it is refused, or if memory runs out.
+pub fn kept_in<R: Files + Input + AllocGlobal>(
+    rt: &R,
+    sources: &mut Sources<'_, R>,
+    words: &RecordWords,
+    program: &Program,
+) -> Option<usize> {
+    let text = read_whole(rt, sources, words).ok()?;
+    let part = words.part.as_ref().map(|part| part.as_bytes());
+    let beginning = begin_record(rt.alloc(), text.as_slice(), program, part).ok()?;
+    Some(beginning.features.list().len())
+}
+
 /// Reads the record that is held, gives it the text that a run continues from, and reports what it gives back.
 fn begun<R: Files<File = File> + Input + Eprint + AllocGlobal>(
     rt: &R,
@@ -179,7 +192,7 @@ fn begun<R: Files<File = File> + Input + Eprint + AllocGlobal>(
         let name = String::from_str(rt.alloc(), name)?;
         return Err(Fault::Order(cannot_write(name, error.kind())));
     }
-    tell_kept(rt, name, beginning.features.list(), program.features());
+    tell_kept(rt, name, beginning.features.list(), program.features())?;
     Ok(beginning)
 }
 

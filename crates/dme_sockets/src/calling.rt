@@ -2,7 +2,7 @@
 
 use crate::waiting::{LOOK_MS, Patience};
 use dme_files::Fault;
-use dme_orders::OrderFault;
+use dme_orders::{OrderFault, refused_call};
 use refusal_guide::unknown_host;
 use std::alloc::{AllocError, Global};
 use std::io::{self, ErrorKind, Read};
@@ -22,7 +22,6 @@ pub enum Called {
 /// Why a connection is not made, as a line.
 fn cause(kind: ErrorKind) -> &'static str {
     match kind {
-        ErrorKind::ConnectionRefused => "connection refused\n",
         ErrorKind::ConnectionReset => "connection reset\n",
         ErrorKind::AddrInUse => "port in use\n",
         ErrorKind::TimedOut => "connection timed out\n",
@@ -56,13 +55,19 @@ fn unfound(error: io::Error) -> Missed {
 }
 
 /// What is shown for a call that has failed.
-fn shown(alloc: Global, missed: Missed, host: &str) -> Fault {
-    match missed {
-        Missed::Unreached(error) => Fault::Order(no_connection(&error, true)),
-        Missed::Unknown => match unknown_host(alloc, host) {
-            Ok(line) => Fault::Explained(OrderFault::ConnectionFailed(""), line),
-            Err(AllocError) => Fault::Order(OrderFault::Memory),
-        },
+fn shown(alloc: Global, missed: &Missed, (host, port): (&str, u16)) -> Fault {
+    let line = match missed {
+        Missed::Unknown => unknown_host(alloc, host),
+        Missed::Unreached(error) => {
+            if error.kind() != ErrorKind::ConnectionRefused {
+                return Fault::Order(no_connection(error, true));
+            }
+            refused_call(alloc, host, port)
+        }
+    };
+    match line {
+        Ok(line) => Fault::Explained(OrderFault::ConnectionFailed(""), line),
+        Err(AllocError) => Fault::Order(OrderFault::Memory),
     }
 }
 
@@ -162,7 +167,7 @@ pub fn call_server<
     let stream = match made {
         Ok(Some(stream)) => stream,
         Ok(None) => return Ok(Called::Stopped),
-        Err(missed) => return Err(shown(rt.alloc(), missed, address.0)),
+        Err(missed) => return Err(shown(rt.alloc(), &missed, address)),
     };
     match patience.limit(&stream) {
         Ok(()) => Ok(Called::Connected(stream)),

@@ -75,10 +75,16 @@ impl fmt::Display for Misfit {
                 "error: the argument '--as contacts' requires '--record <FILE>'\n\nFor more information, try '--help'.\n",
             ),
             Misfit::AuditLacks(lacks) => {
+                let program = program_word(lacks.is_named);
+                if lacks.features && lacks.contacts {
+                    return write!(
+                        f,
+                        "error: the following required arguments were not provided:\n  --record <FILE>, or --setup <FILE>, --features <FILE> and --contacts <FILE>\n\nUsage: dme audit --record <FILE> {program}\n\nFor more information, try '--help'.\n"
+                    );
+                }
                 let setup = lacking_line(lacks.setup, "  --setup <FILE>\n");
                 let features = lacking_line(lacks.features, "  --features <FILE>\n");
                 let contacts = lacking_line(lacks.contacts, "  --contacts <FILE>\n");
-                let program = program_word(lacks.is_named);
                 write!(
                     f,
                     "error: the following required arguments were not provided:\n{setup}{features}{contacts}\nUsage: dme audit --setup <FILE> --features <FILE> --contacts <FILE> {program}\n\nFor more information, try '--help'.\n"
@@ -88,7 +94,7 @@ impl fmt::Display for Misfit {
                 let program = program_word(*is_named);
                 write!(
                     f,
-                    "error: the following required arguments were not provided:\n  --features <FILE>\n\nUsage: dme export --as <FORM> --features <FILE> {program}\n\nFor more information, try '--help'.\n"
+                    "error: the following required arguments were not provided:\n  --record <FILE>, or --features <FILE>\n\nUsage: dme export --as <FORM> --record <FILE> {program}\n\nFor more information, try '--help'.\n"
                 )
             }
         }
