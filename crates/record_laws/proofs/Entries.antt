@@ -1,9 +1,11 @@
 -- Entries of acts that are added in pieces, and entries that follow one another.
-use Rattle.std.proofs.Common.{◌≡◌, ℕ, ◌≤◌, List, [], ◌∷◌, ◌++◌, refl, ap, sym, ◌∙◌, subst, arith, append_assoc, append-nil}
+use Rattle.std.proofs.Common.{◌≡◌, ℕ, ◌+◌, ◌-◌, ◌≤◌, List, [], ◌∷◌, ◌++◌, length, drop, refl, ap, sym, ◌∙◌, subst, arith, append_assoc, append-nil}
+use Rattle.std.specs.Prelude.{slice_get}
 use Rattle.contact_ledger.specs.declared.acts.Act.{Act}
 use Rattle.contact_ledger.specs.declared.features.Feature.{Feature}
 use Rattle.dmis_program.specs.declared.features.Wanted.{Wanted}
-use Rattle.run_record.specs.Records.{Kept, Follows, Follow, completed_feature}
+use Rattle.protocol_model.specs.Claims.{contacts, Serves}
+use Rattle.run_record.specs.Records.{Kept, with_told, with_refused, with_completed, Follows, Follow, Completes, IsLastRun, completed_feature}
 use Rattle.run_record.specs.Tellings.{Counted, counted, entries_of, counted_after}
 use Rattle.run_record.specs.declared.entries.Entry.{Entry}
 use Rattle.run_record.specs.declared.entries.Entry.TheVariants.{Told, Refused, Completed}
@@ -124,8 +126,73 @@ pub record Later (ws : List Wanted) (n : ℕ) (c : Counted) (mid kept : Kept) (a
   pub used : new.used ≡ kept.used
   pub last : new.last ≤ n
 
-abbrev with_told : ℕ → Act → List Feature → List (ℕ × Act) → ℕ → Kept
-with_told n a features told used = record { features = features; told = told ++ (n, a) ∷ []; used = used; last = n }
+-- the same features and acts, as many contacts used up, and the same last connection: they differ in errors at most
+record AreAlike (a b : Kept) : Type 0 where
+  features : a.features ≡ b.features
+  told : a.told ≡ b.told
+  used : a.used ≡ b.used
+  last : a.last ≡ b.last
+
+-- an entry that follows one follows the other, and leaves alike
+abbrev OneAlike : List Wanted → Kept → Entry → Kept → Type 0
+OneAlike ws mid e new = (other : Kept) × Follows ws mid e other × AreAlike other new
+
+one_alike : (ws : List Wanted) (old mid new : Kept) (e : Entry) → AreAlike mid old → Follows ws old e new → OneAlike ws mid e new
+one_alike ws old mid new (Told n a) h f = (
+  with_told mid n a,
+  (f.0, subst (λ (k : ℕ). k ≤ n) (sym h.last) f.1, refl),
+  subst (λ (k : Kept). AreAlike (with_told mid n a) k) (sym f.2) (record {
+    features = h.features;
+    told = ap (λ (l : List (ℕ × Act)). l ++ (n, a) ∷ []) h.told;
+    used = h.used;
+    last = refl;
+  }),
+)
+one_alike ws old mid new (Refused n text) h f = (
+  with_refused mid n text,
+  (f.0, subst (λ (k : ℕ). k ≤ n) (sym h.last) f.1, refl),
+  subst (λ (k : Kept). AreAlike (with_refused mid n text) k) (sym f.2)
+      (record { features = h.features; told = h.told; used = h.used; last = refl }),
+)
+one_alike ws old mid new (Completed n label) h f =
+    let c : Completes ws old n label new = f.1 in
+    let w : Wanted = c.wanted in
+    let run : IsLastRun old w n c.points = c.run in
+    let moved : IsLastRun mid w n c.points = record {
+      unused = subst (λ (l : List (ℕ × Act)). mid.used + length w.touches ≤ length (contacts l)) (sym h.told)
+          (subst (λ (k : ℕ). k + length w.touches ≤ length (contacts old.told)) (sym h.used) run.unused);
+      serves = subst (λ (l : List (ℕ × Act)). Serves n w.touches c.points (drop (length (contacts l) - length w.touches) (contacts l)))
+          (sym h.told) run.serves;
+    } in
+    (
+      with_completed mid n w c.points,
+      (f.0, record {
+        wanted = w;
+        points = c.points;
+        next = ap (λ (l : List Feature). slice_get ws (length l)) h.features ∙ c.next;
+        label_is = c.label_is;
+        same = c.same ∙ sym h.last;
+        run = moved;
+        more = refl;
+      }),
+      subst (λ (k : Kept). AreAlike (with_completed mid n w c.points) k) (sym c.more) (record {
+        features = ap (λ (l : List Feature). l ++ completed_feature n w c.points ∷ []) h.features;
+        told = h.told;
+        used = ap (λ (l : List (ℕ × Act)). length (contacts l)) h.told;
+        last = refl;
+      }),
+    )
+
+-- and so do entries, one after another
+abbrev AllAlike : List Wanted → Kept → List Entry → Kept → Type 0
+AllAlike ws mid es new = (other : Kept) × Follow ws mid es other × AreAlike other new
+
+all_alike : (ws : List Wanted) (es : List Entry) (old mid new : Kept) → AreAlike mid old → Follow ws old es new → AllAlike ws mid es new
+all_alike ws [] old mid new h f = (mid, refl, subst (λ (k : Kept). AreAlike mid k) (sym f) h)
+all_alike ws (e ∷ es) old mid new h f =
+    let one : OneAlike ws mid e f.0 = one_alike ws old mid f.0 e h f.1 in
+    let rest : AllAlike ws one.0 es new = all_alike ws es f.0 one.0 new one.2 f.2 in
+    (rest.0, (one.0, one.1, rest.1), rest.2)
 
 pub later : (ws : List Wanted) (n : ℕ) (c : Counted) (old mid kept : Kept) (acts : List Act) → mid.features ≡ old.features
     → mid.told ≡ old.told → mid.used ≡ old.used → mid.last ≤ n → kept.last ≤ n → Follow ws old (entries_of ws n c acts) kept
@@ -138,16 +205,20 @@ later ws n c old mid kept [] features told used last upto f = record {
   used = used ∙ ap (λ (k : Kept). k.used) (sym f);
   last = last;
 }
-later ws n c old mid kept (a ∷ acts) features told used last upto f = record {
-  new = kept;
-  follow = (f.0, (f.1.0, last, f.1.2 ∙ same), f.2);
-  features = refl;
-  told = refl;
-  used = refl;
-  last = upto;
-}
-  where
-    same : with_told n a old.features old.told old.used ≡ with_told n a mid.features mid.told mid.used
-    same = ap (λ (x : List Feature). with_told n a x old.told old.used) (sym features)
-        ∙ (ap (λ (x : List (ℕ × Act)). with_told n a mid.features x old.used) (sym told)
-        ∙ ap (λ (x : ℕ). with_told n a mid.features mid.told x) (sym used))
+later ws n c old mid kept (a ∷ acts) features told used last upto f =
+    let alike : AreAlike (with_told mid n a) f.0 = subst (λ (k : Kept). AreAlike (with_told mid n a) k) (sym f.1.2) (record {
+      features = features;
+      told = ap (λ (l : List (ℕ × Act)). l ++ (n, a) ∷ []) told;
+      used = used;
+      last = refl;
+    }) in
+    let rest : AllAlike ws (with_told mid n a) ((counted ws n a c).1 ++ entries_of ws n (counted ws n a c).0 acts) kept =
+    all_alike ws ((counted ws n a c).1 ++ entries_of ws n (counted ws n a c).0 acts) f.0 (with_told mid n a) kept alike f.2 in
+    record {
+      new = rest.0;
+      follow = (with_told mid n a, (f.1.0, last, refl), rest.1);
+      features = rest.2.features;
+      told = rest.2.told;
+      used = rest.2.used;
+      last = subst (λ (k : ℕ). k ≤ n) (sym rest.2.last) upto;
+    }

@@ -180,13 +180,15 @@ record_of : (part : Option (List ℕ)) (ws : List Wanted) (es : List Entry) (kep
     → text ≡ text_of (record_lines part ws es) → IsRecordOf part ws fs acts text
 record_of part ws es kept fs acts text given asked f features told is = (
   kept.last,
-  subst (λ (t : List ℕ). IsRecord t (record { part = part; asked = ws; features = fs; told = acts; last = kept.last })) (sym is)
-      (subst (λ (l : List (ℕ × Act)). IsRecord (text_of (record_lines part ws es))
-      (record { part = part; asked = ws; features = fs; told = l; last = kept.last })) told
-      (subst (λ (l : List Feature). IsRecord (text_of (record_lines part ws es))
-      (record { part = part; asked = ws; features = l; told = kept.told; last = kept.last })) features
+  kept.errors,
+  subst (λ (t : List ℕ). IsRecord t (says fs acts)) (sym is)
+      (subst (λ (l : List (ℕ × Act)). IsRecord (text_of (record_lines part ws es)) (says fs l)) told
+      (subst (λ (l : List Feature). IsRecord (text_of (record_lines part ws es)) (says l kept.told)) features
       (whole_read part ws es kept given asked f))),
 )
+  where
+    says : List Feature → List (ℕ × Act) → Recorded
+    says l told = record { part = part; asked = ws; features = l; told = told; last = kept.last; errors = kept.errors }
 
 -- the text says what the client holds, once what is due is added
 pub says_what_was_told : (p : Meaning) (part : Option (List ℕ)) (bytes : List ℕ) (b : Beginning) (window : ℕ) (ms : List Moment)

@@ -25,7 +25,7 @@ use Rattle.protocol_model.proofs.invariant.Served.{contacts_more, serves_more, j
 use Rattle.told_acts.specs.Told.{numbered}
 use Rattle.told_acts.proofs.Sounds.{serves_count}
 use Rattle.run_record.specs.Heads.{IsAsked, AreAsked}
-use Rattle.run_record.specs.Records.{Kept, Follow, Completes, completed_feature, last_frame}
+use Rattle.run_record.specs.Records.{Kept, with_told, with_completed, Follow, Completes, completed_feature, last_frame}
 use Rattle.run_record.specs.Tellings.{Counted, one_point, counted, entries_of, counted_after}
 use Rattle.run_record.specs.declared.entries.Entry.{Entry}
 use Rattle.run_record.specs.declared.entries.Entry.TheVariants.{Told, Completed}
@@ -96,10 +96,6 @@ one_moves ws n c kept a fs ps x is m =
       unused = h.unused;
     }
 
--- what is kept with one more act
-abbrev with_act : Kept → ℕ → Act → Kept
-with_act kept n a = record { features = kept.features; told = kept.told ++ (n, a) ∷ []; used = kept.used; last = n }
-
 -- an act that is no contact
 calm_moves : (ws : List Wanted) (n : ℕ) (c : Counted) (kept : Kept) (a : Act) (fs : List Feature) (ps : List Point) → is_contact a ≡ false
     → IsWrittenAct a → Rests n c kept fs ps → Moves ws n c kept (a ∷ []) fs ps
@@ -110,8 +106,8 @@ calm_moves ws n c kept a fs ps calm written h =
     one_moves ws n c kept a fs ps (c, [])
     (ap (λ (b : Bool). cond {A = Counted × List Entry} b (one_point n (slice_get ws c.features) c) (c, [])) calm)
     (record {
-      new = with_act kept n a;
-      follow = (with_act kept n a, ((h.connection, written), h.last, refl), refl);
+      new = with_told kept n a;
+      follow = (with_told kept n a, ((h.connection, written), h.last, refl), refl);
       features = h.features;
       told = refl;
       last = omega arith;
@@ -230,8 +226,8 @@ contact_moves ws n c kept fs ps t p h g written =
     one_moves ws n c kept (contact_of t p) fs (ps ++ p ∷ []) (record { features = c.features; points = c.points + 1 }, [])
     (contact_counts n c (slice_get ws c.features) w false (next_is ws n fs ps (contacts kept.told) t false c.features g h.held) more)
     (record {
-      new = with_act kept n (contact_of t p);
-      follow = (with_act kept n (contact_of t p), ((h.connection, written), h.last, refl), refl);
+      new = with_told kept n (contact_of t p);
+      follow = (with_told kept n (contact_of t p), ((h.connection, written), h.last, refl), refl);
       features = h.features;
       told = refl;
       last = omega arith;
@@ -280,8 +276,8 @@ last_moves ws n c kept fs ps t p asked h g written =
     next_is ws n fs ps (contacts kept.told) t true (length kept.features) g (ap (λ (l : List Feature). length l) h.features) in
     let named : IsAsked w = asked_there (IsTouched.front g) w (IsTouched.later g) (subst AreAsked (IsTouched.whole g) asked) in
     let feature : Feature = completed_feature n w (ps ++ p ∷ []) in
-    let new : Kept = record { features = kept.features ++ feature ∷ []; told = told; used = length (contacts told); last = n } in
-    let completes : Completes ws (with_act kept n (contact_of t p)) n w.label new = record {
+    let new : Kept = with_completed (with_told kept n (contact_of t p)) n w (ps ++ p ∷ []) in
+    let completes : Completes ws (with_told kept n (contact_of t p)) n w.label new = record {
       wanted = w;
       points = ps ++ p ∷ [];
       next = next;
@@ -310,7 +306,7 @@ last_moves ws n c kept fs ps t p asked h g written =
     (record {
       new = new;
       follow = (
-        with_act kept n (contact_of t p),
+        with_told kept n (contact_of t p),
         ((h.connection, written), h.last, refl),
         (new, ((h.connection, named.label), completes), refl),
       );

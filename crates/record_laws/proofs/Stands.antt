@@ -41,8 +41,8 @@ use Rattle.told_acts.proofs.Views.{View, view, view_by, told_to, none_told, none
 use Rattle.told_acts.proofs.Counts.{IsGoing, Grows, grows_told, heard_grows}
 use Rattle.told_acts.proofs.Tells.{Tells, IsTold, is_told}
 use Rattle.run_record.specs.Heads.{AreAsked}
-use Rattle.run_record.specs.Entries.{entry_line}
-use Rattle.run_record.specs.Records.{Kept, Follow}
+use Rattle.run_record.specs.Entries.{entry_line, kept_error}
+use Rattle.run_record.specs.Records.{Kept, with_refused, Follow}
 use Rattle.run_record.specs.Tellings.{Counted, entries_of, counted_after}
 use Rattle.run_record.specs.declared.entries.Entry.{Entry}
 use Rattle.run_record.proofs.ToldLines.{lines_more}
@@ -181,7 +181,7 @@ errors_kept ws n last kept [] connection above h = record {
   last = above;
 }
 errors_kept ws n last kept (error ∷ errors) connection above h =
-    let mid : Kept = record { features = kept.features; told = kept.told; used = kept.used; last = n } in
+    let mid : Kept = with_refused kept n (kept_error error) in
     let rest : ErrorsKept ws n mid errors = errors_kept ws n last mid errors connection (omega arith) h.2 in
     record {
       new = ErrorsKept.new rest;

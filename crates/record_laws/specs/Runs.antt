@@ -8,6 +8,7 @@ use Rattle.protocol_model.specs.Claims.{Sound}
 use Rattle.protocol_model.specs.Ends.{new_client_end}
 use Rattle.run_record.specs.Reading.{IsRecord}
 use Rattle.run_record.specs.Records.{Recorded}
+use Rattle.run_record.specs.declared.run_errors.RunError.{RunError}
 use Rattle.record_keeping.specs.Beginnings.{BeginsWith, IsSame}
 use Rattle.record_keeping.specs.Growths as growths
 use Rattle.record_keeping.specs.declared.opening.Beginning.{Beginning}
@@ -23,12 +24,13 @@ run_begun p window b = record {
 
 -- a text is a record of a part and of these wanted features; it says that these features are complete and that these acts were reported
 abbrev pub IsRecordOf : Option (List ℕ) → List Wanted → List Feature → List (ℕ × Act) → List ℕ → Type 0
-IsRecordOf part wanted features told text = (last : ℕ) × IsRecord text (record {
+IsRecordOf part wanted features told text = (last : ℕ) × (errors : List RunError) × IsRecord text (record {
   part = part;
   asked = wanted;
   features = features;
   told = told;
   last = last;
+  errors = errors;
 })
 
 -- a run over a file that has some bytes, killed at any moment, when the file has others: what the run found whole, and a prefix of what it

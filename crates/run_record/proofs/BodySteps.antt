@@ -1,6 +1,6 @@
 -- What a reader keeps of the entries, one more at a time.
 use Rattle.std.proofs.Common.{◌≡◌, ℕ, ◌+◌, ◌-◌, ◌<◌, ◌≤◌, List, [], ◌∷◌, ◌++◌, length, drop, refl, ap, sym, subst, ◌∙◌, arith}
-use Rattle.std.proofs.Common.{length-append, Option, Some, None, Result, Ok, Err, IfOk}
+use Rattle.std.proofs.Common.{suc, length-append, Option, Some, None, Result, Ok, Err, IfOk}
 use Rattle.std.proofs.lemmas.List.{drop-append-le, drop-drop, drop_all}
 use Rattle.std.proofs.lemmas.List.Recursion.{is_count_by}
 use Rattle.std.specs.Prelude.{cond}
@@ -11,10 +11,13 @@ use Rattle.contact_ledger.specs.Ledgers.{is_contact, contact_count}
 use Rattle.contact_ledger.specs.declared.acts.Act.{Act}
 use Rattle.contact_ledger.specs.declared.acts.Act.TheVariants as act
 use Rattle.contact_ledger.specs.declared.features.Feature.{Feature}
+use Rattle.dmis_program.specs.declared.features.Touch.{Touch}
 use Rattle.dmis_program.specs.declared.features.Wanted.{Wanted}
 use Rattle.protocol_model.specs.Claims.{MadeContact, contacts, Serves}
 use Rattle.protocol_model.specs.Client.{origin_of}
-use Rattle.run_record.specs.Records.{Kept, IsLastRun, last_frame, Completes}
+use Rattle.run_record.specs.Records.{Kept, IsLastRun, last_frame, Completes, errors_during}
+use Rattle.run_record.specs.declared.run_errors.Reported.{Reported}
+use Rattle.run_record.specs.declared.run_errors.RunError.{RunError}
 use Rattle.run_record.specs.Serving.{CanComplete}
 
 -- ---- contacts
@@ -125,6 +128,14 @@ last_found kept w n from skipped behind r h few k e f =
 
 -- ---- a completed feature
 
+pub serves_length : (n : ℕ) (ts : List Touch) (ps : List Point) (ms : List MadeContact) → Serves n ts ps ms → length ts ≡ length ps
+serves_length n [] [] [] h = refl
+serves_length n [] [] (m ∷ ms) h = absurd h
+serves_length n [] (p ∷ ps) ms h = absurd h
+serves_length n (t ∷ ts) [] ms h = absurd h
+serves_length n (t ∷ ts) (p ∷ ps) [] h = absurd h
+serves_length n (t ∷ ts) (p ∷ ps) (m ∷ ms) h = ap (λ (k : ℕ). suc k) (serves_length n ts ps ms h.1)
+
 -- the feature of a label, points, and the connection and frame of its origin
 abbrev feature_of : List ℕ → List Point → ℕ → Frame → Feature
 feature_of label points n frame = record { label = label; points = points; origin = origin_of n frame }
@@ -135,8 +146,10 @@ same_feature points n p q = λ k. feature_of (p k) points n (q k)
 pub completes : (asked : List Wanted) (old new : Kept) (n : ℕ) (label : List ℕ) (w : Wanted) (points : List Point) (frame : Frame)
     → CanComplete asked old n label w points → frame ≡ last_frame w.touches
     → new.features ≡ old.features ++ feature_of label points n frame ∷ [] → new.told ≡ old.told → new.used ≡ contact_count old.told
-    → new.last ≡ old.last → Completes asked old n label new
-completes asked old new n label w points frame h same features told used last = record {
+    → new.last ≡ old.last → new.waiting ≡ []
+    → new.errors ≡ old.errors ++ errors_during label (contact_count old.told - length points) old.waiting
+    → Completes asked old n label new
+completes asked old new n label w points frame h same features told used last waiting errors = record {
   wanted = w;
   points = points;
   next = h.next;
@@ -144,9 +157,15 @@ completes asked old new n label w points frame h same features told used last = 
   same = h.same;
   run = h.run;
   more = same_kept (features ∙ ap (λ (f : Feature). old.features ++ f ∷ []) (same_feature points n h.label_is same)) told
-      (used ∙ sym (contacts_counted old.told)) (last ∙ sym h.same);
+      (used ∙ sym (contacts_counted old.told)) (last ∙ sym h.same) waiting
+      (errors ∙ ap (λ (l : List ℕ). old.errors ++ errors_during l (contact_count old.told - length points) old.waiting) h.label_is
+      ∙ ap (λ (k : ℕ). old.errors ++ errors_during w.label (contact_count old.told - k) old.waiting)
+      (sym (serves_length n w.touches points (drop (length (contacts old.told) - length w.touches) (contacts old.told)) h.run.serves)));
 }
   where
-    same_kept : {a b : List Feature} {c d : List (ℕ × Act)} {i j k l : ℕ} → a ≡ b → c ≡ d → i ≡ j → k ≡ l
-        → ◌≡◌ {A = Kept} (record { features = a; told = c; used = i; last = k }) (record { features = b; told = d; used = j; last = l })
-    same_kept p q r s = λ x. record { features = p x; told = q x; used = r x; last = s x }
+    kept_of : List Feature → List (ℕ × Act) → ℕ → ℕ → List Reported → List RunError → Kept
+    kept_of a b i j c d = record { features = a; told = b; used = i; last = j; waiting = c; errors = d }
+
+    same_kept : {a b : List Feature} {c d : List (ℕ × Act)} {i j k l : ℕ} {u v : List Reported} {x y : List RunError}
+        → a ≡ b → c ≡ d → i ≡ j → k ≡ l → u ≡ v → x ≡ y → kept_of a c i k u x ≡ kept_of b d j l v y
+    same_kept p q r s t o = λ z. kept_of (p z) (q z) (r z) (s z) (t z) (o z)

@@ -5,21 +5,20 @@ use Rattle.std.specs.Prelude.{slice_get}
 use Rattle.std.specs.List.{AllByRecursion}
 use Rattle.std.proofs.lemmas.List.{take-append-drop, take_all}
 use Rattle.std.proofs.Math.Seq.{take-append-le}
-use Rattle.fixed_um.specs.declared.lengths.Point.{Point}
 use Rattle.contact_ledger.specs.Ledgers.{connection_most}
 use Rattle.contact_ledger.specs.FeatureTexts.{IsPointCount, CanBeWritten}
 use Rattle.contact_ledger.specs.declared.acts.Act.{Act}
 use Rattle.contact_ledger.specs.declared.features.Feature.{Feature}
-use Rattle.dmis_program.specs.declared.features.Touch.{Touch}
 use Rattle.dmis_program.specs.declared.features.Wanted.{Wanted}
 use Rattle.protocol_model.specs.Claims.{MadeContact, contacts, Serves}
 use Rattle.protocol_model.specs.Undisturbed.{AreUpTo}
 use Rattle.protocol_model.proofs.invariant.Served.{Served, served_more, served_push, served_sound, contacts_more, up_to_more, up_to_above}
 use Rattle.run_record.specs.Heads.{IsAsked, AreAsked}
 use Rattle.run_record.specs.Entries.{IsWrittenEntry}
-use Rattle.run_record.specs.Records.{Kept, nothing_kept, Follows, Follow, Completes, completed_feature, IsRecorded, Recorded, AreRecordLines, recorded}
+use Rattle.run_record.specs.Records.{Kept, nothing_kept, with_told, with_refused, with_completed, Follows, Follow, Completes, completed_feature, IsRecorded, Recorded, AreRecordLines, recorded}
 use Rattle.run_record.specs.declared.entries.Entry.{Entry}
 use Rattle.run_record.specs.declared.entries.Entry.TheVariants.{Told, Refused, Completed}
+use Rattle.run_record.proofs.BodySteps.{serves_length}
 use Rattle.run_record.proofs.StageLines.{all_more}
 
 -- ---- a wanted feature at a place
@@ -53,14 +52,6 @@ asked_at (x ∷ xs) zero w h e =
     subst (λ (y : Wanted). IsAsked y) same h.0
 asked_at (x ∷ xs) (suc n) w h e = asked_at xs n w h.1 e
 
-serves_length : (n : ℕ) (ts : List Touch) (ps : List Point) (ms : List MadeContact) → Serves n ts ps ms → length ts ≡ length ps
-serves_length n [] [] [] h = refl
-serves_length n [] [] (m ∷ ms) h = absurd h
-serves_length n [] (p ∷ ps) ms h = absurd h
-serves_length n (t ∷ ts) [] ms h = absurd h
-serves_length n (t ∷ ts) (p ∷ ps) [] h = absurd h
-serves_length n (t ∷ ts) (p ∷ ps) (m ∷ ms) h = ap (λ (k : ℕ). suc k) (serves_length n ts ps ms h.1)
-
 -- ---- what is kept
 
 record IsWell (asked : List Wanted) (kept : Kept) : Type 0 where
@@ -71,11 +62,11 @@ record IsWell (asked : List Wanted) (kept : Kept) : Type 0 where
   writable : AllByRecursion CanBeWritten kept.features
 
 told_well : (asked : List Wanted) (old new : Kept) (n : ℕ) (a : Act) → IsWell asked old → n ≤ connection_most → old.last ≤ n
-    → new ≡ record { features = old.features; told = old.told ++ (n, a) ∷ []; used = old.used; last = n } → IsWell asked new
+    → new ≡ with_told old n a → IsWell asked new
 told_well asked old new n a h most above e =
     let more = contacts_more old.told ((n, a) ∷ []) in
     let few = h.few in
-    let next : Kept = record { features = old.features; told = old.told ++ (n, a) ∷ []; used = old.used; last = n } in
+    let next : Kept = with_told old n a in
     let front : take old.used (contacts next.told) ≡ take old.used (contacts old.told) =
     ap (λ (ms : List MadeContact). take old.used ms) more ∙ take-append-le old.used (contacts old.told) (contacts ((n, a) ∷ [])) h.few in
     let well : IsWell asked next = record {
@@ -87,10 +78,10 @@ told_well asked old new n a h most above e =
     } in
     subst (λ (k : Kept). IsWell asked k) (sym e) well
 
-refused_well : (asked : List Wanted) (old new : Kept) (n : ℕ) → IsWell asked old → n ≤ connection_most → old.last ≤ n
-    → new ≡ record { features = old.features; told = old.told; used = old.used; last = n } → IsWell asked new
-refused_well asked old new n h most above e =
-    let next : Kept = record { features = old.features; told = old.told; used = old.used; last = n } in
+refused_well : (asked : List Wanted) (old new : Kept) (n : ℕ) (text : List ℕ) → IsWell asked old → n ≤ connection_most → old.last ≤ n
+    → new ≡ with_refused old n text → IsWell asked new
+refused_well asked old new n text h most above e =
+    let next : Kept = with_refused old n text in
     let well : IsWell asked next = record {
       few = h.few;
       served = h.served;
@@ -138,7 +129,7 @@ completed_well : (asked : List Wanted) (old new : Kept) (n : ℕ) (label : List 
 completed_well asked old new n label all h written c =
     let f = completed_feature n c.wanted c.points in
     let ms = contacts old.told in
-    let next : Kept = record { features = old.features ++ f ∷ []; told = old.told; used = length ms; last = n } in
+    let next : Kept = with_completed old n c.wanted c.points in
     let long = serves_length n c.wanted.touches c.points (drop (length ms - length c.wanted.touches) ms) c.run.serves in
     let wanted = asked_at asked (length old.features) c.wanted all c.next in
     let well : IsWell asked next = record {
@@ -154,7 +145,7 @@ completed_well asked old new n label all h written c =
 follows_well : (asked : List Wanted) (old new : Kept) (e : Entry) → AreAsked asked → IsWell asked old → Follows asked old e new
     → IsWell asked new
 follows_well asked old new (Told n a) all h f = told_well asked old new n a h f.0.0.1 f.1 f.2
-follows_well asked old new (Refused n text) all h f = refused_well asked old new n h f.0.0.1 f.1 f.2
+follows_well asked old new (Refused n text) all h f = refused_well asked old new n text h f.0.0.1 f.1 f.2
 follows_well asked old new (Completed n label) all h f = completed_well asked old new n label all h f.0 f.1
 
 follow_well : (es : List Entry) (asked : List Wanted) (old new : Kept) → AreAsked asked → IsWell asked old → Follow asked old es new

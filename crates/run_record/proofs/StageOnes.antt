@@ -179,18 +179,9 @@ one_points n (t ∷ ts) (p ∷ ps) [] (m ∷ ms) h g = absurd g
 one_points n (t ∷ ts) (p ∷ ps) (q ∷ qs) (m ∷ ms) h g =
     next_point (sym h.0.point_is ∙ g.0.point_is) (one_points n ts ps qs ms h.1 g.1)
 
--- what COMPLETED leaves
-abbrev behind_completed : Kept → ℕ → Wanted → List Point → Kept
-behind_completed old n wanted points = record {
-  features = old.features ++ records.completed_feature n wanted points ∷ [];
-  told = old.told;
-  used = length (contacts old.told);
-  last = n;
-}
-
 same_behind : (old : Kept) (n : ℕ) {w v : Wanted} {ps qs : List Point} → w ≡ v → ps ≡ qs
-    → behind_completed old n w ps ≡ behind_completed old n v qs
-same_behind old n a b = λ k. behind_completed old n (a k) (b k)
+    → records.with_completed old n w ps ≡ records.with_completed old n v qs
+same_behind old n a b = λ k. records.with_completed old n (a k) (b k)
 
 one_completes : (asked : List Wanted) (old p q : Kept) (n : ℕ) (label : List ℕ) → Completes asked old n label p
     → Completes asked old n label q → p ≡ q

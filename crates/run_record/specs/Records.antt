@@ -1,10 +1,10 @@
 -- What the entries of a record leave, one after another (this profile), and which records exist.
-use Rattle.std.specs.Prelude.{◌≡◌, ℕ, ◌+◌, ◌-◌, ◌≤◌, List, [], ◌∷◌, ◌++◌, length, drop, map, slice_get, Option, Some}
+use Rattle.std.specs.Prelude.{◌≡◌, ℕ, ◌+◌, ◌-◌, ◌≤◌, List, [], ◌∷◌, ◌++◌, length, drop, map, slice_get, Option, Some, nat_lt, if◌then◌else◌}
 use Rattle.std.specs.List.{AllByRecursion}
 use Rattle.fixed_um.specs.declared.lengths.Point.{Point}
 use Rattle.fixed_um.specs.declared.frames.Frame.{Frame}
 use Rattle.fixed_um.specs.declared.frames.Frame.TheVariants.{Machine}
-use Rattle.contact_ledger.specs.Ledgers.{connection_most}
+use Rattle.contact_ledger.specs.Ledgers.{connection_most, contact_count}
 use Rattle.contact_ledger.specs.FeatureTexts.{CanBeWritten}
 use Rattle.contact_ledger.specs.declared.acts.Act.{Act}
 use Rattle.contact_ledger.specs.declared.features.Feature.{Feature}
@@ -15,19 +15,32 @@ use Rattle.protocol_model.specs.Client.{origin_of}
 use Rattle.protocol_model.specs.Undisturbed.{AreUpTo}
 use Rattle.run_record.specs.Heads.{IsPartGiven, AreAsked, head_lines}
 use Rattle.run_record.specs.Entries.{IsWrittenEntry, entry_line}
+use Rattle.run_record.specs.declared.run_errors.Reported.{Reported}
+use Rattle.run_record.specs.declared.run_errors.RunError.{RunError}
 use Rattle.run_record.specs.declared.entries.Entry.{Entry}
 use Rattle.run_record.specs.declared.entries.Entry.TheVariants.{Told, Refused, Completed}
 
--- what entries leave: the features completed, the acts reported, how many contacts are used up (those before the last COMPLETED), and
--- the connection of the last line, which is 0 if there is no line
+-- what entries leave: the features completed, the acts reported, how many contacts are used up (those before the last COMPLETED), the
+-- connection of the last line, which is 0 if there is no line, the errors reported since the last COMPLETED, and those that were reported
+-- during the run of a completed feature
 pub record Kept : Type 0 where
   pub features : List Feature
   pub told : List (ℕ × Act)
   pub used : ℕ
   pub last : ℕ
+  pub waiting : List Reported
+  pub errors : List RunError
 
 abbrev pub nothing_kept : Kept
-nothing_kept = record { features = []; told = []; used = 0; last = 0 }
+nothing_kept = record { features = []; told = []; used = 0; last = 0; waiting = []; errors = [] }
+
+-- of errors, those that were reported when more contacts had been reported than these: if that many precede the run of a feature, it had
+-- begun
+abbrev pub errors_during : (label : List ℕ) (before : ℕ) → List Reported → List RunError
+errors_during label before [] = []
+errors_during label before (e ∷ errors) = if nat_lt before e.contacts
+    then record { label = label; text = e.text } ∷ errors_during label before errors
+    else errors_during label before errors
 
 -- the frame of the last of touches
 abbrev pub last_frame : List Touch → Frame
@@ -45,6 +58,25 @@ pub record IsLastRun (kept : Kept) (wanted : Wanted) (n : ℕ) (points : List Po
   pub unused : kept.used + length wanted.touches ≤ length (contacts kept.told)
   pub serves : Serves n wanted.touches points (drop (length (contacts kept.told) - length wanted.touches) (contacts kept.told))
 
+-- what an act, an error and COMPLETED leave
+abbrev pub with_told : Kept → ℕ → Act → Kept
+with_told old n act = record old { told = old.told ++ (n, act) ∷ []; last = n }
+
+abbrev pub with_refused : Kept → ℕ → List ℕ → Kept
+with_refused old n text =
+    record old { last = n; waiting = old.waiting ++ record { contacts = contact_count old.told; text = text } ∷ [] }
+
+abbrev pub with_completed : Kept → ℕ → Wanted → List Point → Kept
+with_completed old n wanted points = record {
+  features = old.features ++ completed_feature n wanted points ∷ [];
+  told = old.told;
+  used = length (contacts old.told);
+  last = n;
+  waiting = [];
+  errors = old.errors
+      ++ errors_during wanted.label (contact_count old.told - length wanted.touches) old.waiting;
+}
+
 -- COMPLETED can follow: its label is that of the next wanted feature, its connection that of the line before it, and the last contacts
 -- complete the feature
 pub record Completes (asked : List Wanted) (old : Kept) (n : ℕ) (label : List ℕ) (new : Kept) : Type 0 where
@@ -54,19 +86,12 @@ pub record Completes (asked : List Wanted) (old : Kept) (n : ℕ) (label : List 
   pub label_is : label ≡ wanted.label
   pub same : n ≡ old.last
   pub run : IsLastRun old wanted n points
-  pub more : new ≡ record {
-    features = old.features ++ completed_feature n wanted points ∷ [];
-    told = old.told;
-    used = length (contacts old.told);
-    last = n;
-  }
+  pub more : new ≡ with_completed old n wanted points
 
 -- an entry follows what is kept, and leaves this; numbers of connections never decrease
 abbrev pub Follows : List Wanted → Kept → Entry → Kept → Type 0
-Follows asked old (Told n act) new = IsWrittenEntry (Told n act) × (old.last ≤ n)
-    × (new ≡ record { features = old.features; told = old.told ++ (n, act) ∷ []; used = old.used; last = n })
-Follows asked old (Refused n text) new = IsWrittenEntry (Refused n text) × (old.last ≤ n)
-    × (new ≡ record { features = old.features; told = old.told; used = old.used; last = n })
+Follows asked old (Told n act) new = IsWrittenEntry (Told n act) × (old.last ≤ n) × (new ≡ with_told old n act)
+Follows asked old (Refused n text) new = IsWrittenEntry (Refused n text) × (old.last ≤ n) × (new ≡ with_refused old n text)
 Follows asked old (Completed n label) new = IsWrittenEntry (Completed n label) × Completes asked old n label new
 
 -- entries follow one another, and leave this
@@ -78,18 +103,20 @@ Follow asked old (entry ∷ entries) new = (mid : Kept) × Follows asked old ent
 abbrev pub record_lines : Option (List ℕ) → List Wanted → List Entry → List (List ℕ)
 record_lines part asked entries = head_lines part asked ++ map entry_line entries
 
--- what a record says: the part, what was asked, the features completed, the acts reported, and the last connection
+-- what a record says: the part, what was asked, the features completed, the acts reported, the last connection, and the errors that were
+-- reported during the run of a completed feature
 pub record Recorded : Type 0 where
   pub part : Option (List ℕ)
   pub asked : List Wanted
   pub features : List Feature
   pub told : List (ℕ × Act)
   pub last : ℕ
+  pub errors : List RunError
 
 -- what a head and what its entries leave say together
 abbrev pub recorded : Option (List ℕ) → List Wanted → Kept → Recorded
 recorded part asked kept =
-    record { part = part; asked = asked; features = kept.features; told = kept.told; last = kept.last }
+    record { part = part; asked = asked; features = kept.features; told = kept.told; last = kept.last; errors = kept.errors }
 
 -- what holds of each record that is read: its claim is sound, its features can be written to a features
 -- file, and no act was reported on a connection after the last

@@ -1,18 +1,19 @@
 // What the entries of a record leave.
 
-ghost use Rattle.std.specs.Prelude.{◌≡◌, ◌++◌, ◌∷◌, [], ℕ, Err, IfOk, OnOk, MatchOption};
+ghost use Rattle.std.specs.Prelude.{◌≡◌, ◌++◌, ℕ, Err, IfOk, OnOk, MatchOption};
 ghost use Rattle.fixed_um.specs.Calls.{Finds};
 ghost use Rattle.contact_ledger.specs.Ledgers.{IsConnection};
 ghost use Rattle.dmis_program.specs.declared.features.Wanted.{Wanted};
 ghost use Rattle.run_record.specs.Entries.{IsWrittenEntry};
-ghost use Rattle.run_record.specs.Records.{Kept, nothing_kept, last_frame, IsLastRun, Completes, Follows};
+ghost use Rattle.run_record.specs.Records.{Kept, nothing_kept, last_frame, errors_during, with_told, with_refused, IsLastRun, Completes, Follows};
 ghost use Rattle.run_record.specs.Serving.{CanComplete};
 ghost use Rattle.run_record.specs.declared.faults.RecordFault.TheVariants.{Damaged};
 
 use crate::asked::Asked;
 use crate::comparing::same_name;
-use crate::entries::Entry;
+use crate::entries::{Entry, Refusal};
 use crate::faults::RecordFault;
+use crate::run_errors::{Reported, RunError};
 use crate::runs::{behind_contacts, last_frame, served_points};
 use contact_ledger::{Act, Feature, FeatureLedger, Origin, Points, ServerLedger};
 use fixed_um::{Frame, Name};
@@ -26,6 +27,8 @@ pub(crate) struct Body {
     pub(crate) features: FeatureLedger,
     pub(crate) told: ServerLedger,
     pub(crate) last: u64,
+    pub(crate) errors: Vec<RunError>,
+    waiting: Vec<Reported>,
     used: u64,
     from: usize,
 }
@@ -42,10 +45,35 @@ impl Model for Body {
       told = b.told;
       used = b.used;
       last = b.last;
+      waiting = b.waiting.items;
+      errors = b.errors.items;
     } };
 
     ghost invariant = { λ b. (b.used ≤ length (contacts b.told)) × (b.from ≤ length b.told)
         × (contacts (drop b.from b.told) ≡ drop b.used (contacts b.told)) };
+}
+
+/// Appends, of these errors, those that were reported when more contacts had been reported than these. Fails only if out of memory.
+fn push_during(
+    alloc: Global,
+    errors: &mut Vec<RunError>,
+    label: &Name,
+    before: u64,
+    waiting: &[Reported],
+) -> Result<(), AllocError>
+    ensures { OnOk result (errors.new.items
+        ≡ errors.old.items ++ errors_during label.now before waiting.now) }
+{
+    let mut left = waiting;
+    while let [first, others @ ..] = left {
+        if before < first.contacts {
+            let label = label.copy(alloc)?;
+            let text = Refusal::new(alloc, first.text.as_bytes())?;
+            errors.push(RunError { label, text })?;
+        }
+        left = others;
+    }
+    Ok(())
 }
 
 impl Body {
@@ -57,6 +85,8 @@ impl Body {
             features: FeatureLedger::new(alloc),
             told: ServerLedger::new(alloc),
             last: 0,
+            errors: Vec::new(alloc),
+            waiting: Vec::new(alloc),
             used: 0,
             from: 0,
         }
@@ -111,14 +141,20 @@ impl Body {
     /// Appends an act. Fails only if out of memory.
     fn tell(&mut self, connection: u64, act: Act) -> Result<(), AllocError>
         requires { IsConnection connection }
-        ensures { OnOk result (self.new ≡ record {
-          features = self.old.features;
-          told = self.old.told ++ (connection, act) ∷ [];
-          used = self.old.used;
-          last = connection;
-        }) }
+        ensures { OnOk result (self.new ≡ with_told self.old connection act) }
     {
         self.told.push(connection, act)?;
+        self.last = connection;
+        Ok(())
+    }
+
+    /// Appends an error. Fails only if out of memory.
+    fn refuse(&mut self, connection: u64, text: Refusal) -> Result<(), AllocError>
+        requires { IsConnection connection }
+        ensures { OnOk result (self.new ≡ with_refused self.old connection text) }
+    {
+        let contacts = self.told.contacts();
+        self.waiting.push(Reported { contacts, text })?;
         self.last = connection;
         Ok(())
     }
@@ -141,6 +177,9 @@ impl Body {
         let Some((frame, points)) = self.next_points(alloc, asked, connection, &label)? else {
             return Err(RecordFault::Damaged(number));
         };
+        let before = self.told.contacts().saturating_sub(points.len() as u64);
+        push_during(alloc, &mut self.errors, &label, before, &self.waiting)?;
+        self.waiting.clear();
         self.features.push(Feature {
             label,
             points,
@@ -172,11 +211,11 @@ impl Body {
                 self.tell(connection, act)?;
                 Ok(())
             }
-            Entry::Refused(connection, _) => {
+            Entry::Refused(connection, text) => {
                 if connection < self.last {
                     return Err(RecordFault::Damaged(number));
                 }
-                self.last = connection;
+                self.refuse(connection, text)?;
                 Ok(())
             }
             Entry::Completed(connection, label) => {

@@ -1,12 +1,14 @@
 // What follows from the definitions alone. Each function has laws for its contract and does nothing.
 
-ghost use Rattle.std.specs.Prelude.{◌≡◌, ◌<◌, ◌++◌, ◌∷◌, ℕ, List, Option, codes, length, take};
+ghost use Rattle.std.specs.Prelude.{◌≡◌, ◌<◌, ◌++◌, ◌∷◌, [], ℕ, List, Option, codes, length, take};
 ghost use Rattle.contact_ledger.specs.Lines.{text_of};
+ghost use Rattle.contact_ledger.specs.declared.acts.Act.{Act};
 ghost use Rattle.dmis_program.specs.declared.features.Wanted.{Wanted};
+ghost use Rattle.fixed_um.specs.declared.lengths.Point.{Point};
 ghost use Rattle.run_record.specs.Entries.{IsFitting, fitting, kept_error};
 ghost use Rattle.run_record.specs.Heads.{IsPartGiven, AreAsked};
 ghost use Rattle.run_record.specs.Reading.{IsRecord, IsUnbegun, IsDamagedRecord};
-ghost use Rattle.run_record.specs.Records.{Recorded, IsRecorded, recorded, Kept, nothing_kept, Follow, record_lines};
+ghost use Rattle.run_record.specs.Records.{Recorded, IsRecorded, recorded, Kept, nothing_kept, errors_during, with_told, with_completed, Follow, record_lines};
 ghost use Rattle.run_record.specs.Cuts.{ReadsCut};
 ghost use Rattle.run_record.specs.declared.entries.Entry.{Entry};
 
@@ -43,4 +45,18 @@ pub fn errors_are_kept_in_whole_bytes()
     ensures whole { (text : List ℕ) → IsFitting 400 text (kept_error text) }
     ensures fits { fitting 5 (codes "A" ++ 27 ∷ codes "B") ≡ codes "A\\x1B" }
     ensures cut { fitting 4 (codes "A" ++ 27 ∷ codes "B") ≡ codes "A" }
+{}
+
+/// An error is in the run of a feature if it was reported after the run's first contact and before `COMPLETED`. Here two contacts precede
+/// the run: an error before them, and one between them and the run, belong to an attempt that was broken off, or to what came before it.
+pub fn errors_of_a_run_are_named()
+    ensures during { errors_during (codes "B") 2 (record { contacts = 1; text = codes "a" }
+        ∷ record { contacts = 2; text = codes "b" } ∷ record { contacts = 3; text = codes "c" }
+        ∷ record { contacts = 4; text = codes "d" } ∷ [])
+        ≡ record { label = codes "B"; text = codes "c" }
+        ∷ record { label = codes "B"; text = codes "d" } ∷ [] }
+    ensures alone { (old : Kept) (n : ℕ) (wanted : Wanted) (points : List Point)
+        → (with_completed old n wanted points).waiting ≡ [] }
+    ensures kept { (old : Kept) (n : ℕ) (act : Act)
+        → (with_told old n act).errors ≡ old.errors }
 {}

@@ -5,6 +5,7 @@
 //! - `parts`, `asked`: the part and the wanted features of a head
 //! - `heads`, `head_reading`, `touch_reading`: the head, line by line
 //! - `entry_reading`, `bodies`, `runs`: the entries, line by line, and what they leave
+//! - `run_errors`: the errors that were reported during the run of a feature
 //! - `records`, `record_reading`: `Record`, and reading it
 //! - `strangers`: whether a record is that of a part and a program
 //! - `head_writing`, `telling`, `refusals`: writing
@@ -26,6 +27,7 @@ mod parts;
 mod record_reading;
 mod records;
 mod refusals;
+pub mod run_errors;
 mod runs;
 mod strangers;
 pub mod telling;
@@ -39,5 +41,6 @@ pub use parts::is_part;
 pub use record_reading::read_record;
 pub use records::Record;
 pub use refusals::write_refused;
+pub use run_errors::RunError;
 pub use strangers::{is_of_part, other_feature};
 pub use telling::Telling;

@@ -7,11 +7,12 @@ use crate::asked::Asked;
 use crate::bodies::Body;
 use crate::heads::Head;
 use crate::parts::Part;
+use crate::run_errors::RunError;
 use contact_ledger::{FeatureLedger, ServerLedger};
 use std::marker::Model;
 
-/// A record of a run (this profile): the part, what was asked, the features completed, the acts reported, and the greatest connection of
-/// a line. Contracts see it as a `Recorded`.
+/// A record of a run (this profile): the part, what was asked, the features completed, the acts reported, the greatest connection of a
+/// line, and the errors reported during the run of a feature. Contracts see it as a `Recorded`.
 #[derive(Debug, Drop)]
 pub struct Record {
     part: Option<Part>,
@@ -19,6 +20,7 @@ pub struct Record {
     features: FeatureLedger,
     told: ServerLedger,
     last: u64,
+    errors: Vec<RunError>,
 }
 
 impl Model for Record {
@@ -32,6 +34,7 @@ impl Model for Record {
       features = r.features;
       told = r.told;
       last = r.last;
+      errors = r.errors.items;
     } };
 }
 
@@ -46,6 +49,7 @@ impl Record {
             features: body.features,
             told: body.told,
             last: body.last,
+            errors: body.errors,
         }
     }
 
@@ -85,6 +89,13 @@ impl Record {
         ensures last { result ≡ self.now.last }
     {
         self.last
+    }
+
+    /// The errors that the server reported during the run of a completed feature, in order: those after the first contact of the run.
+    pub fn errors(&self) -> &[RunError]
+        ensures errors { result.now ≡ self.now.errors }
+    {
+        self.errors.as_slice()
     }
 
     /// The features and the acts.

@@ -1,7 +1,7 @@
-use Rattle.std.proofs.Common.{◌∙◌, ap, length, List, ℕ, [], ◌∷◌, ◌++◌, Some}
+use Rattle.std.proofs.Common.{◌∙◌, ◌-◌, ap, length, List, ℕ, [], ◌∷◌, ◌++◌, Some}
 use Rattle.contact_ledger.specs.Ledgers.{contact_count}
 use Rattle.contact_ledger.specs.declared.features.Feature.{Feature}
-use Rattle.run_record.specs.Records.{Kept}
+use Rattle.run_record.specs.Records.{Kept, errors_during}
 use Rattle.contact_ledger.specs.declared.acts.Act.{Act}
 use Rattle.run_record.proofs.BodySteps.{unused_none, completes}
 use Rattle.run_record.proofs.bodies.Body.complete.Goals as goal
@@ -19,7 +19,11 @@ returns-clause-completes c =
       origin = Some (record { connection = c.args.connection; frame = c.in-Some.frame });
     } in
     let same = c.self.view_is in
+    let pushed = rw (c.saturating_sub-before.ensures, c.contacts.ensures, c.len.ensures, c.deref.ensures.value)
+    at c.in_ok-push_during.ensures in
     completes c.args.asked.now c.args.self.now _ c.args.connection c.args.label found.0 c.in-Some.points c.in-Some.frame found.2 found.1
     (c.in_ok-push.ensures.appended.0 ∙ ap (λ (k : Kept). k.features ++ feature ∷ []) same)
     (ap (λ (k : Kept). k.told) same) (c.contacts-self-inside.ensures ∙ ap (λ (k : Kept). contact_count k.told) same)
     (ap (λ (k : Kept). k.last) same)
+    c.clear.ensures.items
+    (pushed ∙ ap (λ (k : Kept). k.errors ++ errors_during c.args.label (contact_count k.told - length c.in-Some.points) k.waiting) same)

@@ -31,6 +31,8 @@ returns c =
       told = c.self.inside.told;
       used = c.self.inside.used;
       last = c.self.inside.last;
+      waiting = c.self.inside.waiting.items;
+      errors = c.self.inside.errors.items;
     } in
     rw (← c.self.view_is) (last_found kept c.args.wanted.now c.args.connection c.self.inside.from
     (c.saturating_sub-unused.result - length c.touches.result.now) c.behind_contacts-acts.result.now c.served_points.result

@@ -1,0 +1,20 @@
+// Errors that a server reported during the run of a feature.
+
+use crate::entries::Refusal;
+use fixed_um::Name;
+
+/// An error that a server reported, and how many contacts it had reported before.
+#[derive(Debug, Drop)]
+pub struct Reported {
+    pub contacts: u64,
+    pub text: Refusal,
+}
+
+/// An error that a server reported during the run of a completed feature: after the first contact of the run and before `COMPLETED`.
+#[derive(Debug, Drop)]
+pub struct RunError {
+    /// The label of the feature.
+    pub label: Name,
+    /// What is kept of the error, from its tag on.
+    pub text: Refusal,
+}
