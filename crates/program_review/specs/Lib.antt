@@ -7,5 +7,6 @@ pub mod UnderSetup
 pub mod StepLacks
 pub mod Groups
 pub mod Strays
+pub mod Travels
 pub mod UnusedFrames
 pub mod Variables

@@ -17,10 +17,15 @@ abbrev pub begins_with : List ℕ → List (List ℕ) → Bool
 begins_with text [] = false
 begins_with text (first ∷ rest) = bytes_eq first text
 
+-- the parameter after the first is `OFF`
+abbrev pub is_off : List (List ℕ) → Bool
+is_off [] = false
+is_off (first ∷ rest) = begins_with (codes "OFF") rest
+
 -- what an `SNSET` changes
 abbrev pub sensor_setting : List (List ℕ) → Passed
 sensor_setting params =
-    if begins_with (codes "CLRSRF") params then passed.Clearing else
+    if begins_with (codes "CLRSRF") params then (if is_off params then passed.ClearingOff else passed.Clearing) else
     if begins_with (codes "DEPTH") params then passed.Depth else
     if begins_with (codes "APPRCH") params || (begins_with (codes "RETRCT") params || begins_with (codes "SEARCH") params) then passed.Probing else
     passed.Sensor

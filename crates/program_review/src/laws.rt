@@ -10,6 +10,8 @@ ghost use Rattle.protocol_model.specs.Plan.{plan};
 ghost use Rattle.protocol_model.specs.declared.plans.Start.{Start};
 ghost use Rattle.program_review.specs.TaskLines.{task_lines_of, command_lines_of};
 ghost use Rattle.program_review.specs.PlanLines.{HaveLines, statement_commands, recalling};
+ghost use Rattle.program_review.specs.Travels.{travels_of, replaced, meas_on, ptmeas_on, endmes_on, goto_on, feature_on, travel_on};
+ghost use Rattle.program_review.specs.Notices.{notices_of};
 
 /// The lines of `command_lines` are those of the commands of a client's plan that carry out statements, one for one, after any number of
 /// completed features: each is the line of a statement that its command carries out. A command that selects the machine's own frame has none.
@@ -35,4 +37,25 @@ pub fn recalls_of_frames_become_commands()
         ≡ None ∷ (Some 2 ∷ (Some 3 ∷ [])) }
     ensures again { command_lines_of 1 (task_lines_of (recalling (codes "SA(A)")))
         ≡ Some 2 ∷ (None ∷ []) }
+{}
+
+/// A travel between two features is straight exactly if no `GOTO` comes between their touches: not after the last one of the first feature, nor
+/// directly before the `MEAS` of the next, nor in its block before its first touch.
+pub fn travels_without_a_move_are_straight()
+    ensures two { travels_of [] (feature_on 1 (codes "1") (feature_on 4 (codes "2") []))
+        ≡ travel_on 2 1000 5 2000 ∷ [] }
+    ensures three { travels_of [] (feature_on 1 (codes "1")
+        (feature_on 4 (codes "2") (feature_on 7 (codes "3") [])))
+        ≡ travel_on 2 1000 5 2000 ∷ (travel_on 5 2000 8 3000 ∷ []) }
+    ensures after_a_touch { travels_of [] (meas_on 1 ∷ (ptmeas_on 2 (codes "1") ∷ (goto_on 3 ∷ (endmes_on 4
+        ∷ feature_on 5 (codes "2") (feature_on 8 (codes "3") [])))))
+        ≡ travel_on 6 2000 9 3000 ∷ [] }
+    ensures before_a_block { travels_of [] (feature_on 1 (codes "1") (goto_on 4
+        ∷ feature_on 5 (codes "2") (feature_on 8 (codes "3") [])))
+        ≡ travel_on 6 2000 9 3000 ∷ [] }
+    ensures in_a_block { travels_of [] (feature_on 1 (codes "1") (meas_on 4 ∷ (goto_on 5
+        ∷ (ptmeas_on 6 (codes "2") ∷ (endmes_on 7 ∷ feature_on 8 (codes "3") [])))))
+        ≡ travel_on 6 2000 9 3000 ∷ [] }
+    ensures in_one_feature { travels_of [] (meas_on 1 ∷ (ptmeas_on 2 (codes "1")
+        ∷ (ptmeas_on 3 (codes "2") ∷ (endmes_on 4 ∷ [])))) ≡ [] }
 {}

@@ -6,6 +6,7 @@
 //! - `under_setup`: what a setup lacks for a program; `lacking`: for one that is accepted
 //! - `recalling`: the frames of a setup that a program does not recall
 //! - `groups`: what refused statements are for; `strays`: the touches that would be measured elsewhere without them
+//! - `travels`: the straight travels from feature to feature, and those that a statement on clearing would have replaced
 //! - `variables`: the names that statements declare or assign, and the moves that are refused for one
 //! - `tasks`: the statements that a client carries out by commands, and their lines; `blocks`: the lines of a program's blocks
 //! - `laws`: what follows from the definitions
@@ -23,6 +24,7 @@ mod refusals;
 mod standing;
 mod strays;
 mod tasks;
+mod travels;
 mod under_setup;
 mod variables;
 
@@ -35,4 +37,5 @@ pub use recalling::{stored_frame, unused_frames};
 pub use refusals::{Found, review};
 pub use strays::{Stray, stray_touches};
 pub use tasks::{Task, TaskLine, command_lines, task_lines};
+pub use travels::{Stop, Travel, replaced, straight_travels};
 pub use under_setup::{Lack, SetupNotice, lacking_setup};

@@ -5,7 +5,7 @@ ghost use Rattle.std.specs.Str.{bytes_eq};
 ghost use Rattle.dmis_text.specs.Reading.{text_reading};
 ghost use Rattle.dmis_program.specs.Sayings.{is_badly_formed};
 ghost use Rattle.dmis_program.specs.declared.keywords.Keyword.TheVariants as word;
-ghost use Rattle.program_review.specs.Notices.{begins_with, sensor_setting, passed_word, passed_over, with_passed, notices_of};
+ghost use Rattle.program_review.specs.Notices.{begins_with, is_off, sensor_setting, passed_word, passed_over, with_passed, notices_of};
 
 use dmis_program::{Keyword, keyword_of_word};
 use dmis_text::{Statement, Statements, Text, TextFault};
@@ -22,6 +22,8 @@ pub enum Passed {
     Probing,
     /// `SNSET/CLRSRF`: how the probe clears the part between features.
     Clearing,
+    /// `SNSET/CLRSRF,OFF`: that it does so no longer.
+    ClearingOff,
     /// `SNSET/DEPTH`: how deep a feature is measured.
     Depth,
     /// Any other `SNSET`.
@@ -51,6 +53,9 @@ impl Passed {
             }
             Passed::Clearing => {
                 "would say how the probe clears the part between features: nothing clears it, and the probe travels straight."
+            }
+            Passed::ClearingOff => {
+                "would say that the probe does not clear the part between features: nothing clears it anyway."
             }
             Passed::Depth => {
                 "would set how deep features are measured: nothing does it, and each target is taken as it is written."
@@ -92,12 +97,26 @@ fn begins_with(other: &str, params: &[Text]) -> bool
     }
 }
 
+/// Whether the parameter after the first is `OFF`.
+fn is_off(params: &[Text]) -> bool
+    ensures { result ≡ is_off params.now }
+{
+    match params.split_first() {
+        Some((_, rest)) => begins_with("OFF", rest),
+        None => false,
+    }
+}
+
 /// What an `SNSET` with these parameters changes.
 fn sensor_setting(params: &[Text]) -> Passed
     ensures { result ≡ sensor_setting params.now }
 {
     if begins_with("CLRSRF", params) {
-        return Passed::Clearing;
+        return if is_off(params) {
+            Passed::ClearingOff
+        } else {
+            Passed::Clearing
+        };
     }
     if begins_with("DEPTH", params) {
         return Passed::Depth;

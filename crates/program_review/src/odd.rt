@@ -14,8 +14,6 @@ use std::alloc::{AllocError, Global};
 pub enum Odd {
     /// The length of a touch's direction is not 1 within a tenth of a per cent.
     Direction,
-    /// The first touch of a block comes before any move in it.
-    TouchBeforeMove,
     /// The first move of the program comes before any tool is selected.
     MoveBeforeTool,
     /// A block ends with more touches than its `MEAS` names.
@@ -134,7 +132,6 @@ fn is_of_length_one(direction: Dir) -> bool {
 struct Course {
     has_tool: bool,
     has_moved: bool,
-    has_moved_in_block: bool,
     wanted: u64,
     touches: u64,
 }
@@ -145,7 +142,6 @@ impl Course {
         Course {
             has_tool: false,
             has_moved: false,
-            has_moved_in_block: false,
             wanted: 0,
             touches: 0,
         }
@@ -155,12 +151,8 @@ impl Course {
     fn after(self, meaning: &StatementMeaning) -> Course {
         let mut next = self;
         match meaning {
-            StatementMeaning::Goes(_) => {
-                next.has_moved = true;
-                next.has_moved_in_block = true;
-            }
+            StatementMeaning::Goes(_) => next.has_moved = true,
             StatementMeaning::Begins(_, count) => {
-                next.has_moved_in_block = false;
                 next.wanted = *count;
                 next.touches = 0;
             }
@@ -176,10 +168,7 @@ impl Course {
     fn after_refused(self, keyword: Keyword) -> Course {
         let mut next = self;
         match keyword {
-            Keyword::Goto => {
-                next.has_moved = true;
-                next.has_moved_in_block = true;
-            }
+            Keyword::Goto => next.has_moved = true,
             Keyword::Meas | Keyword::Endmes => next.wanted = 0,
             Keyword::Ptmeas => next.touches = self.touches.saturating_add(1),
             Keyword::Snslct => next.has_tool = true,
@@ -188,21 +177,12 @@ impl Course {
         next
     }
 
-    /// Why a touch is odd here.
-    fn odd_touch(self, direction: Option<Dir>) -> Option<Odd> {
-        if self.wanted > 0 && self.touches == 0 && !self.has_moved_in_block {
-            return Some(Odd::TouchBeforeMove);
-        }
-        match direction {
-            Some(direction) if !is_of_length_one(direction) => Some(Odd::Direction),
-            _ => None,
-        }
-    }
-
     /// Why a statement that says this is odd here.
     fn odd(self, meaning: &StatementMeaning) -> Option<Odd> {
         match meaning {
-            StatementMeaning::Touches(_, direction) => self.odd_touch(*direction),
+            StatementMeaning::Touches(_, Some(direction)) if !is_of_length_one(*direction) => {
+                Some(Odd::Direction)
+            }
             StatementMeaning::Goes(_) if !self.has_moved && !self.has_tool => {
                 Some(Odd::MoveBeforeTool)
             }
