@@ -28,7 +28,7 @@ use Rattle.witness.specs.declared.lines.SentCommand.{SentCommand}
 use Rattle.witness.specs.declared.lines.SentCommand.TheVariants as sends
 use Rattle.witness.specs.declared.lines.Stage.TheVariants as stage
 use Rattle.told_machines.specs.Machines.{Effect, TakesTool, SelectsFrame, StoresZero, Touches, Cause, InTurn, AtOnce, ForNoLine, Entry, Said, Does}
-use Rattle.told_machines.specs.Machines.{lines, sent_at, frame_selected, zero_stored, last, so, zero_now, frame_now, before_last, is_for_line}
+use Rattle.told_machines.specs.Machines.{lines, IsPast, whole, past, sent_at, frame_selected, zero_stored, last, so, zero_now, frame_now, before_last, is_for_line}
 use Rattle.told_machines.specs.Machines.{is_contact, is_selection, there, part_of, part_when, part_selected}
 use Rattle.told_machines.specs.Premises.{Keeps, KeepsUnlessCrossed, ActsWithin, selects_frame, takes_a_tool, line_may, is_complete, has_ended}
 use Rattle.told_machines.specs.Contacts.{contact_frame, HadFrame}
@@ -36,7 +36,7 @@ use Rattle.told_machines.proofs.Places.{same_place, IsLine, sent_within, line_th
 use Rattle.told_machines.proofs.Changes.{AsksCsy, frame_of_csy, may_select, csy_is, AsksZero, may_store, zero_is, IsLast, part_last}
 use Rattle.told_machines.proofs.Orders.{NoneShown, cause_of}
 use Rattle.told_machines.proofs.Marking.{done_none, done_ended}
-use Rattle.told_machines.proofs.Holding.{ended_out, IsPast, whole, past, kept_past, Fits}
+use Rattle.told_machines.proofs.Holding.{ended_out, kept_past, Fits}
 use Rattle.told_machines.proofs.There.{IsOf, There, never, had, lost_there, had_there, IsPrompt}
 use Rattle.told_machines.proofs.Prompt.{touch_prompt}
 use Rattle.told_machines.proofs.Reports.{one_of, IsPlain, reports_are}

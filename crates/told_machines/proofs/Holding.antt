@@ -12,7 +12,7 @@ use Rattle.witness.specs.declared.lines.Heard.{Heard}
 use Rattle.witness.specs.declared.lines.Progress.TheVariants.{Done}
 use Rattle.witness.specs.declared.lines.SentCommand.{SentCommand}
 use Rattle.told_machines.specs.Machines.{Effect, TakesTool, SelectsFrame, StoresZero, Touches, InTurn, AtOnce, ForNoLine, Entry, Said, Does}
-use Rattle.told_machines.specs.Machines.{lines, sent_at, last, or_before, is_for_line, frame_now}
+use Rattle.told_machines.specs.Machines.{lines, IsPast, whole, past, sent_at, last, or_before, is_for_line, frame_now}
 use Rattle.told_machines.specs.Premises.{ActsWithin, Keeps}
 use Rattle.told_machines.specs.Premises.{may_in_turn, may_at_once, line_may, has_ended, keep_order}
 use Rattle.told_machines.specs.Premises.{is_unreported, out_of_turn}
@@ -31,11 +31,6 @@ rest_kept entry h k = record {
 }
 
 -- ---- what came so far
-
--- what was so at some time of a whole history
-pub data IsPast (all : List Entry) : List Entry → Type 0 where
-  whole : IsPast all all
-  past : (entry : Entry) (h : List Entry) → IsPast all (entry ∷ h) → IsPast all h
 
 pub kept_past : (all h : List Entry) → IsPast all h → Keeps all → Keeps h
 kept_past all _ whole k = k

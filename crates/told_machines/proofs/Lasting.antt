@@ -20,10 +20,10 @@ use Rattle.witness.specs.declared.lines.SentCommand.{SentCommand}
 use Rattle.witness.specs.declared.lines.SentCommand.TheVariants as sends
 use Rattle.witness.specs.declared.lines.Stage.TheVariants as stage
 use Rattle.told_machines.specs.Machines.{Effect, TakesTool, SelectsFrame, StoresZero, Touches, Cause, InTurn, AtOnce, ForNoLine, Entry, Said, Does}
-use Rattle.told_machines.specs.Machines.{lines, sent_at, frame_now, before_last, is_contact}
+use Rattle.told_machines.specs.Machines.{lines, IsPast, past, sent_at, frame_now, before_last, is_contact}
 use Rattle.told_machines.specs.Premises.{Keeps, ActsWithin, IfTrue, MadeSent, line_may, may_in_turn, may_at_once, has_ended, is_told, is_lost_before, has_contact, has_point, point_given, MadeAt}
 use Rattle.told_machines.proofs.Places.{same_place, IsLine, IsMarked, mark_is}
-use Rattle.told_machines.proofs.Holding.{IsPast, past, agrees}
+use Rattle.told_machines.proofs.Holding.{agrees}
 use Rattle.told_machines.proofs.There.{IsOf}
 use Rattle.told_machines.proofs.Prompt.{IsSound}
 

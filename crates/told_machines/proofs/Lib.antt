@@ -11,3 +11,4 @@ pub mod Lasting
 pub mod Tools
 pub mod Frames
 pub mod Later
+pub mod Relayed

@@ -7,11 +7,11 @@ use Rattle.witness.specs.Histories.{count_sent, mark_in, marks}
 use Rattle.witness.specs.Rules.{is_fault, is_at_once, at_once_below, fault_since, progress_of}
 use Rattle.witness.specs.declared.lines.Progress.TheVariants.{Begun, Done}
 use Rattle.told_machines.specs.Machines.{Effect, TakesTool, SelectsFrame, StoresZero, Touches, Cause, InTurn, AtOnce, ForNoLine, Entry, Said, Does}
-use Rattle.told_machines.specs.Machines.{lines, last, or_before, before_last}
+use Rattle.told_machines.specs.Machines.{lines, IsPast, past, last, or_before, before_last}
 use Rattle.told_machines.specs.Premises.{Keeps, ActsInOrder, keep_order, is_unreported, is_lost_before}
 use Rattle.told_machines.proofs.Orders.{unshown, keeps_more, unshown_for, crossing, NoneShown, did_there, cause_of}
 use Rattle.told_machines.proofs.Marking.{IsDoneBy, ends, stays, done_step}
-use Rattle.told_machines.proofs.Holding.{rest_kept, IsPast, past, Fits, Now, holds, crossed, lost, holding, not_none}
+use Rattle.told_machines.proofs.Holding.{rest_kept, Fits, Now, holds, crossed, lost, holding, not_none}
 
 -- no mark of the lower line came out of turn before the upper one ended
 abbrev pub IsPrompt : ℕ → ℕ → List Entry → Type 0

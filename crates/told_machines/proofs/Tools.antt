@@ -20,12 +20,12 @@ use Rattle.witness.specs.declared.lines.SentCommand.{SentCommand}
 use Rattle.witness.specs.declared.lines.SentCommand.TheVariants as sends
 use Rattle.witness.specs.declared.lines.Stage.TheVariants as stage
 use Rattle.told_machines.specs.Machines.{Effect, TakesTool, SelectsFrame, StoresZero, Touches, Entry, Said}
-use Rattle.told_machines.specs.Machines.{lines, sent_at, tool_taken, so, tool_now, frame_now, is_contact, there}
+use Rattle.told_machines.specs.Machines.{lines, whole, sent_at, tool_taken, so, tool_now, frame_now, is_contact, there}
 use Rattle.told_machines.specs.Premises.{Keeps, KeepsUnlessCrossed, line_may}
 use Rattle.told_machines.specs.Contacts.{contact_tool, HadTool}
 use Rattle.told_machines.proofs.Places.{IsLine, sent_within, line_through, line_stays}
 use Rattle.told_machines.proofs.Changes.{AsksTool, may_take, IsLast, tool_is}
-use Rattle.told_machines.proofs.Holding.{whole, Fits}
+use Rattle.told_machines.proofs.Holding.{Fits}
 use Rattle.told_machines.proofs.There.{There, never, had, lost_there, had_there}
 use Rattle.told_machines.proofs.Prompt.{touch_prompt}
 use Rattle.told_machines.proofs.Reports.{one_of, IsPlain, reports_are}

@@ -33,6 +33,11 @@ lines [] = []
 lines (Said line ∷ h) = line ∷ lines h
 lines (Does cause effect ∷ h) = lines h
 
+-- what was so at some time of a history
+pub data IsPast (all : List Entry) : List Entry → Type 0 where
+  whole : IsPast all all
+  past : (entry : Entry) (h : List Entry) → IsPast all (entry ∷ h) → IsPast all h
+
 -- the line of the client at a place; None if it was not sent yet
 abbrev pub sent_at : ℕ → List Line → Option (Option (Tag × SentCommand))
 sent_at n [] = None
