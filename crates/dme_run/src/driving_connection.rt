@@ -452,6 +452,28 @@ fn drive_made<
     done
 }
 
+/// A client that is made reports what it has kept, and runs its program on a server, without a record.
+fn drive_kept<
+    R: Files<File = File>
+        + Input
+        + Print
+        + Eprint
+        + Clock
+        + Net<Listener = TcpListener, Stream = TcpStream>
+        + AllocGlobal,
+>(rt: &R, client: &mut Client, call: &mut Call<'_>, patience: &Patience<'_, R>) -> Result<u8, Fault>
+    requires { may_connect 1 client.old.client ≡ true }
+{
+    if let Some(name) = &call.features {
+        let (kept, asked) = (client.features(), client.program().features());
+        tell_kept(rt, name.as_str(), kept, asked)?;
+    }
+    let told = ServerLedger::new(rt.alloc());
+    let done = drive_made(rt, client, (1, &told), None, (call, patience));
+    drop(told);
+    done
+}
+
 /// A program on a server, without a record.
 fn drive_program<
     R: Files<File = File>
@@ -470,13 +492,8 @@ fn drive_program<
     requires { is_window call.old.window ≡ true }
 {
     let (kept, program) = read;
-    if let Some(name) = &call.features {
-        tell_kept(rt, name.as_str(), kept.list(), program.features())?;
-    }
     let mut client = kept_client(rt.alloc(), program, kept, call.window)?;
-    let told = ServerLedger::new(rt.alloc());
-    let done = drive_made(rt, &mut client, (1, &told), None, (call, patience));
-    drop(told);
+    let done = drive_kept(rt, &mut client, call, patience);
     drop(client);
     done
 }
