@@ -249,8 +249,8 @@ SENTENCES = {  # what is found: its lines, with a label of its own, and for each
         [(3, "odd: PTMEAS/CART,1,2,3,0,0,1.002 has a direction whose length is not 1.")],
     ),
     "no move": lambda it: (
-        block(it, "POINT", TOUCH, moves=False),
-        [(2, f"odd: {TOUCH} is a touch before any move in its block.")],
+        block(f"I{it}", "POINT", TOUCH) + block(it, "POINT", TOUCH, moves=False),
+        [(7, "odd: The probe travels straight from line {3} (1.000 2.000 3.000) to line {7} (1.000 2.000 3.000), 0.000 mm, with no GOTO between.")],
     ),
     "more touches": lambda it: (
         block(it, "POINT", TOUCH, TOUCH, count=1),
