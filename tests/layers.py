@@ -16,7 +16,7 @@ PAGE = ROOT / "docs" / "ARCHITECTURE.md"
 # The lowest first. A crate uses crates of its own layer and of earlier layers, and no crate uses one of USED_BY_NONE.
 LAYERS = {
     "values and texts": "fixed_um dmis_text dmis_program dme_line line_framing byte_ports contact_ledger tool_rack",
-    "the model": "protocol_model protocol_examples session_telling witness told_orders line_judge",
+    "the model": "protocol_model protocol_examples session_telling witness told_orders watched_ends line_judge",
     "the two ends": "command_queue dme_tags resume_plan server_core client_core told_acts",
     "both ends together, and results": "link_world ledger_audit told_files told_by_server told_to_client run_record record_keeping record_laws recorded_runs deviations drawings refusal_guide program_review review_report",
     "orders": "dme_words dme_orders",

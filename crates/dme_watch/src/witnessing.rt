@@ -8,7 +8,7 @@ use line_framing::{Lines, LinesFault};
 use std::alloc::AllocError;
 use std::io;
 use std::rt::Files;
-use witness::ledger_text;
+use watched_ends::ledger_text;
 
 /// The name and the bytes of a file.
 fn recording<R: Files + Input + AllocGlobal>(

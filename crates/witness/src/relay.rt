@@ -3,8 +3,8 @@
 ghost use Rattle.std.specs.Prelude.{◌≡◌, ◌≤◌, ◌↔◌, [], length, drop, IsTrue, OnOk, OnErr};
 ghost use Rattle.witness.specs.Relaying as spec;
 
-use crate::ledger::add_all;
 use crate::witness::Witness;
+use crate::writing::add_all;
 use line_framing::ByteQueue;
 use std::alloc::{AllocError, Global};
 use std::marker::Model;
