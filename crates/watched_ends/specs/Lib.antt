@@ -1,2 +1,4 @@
 pub mod Turns
 pub mod Ledgers
+pub mod Limits
+pub mod Pieces
