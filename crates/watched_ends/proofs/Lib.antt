@@ -1,3 +1,3 @@
 pub mod PlaceLemmas
 pub mod TurnLemmas
-pub mod Pieces
+pub mod PieceLemmas

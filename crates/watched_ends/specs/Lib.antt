@@ -2,3 +2,4 @@ pub mod Turns
 pub mod Ledgers
 pub mod Limits
 pub mod Pieces
+pub mod Recorded

@@ -27,7 +27,7 @@ fn piece_of(bytes: &[u8], from: usize, count: u64) -> Option<&[u8]>
 }
 
 /// Bytes come from the client, and are read: how many have come; nothing if there are not so many. Fails only if out of memory.
-#[tactic(auto, using(crate::proofs::Pieces::came_up))]
+#[tactic(auto, using(crate::proofs::PieceLemmas::came_up))]
 fn come_up(
     relay: &mut LimitedRelay,
     up: &[u8],
@@ -50,7 +50,7 @@ fn come_up(
 }
 
 /// Likewise from the server.
-#[tactic(auto, using(crate::proofs::Pieces::came_down))]
+#[tactic(auto, using(crate::proofs::PieceLemmas::came_down))]
 fn come_down(
     relay: &mut LimitedRelay,
     down: &[u8],
