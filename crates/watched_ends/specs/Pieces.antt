@@ -14,21 +14,31 @@ header = codes "DME-ORDER 1"
 abbrev pub piece_line : Side × ℕ → List ℕ
 piece_line p = side_field p.0 ++ 32 ∷ decimal p.1
 
+-- pieces in the order in which they came, and one more of the client, or of the server
+abbrev pub Pieces : Type 0
+Pieces = List (Side × ℕ)
+
+abbrev pub with_up : Pieces → ℕ → Pieces
+with_up pieces count = pieces ++ (Client, count) ∷ []
+
+abbrev pub with_down : Pieces → ℕ → Pieces
+with_down pieces count = pieces ++ (Server, count) ∷ []
+
 -- the text says that pieces came in this order
-abbrev pub IsOrder : List ℕ → List (Side × ℕ) → Type 0
+abbrev pub IsOrder : List ℕ → Pieces → Type 0
 IsOrder text pieces = whole_lines text ≡ header ∷ map piece_line pieces
 
 -- a relay, which reads what waits after each piece that has come: its pieces, and the bytes of the client and of the server
-pub data Relayed (connection : ℕ) : List (Side × ℕ) → List ℕ → List ℕ → Limited → Type 0 where
+pub data Relayed (connection : ℕ) : Pieces → List ℕ → List ℕ → Limited → Type 0 where
   begun : Relayed connection [] [] [] (fresh connection)
-  client : (pieces : List (Side × ℕ)) (up down bytes : List ℕ) (r new : Limited) → Relayed connection pieces up down r
-      → IsRead (client_came r bytes) new → Relayed connection (pieces ++ (Client, length bytes) ∷ []) (up ++ bytes) down new
-  server : (pieces : List (Side × ℕ)) (up down bytes : List ℕ) (r new : Limited) → Relayed connection pieces up down r
-      → IsRead (server_came r bytes) new → Relayed connection (pieces ++ (Server, length bytes) ∷ []) up (down ++ bytes) new
+  client : (pieces : Pieces) (up down bytes : List ℕ) (r new : Limited) → Relayed connection pieces up down r
+      → IsRead (client_came r bytes) new → Relayed connection (with_up pieces (length bytes)) (up ++ bytes) down new
+  server : (pieces : Pieces) (up down bytes : List ℕ) (r new : Limited) → Relayed connection pieces up down r
+      → IsRead (server_came r bytes) new → Relayed connection (with_down pieces (length bytes)) up (down ++ bytes) new
 
 -- the text of what such a relay reports, to which the bytes of two recordings came in an order; and whether all their bytes did
 pub record IsReportedIn (connection : ℕ) (up down order text : List ℕ) (is_whole : Bool) : Type 0 where
-  pub pieces : List (Side × ℕ)
+  pub pieces : Pieces
   pub order_is : IsOrder order pieces
   pub up_count : ℕ
   pub down_count : ℕ

@@ -1,7 +1,6 @@
 // The text of what two recordings report, if the order between the two ends is known.
 
-ghost use Rattle.std.specs.Prelude.{◌≡◌, ◌≤◌, ◌++◌, ◌∷◌, [], ℕ, List, length, take, drop, ◌+◌, IfOk, IfSome};
-ghost use Rattle.witness.specs.declared.lines.Side.TheVariants.{Client, Server};
+ghost use Rattle.std.specs.Prelude.{◌≡◌, ◌≤◌, ◌+◌, ℕ, List, length, take, drop, IfOk, IfSome};
 ghost use Rattle.watched_ends.specs.Pieces as spec;
 
 use crate::limits::LimitedRelay;
@@ -36,10 +35,10 @@ fn come_up(
 ) -> Result<Option<usize>, AllocError>
     requires { from ≤ length up.now }
     ensures within { IfOk result (λ found. IfSome found (λ n. n ≤ length up.now)) }
-    ensures relayed { (connection : ℕ) (pieces : List (Side × ℕ)) (down : List ℕ)
+    ensures relayed { (connection : ℕ) (pieces : spec.Pieces) (down : List ℕ)
         → spec.Relayed connection pieces (take from up.now) down relay.old
         → IfOk result (λ found. IfSome found
-        (λ n. spec.Relayed connection (pieces ++ (Client, count) ∷ []) (take n up.now) down relay.new)) }
+        (λ n. spec.Relayed connection (spec.with_up pieces count) (take n up.now) down relay.new)) }
 {
     let Some(piece) = piece_of(up, from, count) else {
         return Ok(None);
@@ -59,10 +58,10 @@ fn come_down(
 ) -> Result<Option<usize>, AllocError>
     requires { from ≤ length down.now }
     ensures within { IfOk result (λ found. IfSome found (λ n. n ≤ length down.now)) }
-    ensures relayed { (connection : ℕ) (pieces : List (Side × ℕ)) (up : List ℕ)
+    ensures relayed { (connection : ℕ) (pieces : spec.Pieces) (up : List ℕ)
         → spec.Relayed connection pieces up (take from down.now) relay.old
         → IfOk result (λ found. IfSome found
-        (λ n. spec.Relayed connection (pieces ++ (Server, count) ∷ []) up (take n down.now) relay.new)) }
+        (λ n. spec.Relayed connection (spec.with_down pieces count) up (take n down.now) relay.new)) }
 {
     let Some(piece) = piece_of(down, from, count) else {
         return Ok(None);
