@@ -1,5 +1,5 @@
 -- A relay that keeps no more than it may (this profile).
-use Rattle.std.specs.Prelude.{◌≡◌, ℕ, ◌<◌, ◌≤◌, List, [], ◌∷◌, ◌++◌, length, take, drop, Option, Some, None}
+use Rattle.std.specs.Prelude.{◌≡◌, ℕ, ◌<◌, ◌-◌, Bool, true, false, nat_lt, if◌then◌else◌, List, [], ◌∷◌, ◌++◌, length, drop, Option, Some, None}
 use Rattle.dme_line.specs.declared.tags.Tag.{Tag}
 use Rattle.dme_line.specs.declared.tags.Tag.TheVariants.{Event}
 use Rattle.witness.specs.Relaying as relays
@@ -8,6 +8,8 @@ use Rattle.witness.specs.Texts.{told_lines}
 use Rattle.witness.specs.Watching.{Watching}
 use Rattle.witness.specs.declared.lines.Reported.TheVariants as reports
 use Rattle.witness.specs.declared.lines.Rule.TheVariants.{TooMany}
+use Rattle.witness.specs.declared.lines.SentCommand.{SentCommand}
+use Rattle.witness.specs.declared.lines.SentCommand.TheVariants.{Known, Asking, Foreign}
 use Rattle.witness.specs.declared.lines.Use.{Use}
 
 -- a relay, with its witness; or, once too many lines of the client were open, only the bytes of each end that were not sent on, and the text
@@ -41,18 +43,34 @@ last_tag tag (u ∷ uses) = last_tag u.tag uses
 abbrev pub too_many : ℕ → Tag → List ℕ
 too_many connection tag = told_lines connection (reports.Broken TooMany tag ∷ [])
 
+-- the bytes that are kept of a line: those of one that this profile does not know
+abbrev pub kept : SentCommand → ℕ
+kept (Known c) = 0
+kept Asking = 0
+kept (Foreign line) = length line
+
+-- more bytes than that are kept of these lines
+abbrev pub keeps_more : ℕ → List Use → Bool
+keeps_more most [] = false
+keeps_more most (u ∷ uses) = if nat_lt most (kept u.command) then true else keeps_more (most - kept u.command) uses
+
+-- more than 10,000 lines are open, or more than 16 MiB are kept of them
+pub data AreTooMany (uses : List Use) : Type 0 where
+  lines : 10000 < length uses → AreTooMany uses
+  bytes : keeps_more 16777216 uses ≡ true → AreTooMany uses
+
 -- what was read is due, and that there are too many; nothing more is reported
 abbrev pub ended : Limited → Limited
 ended (Within r) = Past r.up r.down ((r.due ++ told_lines r.connection r.watching.dialogue.reported)
     ++ too_many r.connection (last_tag (Event 0) r.watching.dialogue.uses))
 ended (Past up down due) = Past up down due
 
--- what waits is read, and what it reports is due: all of it, unless more than 10,000 lines of the client are open; then what was read until then,
--- and that there are too many
+-- what waits is read, and what it reports is due: all of it, unless too many lines of the client are open; then what was read until then, and that
+-- there are too many
 pub data IsRead : Limited → Limited → Type 0 where
   all : (r : Relaying) (w : Watching) → Reads r.watching w → IsClientRead w → IsServerRead w
       → IsRead (Within r) (Within (made_due (record r { watching = w })))
-  some : (r : Relaying) (w : Watching) → Reads r.watching w → 10000 < length w.dialogue.uses
+  some : (r : Relaying) (w : Watching) → Reads r.watching w → AreTooMany w.dialogue.uses
       → IsRead (Within r) (ended (Within (record r { watching = w })))
   none : (up down due : List ℕ) → IsRead (Past up down due) (Past up down due)
 

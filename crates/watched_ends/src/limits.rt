@@ -1,16 +1,20 @@
 // A relay that keeps no more than it may.
 
-ghost use Rattle.std.specs.Prelude.{◌≡◌, ◌++◌, ◌≤◌, ◌↔◌, length, OnOk, OnErr, IfOk, IsTrue};
+ghost use Rattle.std.specs.Prelude.{◌≡◌, ◌++◌, ◌≤◌, ◌↔◌, length, true, false, OnOk, OnErr, IfOk, IsTrue};
+ghost use Rattle.witness.specs.Relaying.{Reads, IsClientRead, IsServerRead};
 ghost use Rattle.watched_ends.specs.Limits as spec;
 
 use dme_line::Tag;
 use line_framing::ByteQueue;
 use std::alloc::{AllocError, Global};
 use std::marker::Model;
-use witness::{Relay, Reported, Rule, Use, add_told};
+use witness::{Relay, Reported, Rule, SentCommand, Use, add_told};
 
 /// The most lines of a client that may be open on a connection (this profile).
 pub const MOST_OPEN: usize = 10_000;
+
+/// The most bytes that may be kept of those that are unknown (this profile).
+pub const MOST_KEPT: usize = 16_777_216;
 
 /// A relay between the two ends of a connection, which sends on what comes, has what is reported written first, and keeps no more than it may: if
 /// too many lines of the client are open, that is reported, and nothing more of the connection is; what comes is sent on as before. Contracts see
@@ -43,6 +47,31 @@ fn last_tag(uses: &[Use]) -> Tag
     tag
 }
 
+/// How many bytes are kept of a line.
+fn kept(command: &SentCommand) -> usize
+    ensures { result ≡ spec.kept command.now }
+{
+    match command {
+        SentCommand::Known(_) | SentCommand::Asking => 0,
+        SentCommand::Foreign(line) => line.as_slice().len(),
+    }
+}
+
+/// Whether more bytes than they may are kept of these lines.
+fn keep_more(uses: &[Use]) -> bool
+    ensures { result ≡ spec.keeps_more 16777216 uses.now }
+{
+    let mut left = MOST_KEPT;
+    for used in uses {
+        let count = kept(&used.command);
+        if left < count {
+            return true;
+        }
+        left -= count;
+    }
+    false
+}
+
 /// The text that is due, and that too many lines are open. Fails only if out of memory.
 fn ended_text(alloc: Global, relay: &Relay, tag: Tag) -> Result<Vec<u8>, AllocError>
     ensures { IfOk result (λ text. text.items ≡ relay.now.due
@@ -52,6 +81,22 @@ fn ended_text(alloc: Global, relay: &Relay, tag: Tag) -> Result<Vec<u8>, AllocEr
     let report = Reported::Broken(Rule::TooMany, tag);
     add_told(&mut text, relay.connection(), &report)?;
     Ok(text)
+}
+
+/// Reads the lines that wait, those of the client first, as long as not too many are open: whether too many are. Fails only if out of memory, and then
+/// has read some of them.
+fn read_most(relay: &mut Relay) -> Result<bool, AllocError>
+    ensures reads { Reads relay.old.watching relay.new.watching }
+    ensures others { relay.new ≡ record relay.old { watching = relay.new.watching } }
+    ensures client { IfOk result (λ over. over ≡ false → IsClientRead relay.new.watching) }
+    ensures server { IfOk result (λ over. over ≡ false → IsServerRead relay.new.watching) }
+    ensures over { IfOk result (λ over. over ≡ true
+        → spec.AreTooMany relay.new.watching.dialogue.uses) }
+{
+    if relay.read_within(MOST_OPEN)? {
+        return Ok(true);
+    }
+    Ok(keep_more(relay.uses()))
 }
 
 impl LimitedRelay {
@@ -124,7 +169,8 @@ impl LimitedRelay {
         let Some(relay) = &mut self.relay else {
             return Ok(());
         };
-        if relay.read_within(MOST_OPEN)? {
+        let is_over = read_most(relay)?;
+        if is_over {
             return self.end();
         }
         relay.make_due()

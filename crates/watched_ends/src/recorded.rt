@@ -47,10 +47,10 @@ pub fn recorded_text(
 pub fn order_note(order: Order) -> Option<&'static str> {
     match order {
         Order::Whole => None,
-        Order::Part => Some("the last bytes have no place in the order of the recordings, and are not read"),
+        Order::Part => Some("the order of the two ends does not have their last bytes"),
         Order::Unknown => Some(
-            "the order of the two ends is not known: a reply before its command, and a tag that is used while in use, are not found",
+            "without the order of the two ends, early replies and tags used while in use are not found",
         ),
-        Order::NotTheirs => Some("the order is not that of these recordings"),
+        Order::NotTheirs => Some("the order of the two ends is not that of these recordings"),
     }
 }
