@@ -17,7 +17,8 @@ use std::io::{self, ErrorKind, Read, Write};
 use std::net::{Net, Shutdown, TcpListener, TcpStream};
 use std::rt::{Clock, Files};
 use std::time::{Duration, Instant};
-use witness::{HEADER, Relay};
+use watched_ends::LimitedRelay;
+use witness::{HEADER, Side as End};
 
 /// The most bytes that are read at once.
 const PIECE: usize = 65_536;
@@ -68,6 +69,14 @@ struct Keeper<'a, R: Eprint> {
     has_failed: bool,
 }
 
+/// An end, as a recording has it.
+fn end_of(side: Side) -> End {
+    match side {
+        Side::Client => End::Client,
+        Side::Server => End::Server,
+    }
+}
+
 impl<'a, R: Files<File = File> + Eprint + Clock + AllocGlobal> Keeper<'a, R> {
     /// A fault is shown, and nothing else stops.
     fn fail(&mut self, fault: OrderFault) {
@@ -99,11 +108,10 @@ impl<'a, R: Files<File = File> + Eprint + Clock + AllocGlobal> Keeper<'a, R> {
         let Some(recording) = &mut self.recording else {
             return;
         };
-        let (name, file) = match side {
-            Side::Client => &mut recording.up,
-            Side::Server => &mut recording.down,
-        };
-        if file.write_all(bytes).is_err() {
+        if bytes.is_empty() {
+            return;
+        }
+        if let Err(name) = recording.keep(self.rt.alloc(), end_of(side), bytes) {
             let _ = eprintln!(self.rt; "dme: cannot write {name}");
             self.has_failed = true;
             self.recording = None;
@@ -158,7 +166,7 @@ fn write_some(stream: &Socket, bytes: &[u8]) -> io::Result<usize>
 /// A connection between a client and a server, and its relay.
 #[derive(Drop)]
 struct Link {
-    relay: Relay,
+    relay: LimitedRelay,
     client: Socket,
     server: Socket,
     /// Whether the client has ended what it sends.
@@ -188,7 +196,7 @@ impl Link {
         let client = socket_of(client)?;
         let server = socket_of(server)?;
         Ok(Link {
-            relay: Relay::new(alloc, number),
+            relay: LimitedRelay::new(alloc, number),
             client,
             server,
             client_ended: false,
@@ -247,7 +255,6 @@ impl Link {
         keeper: &mut Keeper<'_, R>,
     ) -> Result<(), Ended> {
         self.relay.read()?;
-        self.relay.make_due()?;
         keeper.tell(self.relay.due());
         self.relay.clear_due();
         Ok(())
@@ -461,12 +468,7 @@ fn relay_one<
     }
 }
 
-/// Whether a fault is that memory ran out.
-fn is_memory(fault: &Fault) -> bool {
-    matches!(fault, Fault::Order(OrderFault::Memory))
-}
-
-/// Relays that many connections, one after the other: the status. What breaks one off is shown, and the next is taken, unless out of memory.
+/// Relays that many connections, one after the other: the status. What breaks one off is shown, and the next is taken.
 fn relay_all<
     R: Files<File = File>
         + Eprint
@@ -488,7 +490,6 @@ fn relay_all<
         };
         match relay_one(keeper, count as u64 + 1, client, order, patience) {
             Ok(()) => {}
-            Err(fault) if is_memory(&fault) => return Err(fault),
             Err(fault) => {
                 is_broken = true;
                 let _ = eprint!(rt; "{fault}");

@@ -1,6 +1,5 @@
 mod Readings
 mod Lists
-mod Cuts
 mod Stages
 mod TextLemmas
 mod FirstBreaks

@@ -6,13 +6,14 @@ ghost use Rattle.line_judge.specs.Judging as spec;
 
 use crate::client::client_break;
 use crate::counts::{client_counts, server_counts};
-use crate::reading::{cut_lines, heard_lines, sent_lines};
+use crate::reading::{heard_lines, sent_lines};
 use crate::rules::{Found, Rule};
 use crate::server::server_break;
 use dme_line::Text;
 use line_framing::{FramingFault, Line};
 use std::alloc::{AllocError, Global};
 use std::marker::Model;
+use witness::cut_lines;
 
 /// A line that breaks a rule.
 #[derive(Debug, Drop)]

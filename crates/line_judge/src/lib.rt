@@ -3,7 +3,7 @@
 //!
 //! - `lines`: `Sent` and `Heard`, what a line of either end is
 //! - `rules`: `Rule`, by name; how far a command is
-//! - `reading`: lines of bytes, and what each is
+//! - `reading`: what each line is
 //! - `uses`: which command a line of the server answers
 //! - `client`, `server`: the first line of either end that breaks a rule
 //! - `counts`: how many lines of each sort there are

@@ -1,15 +1,14 @@
-// Lines of bytes, and what each line is.
+// What each line is.
 
-ghost use Rattle.std.specs.Prelude.{◌≡◌, ℕ, List, map, drop, IfOk};
+ghost use Rattle.std.specs.Prelude.{◌≡◌, map, drop, IfOk};
 ghost use Rattle.fixed_um.specs.declared.lengths.Point.{Point};
 ghost use Rattle.dme_line.specs.Responses.{the_mark};
-ghost use Rattle.line_framing.specs.Stream.{IsStream};
 ghost use Rattle.protocol_model.specs.Readings.{command_of, response_of};
 ghost use Rattle.line_judge.specs.Lines as spec;
 
 use crate::lines::{Data, Heard, Reply, Sent, Severity};
 use dme_line::{LineFault, MarkSlice, cut_response, read_command, read_homed, read_point};
-use line_framing::{FramingFault, Line, Lines, LinesFault};
+use line_framing::Line;
 use std::alloc::{AllocError, Global};
 use witness::only_asks;
 
@@ -82,29 +81,6 @@ fn heard_of(line: &[u8]) -> Heard
     match cut_response(line) {
         Ok(response) => Heard::Response(response.tag, reply_as(response.mark)),
         Err(_) => Heard::Other,
-    }
-}
-
-/// The lines of bytes, and what is wrong after them. Fails only if out of memory.
-pub(crate) fn cut_lines(
-    alloc: Global,
-    bytes: &[u8],
-) -> Result<(Vec<Line>, Option<FramingFault>), AllocError>
-    ensures { IfOk result (λ cut. (rest : List ℕ) × IsStream bytes.now cut.0.items rest cut.1) }
-{
-    let mut lines = Lines::new(alloc);
-    match lines.feed(bytes) {
-        Ok(()) | Err(LinesFault::Framing(_)) => {}
-        Err(LinesFault::Memory) => return Err(AllocError),
-    }
-    let mut all = Vec::new(alloc);
-    loop {
-        match lines.next_line() {
-            Ok(Some(line)) => all.push(line)?,
-            Ok(None) => return Ok((all, None)),
-            Err(LinesFault::Framing(fault)) => return Ok((all, Some(fault))),
-            Err(LinesFault::Memory) => return Err(AllocError),
-        }
     }
 }
 

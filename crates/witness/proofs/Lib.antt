@@ -1,4 +1,5 @@
 pub mod Items
+pub mod Cuts
 pub mod Readings
 pub mod AfterMarks
 pub mod Standings

@@ -101,7 +101,7 @@ fn unknown(alloc: Global, line: &[u8]) -> Result<SentCommand, AllocError>
 
 /// What a line asks for, with its tag; nothing if it has no valid tag. Fails only if out of memory.
 #[tactic(auto, using(crate::proofs::Readings::one_command))]
-pub(crate) fn sent(alloc: Global, line: &[u8]) -> Result<Option<(Tag, SentCommand)>, AllocError>
+pub fn sent(alloc: Global, line: &[u8]) -> Result<Option<(Tag, SentCommand)>, AllocError>
     ensures { IfOk result (λ found. found ≡ spec.sent line.now (command_of line.now)) }
 {
     match read_command(alloc, line)? {

@@ -138,6 +138,13 @@ impl Dialogue {
         self.reported.as_slice()
     }
 
+    /// The lines of the client without their end, in order.
+    pub fn uses(&self) -> &[Use]
+        ensures { result.now ≡ self.now.uses }
+    {
+        self.uses.as_slice()
+    }
+
     /// Takes all that was reported. Does not allocate.
     pub fn clear_reported(&mut self)
         ensures { self.new ≡ record self.old { reported = [] } }

@@ -1,24 +1,24 @@
 //! What a server reported that it did, read from the lines that it and its client exchange. Both may be of other makers (this profile).
 //!
 //! - `lines`: `Use`, a line of a client, with what it asks for; `Known`, the changes that may hold for it; `Reported`, what is reported
-//! - `asking`: what a line of a client asks for
+//! - `cutting`: bytes as lines; `asking`: what a line of a client asks for
 //! - `marks`: what a mark does to a command
 //! - `known`: what becomes of the changes of tool and frame that may hold
 //! - `effects`: what a mark reports of its command
 //! - `uses`: what a mark or a fault does to the lines that are open
 //! - `dialogue`: `Dialogue`, the lines of both ends, one at a time; `witness`: `Witness`, their bytes
-//! - `writing`: the text of what was reported; `ledger`: that of what two recordings report
+//! - `writing`: the text of what was reported
 //! - `relay`: `Relay`, which sends on what comes, and has what is reported written first
 //! - `laws`: what follows for all lines, and for the whole course of a relay; `examples`: what is known after lines that are written out
 #![tactic(auto)]
 
 mod asking;
+mod cutting;
 mod dialogue;
 mod effects;
 pub mod examples;
 mod known;
 pub mod laws;
-mod ledger;
 pub mod lines;
 mod marks;
 mod relay;
@@ -26,10 +26,10 @@ mod uses;
 mod witness;
 mod writing;
 
-pub use asking::only_asks;
+pub use asking::{only_asks, sent};
+pub use cutting::cut_lines;
 pub use dialogue::Dialogue;
-pub use ledger::ledger_text;
 pub use lines::{Known, Reported, Rule, SentCommand, Side, Use};
 pub use relay::Relay;
 pub use witness::Witness;
-pub use writing::{HEADER, add_told};
+pub use writing::{HEADER, add_all, add_told};

@@ -5,7 +5,7 @@ ghost use Rattle.dme_line.specs.Tags.{four_digits, written_tag};
 ghost use Rattle.fixed_um.specs.Written.{last_digit};
 ghost use Rattle.contact_ledger.specs.Lines.{text_of, spaced};
 ghost use Rattle.contact_ledger.specs.Fields.{point_fields, direction_fields};
-ghost use Rattle.witness.specs.Texts.{tool_field, known_frame, rule_name, side_field, told_fields, told_line, unknown_field};
+ghost use Rattle.witness.specs.Texts.{tool_field, known_frame, rule_name, side_field, told_fields, told_line, told_lines, unknown_field};
 
 use crate::lines::{Reported, Rule, Side};
 use contact_ledger::fields::{add_direction, add_frame, add_name, add_point};
@@ -56,6 +56,7 @@ fn rule_name(rule: Rule) -> &'static [u8]
         Rule::SecondData => b"SecondData",
         Rule::OtherData => b"OtherData",
         Rule::NotInTurn => b"NotInTurn",
+        Rule::TooMany => b"TooMany",
         Rule::UnknownTag => b"UnknownTag",
         Rule::TagInUse => b"TagInUse",
     }
@@ -215,5 +216,16 @@ pub fn add_told(text: &mut Vec<u8>, connection: u64, report: &Reported) -> Resul
     text.extend_from_slice(buffer.format(connection).as_bytes())?;
     add_fields(text, report)?;
     text.push(b'\n')?;
+    Ok(())
+}
+
+/// Adds the lines of what was reported on a connection. An `Err` discards the text.
+pub fn add_all(text: &mut Vec<u8>, connection: u64, reported: &[Reported]) -> Result<(), AllocError>
+    ensures { OnOk result (text.new.items ≡ text.old.items
+        ++ told_lines connection reported.now) }
+{
+    for one in reported {
+        add_told(text, connection, one)?;
+    }
     Ok(())
 }

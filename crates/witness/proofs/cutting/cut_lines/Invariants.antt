@@ -1,7 +1,7 @@
 use Rattle.std.proofs.Common.{ℕ, ◌++◌, List, length, Option}
 use Rattle.line_framing.specs.Stream.{IsStream}
 use Rattle.line_framing.specs.declared.faults.FramingFault.{FramingFault}
-use Rattle.line_judge.proofs.reading.cut_lines.Given as goal
+use Rattle.witness.proofs.cutting.cut_lines.Given as goal
 
 -- the lines that were cut off, and those of what is left, are those of the bytes
 abbrev pub invariant-loop-line : goal.invariant-loop-line

@@ -1,7 +1,7 @@
 use Rattle.std.proofs.Common.{◌≡◌, ◌++◌, drop, map}
 use Rattle.contact_ledger.specs.Lines.{text_of}
 use Rattle.witness.specs.Texts.{told_line, numbered}
-use Rattle.witness.proofs.ledger.add_all.Given as goal
+use Rattle.witness.proofs.writing.add_all.Given as goal
 
 -- what is written, and the lines that are left
 abbrev pub invariant-loop-one : goal.invariant-loop-one

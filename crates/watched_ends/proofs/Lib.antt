@@ -1,0 +1,4 @@
+pub mod PlaceLemmas
+pub mod TurnLemmas
+pub mod PieceLemmas
+pub mod LimitLemmas

@@ -1,0 +1,21 @@
+use Rattle.std.proofs.Common.{◌+◌, [], arith, sym, ◌∙◌, subst}
+use Rattle.watched_ends.specs.Turns.{AreQuiet}
+use Rattle.watched_ends.proofs.PlaceLemmas.{same_item, last_more, quiet_more, last_all, quiet_all, quiet_within}
+use Rattle.watched_ends.proofs.places.later_of.Goals as goal
+
+pub loop-at-preserved : goal.loop-at-preserved
+loop-at-preserved c =
+    let before = c.loop-at.invariant in
+    let there = same_item c.args.up.now c.loop-at.at [] c.index-up-at.result c.loop-at-test.true ∙ sym c.index-up-at.is ∙ sym c.as_slice.ensures.bytes in
+    let quiet = subst (AreQuiet c.args.up.now (c.loop-at.at + 1)) (sym c.quiet_after-quiet.ensures)
+    (quiet_more c.args.up.now c.loop-at.at c.loop-at.quiet c.as_slice.result.now there before.1 c.in_ok-once.once c.in_ok-once.ensures.at_once) in (
+      last_more c.args.up.now c.loop-at.at c.loop-at.places.items c.note.new.places.items c.as_slice.result.now there before.0 c.in_ok-once.ensures.noted,
+      quiet,
+      quiet_within c.in_ok-once.once c.loop-at.at c.loop-at.quiet _ c.quiet_after-quiet.ensures before.2,
+    )
+
+pub returns-clause-last : goal.returns-clause-last
+returns-clause-last c = last_all c.args.up.now c.loop-at.at c.loop-at.places.items (omega (arith, c.loop-at-test.false)) c.loop-at.invariant.0
+
+pub returns-clause-quiet : goal.returns-clause-quiet
+returns-clause-quiet c = quiet_all c.args.up.now c.loop-at.at c.loop-at.quiet (omega (arith, c.loop-at-test.false)) c.loop-at.invariant.1
