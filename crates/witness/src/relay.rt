@@ -187,7 +187,7 @@ impl Relay {
         self.down.take(count);
     }
 
-    /// What came from the client and from the server and was not sent on, which goes on without a witness. Does not allocate.
+    /// What came from the client and from the server and was not sent on, to be sent on without a witness. Does not allocate.
     pub fn into_queues(self) -> (ByteQueue, ByteQueue)
         ensures up { result.0.waiting ≡ self.up }
         ensures down { result.1.waiting ≡ self.down }
