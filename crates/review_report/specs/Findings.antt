@@ -21,7 +21,9 @@ heads findings = map (λ f. f.head) findings
 abbrev pub kind_of : Remark → Kind
 kind_of (remark.Refused refusal) = kind.Refused refusal
 kind_of (remark.Passed what) = kind.Passed
+kind_of (remark.Clearing count) = kind.Passed
 kind_of (remark.Lack what) = kind.Setup
+kind_of (remark.Straight line) = kind.Odd
 kind_of (remark.Odd what) = kind.Odd
 
 -- a remark on a line of the program

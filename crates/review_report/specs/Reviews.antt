@@ -7,6 +7,7 @@ use Rattle.fixed_um.specs.declared.lengths.Point.{Point}
 use Rattle.tool_rack.specs.Setups.{SetupValue}
 use Rattle.program_review.specs.Notices.{notices_of}
 use Rattle.program_review.specs.Refusals.{refusals_of}
+use Rattle.program_review.specs.Travels.{travels_of}
 use Rattle.program_review.specs.UnderSetup.{lacks_of}
 use Rattle.program_review.specs.UnusedFrames.{names_recalled, unused_from}
 use Rattle.program_review.specs.declared.odd.OddNotice.{OddNotice}
@@ -44,9 +45,11 @@ unused_lines texts = unused_from (names_recalled (text_reading texts.program).st
 -- the remarks on a program under these frames, where the setup lacks this
 pub record AreNotes (frames : List (List ℕ × Point)) (program : List ℕ) (lacks : List SetupNotice) (notes : List Note) : Type 0 where
   pub odd : List OddNotice
-  pub all : notes ≡ notes_of (refusals_of frames program) (notices_of (text_reading program).statements) lacks odd
+  pub all : notes ≡ notes_of (refusals_of frames program) (notices_of (text_reading program).statements) lacks
+      (travels_of frames (text_reading program).statements) odd
 
--- what is found: in the order of the program's lines all its refusals, all that is passed over, all that the setup lacks and what is odd;
+-- what is found: in the order of the program's lines all its refusals, all that is passed over, all that the setup lacks, all straight
+-- travels and what is odd;
 -- then each line of the setup with a frame that is not recalled; then each group of refused statements that has some
 pub record AreFindings (texts : ReviewTexts) (findings : List FindingValue) : Type 0 where
   pub notes : List Note

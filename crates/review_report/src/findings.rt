@@ -88,9 +88,9 @@ impl Remark {
     {
         match self {
             Remark::Refused(refusal) => Kind::Refused(refusal),
-            Remark::Passed(_) => Kind::Passed,
+            Remark::Passed(_) | Remark::Clearing(_) => Kind::Passed,
             Remark::Lack(_) => Kind::Setup,
-            Remark::Odd(_) => Kind::Odd,
+            Remark::Straight(_) | Remark::Odd(_) => Kind::Odd,
         }
     }
 }

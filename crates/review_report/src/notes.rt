@@ -1,10 +1,10 @@
 // What a review remarks on, in the order of the program's lines.
 
 ghost use Rattle.std.specs.Prelude.{◌≡◌, ◌++◌, map, IfOk, OnOk};
-ghost use Rattle.review_report.specs.Notes.{refused_note, passed_note, lack_note, odd_note, above, not_above, merged, notes_of};
+ghost use Rattle.review_report.specs.Notes.{refused_note, passed_remark, passed_note, passed_notes, lack_note, travel_note, odd_note, above, not_above, merged, notes_of};
 
 use dmis_program::Refusal;
-use program_review::{Found, Lack, Notice, Odd, OddNotice, Passed, SetupNotice};
+use program_review::{Found, Lack, Notice, Odd, OddNotice, Passed, SetupNotice, Travel, replaced};
 use std::alloc::{AllocError, Global};
 
 /// What is remarked on a statement.
@@ -14,8 +14,12 @@ pub enum Remark {
     Refused(Refusal),
     /// It is passed over though it changes something.
     Passed(Passed),
+    /// Likewise a statement on clearing. How many straight travels it would have replaced.
+    Clearing(usize),
     /// The setup lacks something.
     Lack(Lack),
+    /// The probe travels straight to it from the touch of this line.
+    Straight(u64),
     /// It is probably not meant as it is written.
     Odd(Odd),
 }
@@ -38,6 +42,8 @@ pub(crate) struct Remarks<'a> {
     pub(crate) notices: &'a [Notice],
     /// What the setup lacks.
     pub(crate) lacks: &'a [SetupNotice],
+    /// Its straight travels.
+    pub(crate) travels: &'a [Travel],
     /// What is odd.
     pub(crate) odd: &'a [OddNotice],
 }
@@ -90,16 +96,41 @@ fn refused_notes(alloc: Global, found: &[Found]) -> Result<Vec<Note>, AllocError
     Ok(notes)
 }
 
+/// What is remarked on what is passed over; a statement on clearing would have replaced that many straight travels.
+fn passed_remark(what: Passed, count: usize) -> Remark
+    ensures { result ≡ passed_remark what count }
+{
+    match what {
+        Passed::Clearing => Remark::Clearing(count),
+        _ => Remark::Passed(what),
+    }
+}
+
+/// A statement that is passed over, before these others, as a note.
+#[tactic(auto, unfolding(crate::specs::Notes::passed_note))]
+fn passed_note(travels: &[Travel], one: &Notice, later: &[Notice]) -> Note
+    ensures { result ≡ passed_note travels.now one.now later.now }
+{
+    let count = replaced(travels, one.line, later);
+    Note {
+        remark: passed_remark(one.what, count),
+        line: one.line,
+    }
+}
+
 /// What is passed over, as notes.
-fn passed_notes(alloc: Global, notices: &[Notice]) -> Result<Vec<Note>, AllocError>
-    ensures { IfOk result (λ notes. notes.items ≡ map passed_note notices.now) }
+fn passed_notes(
+    alloc: Global,
+    travels: &[Travel],
+    notices: &[Notice],
+) -> Result<Vec<Note>, AllocError>
+    ensures { IfOk result (λ notes. notes.items ≡ passed_notes travels.now notices.now) }
 {
     let mut notes = Vec::new(alloc);
-    for one in notices {
-        notes.push(Note {
-            remark: Remark::Passed(one.what),
-            line: one.line,
-        })?;
+    let mut left = notices;
+    while let [one, later @ ..] = left {
+        notes.push(passed_note(travels, one, later))?;
+        left = later;
     }
     Ok(notes)
 }
@@ -113,6 +144,20 @@ fn lack_notes(alloc: Global, lacks: &[SetupNotice]) -> Result<Vec<Note>, AllocEr
         notes.push(Note {
             remark: Remark::Lack(one.what),
             line: one.line,
+        })?;
+    }
+    Ok(notes)
+}
+
+/// Straight travels, as notes on the touches to which they lead.
+fn travel_notes(alloc: Global, travels: &[Travel]) -> Result<Vec<Note>, AllocError>
+    ensures { IfOk result (λ notes. notes.items ≡ map travel_note travels.now) }
+{
+    let mut notes = Vec::new(alloc);
+    for one in travels {
+        notes.push(Note {
+            remark: Remark::Straight(one.last.line),
+            line: one.first.line,
         })?;
     }
     Ok(notes)
@@ -135,13 +180,16 @@ fn odd_notes(alloc: Global, odd: &[OddNotice]) -> Result<Vec<Note>, AllocError>
 /// All of them, in the order of lines.
 pub(crate) fn notes_of(alloc: Global, all: Remarks<'_>) -> Result<Vec<Note>, AllocError>
     ensures { IfOk result (λ notes. notes.items ≡ notes_of
-        all.entry.found.now all.entry.notices.now all.entry.lacks.now all.entry.odd.now) }
+        all.entry.found.now all.entry.notices.now all.entry.lacks.now all.entry.travels.now
+        all.entry.odd.now) }
 {
-    let passed = passed_notes(alloc, all.notices)?;
+    let passed = passed_notes(alloc, all.travels, all.notices)?;
     let lacks = lack_notes(alloc, all.lacks)?;
     let accepted = merged(alloc, passed.as_slice(), lacks.as_slice())?;
+    let travels = travel_notes(alloc, all.travels)?;
     let odd = odd_notes(alloc, all.odd)?;
-    let others = merged(alloc, accepted.as_slice(), odd.as_slice())?;
+    let doubtful = merged(alloc, travels.as_slice(), odd.as_slice())?;
+    let others = merged(alloc, accepted.as_slice(), doubtful.as_slice())?;
     let refused = refused_notes(alloc, all.found)?;
     merged(alloc, refused.as_slice(), others.as_slice())
 }

@@ -13,8 +13,8 @@ use crate::summary::add_summary;
 use crate::walking::{add_unused_frames, findings_in};
 use dmis_program::Frames;
 use program_review::{
-    Found, SetupNotice, Stray, lacking_setup, odd_statements, passed_statements, review,
-    stray_touches, unused_frames,
+    Found, SetupNotice, Stray, Travel, lacking_setup, odd_statements, passed_statements, review,
+    straight_travels, stray_touches, unused_frames,
 };
 use std::alloc::{AllocError, Global};
 use tool_rack::Setup;
@@ -44,6 +44,7 @@ pub struct Report {
 struct Review {
     found: Vec<Found>,
     notes: Vec<Note>,
+    travels: Vec<Travel>,
     strays: Vec<Stray>,
 }
 
@@ -76,6 +77,7 @@ fn review_under(
 {
     let found = review(alloc, text, frames)?;
     let notices = passed_statements(alloc, text)?;
+    let travels = straight_travels(alloc, text, frames)?;
     let odd = odd_statements(alloc, text)?;
     let notes = notes_of(
         alloc,
@@ -83,6 +85,7 @@ fn review_under(
             found: found.as_slice(),
             notices: notices.as_slice(),
             lacks,
+            travels: travels.as_slice(),
             odd: odd.as_slice(),
         },
     )?;
@@ -90,6 +93,7 @@ fn review_under(
     Ok(Review {
         found,
         notes,
+        travels,
         strays,
     })
 }
@@ -113,7 +117,8 @@ fn review_of(alloc: Global, texts: ReviewTexts<'_>) -> Result<Review, AllocError
 }
 
 /// Everything that stands between a program and its run, with sentences: in the order of the program's lines each refusal, each statement
-/// that is passed over though it changes something, each for which the setup lacks something, and each that is odd; then each frame of
+/// that is passed over though it changes something, each for which the setup lacks something, each to which the probe travels straight from
+/// another feature, and each that is odd; then each frame of
 /// the setup that the program does not recall; then what the refused statements are for, and what deleting them would change.
 ///
 /// Fails only if out of memory.
@@ -130,7 +135,12 @@ pub fn review_report(
         ≡ is_err (program_of (frames_under texts.entry.setup.now) texts.entry.program.now)) }
 {
     let review = review_of(alloc, texts)?;
-    let mut findings = findings_in(alloc, texts.program, review.notes.as_slice())?;
+    let mut findings = findings_in(
+        alloc,
+        texts.program,
+        review.travels.as_slice(),
+        review.notes.as_slice(),
+    )?;
     let unused = unused_frames(alloc, texts.stored, texts.program)?;
     add_unused_frames(alloc, &mut findings, texts.stored, unused.as_slice())?;
     add_summary(

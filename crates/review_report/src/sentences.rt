@@ -2,7 +2,7 @@
 
 use crate::notes::Remark;
 use dmis_text::{Statement, Statements, TextFault};
-use program_review::{Lack, Odd, Passed, near_word};
+use program_review::{Lack, Odd, Passed, Travel, near_word};
 use session_telling::visible;
 use std::alloc::{AllocError, Global};
 
@@ -13,7 +13,6 @@ const MOST_SHOWN: usize = 100;
 fn odd_meaning(odd: Odd) -> &'static str {
     match odd {
         Odd::Direction => "has a direction whose length is not 1.",
-        Odd::TouchBeforeMove => "is a touch before any move in its block.",
         Odd::MoveBeforeTool => "is a move before any tool is selected.",
         Odd::MoreTouches => "ends a block with more touches than its MEAS names.",
         Odd::NearWord => "is not known.",
@@ -93,6 +92,51 @@ pub(crate) fn sentence_on(alloc: Global, text: &[u8], end: &str) -> Result<Vec<u
     said.push(b' ')?;
     said.extend_from_slice(end.as_bytes())?;
     Ok(said)
+}
+
+/// The sentence on a statement on clearing with which a text begins, and that would have replaced that many straight travels.
+pub(crate) fn clearing_sentence(
+    alloc: Global,
+    text: &[u8],
+    count: usize,
+) -> Result<Vec<u8>, AllocError> {
+    let mut said = sentence_on(alloc, text, Passed::Clearing.meaning())?;
+    let travels = if count == 1 { "travel" } else { "travels" };
+    let end = format!(in alloc; " It would have replaced {count} straight {travels}.")?;
+    said.extend_from_slice(end.as_bytes())?;
+    Ok(said)
+}
+
+/// A length in micrometres, in millimetres.
+fn length_text(alloc: Global, micrometres: u128) -> Result<String, AllocError> {
+    let whole = micrometres / 1000;
+    let tenths = micrometres / 100 % 10;
+    let hundredths = micrometres / 10 % 10;
+    let thousandths = micrometres % 10;
+    format!(in alloc; "{whole}.{tenths}{hundredths}{thousandths} mm")
+}
+
+/// The sentence on the straight travel to the touch of a line, which is one of these.
+pub(crate) fn travel_sentence(
+    alloc: Global,
+    travels: &[Travel],
+    line: u64,
+) -> Result<Vec<u8>, AllocError> {
+    let Some(travel) = travels.iter().find(|travel| travel.first.line == line) else {
+        return Ok(Vec::new(alloc));
+    };
+    let length = match travel.length() {
+        Some(length) => length_text(alloc, length)?,
+        None => format!(in alloc; "in other coordinates")?,
+    };
+    let from = travel.last.line;
+    let to = travel.first.line;
+    let last = travel.last.target;
+    let first = travel.first.target;
+    let sentence = format!(in alloc;
+        "The probe travels straight from line {from} ({last}) to line {to} ({first}), {length}, with no GOTO between."
+    )?;
+    Vec::from_slice(alloc, sentence.as_bytes())
 }
 
 /// The sentence on an odd statement with which a text begins.

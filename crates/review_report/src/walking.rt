@@ -5,10 +5,12 @@ ghost use Rattle.review_report.specs.Findings.{heads, noted, unused};
 
 use crate::findings::{Finding, Head, Kind, Place};
 use crate::notes::{Note, Remark};
-use crate::sentences::{lack_meaning, odd_sentence, sentence_on};
+use crate::sentences::{
+    clearing_sentence, lack_meaning, odd_sentence, sentence_on, travel_sentence,
+};
 use dmis_program::Refusal;
 use dmis_text::cut_line;
-use program_review::{block_lines, stored_frame};
+use program_review::{Travel, block_lines, stored_frame};
 use refusal_guide::{Passage, write_sentence};
 use std::alloc::{AllocError, Global};
 
@@ -72,6 +74,7 @@ fn needs_text(refusal: Refusal) -> bool {
 #[derive(Drop)]
 struct Passages<'a> {
     text: &'a [u8],
+    travels: &'a [Travel],
     blocks: Vec<u64>,
     passed: usize,
     opened: u64,
@@ -81,9 +84,14 @@ struct Passages<'a> {
 
 impl<'a> Passages<'a> {
     /// Before the first finding.
-    fn new(alloc: Global, text: &'a [u8]) -> Result<Passages<'a>, AllocError> {
+    fn new(
+        alloc: Global,
+        text: &'a [u8],
+        travels: &'a [Travel],
+    ) -> Result<Passages<'a>, AllocError> {
         Ok(Passages {
             text,
+            travels,
             blocks: block_lines(alloc, text)?,
             passed: 0,
             opened: 1,
@@ -156,6 +164,8 @@ impl<'a> Passages<'a> {
         match note.remark {
             Remark::Refused(refusal) => self.refused_sentence(alloc, refusal, note.line),
             Remark::Passed(what) => sentence_on(alloc, text, what.meaning()),
+            Remark::Clearing(count) => clearing_sentence(alloc, text, count),
+            Remark::Straight(_) => travel_sentence(alloc, self.travels, note.line),
             Remark::Lack(lack) => sentence_on(alloc, text, lack_meaning(lack)),
             Remark::Odd(odd) => odd_sentence(alloc, odd, text),
         }
@@ -174,15 +184,16 @@ impl Note {
     }
 }
 
-/// The findings of notes on a program's text, in their order, each with its sentence.
+/// The findings of notes on a program's text with these straight travels, in their order, each with its sentence.
 pub(crate) fn findings_in(
     alloc: Global,
     text: &[u8],
+    travels: &[Travel],
     notes: &[Note],
 ) -> Result<Vec<Finding>, AllocError>
     ensures { IfOk result (λ findings. heads findings.items ≡ map noted notes.now) }
 {
-    let mut passages = Passages::new(alloc, text)?;
+    let mut passages = Passages::new(alloc, text, travels)?;
     let mut findings = Vec::new(alloc);
     for note in notes {
         let said = passages.sentence(alloc, note)?;
