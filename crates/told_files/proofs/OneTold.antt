@@ -23,7 +23,7 @@ use Rattle.contact_ledger.proofs.Leaves.{direction_read}
 use Rattle.contact_ledger.proofs.OneEntry.{one_entry}
 use Rattle.witness.specs.Texts.{unknown_field, tool_field, known_frame, rule_name, side_field, told_line}
 use Rattle.witness.specs.declared.lines.Rule.{Rule}
-use Rattle.witness.specs.declared.lines.Rule.TheVariants.{UnknownTag, OutOfOrder, NoData, SecondData, OtherData, TagInUse, NotInTurn}
+use Rattle.witness.specs.declared.lines.Rule.TheVariants.{UnknownTag, OutOfOrder, NoData, SecondData, OtherData, TagInUse, NotInTurn, TooMany}
 use Rattle.witness.specs.declared.lines.Side.{Side}
 use Rattle.witness.specs.declared.lines.Side.TheVariants.{Client, Server}
 use Rattle.witness.specs.declared.lines.Reported.{Reported}
@@ -261,7 +261,7 @@ rule_number name = slice_index name 0 * 100 + length name
 abbrev rule_at : ℕ → Rule
 rule_at n =
     if n == 8510 then UnknownTag else if n == 7910 then OutOfOrder else if n == 7806 then NoData else if n == 8310 then SecondData
-    else if n == 7909 then OtherData else if n == 8408 then TagInUse else NotInTurn
+    else if n == 7909 then OtherData else if n == 8408 then TagInUse else if n == 8407 then TooMany else NotInTurn
 
 rule_back : (r : Rule) → rule_at (rule_number (rule_name r)) ≡ r
 rule_back UnknownTag = refl
@@ -271,6 +271,7 @@ rule_back SecondData = refl
 rule_back OtherData = refl
 rule_back TagInUse = refl
 rule_back NotInTurn = refl
+rule_back TooMany = refl
 
 one_rule : (r s : Rule) → rule_name r ≡ rule_name s → r ≡ s
 one_rule r s e = sym (rule_back r) ∙ (ap (λ (name : List ℕ). rule_at (rule_number name)) e ∙ rule_back s)

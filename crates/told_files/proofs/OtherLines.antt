@@ -27,7 +27,7 @@ use Rattle.contact_ledger.proofs.PlainFields.{is_plain, IsPlain, ArePlain, plain
 use Rattle.contact_ledger.proofs.PlainFields.{direction_plain}
 use Rattle.witness.specs.Texts.{unknown_field, tool_field, known_frame, rule_name, side_field, told_fields, told_line}
 use Rattle.witness.specs.declared.lines.Rule.{Rule}
-use Rattle.witness.specs.declared.lines.Rule.TheVariants.{UnknownTag, OutOfOrder, NoData, SecondData, OtherData, TagInUse, NotInTurn}
+use Rattle.witness.specs.declared.lines.Rule.TheVariants.{UnknownTag, OutOfOrder, NoData, SecondData, OtherData, TagInUse, NotInTurn, TooMany}
 use Rattle.witness.specs.declared.lines.Side.{Side}
 use Rattle.witness.specs.declared.lines.Side.TheVariants.{Client, Server}
 use Rattle.witness.specs.declared.lines.Reported.{Reported}
@@ -207,6 +207,7 @@ rule_plain SecondData = record { plain = refl }
 rule_plain OtherData = record { plain = refl }
 rule_plain TagInUse = record { plain = refl }
 rule_plain NotInTurn = record { plain = refl }
+rule_plain TooMany = record { plain = refl }
 
 side_plain : (s : Side) → list_all is_plain (side_field s) ≡ true
 side_plain Client = refl

@@ -69,6 +69,8 @@ pub(crate) fn read_rule(field: &[u8]) -> Option<Rule>
         Some(Rule::TagInUse)
     } else if field == b"NotInTurn".as_slice() {
         Some(Rule::NotInTurn)
+    } else if field == b"TooMany".as_slice() {
+        Some(Rule::TooMany)
     } else {
         None
     }

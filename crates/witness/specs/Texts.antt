@@ -6,7 +6,7 @@ use Rattle.contact_ledger.specs.Lines.{text_of, line_of}
 use Rattle.contact_ledger.specs.Fields.{point_fields, frame_fields, direction_fields}
 use Rattle.contact_ledger.specs.ContactTexts.{act_fields}
 use Rattle.witness.specs.declared.lines.Rule.{Rule}
-use Rattle.witness.specs.declared.lines.Rule.TheVariants.{UnknownTag, OutOfOrder, NoData, SecondData, OtherData, TagInUse, NotInTurn}
+use Rattle.witness.specs.declared.lines.Rule.TheVariants.{UnknownTag, OutOfOrder, NoData, SecondData, OtherData, TagInUse, NotInTurn, TooMany}
 use Rattle.witness.specs.declared.lines.Side.{Side}
 use Rattle.witness.specs.declared.lines.Side.TheVariants.{Client, Server}
 use Rattle.witness.specs.declared.lines.Reported.{Reported}
@@ -33,6 +33,7 @@ rule_name SecondData = codes "SecondData"
 rule_name OtherData = codes "OtherData"
 rule_name TagInUse = codes "TagInUse"
 rule_name NotInTurn = codes "NotInTurn"
+rule_name TooMany = codes "TooMany"
 
 -- the way that a line went
 abbrev pub side_field : Side → List ℕ

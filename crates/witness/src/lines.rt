@@ -53,6 +53,8 @@ pub enum Rule {
     OtherData,
     /// Data or the end of a command, while one that was sent before it has neither failed nor ended.
     NotInTurn,
+    /// More lines of the client are open than a witness keeps: the line of this tag is the last, and nothing more of the connection is reported.
+    TooMany,
     /// Only in texts of earlier versions: no command is open under the tag.
     UnknownTag,
     /// Only in texts of earlier versions: which of two commands under the tag ends is not known.

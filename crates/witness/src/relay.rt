@@ -1,8 +1,9 @@
 // A relay between the two ends of a connection.
 
-ghost use Rattle.std.specs.Prelude.{◌≡◌, ◌≤◌, ◌↔◌, [], length, drop, IsTrue, OnOk, OnErr};
+ghost use Rattle.std.specs.Prelude.{◌≡◌, ◌≤◌, ◌<◌, ◌↔◌, [], length, drop, true, false, IsTrue, OnOk, OnErr, IfOk};
 ghost use Rattle.witness.specs.Relaying as spec;
 
+use crate::lines::Use;
 use crate::witness::Witness;
 use crate::writing::add_all;
 use line_framing::ByteQueue;
@@ -87,6 +88,37 @@ impl Relay {
         self.witness.read_server_lines()
     }
 
+    /// Likewise, as long as at most `most` lines of the client are open: whether more are.
+    #[tactic(auto, using(crate::proofs::Courses::reading))]
+    pub fn read_within(&mut self, most: usize) -> Result<bool, AllocError>
+        ensures reads { spec.Reads self.old.watching self.new.watching }
+        ensures others { self.new ≡ record self.old { watching = self.new.watching } }
+        ensures client { IfOk result (λ over. over ≡ false → spec.IsClientRead self.new.watching) }
+        ensures server { IfOk result (λ over. over ≡ false → spec.IsServerRead self.new.watching) }
+        ensures over { IfOk result (λ over. over ≡ true
+            → most < length self.new.watching.dialogue.uses) }
+    {
+        if self.witness.read_client_within(most)? {
+            return Ok(true);
+        }
+        self.witness.read_server_lines()?;
+        Ok(false)
+    }
+
+    /// The number of the connection.
+    pub fn connection(&self) -> u64
+        ensures { result ≡ self.now.connection }
+    {
+        self.connection
+    }
+
+    /// The lines of the client that are open, in order.
+    pub fn uses(&self) -> &[Use]
+        ensures { result.now ≡ self.now.watching.dialogue.uses }
+    {
+        self.witness.uses()
+    }
+
     /// What was read is due. Fails only if out of memory, and then nothing has changed.
     pub fn make_due(&mut self) -> Result<(), AllocError>
         ensures ok { OnOk result (self.new ≡ spec.made_due self.old) }
@@ -153,5 +185,13 @@ impl Relay {
         ensures { self.new ≡ record self.old { down = drop count self.old.down } }
     {
         self.down.take(count);
+    }
+
+    /// What came from the client and from the server and was not sent on, to be sent on without a witness. Does not allocate.
+    pub fn into_queues(self) -> (ByteQueue, ByteQueue)
+        ensures up { result.0.waiting ≡ self.up }
+        ensures down { result.1.waiting ≡ self.down }
+    {
+        (self.up, self.down)
     }
 }

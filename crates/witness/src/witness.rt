@@ -1,12 +1,12 @@
 // The bytes of both ends of a connection.
 
-ghost use Rattle.std.specs.Prelude.{◌≡◌, ◌<◌, ◌↔◌, IsTrue, [], length, OnOk, OnErr};
+ghost use Rattle.std.specs.Prelude.{◌≡◌, ◌<◌, ◌↔◌, IsTrue, [], length, true, false, OnOk, OnErr, IfOk};
 ghost use Rattle.line_framing.specs.Framing.{fed, IsLineDue};
 ghost use Rattle.line_framing.specs.Next.{next_of};
 ghost use Rattle.witness.specs.Watching as spec;
 
 use crate::dialogue::Dialogue;
-use crate::lines::Reported;
+use crate::lines::{Reported, Use};
 use line_framing::{Lines, LinesFault};
 use std::alloc::{AllocError, Global};
 use std::marker::Model;
@@ -136,6 +136,30 @@ impl Witness {
             self.read_server()?;
         }
         self.read_server()
+    }
+
+    /// Reads the lines of the client that wait, as long as at most `most` of those that it has sent are open: whether more are. Fails only if out of
+    /// memory, and then has read some of them.
+    pub fn read_client_within(&mut self, most: usize) -> Result<bool, AllocError>
+        ensures reads { spec.ReadsClient self.old self.new }
+        ensures all { IfOk result (λ over. over ≡ false → IsLineDue (next_of self.new.up.rest) → ⊥) }
+        ensures over { IfOk result (λ over. over ≡ true → most < length self.new.dialogue.uses) }
+    {
+        while self.has_client_line() {
+            self.read_client()?;
+            if self.uses().len() > most {
+                return Ok(true);
+            }
+        }
+        self.read_client()?;
+        Ok(false)
+    }
+
+    /// The lines of the client that are open, in order.
+    pub fn uses(&self) -> &[Use]
+        ensures { result.now ≡ self.now.dialogue.uses }
+    {
+        self.dialogue.uses()
     }
 
     /// What was reported and not taken, in order.

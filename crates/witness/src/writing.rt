@@ -56,6 +56,7 @@ fn rule_name(rule: Rule) -> &'static [u8]
         Rule::SecondData => b"SecondData",
         Rule::OtherData => b"OtherData",
         Rule::NotInTurn => b"NotInTurn",
+        Rule::TooMany => b"TooMany",
         Rule::UnknownTag => b"UnknownTag",
         Rule::TagInUse => b"TagInUse",
     }

@@ -1,0 +1,22 @@
+use Rattle.std.proofs.Common.{ap, subst}
+use Rattle.witness.specs.Relaying.{Relaying, Reads}
+use Rattle.witness.specs.Watching.{Watching}
+use Rattle.witness.proofs.Courses.{both_parts, client_stays}
+use Rattle.witness.proofs.relay.Relay.read_within.Goals as goal
+
+pub returns-in_err-read_server_lines-clause-reads : goal.returns-in_err-read_server_lines-clause-reads
+returns-in_err-read_server_lines-clause-reads c =
+    subst (λ (w : Watching). Reads w c.read_server_lines.new.self) (ap (λ (r : Relaying). r.watching) c.self.view_is)
+    (both_parts _ c.read_client_within.new.self c.read_server_lines.new.self c.in_ok-read_client_within.ensures.reads
+    (c.in_ok-read_client_within.ensures.all c.if-branch.false) c.read_server_lines.ensures.reads)
+
+pub returns-clause-reads : goal.returns-clause-reads
+returns-clause-reads c =
+    subst (λ (w : Watching). Reads w c.read_server_lines.new.self) (ap (λ (r : Relaying). r.watching) c.self.view_is)
+    (both_parts _ c.read_client_within.new.self c.read_server_lines.new.self c.in_ok-read_client_within.ensures.reads
+    (c.in_ok-read_client_within.ensures.all c.if-branch.false) c.read_server_lines.ensures.reads)
+
+pub returns-clause-client : goal.returns-clause-client
+returns-clause-client c = λ within.
+    client_stays c.read_client_within.new.self c.read_server_lines.new.self c.read_server_lines.ensures.reads
+    (c.in_ok-read_client_within.ensures.all c.if-branch.false)
