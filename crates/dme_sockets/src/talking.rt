@@ -64,6 +64,9 @@ impl Log {
 /// The most bytes of a line that are shown as the last one.
 const MOST_SHOWN: usize = 200;
 
+/// The most bytes of a line that are kept until it ends, and then shown: no line of the interface has more.
+const MOST_KEPT: usize = 65_536;
+
 /// Which side of a connection has written.
 #[derive(Clone, Copy)]
 pub enum Side {
@@ -220,6 +223,7 @@ impl<'a, R: Eprint + Clock + AllocGlobal> Talk<'a, R> {
         match byte {
             b'\n' => line.clear(),
             b'\r' => {}
+            _ if line.len() >= MOST_KEPT => {}
             _ => line.push(byte)?,
         }
         Ok(())

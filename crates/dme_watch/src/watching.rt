@@ -17,7 +17,8 @@ use std::io::{self, ErrorKind, Read, Write};
 use std::net::{Net, Shutdown, TcpListener, TcpStream};
 use std::rt::{Clock, Files};
 use std::time::{Duration, Instant};
-use witness::{HEADER, Relay};
+use watched_ends::LimitedRelay;
+use witness::HEADER;
 
 /// The most bytes that are read at once.
 const PIECE: usize = 65_536;
@@ -158,7 +159,7 @@ fn write_some(stream: &Socket, bytes: &[u8]) -> io::Result<usize>
 /// A connection between a client and a server, and its relay.
 #[derive(Drop)]
 struct Link {
-    relay: Relay,
+    relay: LimitedRelay,
     client: Socket,
     server: Socket,
     /// Whether the client has ended what it sends.
@@ -188,7 +189,7 @@ impl Link {
         let client = socket_of(client)?;
         let server = socket_of(server)?;
         Ok(Link {
-            relay: Relay::new(alloc, number),
+            relay: LimitedRelay::new(alloc, number),
             client,
             server,
             client_ended: false,
@@ -247,7 +248,6 @@ impl Link {
         keeper: &mut Keeper<'_, R>,
     ) -> Result<(), Ended> {
         self.relay.read()?;
-        self.relay.make_due()?;
         keeper.tell(self.relay.due());
         self.relay.clear_due();
         Ok(())
@@ -461,12 +461,7 @@ fn relay_one<
     }
 }
 
-/// Whether a fault is that memory ran out.
-fn is_memory(fault: &Fault) -> bool {
-    matches!(fault, Fault::Order(OrderFault::Memory))
-}
-
-/// Relays that many connections, one after the other: the status. What breaks one off is shown, and the next is taken, unless out of memory.
+/// Relays that many connections, one after the other: the status. What breaks one off is shown, and the next is taken.
 fn relay_all<
     R: Files<File = File>
         + Eprint
@@ -488,7 +483,6 @@ fn relay_all<
         };
         match relay_one(keeper, count as u64 + 1, client, order, patience) {
             Ok(()) => {}
-            Err(fault) if is_memory(&fault) => return Err(fault),
             Err(fault) => {
                 is_broken = true;
                 let _ = eprint!(rt; "{fault}");

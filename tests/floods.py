@@ -1,0 +1,156 @@
+"""What a witness keeps of ends that send too much, and how long it takes over long recordings.
+
+- Bytes that follow one that no line can hold, 10,000 lines and more that are never answered, and a line without an end that is shown or logged:
+  `dme watch` sends on each byte, its memory stays as it is, and the next connection is witnessed as any other.
+- `dme ledger` over four times the lines takes about four times as long.
+
+`run` calls this; by itself: tests/floods.py [MEGABYTES], which sends that many in each flood (48 by default).
+"""
+
+import pathlib
+import resource
+import socket
+import subprocess
+import sys
+import tempfile
+import threading
+
+from growths import PROGRAM, Wrong, must
+from watched import SECONDS, ended, watch
+
+MEGABYTES = 48
+MOST_KEPT = 32 << 20
+PIECE = 1 << 16
+
+
+def unknown(count):
+    """Lines of unknown commands, that many bytes or a few more, and how many lines."""
+    number = count // len("00001 Foo()\r\n") + 1
+    return b"".join(b"%05d Foo()\r\n" % (at % 99_999 + 1) for at in range(number))
+
+
+# What the client sends, how the relay is called, and what it reports of the connection.
+FLOODS = {
+    "after_a_fault": (lambda count: b"00001 Home()\n" + b"x" * count, (), ""),
+    "never_answered": (unknown, (), "1 BROKEN TooMany 10001\n"),
+    "endless_and_shown": (lambda count: b"x" * count, ("--trace",), ""),
+    "endless_and_logged": (lambda count: b"x" * count, ("--log", "log"), ""),
+}
+
+
+def peak(process):
+    """The most memory that it has had, in bytes."""
+    for line in pathlib.Path(f"/proc/{process.pid}/status").read_text().splitlines():
+        if line.startswith("VmHWM:"):
+            return int(line.split()[1]) << 10
+    raise Wrong("no peak of memory")
+
+
+class Sink:
+    """A server that reads a connection to its end, and then a second, whose first line it answers."""
+
+    def __init__(self, count):
+        self.listener = socket.create_server(("127.0.0.1", 0))
+        self.port = self.listener.getsockname()[1]
+        self.count = count
+        self.read_all = threading.Event()
+        self.may_close = threading.Event()
+        self.bytes = 0
+        self.thread = threading.Thread(target=self.take, daemon=True)
+        self.thread.start()
+
+    def take(self):
+        with self.listener.accept()[0] as end:
+            while self.bytes < self.count and (piece := end.recv(PIECE)):
+                self.bytes += len(piece)
+            self.read_all.set()
+            self.may_close.wait(SECONDS)
+        with self.listener.accept()[0] as end:
+            line = b""
+            while not line.endswith(b"\r\n"):
+                line += end.recv(PIECE)
+            end.sendall(b"00001 &\r\n00001 %\r\n")
+            end.recv(PIECE)
+
+
+def flood(folder, name, count):
+    make, words, reported = FLOODS[name]
+    text = make(count)
+    sink = Sink(len(text))
+    relay, port = watch(folder, sink.port, "--connections", "2", *words)
+    # What the relay shows is read by none while it runs, so that it must fit into a pipe.
+    with socket.create_connection(("127.0.0.1", port)) as client:
+        for at in range(0, len(text), PIECE):
+            client.sendall(text[at : at + PIECE])
+        must(sink.read_all.wait(SECONDS), name, "was not sent on", sink.bytes)
+        kept = peak(relay)
+        sink.may_close.set()
+    with socket.create_connection(("127.0.0.1", port)) as client:
+        client.sendall(b"00001 Home()\r\n")
+        answer = b""
+        while len(answer) < 18 and (piece := client.recv(PIECE)):
+            answer += piece
+    must(answer == b"00001 &\r\n00001 %\r\n", name, "the next connection is not relayed", answer)
+    status, out, error = ended(relay)
+    must((status, out) == (0, ""), name, status, out, error[:200])
+    must((folder / "told").read_text() == "DME-TOLD 1\n" + reported + "2 HOMED\n", name, (folder / "told").read_text()[:200])
+    must(kept < MOST_KEPT, name, kept >> 10, "KiB")
+    return kept >> 10
+
+
+# ---- long recordings
+
+
+def recordings(folder, touches):
+    """The recordings of that many touches, of four lines each, and of two with an error."""
+    up, down = [], []
+    for at in range(touches):
+        tag = "%05d" % (at % 99_999 + 1)
+        up.append(f"{tag} PtMeas(X({at % 100}.000), Y(0.000), Z(0.000))\r\n")
+        down.append(f"{tag} &\r\n" + (f"{tag} # X(0.000), Y(0.000), Z(0.000)\r\n" if at % 999 else f'{tag} ! Error(3, 1000, "", "")\r\n') + f"{tag} %\r\n")
+    (folder / "long.up").write_text("".join(up))
+    (folder / "long.down").write_text("".join(down))
+
+
+def seconds(folder, order):
+    before = resource.getrusage(resource.RUSAGE_CHILDREN).ru_utime
+    done = subprocess.run([str(PROGRAM), order, "--up", "long.up", "--down", "long.down"], cwd=folder, capture_output=True, timeout=SECONDS)
+    must(done.returncode in (0, 3), order, done.stderr[:200])
+    return resource.getrusage(resource.RUSAGE_CHILDREN).ru_utime - before
+
+
+def linear(folder, order, touches):
+    """Four times the lines take at most six times as long, and a tenth of a second more."""
+    recordings(folder, touches)
+    first = seconds(folder, order)
+    recordings(folder, 4 * touches)
+    second = seconds(folder, order)
+    must(second < 6 * first + 0.1, order, first, second)
+    return f"{16 * touches} lines in {second:.2f} s"
+
+
+def rows(megabytes):
+    for name in FLOODS:
+        yield name, lambda folder, name=name: f"{flood(folder, name, megabytes << 20)} KiB"
+    yield "long_ledger", lambda folder: linear(folder, "ledger", 12_500)
+
+
+def check_floods(megabytes=MEGABYTES, is_told=False):
+    """How many rows are correct, and how many are not."""
+    wrong = count = 0
+    for name, row in rows(megabytes):
+        count += 1
+        with tempfile.TemporaryDirectory() as room:
+            try:
+                told = row(pathlib.Path(room))
+            except (Wrong, OSError, subprocess.SubprocessError) as why:
+                wrong += 1
+                told = f"not as it has to be: {why}"
+        if is_told or "not as" in told:
+            print(f"floods, {name}: {told}")
+    print(f"floods and long recordings: {count - wrong} of {count}", flush=True)
+    return count - wrong, wrong
+
+
+if __name__ == "__main__":
+    sys.exit(1 if check_floods(int(sys.argv[1]) if sys.argv[1:] else MEGABYTES, True)[1] else 0)
