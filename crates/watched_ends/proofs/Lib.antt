@@ -1,4 +1,4 @@
 pub mod PlaceLemmas
 pub mod TurnLemmas
-pub mod PieceLemmas
 pub mod LimitLemmas
+pub mod PieceLemmas

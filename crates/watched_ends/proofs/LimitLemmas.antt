@@ -1,5 +1,5 @@
 -- A relay reads as far as it may.
-use Rattle.std.proofs.Common.{◌≡◌, ℕ, List, Option, Some, None, Result, Ok, Err, OnOk, refl, ap, sym, subst}
+use Rattle.std.proofs.Common.{◌≡◌, ℕ, List, Option, None, Result, Ok, Err, OnOk, sym, subst}
 use Rattle.witness.specs.Relaying.{Relaying, Reads, IsClientRead, IsServerRead, made_due}
 use Rattle.watched_ends.specs.Limits.{Limited, Within, limited, AreTooMany, ended, IsRead, all, some, none}
 

@@ -1,4 +1,4 @@
-//! What the recordings of both ends of a connection report (this profile).
+//! What a witness reports of a connection, as it relays it or from recordings of both ends, and what it keeps meanwhile (this profile).
 //!
 //! - `limits`: `LimitedRelay`, which keeps no more than it may
 //! - `places`: where the client uses each tag last

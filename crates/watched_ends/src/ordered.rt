@@ -1,6 +1,6 @@
 // The text of what two recordings report, if the order between the two ends is known.
 
-ghost use Rattle.std.specs.Prelude.{◌≡◌, ◌≤◌, ◌+◌, ℕ, List, length, take, drop, IfOk, IfSome};
+ghost use Rattle.std.specs.Prelude.{◌≡◌, ◌≤◌, ◌+◌, ◌++◌, ◌∷◌, [], ℕ, List, length, take, drop, IfOk, IfSome};
 ghost use Rattle.watched_ends.specs.Pieces as spec;
 
 use crate::limits::LimitedRelay;
@@ -71,6 +71,37 @@ fn come_down(
     Ok(Some(from + piece.len()))
 }
 
+/// A piece comes from its end, and is read: how many bytes of each end have come; nothing if there are not so many. Fails only if out of memory.
+fn come(
+    relay: &mut LimitedRelay,
+    up: &[u8],
+    down: &[u8],
+    so_far: (usize, usize),
+    piece: (Side, u64),
+) -> Result<Option<(usize, usize)>, AllocError>
+    requires up { so_far.0 ≤ length up.now }
+    requires down { so_far.1 ≤ length down.now }
+    ensures up { IfOk result (λ found. IfSome found (λ n. n.0 ≤ length up.now)) }
+    ensures down { IfOk result (λ found. IfSome found (λ n. n.1 ≤ length down.now)) }
+    ensures relayed { (connection : ℕ) (pieces : spec.Pieces)
+        → spec.Relayed connection pieces (take so_far.0 up.now) (take so_far.1 down.now) relay.old
+        → IfOk result (λ found. IfSome found (λ n. spec.Relayed connection
+        (pieces ++ piece ∷ []) (take n.0 up.now) (take n.1 down.now) relay.new)) }
+{
+    let (came_up, came_down) = so_far;
+    let (side, count) = piece;
+    match side {
+        Side::Client => match come_up(relay, up, came_up, count)? {
+            Some(more) => Ok(Some((more, came_down))),
+            None => Ok(None),
+        },
+        Side::Server => match come_down(relay, down, came_down, count)? {
+            Some(more) => Ok(Some((came_up, more))),
+            None => Ok(None),
+        },
+    }
+}
+
 /// What a server reported on a connection, by bytes that came from both ends in this order: the text, and whether all bytes came; nothing if the
 /// order is none, or of more bytes than there are. Fails only if out of memory.
 pub fn ordered_ledger_text(
@@ -87,21 +118,15 @@ pub fn ordered_ledger_text(
         return Ok(None);
     };
     let mut relay = LimitedRelay::new(alloc, connection);
-    let (mut up_count, mut down_count) = (0, 0);
-    for (side, count) in pieces.iter() {
-        match side {
-            Side::Client => match come_up(&mut relay, up, up_count, *count)? {
-                Some(more) => up_count = more,
-                None => return Ok(None),
-            },
-            Side::Server => match come_down(&mut relay, down, down_count, *count)? {
-                Some(more) => down_count = more,
-                None => return Ok(None),
-            },
+    let mut so_far = (0, 0);
+    for piece in pieces.iter() {
+        match come(&mut relay, up, down, so_far, *piece)? {
+            Some(more) => so_far = more,
+            None => return Ok(None),
         }
     }
     let mut text = Vec::from_slice(alloc, HEADER)?;
     text.extend_from_slice(relay.due())?;
-    let is_whole = up_count == up.len() && down_count == down.len();
+    let is_whole = so_far.0 == up.len() && so_far.1 == down.len();
     Ok(Some((text, is_whole)))
 }

@@ -1,4 +1,4 @@
-use Rattle.std.proofs.Common.{◌≡◌, Option, ap, sym, ◌∙◌, subst}
+use Rattle.std.proofs.Common.{Option, ap, sym, ◌∙◌, subst}
 use Rattle.witness.specs.Relaying.{Relaying}
 use Rattle.watched_ends.specs.Limits.{Limited, limited, IsRead}
 use Rattle.watched_ends.proofs.LimitLemmas.{if_ok, none_read, over_read, all_read}
@@ -13,14 +13,14 @@ returns-in_default c =
 pub returns-then-is_over : goal.returns-then-is_over
 returns-then-is_over c =
     if_ok c.end.result c.end.ensures (λ new_is.
-    over_read c.args.self.now c.end.new.self c.in-Some.relay c.read_most-is_over.new.relay
+    over_read c.args.self.now c.end.new.self c.in-Some.relay c.read_most.new.relay
     (sym c.self.view_is ∙ ap (λ (o : Option Relaying). limited o c.self.inside.up.waiting c.self.inside.down.waiting c.self.inside.due.items) c.in-Some.is)
-    c.read_most-is_over.ensures.reads c.read_most-is_over.ensures.others (c.in_ok-is_over.ensures.over c.if-is_over.true) new_is)
+    c.read_most.ensures.reads c.read_most.ensures.others (c.in_ok-is_over.ensures.over c.if-is_over.true) new_is)
 
 pub returns : goal.returns
 returns c =
     if_ok c.make_due.result c.make_due.ensures.ok (λ new_is.
-    all_read c.args.self.now c.in-Some.relay c.read_most-is_over.new.relay c.make_due.new.self
+    all_read c.args.self.now c.in-Some.relay c.read_most.new.relay c.make_due.new.self
     (sym c.self.view_is ∙ ap (λ (o : Option Relaying). limited o c.self.inside.up.waiting c.self.inside.down.waiting c.self.inside.due.items) c.in-Some.is)
-    c.read_most-is_over.ensures.reads c.read_most-is_over.ensures.others (c.in_ok-is_over.ensures.client c.if-is_over.false)
+    c.read_most.ensures.reads c.read_most.ensures.others (c.in_ok-is_over.ensures.client c.if-is_over.false)
     (c.in_ok-is_over.ensures.server c.if-is_over.false) new_is)
