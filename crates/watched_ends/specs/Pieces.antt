@@ -10,7 +10,7 @@ use Rattle.watched_ends.specs.Limits.{Limited, fresh, client_came, server_came, 
 abbrev pub header : List ℕ
 header = codes "DME-ORDER 1"
 
--- so many bytes of one end came at once: the mark of the end, and their count
+-- that many bytes of one end came at once: the mark of the end, and their count
 abbrev pub piece_line : Side × ℕ → List ℕ
 piece_line p = side_field p.0 ++ 32 ∷ decimal p.1
 

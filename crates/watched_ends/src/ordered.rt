@@ -8,7 +8,7 @@ use crate::pieces::read_order;
 use std::alloc::{AllocError, Global};
 use witness::{HEADER, Side};
 
-/// The bytes after a place, as many as there are to come; nothing if there are not so many.
+/// The bytes after a place, as many as there are to come; nothing if there are fewer.
 fn piece_of(bytes: &[u8], from: usize, count: u64) -> Option<&[u8]>
     requires { from ≤ length bytes.now }
     ensures { IfSome result (λ piece. (piece.now ≡ take count (drop from bytes.now))
@@ -25,7 +25,7 @@ fn piece_of(bytes: &[u8], from: usize, count: u64) -> Option<&[u8]>
     Some(piece)
 }
 
-/// Bytes come from the client, and are read: how many have come; nothing if there are not so many. Fails only if out of memory.
+/// Bytes come from the client, and are read: how many have come; nothing if there are fewer. Fails only if out of memory.
 #[tactic(auto, using(crate::proofs::PieceLemmas::came_up))]
 fn come_up(
     relay: &mut LimitedRelay,
@@ -71,7 +71,7 @@ fn come_down(
     Ok(Some(from + piece.len()))
 }
 
-/// A piece comes from its end, and is read: how many bytes of each end have come; nothing if there are not so many. Fails only if out of memory.
+/// A piece comes from its end, and is read: how many bytes of each end have come; nothing if there are fewer. Fails only if out of memory.
 fn come(
     relay: &mut LimitedRelay,
     up: &[u8],
@@ -103,7 +103,7 @@ fn come(
 }
 
 /// What a server reported on a connection, by bytes that came from both ends in this order: the text, and whether all bytes came; nothing if the
-/// order is none, or of more bytes than there are. Fails only if out of memory.
+/// text is no order, or one of more bytes than there are. Fails only if out of memory.
 pub fn ordered_ledger_text(
     alloc: Global,
     connection: u64,

@@ -43,7 +43,7 @@ pub fn recorded_text(
     }
 }
 
-/// What a person is told of an order, if not all is well.
+/// What a person is shown of an order, if not all is well.
 pub fn order_note(order: Order) -> Option<&'static str> {
     match order {
         Order::Whole => None,
