@@ -1,4 +1,3 @@
 pub mod PlaceLemmas
 pub mod TurnLemmas
 pub mod LimitLemmas
-pub mod PieceLemmas
