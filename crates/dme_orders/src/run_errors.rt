@@ -1,6 +1,6 @@
 // The errors that a record names for the features of its part.
 
-ghost use Rattle.std.specs.Prelude.{◌≡◌, ◌++◌, OnOk, IfOk, string_bytes};
+ghost use Rattle.std.specs.Prelude.{◌≡◌, IfOk, string_bytes};
 ghost use Rattle.std.specs.List.{flat_map};
 ghost use Rattle.dme_orders.specs.RunErrors.{error_line, errors_in};
 
@@ -8,17 +8,13 @@ use run_record::{Record, RunError};
 use session_telling::visible;
 use std::alloc::{AllocError, Global};
 
-/// Appends the line of an error. Fails only if out of memory.
-fn push_error(alloc: Global, text: &mut String, error: &RunError) -> Result<(), AllocError>
-    ensures { OnOk result (string_bytes text.new
-        ≡ string_bytes text.old ++ error_line error.now) }
+/// The line of an error. Fails only if out of memory.
+fn error_text(alloc: Global, error: &RunError) -> Result<String, AllocError>
+    ensures { IfOk result (λ text. string_bytes text ≡ error_line error.now) }
 {
     let label = &error.label;
     let shown = visible(alloc, error.text.as_bytes())?;
-    writeln!(
-        text,
-        "dme: {label}: during its run the server reported {shown}"
-    )
+    format!(in alloc; "dme: {label}: during its run the server reported {shown}\n")
 }
 
 /// The lines of errors. Fails only if out of memory.
@@ -27,7 +23,8 @@ fn lines_of(alloc: Global, errors: &[RunError]) -> Result<String, AllocError>
 {
     let mut text = String::new(alloc);
     for error in errors {
-        push_error(alloc, &mut text, error)?;
+        let line = error_text(alloc, error)?;
+        text.push_str(line.as_str())?;
     }
     Ok(text)
 }
