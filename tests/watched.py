@@ -335,10 +335,12 @@ def full_file(folder):
 
 def nobody(folder):
     """A server that does not listen, and two ends that are silent."""
-    relay, port = watch(folder, free_port())
+    server_port = free_port()
+    relay, port = watch(folder, server_port)
     with socket.create_connection(("127.0.0.1", port), SECONDS) as stream:
         must(stream.recv(1) == b"", "an answer")
-    must(ended(relay) == (1, "", "dme: connection failed\nconnection refused\n"), "refused")
+    cause = f"connection refused by 127.0.0.1, port {server_port}: is the server started?\n"
+    must(ended(relay) == (1, "", f"dme: connection failed\n{cause}"), "refused")
     with socket.create_server(("127.0.0.1", 0)) as listener:
         relay, port = watch(folder, listener.getsockname()[1], "--timeout", "1")
         with socket.create_connection(("127.0.0.1", port), SECONDS) as stream:
