@@ -26,41 +26,51 @@ fn push_told(out: &mut Vec<u8>, world: &World) -> Result<(), AllocError> {
 
 // ---- the calls
 
-/// A call for which memory can be short.
-#[derive(Clone, Copy)]
-enum Call<'a> {
-    Step(Event),
-    /// The first two events of a world. If memory is short for the first of them, the second cannot happen.
-    Run,
-    /// A schedule of one event.
-    Play(&'a Schedule),
+/// All that the readers of a world answer.
+fn push_readers(out: &mut Vec<u8>, world: &World) -> Result<(), AllocError> {
+    push_told(out, world)?;
+    push_debug(out, &(world.running(), world.ledger().acts()))?;
+    out.extend_from_slice(world.written())?;
+    push_debug(out, world.setup())?;
+    push_acts(out, world.counted())?;
+    push_features(out, world.features())
 }
 
-/// The first two events of a world happen.
-fn run_two(world: &mut World) -> Result<(), WorldFault> {
-    match world.run(&[Event::Connect, Event::Accept(1)]) {
-        RunCount { done: 2, .. } => Ok(()),
-        RunCount { memory: 1, .. } => Err(WorldFault::Memory),
-        _ => Err(WorldFault::NotNow),
-    }
-}
-
-impl Called<Call<'_>, WorldFault> for World {
+/// An event happens.
+impl Called<Event, WorldFault> for World {
     fn push_all(&self, out: &mut Vec<u8>) -> Result<(), AllocError> {
-        push_told(out, self)?;
-        push_debug(out, &(self.running(), self.ledger().acts()))?;
-        out.extend_from_slice(self.written())?;
-        push_debug(out, self.setup())?;
-        push_acts(out, self.counted())?;
-        push_features(out, self.features())
+        push_readers(out, self)
     }
 
-    fn make(&mut self, call: &Call<'_>) -> Result<bool, WorldFault> {
-        match *call {
-            Call::Step(event) => self.step(event)?,
-            Call::Run => run_two(self)?,
-            Call::Play(schedule) => schedule.play(self).map_err(|_| WorldFault::Memory)?,
+    fn make(&mut self, event: &Event) -> Result<bool, WorldFault> {
+        self.step(*event)?;
+        Ok(true)
+    }
+}
+
+/// The first two events of a world happen. If memory is short for the first of them, the second cannot.
+impl Called<(), WorldFault> for World {
+    fn push_all(&self, out: &mut Vec<u8>) -> Result<(), AllocError> {
+        push_readers(out, self)
+    }
+
+    fn make(&mut self, _call: &()) -> Result<bool, WorldFault> {
+        match self.run(&[Event::Connect, Event::Accept(1)]) {
+            RunCount { done: 2, .. } => Ok(true),
+            RunCount { memory: 1, .. } => Err(WorldFault::Memory),
+            _ => Err(WorldFault::NotNow),
         }
+    }
+}
+
+/// A schedule of one event is played.
+impl Called<Schedule, AllocError> for World {
+    fn push_all(&self, out: &mut Vec<u8>) -> Result<(), AllocError> {
+        push_readers(out, self)
+    }
+
+    fn make(&mut self, schedule: &Schedule) -> Result<bool, AllocError> {
+        schedule.play(self)?;
         Ok(true)
     }
 }
@@ -70,16 +80,11 @@ fn schedule(alloc: Global, row: &str) -> Result<Schedule, Stop> {
     Ok(Schedule::read(alloc, text.as_slice())?)
 }
 
-/// A call that must succeed.
-fn push_call(out: &mut Vec<u8>, world: &mut World, call: Call<'_>) -> Pushed {
-    push_tried(out, world, WorldFault::Memory, &call)
-}
-
 /// The event of a row happens.
 fn push_step(out: &mut Vec<u8>, world: &mut World, row: &str) -> Pushed {
     let schedule = schedule(*out.allocator(), row)?;
     match schedule.instructions() {
-        [Instruction::Once(event)] => push_call(out, world, Call::Step(*event)),
+        [Instruction::Once(event)] => push_tried(out, world, WorldFault::Memory, event),
         _ => Err(Stop::Row),
     }
 }
@@ -89,8 +94,8 @@ fn push_called(out: &mut Vec<u8>, world: &mut World, row: &str) -> Pushed {
     let alloc = *out.allocator();
     let (word, rest) = row.split_once(" ").unwrap_or((row, ""));
     match word {
-        "run" => push_call(out, world, Call::Run),
-        "play" => push_call(out, world, Call::Play(&schedule(alloc, rest)?)),
+        "run" => push_tried(out, world, WorldFault::Memory, &()),
+        "play" => push_tried(out, world, AllocError, &schedule(alloc, rest)?),
         "then" => Ok(schedule(alloc, rest)?.play(world)?),
         _ => push_step(out, world, row),
     }

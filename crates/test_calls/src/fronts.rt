@@ -21,10 +21,15 @@ struct Front<'a> {
     front: &'a [u8],
 }
 
+/// One byte moves.
+fn byte_moves(is_up: bool) -> Event {
+    if is_up { Event::Up(1) } else { Event::Down(1) }
+}
+
 /// How many bytes wait on a way. Counting moves them.
-fn bytes_moved(world: &mut World, byte_moves: Event) -> Result<u64, Stop> {
+fn bytes_moved(world: &mut World, is_up: bool) -> Result<u64, Stop> {
     for count in 0..BYTES_MOST {
-        match world.step(byte_moves) {
+        match world.step(byte_moves(is_up)) {
             Ok(()) => {}
             Err(WorldFault::NotNow) => return Ok(count),
             Err(WorldFault::Memory) => return Err(Stop::Memory),
@@ -48,8 +53,8 @@ impl Task<World> for Numbers<'_> {
         self.found = match self.word {
             "once" => (0, 0),
             "features" => (0, world.features().len() as u64),
-            "up" => (1, bytes_moved(world, Event::Up(1))?),
-            "down" => (1, bytes_moved(world, Event::Down(1))?),
+            "up" => (1, bytes_moved(world, true)?),
+            "down" => (1, bytes_moved(world, false)?),
             _ => return Err(Stop::Row),
         };
         Ok(())
@@ -92,7 +97,7 @@ impl Front<'_> {
         };
         push_world(out, self.made, &mut numbers)?;
         let (first, last) = numbers.found;
-        for number in first..=last {
+        for number in first..last.saturating_add(1) {
             self.push_stopped(out, (way, row), number)?;
         }
         Ok(())

@@ -153,16 +153,13 @@ impl BothTask for Cut<'_> {
     /// Both ends after a count of commands; at last whether the audit of what they keep answers RUNS.
     fn push_both(&mut self, out: &mut Vec<u8>, ends: (&mut Client, &mut Server)) -> Pushed {
         let alloc = *out.allocator();
-        let mut both = Both::new(alloc, ends, self.before)?;
+        let (client, server) = ends;
+        let mut both = Both::new(alloc, (&mut *client, &mut *server), self.before)?;
         self.drive(out, &mut both)?;
         push_both(out, &both)?;
+        drop(both);
         let program = read_program(alloc, self.made)?;
-        let verdict = audit(
-            alloc,
-            &program,
-            both.client.features(),
-            both.server.ledger(),
-        )?;
+        let verdict = audit(alloc, &program, client.features(), server.ledger())?;
         match verdict {
             Verdict::Starts(_) => Ok(push_text(out, "RUNS")?),
             Verdict::NoRun(_) => Ok(push_text(out, "NONE")?),

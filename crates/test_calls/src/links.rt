@@ -39,7 +39,7 @@ pub(crate) struct Script<'a> {
 struct Asked<'a> {
     word: &'a str,
     least: usize,
-    bound: u32,
+    bound: u64,
     read: u32,
     write: u32,
     takes: u32,
@@ -66,7 +66,7 @@ impl<'a> Asked<'a> {
         let number: u32 = number.parse().ok().ok_or(Stop::Row)?;
         match word {
             "least" => self.least = number as usize,
-            "bound" => self.bound = number,
+            "bound" => self.bound = number as u64,
             "read" => self.read = number,
             "write" => self.write = number,
             "takes" => self.takes = number,
@@ -206,7 +206,7 @@ impl Side for Client {
         let mut ports = asked.ports(*out.allocator(), call.script.replies)?;
         match asked.word {
             "turns" => {
-                let answer = client_turns(self, &mut ports, asked.least, asked.bound as u64);
+                let answer = client_turns(self, &mut ports, asked.least, asked.bound);
                 push_answer(out, &answer)?;
             }
             "runs" => push_answer(out, &run_link(self, &mut ports))?,
@@ -241,8 +241,7 @@ impl Side for Server {
         let mut ports = asked.ports(*out.allocator(), call.script.commands)?;
         let mut machine = Simulated::new(*out.allocator(), self.setup())?;
         if asked.word == "serves" {
-            let bound = asked.bound as u64;
-            let answer = serve_turns(self, &mut machine, &mut ports, asked.least, bound);
+            let answer = serve_turns(self, &mut machine, &mut ports, asked.least, asked.bound);
             push_answer(out, &answer)?;
         } else {
             push_answer(out, &serve_link(self, &mut machine, &mut ports))?;
@@ -397,6 +396,24 @@ impl BothTask for Call<'_> {
 }
 
 /// What a row of ports shows: a turn or a run of a client or a server, what is reported to a watcher, or a loop.
+fn given_to<'a>(word: &str, given: &'a str, script: Script<'a>) -> Script<'a> {
+    match (word, given) {
+        ("loops" | "turns" | "runs" | "watches", "all") => script,
+        ("loops" | "turns" | "runs" | "watches", _) => Script {
+            replies: given,
+            commands: script.commands,
+            last_replies: script.last_replies,
+            last_commands: script.last_commands,
+        },
+        _ => Script {
+            replies: script.replies,
+            commands: given,
+            last_replies: script.last_replies,
+            last_commands: script.last_commands,
+        },
+    }
+}
+
 pub(crate) fn push_row<'a>(
     out: &mut Vec<u8>,
     made: Made<'_>,
@@ -408,21 +425,13 @@ pub(crate) fn push_row<'a>(
     for pair in words.split(", ") {
         asked.ask(pair)?;
     }
-    let replies = if given == "all" {
-        script.replies
-    } else {
-        given
-    };
     let mut call = Call {
         asked,
-        script: Script { replies, ..script },
+        script: given_to(word, given, script),
     };
     match word {
         "loops" => push_both(out, made, &mut call),
         "turns" | "runs" | "watches" => push_client(out, made, &mut call),
-        _ => {
-            call.script.commands = given;
-            push_server(out, made, &mut call)
-        }
+        _ => push_server(out, made, &mut call),
     }
 }
