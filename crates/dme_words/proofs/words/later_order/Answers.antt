@@ -1,9 +1,0 @@
-use Rattle.clap.specs.Words.{found_of, rows_of}
-use Rattle.dme_words.proofs.LaterLemmas.{has_run, has_watch}
-use Rattle.dme_words.proofs.words.later_order.Goals as goal
-
-pub run_order-requires : goal.run_order-requires
-run_order-requires c = has_run (c.args.name.now, rows_of (found_of c.args.values.now)) c.requires c.in-run.is
-
-pub watch_order-requires : goal.watch_order-requires
-watch_order-requires c = has_watch (c.args.name.now, rows_of (found_of c.args.values.now)) c.requires c.in-watch.is

@@ -1,3 +1,0 @@
-pub mod PlaceLemmas
-pub mod TurnLemmas
-pub mod LimitLemmas
