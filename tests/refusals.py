@@ -93,7 +93,7 @@ CALLS = {
     "link_world report_of": (CALL, "client ONE 1#3", "report"),
     "server_core Server::feed": (CALL, "server#4", "00001 StartSession()"),
     "server_core Server::read_one": (CALL, "server#4", "00001 StartSession()"),
-    "server_core Server::turn": (CALL, "server#4", "turn"),
+    "server_core Server::turn": (CALL, "server#5", "turn"),
     "server_core Server::machine": (CALL, "server#4", "done"),
     "link_world write_contact_rows": (CALL, "server#4", "contact rows"),
     "link_world World::new": (CALL, "world ONE 1", "[world ONE 1]"),
