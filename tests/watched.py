@@ -91,7 +91,7 @@ def must_not_be_blamed(folder, number=1):
 
 def cleared(folder):
     """The folder without what an earlier connection has left in it."""
-    for name in ("told", "contacts", "1.up", "1.down"):
+    for name in ("told", "contacts", "1.up", "1.down", "1.order"):
         (folder / name).unlink(missing_ok=True)
     return folder
 

@@ -16,7 +16,8 @@ means that the change was made, and is so at the `%`; a line without a command o
 begins; a tool that is lost for the sake of no line is reported by a fault before the end of the next touch; a line has at most one `%`.
 
 By itself: tests/witness.py [SESSIONS], which is how many sessions each family has (250 by default); or tests/witness.py UP DOWN [ORDER], which
-prints the contacts of a recording. ORDER has a line `> COUNT` or `< COUNT` for each piece of that many bytes, in the order in which they came.
+prints the contacts of a recording. ORDER is a file as `dme watch --record-bytes` keeps it: after its first line, one `> COUNT` or `< COUNT` for
+each piece of that many bytes, in the order in which they came.
 """
 
 import collections
@@ -73,7 +74,7 @@ def lines_of_one_recording(up, down, order):
     """Both ends' lines, each where its last byte came."""
     waiting = {">": ends_of_lines(up), "<": ends_of_lines(down)}
     come, lines = {">": 0, "<": 0}, []
-    for side, count in (it.split() for it in order.splitlines()):
+    for side, count in (it.split() for it in order.splitlines()[1:]):
         come[side] += int(count)
         while waiting[side] and waiting[side][0][1] <= come[side]:
             lines.append((side, waiting[side].pop(0)[0]))
@@ -549,10 +550,15 @@ def is_so(contact, made):
     return made is not None and (contact.target, contact.direction) == made[:2] and tool in (None, made.tool) and frame in (None, made.frame)
 
 
+def order_of(lines):
+    """The text of their order, each in a piece of its own."""
+    return "DME-ORDER 1\n" + "".join(f"{side} {len(line) + 2}\n" for side, line in lines)
+
+
 def check_recording(lines):
     """An ordered recording gives these lines again."""
     up, down = recordings(lines)
-    order = "".join(f"{side} {len(line) + 2}\n" for side, line in lines)
+    order = order_of(lines)
     must(lines_of_one_recording(up, down, order) == lines, "an ordered recording is read as other lines")
 
 
@@ -560,19 +566,22 @@ def recordings(lines):
     return (b"".join(line + b"\r\n" for side, line in lines if side == end) for end in "><")
 
 
-def ledger_of(lines, folder):
+def ledger_of(lines, folder, ordered):
     """What the program reports of the two recordings of a connection, line by line, without the number of the connection."""
-    for name, recording in zip(("up", "down"), recordings(lines)):
+    for name, recording in zip(("1.up", "1.down"), recordings(lines)):
         (folder / name).write_bytes(recording)
-    words = [PROGRAM, "ledger", "--up", folder / "up", "--down", folder / "down"]
+    (folder / "1.order").unlink(missing_ok=True)
+    if ordered:
+        (folder / "1.order").write_text(order_of(lines))
+    words = [PROGRAM, "ledger", "--up", folder / "1.up", "--down", folder / "1.down"]
     told = subprocess.run(words, capture_output=True, check=True, timeout=60).stdout.decode("latin-1").split("\n")
     must(told[0] == "DME-TOLD 1" and told[-1] == "" and all(it[:2] == "1 " for it in told[1:-1]), "no told file")
     return [it[2:] for it in told[1:-1]]
 
 
-def check_ledger(session, folder, name):
-    """The program reports of two recordings what the rules say, line by line."""
-    due, told = told_lines(session.lines, False), ledger_of(session.lines, folder)
+def check_ledger(session, folder, name, ordered):
+    """The program reports of two recordings what the rules say, line by line, with their order and without."""
+    due, told = told_lines(session.lines, ordered), ledger_of(session.lines, folder, ordered)
     if due != told:
         text = "\n".join(f"{side} {line.decode('latin-1')}" for side, line in session.lines)
         raise Wrong("\n".join([name, text, "the program reports", *told, "and the rules", *due]))
@@ -597,7 +606,8 @@ def check_family(family, count):
             session, name = foreign_session(family, seed) if family else ordinary_session(seed), f"{family or 'ordinary session'} {seed}"
             check_recording(session.lines)
             if PROGRAM.exists():
-                check_ledger(session, pathlib.Path(folder), name)
+                for ordered in (False, True):
+                    check_ledger(session, pathlib.Path(folder), name, ordered)
             for ordered in [True] if family in ONLY_WITH_ORDER else [True, False]:
                 found.append(check_session(session, not family, ordered, name))
     contacts, known = (sum(it) for it in zip(*found))

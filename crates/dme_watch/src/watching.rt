@@ -18,7 +18,7 @@ use std::net::{Net, Shutdown, TcpListener, TcpStream};
 use std::rt::{Clock, Files};
 use std::time::{Duration, Instant};
 use watched_ends::LimitedRelay;
-use witness::HEADER;
+use witness::{HEADER, Side as End};
 
 /// The most bytes that are read at once.
 const PIECE: usize = 65_536;
@@ -69,6 +69,14 @@ struct Keeper<'a, R: Eprint> {
     has_failed: bool,
 }
 
+/// An end, as a recording has it.
+fn end_of(side: Side) -> End {
+    match side {
+        Side::Client => End::Client,
+        Side::Server => End::Server,
+    }
+}
+
 impl<'a, R: Files<File = File> + Eprint + Clock + AllocGlobal> Keeper<'a, R> {
     /// A fault is shown, and nothing else stops.
     fn fail(&mut self, fault: OrderFault) {
@@ -100,11 +108,10 @@ impl<'a, R: Files<File = File> + Eprint + Clock + AllocGlobal> Keeper<'a, R> {
         let Some(recording) = &mut self.recording else {
             return;
         };
-        let (name, file) = match side {
-            Side::Client => &mut recording.up,
-            Side::Server => &mut recording.down,
-        };
-        if file.write_all(bytes).is_err() {
+        if bytes.is_empty() {
+            return;
+        }
+        if let Err(name) = recording.keep(self.rt.alloc(), end_of(side), bytes) {
             let _ = eprintln!(self.rt; "dme: cannot write {name}");
             self.has_failed = true;
             self.recording = None;

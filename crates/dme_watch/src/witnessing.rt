@@ -1,14 +1,14 @@
 // The order `ledger`, on files and standard output.
 
 use byte_ports::{Failed, PullFault, Writing, pull_all, push_all};
-use dme_files::{Fault, NamedSource, Sources, of_output};
+use dme_files::{Fault, NamedSource, Sources, of_output, order_beside};
 use dme_orders::{FilesFault, OrderFault};
 use dme_words::Ledger;
 use line_framing::{Lines, LinesFault};
 use std::alloc::AllocError;
 use std::io;
 use std::rt::Files;
-use watched_ends::ledger_text;
+use watched_ends::{Order, order_note, recorded_text};
 
 /// The name and the bytes of a file.
 fn recording<R: Files + Input + AllocGlobal>(
@@ -61,18 +61,27 @@ pub fn ledger<R: Files + Input + Print + Eprint + AllocGlobal>(
     order: Ledger,
 ) -> Result<u8, Fault> {
     let mut sources = Sources::new(rt, false);
+    let beside = order_beside(rt.alloc(), order.up.as_str(), order.down.as_str())?;
     let up = sources.file(order.up);
     let down = sources.file(order.down);
     let (up_name, up) = recording(rt, up)?;
     let (down_name, down) = recording(rt, down)?;
+    let (name, pieces) = recording(rt, sources.kept(beside))?;
     tell_unread(rt, &up_name, up.as_slice())?;
     tell_unread(rt, &down_name, down.as_slice())?;
-    let text = ledger_text(
+    let (text, known) = recorded_text(
         rt.alloc(),
         u64::from(order.connection),
         up.as_slice(),
         down.as_slice(),
+        pieces.as_slice(),
     )?;
+    if let Some(note) = order_note(known) {
+        let _ = eprintln!(rt; "dme: {note}");
+    }
+    if known == Order::NotTheirs {
+        return Err(Fault::Order(OrderFault::CannotRead(name)));
+    }
     match push_all(&mut Writing::new(io::writer(rt)), text.as_slice()) {
         Ok(()) => Ok(0),
         Err(Failed) => Err(Fault::Order(of_output(rt, FilesFault::Write))),

@@ -1,3 +1,5 @@
 pub mod Turns
 pub mod Ledgers
 pub mod Limits
+pub mod Pieces
+pub mod Recorded

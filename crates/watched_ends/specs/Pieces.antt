@@ -1,0 +1,48 @@
+-- The order in which the bytes of both ends of a connection came, as a text (this profile), and what they report in that order.
+use Rattle.std.specs.Prelude.{◌≡◌, ℕ, ◌≤◌, Bool, true, false, ◌==◌, ◌&&◌, List, [], ◌∷◌, ◌++◌, length, take, map, codes, decimal}
+use Rattle.contact_ledger.specs.Lines.{whole_lines}
+use Rattle.witness.specs.declared.lines.Side.{Side}
+use Rattle.witness.specs.declared.lines.Side.TheVariants.{Client, Server}
+use Rattle.witness.specs.Texts.{side_field}
+use Rattle.watched_ends.specs.Limits.{Limited, fresh, client_came, server_came, IsRead, due_of}
+
+-- the first line of the text
+abbrev pub header : List ℕ
+header = codes "DME-ORDER 1"
+
+-- so many bytes of one end came at once: the mark of the end, and their count
+abbrev pub piece_line : Side × ℕ → List ℕ
+piece_line p = side_field p.0 ++ 32 ∷ decimal p.1
+
+-- pieces in the order in which they came, and one more of the client, or of the server
+abbrev pub Pieces : Type 0
+Pieces = List (Side × ℕ)
+
+abbrev pub with_up : Pieces → ℕ → Pieces
+with_up pieces count = pieces ++ (Client, count) ∷ []
+
+abbrev pub with_down : Pieces → ℕ → Pieces
+with_down pieces count = pieces ++ (Server, count) ∷ []
+
+-- the text says that pieces came in this order
+abbrev pub IsOrder : List ℕ → Pieces → Type 0
+IsOrder text pieces = whole_lines text ≡ header ∷ map piece_line pieces
+
+-- a relay, which reads what waits after each piece that has come: its pieces, and the bytes of the client and of the server
+pub data Relayed (connection : ℕ) : Pieces → List ℕ → List ℕ → Limited → Type 0 where
+  begun : Relayed connection [] [] [] (fresh connection)
+  client : (pieces : Pieces) (up down bytes : List ℕ) (r new : Limited) → Relayed connection pieces up down r
+      → IsRead (client_came r bytes) new → Relayed connection (with_up pieces (length bytes)) (up ++ bytes) down new
+  server : (pieces : Pieces) (up down bytes : List ℕ) (r new : Limited) → Relayed connection pieces up down r
+      → IsRead (server_came r bytes) new → Relayed connection (with_down pieces (length bytes)) up (down ++ bytes) new
+
+-- the text of what such a relay reports, to which the bytes of two recordings came in an order; and whether all their bytes did
+pub record IsReportedIn (connection : ℕ) (up down order text : List ℕ) (is_whole : Bool) : Type 0 where
+  pub pieces : Pieces
+  pub order_is : IsOrder order pieces
+  pub up_count : ℕ
+  pub down_count : ℕ
+  pub relay : Limited
+  pub relayed : Relayed connection pieces (take up_count up) (take down_count down) relay
+  pub text_is : text ≡ codes "DME-TOLD 1\n" ++ due_of relay
+  pub whole : is_whole ≡ ((up_count == length up) && (down_count == length down))

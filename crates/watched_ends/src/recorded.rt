@@ -1,0 +1,56 @@
+// What two recordings report, with the order between the two ends, or without.
+
+ghost use Rattle.std.specs.Prelude.{◌≡◌, [], IfOk};
+ghost use Rattle.watched_ends.specs.Recorded as spec;
+
+use crate::ledger::ledger_text;
+use crate::ordered::ordered_ledger_text;
+use std::alloc::{AllocError, Global};
+
+/// What is known of the order between the two ends.
+#[derive(Clone, Copy, Debug, PartialEq, Eq)]
+pub enum Order {
+    /// In which order all their bytes came.
+    Whole,
+    /// Likewise, but not of the last bytes, which are not read.
+    Part,
+    /// Nothing.
+    Unknown,
+    /// It is the order of other recordings, or none.
+    NotTheirs,
+}
+
+/// The text of what a server reported on a connection, by all the bytes that its client and it have sent on it, and the text of their order,
+/// which is empty if none is known. A line without its end is not read. Fails only if out of memory.
+pub fn recorded_text(
+    alloc: Global,
+    connection: u64,
+    up: &[u8],
+    down: &[u8],
+    order: &[u8],
+) -> Result<(Vec<u8>, Order), AllocError>
+    ensures { IfOk result (λ r.
+        spec.IsRecorded connection up.now down.now order.now r.0.items r.1) }
+{
+    if order.is_empty() {
+        let text = ledger_text(alloc, connection, up, down)?;
+        return Ok((text, Order::Unknown));
+    }
+    match ordered_ledger_text(alloc, connection, up, down, order)? {
+        Some((text, true)) => Ok((text, Order::Whole)),
+        Some((text, false)) => Ok((text, Order::Part)),
+        None => Ok((Vec::new(alloc), Order::NotTheirs)),
+    }
+}
+
+/// What a person is told of an order, if not all is well.
+pub fn order_note(order: Order) -> Option<&'static str> {
+    match order {
+        Order::Whole => None,
+        Order::Part => Some("the order of the two ends does not have their last bytes"),
+        Order::Unknown => Some(
+            "without the order of the two ends, early replies and tags used while in use are not found",
+        ),
+        Order::NotTheirs => Some("the order of the two ends is not that of these recordings"),
+    }
+}
