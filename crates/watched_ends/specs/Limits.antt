@@ -1,5 +1,5 @@
 -- A relay that keeps no more than it may (this profile).
-use Rattle.std.specs.Prelude.{◌≡◌, ℕ, ◌<◌, ◌-◌, Bool, true, false, nat_lt, if◌then◌else◌, List, [], ◌∷◌, ◌++◌, length, drop, Option, Some, None}
+use Rattle.std.specs.Prelude.{◌≡◌, ℕ, ◌-◌, Bool, true, false, ◌||◌, nat_lt, if◌then◌else◌, List, [], ◌∷◌, ◌++◌, length, drop, Option, Some, None}
 use Rattle.dme_line.specs.declared.tags.Tag.{Tag}
 use Rattle.dme_line.specs.declared.tags.Tag.TheVariants.{Event}
 use Rattle.witness.specs.Relaying as relays
@@ -55,9 +55,8 @@ keeps_more most [] = false
 keeps_more most (u ∷ uses) = if nat_lt most (kept u.command) then true else keeps_more (most - kept u.command) uses
 
 -- more than 10,000 lines are open, or more than 16 MiB are kept of them
-pub data AreTooMany (uses : List Use) : Type 0 where
-  lines : 10000 < length uses → AreTooMany uses
-  bytes : keeps_more 16777216 uses ≡ true → AreTooMany uses
+abbrev pub are_too_many : List Use → Bool
+are_too_many uses = nat_lt 10000 (length uses) || keeps_more 16777216 uses
 
 -- what was read is due, and that there are too many; nothing more is reported
 abbrev pub ended : Limited → Limited
@@ -69,8 +68,8 @@ ended (Past up down due) = Past up down due
 -- there are too many
 pub data IsRead : Limited → Limited → Type 0 where
   all : (r : Relaying) (w : Watching) → Reads r.watching w → IsClientRead w → IsServerRead w
-      → IsRead (Within r) (Within (made_due (record r { watching = w })))
-  some : (r : Relaying) (w : Watching) → Reads r.watching w → AreTooMany w.dialogue.uses
+      → are_too_many w.dialogue.uses ≡ false → IsRead (Within r) (Within (made_due (record r { watching = w })))
+  some : (r : Relaying) (w : Watching) → Reads r.watching w → are_too_many w.dialogue.uses ≡ true
       → IsRead (Within r) (ended (Within (record r { watching = w })))
   none : (up down due : List ℕ) → IsRead (Past up down due) (Past up down due)
 

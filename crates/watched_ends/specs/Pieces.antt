@@ -10,7 +10,7 @@ use Rattle.watched_ends.specs.Limits.{Limited, fresh, client_came, server_came, 
 abbrev pub header : List ℕ
 header = codes "DME-ORDER 1"
 
--- so many bytes of one end came at once: the mark of the end, and their count
+-- bytes of one end came at once: the mark of the end, and their count
 abbrev pub piece_line : Side × ℕ → List ℕ
 piece_line p = side_field p.0 ++ 32 ∷ decimal p.1
 
@@ -28,21 +28,28 @@ with_down pieces count = pieces ++ (Server, count) ∷ []
 abbrev pub IsOrder : List ℕ → Pieces → Type 0
 IsOrder text pieces = whole_lines text ≡ header ∷ map piece_line pieces
 
--- a relay, which reads what waits after each piece that has come: its pieces, and the bytes of the client and of the server
-pub data Relayed (connection : ℕ) : Pieces → List ℕ → List ℕ → Limited → Type 0 where
-  begun : Relayed connection [] [] [] (fresh connection)
-  client : (pieces : Pieces) (up down bytes : List ℕ) (r new : Limited) → Relayed connection pieces up down r
-      → IsRead (client_came r bytes) new → Relayed connection (with_up pieces (length bytes)) (up ++ bytes) down new
-  server : (pieces : Pieces) (up down bytes : List ℕ) (r new : Limited) → Relayed connection pieces up down r
-      → IsRead (server_came r bytes) new → Relayed connection (with_down pieces (length bytes)) up (down ++ bytes) new
+-- a relay, and what it has become once pieces have come, after each of which it read what waits: the pieces, and the bytes of the client and
+-- of the server
+pub data Relayed (first : Limited) : Pieces → List ℕ → List ℕ → Limited → Type 0 where
+  begun : Relayed first [] [] [] first
+  client : (pieces : Pieces) (up down bytes : List ℕ) (r new : Limited) → Relayed first pieces up down r
+      → IsRead (client_came r bytes) new → Relayed first (with_up pieces (length bytes)) (up ++ bytes) down new
+  server : (pieces : Pieces) (up down bytes : List ℕ) (r new : Limited) → Relayed first pieces up down r
+      → IsRead (server_came r bytes) new → Relayed first (with_down pieces (length bytes)) up (down ++ bytes) new
 
--- the text of what such a relay reports, to which the bytes of two recordings came in an order; and whether all their bytes did
+-- the text of what a relay reports, to which pieces of the bytes of two recordings came; and whether all their bytes did
+pub record AreReported (first : Limited) (up down : List ℕ) (pieces : Pieces) (text : List ℕ) (is_whole : Bool) : Type 0 where
+  pub up_count : ℕ
+  pub up_within : up_count ≤ length up
+  pub down_count : ℕ
+  pub down_within : down_count ≤ length down
+  pub relay : Limited
+  pub relayed : Relayed first pieces (take up_count up) (take down_count down) relay
+  pub text_is : text ≡ codes "DME-TOLD 1\n" ++ due_of relay
+  pub whole : is_whole ≡ ((up_count == length up) && (down_count == length down))
+
+-- likewise of a new relay, by the text of their order
 pub record IsReportedIn (connection : ℕ) (up down order text : List ℕ) (is_whole : Bool) : Type 0 where
   pub pieces : Pieces
   pub order_is : IsOrder order pieces
-  pub up_count : ℕ
-  pub down_count : ℕ
-  pub relay : Limited
-  pub relayed : Relayed connection pieces (take up_count up) (take down_count down) relay
-  pub text_is : text ≡ codes "DME-TOLD 1\n" ++ due_of relay
-  pub whole : is_whole ≡ ((up_count == length up) && (down_count == length down))
+  pub reported : AreReported (fresh connection) up down pieces text is_whole

@@ -72,6 +72,13 @@ fn keep_more(uses: &[Use]) -> bool
     false
 }
 
+/// Whether too many lines are open, or too many bytes are kept of them.
+fn are_too_many(uses: &[Use]) -> bool
+    ensures { result ≡ spec.are_too_many uses.now }
+{
+    uses.len() > MOST_OPEN || keep_more(uses)
+}
+
 /// The text that is due, and that too many lines are open. Fails only if out of memory.
 fn ended_text(alloc: Global, relay: &Relay, tag: Tag) -> Result<Vec<u8>, AllocError>
     ensures { IfOk result (λ text. text.items ≡ relay.now.due
@@ -90,13 +97,13 @@ fn read_most(relay: &mut Relay) -> Result<bool, AllocError>
     ensures others { relay.new ≡ record relay.old { watching = relay.new.watching } }
     ensures client { IfOk result (λ over. over ≡ false → IsClientRead relay.new.watching) }
     ensures server { IfOk result (λ over. over ≡ false → IsServerRead relay.new.watching) }
-    ensures over { IfOk result (λ over. over ≡ true
-        → spec.AreTooMany relay.new.watching.dialogue.uses) }
+    ensures over { IfOk result (λ over. over
+        ≡ spec.are_too_many relay.new.watching.dialogue.uses) }
 {
     if relay.read_within(MOST_OPEN)? {
         return Ok(true);
     }
-    Ok(keep_more(relay.uses()))
+    Ok(are_too_many(relay.uses()))
 }
 
 impl LimitedRelay {

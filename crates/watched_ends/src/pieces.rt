@@ -27,7 +27,7 @@ fn mark_of(side: Side) -> &'static [u8]
     }
 }
 
-/// Adds that so many bytes of an end have come at once. An `Err` discards the text.
+/// Adds that `count` bytes of an end have come at once. An `Err` discards the text.
 pub fn add_piece(text: &mut Vec<u8>, side: Side, count: u64) -> Result<(), AllocError>
     ensures { OnOk result (text.new.items
         ≡ text.old.items ++ (spec.piece_line (side, count) ++ 10 ∷ [])) }

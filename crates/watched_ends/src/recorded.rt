@@ -16,7 +16,7 @@ pub enum Order {
     Part,
     /// Nothing.
     Unknown,
-    /// It is the order of other recordings, or none.
+    /// It is the order of other recordings, or not a text of one.
     NotTheirs,
 }
 
@@ -43,14 +43,14 @@ pub fn recorded_text(
     }
 }
 
-/// What a person is told of an order, if not all is well.
+/// What a person must know of an order, if it is not whole.
 pub fn order_note(order: Order) -> Option<&'static str> {
     match order {
         Order::Whole => None,
-        Order::Part => Some("the order of the two ends does not have their last bytes"),
+        Order::Part => Some("the order ends before the recordings do, and what follows is not read"),
         Order::Unknown => Some(
-            "without the order of the two ends, early replies and tags used while in use are not found",
+            "without the order of the two recordings, early replies and tags used while in use are not found",
         ),
-        Order::NotTheirs => Some("the order of the two ends is not that of these recordings"),
+        Order::NotTheirs => Some("the order is not that of these recordings"),
     }
 }
