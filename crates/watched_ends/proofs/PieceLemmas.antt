@@ -27,7 +27,7 @@ came_down first pieces up down bytes from count r new before is long read =
     (ap (λ (t : List ℕ). take from down ++ t) is ∙ sym (take-add from count down))
     (server pieces up (take from down) bytes r new before read))
 
--- what is said of a value that was found
+-- what holds of a value that was found
 pub if_found : {A E : Type 0} {P Q : A → Type 0} (r : Result (Option A) E) → ((a : A) → P a → Q a)
     → IfOk r (λ found. IfSome found P) → IfOk r (λ found. IfSome found Q)
 if_found (Ok (Some a)) more is = more a is
