@@ -1,5 +1,5 @@
 -- The order in which the bytes of both ends of a connection came, as a text (this profile), and what they report in that order.
-use Rattle.std.specs.Prelude.{◌≡◌, ℕ, ◌≤◌, Bool, true, false, ◌==◌, ◌&&◌, List, [], ◌∷◌, ◌++◌, length, take, map, codes, decimal}
+use Rattle.std.specs.Prelude.{◌≡◌, ℕ, ◌≤◌, Bool, ◌==◌, ◌&&◌, List, [], ◌∷◌, ◌++◌, length, take, map, codes, decimal}
 use Rattle.contact_ledger.specs.Lines.{whole_lines}
 use Rattle.witness.specs.declared.lines.Side.{Side}
 use Rattle.witness.specs.declared.lines.Side.TheVariants.{Client, Server}

@@ -47,7 +47,9 @@ pub fn recorded_text(
 pub fn order_note(order: Order) -> Option<&'static str> {
     match order {
         Order::Whole => None,
-        Order::Part => Some("the order ends before the recordings do, and what follows is not read"),
+        Order::Part => Some(
+            "the order ends before the recordings do, and what follows is not read",
+        ),
         Order::Unknown => Some(
             "without the order of the two recordings, early replies and tags used while in use are not found",
         ),
