@@ -1,0 +1,4 @@
+pub mod Names
+pub mod Living
+pub mod Leading
+pub mod Refusals

@@ -1,0 +1,4 @@
+pub mod Sessions
+pub mod Outside
+pub mod Claims
+pub mod Examples
