@@ -20,21 +20,6 @@ pub fn beside(alloc: Global, name: &str) -> Result<String, AllocError> {
     Ok(beside)
 }
 
-/// The name of the file that has the order of two recordings, if they are those of one connection, by their names.
-pub fn order_beside(
-    alloc: Global,
-    up: &str,
-    down: &str,
-) -> Result<Option<String>, AllocError> {
-    let (Some(stem), Some(other)) = (up.strip_suffix(".up"), down.strip_suffix(".down")) else {
-        return Ok(None);
-    };
-    if stem != other {
-        return Ok(None);
-    }
-    Ok(Some(format!(in alloc; "{stem}.order")?))
-}
-
 /// The name of the folder that a file of this name is in.
 pub fn folder_of(name: &str) -> &str {
     match Path::new(name).parent() {

@@ -12,14 +12,16 @@ use crate::tracing::ErrorOutput;
 use crate::version;
 use byte_ports::Writing;
 use dme_files::{Fault, NamedSource, Sources, refused, tell_audit};
+use dme_hands::RealHands;
 use dme_orders::{
     AuditFiles, FilesFault, InputFiles, RecordFiles, SimulationFiles, audit_files, audit_record,
     check_under_setup, review_program, simulate, status,
 };
 use dme_run::run_program;
 use dme_serve::serve;
-use dme_watch::{ledger, watch};
-use dme_words::{Audit, Check, Order, RecordAudit, Review, Simulation, read_words};
+use dme_watch::watch;
+use dme_words::{Audit, Check, Ledger, Order, RecordAudit, Review, Simulation, read_words};
+use ledger_session::{Session, run as run_session};
 use review_report::{FindingForm, FindingStyle};
 use std::alloc::{AllocError, Global};
 use std::env::{self, Env};
@@ -244,6 +246,18 @@ fn audit_of_record<R: Files + Input + Print + Eprint + AllocGlobal>(
         Err(fault) => Err(fault),
     };
     audit_end(rt, result, record_files(rt, sought), order.explain)
+}
+
+/// The order `ledger`: its exit status, or 70 once no more turns can be counted.
+#[inline(never)]
+fn ledger<R: Files + Input + Print + Eprint + AllocGlobal>(
+    rt: &R,
+    order: Ledger,
+) -> Result<u8, Fault> {
+    let connection = u64::from(order.connection);
+    let mut session = Session::new(rt.alloc(), connection, order.up, order.down)?;
+    let mut hands = RealHands::new(rt);
+    Ok(run_session(&mut session, &mut hands).unwrap_or(70))
 }
 
 /// Carries out an order: its exit status. None is joined to this function, whose frame would have room for all of them.

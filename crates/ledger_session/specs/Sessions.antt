@@ -120,9 +120,9 @@ IsNoteOf name bytes note = (lines : List (List ℕ)) × (rest : List ℕ) × (fa
 -- what is noted of the order of the two ends
 abbrev pub order_note : the.Order → List ℕ
 order_note ordered.Whole = []
-order_note ordered.Part = codes "dme: the order of the two ends does not have their last bytes\n"
-order_note ordered.Unknown = codes "dme: without the order of the two ends, early replies and tags used while in use are not found\n"
-order_note ordered.NotTheirs = codes "dme: the order of the two ends is not that of these recordings\n"
+order_note ordered.Part = codes "dme: the order ends before the recordings do, and what follows is not read\n"
+order_note ordered.Unknown = codes "dme: without the order of the two recordings, early replies and tags used while in use are not found\n"
+order_note ordered.NotTheirs = codes "dme: the order is not that of these recordings\n"
 
 -- what is noted of two recordings
 pub record AreNotes (c : Called) (up down : List ℕ) (order : the.Order) (notes : List ℕ) : Type 0 where

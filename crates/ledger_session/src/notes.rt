@@ -30,11 +30,12 @@ fn order_note(order: Order) -> &'static str
 {
     match order {
         Order::Whole => "",
-        Order::Part => "dme: the order of the two ends does not have their last bytes\n",
+        Order::Part =>
+            "dme: the order ends before the recordings do, and what follows is not read\n",
         Order::Unknown => {
-            "dme: without the order of the two ends, early replies and tags used while in use are not found\n"
+            "dme: without the order of the two recordings, early replies and tags used while in use are not found\n"
         }
-        Order::NotTheirs => "dme: the order of the two ends is not that of these recordings\n",
+        Order::NotTheirs => "dme: the order is not that of these recordings\n",
     }
 }
 

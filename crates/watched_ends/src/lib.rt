@@ -20,4 +20,4 @@ pub use ledger::ledger_text;
 pub use limits::{LimitedRelay, MOST_OPEN};
 pub use ordered::ordered_ledger_text;
 pub use pieces::{ORDER_HEADER, add_piece, read_order};
-pub use recorded::{Order, order_note, recorded_text};
+pub use recorded::{Order, recorded_text};

@@ -42,17 +42,3 @@ pub fn recorded_text(
         None => Ok((Vec::new(alloc), Order::NotTheirs)),
     }
 }
-
-/// What a person must know of an order, if it is not whole.
-pub fn order_note(order: Order) -> Option<&'static str> {
-    match order {
-        Order::Whole => None,
-        Order::Part => Some(
-            "the order ends before the recordings do, and what follows is not read",
-        ),
-        Order::Unknown => Some(
-            "without the order of the two recordings, early replies and tags used while in use are not found",
-        ),
-        Order::NotTheirs => Some("the order is not that of these recordings"),
-    }
-}
