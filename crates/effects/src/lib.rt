@@ -9,6 +9,6 @@ mod came;
 mod hands;
 mod vocabulary;
 
-pub use came::{Came, Kind};
+pub use came::Came;
 pub use hands::Hands;
 pub use vocabulary::{Answer, Effect, Place, Slot};
