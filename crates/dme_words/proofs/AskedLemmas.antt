@@ -100,15 +100,16 @@ service : (words : List Text) → level_fault (leaf serve_line) [] nothing_held 
 service words none =
     let c = (leaf serve_line).rules in
     let found = level_found (leaf serve_line) words refl
-    ((refl, inl (refl, refl)), ((refl, inl (refl, refl)), ((refl, inl (refl, refl)), ((refl, inl (refl, refl)), ((refl, inl (refl, refl)), ((refl, inr (inl (refl, omega arith))), ((refl, inr (inl (refl, omega arith))), ((refl, inl (refl, refl)), ((refl, inl (refl, refl)), ((refl, inl (refl, refl)), ((refl, inr (inl (refl, omega arith))), ((refl, inr (inr refl)), tt))))))))))))
+    ((refl, inl (refl, refl)), ((refl, inl (refl, refl)), ((refl, inl (refl, refl)), ((refl, inl (refl, refl)), ((refl, inr (inl (refl, omega arith))), ((refl, inl (refl, refl)), ((refl, inr (inl (refl, omega arith))), ((refl, inr (inl (refl, omega arith))), ((refl, inl (refl, refl)), ((refl, inl (refl, refl)), ((refl, inl (refl, refl)), ((refl, inr (inl (refl, omega arith))), ((refl, inr (inr refl)), tt)))))))))))))
     none in
     record {
       setup = has_value c (codes "setup") _ refl found.fit (found.needed.0 refl);
       port = has_number c _ (codes "port") 65535 _ refl refl found.fit (found.needed.1.1.0 refl);
       connections = has_number c _ (codes "connections") 4000000000 _ refl refl found.fit (found.defaulted.1.1.1.0 (omega arith));
-      progress = has_flag c _ (codes "progress") _ refl refl found.fit (found.defaulted.1.1.1.1.1.0 (omega arith));
-      trace = has_flag c _ (codes "trace") _ refl refl found.fit (found.defaulted.1.1.1.1.1.1.0 (omega arith));
-      explain = has_flag c _ (codes "explain") _ refl refl found.fit (found.defaulted.1.1.1.1.1.1.1.1.1.1.0 (omega arith));
+      endless = has_flag c _ (codes "endless") _ refl refl found.fit (found.defaulted.1.1.1.1.0 (omega arith));
+      progress = has_flag c _ (codes "progress") _ refl refl found.fit (found.defaulted.1.1.1.1.1.1.0 (omega arith));
+      trace = has_flag c _ (codes "trace") _ refl refl found.fit (found.defaulted.1.1.1.1.1.1.1.0 (omega arith));
+      explain = has_flag c _ (codes "explain") _ refl refl found.fit (found.defaulted.1.1.1.1.1.1.1.1.1.1.1.0 (omega arith));
     }
 
 driven : (words : List Text) → level_fault (leaf run_line) [] nothing_held words false [] ≡ []
@@ -177,7 +178,7 @@ relayed : (words : List Text) → level_fault (leaf watch_line) [] nothing_held 
 relayed words none =
     let c = (leaf watch_line).rules in
     let found = level_found (leaf watch_line) words refl
-    ((refl, inl (refl, refl)), ((refl, inl (refl, refl)), ((refl, inl (refl, refl)), ((refl, inl (refl, refl)), ((refl, inl (refl, refl)), ((refl, inl (refl, refl)), ((refl, inr (inl (refl, omega arith))), ((refl, inl (refl, refl)), ((refl, inl (refl, refl)), ((refl, inr (inr refl)), tt))))))))))
+    ((refl, inl (refl, refl)), ((refl, inl (refl, refl)), ((refl, inl (refl, refl)), ((refl, inl (refl, refl)), ((refl, inl (refl, refl)), ((refl, inl (refl, refl)), ((refl, inr (inl (refl, omega arith))), ((refl, inr (inl (refl, omega arith))), ((refl, inl (refl, refl)), ((refl, inl (refl, refl)), ((refl, inr (inr refl)), tt)))))))))))
     none in
     record {
       listen = has_number c _ (codes "listen") 65535 _ refl refl found.fit (found.needed.0 refl);
@@ -185,7 +186,8 @@ relayed words none =
       port = has_number c _ (codes "port") 65535 _ refl refl found.fit (found.needed.1.1.0 refl);
       told = has_value c (codes "told") _ refl found.fit (found.needed.1.1.1.0 refl);
       connections = has_number c _ (codes "connections") 4000000000 _ refl refl found.fit (found.defaulted.1.1.1.1.1.0 (omega arith));
-      trace = has_flag c _ (codes "trace") _ refl refl found.fit (found.defaulted.1.1.1.1.1.1.0 (omega arith));
+      endless = has_flag c _ (codes "endless") _ refl refl found.fit (found.defaulted.1.1.1.1.1.1.0 (omega arith));
+      trace = has_flag c _ (codes "trace") _ refl refl found.fit (found.defaulted.1.1.1.1.1.1.1.0 (omega arith));
     }
 
 -- each subcommand of `dme` may be asked for, and `help` was not met

@@ -24,9 +24,9 @@ window_rule = record (number_rule (codes "window") 16) { defaults = codes "1" �
 abbrev pub port_rule : Rule
 port_rule = record (number_rule (codes "port") 65535) { required = true }
 
--- the option `--connections K`: a number from 1 to 4,000,000,000, 1 if none is named
-abbrev pub connections_rule : Rule
-connections_rule = record (number_rule (codes "connections") 4000000000) { defaults = codes "1" ∷ [] }
+-- the option `--connections K`: a number from 1 to 4,000,000,000, this one if none is named
+abbrev pub connections_rule : Text → Rule
+connections_rule count = record (number_rule (codes "connections") 4000000000) { defaults = count ∷ [] }
 
 -- the flag `--NAME`, which is set or not
 abbrev pub flag_rule : Text → Rule
@@ -59,11 +59,11 @@ abbrev pub loop_line : App
 loop_line = line_of (codes "loop") (needed_rule (codes "setup") ∷ window_rule ∷ flag_rule (codes "progress") ∷ flag_rule (codes "trace")
     ∷ flag_rule (codes "explain") ∷ program_rule ∷ [])
 
--- `serve --setup FILE [--listen ADDRESS] --port N [--connections K] [--contacts FILE] [--progress] [--trace] [--log FILE]
--- [--timeout SECONDS] [--stop FILE] [--explain]`
+-- `serve --setup FILE [--listen ADDRESS] --port N [--connections K] [--endless] [--contacts FILE] [--progress] [--trace]
+-- [--log FILE] [--timeout SECONDS] [--stop FILE] [--explain]`
 abbrev pub serve_line : App
-serve_line = line_of (codes "serve") (needed_rule (codes "setup") ∷ text_rule (codes "listen") ∷ port_rule ∷ connections_rule
-    ∷ text_rule (codes "contacts") ∷ flag_rule (codes "progress") ∷ flag_rule (codes "trace") ∷ text_rule (codes "log")
+serve_line = line_of (codes "serve") (needed_rule (codes "setup") ∷ text_rule (codes "listen") ∷ port_rule ∷ connections_rule (codes "1")
+    ∷ flag_rule (codes "endless") ∷ text_rule (codes "contacts") ∷ flag_rule (codes "progress") ∷ flag_rule (codes "trace") ∷ text_rule (codes "log")
     ∷ text_rule (codes "timeout") ∷ text_rule (codes "stop") ∷ flag_rule (codes "explain") ∷ [])
 
 -- `run --setup FILE --host H --port N [--window W] [--features FILE] [--record FILE] [--part TEXT] [--contacts FILE] [--progress] [--trace]
@@ -107,10 +107,11 @@ judge_line = line_of (codes "judge") (needed_rule (codes "up") ∷ needed_rule (
 abbrev pub listened_rule : Rule
 listened_rule = record (number_rule (codes "listen") 65535) { required = true }
 
--- `watch --listen PORT --host H --port N --told FILE [--record-bytes FOLDER] [--connections K] [--trace] [--log FILE] [--timeout SECONDS]`
+-- `watch --listen PORT --host H --port N --told FILE [--record-bytes FOLDER] [--connections K] [--endless] [--trace] [--log FILE]
+-- [--timeout SECONDS]`
 abbrev pub watch_line : App
 watch_line = line_of (codes "watch") (listened_rule ∷ needed_rule (codes "host") ∷ port_rule ∷ needed_rule (codes "told")
-    ∷ text_rule (codes "record-bytes") ∷ connections_rule ∷ flag_rule (codes "trace") ∷ text_rule (codes "log")
+    ∷ text_rule (codes "record-bytes") ∷ connections_rule (codes "4000000000") ∷ flag_rule (codes "endless") ∷ flag_rule (codes "trace") ∷ text_rule (codes "log")
     ∷ text_rule (codes "timeout") ∷ [])
 
 -- the command without its subcommands, of which one is required

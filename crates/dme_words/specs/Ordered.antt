@@ -67,9 +67,13 @@ IsWindowOf = IsNumberOf (codes "window") 16
 abbrev pub IsPortOf : List Row → ℕ → Type 0
 IsPortOf = IsNumberOf (codes "port") 65535
 
--- the number is the value of `--connections`
+-- the number is the value of `--connections`; with `--endless` it is as many as can be numbered
+abbrev pub IsCountOf : List Row → ℕ → Type 0
+IsCountOf = IsNumberOf (codes "connections") 4000000000
+
 abbrev pub IsConnectionsOf : List Row → ℕ → Type 0
-IsConnectionsOf = IsNumberOf (codes "connections") 4000000000
+IsConnectionsOf rows number = (IsFlagOf (codes "endless") rows true × (number ≡ 4000000000))
+    ⊎ (IsFlagOf (codes "endless") rows false × IsCountOf rows number)
 
 -- the number is the value of `--connection`
 abbrev pub IsConnectionOf : List Row → ℕ → Type 0
@@ -305,6 +309,7 @@ pub record HasService (rows : List Row) : Type 0 where
   pub setup : HasValue (codes "setup") rows
   pub port : HasPort rows
   pub connections : HasConnections rows
+  pub endless : HasFlag (codes "endless") rows
   pub progress : HasFlag (codes "progress") rows
   pub trace : HasFlag (codes "trace") rows
   pub explain : HasExplained rows
@@ -343,6 +348,7 @@ pub record HasWatch (rows : List Row) : Type 0 where
   pub port : HasPort rows
   pub told : HasValue (codes "told") rows
   pub connections : HasConnections rows
+  pub endless : HasFlag (codes "endless") rows
   pub trace : HasFlag (codes "trace") rows
 
 -- the name of one of the last eight subcommands, with the values that it cannot do without

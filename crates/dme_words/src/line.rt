@@ -13,8 +13,11 @@ ghost use Rattle.dme_words.specs.Arguments.{argument_rule, kind_line, with_kind,
 use clap::{Arg, ArgAction, Command};
 use std::alloc::{AllocError, Global};
 
-/// The window, and the count of connections, if none is named.
+/// The window, and the count of a server's connections, if none is named.
 const ONE: &str = "1";
+
+/// The count of a relay's connections, if none is named: as many as can be numbered.
+const ALL: &str = "4000000000";
 
 /// The commands as a person meets them, each with its own first line of help.
 const HELP: &str = "Runs DMIS inspection programs over the I++ DME interface
@@ -82,8 +85,12 @@ enum Argument {
     OwnPort,
     /// `--port N` of the server that is called.
     ServersPort,
-    /// `--connections K`.
+    /// `--connections K` of a server.
     Connections,
+    /// `--connections K` of a relay.
+    RelayedConnections,
+    /// `--endless`.
+    Endless,
     /// `--connection N`.
     Connection,
     /// `--up FILE`.
@@ -263,9 +270,9 @@ fn port_option<'a>(alloc: Global, help: &'a str) -> Arg<'a>
         .required(true)
 }
 
-/// `--connections K`.
-fn connections_option<'a>(alloc: Global) -> Arg<'a>
-    ensures rule { rule_of result ≡ connections_rule }
+/// `--connections K`, this many if none is named.
+fn connections_option<'a>(alloc: Global, count: &'static str) -> Arg<'a>
+    ensures rule { rule_of result ≡ connections_rule count.now }
     ensures local { result.global ≡ false }
 {
     Arg::new(alloc, "connections")
@@ -273,7 +280,19 @@ fn connections_option<'a>(alloc: Global) -> Arg<'a>
         .value_name("K")
         .help("How many connections are served, one after the other, from 1 to 4000000000")
         .value_parser(clap::value_parser!(u32).range(1..=4_000_000_000))
-        .default_value(ONE)
+        .default_value(count)
+}
+
+/// `--endless`.
+fn endless_flag<'a>(alloc: Global) -> Arg<'a>
+    ensures rule { rule_of result ≡ flag_rule (codes "endless") }
+    ensures local { result.global ≡ false }
+{
+    flag(
+        alloc,
+        "endless",
+        "Serves all connections that come, one after the other",
+    )
 }
 
 /// `--connection N`.
@@ -452,7 +471,9 @@ fn made_argument<'a>(alloc: Global, argument: Argument) -> Arg<'a>
             port_option(alloc, port)
         }
         Argument::ServersPort => port_option(alloc, "The server's port, from 1 to 65535"),
-        Argument::Connections => connections_option(alloc),
+        Argument::Connections => connections_option(alloc, ONE),
+        Argument::RelayedConnections => connections_option(alloc, ALL),
+        Argument::Endless => endless_flag(alloc),
         Argument::Connection => connection_option(alloc),
         Argument::Up => {
             let up = "The bytes that the client sent; - is standard input";
@@ -634,8 +655,8 @@ fn loop_command<'a>(alloc: Global) -> Result<Command<'a>, AllocError>
     )
 }
 
-/// `serve --setup FILE [--listen ADDRESS] --port N [--connections K] [--contacts FILE] [--progress] [--trace] [--log FILE]
-/// [--timeout SECONDS] [--stop FILE] [--explain]`.
+/// `serve --setup FILE [--listen ADDRESS] --port N [--connections K] [--endless] [--contacts FILE] [--progress] [--trace]
+/// [--log FILE] [--timeout SECONDS] [--stop FILE] [--explain]`.
 fn serve_command<'a>(alloc: Global) -> Result<Command<'a>, AllocError>
     ensures shape { IfOk result (λ command. app_of command ≡ serve_line) }
     ensures local { IfOk result (λ command. (out-Command command).has_globals ≡ false) }
@@ -651,6 +672,7 @@ fn serve_command<'a>(alloc: Global) -> Result<Command<'a>, AllocError>
             Argument::Listen,
             Argument::OwnPort,
             Argument::Connections,
+            Argument::Endless,
             Argument::WrittenContacts,
             Argument::Progress,
             Argument::Trace,
@@ -770,7 +792,8 @@ fn judge_command<'a>(alloc: Global) -> Result<Command<'a>, AllocError>
     with_arguments(alloc, command, &[Argument::Up, Argument::Down])
 }
 
-/// `watch --listen PORT --host H --port N --told FILE [--record-bytes FOLDER] [--connections K] [--trace] [--log FILE] [--timeout SECONDS]`.
+/// `watch --listen PORT --host H --port N --told FILE [--record-bytes FOLDER] [--connections K] [--endless] [--trace] [--log FILE]
+/// [--timeout SECONDS]`.
 fn watch_command<'a>(alloc: Global) -> Result<Command<'a>, AllocError>
     ensures shape { IfOk result (λ command. app_of command ≡ watch_line) }
     ensures local { IfOk result (λ command. (out-Command command).has_globals ≡ false) }
@@ -787,7 +810,8 @@ fn watch_command<'a>(alloc: Global) -> Result<Command<'a>, AllocError>
             Argument::ServersPort,
             Argument::ToldFile,
             Argument::RecordedBytes,
-            Argument::Connections,
+            Argument::RelayedConnections,
+            Argument::Endless,
             Argument::Trace,
             Argument::Log,
             Argument::Timeout,

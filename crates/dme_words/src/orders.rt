@@ -118,7 +118,7 @@ pub struct Service {
     pub listen: Option<String>,
     /// The port that is listened on, at least 1.
     pub port: u16,
-    /// How many connections are served, one after the other, from 1 to 4,000,000,000.
+    /// How many connections are served, one after the other, from 1 to 4,000,000,000, which are all that can be numbered.
     pub connections: u32,
     /// The file that the contacts are written to; `-` is a file of that name.
     pub contacts: Option<String>,
@@ -260,7 +260,7 @@ pub struct Watch {
     pub told: String,
     /// The folder that the bytes of both ends of each connection are kept in.
     pub record_bytes: Option<String>,
-    /// How many connections are relayed, one after the other, from 1 to 4,000,000,000.
+    /// How many connections are relayed, one after the other, from 1 to 4,000,000,000, which are all that can be numbered.
     pub connections: u32,
     /// Whether each line that either side writes is shown.
     pub trace: bool,

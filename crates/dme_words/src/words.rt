@@ -4,7 +4,7 @@ ghost use Rattle.std.specs.Prelude.{◌≡◌, ◌≤◌, IfOk, IfErr, IsErrAnd,
 ghost use Rattle.std.specs.Option.{option_map};
 ghost use Rattle.clap.specs.Words.{first_of, found_of, rows_of, subcommand_rows_of};
 ghost use Rattle.client_core.specs.Clients.{is_window};
-ghost use Rattle.dme_words.specs.Ordered.{IsValueOf, IsMaybeOf, IsProgramOf, IsWindowOf, IsPortOf, IsConnectionsOf, IsFlagOf};
+ghost use Rattle.dme_words.specs.Ordered.{IsValueOf, IsMaybeOf, IsProgramOf, IsWindowOf, IsPortOf, IsCountOf, IsConnectionsOf, IsFlagOf};
 ghost use Rattle.dme_words.specs.Ordered.{IsCheckOf, IsSimulateOf, IsAnyAuditOf, IsLoopOf, IsServeOf, IsRunOf, IsOrderOf};
 ghost use Rattle.dme_words.specs.Ordered.{IsExplainOf, IsLedgerOf, IsAnyExportOf, HasExport, AsksForNothing, IsNoCode, IsNoForm, IsCodeOf, form_word, HasNoTopic};
 ghost use Rattle.dme_words.specs.Ordered.{IsConnectionOf, HasConnection, HasLedger, HasValue, HasWindow, HasPort, HasConnections, HasFlag, HasExplained};
@@ -125,14 +125,28 @@ fn port_of(values: &ArgMatches) -> u16
 }
 
 /// The value of `--connections`, which `clap` has found in range.
-fn connections_of(values: &ArgMatches) -> u32
+fn count_of(values: &ArgMatches) -> u32
     requires { HasConnections (rows_of (found_of values.now)) }
-    ensures named { IsConnectionsOf (rows_of (found_of values.now)) result }
+    ensures named { IsCountOf (rows_of (found_of values.now)) result }
     ensures ready { (1 ≤ result) × (result ≤ 4000000000) }
 {
     match values.get_one::<u32>("connections") {
         Some(connections) => connections,
         None => unreachable!(),
+    }
+}
+
+/// How many connections are taken: with `--endless` as many as can be numbered.
+fn connections_of(values: &ArgMatches) -> u32
+    requires count { HasConnections (rows_of (found_of values.now)) }
+    requires endless { HasFlag (codes "endless") (rows_of (found_of values.now)) }
+    ensures named { IsConnectionsOf (rows_of (found_of values.now)) result }
+    ensures ready { (1 ≤ result) × (result ≤ 4000000000) }
+{
+    if flag_of(values, "endless") {
+        4_000_000_000
+    } else {
+        count_of(values)
     }
 }
 

@@ -6,7 +6,7 @@ use Rattle.clap.specs.Words.{found_of, without_minus}
 use Rattle.clap.proofs.WalkLemmas.{one_text-rows}
 use Rattle.dme_words.specs.Ordered.{IsNumber}
 use Rattle.dme_words.proofs.NumberLemmas.{number_reads}
-use Rattle.dme_words.proofs.words.connections_of.Goals as goal
+use Rattle.dme_words.proofs.words.count_of.Goals as goal
 
 pub unreachable-requires : goal.unreachable-requires
 unreachable-requires c =
