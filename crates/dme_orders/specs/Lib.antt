@@ -1,3 +1,4 @@
+pub mod Arriving
 pub mod Calls
 pub mod Confirming
 pub mod Plan

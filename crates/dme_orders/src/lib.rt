@@ -17,7 +17,7 @@
 //! - `text_files`: files that are replaced as a whole, as the orders see them
 //! - `ends`, `ended`: the two ends of a connection and their reports; how it has ended, and what is shown of that; `run_beginnings`,
 //!   `run_endings`: what a run says before it connects, and last
-//! - `calls`: why a server that was called has not answered
+//! - `calls`: why a server that was called has not answered; `arriving`: which bytes of a peer were waited for
 //! - `check`: the command lines of a program, from any reader to any writer
 //! - `plan`: the commands of a program on a new connection, as text
 //! - `reviewing`: everything that stands between a program and its run is listed
@@ -25,6 +25,7 @@
 //! - `faults`: what is shown for an order that was not carried out, and its exit status
 #![tactic(auto)]
 
+mod arriving;
 mod auditing;
 mod calls;
 mod check;
@@ -53,6 +54,7 @@ mod simulating;
 mod text_files;
 mod verdicts;
 
+pub use arriving::line_came;
 pub use auditing::{AuditFiles, audit_files};
 pub use calls::refused_call;
 pub use check::{CheckFault, check_plan};

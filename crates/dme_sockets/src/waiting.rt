@@ -5,7 +5,7 @@ ghost use Rattle.std.specs.Prelude.{◌≤◌, length, IfOk};
 use byte_ports::{Failed, Sink, Source};
 use client_core::Client;
 use dme_files::Fault;
-use dme_orders::OrderFault;
+use dme_orders::{OrderFault, line_came};
 use link_world::{Course, Steering};
 use std::alloc::{AllocError, Global};
 use std::cell::Cell;
@@ -29,6 +29,8 @@ const NOT_BEGUN: u8 = 3;
 pub enum Lapse {
     /// It has sent nothing.
     Sent,
+    /// It has sent something, and not what was due.
+    SentOther,
     /// It has taken nothing.
     Taken,
 }
@@ -63,6 +65,8 @@ pub struct Patience<'a, R> {
     stop: Option<String>,
     /// When the present wait has begun.
     since: Cell<Option<Instant>>,
+    /// Whether anything has come in it.
+    has_come: Cell<bool>,
     /// What the peer has not done, if its time is over.
     lapse: Cell<Option<Lapse>>,
 }
@@ -74,6 +78,7 @@ impl<'a, R> Patience<'a, R> {
             timeout,
             stop,
             since: Cell::new(None),
+            has_come: Cell::new(false),
             lapse: Cell::new(None),
         }
     }
@@ -118,6 +123,16 @@ impl<'a, R> Patience<'a, R> {
     /// The next wait begins anew.
     fn begin(&self) {
         self.since.set(None);
+        self.has_come.set(false);
+    }
+
+    /// The peer has sent too little for too long.
+    fn end(&self) {
+        self.lapse.set(Some(if self.has_come.get() {
+            Lapse::SentOther
+        } else {
+            Lapse::Sent
+        }));
     }
 
     /// What is shown as the cause, if the time of the peer of this name is over.
@@ -129,6 +144,9 @@ impl<'a, R> Patience<'a, R> {
         let line = match lapse {
             Lapse::Sent => format!(in alloc;
                 "nothing came from the {peer} for {seconds} {unit}\n"
+            )?,
+            Lapse::SentOther => format!(in alloc;
+                "nothing that was due came from the {peer} for {seconds} {unit}\n"
             )?,
             Lapse::Taken => format!(in alloc; "the {peer} took nothing for {seconds} {unit}\n")?,
         };
@@ -252,6 +270,8 @@ pub struct PatientSource<'a, 'b, R> {
     stream: &'a TcpStream,
     patience: &'a Patience<'b, R>,
     is_server: bool,
+    /// What has come of a line, as far as it matters to the peer's time.
+    seen: u8,
     has_failed: bool,
 }
 
@@ -261,19 +281,28 @@ impl<'a, 'b, R> PatientSource<'a, 'b, R> {
             stream,
             patience,
             is_server,
+            seen: 0,
             has_failed: false,
         }
     }
 
-    /// Reads what has come: the first line of it, or all if this is a server's.
+    /// Reads what has come: the first line of it, or all if this is a server's; again if that is interrupted.
     fn read(&self, buf: &mut [u8]) -> io::Result<usize>
         ensures { IfOk result (λ n. n ≤ length buf.new) }
     {
-        if self.is_server {
-            let mut stream = self.stream;
-            return stream.read(buf);
+        for _try in 0..u64::MAX {
+            let read = if self.is_server {
+                let mut stream = self.stream;
+                stream.read(buf)
+            } else {
+                read_line(self.stream, buf)
+            };
+            match read {
+                Err(error) if error.kind() == ErrorKind::Interrupted => {}
+                read => return read,
+            }
         }
-        read_line(self.stream, buf)
+        Ok(0)
     }
 }
 
@@ -305,14 +334,20 @@ impl<'a, 'b, R: Files + Clock> Source for PatientSource<'a, 'b, R> {
             Waited::Ready => {}
             Waited::Stopped => return Ok(0),
             Waited::Lapsed => {
-                self.patience.lapse.set(Some(Lapse::Sent));
+                self.patience.end();
                 self.has_failed = true;
                 return Err(Failed);
             }
         }
         match self.read(buf) {
             Ok(count) => {
-                self.patience.begin();
+                let (seen, is_asked) = line_came(self.seen, &buf[..count]);
+                self.seen = seen;
+                if is_asked {
+                    self.patience.begin();
+                } else {
+                    self.patience.has_come.set(true);
+                }
                 Ok(count)
             }
             Err(_) => {
@@ -339,6 +374,20 @@ impl<'a, 'b, R> PatientSink<'a, 'b, R> {
             has_failed: false,
         }
     }
+
+    /// Writes what is taken; again if that is interrupted.
+    fn write(&self, bytes: &[u8]) -> io::Result<usize>
+        ensures { IfOk result (λ n. n ≤ length bytes.now) }
+    {
+        let mut stream = self.stream;
+        for _try in 0..u64::MAX {
+            match stream.write(bytes) {
+                Err(error) if error.kind() == ErrorKind::Interrupted => {}
+                wrote => return wrote,
+            }
+        }
+        Ok(0)
+    }
 }
 
 impl<'a, 'b, R> Sink for PatientSink<'a, 'b, R> {
@@ -352,8 +401,7 @@ impl<'a, 'b, R> Sink for PatientSink<'a, 'b, R> {
         if self.has_failed {
             return Err(Failed);
         }
-        let mut stream = self.stream;
-        match stream.write(bytes) {
+        match self.write(bytes) {
             Ok(count) if count > 0 || bytes.is_empty() => return Ok(count),
             Ok(_) => {}
             Err(error) => {
