@@ -1,5 +1,6 @@
 // Journals: files that a command begins anew once it listens, and that grow from then on.
 
+use crate::faults::REMOVED;
 use crate::locked_files::{LockedFile, NextFile};
 use crate::text_files::{beside, may_be_replaced};
 use dme_orders::OrderFault;
@@ -117,8 +118,19 @@ pub struct Journal {
 }
 
 impl Journal {
-    /// Appends a text: whether that was possible.
-    pub fn add(&mut self, text: &[u8]) -> bool {
-        self.file.append(text, false).is_ok()
+    /// Appends a text, and forces all to the device if asked. An error is why it is not kept, as it is shown after the file's name.
+    pub fn add<R: Files<File = File>>(
+        &mut self,
+        rt: &R,
+        text: &[u8],
+        is_forced: bool,
+    ) -> Result<(), &'static str> {
+        if self.file.append(text, is_forced).is_err() {
+            return Err(self.file.why());
+        }
+        if !self.file.is_named(rt, self.name.as_str()) {
+            return Err(REMOVED);
+        }
+        Ok(())
     }
 }

@@ -179,6 +179,11 @@ impl LockedFile {
     pub fn why(&self) -> &'static str {
         self.why
     }
+
+    /// Whether the file still has this name.
+    pub fn is_named<R: Files<File = File>>(&self, rt: &R, name: &str) -> bool {
+        matches!(has_name(rt, &self.file, name), Ok(true))
+    }
 }
 
 impl GrowingFile for LockedFile {

@@ -66,21 +66,28 @@ impl ContactsFile {
         self.journal.name.as_str()
     }
 
-    /// Appends what a server has done since; false if that could not be written for the first time. If memory runs out, it is appended
-    /// after a later turn.
-    pub fn follow(&mut self, alloc: Global, ledger: &ServerLedger) -> bool {
+    /// Whether it could not be kept.
+    pub fn has_failed(&self) -> bool {
+        self.has_failed
+    }
+
+    /// Appends what a server has done since, and forces it to the device. An error is why that is not kept, the first time. If memory runs
+    /// out, it is appended after a later turn.
+    pub fn follow<R: Files<File = File> + AllocGlobal>(
+        &mut self,
+        rt: &R,
+        ledger: &ServerLedger,
+    ) -> Result<(), &'static str> {
         let count = ledger.acts().len();
         if self.has_failed || count <= self.held {
-            return true;
+            return Ok(());
         }
-        let Ok(text) = acts_after(alloc, ledger, self.held) else {
-            return true;
+        let Ok(text) = acts_after(rt.alloc(), ledger, self.held) else {
+            return Ok(());
         };
-        if self.journal.add(text.as_slice()) {
-            self.held = count;
-        } else {
-            self.has_failed = true;
-        }
-        !self.has_failed
+        let added = self.journal.add(rt, text.as_slice(), true);
+        self.held = count;
+        self.has_failed = added.is_err();
+        added
     }
 }

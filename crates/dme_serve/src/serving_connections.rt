@@ -10,7 +10,7 @@ use dme_orders::{
     InputFiles, OrderFault, TextFile, close_service, read_setup, serve_one, shown_break, with_break,
 };
 use dme_sockets::{
-    HeardPort, LOOK_MS, Log, Patience, PatientSink, PatientSource, SaidPort, Side, Talk,
+    HeardPort, Log, Patience, PatientSink, PatientSource, SaidPort, Side, Talk, next_connection,
     no_connection, seconds_of,
 };
 use dme_words::Service;
@@ -18,11 +18,9 @@ use link_world::{LoopFault, PumpFault, ServerWatcher, Simulated};
 use server_core::{Server, ServerFault};
 use std::cell::RefCell;
 use std::fs::File;
-use std::io::{self, ErrorKind};
+use std::io;
 use std::net::{Net, TcpListener, TcpStream};
 use std::rt::{Clock, Files};
-use std::thread;
-use std::time::Duration;
 use tool_rack::Setup;
 
 /// Keeps what a server does in its contacts file, turn by turn, if that grows.
@@ -32,16 +30,16 @@ struct Keeper<'a, R: Eprint> {
     file: Option<ContactsFile>,
 }
 
-impl<'a, R: Eprint + AllocGlobal> ServerWatcher for Keeper<'a, R> {
+impl<'a, R: Files<File = File> + Eprint + AllocGlobal> ServerWatcher for Keeper<'a, R> {
     ghost told = { λ _. None };
 
     fn worked(&mut self, ledger: &ServerLedger) {
         let Some(file) = &mut self.file else {
             return;
         };
-        if !file.follow(self.rt.alloc(), ledger) {
+        if let Err(why) = file.follow(self.rt, ledger) {
             let name = file.name();
-            let _ = eprintln!(self.rt; "dme: cannot write {name}");
+            let _ = eprintln!(self.rt; "dme: cannot write {name}{why}");
         }
     }
 }
@@ -61,16 +59,30 @@ fn tell<R: Eprint>(rt: &R, is_told: bool, number: u64, what: &str) {
     }
 }
 
+/// A listener that is not waited for if a stop file is looked for.
+fn bound<R: Net<Listener = TcpListener, Stream = TcpStream>>(
+    rt: &R,
+    address: (&str, u16),
+    has_stop: bool,
+) -> io::Result<TcpListener> {
+    let listener = TcpListener::bind(rt, address)?;
+    if has_stop {
+        listener.set_nonblocking(true)?;
+    }
+    Ok(listener)
+}
+
 /// The listener of a server: on 127.0.0.1 unless another address is named, which is then reported.
 fn listener_of<R: Eprint + Net<Listener = TcpListener, Stream = TcpStream>>(
     rt: &R,
     order: &Service,
+    has_stop: bool,
 ) -> Result<TcpListener, OrderFault> {
     let address = match &order.listen {
         Some(address) => address.as_str(),
         None => "127.0.0.1",
     };
-    match TcpListener::bind(rt, (address, order.port)) {
+    match bound(rt, (address, order.port), has_stop) {
         Ok(listener) => {
             if address != "127.0.0.1" {
                 let _ = eprintln!(rt; "dme: listening on {address}");
@@ -82,7 +94,7 @@ fn listener_of<R: Eprint + Net<Listener = TcpListener, Stream = TcpStream>>(
 }
 
 /// The server's connection of this number is taken, served and left.
-fn serve_stream<R: Files + Eprint + Clock + AllocGlobal>(
+fn serve_stream<R: Files<File = File> + Eprint + Clock + AllocGlobal>(
     serving: &mut Serving<'_, R>,
     number: u64,
     stream: &TcpStream,
@@ -108,40 +120,13 @@ fn serve_stream<R: Files + Eprint + Clock + AllocGlobal>(
     serve_one(server, machine, number, &mut ports, keeper)
 }
 
-/// The next connection, whose reads and writes come back in time; none if the stop file is there. An error if it cannot be taken.
-fn next_connection<R: Files + Clock>(
-    rt: &R,
-    listener: &TcpListener,
-    patience: &Patience<'_, R>,
-) -> io::Result<Option<TcpStream>> {
-    if !patience.has_stop() {
-        let (stream, _) = listener.accept()?;
-        patience.limit(&stream)?;
-        return Ok(Some(stream));
-    }
-    listener.set_nonblocking(true)?;
-    for _look in 0..u64::MAX {
-        if patience.is_stopped() {
-            return Ok(None);
-        }
-        match listener.accept() {
-            Ok((stream, _)) => {
-                patience.limit(&stream)?;
-                return Ok(Some(stream));
-            }
-            Err(error) if error.kind() == ErrorKind::WouldBlock => {
-                thread::sleep(rt, Duration::from_millis(LOOK_MS));
-            }
-            Err(error) => return Err(error),
-        }
-    }
-    Ok(None)
-}
-
-/// Serves that many connections, one after the other; why some were broken off, if any was. If a connection cannot be taken, it serves no
-/// more.
+/// Serves that many connections, one after the other; why some were broken off, if any was.
 fn serve_connections<
-    R: Files + Eprint + Clock + Net<Listener = TcpListener, Stream = TcpStream> + AllocGlobal,
+    R: Files<File = File>
+        + Eprint
+        + Clock
+        + Net<Listener = TcpListener, Stream = TcpStream>
+        + AllocGlobal,
 >(
     listener: &TcpListener,
     serving: &mut Serving<'_, R>,
@@ -153,10 +138,8 @@ fn serve_connections<
     let mut broken = None;
     for count in 0..order.connections {
         let number = count as u64 + 1;
-        let stream = match next_connection(rt, listener, patience) {
-            Ok(Some(stream)) => stream,
-            Ok(None) => return broken,
-            Err(_) => return with_break(broken, Err(PumpFault::ReadFailed)),
+        let Some(stream) = next_connection(rt, listener, patience) else {
+            return broken;
         };
         tell(rt, order.progress, number, "taken");
         let lapse = patience.lapse();
@@ -170,11 +153,13 @@ fn serve_connections<
     broken
 }
 
-/// What is shown of a service: if its file could not be written, that first, and then what broke connections off.
+/// What is shown of a service: if its file could not be written, that first, and then what broke connections off. A file that was not kept
+/// while it served was reported then.
 fn service_verdict<R: Eprint + AllocGlobal>(
     rt: &R,
     broken: Option<PumpFault<ServerFault>>,
     unwritten: Option<String>,
+    was_kept: bool,
     patience: &Patience<'_, R>,
 ) -> Result<u8, Fault> {
     let unwritten = match unwritten {
@@ -184,7 +169,7 @@ fn service_verdict<R: Eprint + AllocGlobal>(
     let Some(fault) = broken else {
         return match unwritten {
             Some(shown) => Err(Fault::Order(shown)),
-            None => Ok(0),
+            None => Ok(if was_kept { 0 } else { 1 }),
         };
     };
     if let Some(shown) = unwritten {
@@ -211,9 +196,10 @@ fn listen<
 >(
     rt: &R,
     order: &Service,
+    has_stop: bool,
     next: Option<NextJournal>,
 ) -> Result<(TcpListener, Option<ContactsFile>), OrderFault> {
-    match listener_of(rt, order) {
+    match listener_of(rt, order, has_stop) {
         Ok(listener) => {
             let growing = begin(rt, next)?;
             Ok((listener, growing))
@@ -245,7 +231,11 @@ fn close<R: Print + Eprint + AllocGlobal, F: TextFile>(
     match result {
         Ok(is_kept) => {
             let unwritten = if is_kept { None } else { order.contacts.take() };
-            service_verdict(rt, broken, unwritten, patience)
+            let was_kept = match &serving.keeper.file {
+                Some(file) => !file.has_failed(),
+                None => true,
+            };
+            service_verdict(rt, broken, unwritten, was_kept, patience)
         }
         Err(fault) => Err(Fault::Order(of_output(rt, fault))),
     }
@@ -272,7 +262,7 @@ fn serve_made<
         Some(name) => next_contacts(rt, name.as_str())?,
         None => None,
     };
-    let (listener, growing) = listen(rt, order, next)?;
+    let (listener, growing) = listen(rt, order, patience.has_stop(), next)?;
     serving.keeper.file = growing;
     let broken = serve_connections(&listener, serving, order, talk, patience);
     let done = close(rt, broken, serving, order, patience, file);

@@ -122,7 +122,17 @@ impl Recording {
         Ok(())
     }
 
-    /// Likewise, for the first connection, in a folder that must hold no recordings.
+    /// Forces all to the device. An error is the name of the file that cannot be written.
+    pub fn force(&mut self, alloc: Global) -> Result<(), String> {
+        for (name, file) in [&mut self.up, &mut self.down, &mut self.order] {
+            if file.sync_data().is_err() {
+                return Err(mem::replace(name, String::new(alloc)));
+            }
+        }
+        Ok(())
+    }
+
+    /// New files for the bytes of the first connection, in a folder that must hold no recordings.
     pub fn first<R: Files<File = File> + AllocGlobal + Clone + Drop>(
         rt: &R,
         folder: &str,

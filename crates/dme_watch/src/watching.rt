@@ -6,7 +6,8 @@ use crate::recordings::Recording;
 use dme_files::{Fault, Journal, NextJournal};
 use dme_orders::OrderFault;
 use dme_sockets::{
-    Called, LOOK_MS, Log, Patience, Side, Talk, call_server, no_connection, seconds_of,
+    Called, LOOK_MS, Log, Patience, Side, Talk, call_server, next_connection, no_connection,
+    seconds_of,
 };
 use dme_words::Watch;
 use mio::net::TcpStream as Socket;
@@ -67,6 +68,8 @@ struct Keeper<'a, R: Eprint> {
     recording: Option<Recording>,
     talk: Talk<'a, R>,
     has_failed: bool,
+    /// Whether both ends are connected, and the client has sent no whole line.
+    is_bare: bool,
 }
 
 /// An end, as a recording has it.
@@ -87,6 +90,7 @@ impl<'a, R: Files<File = File> + Eprint + Clock + AllocGlobal> Keeper<'a, R> {
     /// The connection of this number begins.
     fn begin(&mut self, number: u64) {
         self.talk.begin(number);
+        self.is_bare = false;
         let Some(folder) = &self.folder else {
             return;
         };
@@ -105,6 +109,9 @@ impl<'a, R: Files<File = File> + Eprint + Clock + AllocGlobal> Keeper<'a, R> {
     /// Bytes came from a side.
     fn hear(&mut self, side: Side, bytes: &[u8]) {
         self.talk.keep_all(side, bytes);
+        if matches!(side, Side::Client) && bytes.contains(&b'\n') {
+            self.is_bare = false;
+        }
         let Some(recording) = &mut self.recording else {
             return;
         };
@@ -120,14 +127,34 @@ impl<'a, R: Files<File = File> + Eprint + Clock + AllocGlobal> Keeper<'a, R> {
 
     /// Lines are written that the server has told.
     fn tell(&mut self, lines: &[u8]) {
+        if !lines.is_empty() {
+            self.keep(lines, false);
+        }
+    }
+
+    /// Lines are appended to the told file; all are forced to the device if asked.
+    fn keep(&mut self, lines: &[u8], is_forced: bool) {
         let Some(told) = &mut self.told else {
             return;
         };
-        if !lines.is_empty() && !told.add(lines) {
+        if let Err(why) = told.add(self.rt, lines, is_forced) {
             let name = &told.name;
-            let _ = eprintln!(self.rt; "dme: cannot write {name}");
+            let _ = eprintln!(self.rt; "dme: cannot write {name}{why}");
             self.has_failed = true;
             self.told = None;
+        }
+    }
+
+    /// A connection has ended: what is kept of it is forced to the device.
+    fn end(&mut self) {
+        self.keep(b"".as_slice(), true);
+        let Some(recording) = &mut self.recording else {
+            return;
+        };
+        if let Err(name) = recording.force(self.rt.alloc()) {
+            let _ = eprintln!(self.rt; "dme: cannot write {name}");
+            self.has_failed = true;
+            self.recording = None;
         }
     }
 }
@@ -178,6 +205,9 @@ struct Link {
     /// Whether the client was.
     down_closed: bool,
 }
+
+/// How many seconds a server may be silent once its client has ended what it sends.
+const LEFT_SECONDS: u32 = 5;
 
 /// A socket that is not waited for.
 fn socket_of(stream: TcpStream) -> io::Result<Socket> {
@@ -317,17 +347,28 @@ impl<'a, R: Clock> Silence<'a, R> {
         self.since = None;
     }
 
-    /// How long a wait may take.
-    fn look(&self) -> Option<Duration> {
+    /// How many seconds it may take: not many once the client has ended what it sends.
+    fn limit(&self, is_left: bool) -> Option<u32> {
+        if !is_left {
+            return self.most;
+        }
         match self.most {
+            Some(seconds) => Some(seconds.min(LEFT_SECONDS)),
+            None => Some(LEFT_SECONDS),
+        }
+    }
+
+    /// How long a wait may take.
+    fn look(&self, is_left: bool) -> Option<Duration> {
+        match self.limit(is_left) {
             Some(_) => Some(Duration::from_millis(LOOK_MS)),
             None => None,
         }
     }
 
     /// Whether it is too long, from its first call on. A clock that cannot be read limits nothing.
-    fn is_over(&mut self) -> bool {
-        let Some(seconds) = self.most else {
+    fn is_over(&mut self, is_left: bool) -> bool {
+        let Some(seconds) = self.limit(is_left) else {
             return false;
         };
         let Ok(now) = Instant::now(self.rt) else {
@@ -364,10 +405,16 @@ fn relay_turns<R: Files<File = File> + Eprint + Clock + AllocGlobal>(
             silence.end();
             continue;
         }
-        if silence.is_over() {
-            return Err(Ended::Silent);
+        let is_left = link.up_closed;
+        if silence.is_over(is_left) {
+            return Err(if is_left { Ended::Left } else { Ended::Silent });
         }
-        poll.poll(events, silence.look())?;
+        match poll.poll(events, silence.look(is_left)) {
+            Err(error) if error.kind() != ErrorKind::Interrupted => return Err(Ended::Broken(
+                error,
+            )),
+            _ => {}
+        }
     }
     Ok(())
 }
@@ -458,6 +505,7 @@ fn relay_one<
         Called::Connected(server) => server,
         Called::Stopped => return Ok(()),
     };
+    keeper.is_bare = true;
     let timeout = patience.seconds();
     let Err(ended) = relay_ends(keeper, number, (client, server), timeout) else {
         return Ok(());
@@ -468,7 +516,35 @@ fn relay_one<
     }
 }
 
-/// Relays that many connections, one after the other: the status. What breaks one off is shown, and the next is taken.
+/// Relays a connection and keeps what it was: whether it counts, which one does not whose client has sent no whole line. What breaks it off is
+/// shown.
+fn relay_next<
+    R: Files<File = File>
+        + Eprint
+        + Clock
+        + Net<Listener = TcpListener, Stream = TcpStream>
+        + AllocGlobal,
+>(
+    keeper: &mut Keeper<'_, R>,
+    number: u64,
+    client: TcpStream,
+    order: &Watch,
+    patience: &Patience<'_, R>,
+) -> bool {
+    let rt = keeper.rt;
+    let relayed = relay_one(keeper, number, client, order, patience);
+    keeper.end();
+    if let Err(fault) = relayed {
+        keeper.has_failed = true;
+        let _ = eprint!(rt; "{fault}");
+    }
+    if keeper.is_bare {
+        let _ = eprintln!(rt; "dme: connection {number} sent no whole line");
+    }
+    !keeper.is_bare
+}
+
+/// Relays that many connections, one after the other: the status.
 fn relay_all<
     R: Files<File = File>
         + Eprint
@@ -480,23 +556,21 @@ fn relay_all<
     listener: &TcpListener,
     order: &Watch,
     patience: &Patience<'_, R>,
-) -> Result<u8, Fault> {
+) -> u8 {
     let rt = keeper.rt;
-    let mut is_broken = false;
-    for count in 0..order.connections {
-        let (client, _) = match listener.accept() {
-            Ok(taken) => taken,
-            Err(error) => return Err(Fault::Order(no_connection(&error, true))),
+    let mut left = order.connections;
+    for before in 0..u64::MAX {
+        if left == 0 {
+            break;
+        }
+        let Some(client) = next_connection(rt, listener, patience) else {
+            break;
         };
-        match relay_one(keeper, count as u64 + 1, client, order, patience) {
-            Ok(()) => {}
-            Err(fault) => {
-                is_broken = true;
-                let _ = eprint!(rt; "{fault}");
-            }
+        if relay_next(keeper, before + 1, client, order, patience) {
+            left -= 1;
         }
     }
-    Ok(if is_broken || keeper.has_failed { 1 } else { 0 })
+    if keeper.has_failed { 1 } else { 0 }
 }
 
 /// Listens, and makes the files of the first connection's bytes, if a folder for them is named.
@@ -566,13 +640,14 @@ fn watch_order<
         recording,
         talk: Talk::new(rt, order.trace, log),
         has_failed: false,
+        is_bare: false,
     };
     let patience = Patience::new(rt, timeout, None);
-    let done = relay_all(&mut keeper, &listener, order, &patience);
+    let status = relay_all(&mut keeper, &listener, order, &patience);
     drop(patience);
     drop(keeper);
     drop(listener);
-    done
+    Ok(status)
 }
 
 /// The order `watch`: its exit status. A file that cannot be written is refused before the relay listens; one that fails later is reported at
