@@ -51,7 +51,7 @@ class Between:
         self.port = free_port()
         words = {
             "forward": [plain("forward"), str(self.port), str(server_port)],
-            "watch": [dme, "watch", "--listen", str(self.port), "--host", "127.0.0.1", "--port", str(server_port), "--told", "told"],
+            "watch": [dme, "watch", "--listen", str(self.port), "--host", "127.0.0.1", "--port", str(server_port), "--told", "told", "--connections", "1"],
         }[kind]
         self.process = subprocess.Popen(words, cwd=folder)
         listens(self.port, self.process)

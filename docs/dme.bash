@@ -27,13 +27,13 @@ _dme()
         simulate) options="--setup --schedule --window --trace --explain" ;;
         audit) options="--setup --features --contacts --record --explain" ;;
         loop) options="--setup --window --progress --trace --explain" ;;
-        serve) options="--setup --listen --port --connections --contacts --progress --trace --log --timeout --stop --explain" ;;
+        serve) options="--setup --listen --port --connections --endless --contacts --progress --trace --log --timeout --stop --explain" ;;
         run) options="--setup --host --port --window --features --record --part --contacts --progress --trace --log --timeout --wait --stop --confirm --explain" ;;
         export) options="--as --setup --features --record --explain" ;;
         review) options="--as --setup" ;;
         ledger) options="--up --down --connection" ;;
         judge) options="--up --down" ;;
-        watch) options="--listen --host --port --told --record-bytes --connections --trace --log --timeout" ;;
+        watch) options="--listen --host --port --told --record-bytes --connections --endless --trace --log --timeout" ;;
         explain)
             options="P1 P2 P3 P4 P5 P6 P7 P8 P9 P10 P11 P12 P13 P14 P15 P16 N1 N2 N3 S1 S2 S3 H1 K1 J1 J2 J3 C4"
             options+=" 9001 9002 9003 9004 9005 9006 9007 9008 9009 9010 9011 9012 9013 9014 9015"

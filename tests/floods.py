@@ -77,7 +77,8 @@ def flood(folder, name, count):
     make, words, reported = FLOODS[name]
     text = make(count)
     sink = Sink(len(text))
-    relay, port = watch(folder, sink.port, "--connections", "2", *words)
+    # A connection without a line does not count.
+    relay, port = watch(folder, sink.port, "--connections", "2" if b"\n" in text else "1", *words)
     # What the relay shows is read by none while it runs, so that it must fit into a pipe.
     with socket.create_connection(("127.0.0.1", port)) as client:
         for at in range(0, len(text), PIECE):

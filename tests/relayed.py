@@ -169,7 +169,7 @@ def session(folder, seed):
     window = fixed.one_of((1, 4, 16))
     many = ("--connections", str(MOST))
     server, server_port = serve(folder, *many)
-    relay, port = watch(folder, server_port, "--record-bytes", ".", *many)
+    relay, port = watch(folder, server_port, "--record-bytes", ".", "--endless")
     cutters, is_done = [], False
     while not is_done:
         is_last = len(cutters) + 1 == MOST
@@ -180,7 +180,9 @@ def session(folder, seed):
         audited(folder)
     for _ in range(len(cutters), MOST):
         socket.create_connection(("127.0.0.1", port), SECONDS).close()
-    must(ended(relay)[1] == "" and ended(server)[0] in (0, 1), "an end")
+    must(ended(server)[0] in (0, 1), "an end")
+    relay.terminate()
+    must(ended(relay)[1] == "", "an output of the relay")
     compare(folder, cutters)
     return sum(it.is_cut for it in cutters)
 

@@ -57,10 +57,12 @@ def ended(process):
 
 
 def watch(folder, server_port, *more, limit=None):
-    """A relay to a port, and the port that it listens on."""
+    """A relay of one connection to a port, if no more are asked for, and the port that it listens on."""
     port = free_port()
-    words = ("watch", "--listen", str(port), "--host", "127.0.0.1", "--port", str(server_port), "--told", "told", *more)
-    return listening(folder, port, *words, limit=limit), port
+    words = ("watch", "--listen", str(port), "--host", "127.0.0.1", "--port", str(server_port), "--told", "told", "--connections", "1")
+    if set(more) & {"--connections", "--endless"}:
+        words = words[:-2]
+    return listening(folder, port, *words, *more, limit=limit), port
 
 
 def serve(folder, *more):
@@ -197,7 +199,8 @@ def leave_everywhere(folder, step):
     count = 0
     for how in ("end", "reset"):
         for hears_last in (True, False):
-            for at in range(1 + count % step, len(lines) + 1, step):
+            # A reset may take the first line back, and then the connection does not count.
+            for at in range(max(1 + count % step, 1 if hears_last else 2), len(lines) + 1, step):
                 leave_after(folder, lines[:at], how, hears_last)
                 count += 1
     return count
@@ -260,7 +263,7 @@ def forward(folder, fixed, resets):
         relay, port = watch(cleared(folder), listener.getsockname()[1], "--record-bytes", ".")
         near = socket.create_connection(("127.0.0.1", port), SECONDS)
         far, _ = listener.accept()
-    up, down = some_bytes(fixed), some_bytes(fixed)
+    up, down = b"00001 GoTo(X(1))\r\n" + some_bytes(fixed), some_bytes(fixed)
     ends = [End(near, up, fixed, resets), End(far, down, fixed, False)]
     for end in ends:
         end.start()
@@ -315,8 +318,10 @@ def begun_anew(folder):
     (folder / "told.old").write_text("older\n")
     with socket.create_server(("127.0.0.1", 0)) as listener:
         relay, port = watch(folder, listener.getsockname()[1])
-        socket.create_connection(("127.0.0.1", port), SECONDS).close()
-        listener.accept()[0].close()
+        with socket.create_connection(("127.0.0.1", port), SECONDS) as near:
+            near.sendall(b"00001 StartSession()\r\n")
+            with listener.accept()[0] as far:
+                must(far.recv(4096) == b"00001 StartSession()\r\n", "no relay")
         must(ended(relay) == (0, "", "dme: what was in told stays as told.old\n"), "relay")
     kept = [(folder / name).read_text() for name in ("told", "told.old")]
     must(kept == [HEADS[1], HEADS[1] + "1 HOMED\n"], "the earlier file is lost", kept)
@@ -344,8 +349,36 @@ def nobody(folder):
     with socket.create_server(("127.0.0.1", 0)) as listener:
         relay, port = watch(folder, listener.getsockname()[1], "--timeout", "1")
         with socket.create_connection(("127.0.0.1", port), SECONDS) as stream:
+            stream.sendall(b"00001 StartSession()\r\n")
             must(stream.recv(1) == b"", "an answer")
         must(ended(relay) == (1, "", "dme: connection failed\nnothing came for 1 s\n"), "silent")
+
+
+def strangers(folder):
+    """A port that is only looked at does not count; a client that goes while its server stays does not keep the next one waiting; a told
+    file that is removed is reported at once. Without a count the relay takes all that come."""
+    with socket.create_server(("127.0.0.1", 0)) as listener:
+        relay, port = watch(folder, listener.getsockname()[1], "--endless")
+        kept_open = []
+        for text in (b"", b"0000", b"00001 Home()\r\n", b"00001 Home()\r\n"):
+            with socket.create_connection(("127.0.0.1", port), SECONDS) as near:
+                near.sendall(text)
+                kept_open.append(listener.accept()[0])
+                kept_open[-1].settimeout(SECONDS)
+                got = b""
+                while len(got) < len(text):
+                    got += kept_open[-1].recv(4096)
+                if text.endswith(b"\n"):
+                    kept_open[-1].sendall(b"00001 &\r\n00001 %\r\n")
+                    must(near.recv(4096).startswith(b"00001 &\r\n"), "no reply")
+            if len(kept_open) == 3:
+                (folder / "told").unlink()
+        relay.terminate()
+        _, out, error = ended(relay)
+        for stream in kept_open:
+            stream.close()
+    bare = "".join(f"dme: connection {number} sent no whole line\n" for number in (1, 2))
+    must((out, error) == ("", bare + "dme: cannot write told: removed or replaced\n"), "strangers", out, error)
 
 
 def check_all(room, step):
@@ -358,7 +391,7 @@ def check_all(room, step):
     for at in range(60 // step + 6):
         forward(folder, fixed, at % 3 == 2)
         count += 1
-    for check in (bypass, no_file, full_file, nobody, refused_beside, begun_anew):
+    for check in (bypass, no_file, full_file, nobody, strangers, refused_beside, begun_anew):
         check(cleared(folder))
         count += 1
     return count

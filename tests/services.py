@@ -1,0 +1,177 @@
+"""Services and runs beside which something goes wrong that they are to outlive, and limits of time that no noise extends.
+
+- An `accept`, a receive or a send that fails once, as `strace` makes it fail, ends neither a service nor a run: the report is that of a run that
+  nothing disturbs.
+- Each act of a server is written to its contacts file and forced to the device before the reply that reports it is sent, as `strace` sees it.
+- A contacts file that is removed while the server serves is reported at once, the whole file is there at the end, and the status is 1.
+- `--endless` serves one connection after another until it is ended.
+- A client that sends a byte at a time and no line, and a server that only reports under E0000, have as long as one that is silent.
+
+`run` calls this; by itself: tests/services.py
+"""
+
+import pathlib
+import re
+import socket
+import subprocess
+import sys
+import tempfile
+import threading
+import time
+
+from growths import PROGRAM, Wrong, must
+from killed import SETUP, dme, program
+from listening import free_port, wait_for_listener
+from watched import ended, listening
+
+SECONDS = 60
+HEAD = "DME-CONTACTS 1\n"
+SERVER = ("serve", "--setup", "machine.setup")
+UNTIMELY = "dme: connection failed\nnothing that was due came from the {} for 1 second\n"
+
+
+def served(folder, *more):
+    """A service that listens, and its port."""
+    port = free_port()
+    return listening(folder, port, *SERVER, "--port", str(port), *more), port
+
+
+def traced(folder, options, *words):
+    """A `dme` under `strace`."""
+    words = ["strace", "-f", "-o", str(folder / "calls"), *options, str(PROGRAM), *words]
+    return subprocess.Popen(words, cwd=folder, stdout=subprocess.PIPE, stderr=subprocess.PIPE, text=True)
+
+
+def traced_service(folder, options, *more):
+    port = free_port()
+    process = traced(folder, options, *SERVER, "--port", str(port), *more)
+    wait_for_listener(port, lambda: process.poll() is not None, SECONDS)
+    return process, port
+
+
+def run_words(port, *more):
+    return ("run", "--setup", "machine.setup", "--host", "127.0.0.1", "--port", str(port), *more, "part.dmis")
+
+
+def undisturbed(folder):
+    server, port = served(folder)
+    report = ended(dme(folder, *run_words(port)))
+    must(report[0] == 0 and ended(server)[0] == 0, "undisturbed", report)
+    return report
+
+
+def failing_calls(folder):
+    report = undisturbed(folder)
+    for fault, said in (
+        ("accept4:error=ECONNABORTED:when=1", "dme: a connection cannot be taken\n"),
+        ("accept4:error=EMFILE:when=1", "dme: a connection cannot be taken\n"),
+        ("accept4:error=EINTR:when=1", ""),
+        ("recvfrom:error=EINTR:when=3+4", ""),
+        ("sendto:error=EINTR:when=3+4", ""),
+    ):
+        server, port = traced_service(folder, ("-e", f"inject={fault}"))
+        must(ended(dme(folder, *run_words(port))) == report, "another report", fault)
+        status, _, error = ended(server)
+        must((status, error) == (0, said), "the service", fault, status, error)
+        must("INJECTED" in (folder / "calls").read_text(), "nothing was disturbed", fault)
+    for fault in ("recvfrom:error=EINTR:when=3+4", "sendto:error=EINTR:when=3+4"):
+        server, port = served(folder)
+        run = ended(traced(folder, ("-e", f"inject={fault}"), *run_words(port)))
+        must(run == report, "another report of the run", fault, run)
+        must("INJECTED" in (folder / "calls").read_text(), "nothing was disturbed", fault)
+        ended(server)
+
+
+def forced_acts(folder):
+    server, port = traced_service(folder, ("-y", "-e", "trace=write,fdatasync,sendto"), "--contacts", "contacts")
+    must(ended(dme(folder, *run_words(port)))[0] == 0 and ended(server)[0] == 0, "run")
+    calls = re.findall(r"(?m)^\d+ +(\w+)\(\d+<([^>]*)>", (folder / "calls").read_text())
+    named = [(call, file.endswith("/contacts")) for call, file in calls]
+    writes = [at for at, it in enumerate(named) if it == ("write", True)]
+    must(len(writes) > 100, "acts", len(writes))
+    for at in writes:
+        must(named[at + 1] == ("fdatasync", True), "an act is not forced before anything else", calls[at : at + 3])
+
+
+def removed_contacts(folder):
+    server, port = served(folder, "--contacts", "contacts")
+    with socket.create_connection(("127.0.0.1", port), SECONDS) as stream:
+        stream.settimeout(SECONDS)
+        for tag, command in (("00001", "StartSession()"), ("00002", "Home()"), ("00003", "IsHomed()"), ("00004", "IsHomed()")):
+            stream.sendall(f"{tag} {command}\r\n".encode())
+            came = b""
+            while f"{tag} %\r\n".encode() not in came:
+                came += stream.recv(4096)
+            if tag == "00002":
+                (folder / "contacts").unlink()
+    must(ended(server) == (1, "", "dme: cannot write contacts: removed or replaced\n"), "service")
+    must((folder / "contacts").read_text() == HEAD + "1 HOMED\n1 HOMEDIS 1\n1 HOMEDIS 1\n", "the whole file at the end")
+
+
+def endless(folder):
+    server, port = served(folder, "--endless")
+    for _ in range(3):
+        must(ended(dme(folder, *run_words(port)))[0] == 0, "run")
+    must(server.poll() is None, "it has ended")
+    server.terminate()
+    ended(server)
+
+
+def trickle(stream, text, stop):
+    """Sends a text again and again, a byte at a time, as long as the other end takes it."""
+    try:
+        while not stop.is_set():
+            for byte in text:
+                stream.sendall(bytes([byte]))
+                time.sleep(0.05)
+    except OSError:
+        pass
+
+
+def noise(folder):
+    """How long ends wait that only noise comes to."""
+    stop = threading.Event()
+    server, port = served(folder, "--timeout", "1")
+    with socket.create_connection(("127.0.0.1", port), SECONDS) as stream:
+        threading.Thread(target=trickle, args=(stream, b"x", stop), daemon=True).start()
+        status, out, error = ended(server)
+    stop.set()
+    must((status, out, error) == (1, "", UNTIMELY.format("client")), "half a line", status, error)
+    for text in (b"E0000 ! Error(1, 1, \"\", \"busy\")\r\n", b"00001"):
+        stop = threading.Event()
+        with socket.create_server(("127.0.0.1", 0)) as listener:
+            run = dme(folder, *run_words(listener.getsockname()[1], "--timeout", "1"))
+            stream, _ = listener.accept()
+            threading.Thread(target=trickle, args=(stream, text, stop), daemon=True).start()
+            status, _, error = ended(run)
+        stop.set()
+        stream.close()
+        must(status == 1 and UNTIMELY.format("server") in error, "noise", text, status, error)
+
+
+def check_all(room):
+    checks = (failing_calls, forced_acts, removed_contacts, endless, noise)
+    for check in checks:
+        folder = pathlib.Path(room) / check.__name__
+        folder.mkdir()
+        (folder / "machine.setup").write_text(SETUP)
+        (folder / "part.dmis").write_text(program())
+        check(folder)
+    return len(checks)
+
+
+def check_services():
+    """How many checks hold, and how many do not."""
+    try:
+        with tempfile.TemporaryDirectory() as room:
+            count = check_all(room)
+    except (Wrong, OSError, subprocess.SubprocessError) as wrong:
+        print(f"services: {wrong}")
+        print("services that are disturbed: not as expected", flush=True)
+        return 0, 1
+    print(f"services that are disturbed: {count} checks", flush=True)
+    return 1, 0
+
+
+if __name__ == "__main__":
+    sys.exit(check_services()[1])
