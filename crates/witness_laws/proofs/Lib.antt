@@ -1,0 +1,4 @@
+pub mod orders
+pub mod server
+pub mod client
+pub mod machines

@@ -1,0 +1,15 @@
+pub mod Agreeing
+pub mod Aheading
+pub mod Claiming
+pub mod Cuts
+pub mod Entries
+pub mod ExampleLines
+pub mod Growing
+pub mod Holding
+pub mod Knowing
+pub mod Ledgers
+pub mod Marks
+pub mod Replying
+pub mod Seeing
+pub mod Steps
+pub mod Visiting

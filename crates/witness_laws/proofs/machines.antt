@@ -1,0 +1,14 @@
+pub mod Places
+pub mod Changes
+pub mod Orders
+pub mod Marking
+pub mod Holding
+pub mod There
+pub mod Prompt
+pub mod Reports
+pub mod Held
+pub mod Lasting
+pub mod Tools
+pub mod Frames
+pub mod Later
+pub mod Relayed
