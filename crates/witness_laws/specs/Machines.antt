@@ -24,13 +24,13 @@ pub data Cause : Type 0 where
 
 -- a line of either end, as it is sent, or what the machine does
 pub data Entry : Type 0 where
-  Said : Line → Entry
+  Message : Line → Entry
   Does : Cause → Effect → Entry
 
 -- the lines alone
 abbrev pub lines : List Entry → List Line
 lines [] = []
-lines (Said line ∷ h) = line ∷ lines h
+lines (Message line ∷ h) = line ∷ lines h
 lines (Does cause effect ∷ h) = lines h
 
 -- what was so at some time of a history
@@ -71,7 +71,7 @@ or_before cause (Some a) before = Some (cause, a)
 
 abbrev pub last : {A : Type 0} → (Effect → Option A) → List Entry → Option (Cause × A)
 last sort [] = None
-last sort (Said line ∷ h) = last sort h
+last sort (Message line ∷ h) = last sort h
 last sort (Does cause effect ∷ h) = or_before cause (sort effect) (last sort h)
 
 -- what is so since then; None if it is not known from what the machine did
@@ -93,7 +93,7 @@ zero_now h = so (last zero_stored h)
 -- what came before the last of these effects
 abbrev pub before_last : (Cause → Effect → Bool) → List Entry → Option (List Entry)
 before_last is_it [] = None
-before_last is_it (Said line ∷ h) = before_last is_it h
+before_last is_it (Message line ∷ h) = before_last is_it h
 before_last is_it (Does cause effect ∷ h) = if is_it cause effect then Some h else before_last is_it h
 
 -- it is for the line at a place, in its turn

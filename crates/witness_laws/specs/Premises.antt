@@ -22,7 +22,7 @@ use Rattle.witness.specs.declared.lines.SentCommand.{SentCommand}
 use Rattle.witness.specs.declared.lines.SentCommand.TheVariants as sends
 use Rattle.witness.specs.declared.lines.Stage.{Stage}
 use Rattle.witness.specs.declared.lines.Stage.TheVariants as stage
-use Rattle.witness_laws.specs.Machines.{Effect, TakesTool, SelectsFrame, StoresZero, Touches, Cause, InTurn, AtOnce, ForNoLine, Entry, Said, Does}
+use Rattle.witness_laws.specs.Machines.{Effect, TakesTool, SelectsFrame, StoresZero, Touches, Cause, InTurn, AtOnce, ForNoLine, Entry, Message, Does}
 use Rattle.witness_laws.specs.Machines.{lines, sent_at, tool_taken, frame_selected, zero_stored, last, frame_now, part_selected, before_last, is_contact}
 
 -- it holds of each entry, with those before it
@@ -106,7 +106,7 @@ takes_a_tool (TakesTool tool) = true
 takes_a_tool _ = false
 
 abbrev pub ActsWithin : Entry → List Entry → Type 0
-ActsWithin (Said line) h = Unit {0}
+ActsWithin (Message line) h = Unit {0}
 ActsWithin (Does (InTurn n) effect) h = may_in_turn effect (frame_now h) (has_ended n (lines h)) (sent_at n (lines h)) ≡ true
 ActsWithin (Does (AtOnce n) effect) h = may_at_once (sent_at n (lines h)) ≡ true
 ActsWithin (Does ForNoLine effect) h = takes_a_tool effect ≡ true
@@ -147,12 +147,12 @@ is_in_order n effect shown ForNoLine other = true
 
 abbrev pub comes_in_order : ℕ → Effect → List ℕ → List Entry → Bool
 comes_in_order n effect shown [] = true
-comes_in_order n effect shown (Said (Sends line what) ∷ h) = comes_in_order n effect shown h
-comes_in_order n effect shown (Said (Answers line what) ∷ h) = comes_in_order n effect (with_shown (out_of_turn what (lines h)) shown) h
+comes_in_order n effect shown (Message (Sends line what) ∷ h) = comes_in_order n effect shown h
+comes_in_order n effect shown (Message (Answers line what) ∷ h) = comes_in_order n effect (with_shown (out_of_turn what (lines h)) shown) h
 comes_in_order n effect shown (Does cause other ∷ h) = is_in_order n effect shown cause other && comes_in_order n effect shown h
 
 abbrev pub ActsInOrder : Entry → List Entry → Type 0
-ActsInOrder (Said line) h = Unit {0}
+ActsInOrder (Message line) h = Unit {0}
 ActsInOrder (Does (InTurn n) effect) h = comes_in_order n effect [] h ≡ true
 ActsInOrder (Does (AtOnce n) effect) h = Unit {0}
 ActsInOrder (Does ForNoLine effect) h = Unit {0}
@@ -165,11 +165,11 @@ is_not_below n ForNoLine = true
 
 abbrev pub none_below : ℕ → List Entry → Bool
 none_below n [] = true
-none_below n (Said line ∷ h) = none_below n h
+none_below n (Message line ∷ h) = none_below n h
 none_below n (Does cause effect ∷ h) = is_not_below n cause && none_below n h
 
 abbrev pub ActsBefore : Entry → List Entry → Type 0
-ActsBefore (Said line) h = Unit {0}
+ActsBefore (Message line) h = Unit {0}
 ActsBefore (Does (InTurn n) effect) h = Unit {0}
 ActsBefore (Does (AtOnce n) effect) h = none_below n h ≡ true
 ActsBefore (Does ForNoLine effect) h = Unit {0}
@@ -202,8 +202,8 @@ MadeAt faulty h (Some (n, e)) =
     IfTrue (not faulty && is_done (progress_with (progress_of (marks n (lines h))) e)) (MadeSent n h (sent_at n (lines h)))
 
 abbrev pub ChangesAreMade : Entry → List Entry → Type 0
-ChangesAreMade (Said (Sends line what)) h = Unit {0}
-ChangesAreMade (Said (Answers line what)) h = MadeAt (is_fault what (lines h)) h (mark_in what (lines h))
+ChangesAreMade (Message (Sends line what)) h = Unit {0}
+ChangesAreMade (Message (Answers line what)) h = MadeAt (is_fault what (lines h)) h (mark_in what (lines h))
 ChangesAreMade (Does cause effect) h = Unit {0}
 
 -- ---- what is done for no line is reported by a fault
@@ -216,25 +216,25 @@ is_for_none ForNoLine = true
 -- a tool was, no line changed it since, and no fault came since
 abbrev pub is_unreported : List Entry → Bool
 is_unreported [] = false
-is_unreported (Said (Sends line what) ∷ h) = is_unreported h
-is_unreported (Said (Answers line what) ∷ h) = not (is_fault what (lines h)) && is_unreported h
+is_unreported (Message (Sends line what) ∷ h) = is_unreported h
+is_unreported (Message (Answers line what) ∷ h) = not (is_fault what (lines h)) && is_unreported h
 is_unreported (Does cause effect ∷ h) = if takes_a_tool effect then is_for_none cause else is_unreported h
 
 -- so it was before the last of these effects, and no fault came since
 abbrev pub is_lost_before : (Cause → Effect → Bool) → List Entry → Bool
 is_lost_before is_it [] = false
-is_lost_before is_it (Said (Sends line what) ∷ h) = is_lost_before is_it h
-is_lost_before is_it (Said (Answers line what) ∷ h) = not (is_fault what (lines h)) && is_lost_before is_it h
+is_lost_before is_it (Message (Sends line what) ∷ h) = is_lost_before is_it h
+is_lost_before is_it (Message (Answers line what) ∷ h) = not (is_fault what (lines h)) && is_lost_before is_it h
 is_lost_before is_it (Does cause effect ∷ h) = if is_it cause effect then is_unreported h else is_lost_before is_it h
 
 -- at the end of a touch, before its contact
-abbrev pub is_told : Option (ℕ × Heard) → List Entry → Bool
-is_told None h = true
-is_told (Some (n, e)) h = not (is_complete e) || not (is_lost_before (is_contact n) h)
+abbrev pub is_loss_reported : Option (ℕ × Heard) → List Entry → Bool
+is_loss_reported None h = true
+is_loss_reported (Some (n, e)) h = not (is_complete e) || not (is_lost_before (is_contact n) h)
 
 abbrev pub LossesAreReported : Entry → List Entry → Type 0
-LossesAreReported (Said (Sends line what)) h = Unit {0}
-LossesAreReported (Said (Answers line what)) h = is_told (mark_in what (lines h)) h ≡ true
+LossesAreReported (Message (Sends line what)) h = Unit {0}
+LossesAreReported (Message (Answers line what)) h = is_loss_reported (mark_in what (lines h)) h ≡ true
 LossesAreReported (Does cause effect) h = Unit {0}
 
 -- ---- `&`, `#` and `%` of a touch mean that it made its contact
@@ -254,8 +254,8 @@ has_contact (Some (n, e)) h =
     not (is_complete e && point_given (sent_at n (lines h)) (marks n (lines h))) || is_some (before_last (is_contact n) h)
 
 abbrev pub TouchesAreMade : Entry → List Entry → Type 0
-TouchesAreMade (Said (Sends line what)) h = Unit {0}
-TouchesAreMade (Said (Answers line what)) h = has_contact (mark_in what (lines h)) h ≡ true
+TouchesAreMade (Message (Sends line what)) h = Unit {0}
+TouchesAreMade (Message (Answers line what)) h = has_contact (mark_in what (lines h)) h ≡ true
 TouchesAreMade (Does cause effect) h = Unit {0}
 
 -- ---- all of them
@@ -265,7 +265,7 @@ pub record Keeps (h : List Entry) : Type 0 where
   pub in_order : Always ActsInOrder h
   pub before : Always ActsBefore h
   pub made : Always ChangesAreMade h
-  pub told : Always LossesAreReported h
+  pub reported : Always LossesAreReported h
   pub touched : Always TouchesAreMade h
 
 -- as long as no line was sent under a tag under which another was open; then nothing is known any more

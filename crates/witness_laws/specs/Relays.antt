@@ -7,7 +7,7 @@ use Rattle.witness.specs.Rules.{reported_of}
 use Rattle.witness.specs.declared.lines.Reported.{Reported}
 use Rattle.witness_laws.specs.Claims.{in_turn, ClaimsNoMore}
 use Rattle.witness_laws.specs.Orders.{Line, Up, Down, said_all}
-use Rattle.witness_laws.specs.Machines.{Entry, Said, lines, IsPast}
+use Rattle.witness_laws.specs.Machines.{Entry, Message, lines, IsPast}
 
 -- replies are read later than they were sent, after more lines of the client; those of each end stay in their order
 pub data IsReadLater (sent : List Line) : List Line → Type 0 where
@@ -26,7 +26,7 @@ pub record IsBroughtBy (Had : Option (Tag × Signal) → List Entry → Type 0) 
   pub line : List ℕ
   pub what : Option (Tag × Signal)
   pub before : List Entry
-  pub past : IsPast h (Said (Answers line what) ∷ before)
+  pub past : IsPast h (Message (Answers line what) ∷ before)
   pub at : ℕ
   pub brought : slice_get (reported_of true line what (lines before)) at ≡ Some r
   pub had : Had what before

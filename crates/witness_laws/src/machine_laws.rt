@@ -10,7 +10,7 @@ ghost use Rattle.witness.specs.declared.lines.Reported.{Reported as OneReport};
 ghost use Rattle.witness_laws.specs.Claims.{in_turn, ClaimNoMore};
 ghost use Rattle.witness_laws.specs.Orders.{Line, said_all, IsCausal};
 ghost use Rattle.witness_laws.specs.Contacts.{contact_tool, contact_frame, HadTool, HadFrame};
-ghost use Rattle.witness_laws.specs.Machines.{Entry, Said, lines};
+ghost use Rattle.witness_laws.specs.Machines.{Entry, Message, lines};
 ghost use Rattle.witness_laws.specs.Premises.{KeepsUnlessCrossed};
 ghost use Rattle.witness_laws.specs.Relays.{IsReadLater, onto, IsSoOf};
 
@@ -18,12 +18,12 @@ ghost use Rattle.witness_laws.specs.Relays.{IsReadLater, onto, IsSoOf};
 /// up to a line of the server and with it, and for each report that this line brings. It is the end of a touch then, whose contact was made.
 pub fn known_tools_and_frames_are_so()
     ensures tool { (line : List ℕ) (what : Option (Tag × Signal)) (h : List Entry)
-        → KeepsUnlessCrossed (Said (Answers line what) ∷ h)
+        → KeepsUnlessCrossed (Message (Answers line what) ∷ h)
         → (i : ℕ) (r : OneReport) (tool : List ℕ)
         → slice_get (reported_of true line what (lines h)) i ≡ Some r
         → contact_tool r ≡ Some tool → HadTool what h tool }
     ensures frame { (line : List ℕ) (what : Option (Tag × Signal)) (h : List Entry)
-        → KeepsUnlessCrossed (Said (Answers line what) ∷ h)
+        → KeepsUnlessCrossed (Message (Answers line what) ∷ h)
         → (i : ℕ) (r : OneReport) (frame : OneFrame)
         → slice_get (reported_of true line what (lines h)) i ≡ Some r
         → contact_frame r ≡ Some frame → HadFrame what h frame }

@@ -1,6 +1,6 @@
 -- What a client holds open and counts, next to what a witness knows and reports.
 use Rattle.std.proofs.Common.{◌≡◌, ℕ, Bool, true, false, cond, None, ◌&&◌, ◌||◌, not, List, [], ◌∷◌, ◌++◌, map, refl, sym, ◌∙◌, ap, subst}
-use Rattle.std.proofs.lemmas.Bool.{false≢true}
+use Rattle.std.proofs.lemmas.Bool.{false≢true, or_parts, and_parts}
 use Rattle.std.specs.Prelude.{◌==◌}
 use Rattle.std.specs.List.{list_any}
 use Rattle.dme_line.specs.Kinds.{kind_of, is_event_kind}
@@ -172,10 +172,6 @@ failed_rests u h e = go (is_event u.tag) refl
     go true is = event_rests u h is
     go false is = standard_waits u h is ∙ ap not e
 
-both_of : (a b : Bool) → (a && b) ≡ true → (a ≡ true) × (b ≡ true)
-both_of true b e = (refl, e)
-both_of false b e = absurd (false≢true e)
-
 -- if all standard commands have failed, none waits
 pub failed_wait : (us : List Use) → AreOurs us → all_failed (picks is_standard us) ≡ true → list_any waits us ≡ false
 failed_wait [] h e = refl
@@ -185,7 +181,7 @@ failed_wait (u ∷ us) h e = go (is_standard u.tag) refl (failed_wait us h.1)
         → list_any waits (u ∷ us) ≡ false
     go true is rest =
         let both : (is_failed (stage_by u.stage) ≡ true) × (all_failed (picks is_standard us) ≡ true) =
-        both_of (is_failed (stage_by u.stage)) (all_failed (picks is_standard us)) (sym (ap all_failed (picks_in is_standard u us is)) ∙ e) in
+        and_parts (is_failed (stage_by u.stage)) (all_failed (picks is_standard us)) (sym (ap all_failed (picks_in is_standard u us is)) ∙ e) in
         ap (λ (b : Bool). b || list_any waits us) (failed_rests u h.0 both.0) ∙ rest both.1
     go false is rest = ap (λ (b : Bool). b || list_any waits us) (event_rests u h.0 (sorts u.tag ∙ ap not is))
         ∙ rest (sym (ap all_failed (picks_out is_standard u us is)) ∙ e)
@@ -305,18 +301,14 @@ past_none v u e = ap (λ (b : Bool). cond b (selected_after v (command_in u.comm
 pub past_one : (v : Selected) (u : Use) → waits u ≡ true → selected_past v u ≡ selected_after v (command_in u.command)
 past_one v u e = ap (λ (b : Bool). cond b (selected_after v (command_in u.command)) v) e
 
-either : (a b : Bool) → (a || b) ≡ false → (a ≡ false) × (b ≡ false)
-either true b e = absurd (false≢true (sym e))
-either false b e = (refl, e)
-
 pub none_past : (v : Selected) (us : List Use) → list_any waits us ≡ false → selected_all v us ≡ v
 none_past v [] e = refl
-none_past v (u ∷ us) e = let parts = either (waits u) (list_any waits us) e in
+none_past v (u ∷ us) e = let parts = or_parts (waits u) (list_any waits us) e in
     ap (λ (w : Selected). selected_all w us) (past_none v u parts.0) ∙ none_past v us parts.1
 
 pub none_known : (lossy : Bool) (all : List Use) (v : Selected) (us : List Use) → list_any waits us ≡ false → AreKnown lossy all v us
 none_known lossy all v [] e = tt
-none_known lossy all v (u ∷ us) e = let parts = either (waits u) (list_any waits us) e in (
+none_known lossy all v (u ∷ us) e = let parts = or_parts (waits u) (list_any waits us) e in (
   subst (λ (b : Bool). KnowsIf b lossy all v u) (sym parts.0) tt,
   none_known lossy all (selected_past v u) us parts.1,
 )

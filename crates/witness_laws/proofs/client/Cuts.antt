@@ -194,58 +194,6 @@ cut test front (u ∷ us) t m gs e sort is = go (test u.tag) refl (λ f rest hea
     go false out deeper = cut_out test front u us t m gs e sort out
         (deeper front gs (ap (λ (l : List OpenCommand). heard_in front l t m) (sym (picks_out test u us out)) ∙ is))
 
--- ---- places in a list
-
-place_of : (t : Tag) (before : List Use) (u : Use) (after : List Use) → list_any (has_tag t) before ≡ false → tag_is u.tag t ≡ true
-    → position_or_len (has_tag t) (before ++ u ∷ after) ≡ length before
-place_of t [] u after none here = ap (λ (b : Bool). cond (not b) (1 + position_or_len (has_tag t) after) 0) here
-place_of t (v ∷ before) u after none here = go (tag_is v.tag t) refl none (place_of t before u after)
-  where
-    go : (b : Bool) → tag_is v.tag t ≡ b → (b || list_any (has_tag t) before) ≡ false
-        → (list_any (has_tag t) before ≡ false → tag_is u.tag t ≡ true
-        → position_or_len (has_tag t) (before ++ u ∷ after) ≡ length before)
-        → position_or_len (has_tag t) (v ∷ (before ++ u ∷ after)) ≡ suc (length before)
-    go true e n deeper = absurd (false≢true (sym n))
-    go false e n deeper = let later = deeper n here in
-        ap (λ (b : Bool). cond (not b) (1 + position_or_len (has_tag t) (before ++ u ∷ after)) 0) e ∙ omega (arith, later)
-
-within : (before : List Use) (u : Use) (after : List Use) → nat_lt (length before) (length (before ++ u ∷ after)) ≡ true
-within before u after = lt-ltb (length before) (length (before ++ u ∷ after))
-    (let long : length (before ++ u ∷ after) ≡ length before + length (u ∷ after) = length-append before (u ∷ after) in omega (arith, long))
-
-pub found_at : (t : Tag) (before : List Use) (u : Use) (after : List Use) → list_any (has_tag t) before ≡ false → tag_is u.tag t ≡ true
-    → position (has_tag t) (before ++ u ∷ after) ≡ Some (length before)
-found_at t before u after none here =
-    ap (λ (n : ℕ). cond (nat_lt n (length (before ++ u ∷ after))) (Some n) None) (place_of t before u after none here)
-    ∙ ap (λ (b : Bool). cond b (Some (length before)) None) (within before u after)
-
-no_place : (t : Tag) (us : List Use) → list_any (has_tag t) us ≡ false → position_or_len (has_tag t) us ≡ length us
-no_place t [] none = refl
-no_place t (v ∷ us) none = go (tag_is v.tag t) refl none (no_place t us)
-  where
-    go : (b : Bool) → tag_is v.tag t ≡ b → (b || list_any (has_tag t) us) ≡ false
-        → (list_any (has_tag t) us ≡ false → position_or_len (has_tag t) us ≡ length us)
-        → position_or_len (has_tag t) (v ∷ us) ≡ suc (length us)
-    go true e n deeper = absurd (false≢true (sym n))
-    go false e n deeper = let later = deeper n in
-        ap (λ (b : Bool). cond (not b) (1 + position_or_len (has_tag t) us) 0) e ∙ omega (arith, later)
-
-not_below : (n : ℕ) → nat_lt n n ≡ false
-not_below n = le-ltb n n (le_refl n)
-
-pub not_found : (t : Tag) (us : List Use) → list_any (has_tag t) us ≡ false → position (has_tag t) us ≡ None
-not_found t us none =
-    ap (λ (n : ℕ). cond (nat_lt n (length us)) (Some n) None) (no_place t us none)
-    ∙ ap (λ (b : Bool). cond b (Some (length us)) None) (not_below (length us))
-
-pub got : (before : List Use) (u : Use) (after : List Use) → slice_get (before ++ u ∷ after) (length before) ≡ Some u
-got [] u after = refl
-got (v ∷ before) u after = got before u after
-
-pub removed : (before : List Use) (u : Use) (after : List Use) → remove (before ++ u ∷ after) (length before) ≡ before ++ after
-removed [] u after = refl
-removed (v ∷ before) u after = ap (λ (l : List Use). v ∷ l) (removed before u after)
-
 pub taken : (before : List Use) (u : Use) (after : List Use) → take (length before) (before ++ u ∷ after) ≡ before
 taken [] u after = refl
 taken (w ∷ before) u after = ap (λ (l : List Use). w ∷ l) (taken before u after)

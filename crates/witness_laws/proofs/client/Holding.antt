@@ -3,7 +3,7 @@ use Rattle.std.proofs.Common.{◌≡◌, ℕ, suc, ◌<◌, ◌≤◌, Bool, tru
 use Rattle.std.proofs.Common.{subst, arith, ne_eqb, eq-eqb, Option, Some, None}
 use Rattle.std.specs.Prelude.{◌==◌}
 use Rattle.std.specs.List.{list_any}
-use Rattle.std.proofs.lemmas.Bool.{false≢true, eqb-true}
+use Rattle.std.proofs.lemmas.Bool.{false≢true, eqb-true, or_parts}
 use Rattle.fixed_um.specs.declared.lengths.Point.{Point}
 use Rattle.fixed_um.specs.declared.frames.Frame.{Frame}
 use Rattle.fixed_um.specs.declared.frames.Frame.TheVariants.{Machine, Part}
@@ -31,78 +31,7 @@ use Rattle.witness.specs.declared.lines.Use.{Use}
 use Rattle.witness_laws.specs.Orders.{AreCounted}
 use Rattle.witness_laws.proofs.client.Cuts.{kind_by}
 use Rattle.witness_laws.proofs.client.Knowing.{Selected, none_selected, selected_after, unless_part, IsOr, Fits}
-
--- ---- lines
-
-abbrev pub line_is : ℕ → Use → Bool
-line_is n u = u.line == n
-
-pub rising_top : (from : ℕ) (us : List Use) (top : ℕ) → AreCounted from us top → from ≤ top
-rising_top from [] top h = h
-rising_top from (u ∷ us) top h = let later = rising_top (suc u.line) us top h.1 in omega (arith, h.0, later)
-
-not_here : (n m : ℕ) → n < m → (m == n) ≡ false
-not_here n m h = ne_eqb m n (λ e. omega (arith, h, e))
-
-none_below : (from : ℕ) (us : List Use) (top n : ℕ) → AreCounted from us top → n < from → list_any (line_is n) us ≡ false
-none_below from [] top n h low = refl
-none_below from (u ∷ us) top n h low = ap (λ (b : Bool). b || list_any (line_is n) us) (not_here n u.line (omega (arith, h.0, low)))
-    ∙ none_below (suc u.line) us top n h.1 (omega (arith, h.0, low))
-
-pub none_above : (from : ℕ) (us : List Use) (top : ℕ) → AreCounted from us top → list_any (line_is top) us ≡ false
-none_above from [] top h = refl
-none_above from (u ∷ us) top h =
-    let high = rising_top (suc u.line) us top h.1 in
-    ap (λ (b : Bool). b || list_any (line_is top) us) (ne_eqb u.line top (λ e. omega (arith, high, e)))
-    ∙ none_above (suc u.line) us top h.1
-
-rising_at : (from : ℕ) (before : List Use) (u : Use) (after : List Use) (top : ℕ) → AreCounted from (before ++ u ∷ after) top → from ≤ u.line
-rising_at from [] u after top h = h.0
-rising_at from (v ∷ before) u after top h = let later = rising_at (suc v.line) before u after top h.1 in omega (arith, h.0, later)
-
-pub none_before : (from : ℕ) (before : List Use) (u : Use) (after : List Use) (top : ℕ) → AreCounted from (before ++ u ∷ after) top
-    → list_any (line_is u.line) before ≡ false
-none_before from [] u after top h = refl
-none_before from (v ∷ before) u after top h =
-    let high = rising_at (suc v.line) before u after top h.1 in
-    ap (λ (b : Bool). b || list_any (line_is u.line) before) (ne_eqb v.line u.line (λ e. omega (arith, high, e)))
-    ∙ none_before (suc v.line) before u after top h.1
-
-pub none_after : (from : ℕ) (before : List Use) (u : Use) (after : List Use) (top : ℕ) → AreCounted from (before ++ u ∷ after) top
-    → list_any (line_is u.line) after ≡ false
-none_after from [] u after top h = none_below (suc u.line) after top u.line h.1 (omega arith)
-none_after from (v ∷ before) u after top h = none_after (suc v.line) before u after top h.1
-
-pub below_top : (from : ℕ) (before : List Use) (u : Use) (after : List Use) (top : ℕ) → AreCounted from (before ++ u ∷ after) top → u.line < top
-below_top from [] u after top h = rising_top (suc u.line) after top h.1
-below_top from (v ∷ before) u after top h = below_top (suc v.line) before u after top h.1
-
-pub rising_renewed : (f : Known → Known) (from : ℕ) (us : List Use) (top : ℕ) → AreCounted from us top
-    → AreCounted from (map (use_renewed f) us) top
-rising_renewed f from [] top h = h
-rising_renewed f from (u ∷ us) top h = (h.0, rising_renewed f (suc u.line) us top h.1)
-
-pub rising_kept : (f : Known → Known) (from : ℕ) (before : List Use) (u v : Use) (after : List Use) (top : ℕ) → v.line ≡ u.line
-    → AreCounted from (before ++ u ∷ after) top → AreCounted from (map (use_renewed f) before ++ v ∷ map (use_renewed f) after) top
-rising_kept f from [] u v after top same h = (
-  subst (λ (n : ℕ). from ≤ n) (sym same) h.0,
-  subst (λ (n : ℕ). AreCounted (suc n) (map (use_renewed f) after) top) (sym same) (rising_renewed f (suc u.line) after top h.1),
-)
-rising_kept f from (w ∷ before) u v after top same h = (h.0, rising_kept f (suc w.line) before u v after top same h.1)
-
-rising_lower : (from low : ℕ) (us : List Use) (top : ℕ) → low ≤ from → AreCounted from us top → AreCounted low us top
-rising_lower from low [] top le h = omega (arith, le, h)
-rising_lower from low (u ∷ us) top le h = (omega (arith, le, h.0), h.1)
-
-pub rising_gone : (f : Known → Known) (from : ℕ) (before : List Use) (u : Use) (after : List Use) (top : ℕ)
-    → AreCounted from (before ++ u ∷ after) top → AreCounted from (map (use_renewed f) before ++ map (use_renewed f) after) top
-rising_gone f from [] u after top h =
-    rising_renewed f from after top (rising_lower (suc u.line) from after top (omega (arith, h.0)) h.1)
-rising_gone f from (w ∷ before) u after top h = (h.0, rising_gone f (suc w.line) before u after top h.1)
-
-pub rising_more : (from : ℕ) (us : List Use) (u : Use) (top : ℕ) → u.line ≡ top → AreCounted from us top → AreCounted from (us ++ u ∷ []) (suc top)
-rising_more from [] u top is h = (omega (arith, is, h), omega (arith, is))
-rising_more from (v ∷ us) u top is h = (h.0, rising_more (suc v.line) us u top is h.1)
+use Rattle.witness_laws.proofs.orders.Counts.{none_below, none_before, none_after, line_is}
 
 -- ---- how far a change is
 
@@ -131,14 +60,6 @@ past u us n e = ap (λ (b : Bool). cond b (so_far u) (progress_in us n)) e
 first : (u : Use) (us : List Use) (n : ℕ) → (u.line == n) ≡ true → progress_in (u ∷ us) n ≡ so_far u
 first u us n e = ap (λ (b : Bool). cond b (so_far u) (progress_in us n)) e
 
-neither : (a b : Bool) → (a || b) ≡ false → (a ≡ false) × (b ≡ false)
-neither true b e = absurd (false≢true (sym e))
-neither false b e = (refl, e)
-
-both : (a b : Bool) → (a && b) ≡ true → (a ≡ true) × (b ≡ true)
-both true b e = (refl, e)
-both false b e = absurd (false≢true e)
-
 -- of another line than that of a command in the middle, or of one that was there
 progress_other : (f : Known → Known) (before : List Use) (u v : Use) (after : List Use) (n : ℕ) → (u.line == n) ≡ false → v.line ≡ u.line
     → progress_in (map (use_renewed f) before ++ v ∷ map (use_renewed f) after) n ≡ progress_in (before ++ u ∷ after) n
@@ -159,26 +80,26 @@ progress_own : (before : List Use) (u : Use) (after : List Use) (n : ℕ) → (u
     → progress_in (before ++ u ∷ after) n ≡ so_far u
 progress_own [] u after n own none = first u after n own
 progress_own (w ∷ before) u after n own none =
-    let parts = neither (w.line == n) (list_any (line_is n) before) none in
+    let parts = or_parts (w.line == n) (list_any (line_is n) before) none in
     past w (before ++ u ∷ after) n parts.0 ∙ progress_own before u after n own parts.1
 
 progress_none : (us : List Use) (n : ℕ) → list_any (line_is n) us ≡ false → progress_in us n ≡ Some progress.Done
 progress_none [] n none = refl
 progress_none (w ∷ us) n none =
-    let parts = neither (w.line == n) (list_any (line_is n) us) none in
+    let parts = or_parts (w.line == n) (list_any (line_is n) us) none in
     past w us n parts.0 ∙ progress_none us n parts.1
 
 none_join : (us vs : List Use) (n : ℕ) → list_any (line_is n) us ≡ false → list_any (line_is n) vs ≡ false → list_any (line_is n) (us ++ vs) ≡ false
 none_join [] vs n f g = g
 none_join (u ∷ us) vs n f g =
-    let parts = neither (u.line == n) (list_any (line_is n) us) f in
+    let parts = or_parts (u.line == n) (list_any (line_is n) us) f in
     ap (λ (b : Bool). b || list_any (line_is n) (us ++ vs)) parts.0 ∙ none_join us vs n parts.1 g
 
 none_renewed : (f : Known → Known) (us : List Use) (n : ℕ) → list_any (line_is n) us ≡ false
     → list_any (line_is n) (map (use_renewed f) us) ≡ false
 none_renewed f [] n e = refl
 none_renewed f (u ∷ us) n e =
-    let parts = neither (u.line == n) (list_any (line_is n) us) e in
+    let parts = or_parts (u.line == n) (list_any (line_is n) us) e in
     ap (λ (b : Bool). b || list_any (line_is n) (map (use_renewed f) us)) parts.0 ∙ none_renewed f us n parts.1
 
 -- of a line above the first one that waits: it is done
@@ -191,11 +112,11 @@ progress_front from [] u after top n p h none low is =
     ∙ (sym (past u after n (not_here n u.line low)) ∙ is) in
     cc
 progress_front from (w ∷ before) u after top n p h none low is =
-    go (w.line == n) refl (progress_front (suc w.line) before u after top n p h.1 (neither (waits w) (list_any waits before) none).1 low)
+    go (w.line == n) refl (progress_front (suc w.line) before u after top n p h.1 (or_parts (waits w) (list_any waits before) none).1 low)
   where
     rests : so_far w ≡ None
     rests = ap (λ (b : Bool). cond (b && not (asks_data (kind_by w.command))) (by_stage w.stage) None)
-        (neither (waits w) (list_any waits before) none).0
+        (or_parts (waits w) (list_any waits before) none).0
 
     go : (b : Bool) → (w.line == n) ≡ b → (progress_in (before ++ u ∷ after) n ≡ Some p → p ≡ progress.Done) → p ≡ progress.Done
     go true own later =

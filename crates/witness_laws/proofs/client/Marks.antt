@@ -1,7 +1,7 @@
 -- What a witness does at a mark of a command that a client sent, next to what the client does.
 use Rattle.std.proofs.Common.{◌≡◌, ℕ, Bool, true, false, cond, ◌&&◌, ◌||◌, not, List, [], ◌∷◌, ◌++◌, length, map, take, refl}
 use Rattle.std.proofs.Common.{sym, ◌∙◌, ap, subst, eq-eqb, Option, Some, None}
-use Rattle.std.proofs.lemmas.Bool.{false≢true}
+use Rattle.std.proofs.lemmas.Bool.{false≢true, or_parts, and_parts}
 use Rattle.std.proofs.lemmas.List.{map-append, length-map}
 use Rattle.std.specs.Prelude.{position, slice_get, remove, ◌==◌}
 use Rattle.std.specs.List.{list_any}
@@ -36,8 +36,10 @@ use Rattle.witness.specs.declared.lines.Stage.TheVariants as stage
 use Rattle.witness.specs.declared.lines.Step.{Step}
 use Rattle.witness.specs.declared.lines.Use.{Use}
 use Rattle.witness_laws.proofs.client.Agreeing.{IsOurs, AreOurs, is_lost}
-use Rattle.witness_laws.proofs.client.Cuts.{stage_by, has_tag, found_at, got, removed, taken}
-use Rattle.witness_laws.proofs.client.Holding.{line_is, by_stage, Carries}
+use Rattle.witness_laws.proofs.client.Cuts.{stage_by, has_tag, taken}
+use Rattle.witness_laws.proofs.client.Holding.{by_stage, Carries}
+use Rattle.witness_laws.proofs.orders.Marks.{place, get_there, removed_there}
+use Rattle.witness_laws.proofs.orders.Counts.{line_is}
 
 -- ---- the uses after a mark
 
@@ -67,15 +69,11 @@ other_heard line h u alone other =
     (without_rival line h u))) other
     ∙ ap (use_renewed (marked line h)) (no_rival line h u alone)
 
-either : (a b : Bool) → (a || b) ≡ false → (a ≡ false) × (b ≡ false)
-either true b e = absurd (false≢true (sym e))
-either false b e = (refl, e)
-
 all_heard : (line : ℕ) (h : Heard) (us : List Use) → AreOurs us → list_any (line_is line) us ≡ false
     → map (use_heard line h) us ≡ others line h us
 all_heard line h [] ours none = refl
 all_heard line h (u ∷ us) (one, ours) none =
-    let parts = either (u.line == line) (list_any (line_is line) us) none in
+    let parts = or_parts (u.line == line) (list_any (line_is line) us) none in
     ap (λ (v : Use). v ∷ map (use_heard line h) us) (other_heard line h u (IsOurs.alone one) parts.0)
     ∙ ap (λ (vs : List Use). use_renewed (marked line h) u ∷ vs) (all_heard line h us ours parts.1)
 
@@ -88,7 +86,7 @@ left_around : (before : List Use) (u : Use) (after : List Use) (n : ℕ) (ended 
     → left_over (others u.line h before ++ own h u ∷ others u.line h after) n ended ≡ uses_after before u after h ended
 left_around before u after n true h is =
     ap (remove (others u.line h before ++ own h u ∷ others u.line h after)) is
-    ∙ removed (others u.line h before) (own h u) (others u.line h after)
+    ∙ removed_there (others u.line h before) (own h u) (others u.line h after)
 left_around before u after n false h is = refl
 
 uses_are : (uses before : List Use) (u : Use) (after : List Use) (h : Heard) (ended : Bool) → uses ≡ before ++ u ∷ after
@@ -173,8 +171,8 @@ pub heard_first : (d : Dialogue) (line : List ℕ) (tag : Tag) (signal : Signal)
     → heard_as u.command signal ≡ h → IsInTurn before u h
     → server_answered d line (Some (tag, signal)) ≡ marked_as d before u after h (is_end signal) (reports_of u h c)
 heard_first d line tag signal h before u after c parts none here ours_before ours_after alone sends none_before none_after straight is turn =
-    ap (heard_under d line tag signal) (ap (position (has_tag tag)) parts ∙ found_at tag before u after none here)
-    ∙ (ap (at_use d (length before) signal) (ap (λ (l : List Use). slice_get l (length before)) parts ∙ got before u after)
+    ap (heard_under d line tag signal) (ap (position (has_tag tag)) parts ∙ place (has_tag tag) before u after none here)
+    ∙ (ap (at_use d (length before) signal) (ap (λ (l : List Use). slice_get l (length before)) parts ∙ get_there before u after)
     ∙ (ap (λ (x : Heard). heard_at d (length before) u x (is_end signal)) is
     ∙ (ap (λ (b : Bool). cond b (hearing (faulting d (reports.Broken NotInTurn u.tag)) (length before) (use_renewed (all_renewed renewal.Fault) u) h (is_end signal))
     (hearing d (length before) u h (is_end signal))) (turn_kept d.uses before u after c h parts sends turn)
@@ -263,10 +261,6 @@ fits_asks kind.SetCsyTransformation d e = absurd (false≢true e)
 fits_asks kind.SetCoordSystem d e = absurd (false≢true e)
 fits_asks kind.AbortE d e = absurd (false≢true e)
 
-first_holds : (a b : Bool) → (a && b) ≡ true → (a ≡ true) × (b ≡ true)
-first_holds true b e = (refl, e)
-first_holds false b e = absurd (false≢true e)
-
 given_follows : (b asks : Bool) (c : Command) (s : Stage) (d : Datum) → asks_data (kind_of c) ≡ asks → (b ≡ true → asks ≡ true)
     → Follows c s (Mark.Given d) (step asks s (heard.Given d)) (judged_given b (stage_by s) d)
 given_follows false asks c s d same lets = tt
@@ -284,7 +278,7 @@ given_follows true asks c stage.Lost d same lets = tt
 pub follows : (front : Bool) (c : Command) (s : Stage) (m : Mark)
     → Follows c s m (step (asks_data (kind_of c)) s (heard_of m)) (judged front (kind_of c) (stage_by s) m)
 follows front c s (Mark.Given d) = given_follows (front && fits (kind_of c) d) (asks_data (kind_of c)) c s d refl
-    (λ e. fits_asks (kind_of c) d (first_holds front (fits (kind_of c) d) e).1)
+    (λ e. fits_asks (kind_of c) d (and_parts front (fits (kind_of c) d) e).1)
 follows front c stage.Sent Mark.Ack = (refl, (refl, refl), (λ k tag. refl), λ b. sent_carried (b && not (asks_data (kind_of c))))
 follows front c stage.Received Mark.Ack = tt
 follows front c (stage.Given e) Mark.Ack = tt

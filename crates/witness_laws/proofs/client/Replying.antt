@@ -37,10 +37,11 @@ use Rattle.witness_laws.proofs.client.Agreeing.{selected_past, selected_all, Kno
 use Rattle.witness_laws.proofs.client.Agreeing.{selected_renewed, past_none, past_one, none_past, none_known, known_moved}
 use Rattle.witness_laws.proofs.client.Agreeing.{commands_of, IsNext, AgreesOn}
 use Rattle.witness_laws.proofs.client.Cuts.{kind_by, stage_by, entry, picks, picks_in, picks_out, picks_more}
-use Rattle.witness_laws.proofs.client.Holding.{rising_kept, rising_gone, by_stage, so_far, Holds, AreDone}
+use Rattle.witness_laws.proofs.client.Holding.{by_stage, so_far, Holds, AreDone}
 use Rattle.witness_laws.proofs.client.Holding.{front_done, holds_moved, answer_moves, Carries, kept_moves, gone_moves}
 use Rattle.witness_laws.proofs.client.Knowing.{Selected, selected_after}
 use Rattle.witness_laws.proofs.client.Marks.{marked, others, own, uses_after, marked_as}
+use Rattle.witness_laws.proofs.orders.Counts.{marked_counted, gone_counted}
 
 -- ---- what is picked of the uses after a mark
 
@@ -159,8 +160,8 @@ marked_agrees lossy b d before u after h ended more standard event y a one stand
         (renewed_ours (marked u.line h) before (Around.earlier a)) (kept refl, renewed_ours (marked u.line h) after (Around.later a))
 
     rising : (e : Bool) → AreCounted 0 (uses_after before u after h e) d.lines
-    rising true = rising_gone (marked u.line h) 0 before u after d.lines (Around.rising a)
-    rising false = rising_kept (marked u.line h) 0 before u (own h u) after d.lines refl (Around.rising a)
+    rising true = gone_counted (marked u.line h) 0 before u after d.lines (Around.rising a)
+    rising false = marked_counted (marked u.line h) 0 before u (own h u) after d.lines refl (Around.rising a)
 
 -- nothing more is reported
 pub quiet_exact : (lossy : Bool) (acts : List Reported) (reported : List Reported) → (lossy ≡ false → reported ≡ acts)

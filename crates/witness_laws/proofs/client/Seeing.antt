@@ -1,7 +1,7 @@
 -- What a witness reports after every list of calls of a client.
 use Rattle.std.proofs.Common.{◌≡◌, ℕ, zero, suc, ◌≤◌, Bool, true, false, cond, not, List, [], ◌∷◌, ◌++◌, length, map, refl, sym, ◌∙◌, ap, subst}
 use Rattle.std.proofs.Common.{is_some, arith, append_assoc, append-nil, ne_eqb, ◌||◌, Option, Some, None, Result, Ok, Err}
-use Rattle.std.proofs.lemmas.Bool.{false≢true}
+use Rattle.std.proofs.lemmas.Bool.{false≢true, not-true}
 use Rattle.std.specs.Prelude.{◌+◌, ◌==◌, ◌&&◌}
 use Rattle.std.specs.List.{list_any}
 use Rattle.fixed_um.specs.declared.lengths.Point.{Point}
@@ -74,7 +74,7 @@ use Rattle.witness_laws.specs.Acts.{all_done, BeginsWith, Claims, BeginsToClaim}
 use Rattle.witness_laws.specs.Orders.{AreCounted, Line, said_all}
 use Rattle.witness_laws.specs.Lines.{witnessed_by, witnessed_call, witnessed, is_unasked, unasked_front, unasked_by, unasked_call}
 use Rattle.witness_laws.specs.Lines as lines
-use Rattle.witness_laws.proofs.client.Cuts.{entry, picks, picks_in, picks_out, picks_more, has_tag, not_found}
+use Rattle.witness_laws.proofs.client.Cuts.{entry, picks, picks_in, picks_out, picks_more, has_tag}
 use Rattle.witness_laws.proofs.client.Knowing.{Selected, none_selected, selected_after, plan_agrees}
 use Rattle.witness_laws.proofs.client.Marks.{heard_of, ends}
 use Rattle.witness_laws.proofs.client.Agreeing.{is_standard, is_event, IsOurs, AreOurs, ours_join, live, live_in, live_out, live_more, renewed_ours}
@@ -83,9 +83,11 @@ use Rattle.witness_laws.proofs.client.Agreeing.{commands_of, selected_past, sele
 use Rattle.witness_laws.proofs.client.Agreeing.{AreKnown, known_join, known_moved, none_known, none_past, IsNext, AgreesOn}
 use Rattle.witness_laws.proofs.client.Claiming.{Begins, begins_all, begins_with, begins_to_claim, claims_same}
 use Rattle.witness_laws.proofs.client.Growing.{Grows, grows_not, answer_grows, begins_still, begins_after}
-use Rattle.witness_laws.proofs.client.Holding.{rising_renewed, rising_more, rising_top, none_above, progress_sent}
+use Rattle.witness_laws.proofs.client.Holding.{progress_sent}
 use Rattle.witness_laws.proofs.client.Holding.{IsFine, fine_more, Holds as HoldsFor, none_held, holds_moved, holds_stays, holds_below, fault_moves}
 use Rattle.witness_laws.proofs.client.Steps.{standard_agrees, event_agrees}
+use Rattle.witness_laws.proofs.orders.Marks.{nowhere}
+use Rattle.witness_laws.proofs.orders.Counts.{renewed_counted, bound, none_above, one_counted}
 
 -- ---- what holds at any time
 
@@ -137,7 +139,7 @@ unasked_agrees : (lossy : Bool) (b : Table) (d : Dialogue) (line : List ℕ) →
     → AgreesOn true b (faulting d (reports.Unasked line))
 unasked_agrees lossy b d line a = record {
   ours = renewed_ours (all_renewed Fault) d.uses (AgreesOn.ours a);
-  rising = rising_renewed (all_renewed Fault) 0 d.uses d.lines (AgreesOn.rising a);
+  rising = renewed_counted (all_renewed Fault) 0 d.uses d.lines (AgreesOn.rising a);
   straight = AgreesOn.straight a;
   events = AgreesOn.events a;
   standard = picks_renewed is_standard (all_renewed Fault) d.uses ∙ AgreesOn.standard a;
@@ -163,7 +165,7 @@ no_report asking.Error events none = refl
 zero_is : (lossy : Bool) (b : Table) (d : Dialogue) (line : List ℕ) (signal : Signal) → AgreesOn lossy b d
     → server_answered d line (Some (tag.Event 0, signal)) ≡ faulting d (reports.Unasked line)
 zero_is lossy b d line signal a =
-    ap (heard_under d line (tag.Event 0) signal) (not_found (tag.Event 0) d.uses (none_zero d.uses (AgreesOn.ours a)))
+    ap (heard_under d line (tag.Event 0) signal) (nowhere (has_tag (tag.Event 0)) d.uses (none_zero d.uses (AgreesOn.ours a)))
     ∙ ap (λ (x : Bool). cond x d (faulting d (reports.Unasked line))) (no_report signal d.events (AgreesOn.events a))
 
 zero_seen : (lossy : Bool) (c : Client) (d : Dialogue) (line : List ℕ) (x : Tag) (signal : Signal) → tag_is x (tag.Event 0) ≡ true
@@ -369,12 +371,6 @@ sent_ours : (d : Dialogue) (x : Tag) (c : Command) → is_event_kind (kind_of c)
     → IsOurs (used d x c)
 sent_ours d x c sort some = record { command = c; sends = refl; alone = refl; lost = refl; sort = sort; some = some }
 
-plus_one : (n : ℕ) → n + 1 ≡ suc n
-plus_one n = omega arith
-
-more_rising : (d : Dialogue) (u : Use) → u.line ≡ d.lines → AreCounted 0 d.uses d.lines → AreCounted 0 (d.uses ++ u ∷ []) (d.lines + 1)
-more_rising d u is rising = subst (λ (n : ℕ). AreCounted 0 (d.uses ++ u ∷ []) n) (sym (plus_one d.lines)) (rising_more 0 d.uses u d.lines is rising)
-
 still_straight : (ordered crossed : Bool) → crossed ≡ false → (crossed || (ordered && false)) ≡ false
 still_straight true crossed e = ap (λ (b : Bool). b || false) e
 still_straight false crossed e = ap (λ (b : Bool). b || false) e
@@ -387,11 +383,11 @@ known_stays lossy us u v from (w ∷ ws) rising h =
     (go (waits w) h.0, known_stays lossy us u (selected_past v w) (suc w.line) ws rising.1 h.1)
   where
     high : suc w.line ≤ u.line
-    high = rising_top (suc w.line) ws u.line rising.1
+    high = bound (suc w.line) ws u.line rising.1
 
     go : (b : Bool) → KnowsIf b lossy us v w → KnowsIf b lossy (us ++ u ∷ []) v w
     go true g = holds_stays lossy us (us ++ u ∷ []) w.line w.line v w.known
-        (λ s fine. fine_more us u w.line w.line s (let near = rising_top (suc w.line) ws u.line rising.1 in omega (arith, near)) (omega arith) fine) g
+        (λ s fine. fine_more us u w.line w.line s (let near = bound (suc w.line) ws u.line rising.1 in omega (arith, near)) (omega arith) fine) g
     go false g = tt
 
 next_stays : (lossy : Bool) (d : Dialogue) (u : Use) (top : ℕ) (v : Selected) (k : Known) → u.line ≡ d.lines → d.lines ≤ top
@@ -461,7 +457,7 @@ sent_agrees lossy b d n q qs a is sort =
     let no_abort : HasNoAbort (q ∷ qs) = subst HasNoAbort is (AgreesOn.no_abort a) in
     record {
       ours = ours_join d.uses (u ∷ []) (AgreesOn.ours a) (one, tt);
-      rising = more_rising d u refl (AgreesOn.rising a);
+      rising = one_counted 0 d.uses u (AgreesOn.rising a);
       straight = still_straight d.ordered d.crossed (AgreesOn.straight a);
       events = AgreesOn.events a;
       standard = picks_last is_standard d.uses u refl ∙ ap (λ (l : List OpenCommand). l ++ entry u ∷ []) (AgreesOn.standard a);
@@ -528,7 +524,7 @@ aborted_agrees lossy b d n a some =
     let one : IsOurs u = sent_ours d (tag.Event n) command.AbortE refl some in
     record {
       ours = ours_join d.uses (u ∷ []) (AgreesOn.ours a) (one, tt);
-      rising = more_rising d u refl (AgreesOn.rising a);
+      rising = one_counted 0 d.uses u (AgreesOn.rising a);
       straight = still_straight d.ordered d.crossed (AgreesOn.straight a);
       events = event_more d.events n (AgreesOn.events a) some;
       standard = picks_still is_standard d.uses u refl ∙ AgreesOn.standard a;
@@ -703,13 +699,9 @@ reading lossy p plans c d h may s =
     let able = both c.on (not (is_faulted c.state)) may in
     record {
       seen = s;
-      agrees = IsSeen.agrees s able.0 (not_true (is_faulted c.state) able.1);
+      agrees = IsSeen.agrees s able.0 (not-true (is_faulted c.state) able.1);
       plan_is = (plans, h.live able.0);
     }
-  where
-    not_true : (b : Bool) → not b ≡ true → b ≡ false
-    not_true true e = absurd (false≢true e)
-    not_true false e = refl
 
 -- each call that is possible
 pub done_seen : (lossy : Bool) (p : Meaning) (plans : Plans) (call : Call) (e : ClientEnd) (d : Dialogue) → Holds p e.client plans

@@ -1,7 +1,7 @@
 -- What each expected mark does, next to what a witness does at it.
 use Rattle.std.proofs.Common.{◌≡◌, ℕ, Bool, true, false, cond, ◌&&◌, ◌||◌, not, List, [], ◌∷◌, ◌++◌, map, refl, sym, ◌∙◌, ap, subst, suc}
 use Rattle.std.proofs.Common.{Option, Some, None, Err}
-use Rattle.std.proofs.lemmas.Bool.{false≢true}
+use Rattle.std.proofs.lemmas.Bool.{false≢true, and_parts, not-true}
 use Rattle.std.proofs.lemmas.List.{map-append}
 use Rattle.std.specs.List.{list_any}
 use Rattle.dme_line.specs.Kinds.{kind_of, is_event_kind}
@@ -55,7 +55,7 @@ use Rattle.witness_laws.proofs.client.Agreeing.{live_in, live_more, none_live, e
 use Rattle.witness_laws.proofs.client.Agreeing.{same_failed, no_kinds, commands_of, passed_commands, IsNext, AgreesOn}
 use Rattle.witness_laws.proofs.client.Claiming.{claims_more, claims_same}
 use Rattle.witness_laws.proofs.client.Cuts.{kind_by, stage_by, entry, picks, picks_more, all_failed, put_all, put_fine, IsCut, cut}
-use Rattle.witness_laws.proofs.client.Holding.{none_before, none_after, so_far, by_stage, Holds, front_done, holds_moved, holds_fits, answer_moves, aside_moves}
+use Rattle.witness_laws.proofs.client.Holding.{so_far, by_stage, Holds, front_done, holds_moved, holds_fits, answer_moves, aside_moves}
 use Rattle.witness_laws.proofs.client.Holding.{Carries}
 use Rattle.witness_laws.proofs.client.Knowing.{Selected, selected_after, Fits, Tells, TellsAs, Agrees, passed_agrees}
 use Rattle.witness_laws.proofs.client.Marks.{own, uses_after, marked_as, reports_of, heard_first, heard_of, ends, Follows, follows}
@@ -63,6 +63,7 @@ use Rattle.witness_laws.proofs.client.Marks.{IsInTurn, IsQuiet, Carried, Carried
 use Rattle.witness_laws.proofs.client.Replying.{picks_kept, picks_gone, picks_other, live_gone, Around, around, own_stage, own_ours, marked_agrees}
 use Rattle.witness_laws.proofs.client.Replying.{quiet_exact, rest_carries, next_kept, next_closed, IsCounted, next_counted, becomes_alike, same_waits}
 use Rattle.witness_laws.proofs.client.Replying.{closed_failed, counted_calm, counted_front}
+use Rattle.witness_laws.proofs.orders.Counts.{none_before, none_after}
 
 not_event : (u : Use) → is_standard u.tag ≡ true → is_event u.tag ≡ false
 not_event u is = sorts u.tag ∙ ap not is
@@ -396,14 +397,6 @@ pub record ReadsAs (t : Tag) (hs : List OpenCommand) (signal : Signal) (m : Mark
   pub heard : (c : Command) → held_kind t hs ≡ Some (kind_of c) → heard_as (Sends c) signal ≡ heard_of m
   pub ended : is_end signal ≡ ends m
 
-parts_of_and : (a b : Bool) → (a && b) ≡ true → (a ≡ true) × (b ≡ true)
-parts_of_and true b e = (refl, e)
-parts_of_and false b e = absurd (false≢true e)
-
-not_true : (b : Bool) → not b ≡ true → b ≡ false
-not_true true e = absurd (false≢true e)
-not_true false e = refl
-
 taken_by : (xs ys : List OpenCommand) (h : OpenCommand) (gs : List OpenCommand) (e : Effect) (v : Verdict)
     → put_all xs (settled h ys v) ≡ two gs e → IsTaken v
 taken_by xs ys h gs e (Becomes next) is = tt
@@ -441,9 +434,9 @@ settles_by test before u after m now hs e c sends is =
 leads_at : (lossy : Bool) (b : Table) (d : Dialogue) (tag : Tag) (m : Mark) (hs : List OpenCommand) (e : Effect)
     → (k : IsCut is_standard (not b.tally.failed) d.uses tag m hs e) → AgreesOn lossy b d → Leads k.now b k.before
 leads_at lossy b d tag m hs e k g now =
-    let both = parts_of_and (not b.tally.failed) (all_failed (picks is_standard k.before)) (sym k.now_is ∙ now) in (
+    let both = and_parts (not b.tally.failed) (all_failed (picks is_standard k.before)) (sym k.now_is ∙ now) in (
       failed_wait k.before (ours_front k.before (k.u ∷ k.after) (subst AreOurs k.parts (AgreesOn.ours g))) both.1,
-      not_true b.tally.failed both.0,
+      not-true b.tally.failed both.0,
     )
 
 -- the client's table and the witness agree after it, where the command is found

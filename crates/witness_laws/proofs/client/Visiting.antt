@@ -1,7 +1,7 @@
 -- The connections of a client, one after another: the features that it holds are true of what a witness wrote of them.
 use Rattle.std.proofs.Common.{◌≡◌, ℕ, ◌<◌, Bool, true, false, cond, ◌&&◌, ◌||◌, List, [], ◌∷◌, ◌++◌, map, refl, sym, ◌∙◌, ap, subst}
 use Rattle.std.proofs.Common.{arith, append_assoc, append-nil, is_some, nat_lt, nat_le, Option, Some, None}
-use Rattle.std.proofs.lemmas.Bool.{false≢true, ltb-true, lt-ltb}
+use Rattle.std.proofs.lemmas.Bool.{false≢true, ltb-true, lt-ltb, or_parts}
 use Rattle.std.proofs.lemmas.List.{map-append}
 use Rattle.std.specs.List.{list_all}
 use Rattle.dme_line.specs.declared.tags.Tag.TheVariants as tag
@@ -271,10 +271,6 @@ one_visit ordered v e es program on none sound = go (may_connect v.own (client_l
 
 -- ---- connections, one after another
 
-no_line : (a b : Bool) → (a || b) ≡ false → (a ≡ false) × (b ≡ false)
-no_line true b e = absurd (false≢true (sym e))
-no_line false b e = (refl, e)
-
 visits_true : (ordered : Bool) (p : Meaning) → IsProgram p → (vs : List Visit) (e : ClientEnd) (es : List (ℕ × Reported))
     → e.client.program ≡ p → list_all is_visit vs ≡ true → some_unasked vs e ≡ false
     → SoundByTold p.features e.client.table.tally.features es
@@ -283,7 +279,7 @@ visits_true ordered p program [] e es same on none sound =
     subst (λ (l : List (ℕ × Reported)). SoundByTold p.features e.client.table.tally.features l) (sym (append-nil es)) sound
 visits_true ordered p program (v ∷ vs) e es same on none sound =
     let parts = both (is_visit v) (list_all is_visit vs) on in
-    let quiet = no_line (unasked (calls_of v) e false) (some_unasked vs (behind_calls (calls_of v) e)) none in
+    let quiet = or_parts (unasked (calls_of v) e false) (some_unasked vs (behind_calls (calls_of v) e)) none in
     let one : IsVisited e.client.program (es ++ v.others) v.number (behind_calls (calls_of v) e).client
     (said_all (witnessed (calls_of v) e (silence ordered)) v.unread).reported =
     one_visit ordered v e (es ++ v.others) (subst IsProgram (sym same) program) parts.0 quiet.0

@@ -27,7 +27,7 @@ use Rattle.witness.specs.declared.lines.Reported.{Reported}
 use Rattle.witness.specs.declared.lines.SentCommand.{SentCommand}
 use Rattle.witness.specs.declared.lines.SentCommand.TheVariants as sends
 use Rattle.witness.specs.declared.lines.Stage.TheVariants as stage
-use Rattle.witness_laws.specs.Machines.{Effect, TakesTool, SelectsFrame, StoresZero, Touches, Cause, InTurn, AtOnce, ForNoLine, Entry, Said, Does}
+use Rattle.witness_laws.specs.Machines.{Effect, TakesTool, SelectsFrame, StoresZero, Touches, Cause, InTurn, AtOnce, ForNoLine, Entry, Message, Does}
 use Rattle.witness_laws.specs.Machines.{lines, IsPast, whole, past, sent_at, frame_selected, zero_stored, last, so, zero_now, frame_now, before_last, is_for_line}
 use Rattle.witness_laws.specs.Machines.{is_contact, is_selection, there, part_of, part_when, part_selected}
 use Rattle.witness_laws.specs.Premises.{Keeps, KeepsUnlessCrossed, ActsWithin, selects_frame, takes_a_tool, line_may, is_complete, has_ended}
@@ -141,8 +141,8 @@ unselected i cause effect h k ended e =
 selection_stays : (i : ℕ) (all h : List Entry) → Keeps all → IsPast all h → has_ended i (lines h) ≡ true
     → before_last (is_selection i) all ≡ before_last (is_selection i) h
 selection_stays i all _ k whole ended = refl
-selection_stays i all _ k (past (Said line) h t) ended =
-    selection_stays i all (Said line ∷ h) k t (ended_more i line (lines h) ended)
+selection_stays i all _ k (past (Message line) h t) ended =
+    selection_stays i all (Message line ∷ h) k t (ended_more i line (lines h) ended)
 selection_stays i all _ k (past (Does cause effect) h t) ended =
     selection_stays i all (Does cause effect ∷ h) k t ended ∙ go (is_selection i cause effect) refl
   where
@@ -153,7 +153,7 @@ selection_stays i all _ k (past (Does cause effect) h t) ended =
 -- there is one if a frame was selected for the line last
 selected_once : (i : ℕ) (f : Option Frame) (h : List Entry) → last frame_selected h ≡ Some (InTurn i, f) → before_last (is_selection i) h ≡ None → ⊥
 selected_once i f [] e none = absurd (cc)
-selected_once i f (Said line ∷ h) e none = selected_once i f h e none
+selected_once i f (Message line ∷ h) e none = selected_once i f h e none
 selected_once i f (Does cause (TakesTool tool) ∷ h) e none = selected_once i f h e none
 selected_once i f (Does cause (StoresZero point) ∷ h) e none = selected_once i f h e none
 selected_once i f (Does cause Touches ∷ h) e none = selected_once i f h e none
@@ -165,8 +165,8 @@ selected_once i f (Does cause (SelectsFrame frame) ∷ h) e none =
 
 none_prompt : (i j : ℕ) (h : List Entry) → NoneShown j h → IsPrompt i j h
 none_prompt i j [] none = tt
-none_prompt i j (Said (Sends line what) ∷ h) none = none_prompt i j h none
-none_prompt i j (Said (Answers line what) ∷ h) none = (λ begun. none.1, none_prompt i j h none.1)
+none_prompt i j (Message (Sends line what) ∷ h) none = none_prompt i j h none
+none_prompt i j (Message (Answers line what) ∷ h) none = (λ begun. none.1, none_prompt i j h none.1)
 none_prompt i j (Does cause effect ∷ h) none = none_prompt i j h none
 
 -- ---- the zero point at the selection
@@ -250,7 +250,7 @@ end_after i e mk ms is d =
     ∙ done_ended (e ∷ ms) d)
 
 part_made : (at : Point) (z s : Sent) (line : List ℕ) (what : Option (Tag × Signal)) (e : Heard) (all h : List Entry) → Keeps all
-    → IsPast all (Said (Answers line what) ∷ h) → mark_in what (lines h) ≡ Some (place s, e)
+    → IsPast all (Message (Answers line what) ∷ h) → mark_in what (lines h) ≡ Some (place s, e)
     → progress_with (progress_of (marks (place s) (lines h))) e ≡ Some Done
     → There ⊥ zero_stored (place z) (Some at) (is_selection (place s)) all
     → last frame_selected h ≡ Some (InTurn (place s), part_selected (place s) h)
@@ -259,7 +259,7 @@ part_made at z s line what e all h kept t mark d zero_is_there made =
     let ended : has_ended (place s) (Answers line what ∷ lines h) ≡ true =
     end_after (place s) e (mark_in what (lines h)) (marks (place s) (lines h)) mark d in
     let same : before_last (is_selection (place s)) all ≡ before_last (is_selection (place s)) h =
-    selection_stays (place s) all (Said (Answers line what) ∷ h) kept t ended in
+    selection_stays (place s) all (Message (Answers line what) ∷ h) kept t ended in
     let part : part_selected (place s) all ≡ Some (Part at) =
     part_is_at at z s all zero_is_there (λ none. selected_once (place s) (part_selected (place s) h) h made (sym same ∙ none)) in
     made ∙ (ap (λ x. Some (InTurn (place s), part_when (there zero_now x))) (sym same) ∙ ap (λ x. Some (InTurn (place s), x)) part)
@@ -288,23 +288,23 @@ part_fits at z s u p d all kept iu is last_is zero_is_there =
 
 -- ---- a contact
 
-abbrev pub IsToldFrame : Option (Tag × Signal) → List Entry → Reported → Type 0
-IsToldFrame what h r = (frame : Frame) → contact_frame r ≡ Some frame → HadFrame what h frame
+abbrev pub IsFrameHad : Option (Tag × Signal) → List Entry → Reported → Type 0
+IsFrameHad what h r = (frame : Frame) → contact_frame r ≡ Some frame → HadFrame what h frame
 
 -- in a frame that holds at the end of a touch
 frame_had : (frame : Frame) (s u : Sent) (p : Point) (d : Option Direction) (at : Point) (line : List ℕ) (what : Option (Tag × Signal)) (h : List Entry)
-    → Keeps (Said (Answers line what) ∷ h) → IsLine u (lines h) → mark_in what (lines h) ≡ Some (place u, heard.Complete)
+    → Keeps (Message (Answers line what) ∷ h) → IsLine u (lines h) → mark_in what (lines h) ≡ Some (place u, heard.Complete)
     → u.command ≡ sends.Known (command.PtMeas p d) → stage_of u.command (marks (place u) (lines h)) ≡ stage.Given (datum.Point at)
-    → IsHeld s u (Answers line what ∷ lines h) → Fits ⊥ frame_selected (place s) (place u) (Some frame) (Said (Answers line what) ∷ h)
+    → IsHeld s u (Answers line what ∷ lines h) → Fits ⊥ frame_selected (place s) (place u) (Some frame) (Message (Answers line what) ∷ h)
     → HadFrame what h frame
 frame_had frame s u p d at line what h k iu mark is given held fits =
-    go (had_there ⊥ frame_selected (place s) (place u) (Some frame) (is_contact (place u)) (Said (Answers line what) ∷ h)
-    (Said (Answers line what) ∷ h) fits (contact_of frame_selected (place u) refl) k whole
-    (touch_prompt (command.PtMeas p d) (place s) (place u) (Said (Answers line what) ∷ h) (IsHeld.order held)
+    go (had_there ⊥ frame_selected (place s) (place u) (Some frame) (is_contact (place u)) (Message (Answers line what) ∷ h)
+    (Message (Answers line what) ∷ h) fits (contact_of frame_selected (place u) refl) k whole
+    (touch_prompt (command.PtMeas p d) (place s) (place u) (Message (Answers line what) ∷ h) (IsHeld.order held)
     (ended_sound u p d at line what h mark is given))
     (IsHeld.none held) (IsHeld.calm held) (IsHeld.is_done held))
   where
-    go : There ⊥ frame_selected (place s) (Some frame) (is_contact (place u)) (Said (Answers line what) ∷ h) → HadFrame what h frame
+    go : There ⊥ frame_selected (place s) (Some frame) (is_contact (place u)) (Message (Answers line what) ∷ h) → HadFrame what h frame
     go (never e) = absurd (not_never u p d at line what h k iu mark given e)
     go (lost_there l e) = elim l [ ]
     go (had h' e f) = record { touch = place u; ends = mark; had = ap (there frame_now) e ∙ ap (λ x. Some (so x)) f }
@@ -331,7 +331,7 @@ frame_is (Some PartCsy) (Some at) frame e = inr (at, refl, refl, sym (ap frame_o
     frame_or (Some x) = x
 
 known_frame_had : (frame : Frame) (u : Sent) (p : Point) (d : Option Direction) (at : Point) (line : List ℕ) (what : Option (Tag × Signal)) (h : List Entry)
-    → Keeps (Said (Answers line what) ∷ h) → IsLine u (lines h) → mark_in what (lines h) ≡ Some (place u, heard.Complete)
+    → Keeps (Message (Answers line what) ∷ h) → IsLine u (lines h) → mark_in what (lines h) ≡ Some (place u, heard.Complete)
     → u.command ≡ sends.Known (command.PtMeas p d) → stage_of u.command (marks (place u) (lines h)) ≡ stage.Given (datum.Point at)
     → frame_of (all_for u (Answers line what ∷ lines h)) ≡ Some frame → HadFrame what h frame
 known_frame_had frame u p d at line what h k iu mark is given known =
@@ -348,7 +348,7 @@ known_frame_had frame u p d at line what h k iu mark is given known =
       where
         go : Holds (last_csy u.above) u (Answers line what ∷ lines h) MachineCsy → HadFrame what h Machine
         go held = frame_had Machine held.0 u p d at line what h k iu mark is given held.2
-            (machine_fits held.0 u p d (Said (Answers line what) ∷ h) (line_stays u (Answers line what) (lines h) iu) is
+            (machine_fits held.0 u p d (Message (Answers line what) ∷ h) (line_stays u (Answers line what) (lines h) iu) is
             (subst (IsLast AsksCsy may_select u.above) held.1 (csy_is u.above)))
 
     in_part : (zero_at : Point) → done (may_hold_for u (last_csy u.above) (Answers line what ∷ lines h)) ≡ Some PartCsy
@@ -366,27 +366,27 @@ known_frame_had frame u p d at line what h k iu mark is given known =
             let zero_last : IsLast AsksZero may_store (held.0).above (Some (zero_at, zero.0)) =
             subst (IsLast AsksZero may_store (held.0).above) same (zero_is (held.0).above) in
             frame_had (Part zero_at) held.0 u p d at line what h k iu mark is given held.2
-            (part_fits zero_at zero.0 held.0 u p d (Said (Answers line what) ∷ h) k line_u is csy_last
-            (zero_there zero_at zero.0 held.0 (Said (Answers line what) ∷ h) (line_through held.0 u (Answers line what ∷ lines h) csy_last.0 line_u)
+            (part_fits zero_at zero.0 held.0 u p d (Message (Answers line what) ∷ h) k line_u is csy_last
+            (zero_there zero_at zero.0 held.0 (Message (Answers line what) ∷ h) (line_through held.0 u (Answers line what ∷ lines h) csy_last.0 line_u)
             csy_last.1 zero_last k (IsHeld.none zero.2) (IsHeld.calm zero.2) (IsHeld.is_done zero.2)
             (IsHeld.calm held.2) (IsHeld.is_done held.2)))
 
 frame_named : (what : Option (Tag × Signal)) (h : List Entry) (p : Point) (d : Option Direction) (at : Point) (t : Option (List ℕ)) (f : Option Frame)
-    → ((frame : Frame) → f ≡ Some frame → HadFrame what h frame) → IsToldFrame what h (touched t f p d at)
+    → ((frame : Frame) → f ≡ Some frame → HadFrame what h frame) → IsFrameHad what h (touched t f p d at)
 frame_named what h p d at None None has frame e = has frame e
 frame_named what h p d at None (Some f) has frame e = has frame e
 frame_named what h p d at (Some t) None has frame e = has frame e
 frame_named what h p d at (Some t) (Some f) has frame e = has frame e
 
-frame_plain : (what : Option (Tag × Signal)) (h : List Entry) (r : Reported) → IsPlain r → IsToldFrame what h r
+frame_plain : (what : Option (Tag × Signal)) (h : List Entry) (r : Reported) → IsPlain r → IsFrameHad what h r
 frame_plain what h r plain frame e = let it : None ≡ Some frame = sym plain.1 ∙ e in absurd (cc)
 
-pub known_frame : (line : List ℕ) (what : Option (Tag × Signal)) (h : List Entry) → KeepsUnlessCrossed (Said (Answers line what) ∷ h)
+pub known_frame : (line : List ℕ) (what : Option (Tag × Signal)) (h : List Entry) → KeepsUnlessCrossed (Message (Answers line what) ∷ h)
     → (i : ℕ) (r : Reported) (frame : Frame) → slice_get (reported_of true line what (lines h)) i ≡ Some r → contact_frame r ≡ Some frame
     → HadFrame what h frame
 known_frame line what h k i r frame e named =
-    one_of (IsToldFrame what h) (reported_of true line what (lines h)) i r
-    (reports_are (IsToldFrame what h) (frame_plain what h) line what (lines h)
+    one_of (IsFrameHad what h) (reported_of true line what (lines h)) i r
+    (reports_are (IsFrameHad what h) (frame_plain what h) line what (lines h)
     (λ u p d at iu mark is given. frame_named what h p d at _ _ (λ f known.
     known_frame_had f u p d at line what h (k (known_uncrossed frame_of f (is_crossed true (lines h)) (known_for u (Answers line what ∷ lines h)) refl known)) iu mark is given
     (known_all frame_of f (is_crossed true (lines h)) u (Answers line what ∷ lines h) refl known))))

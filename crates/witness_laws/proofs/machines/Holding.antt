@@ -11,7 +11,7 @@ use Rattle.witness.specs.Rules.{is_fault, is_at_once, at_once_below, fault_since
 use Rattle.witness.specs.declared.lines.Heard.{Heard}
 use Rattle.witness.specs.declared.lines.Progress.TheVariants.{Done}
 use Rattle.witness.specs.declared.lines.SentCommand.{SentCommand}
-use Rattle.witness_laws.specs.Machines.{Effect, TakesTool, SelectsFrame, StoresZero, Touches, InTurn, AtOnce, ForNoLine, Entry, Said, Does}
+use Rattle.witness_laws.specs.Machines.{Effect, TakesTool, SelectsFrame, StoresZero, Touches, InTurn, AtOnce, ForNoLine, Entry, Message, Does}
 use Rattle.witness_laws.specs.Machines.{lines, IsPast, whole, past, sent_at, last, or_before, is_for_line, frame_now}
 use Rattle.witness_laws.specs.Premises.{ActsWithin, Keeps}
 use Rattle.witness_laws.specs.Premises.{may_in_turn, may_at_once, line_may, has_ended, keep_order}
@@ -26,7 +26,7 @@ rest_kept entry h k = record {
   in_order = (Keeps.in_order k).1;
   before = (Keeps.before k).1;
   made = (Keeps.made k).1;
-  told = (Keeps.told k).1;
+  reported = (Keeps.reported k).1;
   touched = (Keeps.touched k).1;
 }
 
@@ -39,7 +39,7 @@ kept_past all _ (past entry h p) k = rest_kept entry h (kept_past all (entry ∷
 -- the lines so far are among all lines
 pub agrees : (all h : List Entry) → IsPast all h → (n : ℕ) (w : Option (Tag × SentCommand)) → sent_at n (lines h) ≡ Some w → sent_at n (lines all) ≡ Some w
 agrees all _ whole n w e = e
-agrees all _ (past (Said line) h p) n w e = agrees all (Said line ∷ h) p n w (sent_stays n w line (lines h) e)
+agrees all _ (past (Message line) h p) n w e = agrees all (Message line ∷ h) p n w (sent_stays n w line (lines h) e)
 agrees all _ (past (Does cause effect) h p) n w e = agrees all (Does cause effect ∷ h) p n w e
 
 -- ---- what is asked of a change on the line at place `i`, for something that the line at place `j` does
@@ -48,8 +48,8 @@ agrees all _ (past (Does cause effect) h p) n w e = agrees all (Does cause effec
 pub record Fits {A : Type 0} (L : Type 0) (sort : Effect → Option A) (i j : ℕ) (a : A) (all : List Entry) : Type 0 where
   pub above : i < j
   pub no_touch : sort Touches ≡ None
-  pub made : (line : List ℕ) (what : Option (Tag × Signal)) (e : Heard) (h : List Entry) → Keeps (Said (Answers line what) ∷ h)
-      → IsPast all (Said (Answers line what) ∷ h) → mark_in what (lines h) ≡ Some (i, e) → progress_with (progress_of (marks i (lines h))) e ≡ Some Done
+  pub made : (line : List ℕ) (what : Option (Tag × Signal)) (e : Heard) (h : List Entry) → Keeps (Message (Answers line what) ∷ h)
+      → IsPast all (Message (Answers line what) ∷ h) → mark_in what (lines h) ≡ Some (i, e) → progress_with (progress_of (marks i (lines h))) e ≡ Some Done
       → is_fault what (lines h) ≡ false → last sort h ≡ Some (InTurn i, a)
   pub in_turn : (h : List Entry) → IsPast all h → may_at_once (sent_at i (lines h)) ≡ true → ⊥
   pub quiet : (n : ℕ) (effect : Effect) (h : List Entry) → IsPast all h → ActsWithin (Does (InTurn n) effect) h → i < n → n ≤ j
@@ -66,13 +66,13 @@ pub data Now {A : Type 0} (L : Type 0) (sort : Effect → Option A) (i j : ℕ) 
 -- ---- one entry more
 
 now_sent : {A : Type 0} (L : Type 0) (sort : Effect → Option A) (i j : ℕ) (a : A) (line : List ℕ) (what : Option (Tag × SentCommand)) (h : List Entry)
-    → Now L sort i j a h → Now L sort i j a (Said (Sends line what) ∷ h)
+    → Now L sort i j a h → Now L sort i j a (Message (Sends line what) ∷ h)
 now_sent L sort i j a line what h (holds e) = holds e
 now_sent L sort i j a line what h (crossed v lt u) = crossed v lt u
 now_sent L sort i j a line what h (lost l u) = lost l u
 
 now_answered : {A : Type 0} (L : Type 0) (sort : Effect → Option A) (i j : ℕ) (a : A) (line : List ℕ) (what : Option (Tag × Signal)) (h : List Entry)
-    → is_fault what (lines h) ≡ false → Now L sort i j a h → Now L sort i j a (Said (Answers line what) ∷ h)
+    → is_fault what (lines h) ≡ false → Now L sort i j a h → Now L sort i j a (Message (Answers line what) ∷ h)
 now_answered L sort i j a line what h clear (holds e) = holds e
 now_answered L sort i j a line what h clear (crossed v lt u) =
     crossed v lt (and_from (not (is_it v (out_of_turn what (lines h)))) (unshown Touches v h)
@@ -176,22 +176,22 @@ pub holding : {A : Type 0} (L : Type 0) (sort : Effect → Option A) (i j : ℕ)
     → IsPast all h → at_once_below i (lines h) ≡ false → fault_since i (lines h) ≡ false → progress_of (marks i (lines h)) ≡ Some Done
     → (unshown (TakesTool None) i h ≡ true) × Now L sort i j a h
 holding L sort i j a all [] fits k p none calm done = absurd (cc)
-holding L sort i j a all (Said (Sends line what) ∷ h) fits k p none calm done =
+holding L sort i j a all (Message (Sends line what) ∷ h) fits k p none calm done =
     let before : (unshown (TakesTool None) i h ≡ true) × Now L sort i j a h =
-    holding L sort i j a all h fits (rest_kept (Said (Sends line what)) h k) (past (Said (Sends line what)) h p)
+    holding L sort i j a all h fits (rest_kept (Message (Sends line what)) h k) (past (Message (Sends line what)) h p)
     (or_parts (is_at_once what && nat_lt i (count_sent (lines h))) (at_once_below i (lines h)) none).1 calm done in
     (before.0, now_sent L sort i j a line what h before.1)
-holding {A} L sort i j a all (Said (Answers line what) ∷ h) fits k p none calm done =
+holding {A} L sort i j a all (Message (Answers line what) ∷ h) fits k p none calm done =
     go (done_step i (mark_in what (lines h)) (is_fault what (lines h)) (fault_since i (lines h)) (marks i (lines h)) done calm)
-    (holding L sort i j a all h fits (rest_kept (Said (Answers line what)) h k) (past (Said (Answers line what)) h p) none)
+    (holding L sort i j a all h fits (rest_kept (Message (Answers line what)) h k) (past (Message (Answers line what)) h p) none)
   where
-    still : is_fault what (lines h) ≡ false → unshown (TakesTool None) i h ≡ true → unshown (TakesTool None) i (Said (Answers line what) ∷ h) ≡ true
+    still : is_fault what (lines h) ≡ false → unshown (TakesTool None) i h ≡ true → unshown (TakesTool None) i (Message (Answers line what) ∷ h) ≡ true
     still clear u = and_from (not (is_it i (out_of_turn what (lines h)))) (unshown (TakesTool None) i h)
         (ap not (calm_none i (mark_in what (lines h)) (is_fault what (lines h)) clear)) u
 
     go : IsDoneBy i (mark_in what (lines h)) (is_fault what (lines h)) (fault_since i (lines h)) (marks i (lines h))
         → (fault_since i (lines h) ≡ false → progress_of (marks i (lines h)) ≡ Some Done → (unshown (TakesTool None) i h ≡ true) × Now L sort i j a h)
-        → (unshown (TakesTool None) i (Said (Answers line what) ∷ h) ≡ true) × Now L sort i j a (Said (Answers line what) ∷ h)
+        → (unshown (TakesTool None) i (Message (Answers line what) ∷ h) ≡ true) × Now L sort i j a (Message (Answers line what) ∷ h)
     go (ends e it begun is clear) rest =
         let made : last sort h ≡ Some (InTurn i, a) = Fits.made fits line what e h k p it is clear in
         (still clear (did_last sort i a h (early_none i h (subst IsEarly (sym begun) tt)) made), holds made)

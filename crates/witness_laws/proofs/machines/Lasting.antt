@@ -19,9 +19,9 @@ use Rattle.witness.specs.declared.lines.Progress.TheVariants.{Done}
 use Rattle.witness.specs.declared.lines.SentCommand.{SentCommand}
 use Rattle.witness.specs.declared.lines.SentCommand.TheVariants as sends
 use Rattle.witness.specs.declared.lines.Stage.TheVariants as stage
-use Rattle.witness_laws.specs.Machines.{Effect, TakesTool, SelectsFrame, StoresZero, Touches, Cause, InTurn, AtOnce, ForNoLine, Entry, Said, Does}
+use Rattle.witness_laws.specs.Machines.{Effect, TakesTool, SelectsFrame, StoresZero, Touches, Cause, InTurn, AtOnce, ForNoLine, Entry, Message, Does}
 use Rattle.witness_laws.specs.Machines.{lines, IsPast, past, sent_at, frame_now, before_last, is_contact}
-use Rattle.witness_laws.specs.Premises.{Keeps, ActsWithin, IfTrue, MadeSent, line_may, may_in_turn, may_at_once, has_ended, is_told, is_lost_before, has_contact, has_point, point_given, MadeAt}
+use Rattle.witness_laws.specs.Premises.{Keeps, ActsWithin, IfTrue, MadeSent, line_may, may_in_turn, may_at_once, has_ended, is_loss_reported, is_lost_before, has_contact, has_point, point_given, MadeAt}
 use Rattle.witness_laws.proofs.machines.Places.{same_place, IsLine, IsMarked, mark_is}
 use Rattle.witness_laws.proofs.machines.Holding.{agrees}
 use Rattle.witness_laws.proofs.machines.There.{IsOf}
@@ -71,7 +71,7 @@ known_in_turn i all h tag c t e may = go (sent_at i (lines h)) refl may
 
 -- its end, in turn, means that it was made
 pub made_sent : (i : ℕ) (line : List ℕ) (what : Option (Tag × Signal)) (e : Heard) (all h : List Entry) (w : Option (Tag × SentCommand))
-    → Keeps (Said (Answers line what) ∷ h) → IsPast all (Said (Answers line what) ∷ h) → sent_at i (lines all) ≡ Some w
+    → Keeps (Message (Answers line what) ∷ h) → IsPast all (Message (Answers line what) ∷ h) → sent_at i (lines all) ≡ Some w
     → mark_in what (lines h) ≡ Some (i, e) → progress_with (progress_of (marks i (lines h))) e ≡ Some Done → is_fault what (lines h) ≡ false
     → MadeSent i h (Some w)
 made_sent i line what e all h w k t is mark done clear = go (mark_is what (lines h))
@@ -86,7 +86,7 @@ made_sent i line what e all h w k t is mark done clear = go (mark_is what (lines
     go : IsMarked (lines h) (mark_in what (lines h)) → MadeSent i h (Some w)
     go marked =
         let it : IsMarked (lines h) (Some (i, e)) = subst (IsMarked (lines h)) mark marked in
-        subst (MadeSent i h) (it.1 ∙ ap Some (sent_as i all h w (Some it.0) (past (Said (Answers line what)) h t) is it.1)) made
+        subst (MadeSent i h) (it.1 ∙ ap Some (sent_as i all h w (Some it.0) (past (Message (Answers line what)) h t) is it.1)) made
 
 -- a line that does something may do it
 pub does_may : (n : ℕ) (effect : Effect) (h : List Entry) → ActsWithin (Does (InTurn n) effect) h
@@ -121,17 +121,17 @@ below_quiet may i u all iu not_this quiet n effect h t acts lt le known = go (do
 -- ---- touches
 
 -- something that was lost before the contact was reported at its end
-pub not_lost : (j : ℕ) (line : List ℕ) (what : Option (Tag × Signal)) (h : List Entry) → Keeps (Said (Answers line what) ∷ h)
-    → mark_in what (lines h) ≡ Some (j, heard.Complete) → is_lost_before (is_contact j) (Said (Answers line what) ∷ h) ≡ true → ⊥
+pub not_lost : (j : ℕ) (line : List ℕ) (what : Option (Tag × Signal)) (h : List Entry) → Keeps (Message (Answers line what) ∷ h)
+    → mark_in what (lines h) ≡ Some (j, heard.Complete) → is_lost_before (is_contact j) (Message (Answers line what) ∷ h) ≡ true → ⊥
 not_lost j line what h k mark lost =
-    let told : is_told (Some (j, heard.Complete)) h ≡ true = subst (λ m. is_told m h ≡ true) mark (Keeps.told k).0 in
+    let reported : is_loss_reported (Some (j, heard.Complete)) h ≡ true = subst (λ m. is_loss_reported m h ≡ true) mark (Keeps.reported k).0 in
     let was : is_lost_before (is_contact j) h ≡ true =
     (and_parts (not (is_fault what (lines h))) (is_lost_before (is_contact j) h) lost).1 in
-    false≢true (sym (ap not was) ∙ told)
+    false≢true (sym (ap not was) ∙ reported)
 
 -- the contact was made
 pub not_never : (u : Sent) (p : Point) (d : Option Direction) (at : Point) (line : List ℕ) (what : Option (Tag × Signal)) (h : List Entry)
-    → Keeps (Said (Answers line what) ∷ h) → IsLine u (lines h) → mark_in what (lines h) ≡ Some (place u, heard.Complete)
+    → Keeps (Message (Answers line what) ∷ h) → IsLine u (lines h) → mark_in what (lines h) ≡ Some (place u, heard.Complete)
     → stage_of u.command (marks (place u) (lines h)) ≡ stage.Given (datum.Point at) → before_last (is_contact (place u)) h ≡ None → ⊥
 not_never u p d at line what h k iu mark given none =
     let touched : has_contact (Some (place u, heard.Complete)) h ≡ true = subst (λ m. has_contact m h ≡ true) mark (Keeps.touched k).0 in

@@ -10,7 +10,7 @@ use Rattle.witness.specs.declared.lines.Heard.{Heard}
 use Rattle.witness.specs.declared.lines.Heard.TheVariants as heard
 use Rattle.witness.specs.declared.lines.Progress.{Progress}
 use Rattle.witness.specs.declared.lines.Progress.TheVariants.{Sent, Begun, Done}
-use Rattle.witness_laws.specs.Machines.{Entry, Said, Does, lines}
+use Rattle.witness_laws.specs.Machines.{Entry, Message, Does, lines}
 use Rattle.witness_laws.specs.Premises.{is_complete, has_ended, place_of, out_of_turn}
 use Rattle.witness_laws.proofs.machines.Orders.{is_it, NoneShown}
 
@@ -68,8 +68,8 @@ early_step i (Some (m, e)) ft ms is = go (i == m) refl is
 
 pub early_none : (i : ℕ) (h : List Entry) → IsEarly (progress_of (marks i (lines h))) → NoneShown i h
 early_none i [] is = tt
-early_none i (Said (Sends line what) ∷ h) is = early_none i h is
-early_none i (Said (Answers line what) ∷ h) is =
+early_none i (Message (Sends line what) ∷ h) is = early_none i h is
+early_none i (Message (Answers line what) ∷ h) is =
     let both : (is_it i (out_of_turn what (lines h)) ≡ false) × IsEarly (progress_of (marks i (lines h))) =
     early_step i (mark_in what (lines h)) (is_fault what (lines h)) (marks i (lines h)) is in
     (both.0, early_none i h both.1)
@@ -121,14 +121,14 @@ calm_none i mk ft e = ap (λ (b : Bool). is_it i (if b then place_of mk else Non
 
 pub done_none : (i : ℕ) (h : List Entry) → progress_of (marks i (lines h)) ≡ Some Done → fault_since i (lines h) ≡ false → NoneShown i h
 done_none i [] is calm = tt
-done_none i (Said (Sends line what) ∷ h) is calm = done_none i h is calm
+done_none i (Message (Sends line what) ∷ h) is calm = done_none i h is calm
 done_none i (Does cause effect ∷ h) is calm = done_none i h is calm
-done_none i (Said (Answers line what) ∷ h) is calm =
+done_none i (Message (Answers line what) ∷ h) is calm =
     go (done_step i (mark_in what (lines h)) (is_fault what (lines h)) (fault_since i (lines h)) (marks i (lines h)) is calm) (done_none i h)
   where
     go : IsDoneBy i (mark_in what (lines h)) (is_fault what (lines h)) (fault_since i (lines h)) (marks i (lines h))
         → (progress_of (marks i (lines h)) ≡ Some Done → fault_since i (lines h) ≡ false → NoneShown i h)
-        → NoneShown i (Said (Answers line what) ∷ h)
+        → NoneShown i (Message (Answers line what) ∷ h)
     go (ends e it begun done clear) rest =
         (calm_none i (mark_in what (lines h)) (is_fault what (lines h)) clear, early_none i h (subst IsEarly (sym begun) tt))
     go (stays done clear quiet) rest = (calm_none i (mark_in what (lines h)) (is_fault what (lines h)) clear, rest done quiet)

@@ -3,7 +3,7 @@ use Rattle.std.proofs.Common.{◌≡◌, ℕ, ◌<◌, ◌==◌, Bool, true, fal
 use Rattle.std.proofs.Common.{Option, Some, None, refl, ap, sym, ◌∙◌, subst}
 use Rattle.std.proofs.lemmas.Bool.{false≢true, eqb-true, lt-ltb, and_from, or_right, or_from, not-true}
 use Rattle.witness.specs.Asking.{Sends, Answers}
-use Rattle.witness_laws.specs.Machines.{Effect, TakesTool, SelectsFrame, StoresZero, Touches, Cause, InTurn, AtOnce, ForNoLine, Entry, Said, Does}
+use Rattle.witness_laws.specs.Machines.{Effect, TakesTool, SelectsFrame, StoresZero, Touches, Cause, InTurn, AtOnce, ForNoLine, Entry, Message, Does}
 use Rattle.witness_laws.specs.Machines.{lines, last, or_before, before_last, is_for_line}
 use Rattle.witness_laws.specs.Premises.{keep_order, out_of_turn, with_shown, is_listed, comes_in_order, none_below}
 use Rattle.witness_laws.proofs.machines.Places.{same_place}
@@ -16,8 +16,8 @@ is_it v (Some n) = v == n
 -- something that must keep its order to this effect was done for a line, and no mark of that line came out of turn since
 abbrev pub unshown : Effect → ℕ → List Entry → Bool
 unshown effect v [] = false
-unshown effect v (Said (Sends line what) ∷ h) = unshown effect v h
-unshown effect v (Said (Answers line what) ∷ h) = not (is_it v (out_of_turn what (lines h))) && unshown effect v h
+unshown effect v (Message (Sends line what) ∷ h) = unshown effect v h
+unshown effect v (Message (Answers line what) ∷ h) = not (is_it v (out_of_turn what (lines h))) && unshown effect v h
 unshown effect v (Does cause other ∷ h) = (is_for_line v cause && keep_order effect other) || unshown effect v h
 
 both_left : (a b : Bool) → (a && b) ≡ true → a ≡ true
@@ -39,8 +39,8 @@ pub unshown_for : (effect effect' : Effect) (v : ℕ) (h : List Entry)
     → ((other : Effect) → keep_order effect other ≡ true → keep_order effect' other ≡ true)
     → unshown effect v h ≡ true → unshown effect' v h ≡ true
 unshown_for effect effect' v [] f e = absurd (false≢true e)
-unshown_for effect effect' v (Said (Sends line what) ∷ h) f e = unshown_for effect effect' v h f e
-unshown_for effect effect' v (Said (Answers line what) ∷ h) f e =
+unshown_for effect effect' v (Message (Sends line what) ∷ h) f e = unshown_for effect effect' v h f e
+unshown_for effect effect' v (Message (Answers line what) ∷ h) f e =
     and_from (not (is_it v (out_of_turn what (lines h)))) (unshown effect' v h)
     (both_left (not (is_it v (out_of_turn what (lines h)))) (unshown effect v h) e)
     (unshown_for effect effect' v h f (both_right (not (is_it v (out_of_turn what (lines h)))) (unshown effect v h) e))
@@ -66,8 +66,8 @@ not_both b e f = false≢true (sym e ∙ f)
 crossing_at : (n v : ℕ) (effect : Effect) (shown : List ℕ) (h : List Entry) → comes_in_order n effect shown h ≡ true → is_listed v shown ≡ false
     → n < v → unshown effect v h ≡ true → ⊥
 crossing_at n v effect shown [] c l lt u = false≢true u
-crossing_at n v effect shown (Said (Sends line what) ∷ h) c l lt u = crossing_at n v effect shown h c l lt u
-crossing_at n v effect shown (Said (Answers line what) ∷ h) c l lt u =
+crossing_at n v effect shown (Message (Sends line what) ∷ h) c l lt u = crossing_at n v effect shown h c l lt u
+crossing_at n v effect shown (Message (Answers line what) ∷ h) c l lt u =
     let hidden : is_it v (out_of_turn what (lines h)) ≡ false =
     not-true (is_it v (out_of_turn what (lines h))) (both_left (not (is_it v (out_of_turn what (lines h)))) (unshown effect v h) u) in
     crossing_at n v effect (with_shown (out_of_turn what (lines h)) shown) h c
@@ -98,8 +98,8 @@ crossing n v effect h c lt u = crossing_at n v effect [] h c refl lt u
 
 pub none_crossed : (n v : ℕ) (effect : Effect) (h : List Entry) → none_below n h ≡ true → n < v → unshown effect v h ≡ true → ⊥
 none_crossed n v effect [] c lt u = false≢true u
-none_crossed n v effect (Said (Sends line what) ∷ h) c lt u = none_crossed n v effect h c lt u
-none_crossed n v effect (Said (Answers line what) ∷ h) c lt u =
+none_crossed n v effect (Message (Sends line what) ∷ h) c lt u = none_crossed n v effect h c lt u
+none_crossed n v effect (Message (Answers line what) ∷ h) c lt u =
     none_crossed n v effect h c lt (both_right (not (is_it v (out_of_turn what (lines h)))) (unshown effect v h) u)
 none_crossed n v effect (Does (AtOnce m) other ∷ h) c lt u = none_crossed n v effect h c lt u
 none_crossed n v effect (Does ForNoLine other ∷ h) c lt u = none_crossed n v effect h c lt u
@@ -117,8 +117,8 @@ none_crossed n v effect (Does (InTurn m) other ∷ h) c lt u =
 
 abbrev pub NoneShown : ℕ → List Entry → Type 0
 NoneShown v [] = Unit {0}
-NoneShown v (Said (Sends line what) ∷ h) = NoneShown v h
-NoneShown v (Said (Answers line what) ∷ h) = (is_it v (out_of_turn what (lines h)) ≡ false) × NoneShown v h
+NoneShown v (Message (Sends line what) ∷ h) = NoneShown v h
+NoneShown v (Message (Answers line what) ∷ h) = (is_it v (out_of_turn what (lines h)) ≡ false) × NoneShown v h
 NoneShown v (Does cause other ∷ h) = NoneShown v h
 
 abbrev pub cause_of : {A : Type 0} → Option (Cause × A) → Cause
@@ -133,8 +133,8 @@ value_of a (Some (cause, b)) = b
 pub did_last : {A : Type 0} (sort : Effect → Option A) (i : ℕ) (a : A) (h : List Entry) → NoneShown i h → last sort h ≡ Some (InTurn i, a)
     → unshown (TakesTool None) i h ≡ true
 did_last sort i a [] none e = absurd (cc)
-did_last sort i a (Said (Sends line what) ∷ h) none e = did_last sort i a h none e
-did_last sort i a (Said (Answers line what) ∷ h) none e =
+did_last sort i a (Message (Sends line what) ∷ h) none e = did_last sort i a h none e
+did_last sort i a (Message (Answers line what) ∷ h) none e =
     and_from (not (is_it i (out_of_turn what (lines h)))) (unshown (TakesTool None) i h) (ap not none.0) (did_last sort i a h none.1 e)
 did_last {A} sort i a (Does cause other ∷ h) none e = go (sort other) e (did_last sort i a h none)
   where
@@ -152,8 +152,8 @@ pub did_there : (is_that : Cause → Effect → Bool) (j : ℕ) (h h' : List Ent
     → ((cause : Cause) (other : Effect) → is_that cause other ≡ true → cause ≡ InTurn j)
     → NoneShown j h → before_last is_that h ≡ Some h' → unshown (TakesTool None) j h ≡ true
 did_there is_that j [] h' its none e = absurd (cc)
-did_there is_that j (Said (Sends line what) ∷ h) h' its none e = did_there is_that j h h' its none e
-did_there is_that j (Said (Answers line what) ∷ h) h' its none e =
+did_there is_that j (Message (Sends line what) ∷ h) h' its none e = did_there is_that j h h' its none e
+did_there is_that j (Message (Answers line what) ∷ h) h' its none e =
     and_from (not (is_it j (out_of_turn what (lines h)))) (unshown (TakesTool None) j h) (ap not none.0)
     (did_there is_that j h h' its none.1 e)
 did_there is_that j (Does cause other ∷ h) h' its none e = go (is_that cause other) refl e (did_there is_that j h h' its none)

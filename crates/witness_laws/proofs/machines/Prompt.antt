@@ -15,7 +15,7 @@ use Rattle.witness.specs.declared.lines.Progress.TheVariants.{Sent, Begun, Done}
 use Rattle.witness.specs.declared.lines.SentCommand.TheVariants.{Known}
 use Rattle.witness.specs.declared.lines.Stage.{Stage}
 use Rattle.witness.specs.declared.lines.Stage.TheVariants as stage
-use Rattle.witness_laws.specs.Machines.{Entry, Said, Does, lines}
+use Rattle.witness_laws.specs.Machines.{Entry, Message, Does, lines}
 use Rattle.witness_laws.specs.Premises.{place_of, out_of_turn}
 use Rattle.witness_laws.proofs.machines.Orders.{is_it, NoneShown}
 use Rattle.witness_laws.proofs.machines.Marking.{IsEarly, early_step, other_line, no_line, received_line}
@@ -79,8 +79,8 @@ prompt_mark c j (Some (m, h)) ft d ms e is b = go (j == m) refl is b
 pub prompt_none : (c : Command) (i j : ℕ) (h : List Entry) → done_before i j (lines h) ≡ true → IsEarly (progress_of (marks i (lines h)))
     → IsSound (stage_of (Known c) (marks j (lines h))) → NoneShown j h
 prompt_none c i j [] d early is = tt
-prompt_none c i j (Said (Sends line what) ∷ h) d early is = prompt_none c i j h d early is
-prompt_none c i j (Said (Answers line what) ∷ h) d early is =
+prompt_none c i j (Message (Sends line what) ∷ h) d early is = prompt_none c i j h d early is
+prompt_none c i j (Message (Answers line what) ∷ h) d early is =
     let upper : (is_it i (out_of_turn what (lines h)) ≡ false) × IsEarly (progress_of (marks i (lines h))) =
     early_step i (mark_in what (lines h)) (is_fault what (lines h)) (marks i (lines h)) early in
     let parts : ((not (is_for is_answer j (mark_in what (lines h))) || is_done (progress_of (marks i (lines h)))) ≡ true)
@@ -104,8 +104,8 @@ sound_before c j (Some (m, h)) ms is = go (j == m) is
 pub touch_prompt : (c : Command) (i j : ℕ) (h : List Entry) → done_before i j (lines h) ≡ true
     → IsSound (stage_of (Known c) (marks j (lines h))) → IsPrompt i j h
 touch_prompt c i j [] d is = tt
-touch_prompt c i j (Said (Sends line what) ∷ h) d is = touch_prompt c i j h d is
-touch_prompt c i j (Said (Answers line what) ∷ h) d is =
+touch_prompt c i j (Message (Sends line what) ∷ h) d is = touch_prompt c i j h d is
+touch_prompt c i j (Message (Answers line what) ∷ h) d is =
     let before : done_before i j (lines h) ≡ true =
     (and_parts (not (is_for is_answer j (mark_in what (lines h))) || is_done (progress_of (marks i (lines h)))) (done_before i j (lines h)) d).1 in
     let sound : IsSound (stage_of (Known c) (marks j (lines h))) = sound_before c j (mark_in what (lines h)) (marks j (lines h)) is in

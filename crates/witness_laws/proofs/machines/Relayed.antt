@@ -14,7 +14,7 @@ use Rattle.witness_laws.specs.Claims as claims
 use Rattle.witness_laws.specs.Claims.{IsPart, is_at_once_report, in_turn, ClaimsNoMore, ClaimNoMore}
 use Rattle.witness_laws.specs.Orders.{Line, Up, Down, said_all, IsCausal}
 use Rattle.witness_laws.specs.Contacts.{contact_tool, contact_frame, HadTool, HadFrame}
-use Rattle.witness_laws.specs.Machines.{Entry, Said, Does, lines, IsPast, whole, past}
+use Rattle.witness_laws.specs.Machines.{Entry, Message, Does, lines, IsPast, whole, past}
 use Rattle.witness_laws.specs.Premises.{Keeps, KeepsUnlessCrossed}
 use Rattle.witness_laws.specs.Relays.{IsReadLater, onto, IsBroughtBy, IsSoOf}
 use Rattle.witness_laws.proofs.machines.Frames.{known_frame}
@@ -100,16 +100,16 @@ claimed_frame _ _ frame (claims.contact p d t name f g at a b) e = part_known f 
 
 -- ---- all that a history reports
 
-told_at_once : {A : Type 0} (look : Reported → Option A) (a : A) (r : Reported) (line : List ℕ) (b : Bool) → look (reports.Other Client line) ≡ None
+reported_at_once_is : {A : Type 0} (look : Reported → Option A) (a : A) (r : Reported) (line : List ℕ) (b : Bool) → look (reports.Other Client line) ≡ None
     → IsIn r (reported_at_once line b) → look r ≡ Some a → ⊥
-told_at_once look a r line false none is e = is
-told_at_once look a r line true none (inl same) e =
+reported_at_once_is look a r line false none is e = is
+reported_at_once_is look a r line true none (inl same) e =
     let it : None ≡ Some a = sym none ∙ (ap look same ∙ e) in absurd (cc)
-told_at_once look a r line true none (inr is) e = is
+reported_at_once_is look a r line true none (inr is) e = is
 
 -- if each line brings what is so
 abbrev Tells : {A : Type 0} → (Reported → Option A) → A → (Option (Tag × Signal) → List Entry → Type 0) → Type 0
-Tells look a Had = (line : List ℕ) (what : Option (Tag × Signal)) (h : List Entry) → Keeps (Said (Answers line what) ∷ h)
+Tells look a Had = (line : List ℕ) (what : Option (Tag × Signal)) (h : List Entry) → Keeps (Message (Answers line what) ∷ h)
     → (i : ℕ) (r : Reported) → slice_get (reported_of true line what (lines h)) i ≡ Some r → look r ≡ Some a → Had what h
 
 brought : {A : Type 0} (look : Reported → Option A) (a : A) (Had : Option (Tag × Signal) → List Entry → Type 0) → Tells look a Had
@@ -117,17 +117,17 @@ brought : {A : Type 0} (look : Reported → Option A) (a : A) (Had : Option (Tag
     → (all h : List Entry) → IsPast all h → Keeps all → (r : Reported) → IsIn r (all_reported true (lines h)) → look r ≡ Some a → IsBroughtBy Had all r
 brought look a Had tells none all [] t k r is e = elim is [ ]
 brought look a Had tells none all (Does cause effect ∷ h) t k r is e = brought look a Had tells none all h (past (Does cause effect) h t) k r is e
-brought look a Had tells none all (Said (Sends line what) ∷ h) t k r is e =
+brought look a Had tells none all (Message (Sends line what) ∷ h) t k r is e =
     go (joined_in r (all_reported true (lines h)) (reported_at_once line (is_at_once what)) is)
-    (λ older. brought look a Had tells none all h (past (Said (Sends line what)) h t) k r older e)
+    (λ older. brought look a Had tells none all h (past (Message (Sends line what)) h t) k r older e)
   where
     go : IsIn r (all_reported true (lines h)) ⊎ IsIn r (reported_at_once line (is_at_once what))
         → (IsIn r (all_reported true (lines h)) → IsBroughtBy Had all r) → IsBroughtBy Had all r
     go (inl older) rest = rest older
-    go (inr this) rest = absurd (told_at_once look a r line (is_at_once what) (none line) this e)
-brought look a Had tells none all (Said (Answers line what) ∷ h) t k r is e =
+    go (inr this) rest = absurd (reported_at_once_is look a r line (is_at_once what) (none line) this e)
+brought look a Had tells none all (Message (Answers line what) ∷ h) t k r is e =
     go (joined_in r (all_reported true (lines h)) (reported_of true line what (lines h)) is)
-    (λ older. brought look a Had tells none all h (past (Said (Answers line what)) h t) k r older e)
+    (λ older. brought look a Had tells none all h (past (Message (Answers line what)) h t) k r older e)
   where
     this_line : IsAt r (reported_of true line what (lines h)) → IsBroughtBy Had all r
     this_line at = record {
@@ -137,7 +137,7 @@ brought look a Had tells none all (Said (Answers line what) ∷ h) t k r is e =
       past = t;
       at = at.0;
       brought = at.1;
-      had = tells line what h (kept_past all (Said (Answers line what) ∷ h) t k) at.0 r at.1 e;
+      had = tells line what h (kept_past all (Message (Answers line what) ∷ h) t k) at.0 r at.1 e;
     }
 
     go : IsIn r (all_reported true (lines h)) ⊎ IsIn r (reported_of true line what (lines h))
@@ -147,13 +147,13 @@ brought look a Had tells none all (Said (Answers line what) ∷ h) t k r is e =
 
 -- ---- lines of both ends, in either form
 
-said_onto : (sent : List Line) (older : List Heard) → said_all (after_all true older) sent ≡ after_all true (onto sent older)
-said_onto [] older = refl
-said_onto (Up line ∷ sent) older = said_onto sent (client_line line ∷ older)
-said_onto (Down line ∷ sent) older = said_onto sent (server_line line ∷ older)
+read_onto : (sent : List Line) (older : List Heard) → said_all (after_all true older) sent ≡ after_all true (onto sent older)
+read_onto [] older = refl
+read_onto (Up line ∷ sent) older = read_onto sent (client_line line ∷ older)
+read_onto (Down line ∷ sent) older = read_onto sent (server_line line ∷ older)
 
 in_step : (sent : List Line) (h : List Entry) → lines h ≡ onto sent [] → said_all (silence true) sent ≡ after_all true (lines h)
-in_step sent h e = said_onto sent [] ∙ ap (after_all true) (sym e)
+in_step sent h e = read_onto sent [] ∙ ap (after_all true) (sym e)
 
 uncrossed : (sent : List Line) (h : List Entry) → lines h ≡ onto sent [] → (said_all (silence true) sent).crossed ≡ false
     → is_crossed true (lines h) ≡ false

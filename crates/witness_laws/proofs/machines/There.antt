@@ -6,7 +6,7 @@ use Rattle.witness.specs.Asking.{Line, Sends, Answers}
 use Rattle.witness.specs.Histories.{count_sent, mark_in, marks}
 use Rattle.witness.specs.Rules.{is_fault, is_at_once, at_once_below, fault_since, progress_of}
 use Rattle.witness.specs.declared.lines.Progress.TheVariants.{Begun, Done}
-use Rattle.witness_laws.specs.Machines.{Effect, TakesTool, SelectsFrame, StoresZero, Touches, Cause, InTurn, AtOnce, ForNoLine, Entry, Said, Does}
+use Rattle.witness_laws.specs.Machines.{Effect, TakesTool, SelectsFrame, StoresZero, Touches, Cause, InTurn, AtOnce, ForNoLine, Entry, Message, Does}
 use Rattle.witness_laws.specs.Machines.{lines, IsPast, past, last, or_before, before_last}
 use Rattle.witness_laws.specs.Premises.{Keeps, ActsInOrder, keep_order, is_unreported, is_lost_before}
 use Rattle.witness_laws.proofs.machines.Orders.{unshown, keeps_more, unshown_for, crossing, NoneShown, did_there, cause_of}
@@ -16,8 +16,8 @@ use Rattle.witness_laws.proofs.machines.Holding.{rest_kept, Fits, Now, holds, cr
 -- no mark of the lower line came out of turn before the upper one ended
 abbrev pub IsPrompt : ℕ → ℕ → List Entry → Type 0
 IsPrompt i j [] = Unit {0}
-IsPrompt i j (Said (Sends line what) ∷ h) = IsPrompt i j h
-IsPrompt i j (Said (Answers line what) ∷ h) = (progress_of (marks i (lines h)) ≡ Some Begun → NoneShown j h) × IsPrompt i j h
+IsPrompt i j (Message (Sends line what) ∷ h) = IsPrompt i j h
+IsPrompt i j (Message (Answers line what) ∷ h) = (progress_of (marks i (lines h)) ≡ Some Begun → NoneShown j h) × IsPrompt i j h
 IsPrompt i j (Does cause effect ∷ h) = IsPrompt i j h
 
 -- it is something that the line at this place does in its turn, and not of this sort
@@ -37,10 +37,10 @@ had_before : {A : Type 0} (L : Type 0) (sort : Effect → Option A) (i j : ℕ) 
     → Fits L sort i j a all → IsOf sort j is_that → Keeps h → NoneShown j h → last sort h ≡ Some (InTurn i, a) → before_last is_that h ≡ Some h'
     → last sort h' ≡ Some (InTurn i, a)
 had_before L sort i j a is_that all [] h' fits of k none e f = absurd (cc)
-had_before L sort i j a is_that all (Said (Sends line what) ∷ h) h' fits of k none e f =
-    had_before L sort i j a is_that all h h' fits of (rest_kept (Said (Sends line what)) h k) none e f
-had_before L sort i j a is_that all (Said (Answers line what) ∷ h) h' fits of k none e f =
-    had_before L sort i j a is_that all h h' fits of (rest_kept (Said (Answers line what)) h k) none.1 e f
+had_before L sort i j a is_that all (Message (Sends line what) ∷ h) h' fits of k none e f =
+    had_before L sort i j a is_that all h h' fits of (rest_kept (Message (Sends line what)) h k) none e f
+had_before L sort i j a is_that all (Message (Answers line what) ∷ h) h' fits of k none e f =
+    had_before L sort i j a is_that all h h' fits of (rest_kept (Message (Answers line what)) h k) none.1 e f
 had_before {A} L sort i j a is_that all (Does cause effect ∷ h) h' fits of k none e f =
     go (is_that cause effect) refl f (sort effect) refl e
     (λ e' f'. had_before L sort i j a is_that all h h' fits of (rest_kept (Does cause effect) h k) none e' f')
@@ -90,12 +90,12 @@ at_end L sort i j a is_that all h fits of k none e = go (before_last is_that h) 
 
 -- ---- one entry more
 
-there_said : {A : Type 0} (L : Type 0) (sort : Effect → Option A) (i : ℕ) (a : A) (is_that : Cause → Effect → Bool) (line : Line) (h : List Entry)
-    → (is_lost_before is_that h ≡ true → is_lost_before is_that (Said line ∷ h) ≡ true)
-    → There L sort i a is_that h → There L sort i a is_that (Said line ∷ h)
-there_said L sort i a is_that line h f (never e) = never e
-there_said L sort i a is_that line h f (had h' e g) = had h' e g
-there_said L sort i a is_that line h f (lost_there l e) = lost_there l (f e)
+there_passed : {A : Type 0} (L : Type 0) (sort : Effect → Option A) (i : ℕ) (a : A) (is_that : Cause → Effect → Bool) (line : Line) (h : List Entry)
+    → (is_lost_before is_that h ≡ true → is_lost_before is_that (Message line ∷ h) ≡ true)
+    → There L sort i a is_that h → There L sort i a is_that (Message line ∷ h)
+there_passed L sort i a is_that line h f (never e) = never e
+there_passed L sort i a is_that line h f (had h' e g) = had h' e g
+there_passed L sort i a is_that line h f (lost_there l e) = lost_there l (f e)
 
 there_not : {A : Type 0} (L : Type 0) (sort : Effect → Option A) (i : ℕ) (a : A) (is_that : Cause → Effect → Bool) (cause : Cause) (effect : Effect)
     (h : List Entry) → is_that cause effect ≡ false → There L sort i a is_that h → There L sort i a is_that (Does cause effect ∷ h)
@@ -131,26 +131,26 @@ pub had_there : {A : Type 0} (L : Type 0) (sort : Effect → Option A) (i j : �
     → at_once_below i (lines h) ≡ false → fault_since i (lines h) ≡ false → progress_of (marks i (lines h)) ≡ Some Done
     → There L sort i a is_that h
 had_there L sort i j a is_that all [] fits of k p prompt none calm done = absurd (cc)
-had_there L sort i j a is_that all (Said (Sends line what) ∷ h) fits of k p prompt none calm done =
-    there_said L sort i a is_that (Sends line what) h (λ e. e)
-    (had_there L sort i j a is_that all h fits of (rest_kept (Said (Sends line what)) h k) (past (Said (Sends line what)) h p) prompt
+had_there L sort i j a is_that all (Message (Sends line what) ∷ h) fits of k p prompt none calm done =
+    there_passed L sort i a is_that (Sends line what) h (λ e. e)
+    (had_there L sort i j a is_that all h fits of (rest_kept (Message (Sends line what)) h k) (past (Message (Sends line what)) h p) prompt
     (or_parts (is_at_once what && nat_lt i (count_sent (lines h))) (at_once_below i (lines h)) none).1 calm done)
-had_there L sort i j a is_that all (Said (Answers line what) ∷ h) fits of k p prompt none calm done =
+had_there L sort i j a is_that all (Message (Answers line what) ∷ h) fits of k p prompt none calm done =
     go (done_step i (mark_in what (lines h)) (is_fault what (lines h)) (fault_since i (lines h)) (marks i (lines h)) done calm)
-    (had_there L sort i j a is_that all h fits of (rest_kept (Said (Answers line what)) h k)
-    (past (Said (Answers line what)) h p) prompt.1 none)
+    (had_there L sort i j a is_that all h fits of (rest_kept (Message (Answers line what)) h k)
+    (past (Message (Answers line what)) h p) prompt.1 none)
   where
-    more : is_fault what (lines h) ≡ false → is_lost_before is_that h ≡ true → is_lost_before is_that (Said (Answers line what) ∷ h) ≡ true
+    more : is_fault what (lines h) ≡ false → is_lost_before is_that h ≡ true → is_lost_before is_that (Message (Answers line what) ∷ h) ≡ true
     more clear e = and_from (not (is_fault what (lines h))) (is_lost_before is_that h) (ap not clear) e
 
     go : IsDoneBy i (mark_in what (lines h)) (is_fault what (lines h)) (fault_since i (lines h)) (marks i (lines h))
         → (fault_since i (lines h) ≡ false → progress_of (marks i (lines h)) ≡ Some Done → There L sort i a is_that h)
-        → There L sort i a is_that (Said (Answers line what) ∷ h)
+        → There L sort i a is_that (Message (Answers line what) ∷ h)
     go (ends e it begun is clear) rest =
-        there_said L sort i a is_that (Answers line what) h (more clear)
-        (at_end L sort i j a is_that all h fits of (rest_kept (Said (Answers line what)) h k) (prompt.0 begun)
+        there_passed L sort i a is_that (Answers line what) h (more clear)
+        (at_end L sort i j a is_that all h fits of (rest_kept (Message (Answers line what)) h k) (prompt.0 begun)
         (Fits.made fits line what e h k p it is clear))
-    go (stays is clear quiet) rest = there_said L sort i a is_that (Answers line what) h (more clear) (rest quiet is)
+    go (stays is clear quiet) rest = there_passed L sort i a is_that (Answers line what) h (more clear) (rest quiet is)
 had_there L sort i j a is_that all (Does cause effect ∷ h) fits of k p prompt none calm done =
     there_does L sort i j a is_that cause effect h of k
     (holding L sort i j a all h fits (rest_kept (Does cause effect) h k) (past (Does cause effect) h p) none calm done).1

@@ -19,7 +19,7 @@ use Rattle.witness.specs.declared.lines.Reported.{Reported}
 use Rattle.witness.specs.declared.lines.SentCommand.{SentCommand}
 use Rattle.witness.specs.declared.lines.SentCommand.TheVariants as sends
 use Rattle.witness.specs.declared.lines.Stage.TheVariants as stage
-use Rattle.witness_laws.specs.Machines.{Effect, TakesTool, SelectsFrame, StoresZero, Touches, Entry, Said}
+use Rattle.witness_laws.specs.Machines.{Effect, TakesTool, SelectsFrame, StoresZero, Touches, Entry, Message}
 use Rattle.witness_laws.specs.Machines.{lines, whole, sent_at, tool_taken, so, tool_now, frame_now, is_contact, there}
 use Rattle.witness_laws.specs.Premises.{Keeps, KeepsUnlessCrossed, line_may}
 use Rattle.witness_laws.specs.Contacts.{contact_tool, HadTool}
@@ -66,17 +66,17 @@ tool_fits tool s u p d all iu is last_is =
 
 -- ---- a contact
 
-abbrev pub IsToldTool : Option (Tag × Signal) → List Entry → Reported → Type 0
-IsToldTool what h r = (tool : List ℕ) → contact_tool r ≡ Some tool → HadTool what h tool
+abbrev pub IsToolHad : Option (Tag × Signal) → List Entry → Reported → Type 0
+IsToolHad what h r = (tool : List ℕ) → contact_tool r ≡ Some tool → HadTool what h tool
 
 tool_had : (tool : List ℕ) (u : Sent) (p : Point) (d : Option Direction) (at : Point) (line : List ℕ) (what : Option (Tag × Signal)) (h : List Entry)
-    → Keeps (Said (Answers line what) ∷ h) → IsLine u (lines h) → mark_in what (lines h) ≡ Some (place u, heard.Complete)
+    → Keeps (Message (Answers line what) ∷ h) → IsLine u (lines h) → mark_in what (lines h) ≡ Some (place u, heard.Complete)
     → u.command ≡ sends.Known (command.PtMeas p d) → stage_of u.command (marks (place u) (lines h)) ≡ stage.Given (datum.Point at)
     → Holds (last_tool u.above) u (Answers line what ∷ lines h) tool → HadTool what h tool
 tool_had tool u p d at line what h k iu mark is given held = go the_there
   where
     all : List Entry
-    all = Said (Answers line what) ∷ h
+    all = Message (Answers line what) ∷ h
 
     s : Sent
     s = held.0
@@ -95,21 +95,21 @@ tool_had tool u p d at line what h k iu mark is given held = go the_there
     go (had h' e f) = record { touch = place u; ends = mark; had = ap (there tool_now) e ∙ ap (λ x. Some (so x)) f }
 
 tool_named : (what : Option (Tag × Signal)) (h : List Entry) (p : Point) (d : Option Direction) (at : Point) (t : Option (List ℕ)) (f : Option Frame)
-    → ((tool : List ℕ) → t ≡ Some tool → HadTool what h tool) → IsToldTool what h (touched t f p d at)
+    → ((tool : List ℕ) → t ≡ Some tool → HadTool what h tool) → IsToolHad what h (touched t f p d at)
 tool_named what h p d at None None has tool e = has tool e
 tool_named what h p d at None (Some f) has tool e = has tool e
 tool_named what h p d at (Some t) None has tool e = has tool e
 tool_named what h p d at (Some t) (Some f) has tool e = has tool e
 
-tool_plain : (what : Option (Tag × Signal)) (h : List Entry) (r : Reported) → IsPlain r → IsToldTool what h r
+tool_plain : (what : Option (Tag × Signal)) (h : List Entry) (r : Reported) → IsPlain r → IsToolHad what h r
 tool_plain what h r plain tool e = let it : None ≡ Some tool = sym plain.0 ∙ e in absurd (cc)
 
-pub known_tool : (line : List ℕ) (what : Option (Tag × Signal)) (h : List Entry) → KeepsUnlessCrossed (Said (Answers line what) ∷ h)
+pub known_tool : (line : List ℕ) (what : Option (Tag × Signal)) (h : List Entry) → KeepsUnlessCrossed (Message (Answers line what) ∷ h)
     → (i : ℕ) (r : Reported) (tool : List ℕ) → slice_get (reported_of true line what (lines h)) i ≡ Some r → contact_tool r ≡ Some tool
     → HadTool what h tool
 known_tool line what h k i r tool e named =
-    one_of (IsToldTool what h) (reported_of true line what (lines h)) i r
-    (reports_are (IsToldTool what h) (tool_plain what h) line what (lines h)
+    one_of (IsToolHad what h) (reported_of true line what (lines h)) i r
+    (reports_are (IsToolHad what h) (tool_plain what h) line what (lines h)
     (λ u p d at iu mark is given. tool_named what h p d at _ _ (λ t known.
     tool_had t u p d at line what h (k (known_uncrossed tool_of t (is_crossed true (lines h)) (known_for u (Answers line what ∷ lines h)) refl known)) iu mark is given
     (held_for t u (last_tool u.above) (Answers line what ∷ lines h)

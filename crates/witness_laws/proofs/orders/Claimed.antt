@@ -20,11 +20,11 @@ use Rattle.witness_laws.specs.Claims.{reported_first, is_at_once_report, in_turn
 use Rattle.witness_laws.specs.Orders.{Line, Up, Down, said, said_all, ups, downs, at_once_line, some_at_once, IsCausal}
 use Rattle.witness_laws.proofs.orders.Claiming.{IsFair, all_fair, all_of, in_turn_fair}
 use Rattle.witness_laws.proofs.orders.Counts.{answered_keeps, silence_counted}
-use Rattle.witness_laws.proofs.orders.Marks.{neither}
 use Rattle.witness_laws.proofs.orders.More.{ups_report_first}
 use Rattle.witness_laws.proofs.orders.Sinking.{Claims}
 use Rattle.witness_laws.proofs.orders.Sorting.{Drops, none_drops, sort_below}
 use Rattle.witness_laws.proofs.orders.Views.{causal_alike, silence_alike}
+use Rattle.std.proofs.lemmas.Bool.{or_parts}
 
 pub ups_append : (lines more : List Line) → ups (lines ++ more) ≡ ups lines ++ ups more
 ups_append [] more = refl
@@ -36,11 +36,11 @@ downs_append [] more = refl
 downs_append (Up line ∷ lines) more = downs_append lines more
 downs_append (Down line ∷ lines) more = ap (λ (l : List (List ℕ)). line ∷ l) (downs_append lines more)
 
-only_ups : (up : List (List ℕ)) → ups (map Up up) ≡ up
+pub only_ups : (up : List (List ℕ)) → ups (map Up up) ≡ up
 only_ups [] = refl
 only_ups (line ∷ up) = ap (λ (l : List (List ℕ)). line ∷ l) (only_ups up)
 
-no_downs : (up : List (List ℕ)) → downs (map Up up) ≡ []
+pub no_downs : (up : List (List ℕ)) → downs (map Up up) ≡ []
 no_downs [] = refl
 no_downs (line ∷ up) = no_downs up
 
@@ -67,7 +67,7 @@ answered_unordered d line None = refl
 answered_unordered d line (Some (tag, signal)) = under_unordered d line tag signal (first_under tag d.uses)
 
 crossed_is : (c x o : Bool) → (c || (o && x)) ≡ false → (c || (false && x)) ≡ (c || (o && x))
-crossed_is c x o e = ap (λ (b : Bool). b || false) ((neither c (o && x) e).0) ∙ sym e
+crossed_is c x o e = ap (λ (b : Bool). b || false) ((or_parts c (o && x) e).0) ∙ sym e
 
 sending_unordered : (d : Dialogue) (tag : Tag) (what : SentCommand) → (sending d tag what).crossed ≡ false
     → sending (unordered d) tag what ≡ unordered (sending d tag what)
@@ -93,8 +93,8 @@ said_unordered d (Down line) e = answered_unordered d line (answered (response_o
 
 if_first : (d : Dialogue) (line : List ℕ) (tag : Tag) (what : SentCommand) (b : Bool)
     → (if b then sending (at_once d line) tag what else sending d tag what).crossed ≡ false → d.crossed ≡ false
-if_first d line tag what true e = (neither d.crossed (d.ordered && is_some (line_of (last_under tag (at_once d line).uses None))) e).0
-if_first d line tag what false e = (neither d.crossed (d.ordered && is_some (line_of (last_under tag d.uses None))) e).0
+if_first d line tag what true e = (or_parts d.crossed (d.ordered && is_some (line_of (last_under tag (at_once d line).uses None))) e).0
+if_first d line tag what false e = (or_parts d.crossed (d.ordered && is_some (line_of (last_under tag d.uses None))) e).0
 
 client_first : (d : Dialogue) (line : List ℕ) (w : Option (Tag × SentCommand)) → (client_sent d line w).crossed ≡ false → d.crossed ≡ false
 client_first d line None e = e
@@ -176,7 +176,7 @@ ordered_claim lines later causal free =
 none_first : (up : List (List ℕ)) → some_at_once up ≡ false → reported_first up ≡ []
 none_first [] e = refl
 none_first (line ∷ up) e =
-    let parts = neither (at_once_line line) (some_at_once up) e in
+    let parts = or_parts (at_once_line line) (some_at_once up) e in
     ap (λ (b : Bool). reported_at_once line b ++ reported_first up) parts.0 ∙ none_first up parts.1
 
 pub all_claim : (lines : List Line) (later : List (List ℕ)) → IsCausal (silence true) (lines ++ map Up later)
@@ -189,4 +189,4 @@ all_claim lines later causal free waits =
     (all_of (ledger (ups lines ++ later) (downs lines)).reported)
     (claimed (λ x. true) all_fair lines later (causal_without (lines ++ map Up later) causal) (none_drops (λ x. true) (ups lines ++ later) waits)
     (all_of (reported_first later) ∙ none_first later
-    ((neither (some_at_once (ups lines)) (some_at_once later) (sym (list_any-append at_once_line (ups lines) later) ∙ waits)).1))))
+    ((or_parts (some_at_once (ups lines)) (some_at_once later) (sym (list_any-append at_once_line (ups lines) later) ∙ waits)).1))))

@@ -1,7 +1,7 @@
 -- What makes an order clear.
 use Rattle.std.proofs.Common.{◌≡◌, ℕ, Bool, true, false, ◌&&◌, ◌||◌, if◌then◌else◌, List, [], ◌∷◌, ◌++◌, map, remove, zero, suc, ◌==◌}
 use Rattle.std.proofs.Common.{Option, Some, None, Result, Ok, Err, refl, ap, sym, ◌∙◌}
-use Rattle.std.proofs.lemmas.Bool.{false≢true}
+use Rattle.std.proofs.lemmas.Bool.{false≢true, or_parts, or_from}
 use Rattle.std.proofs.lemmas.List.Folds.{list_any-append}
 use Rattle.std.specs.List.{list_any}
 use Rattle.fixed_um.specs.declared.lengths.Point.{Point}
@@ -28,9 +28,8 @@ use Rattle.witness_laws.specs.Orders.{Line, Up, Down, said, ups, downs, some_sen
 use Rattle.witness_laws.specs.Orders.{is_error_signal, is_refusal, refuses, IsSure, IsClear}
 use Rattle.witness_laws.proofs.orders.Commands.{stays_closed}
 use Rattle.witness_laws.proofs.orders.Counts.{AreHeard, heard_keeps, heard_failed}
-use Rattle.witness_laws.proofs.orders.Marks.{neither, both_not}
-use Rattle.witness_laws.proofs.orders.Sorting.{open_unknowing}
 use Rattle.witness_laws.proofs.orders.Swaps.{new_use, and_no}
+use Rattle.witness_laws.proofs.orders.Sinking.{open_unknowing}
 
 -- ---- no two lines of the client use one tag
 
@@ -69,7 +68,7 @@ client_lone t d line None later once =
 client_lone t d line (Some (tag, what)) later once = if_lone t d line tag what later once (foreign_event tag what)
 
 no_more : (o n a w : Bool) → (o ≡ false → n ≡ false) → ((o && a) || w) ≡ false → ((n && a) || w) ≡ false
-no_more o false a w fewer once = (neither (o && a) w once).1
+no_more o false a w fewer once = (or_parts (o && a) w once).1
 no_more true true a w fewer once = once
 no_more false true a w fewer once = absurd (cc (fewer refl))
 
@@ -88,13 +87,13 @@ failed_open tag (u ∷ uses) e = go (failed_open tag uses) (tag_is u.tag tag) e 
 lone_sure : (d : Dialogue) (later : List (List ℕ)) (r : Result Response NotResponse) → ((tag : Tag) → Lone tag d later) → IsSure d.uses later r
 lone_sure d later (Ok r) once = λ end failed.
     ap (λ (b : Bool). b && some_sends r.tag later) (sym (failed_open r.tag d.uses failed))
-    ∙ (neither (is_open r.tag d.uses && some_sends r.tag later) (two_send r.tag later) (once r.tag)).0
+    ∙ (or_parts (is_open r.tag d.uses && some_sends r.tag later) (two_send r.tag later) (once r.tag)).0
 lone_sure d later (Err why) once = tt
 
 lone_clear : (d : Dialogue) (lines : List Line) → some_at_once (ups lines) ≡ false → ((tag : Tag) → Lone tag d (ups lines)) → IsClear d lines
 lone_clear d [] waits once = tt
 lone_clear d (Up line ∷ lines) waits once =
-    lone_clear (said d (Up line)) lines ((neither (at_once_line line) (some_at_once (ups lines)) waits).1)
+    lone_clear (said d (Up line)) lines ((or_parts (at_once_line line) (some_at_once (ups lines)) waits).1)
     (λ tag. client_lone tag d line (sent line (command_of line)) (ups lines) (once tag))
 lone_clear d (Down line ∷ lines) waits once = (
   waits,
@@ -172,7 +171,7 @@ heard_no_error (Err why) e = tt
 
 heard_unfailed : (n : ℕ) (h : Heard) → is_error h ≡ false → (u : Use) → u.has_failed ≡ false → (use_heard n h u).has_failed ≡ false
 heard_unfailed n h none u e =
-    heard_failed n h u ∙ both_not u.has_failed ((u.line == n) && is_error h) e (and_no (u.line == n) (is_error h) none)
+    heard_failed n h u ∙ or_from u.has_failed ((u.line == n) && is_error h) e (and_no (u.line == n) (is_error h) none)
 
 answered_unfailed : (d : Dialogue) (line : List ℕ) → refuses line ≡ false → Unfailed d.uses → Unfailed (said d (Down line)).uses
 answered_unfailed d line e w = heard_keeps (λ x. Unfailed x.uses) (λ h. is_error h ≡ false)
@@ -195,10 +194,10 @@ unfailed_clear : (d : Dialogue) (lines : List Line) → some_at_once (ups lines)
     → IsClear d lines
 unfailed_clear d [] waits e w = tt
 unfailed_clear d (Up line ∷ lines) waits e w =
-    unfailed_clear (said d (Up line)) lines ((neither (at_once_line line) (some_at_once (ups lines)) waits).1) e
+    unfailed_clear (said d (Up line)) lines ((or_parts (at_once_line line) (some_at_once (ups lines)) waits).1) e
     (client_unfailed d line (sent line (command_of line)) w)
 unfailed_clear d (Down line ∷ lines) waits e w =
-    let parts = neither (refuses line) (list_any refuses (downs lines)) e in (
+    let parts = or_parts (refuses line) (list_any refuses (downs lines)) e in (
       waits,
       unfailed_sure d (ups lines) (response_of line) w,
       unfailed_clear (said d (Down line)) lines waits parts.1 (answered_unfailed d line parts.0 w),

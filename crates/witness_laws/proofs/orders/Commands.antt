@@ -1,7 +1,7 @@
 -- A command may be read before the replies to others, with the same result.
 use Rattle.std.proofs.Common.{◌≡◌, ℕ, zero, suc, Bool, true, false, ◌&&◌, if◌then◌else◌, List, [], ◌∷◌, ◌++◌, map, remove}
 use Rattle.std.proofs.Common.{Option, Some, None, is_some, Result, Ok, Err, refl, ap, sym, ◌∙◌, subst}
-use Rattle.std.proofs.lemmas.Bool.{false≢true}
+use Rattle.std.proofs.lemmas.Bool.{false≢true, or_parts, or_from}
 use Rattle.std.specs.List.{list_any}
 use Rattle.dme_line.specs.declared.responses.Response.{Response}
 use Rattle.dme_line.specs.declared.responses.NotResponse.{NotResponse}
@@ -15,7 +15,6 @@ use Rattle.witness.specs.declared.lines.SentCommand.{SentCommand}
 use Rattle.witness.specs.declared.lines.Use.{Use}
 use Rattle.witness_laws.specs.Orders.{Line, Up, Down, said, ups, is_open, is_of, answers, IsBehind, IsCausal, IsCounted, IsNew, IsFresh, AreFresh, IsAnswer, AreAnswers}
 use Rattle.witness_laws.proofs.orders.Counts.{answered_keeps, said_counted}
-use Rattle.witness_laws.proofs.orders.Marks.{neither, both_not}
 use Rattle.witness_laws.proofs.orders.More.{ups_after, open_heard}
 use Rattle.witness_laws.proofs.orders.Sends.{AfterSend, after_send, Agrees, alike, ended, IsEndOf, NotEarly, open_fault}
 use Rattle.witness_laws.proofs.orders.Sinking.{early_of}
@@ -27,10 +26,10 @@ use Rattle.witness_laws.proofs.orders.Swaps.{last_none, one_tag, and_no}
 remove_closed : (tag : Tag) (uses : List Use) (at : ℕ) → is_open tag uses ≡ false → is_open tag (remove uses at) ≡ false
 remove_closed tag [] zero e = e
 remove_closed tag [] (suc at) e = e
-remove_closed tag (u ∷ uses) zero e = (neither (tag_is u.tag tag) (is_open tag uses) e).1
+remove_closed tag (u ∷ uses) zero e = (or_parts (tag_is u.tag tag) (is_open tag uses) e).1
 remove_closed tag (u ∷ uses) (suc at) e =
-    let parts = neither (tag_is u.tag tag) (is_open tag uses) e in
-    both_not (tag_is u.tag tag) (is_open tag (remove uses at)) parts.0 (remove_closed tag uses at parts.1)
+    let parts = or_parts (tag_is u.tag tag) (is_open tag uses) e in
+    or_from (tag_is u.tag tag) (is_open tag (remove uses at)) parts.0 (remove_closed tag uses at parts.1)
 
 left_closed : (tag : Tag) (uses : List Use) (at : ℕ) (ended : Bool) → is_open tag uses ≡ false → is_open tag (left_over uses at ended) ≡ false
 left_closed tag uses at true e = remove_closed tag uses at e
@@ -153,7 +152,7 @@ pub swap_command : (d : Dialogue) (line : List ℕ) (tag : Tag) (what : SentComm
     → after (server_lines d down) (Sends line (Some (tag, what))) ≡ server_lines (after d (Sends line (Some (tag, what)))) down
 swap_command d line tag what [] c none later others = refl
 swap_command d line tag what (answer ∷ down) c none later others =
-    let parts = neither (answers tag answer) (list_any (answers tag) down) others in
+    let parts = or_parts (answers tag answer) (list_any (answers tag) down) others in
     swap_command (said d (Down answer)) line tag what down (said_counted d (Down answer) c) (stays_closed tag d answer none) later parts.1
     ∙ ap (λ (e : Dialogue). server_lines e down)
     (swap_tagged d line tag what answer (answered (response_of answer)) c later none (early_other d.uses tag (response_of answer) parts.0))

@@ -18,6 +18,8 @@ use Rattle.witness.specs.declared.lines.SentCommand.{SentCommand}
 use Rattle.witness.specs.declared.lines.Side.TheVariants.{Server}
 use Rattle.witness.specs.declared.lines.Use.{Use}
 use Rattle.witness_laws.specs.Orders.{Line, Up, Down, said, said_all, AreCounted, IsCounted, IsPrefix}
+use Rattle.std.specs.List.{list_any}
+use Rattle.std.proofs.Common.{ne_eqb}
 
 -- ---- what faults and marks keep, a line of the server keeps; Q: the marks that are heard
 
@@ -123,7 +125,7 @@ heard_failed n h u =
 
 -- ---- open commands are in order
 
-bound : (first : ℕ) (uses : List Use) (next : ℕ) → AreCounted first uses next → first ≤ next
+pub bound : (first : ℕ) (uses : List Use) (next : ℕ) → AreCounted first uses next → first ≤ next
 bound first [] next c = c
 bound first (u ∷ uses) next c = let r : suc u.line ≤ next = bound (suc u.line) uses next c.1 in omega (arith, c.0, r)
 
@@ -131,15 +133,15 @@ lower : (low first : ℕ) (uses : List Use) (next : ℕ) → low ≤ first → A
 lower low first [] next e c = omega (arith, e, c)
 lower low first (u ∷ uses) next e c = (omega (arith, e, c.0), c.1)
 
-higher : (first : ℕ) (uses : List Use) (next : ℕ) → AreCounted first uses next → AreCounted first uses (next + 1)
+pub higher : (first : ℕ) (uses : List Use) (next : ℕ) → AreCounted first uses next → AreCounted first uses (next + 1)
 higher first [] next c = omega (arith, c)
 higher first (u ∷ uses) next c = (c.0, higher (suc u.line) uses next c.1)
 
-one_counted : (first : ℕ) (uses : List Use) (u : Use) → AreCounted first uses u.line → AreCounted first (uses ++ u ∷ []) (u.line + 1)
+pub one_counted : (first : ℕ) (uses : List Use) (u : Use) → AreCounted first uses u.line → AreCounted first (uses ++ u ∷ []) (u.line + 1)
 one_counted first [] u c = (c, omega arith)
 one_counted first (x ∷ uses) u c = (c.0, one_counted (suc x.line) uses u c.1)
 
-map_counted : (f : Use → Use) → ((u : Use) → (f u).line ≡ u.line) → (first : ℕ) (uses : List Use) (next : ℕ) → AreCounted first uses next
+pub map_counted : (f : Use → Use) → ((u : Use) → (f u).line ≡ u.line) → (first : ℕ) (uses : List Use) (next : ℕ) → AreCounted first uses next
     → AreCounted first (map f uses) next
 map_counted f same first [] next c = c
 map_counted f same first (u ∷ uses) next c =
@@ -211,7 +213,7 @@ later_other n first [] next e c = tt
 later_other n first (u ∷ uses) next e c =
     ((λ same. omega (arith, e, c.0, same)), later_other n (suc u.line) uses next (omega (arith, e, c.0)) c.1)
 
-line_from : (first : ℕ) (before : List Use) (u : Use) (after : List Use) (next : ℕ) → AreCounted first (before ++ u ∷ after) next → first ≤ u.line
+pub line_from : (first : ℕ) (before : List Use) (u : Use) (after : List Use) (next : ℕ) → AreCounted first (before ++ u ∷ after) next → first ≤ u.line
 line_from first [] u after next c = c.0
 line_from first (x ∷ before) u after next c =
     let r : suc x.line ≤ u.line = line_from (suc x.line) before u after next c.1 in omega (arith, c.0, r)
@@ -226,6 +228,54 @@ others_without first (x ∷ before) u after next c =
 pub map_without : (n : ℕ) (f : Use → Use) → ((u : Use) → (f u).line ≡ u.line) → (uses : List Use) → Without n uses → Without n (map f uses)
 map_without n f same [] w = tt
 map_without n f same (u ∷ uses) w = ((λ e. w.0 (sym (same u) ∙ e)), map_without n f same uses w.1)
+
+-- ---- a command among others
+
+abbrev pub line_is : ℕ → Use → Bool
+line_is n u = u.line == n
+
+pub none_below : (first : ℕ) (uses : List Use) (next n : ℕ) → AreCounted first uses next → n < first → list_any (line_is n) uses ≡ false
+none_below first [] next n c low = refl
+none_below first (u ∷ uses) next n c low =
+    ap (λ (b : Bool). b || list_any (line_is n) uses) (ne_eqb u.line n (λ e. omega (arith, c.0, low, e)))
+    ∙ none_below (suc u.line) uses next n c.1 (omega (arith, c.0, low))
+
+pub none_above : (first : ℕ) (uses : List Use) (next : ℕ) → AreCounted first uses next → list_any (line_is next) uses ≡ false
+none_above first [] next c = refl
+none_above first (u ∷ uses) next c =
+    let high = bound (suc u.line) uses next c.1 in
+    ap (λ (b : Bool). b || list_any (line_is next) uses) (ne_eqb u.line next (λ e. omega (arith, high, e)))
+    ∙ none_above (suc u.line) uses next c.1
+
+pub none_before : (first : ℕ) (before : List Use) (u : Use) (after : List Use) (next : ℕ) → AreCounted first (before ++ u ∷ after) next
+    → list_any (line_is u.line) before ≡ false
+none_before first [] u after next c = refl
+none_before first (v ∷ before) u after next c =
+    let high = line_from (suc v.line) before u after next c.1 in
+    ap (λ (b : Bool). b || list_any (line_is u.line) before) (ne_eqb v.line u.line (λ e. omega (arith, high, e)))
+    ∙ none_before (suc v.line) before u after next c.1
+
+pub none_after : (first : ℕ) (before : List Use) (u : Use) (after : List Use) (next : ℕ) → AreCounted first (before ++ u ∷ after) next
+    → list_any (line_is u.line) after ≡ false
+none_after first [] u after next c = none_below (suc u.line) after next u.line c.1 (omega arith)
+none_after first (v ∷ before) u after next c = none_after (suc v.line) before u after next c.1
+
+pub renewed_counted : (f : Known → Known) (first : ℕ) (uses : List Use) (next : ℕ) → AreCounted first uses next
+    → AreCounted first (map (use_renewed f) uses) next
+renewed_counted f = map_counted (use_renewed f) (λ u. refl)
+
+pub marked_counted : (f : Known → Known) (first : ℕ) (before : List Use) (u v : Use) (after : List Use) (next : ℕ) → v.line ≡ u.line
+    → AreCounted first (before ++ u ∷ after) next → AreCounted first (map (use_renewed f) before ++ v ∷ map (use_renewed f) after) next
+marked_counted f first [] u v after next same c =
+    subst (λ (n : ℕ). (first ≤ n) × AreCounted (suc n) (map (use_renewed f) after) next) (sym same)
+    (c.0, renewed_counted f (suc u.line) after next c.1)
+marked_counted f first (w ∷ before) u v after next same c = (c.0, marked_counted f (suc w.line) before u v after next same c.1)
+
+pub gone_counted : (f : Known → Known) (first : ℕ) (before : List Use) (u : Use) (after : List Use) (next : ℕ)
+    → AreCounted first (before ++ u ∷ after) next → AreCounted first (map (use_renewed f) before ++ map (use_renewed f) after) next
+gone_counted f first [] u after next c = lower first (suc u.line) (map (use_renewed f) after) next (omega (arith, c.0))
+    (renewed_counted f (suc u.line) after next c.1)
+gone_counted f first (w ∷ before) u after next c = (c.0, gone_counted f (suc w.line) before u after next c.1)
 
 -- ---- once nothing is known, the server changes that no more
 

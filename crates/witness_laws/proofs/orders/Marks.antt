@@ -10,15 +10,7 @@ use Rattle.witness.specs.Dialogues.{Dialogue, at_use, heard_at, heard_under, fir
 use Rattle.witness.specs.Marks.{heard_as, is_end}
 use Rattle.witness.specs.declared.lines.Use.{Use}
 use Rattle.witness_laws.specs.Orders.{is_open}
-
--- ---- tests
-
-pub neither : (a b : Bool) → (a || b) ≡ false → (a ≡ false) × (b ≡ false)
-neither false b e = (refl, e)
-neither true b e = absurd (cc)
-
-pub both_not : (a b : Bool) → a ≡ false → b ≡ false → (a || b) ≡ false
-both_not a b e f = ap (λ (x : Bool). x || b) e ∙ f
+use Rattle.std.proofs.lemmas.Bool.{or_parts, or_from}
 
 -- ---- the first of a list that passes
 
@@ -42,7 +34,7 @@ find_first p (x ∷ xs) e = go (find_first p xs) (p x) refl e where
         one = f.one;
         after = f.after;
         parts = ap (λ (l : List Use). x ∷ l) f.parts;
-        passed = both_not (p x) (list_any p f.before) is f.passed;
+        passed = or_from (p x) (list_any p f.before) is f.passed;
         passes = f.passes;
       }
 
@@ -51,7 +43,7 @@ place_from : (p : Use → Bool) (n : ℕ) (before : List Use) (u : Use) (after :
 place_from p n [] u after none is =
     ap (λ (b : Bool). cond b (Some n) (position_from p (n + 1) after)) is ∙ ap Some (omega arith)
 place_from p n (x ∷ before) u after none is =
-    let no = neither (p x) (list_any p before) none in
+    let no = or_parts (p x) (list_any p before) none in
     ap (λ (b : Bool). cond b (Some n) (position_from p (n + 1) (before ++ u ∷ after))) no.0
     ∙ place_from p (n + 1) before u after no.1 is
     ∙ ap Some (omega arith)
@@ -59,7 +51,7 @@ place_from p n (x ∷ before) u after none is =
 nowhere_from : (p : Use → Bool) (n : ℕ) (xs : List Use) → list_any p xs ≡ false → position_from p n xs ≡ None
 nowhere_from p n [] none = refl
 nowhere_from p n (x ∷ xs) none =
-    let no = neither (p x) (list_any p xs) none in
+    let no = or_parts (p x) (list_any p xs) none in
     ap (λ (b : Bool). cond b (Some n) (position_from p (n + 1) xs)) no.0 ∙ nowhere_from p (n + 1) xs no.1
 
 pub place : (p : Use → Bool) (before : List Use) (u : Use) (after : List Use) → list_any p before ≡ false → p u ≡ true

@@ -1,7 +1,7 @@
 -- More lines report more, and lines of the client report nothing until they are answered.
 use Rattle.std.proofs.Common.{◌≡◌, ℕ, zero, suc, Bool, true, false, ◌&&◌, ◌||◌, if◌then◌else◌, List, [], ◌∷◌, ◌++◌, map, length, take, remove}
 use Rattle.std.proofs.Common.{Option, Some, None, is_some, Result, Ok, Err, refl, ap, sym, ◌∙◌, subst, append_assoc, append-nil}
-use Rattle.std.proofs.lemmas.Bool.{false≢true}
+use Rattle.std.proofs.lemmas.Bool.{false≢true, or_parts, or_from}
 use Rattle.std.proofs.lemmas.List.{map-append}
 use Rattle.std.proofs.lemmas.List.Folds.{list_any-append}
 use Rattle.std.specs.List.{list_any}
@@ -29,7 +29,7 @@ use Rattle.witness_laws.specs.Claims.{reported_first}
 use Rattle.witness_laws.specs.Orders.{Line, Up, Down, said, said_all, ups, downs, is_open, is_under, some_sends, at_once_line, some_at_once}
 use Rattle.witness_laws.specs.Orders.{IsBehind, IsCausal, IsClear, IsPrefix}
 use Rattle.witness_laws.proofs.orders.Counts.{answered_prefix, prefix_more, same_prefix, heard_tag}
-use Rattle.witness_laws.proofs.orders.Marks.{Found, find_first, neither, both_not, marks_first, marks_none}
+use Rattle.witness_laws.proofs.orders.Marks.{Found, find_first, marks_first, marks_none}
 use Rattle.witness_laws.proofs.orders.Sends.{open_fault, report_same}
 use Rattle.witness_laws.proofs.orders.Sorting.{all_append, all_ups, all_downs, said_ordered, same_told}
 use Rattle.witness_laws.proofs.orders.Swaps.{InList, in_there, in_map, new_use, or_no}
@@ -116,14 +116,14 @@ sending_longer : (d e : Dialogue) (tag : Tag) (what : SentCommand) (line : List 
 sending_longer d e tag what line later is free l =
     let new : Use = new_use d.lines tag what (last_under tag d.uses None) d.known in
     let parts : (t : Tag) → some_sends t (line ∷ later) ≡ false → (tag_is tag t ≡ false) × (some_sends t later ≡ false) =
-    λ t other. neither (tag_is tag t) (some_sends t later) (ap (λ w. is_under t w || some_sends t later) (sym is) ∙ other) in
+    λ t other. or_parts (tag_is tag t) (some_sends t later) (ap (λ w. is_under t w || some_sends t later) (sym is) ∙ other) in
     record {
       more = new ∷ l.more;
       uses = l.uses ∙ append_assoc d.uses (new ∷ []) l.more;
       crossed = l.crossed ∙ or_no d.crossed (d.ordered && is_some (line_of (last_under tag d.uses None)))
           (ap (λ (o : Bool). o && is_some (line_of (last_under tag d.uses None))) free);
       reported = l.reported;
-      under = λ t other. both_not (tag_is tag t) (is_open t l.more) (parts t other).0 (l.under t (parts t other).1);
+      under = λ t other. or_from (tag_is tag t) (is_open t l.more) (parts t other).0 (l.under t (parts t other).1);
       events = λ t signal other. l.events t signal (parts t other).1 ∙ report_same tag t signal d.events (parts t other).0;
     }
 
@@ -137,7 +137,7 @@ client_longer d e line later (Some (tag, what)) is waits free l =
 ups_longer : (d : Dialogue) (later : List (List ℕ)) → some_at_once later ≡ false → d.ordered ≡ false → IsLonger later d (client_lines d later)
 ups_longer d [] waits free = same_longer d
 ups_longer d (line ∷ later) waits free =
-    let parts = neither (at_once_line line) (some_at_once later) waits in
+    let parts = or_parts (at_once_line line) (some_at_once later) waits in
     client_longer d (client_lines (said d (Up line)) later) line later (sent line (command_of line)) refl parts.0 free
     (ups_longer (said d (Up line)) later parts.1 (said_ordered d (Up line) ∙ free))
 
@@ -229,7 +229,7 @@ none_longer later d e line tag signal l none other =
     (subst (IsLonger later (unasked d line tag signal))
     (sym (marks_none e line tag signal
     (ap (is_open tag) l.uses ∙ list_any-append (λ (u : Use). tag_is u.tag tag) d.uses l.more
-    ∙ both_not (is_open tag d.uses) (is_open tag l.more) none (l.under tag other))))
+    ∙ or_from (is_open tag d.uses) (is_open tag l.more) none (l.under tag other))))
     (subst (λ (b : Bool). IsLonger later (unasked d line tag signal) (if b then e else faulting e (reports.Unasked line)))
     (sym (l.events tag signal other)) (if_report later d e line l (is_report tag signal d.events))))
 

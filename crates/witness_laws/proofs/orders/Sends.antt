@@ -1,7 +1,7 @@
 -- A command is sent, and then a line of the server is read: it is as if it were sent after that line.
 use Rattle.std.proofs.Common.{◌≡◌, ℕ, suc, ◌<◌, ◌==◌, Bool, true, false, ◌&&◌, ◌||◌, if◌then◌else◌, List, [], ◌∷◌, ◌++◌, map, length, remove}
 use Rattle.std.proofs.Common.{Option, Some, None, is_some, refl, ap, sym, ◌∙◌, subst, append_assoc, ne_eqb, arith}
-use Rattle.std.proofs.lemmas.Bool.{false≢true}
+use Rattle.std.proofs.lemmas.Bool.{false≢true, or_parts, or_from}
 use Rattle.std.proofs.lemmas.List.{map-append}
 use Rattle.std.proofs.lemmas.List.Folds.{list_any-append}
 use Rattle.std.specs.List.{list_any}
@@ -22,7 +22,7 @@ use Rattle.witness.specs.declared.lines.Side.TheVariants.{Server}
 use Rattle.witness.specs.declared.lines.Use.{Use}
 use Rattle.witness_laws.specs.Orders.{is_open, has_failed_under, AreCounted, IsCounted}
 use Rattle.witness_laws.proofs.orders.Counts.{lines_answered, heard_line, is_before, others_without, Without, map_without, fault_counted}
-use Rattle.witness_laws.proofs.orders.Marks.{Found, find_first, neither, both_not, marks_first, marks_none}
+use Rattle.witness_laws.proofs.orders.Marks.{Found, find_first, marks_first, marks_none}
 use Rattle.witness_laws.proofs.orders.Swaps.{heard_last, last_fault, new_use, InList, in_there, send_fault, send_heard_at, one_tag, IsLast, stays, ends}
 use Rattle.witness_laws.proofs.orders.Swaps.{removed_map, last_hearing}
 
@@ -118,7 +118,7 @@ failed_first : (tag : Tag) (before : List Use) (u : Use) (after : List Use) → 
     → has_failed_under tag (before ++ u ∷ after) ≡ u.has_failed
 failed_first tag [] u after none is = ap (λ (b : Bool). if b then u.has_failed else has_failed_under tag after) is
 failed_first tag (x ∷ before) u after none is =
-    let no = neither (tag_is x.tag tag) (is_open tag before) none in
+    let no = or_parts (tag_is x.tag tag) (is_open tag before) none in
     ap (λ (b : Bool). if b then x.has_failed else has_failed_under tag (before ++ u ∷ after)) no.0 ∙ failed_first tag before u after no.1 is
 
 of_last : (d e : Dialogue) (tag t : Tag) (signal : Signal) (u : Use) (x y : Option (ℕ × Bool)) → tag_is u.tag t ≡ true
@@ -205,7 +205,7 @@ send_none d tag what line t signal none other =
       last = b;
       same = marks_none (sending d tag what) line t signal
           (list_any-append (λ (u : Use). tag_is u.tag t) d.uses (new ∷ [])
-          ∙ both_not (is_open t d.uses) (is_open t (new ∷ [])) none (both_not (tag_is tag t) false other refl))
+          ∙ or_from (is_open t d.uses) (is_open t (new ∷ [])) none (or_from (tag_is tag t) false other refl))
           ∙ ap (λ (x : Bool). if x then sending d tag what else faulting (sending d tag what) (reports.Unasked line)) (report_same tag t signal d.events other)
           ∙ if_reported d tag what b line (is_report t signal d.events)
           ∙ ap (λ (e : Dialogue). sending_after e tag what b) (sym left);

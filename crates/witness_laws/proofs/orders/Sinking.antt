@@ -1,7 +1,7 @@
 -- A line of the server is read before the client's later lines, or after them: what is reported then, and after any further lines.
 use Rattle.std.proofs.Common.{◌≡◌, ℕ, ◌+◌, ◌≤◌, Bool, true, false, ◌&&◌, ◌||◌, if◌then◌else◌, cond, List, [], ◌∷◌, ◌++◌, map, filter, slice_get}
 use Rattle.std.proofs.Common.{Option, Some, None, is_some, Result, Ok, Err, refl, ap, sym, ◌∙◌, subst, eqb-true, arith, append-nil}
-use Rattle.std.proofs.lemmas.Bool.{false≢true}
+use Rattle.std.proofs.lemmas.Bool.{false≢true, or_parts}
 use Rattle.std.proofs.lemmas.List.Elements.{filter-append}
 use Rattle.dme_line.specs.declared.responses.Response.{Response}
 use Rattle.dme_line.specs.declared.responses.NotResponse.{NotResponse}
@@ -29,7 +29,6 @@ use Rattle.witness_laws.proofs.orders.Counts.{lines_answered, ordered_answered, 
 use Rattle.witness_laws.proofs.orders.Knowing.{Covers, LessKnown, nothing_less, same_known, tool_less, frame_less, LessStanding, gone, stands, below_less}
 use Rattle.witness_laws.proofs.orders.Lesser.{LessUse, LessUses, none, one, same_use, append_less, Less, less, answered_less_line, sent_less, one_more_less, said_less}
 use Rattle.witness_laws.proofs.orders.Lesser.{alike as alike_use}
-use Rattle.witness_laws.proofs.orders.Marks.{neither}
 use Rattle.witness_laws.proofs.orders.Sends.{AfterSend, after_send, Agrees, alike, ended, IsEndOf, NotEarly}
 
 -- ---- what one claims, and after any further lines
@@ -267,7 +266,7 @@ one_more_answered d line (Some (tag, signal)) = under_one_more d line tag signal
 
 -- ---- a line of each end
 
-open_unknowing : (tag : Tag) (uses : List Use) → is_open tag (map unknowing uses) ≡ is_open tag uses
+pub open_unknowing : (tag : Tag) (uses : List Use) → is_open tag (map unknowing uses) ≡ is_open tag uses
 open_unknowing tag [] = refl
 open_unknowing tag (u ∷ uses) = ap (λ (b : Bool). tag_is u.tag tag || b) (open_unknowing tag uses)
 
@@ -291,7 +290,7 @@ if_below f fair d up down tag what r c free early false drops = send_below f fai
 pub early_of : (uses : List Use) (up : List ℕ) (tag : Tag) (what : SentCommand) (r : Result Response NotResponse) → sent up (command_of up) ≡ Some (tag, what)
     → IsBehind uses (up ∷ []) r → NotEarly uses tag (answered r)
 early_of uses up tag what (Ok r) is behind =
-    λ none. (neither (tag_is tag r.tag) false (ap (λ w. is_under r.tag w || false) (sym is) ∙ behind none)).0
+    λ none. (or_parts (tag_is tag r.tag) false (ap (λ w. is_under r.tag w || false) (sym is) ∙ behind none)).0
 early_of uses up tag what (Err why) is behind = tt
 
 pub swap_below : (f : Reported → Bool) → IsFair f → (d : Dialogue) (up down : List ℕ) → IsCounted d → d.ordered ≡ false
@@ -312,7 +311,7 @@ swap_below f fair d up down c free behind drops = go (sent up (command_of up)) r
 not_sure : (uses : List Use) (up : List ℕ) (tag : Tag) (what : SentCommand) (r : Result Response NotResponse) → sent up (command_of up) ≡ Some (tag, what)
     → IsSure uses (up ∷ []) r → IsEndOf uses tag (answered r) true → ⊥
 not_sure uses up tag what (Ok r) is sure end =
-    false≢true (sym (neither (tag_is tag r.tag) false (ap (λ w. is_under r.tag w || false) (sym is) ∙ sure end.1 end.2)).0 ∙ end.0)
+    false≢true (sym (or_parts (tag_is tag r.tag) false (ap (λ w. is_under r.tag w || false) (sym is) ∙ sure end.1 end.2)).0 ∙ end.0)
 not_sure uses up tag what (Err why) is sure end = end
 
 pub swap_above : (f : Reported → Bool) → IsFair f → (d : Dialogue) (up down : List ℕ) → IsCounted d → d.ordered ≡ false

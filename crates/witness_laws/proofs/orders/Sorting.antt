@@ -1,7 +1,7 @@
 -- All lines of the client are read first: what is reported then.
 use Rattle.std.proofs.Common.{◌≡◌, ℕ, Bool, true, false, ◌||◌, if◌then◌else◌, List, [], ◌∷◌, ◌++◌, map, filter, Option, Some, None, Result, Ok, Err}
 use Rattle.std.proofs.Common.{refl, ap, sym, ◌∙◌, subst}
-use Rattle.std.proofs.lemmas.Bool.{false≢true}
+use Rattle.std.proofs.lemmas.Bool.{false≢true, or_parts, or_from}
 use Rattle.std.proofs.lemmas.List.Folds.{list_any-append}
 use Rattle.dme_line.specs.declared.responses.Response.{Response}
 use Rattle.dme_line.specs.declared.responses.NotResponse.{NotResponse}
@@ -21,9 +21,8 @@ use Rattle.witness_laws.specs.Orders.{Line, Up, Down, said, said_all, ups, downs
 use Rattle.witness_laws.specs.Orders.{IsBehind, IsCausal, has_failed_under, IsSure, IsClear, IsCounted}
 use Rattle.witness_laws.proofs.orders.Claiming.{IsFair, all_fair, all_of, claims_both, part_both}
 use Rattle.witness_laws.proofs.orders.Counts.{said_counted, ordered_answered, silence_counted}
-use Rattle.witness_laws.proofs.orders.Marks.{neither, both_not}
 use Rattle.witness_laws.proofs.orders.Swaps.{new_use}
-use Rattle.witness_laws.proofs.orders.Sinking.{Claims, Below, below_trans, same_below, swap_below, swap_above}
+use Rattle.witness_laws.proofs.orders.Sinking.{Claims, Below, below_trans, same_below, swap_below, swap_above, open_unknowing}
 
 -- ---- lines one after another
 
@@ -69,10 +68,6 @@ pub said_ordered : (d : Dialogue) (line : Line) → (said d line).ordered ≡ d.
 said_ordered d (Up line) = client_ordered d line (sent line (command_of line))
 said_ordered d (Down line) = ordered_answered d line (answered (response_of line))
 
-pub open_unknowing : (tag : Tag) (uses : List Use) → is_open tag (map unknowing uses) ≡ is_open tag uses
-open_unknowing tag [] = refl
-open_unknowing tag (u ∷ uses) = ap (λ (b : Bool). tag_is u.tag tag || b) (open_unknowing tag uses)
-
 failed_unknowing : (tag : Tag) (uses : List Use) → has_failed_under tag (map unknowing uses) ≡ has_failed_under tag uses
 failed_unknowing tag [] = refl
 failed_unknowing tag (u ∷ uses) = ap (λ (b : Bool). if tag_is u.tag tag then u.has_failed else b) (failed_unknowing tag uses)
@@ -96,7 +91,7 @@ failed_end tag (x ∷ uses) u none e = go (failed_end tag uses u none) (tag_is x
 sending_opens : (d : Dialogue) (tag : Tag) (what : SentCommand) → OpensMore d (sending d tag what)
 sending_opens d tag what = record {
   there = λ t e.
-      (neither (is_open t d.uses) (is_open t (new_use d.lines tag what (last_under tag d.uses None) d.known ∷ []))
+      (or_parts (is_open t d.uses) (is_open t (new_use d.lines tag what (last_under tag d.uses None) d.known ∷ []))
       (sym (list_any-append (λ (u : Use). tag_is u.tag t) d.uses (new_use d.lines tag what (last_under tag d.uses None) d.known ∷ [])) ∙ e)).0;
   failed = λ t e. failed_end t d.uses (new_use d.lines tag what (last_under tag d.uses None) d.known) refl e;
 }
@@ -122,25 +117,25 @@ up_opens d line = client_opens d line (sent line (command_of line))
 pub behind_first : (uses : List Use) (up : List ℕ) (later : List (List ℕ)) (r : Result Response NotResponse)
     → IsBehind uses (up ∷ later) r → IsBehind uses (up ∷ []) r
 behind_first uses up later (Ok r) behind =
-    λ none. both_not (sends r.tag up) false ((neither (sends r.tag up) (some_sends r.tag later) (behind none)).0) refl
+    λ none. or_from (sends r.tag up) false ((or_parts (sends r.tag up) (some_sends r.tag later) (behind none)).0) refl
 behind_first uses up later (Err why) behind = tt
 
 pub behind_later : (d : Dialogue) (up : List ℕ) (later : List (List ℕ)) (r : Result Response NotResponse)
     → IsBehind d.uses (up ∷ later) r → IsBehind (said d (Up up)).uses later r
 behind_later d up later (Ok r) behind =
-    λ none. (neither (sends r.tag up) (some_sends r.tag later) (behind ((up_opens d up).there r.tag none))).1
+    λ none. (or_parts (sends r.tag up) (some_sends r.tag later) (behind ((up_opens d up).there r.tag none))).1
 behind_later d up later (Err why) behind = tt
 
 sure_first : (uses : List Use) (up : List ℕ) (later : List (List ℕ)) (r : Result Response NotResponse)
     → IsSure uses (up ∷ later) r → IsSure uses (up ∷ []) r
 sure_first uses up later (Ok r) sure =
-    λ end failed. both_not (sends r.tag up) false ((neither (sends r.tag up) (some_sends r.tag later) (sure end failed)).0) refl
+    λ end failed. or_from (sends r.tag up) false ((or_parts (sends r.tag up) (some_sends r.tag later) (sure end failed)).0) refl
 sure_first uses up later (Err why) sure = tt
 
 pub sure_later : (d : Dialogue) (up : List ℕ) (later : List (List ℕ)) (r : Result Response NotResponse)
     → IsSure d.uses (up ∷ later) r → IsSure (said d (Up up)).uses later r
 sure_later d up later (Ok r) sure =
-    λ end failed. (neither (sends r.tag up) (some_sends r.tag later) (sure end ((up_opens d up).failed r.tag failed))).1
+    λ end failed. (or_parts (sends r.tag up) (some_sends r.tag later) (sure end ((up_opens d up).failed r.tag failed))).1
 sure_later d up later (Err why) sure = tt
 
 -- ---- a line of the server sinks below the client's later lines
@@ -166,7 +161,7 @@ sink_above : (f : Reported → Bool) → IsFair f → (d : Dialogue) (up : List 
     → Below f (client_lines (said d (Down down)) up) (said (client_lines d up) (Down down))
 sink_above f fair d [] down c free behind later sure = same_below f fair _ _ refl
 sink_above f fair d (line ∷ up) down c free behind later sure =
-    let parts = neither (at_once_line line) (some_at_once up) later in
+    let parts = or_parts (at_once_line line) (some_at_once up) later in
     below_trans f _ _ _
     (below_ups f (said (said d (Down down)) (Up line)) (said (said d (Up line)) (Down down)) up
     (swap_above f fair d line down c free (behind_first d.uses line up (response_of down) behind) parts.0
@@ -201,7 +196,7 @@ sort_above f fair d (Down line ∷ lines) c free causal clear =
 pub none_drops : (f : Reported → Bool) (up : List (List ℕ)) → some_at_once up ≡ false → Drops f up
 none_drops f [] e = tt
 none_drops f (line ∷ up) e =
-    let parts = neither (at_once_line line) (some_at_once up) e in ((λ is. absurd (false≢true (sym parts.0 ∙ is))), none_drops f up parts.1)
+    let parts = or_parts (at_once_line line) (some_at_once up) e in ((λ is. absurd (false≢true (sym parts.0 ∙ is))), none_drops f up parts.1)
 
 -- ---- with a clear order it is the same
 

@@ -1,7 +1,7 @@
 -- A command may be read before the replies to others.
 use Rattle.std.proofs.Common.{◌≡◌, ℕ, zero, suc, ◌+◌, ◌==◌, Bool, true, false, ◌&&◌, ◌||◌, if◌then◌else◌, List, [], ◌∷◌, ◌++◌, map, length, take, remove}
 use Rattle.std.proofs.Common.{Option, Some, None, is_some, refl, ap, sym, ◌∙◌, subst, eqb-true}
-use Rattle.std.proofs.lemmas.Bool.{false≢true}
+use Rattle.std.proofs.lemmas.Bool.{false≢true, or_parts, or_from}
 use Rattle.std.proofs.lemmas.List.{map-append}
 use Rattle.std.specs.List.{list_any}
 use Rattle.dme_line.specs.declared.tags.Tag.{Tag}
@@ -25,7 +25,6 @@ use Rattle.witness.specs.declared.lines.Use.{Use}
 use Rattle.witness_laws.specs.Orders.{is_open}
 use Rattle.witness_laws.proofs.orders.Counts.{heard_line, heard_tag, heard_failed}
 use Rattle.witness_laws.proofs.orders.Knowing.{then_renewed, below_renewed}
-use Rattle.witness_laws.proofs.orders.Marks.{neither, both_not}
 
 -- ---- the command that was sent last under a tag, after a mark
 
@@ -70,7 +69,7 @@ later_this tag u found e = ap (λ (b : Bool). if b then Some (u.line, u.has_fail
 pub last_none : (tag : Tag) (uses : List Use) (found : Option (ℕ × Bool)) → is_open tag uses ≡ false → last_under tag uses found ≡ found
 last_none tag [] found e = refl
 last_none tag (u ∷ uses) found e =
-    let no = neither (tag_is u.tag tag) (is_open tag uses) e in
+    let no = or_parts (tag_is u.tag tag) (is_open tag uses) e in
     ap (last_under tag uses) (later_none tag u found no.0) ∙ last_none tag uses found no.1
 
 last_any : (tag : Tag) (uses : List Use) (x y : Option (ℕ × Bool)) → is_open tag uses ≡ true → last_under tag uses x ≡ last_under tag uses y
@@ -80,7 +79,7 @@ last_any tag (u ∷ uses) x y e = go (last_any tag uses (later tag u x) (later t
       → (c : Bool) → is_open tag uses ≡ c → last_under tag uses (later tag u x) ≡ last_under tag uses (later tag u y)
   go rest true is c there_is = ap (last_under tag uses) (later_this tag u x is ∙ sym (later_this tag u y is))
   go rest false is true there_is = rest there_is
-  go rest false is false there_is = absurd (false≢true (sym (both_not (tag_is u.tag tag) (is_open tag uses) is there_is) ∙ e))
+  go rest false is false there_is = absurd (false≢true (sym (or_from (tag_is u.tag tag) (is_open tag uses) is there_is) ∙ e))
 
 -- ---- a command that was just sent, after a fault or a mark of another
 

@@ -27,10 +27,10 @@ use Rattle.witness.specs.declared.lines.Stage.TheVariants as stage
 use Rattle.witness.specs.declared.lines.Use.{Use}
 use Rattle.witness_laws.specs.Orders.{Line, Up, Down, said, ups, at_once_line, some_at_once, is_open, has_failed_under, IsBehind, IsCausal, IsSure, IsClear, IsCounted}
 use Rattle.witness_laws.proofs.orders.Counts.{said_counted}
-use Rattle.witness_laws.proofs.orders.Marks.{neither}
 use Rattle.witness_laws.proofs.orders.Sends.{AfterSend, after_send, NotEarly}
 use Rattle.witness_laws.proofs.orders.Sinking.{early_of, one_more_answered}
 use Rattle.witness_laws.proofs.orders.Sorting.{behind_first, behind_later, sure_later}
+use Rattle.std.proofs.lemmas.Bool.{or_parts}
 
 -- ---- open lines that are the same but for their stage and for what is known
 
@@ -384,7 +384,7 @@ causal_swapped d (Down line ∷ before) after up down c causal = (
 pub clear_swapped : (d : Dialogue) (before after : List Line) (up down : List ℕ) → IsCounted d → IsCausal d (before ++ Down down ∷ Up up ∷ after)
     → IsClear d (before ++ Down down ∷ Up up ∷ after) → IsClear d (before ++ Up up ∷ Down down ∷ after)
 clear_swapped d [] after up down c causal clear = (
-  (neither (at_once_line up) (some_at_once (ups after)) clear.0).1,
+  (or_parts (at_once_line up) (some_at_once (ups after)) clear.0).1,
   sure_later d up (ups after) (response_of down) clear.1,
   clear_alike (said (said d (Down down)) (Up up)) (said (said d (Up up)) (Down down)) after
       (alike_swapped d up down c (behind_first d.uses up (ups after) (response_of down) causal.0)) clear.2,

@@ -14,6 +14,7 @@ use Rattle.witness.specs.Watching.{server_lines}
 use Rattle.witness.specs.declared.lines.Use.{Use}
 use Rattle.witness_laws.specs.Orders.{is_open}
 use Rattle.witness_laws.proofs.server.Places.{Shape, AreShaped}
+use Rattle.std.proofs.lemmas.Bool.{or_left, or_right}
 
 -- a line is a response under a tag under which a command is open
 abbrev pub IsHeard : List Use → Result Response NotResponse → Type 0
@@ -25,23 +26,16 @@ abbrev pub AreHeard : Dialogue → List (List ℕ) → Type 0
 AreHeard d [] = Unit {0}
 AreHeard d (line ∷ lines) = IsHeard d.uses (response_of line) × AreHeard (after d (server_line line)) lines
 
-or_first : (a b : Bool) → a ≡ true → (a || b) ≡ true
-or_first a b e = ap (λ (c : Bool). c || b) e
-
-or_second : (a b : Bool) → b ≡ true → (a || b) ≡ true
-or_second true b e = refl
-or_second false b e = e
-
 -- a command among others is open under its tag
 open_there : (tag : Tag) (before : List Shape) (x : Shape) (after_it : List Shape) (us : List Use) → x.tag ≡ tag
     → AreShaped (before ++ x ∷ after_it) us → is_open tag us ≡ true
 open_there tag [] x after_it [] is h = absurd h
 open_there tag [] x after_it (u ∷ us) is h =
-    or_first (tag_is u.tag tag) (is_open tag us)
+    or_left (tag_is u.tag tag) (is_open tag us)
     (ap (λ (v : Use). tag_is v.tag tag) h.0 ∙ (ap (λ (t : Tag). tag_is t tag) is ∙ tag_is-refl tag))
 open_there tag (y ∷ before) x after_it [] is h = absurd h
 open_there tag (y ∷ before) x after_it (u ∷ us) is h =
-    or_second (tag_is u.tag tag) (is_open tag us) (open_there tag before x after_it us is h.1)
+    or_right (tag_is u.tag tag) (is_open tag us) (open_there tag before x after_it us is h.1)
 
 -- a written line is for such a command
 pub heard_there : (d : Dialogue) (r : Reply) (before : List Shape) (x : Shape) (after_it : List Shape) → IsWritableReply r

@@ -3,7 +3,7 @@ use Rattle.std.proofs.Common.{◌≡◌, ℕ, zero, suc, ◌<◌, ◌≤◌, Boo
 use Rattle.std.proofs.Common.{refl, sym, ap, ◌∙◌, subst, arith, append-nil, Option, Some, None, Ok, Err}
 use Rattle.std.specs.Prelude.{slice_get}
 use Rattle.std.specs.List.{list_all}
-use Rattle.std.proofs.lemmas.Bool.{false≢true, and_parts, ltb-true}
+use Rattle.std.proofs.lemmas.Bool.{false≢true, and_parts, ltb-true, or_left, or_right, not-true}
 use Rattle.fixed_um.specs.Points.{IsInVolume, zero_point}
 use Rattle.fixed_um.specs.declared.frames.Frame.{Frame}
 use Rattle.fixed_um.specs.declared.frames.Frame.TheVariants.{Machine}
@@ -45,7 +45,7 @@ use Rattle.witness_laws.specs.Reports.{is_foreign_under, some_foreign, breaks_on
 use Rattle.witness_laws.proofs.server.Knowing.{nothing_within}
 use Rattle.witness_laws.proofs.server.Selected.{nothing_so}
 use Rattle.witness_laws.proofs.server.Opening.{running_one, AreOpen, AreApart}
-use Rattle.witness_laws.proofs.server.Following.{Follows, machined_follows, turned_follows}
+use Rattle.witness_laws.proofs.server.Following.{Follows, machined_follows, turned_follows, zero_in_volume}
 use Rattle.witness_laws.proofs.server.Reading.{CountsLine, read_follows}
 use Rattle.line_framing.specs.Calls.{line_in}
 
@@ -56,18 +56,11 @@ abbrev pub CountLines : (Tag → Bool) → List (List ℕ) → Type 0
 CountLines P [] = Unit {0}
 CountLines P (line ∷ lines) = CountsLine P (sent line (command_of line)) × CountLines P lines
 
-first_true : (a b : Bool) → a ≡ true → (a || b) ≡ true
-first_true a b e = ap (λ (c : Bool). c || b) e
-
-second_true : (a b : Bool) → b ≡ true → (a || b) ≡ true
-second_true true b e = refl
-second_true false b e = e
-
 counts_one : (P : Tag → Bool) (lines : List (List ℕ)) (o : Option (Tag × SentCommand))
     → ((tag : Tag) → (is_foreign_under tag o || some_foreign lines tag) ≡ true → P tag ≡ true) → CountsLine P o
 counts_one P lines None h = tt
 counts_one P lines (Some (tag, what)) h =
-    λ foreign. h tag (first_true (tag_is tag tag && is_foreign what) (some_foreign lines tag)
+    λ foreign. h tag (or_left (tag_is tag tag && is_foreign what) (some_foreign lines tag)
     (ap (λ (b : Bool). b && is_foreign what) (tag_is-refl tag) ∙ foreign))
 
 count_lines : (P : Tag → Bool) (lines : List (List ℕ)) → ((tag : Tag) → some_foreign lines tag ≡ true → P tag ≡ true) → CountLines P lines
@@ -75,7 +68,7 @@ count_lines P [] h = tt
 count_lines P (line ∷ lines) h = (
   counts_one P lines (sent line (command_of line)) h,
   count_lines P lines
-      (λ tag e. h tag (second_true (is_foreign_under tag (sent line (command_of line))) (some_foreign lines tag) e)),
+      (λ tag e. h tag (or_right (is_foreign_under tag (sent line (command_of line))) (some_foreign lines tag) e)),
 )
 
 -- so it is of the tags of these lines themselves
@@ -202,13 +195,6 @@ calls_behind : (calls : List Call) (e : ServerEnd) → IsBehind e → IsBehind (
 calls_behind [] e h = h
 calls_behind (call ∷ calls) e h = calls_behind calls (behind_call call e) (call_behind call e h)
 
-zero_is_in : IsInVolume zero_point
-zero_is_in = record { x = omega arith; y = omega arith; z = omega arith }
-
-pub is_false : (b : Bool) → not b ≡ true → b ≡ false
-is_false true e = absurd (false≢true e)
-is_false false e = refl
-
 -- nothing is open on a new connection, and nothing was done on it
 accepted_on : (P : Tag → Bool) (n : ℕ) (ordered : Bool) (e : ServerEnd) → may_accept n e.server ≡ true → IsOff e → IsBehind e
     → IsOn P n (serving_accepted n e) (silence ordered)
@@ -232,8 +218,8 @@ accepted_on P n ordered e may off behind = record {
         breaks = refl;
       };
     };
-    stored = subst IsInVolume (sym off.stored) zero_is_in;
-    frame = subst (λ (f : Frame). IsInVolume (offset f)) (sym off.frame) zero_is_in;
+    stored = subst IsInVolume (sym off.stored) zero_in_volume;
+    frame = subst (λ (f : Frame). IsInVolume (offset f)) (sym off.frame) zero_in_volume;
   };
 }
   where
@@ -244,7 +230,7 @@ pub begun_on : (P : Tag → Bool) (ordered : Bool) (tools : List (List ℕ)) (be
     → may_accept n (reached tools before).server ≡ true → IsOn P n (serving_accepted n (reached tools before)) (silence ordered)
 begun_on P ordered tools before n may =
     accepted_on P n ordered (reached tools before) may
-    ((reached_steady tools before).off (is_false (reached tools before).server.on ((and_parts _ _ may).0)))
+    ((reached_steady tools before).off (not-true (reached tools before).server.on ((and_parts _ _ may).0)))
     (calls_behind before _ tt)
 
 -- ---- what is reported

@@ -205,7 +205,7 @@ runs_now P new tag c ws old acts d h at stored frame = record {
 some_none : {A : Type 0} (x : A) → Some x ≡ None → ⊥
 some_none x e = cc
 
-zero_in_volume : IsInVolume zero_point
+pub zero_in_volume : IsInVolume zero_point
 zero_in_volume = record { x = omega arith; y = omega arith; z = omega arith }
 
 -- one that is complete at once, with no act

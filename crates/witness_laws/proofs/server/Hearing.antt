@@ -1,9 +1,9 @@
 -- What a witness that has read all lines of a server knows and has reported, and what a mark makes of it.
 use Rattle.std.proofs.Common.{◌≡◌, ℕ, ◌+◌, ◌==◌, Bool, true, false, cond, ◌&&◌, ◌||◌, List, [], ◌∷◌, ◌++◌, length, map, Some, None}
 use Rattle.std.proofs.Common.{refl, sym, ap, ◌∙◌, subst, inl, inr, append-nil}
-use Rattle.std.proofs.lemmas.Bool.{false≢true}
+use Rattle.std.proofs.lemmas.Bool.{false≢true, or_parts}
 use Rattle.std.proofs.lemmas.List.Folds.{list_all-append}
-use Rattle.std.specs.List.{list_all}
+use Rattle.std.specs.List.{list_all, list_any}
 use Rattle.contact_ledger.specs.declared.acts.Act.{Act}
 use Rattle.dme_line.specs.declared.commands.Command.{Command}
 use Rattle.dme_line.specs.declared.tags.Tag.{Tag}
@@ -30,8 +30,9 @@ use Rattle.witness_laws.proofs.server.Knowing.{IsWithin, within_itself, within_t
 use Rattle.witness_laws.proofs.server.Knowing.{begun_at, pending, next, AreWithin, more_within, IsStep, AreSteps, steps_within, gone_within, nothing_left}
 use Rattle.witness_laws.proofs.server.Selected.{Selected, IsSo, still_so, less_so}
 use Rattle.witness_laws.proofs.server.Places.{Shape, opened, used, AreShaped, HaveOthers, renews, shaped_renewed, shaped_join, Split}
-use Rattle.witness_laws.proofs.server.Places.{AreRising, rising_renewed, rising_marked, rising_ended, rising_up, rising_more, lines_before, lines_after, HaveOtherLines}
 use Rattle.witness_laws.proofs.server.Places.{none_under, marked, own, use_same, heard_uses, ended_uses}
+use Rattle.witness_laws.proofs.orders.Counts.{line_is, none_before, none_after, renewed_counted, marked_counted, gone_counted, map_counted, higher, one_counted}
+use Rattle.witness_laws.specs.Orders
 
 -- ---- reports
 
@@ -131,7 +132,7 @@ pub record IsAt (P : Tag → Bool) (s : Selected) (acts : List Act) (xs : List S
   pub so : IsSo s view
   pub within : AreWithin view d.uses d.known
   pub shaped : AreShaped xs d.uses
-  pub rising : AreRising 0 d.uses d.lines
+  pub rising : Orders.AreCounted 0 d.uses d.lines
   pub clear : d.crossed ≡ false
   pub counted : AreCounted P xs
   pub tells : Tells P d.reported acts
@@ -163,9 +164,11 @@ other_becomes : (m n : ℕ) (at : Stage) (h : Heard) → (m == n) ≡ false → 
 other_becomes m n at h other =
     inr (if_false (m == n) (with_mark (pending m at) (begun_at at) h) (unless_refused (pending m at) n h) other)
 
-others_step : (n : ℕ) (h : Heard) (us : List Use) → HaveOtherLines n us → AreSteps (Mark n h) us (renews (Mark n h) us)
+others_step : (n : ℕ) (h : Heard) (us : List Use) → list_any (line_is n) us ≡ false → AreSteps (Mark n h) us (renews (Mark n h) us)
 others_step n h [] others = tt
-others_step n h (u ∷ us) others = (kept (Mark n h) u (other_becomes u.line n u.stage h others.0), others_step n h us others.1)
+others_step n h (u ∷ us) others =
+    let no = or_parts (u.line == n) (list_any (line_is n) us) others in
+    (kept (Mark n h) u (other_becomes u.line n u.stage h no.0), others_step n h us no.1)
 
 steps_among : (r : Renewal) (b : List Use) (u v : Use) (a c : List Use) → AreSteps r b (renews r b) → IsStep r u v → AreSteps r a c
     → AreSteps r (b ++ u ∷ a) (renews r b ++ v ∷ c)
@@ -186,7 +189,7 @@ faulting_at P s acts xs d report other breaks h = record {
   so = still_so Fault s h.view h.so;
   within = steps_within Fault h.view d.uses (renews Fault d.uses) d.known (faults_step d.uses) h.within;
   shaped = shaped_renewed (all_renewed Fault) xs d.uses h.shaped;
-  rising = rising_renewed (all_renewed Fault) 0 d.uses d.lines h.rising;
+  rising = renewed_counted (all_renewed Fault) 0 d.uses d.lines h.rising;
   clear = h.clear;
   counted = h.counted;
   tells = tells_other P d.reported acts report other breaks h.tells;
@@ -200,10 +203,6 @@ unknowing_shaped [] (u ∷ us) h = absurd h
 unknowing_shaped (x ∷ xs) [] h = absurd h
 unknowing_shaped (x ∷ xs) (u ∷ us) h = (ap unknowing h.0, unknowing_shaped xs us h.1)
 
-unknowing_rising : (lo : ℕ) (us : List Use) (hi : ℕ) → AreRising lo us hi → AreRising lo (map unknowing us) hi
-unknowing_rising lo [] hi h = h
-unknowing_rising lo (u ∷ us) hi h = (h.0, unknowing_rising (u.line + 1) us hi h.1)
-
 -- one that may be carried out at once
 pub at_once_at : (P : Tag → Bool) (s : Selected) (acts : List Act) (xs : List Shape) (d : Dialogue) (line : List ℕ) → IsAt P s acts xs d
     → IsAt P s acts xs (at_once d line)
@@ -212,7 +211,7 @@ at_once_at P s acts xs d line h = record {
   so = h.so;
   within = nothing_left h.view d.uses d.known h.within;
   shaped = unknowing_shaped xs d.uses h.shaped;
-  rising = unknowing_rising 0 d.uses d.lines h.rising;
+  rising = map_counted unknowing (λ u. refl) 0 d.uses d.lines h.rising;
   clear = h.clear;
   counted = h.counted;
   tells = tells_other P d.reported acts (reports.Other Client line) refl refl h.tells;
@@ -225,7 +224,7 @@ one_more_at P s acts xs d h = record {
   so = h.so;
   within = h.within;
   shaped = h.shaped;
-  rising = rising_up 0 d.uses d.lines h.rising;
+  rising = higher 0 d.uses d.lines h.rising;
   clear = h.clear;
   counted = h.counted;
   tells = h.tells;
@@ -242,7 +241,7 @@ first_sent P s acts xs d tag what counts h =
       within = more_within h.view d.uses u d.known (below (Some (pending d.lines stage.Sent)) what d.known) h.within
           (within_itself d.known) (within_itself (below (Some (pending d.lines stage.Sent)) what d.known));
       shaped = shaped_join xs (opened tag what stage.Sent ∷ []) d.uses (u ∷ []) h.shaped (refl, tt);
-      rising = rising_more 0 d.uses u h.rising;
+      rising = one_counted 0 d.uses u h.rising;
       clear = ap (λ (b : Bool). b || (d.ordered && false)) h.clear ∙ and_false d.ordered;
       counted = counted_more P xs (opened tag what stage.Sent) h.counted counts;
       tells = h.tells;
@@ -270,19 +269,19 @@ stays_at P s acts before x after d h at p step tells =
     let u : Use = used x p.n p.k in
     let v : Use = own x p.n p.k h in
     let is : map (use_heard p.n h) d.uses ≡ renews r p.b ++ v ∷ renews r p.a = heard_uses h before x after d.uses d.lines at.rising p in
-    let rising : AreRising 0 (p.b ++ u ∷ p.a) d.lines = subst (λ us. AreRising 0 us d.lines) p.parts at.rising in
+    let rising : Orders.AreCounted 0 (p.b ++ u ∷ p.a) d.lines = subst (λ us. Orders.AreCounted 0 us d.lines) p.parts at.rising in
     record {
       view = all_renewed r at.view;
       so = still_so r s at.view at.so;
       within = subst (λ us. AreWithin (all_renewed r at.view) us (all_renewed r d.known)) (sym is)
           (steps_within r at.view (p.b ++ u ∷ p.a) (renews r p.b ++ v ∷ renews r p.a) d.known
-          (steps_among r p.b u v p.a (renews r p.a) (others_step p.n h p.b (lines_before 0 p.b u p.a d.lines rising)) step
-          (others_step p.n h p.a (lines_after 0 p.b u p.a d.lines rising)))
+          (steps_among r p.b u v p.a (renews r p.a) (others_step p.n h p.b (none_before 0 p.b u p.a d.lines rising)) step
+          (others_step p.n h p.a (none_after 0 p.b u p.a d.lines rising)))
           (subst (λ us. AreWithin at.view us d.known) p.parts at.within));
       shaped = subst (AreShaped (before ++ marked x h ∷ after)) (sym is)
           (shaped_join before (marked x h ∷ after) (renews r p.b) (v ∷ renews r p.a) (shaped_renewed (all_renewed r) before p.b p.front)
           (refl, shaped_renewed (all_renewed r) after p.a p.back));
-      rising = subst (λ us. AreRising 0 us d.lines) (sym is) (rising_marked r 0 p.b u v p.a d.lines refl rising);
+      rising = subst (λ us. Orders.AreCounted 0 us d.lines) (sym is) (marked_counted (all_renewed r) 0 p.b u v p.a d.lines refl rising);
       clear = at.clear;
       counted = counted_marked P before x h after at.counted;
       tells = tells;
@@ -298,27 +297,27 @@ ends_at P s acts before x after d h at p failed tells =
     let u : Use = used x p.n p.k in
     let is : left_over (map (use_heard p.n h) d.uses) (length p.b) true ≡ renews r p.b ++ renews r p.a =
     ended_uses h before x after d.uses d.lines at.rising p in
-    let rising : AreRising 0 (p.b ++ u ∷ p.a) d.lines = subst (λ us. AreRising 0 us d.lines) p.parts at.rising in
+    let rising : Orders.AreCounted 0 (p.b ++ u ∷ p.a) d.lines = subst (λ us. Orders.AreCounted 0 us d.lines) p.parts at.rising in
     record {
       view = all_renewed r at.view;
       so = still_so r s at.view at.so;
       within = subst (λ us. AreWithin (all_renewed r at.view) us (all_renewed r d.known)) (sym is)
           (steps_within r at.view (p.b ++ p.a) (renews r p.b ++ renews r p.a) d.known
-          (steps_join r p.b p.a (others_step p.n h p.b (lines_before 0 p.b u p.a d.lines rising))
-          (others_step p.n h p.a (lines_after 0 p.b u p.a d.lines rising)))
+          (steps_join r p.b p.a (others_step p.n h p.b (none_before 0 p.b u p.a d.lines rising))
+          (others_step p.n h p.a (none_after 0 p.b u p.a d.lines rising)))
           (gone_within at.view p.b u p.a d.known failed (subst (λ us. AreWithin at.view us d.known) p.parts at.within)));
       shaped = subst (AreShaped (before ++ after)) (sym is)
           (shaped_join before after (renews r p.b) (renews r p.a) (shaped_renewed (all_renewed r) before p.b p.front)
           (shaped_renewed (all_renewed r) after p.a p.back));
-      rising = subst (λ us. AreRising 0 us d.lines) (sym is) (rising_ended r 0 p.b u p.a d.lines rising);
+      rising = subst (λ us. Orders.AreCounted 0 us d.lines) (sym is) (gone_counted (all_renewed r) 0 p.b u p.a d.lines rising);
       clear = at.clear;
       counted = counted_gone P before x after at.counted;
       tells = tells;
     }
 
-pub none_before : (b : List Use) → AreShaped [] b → b ≡ []
-none_before [] h = refl
-none_before (u ∷ b) h = absurd h
+pub none_shaped : (b : List Use) → AreShaped [] b → b ≡ []
+none_shaped [] h = refl
+none_shaped (u ∷ b) h = absurd h
 
 -- what may be known for the first command, when it is answered, is so
 pub known_first : (P : Tag → Bool) (s : Selected) (acts : List Act) (x : Shape) (after : List Shape) (d : Dialogue) (h : Heard)
@@ -354,11 +353,11 @@ stops_at P s new acts tag c after d at p so tells =
     let r : Renewal = Mark p.n heard.Failed in
     let u : Use = used x p.n p.k in
     let v : Use = own x p.n p.k heard.Failed in
-    let first : p.b ≡ [] = none_before p.b p.front in
+    let first : p.b ≡ [] = none_shaped p.b p.front in
     let is : map (use_heard p.n heard.Failed) d.uses ≡ renews r p.b ++ v ∷ renews r p.a =
     heard_uses heard.Failed [] x after d.uses d.lines at.rising p in
     let only : map (use_heard p.n heard.Failed) d.uses ≡ v ∷ renews r p.a = is ∙ ap (λ b. renews r b ++ v ∷ renews r p.a) first in
-    let rising : AreRising 0 (p.b ++ u ∷ p.a) d.lines = subst (λ us. AreRising 0 us d.lines) p.parts at.rising in
+    let rising : Orders.AreCounted 0 (p.b ++ u ∷ p.a) d.lines = subst (λ us. Orders.AreCounted 0 us d.lines) p.parts at.rising in
     let here : AreWithin at.view (u ∷ p.a) d.known =
     subst (λ b. AreWithin at.view (b ++ u ∷ p.a) d.known) first (subst (λ us. AreWithin at.view us d.known) p.parts at.within) in
     record {
@@ -367,11 +366,11 @@ stops_at P s new acts tag c after d at p so tells =
       within = subst (λ us. AreWithin (all_renewed r (next u at.view)) us (all_renewed r d.known)) (sym only) (
         λ waiting. absurd (false≢true (sym waiting)),
         steps_within r (next u at.view) p.a (renews r p.a) d.known
-            (others_step p.n heard.Failed p.a (lines_after 0 p.b u p.a d.lines rising)) here.1,
+            (others_step p.n heard.Failed p.a (none_after 0 p.b u p.a d.lines rising)) here.1,
       );
       shaped = subst (AreShaped (marked x heard.Failed ∷ after)) (sym only)
           (refl, shaped_renewed (all_renewed r) after p.a p.back);
-      rising = subst (λ us. AreRising 0 us d.lines) (sym is) (rising_marked r 0 p.b u v p.a d.lines refl rising);
+      rising = subst (λ us. Orders.AreCounted 0 us d.lines) (sym is) (marked_counted (all_renewed r) 0 p.b u v p.a d.lines refl rising);
       clear = at.clear;
       counted = at.counted;
       tells = tells;
@@ -388,12 +387,12 @@ done_at P s new acts done tag c at_stage after d at p so tells =
     let x : Shape = opened tag (sends.Known c) at_stage in
     let r : Renewal = Mark p.n heard.Complete in
     let u : Use = used x p.n p.k in
-    let first : p.b ≡ [] = none_before p.b p.front in
+    let first : p.b ≡ [] = none_shaped p.b p.front in
     let is : left_over (map (use_heard p.n heard.Complete) d.uses) (length p.b) true ≡ renews r p.b ++ renews r p.a =
     ended_uses heard.Complete [] x after d.uses d.lines at.rising p in
     let only : left_over (map (use_heard p.n heard.Complete) d.uses) (length p.b) true ≡ renews r p.a =
     is ∙ ap (λ b. renews r b ++ renews r p.a) first in
-    let rising : AreRising 0 (p.b ++ u ∷ p.a) d.lines = subst (λ us. AreRising 0 us d.lines) p.parts at.rising in
+    let rising : Orders.AreCounted 0 (p.b ++ u ∷ p.a) d.lines = subst (λ us. Orders.AreCounted 0 us d.lines) p.parts at.rising in
     let here : AreWithin at.view (u ∷ p.a) d.known =
     subst (λ b. AreWithin at.view (b ++ u ∷ p.a) d.known) first (subst (λ us. AreWithin at.view us d.known) p.parts at.within) in
     record {
@@ -401,9 +400,9 @@ done_at P s new acts done tag c at_stage after d at p so tells =
       so = so p.n at.view at.so;
       within = subst (λ us. AreWithin (all_renewed r (next u at.view)) us (all_renewed r d.known)) (sym only)
           (steps_within r (next u at.view) p.a (renews r p.a) d.known
-          (others_step p.n heard.Complete p.a (lines_after 0 p.b u p.a d.lines rising)) here.1);
+          (others_step p.n heard.Complete p.a (none_after 0 p.b u p.a d.lines rising)) here.1);
       shaped = subst (AreShaped after) (sym only) (shaped_renewed (all_renewed r) after p.a p.back);
-      rising = subst (λ us. AreRising 0 us d.lines) (sym is) (rising_ended r 0 p.b u p.a d.lines rising);
+      rising = subst (λ us. Orders.AreCounted 0 us d.lines) (sym is) (gone_counted (all_renewed r) 0 p.b u p.a d.lines rising);
       clear = at.clear;
       counted = at.counted.1;
       tells = tells;

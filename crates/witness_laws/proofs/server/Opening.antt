@@ -1,7 +1,7 @@
 -- The commands that are open at a server, and at a witness.
 use Rattle.std.proofs.Common.{◌≡◌, ℕ, Bool, true, false, ◌||◌, List, [], ◌∷◌, ◌++◌, Option, Some, None, Result, Ok, Err}
 use Rattle.std.proofs.Common.{refl, sym, ap, ◌∙◌, subst}
-use Rattle.std.proofs.lemmas.Bool.{false≢true}
+use Rattle.std.proofs.lemmas.Bool.{false≢true, or_parts, or_from}
 use Rattle.contact_ledger.specs.declared.acts.Act.{Act}
 use Rattle.dme_line.specs.Tags.{IsTag, is_event_tag}
 use Rattle.dme_line.specs.declared.commands.Command.{Command}
@@ -61,13 +61,6 @@ AreApart [] = Unit {0}
 AreApart (w ∷ ws) = (waits_under w.tag ws ≡ false) × AreApart ws
 
 -- ---- tags
-
-or_parts : (a b : Bool) → (a || b) ≡ false → (a ≡ false) × (b ≡ false)
-or_parts true b e = absurd (false≢true (sym e))
-or_parts false b e = (refl, e)
-
-or_from : (a b : Bool) → a ≡ false → b ≡ false → (a || b) ≡ false
-or_from a b p q = ap (λ (c : Bool). c || b) p ∙ q
 
 tag_apart : (t u : Tag) → tag_is t u ≡ false → tag_is u t ≡ false
 tag_apart t u e = go (tag_is u t) refl
@@ -163,9 +156,3 @@ all_fail_heard P s acts code (w ∷ ws) us before after_it t h free at =
 pub all_fail_said : (code : ℕ) (ws : List Waiting) (us : List Shape) → AreOpen ws us → AreReplies (all_fail code ws)
 all_fail_said code [] us h = tt
 all_fail_said code (w ∷ ws) us h = (h.3.room, (h.3.room, all_fail_said code ws h.1 h.4))
-
--- ---- the lines of a server
-
-pub says_more : (t : Dialogue) (xs ys : List (List ℕ)) → server_lines t (xs ++ ys) ≡ server_lines (server_lines t xs) ys
-says_more t [] ys = refl
-says_more t (x ∷ xs) ys = says_more (after t (server_line x)) xs ys

@@ -2,7 +2,7 @@
 use Rattle.std.proofs.Common.{◌≡◌, ℕ, ◌+◌, ◌≤◌, ◌==◌, Bool, true, false, ◌||◌, List, [], ◌∷◌, ◌++◌, length, map, Some, None}
 use Rattle.std.proofs.Common.{refl, sym, ap, ◌∙◌, subst, arith, eq-eqb, ne_eqb}
 use Rattle.std.specs.Prelude.{slice_get, remove}
-use Rattle.std.specs.List.{position_from}
+use Rattle.std.specs.List.{position_from, list_any}
 use Rattle.std.proofs.lemmas.Iterator.Adapters.{position_from-zero}
 use Rattle.dme_line.specs.declared.tags.Tag.{Tag}
 use Rattle.protocol_model.specs.Lines.{reply_text}
@@ -21,6 +21,11 @@ use Rattle.witness.specs.declared.lines.Renewal.TheVariants.{Mark}
 use Rattle.witness.specs.declared.lines.SentCommand.{SentCommand}
 use Rattle.witness.specs.declared.lines.Stage.{Stage}
 use Rattle.witness.specs.declared.lines.Use.{Use}
+use Rattle.std.proofs.lemmas.Bool.{or_parts}
+use Rattle.witness_laws.specs.Orders.{is_open, AreCounted}
+use Rattle.witness_laws.proofs.orders.Counts.{line_is, none_before, none_after}
+use Rattle.witness_laws.proofs.orders.Marks.{nowhere, marks_first}
+use Rattle.witness_laws.proofs.orders.Swaps.{last_none}
 
 -- ---- open commands
 
@@ -97,116 +102,20 @@ split (y ∷ before) x after (u ∷ us) h =
       back = Split.back rest;
     }
 
--- ---- numbers of lines
-
--- lines with these numbers rise, from one on and up to another
-abbrev pub AreRising : ℕ → List Use → ℕ → Type 0
-AreRising lo [] hi = lo ≤ hi
-AreRising lo (u ∷ us) hi = (lo ≤ u.line) × AreRising (u.line + 1) us hi
-
-pub rising_less : (low lo : ℕ) (us : List Use) (hi : ℕ) → low ≤ lo → AreRising lo us hi → AreRising low us hi
-rising_less low lo [] hi le h = omega (arith, le, h)
-rising_less low lo (u ∷ us) hi le h = (omega (arith, le, h.0), h.1)
-
-pub rising_renewed : (f : Known → Known) (lo : ℕ) (us : List Use) (hi : ℕ) → AreRising lo us hi → AreRising lo (map (use_renewed f) us) hi
-rising_renewed f lo [] hi h = h
-rising_renewed f lo (u ∷ us) hi h = (h.0, rising_renewed f (u.line + 1) us hi h.1)
-
-pub rising_marked : (r : Renewal) (lo : ℕ) (b : List Use) (u v : Use) (a : List Use) (hi : ℕ) → v.line ≡ u.line → AreRising lo (b ++ u ∷ a) hi
-    → AreRising lo (renews r b ++ v ∷ renews r a) hi
-rising_marked r lo [] u v a hi e h = (
-  subst (λ (n : ℕ). lo ≤ n) (sym e) h.0,
-  rising_renewed (all_renewed r) (v.line + 1) a hi (subst (λ (n : ℕ). AreRising (n + 1) a hi) (sym e) h.1),
-)
-rising_marked r lo (w ∷ b) u v a hi e h = (h.0, rising_marked r (w.line + 1) b u v a hi e h.1)
-
-pub rising_ended : (r : Renewal) (lo : ℕ) (b : List Use) (u : Use) (a : List Use) (hi : ℕ) → AreRising lo (b ++ u ∷ a) hi
-    → AreRising lo (renews r b ++ renews r a) hi
-rising_ended r lo [] u a hi h =
-    rising_renewed (all_renewed r) lo a hi (rising_less lo (u.line + 1) a hi (omega (arith, h.0)) h.1)
-rising_ended r lo (v ∷ b) u a hi h = (h.0, rising_ended r (v.line + 1) b u a hi h.1)
-
-pub rising_up : (lo : ℕ) (us : List Use) (hi : ℕ) → AreRising lo us hi → AreRising lo us (hi + 1)
-rising_up lo [] hi h = omega (arith, h)
-rising_up lo (u ∷ us) hi h = (h.0, rising_up (u.line + 1) us hi h.1)
-
-pub rising_more : (lo : ℕ) (us : List Use) (u : Use) → AreRising lo us u.line → AreRising lo (us ++ u ∷ []) (u.line + 1)
-rising_more lo [] u h = (h, omega arith)
-rising_more lo (v ∷ us) u h = (h.0, rising_more (v.line + 1) us u h.1)
-
--- none of these lines has this number
-abbrev pub HaveOtherLines : ℕ → List Use → Type 0
-HaveOtherLines n [] = Unit {0}
-HaveOtherLines n (u ∷ us) = ((u.line == n) ≡ false) × HaveOtherLines n us
-
-rising_to : (lo : ℕ) (b : List Use) (u : Use) (a : List Use) (hi : ℕ) → AreRising lo (b ++ u ∷ a) hi → lo ≤ u.line
-rising_to lo [] u a hi h = h.0
-rising_to lo (v ∷ b) u a hi h =
-    let le : v.line + 1 ≤ u.line = rising_to (v.line + 1) b u a hi h.1 in omega (arith, h.0, le)
-
-pub lines_before : (lo : ℕ) (b : List Use) (u : Use) (a : List Use) (hi : ℕ) → AreRising lo (b ++ u ∷ a) hi → HaveOtherLines u.line b
-lines_before lo [] u a hi h = tt
-lines_before lo (v ∷ b) u a hi h =
-    let le : v.line + 1 ≤ u.line = rising_to (v.line + 1) b u a hi h.1 in
-    (ne_eqb v.line u.line (λ e. omega (arith, le, e)), lines_before (v.line + 1) b u a hi h.1)
-
-lines_above : (n lo : ℕ) (us : List Use) (hi : ℕ) → n + 1 ≤ lo → AreRising lo us hi → HaveOtherLines n us
-lines_above n lo [] hi le h = tt
-lines_above n lo (u ∷ us) hi le h =
-    (ne_eqb u.line n (λ e. omega (arith, le, h.0, e)), lines_above n (u.line + 1) us hi (omega (arith, le, h.0)) h.1)
-
-pub lines_after : (lo : ℕ) (b : List Use) (u : Use) (a : List Use) (hi : ℕ) → AreRising lo (b ++ u ∷ a) hi → HaveOtherLines u.line a
-lines_after lo [] u a hi h = lines_above u.line (u.line + 1) a hi (omega arith) h.1
-lines_after lo (v ∷ b) u a hi h = lines_after (v.line + 1) b u a hi h.1
-
 -- ---- the place of a command
 
--- none of these commands is open under this tag
-abbrev HaveOtherTags : Tag → List Use → Type 0
-HaveOtherTags tag [] = Unit {0}
-HaveOtherTags tag (u ∷ us) = (tag_is u.tag tag ≡ false) × HaveOtherTags tag us
-
-other_tags : (tag : Tag) (xs : List Shape) (us : List Use) → AreShaped xs us → HaveOthers tag xs → HaveOtherTags tag us
-other_tags tag [] [] h others = tt
+other_tags : (tag : Tag) (xs : List Shape) (us : List Use) → AreShaped xs us → HaveOthers tag xs → is_open tag us ≡ false
+other_tags tag [] [] h others = refl
 other_tags tag [] (u ∷ us) h others = absurd h
 other_tags tag (x ∷ xs) [] h others = absurd h
 other_tags tag (x ∷ xs) (u ∷ us) h others =
-    (ap (λ (v : Use). tag_is v.tag tag) h.0 ∙ others.0, other_tags tag xs us h.1 others.1)
-
-found_from : (tag : Tag) (i : ℕ) (before : List Use) (u : Use) (after : List Use) → HaveOtherTags tag before → tag_is u.tag tag ≡ true
-    → position_from (λ (v : Use). tag_is v.tag tag) i (before ++ u ∷ after) ≡ Some (i + length before)
-found_from tag i [] u after h is =
-    if_true (tag_is u.tag tag) (Some i) (position_from (λ (v : Use). tag_is v.tag tag) (i + 1) after) is ∙ ap Some (omega arith)
-found_from tag i (b ∷ bs) u after h is =
-    if_false (tag_is b.tag tag) (Some i) (position_from (λ (v : Use). tag_is v.tag tag) (i + 1) (bs ++ u ∷ after)) h.0
-    ∙ (found_from tag (i + 1) bs u after h.1 is ∙ ap Some (omega arith))
-
--- a command is found after others
-found : (tag : Tag) (before : List Use) (u : Use) (after : List Use) → HaveOtherTags tag before → tag_is u.tag tag ≡ true
-    → first_under tag (before ++ u ∷ after) ≡ Some (length before)
-found tag before u after h is =
-    position_from-zero (λ (v : Use). tag_is v.tag tag) (before ++ u ∷ after) ∙ (found_from tag 0 before u after h is ∙ ap Some (omega arith))
-
-none_from : (tag : Tag) (i : ℕ) (us : List Use) → HaveOtherTags tag us → position_from (λ (v : Use). tag_is v.tag tag) i us ≡ None
-none_from tag i [] h = refl
-none_from tag i (u ∷ us) h =
-    if_false (tag_is u.tag tag) (Some i) (position_from (λ (v : Use). tag_is v.tag tag) (i + 1) us) h.0 ∙ none_from tag (i + 1) us h.1
+    ap (λ (b : Bool). b || is_open tag us) (ap (λ (v : Use). tag_is v.tag tag) h.0 ∙ others.0) ∙ other_tags tag xs us h.1 others.1
 
 pub not_found : (tag : Tag) (xs : List Shape) (us : List Use) → AreShaped xs us → HaveOthers tag xs → first_under tag us ≡ None
-not_found tag xs us h others =
-    position_from-zero (λ (v : Use). tag_is v.tag tag) us ∙ none_from tag 0 us (other_tags tag xs us h others)
-
-last_none : (tag : Tag) (us : List Use) → HaveOtherTags tag us → last_under tag us None ≡ None
-last_none tag [] h = refl
-last_none tag (u ∷ us) h =
-    ap (last_under tag us) (if_false (tag_is u.tag tag) (Some (u.line, u.has_failed)) None h.0) ∙ last_none tag us h.1
+not_found tag xs us h others = nowhere (λ (v : Use). tag_is v.tag tag) us (other_tags tag xs us h others)
 
 pub none_under : (tag : Tag) (xs : List Shape) (us : List Use) → AreShaped xs us → HaveOthers tag xs → last_under tag us None ≡ None
-none_under tag xs us h others = last_none tag us (other_tags tag xs us h others)
-
-here : (before : List Use) (u : Use) (after : List Use) → slice_get (before ++ u ∷ after) (length before) ≡ Some u
-here [] u after = refl
-here (b ∷ bs) u after = here bs u after
+none_under tag xs us h others = last_none tag us None (other_tags tag xs us h others)
 
 -- ---- a mark for a command
 
@@ -222,10 +131,7 @@ pub heard_here : (d : Dialogue) (line : List ℕ) (before : List Shape) (x : Sha
     → heard_under d line x.tag signal (first_under x.tag d.uses)
     ≡ heard_at d (length p.b) (used x p.n p.k) (heard_as x.asked signal) (is_end signal)
 heard_here d line before x after signal others p =
-    let u : Use = used x p.n p.k in
-    ap (heard_under d line x.tag signal)
-    (ap (first_under x.tag) p.parts ∙ found x.tag p.b u p.a (other_tags x.tag before p.b p.front others) (tag_is-refl x.tag))
-    ∙ ap (at_use d (length p.b) signal) (ap (λ (us : List Use). slice_get us (length p.b)) p.parts ∙ here p.b u p.a)
+    marks_first d line x.tag signal p.b (used x p.n p.k) p.a p.parts (other_tags x.tag before p.b p.front others) (tag_is-refl x.tag)
 
 -- ---- the commands after a mark
 
@@ -248,18 +154,19 @@ use_same n h x k =
     ap (use_renewed (all_renewed (Mark n h)))
     (if_true (n == n) (after_mark (use_renewed (answered_known h) (used x n k)) h) (used x n k) (eq-eqb n n refl))
 
-others_heard : (n : ℕ) (h : Heard) (xs : List Shape) (us : List Use) → AreShaped xs us → HaveOtherLines n us
+others_heard : (n : ℕ) (h : Heard) (xs : List Shape) (us : List Use) → AreShaped xs us → list_any (line_is n) us ≡ false
     → map (use_heard n h) us ≡ renews (Mark n h) us
 others_heard n h [] [] shaped others = refl
 others_heard n h [] (u ∷ us) shaped others = absurd shaped
 others_heard n h (x ∷ xs) [] shaped others = absurd shaped
 others_heard n h (x ∷ xs) (u ∷ us) shaped others =
+    let no = or_parts (u.line == n) (list_any (line_is n) us) others in
     ap (λ (v : Use). use_heard n h v ∷ map (use_heard n h) us) shaped.0
-    ∙ (ap (λ (v : Use). v ∷ map (use_heard n h) us) (use_other n h x u.line u.known others.0 ∙ ap (use_renewed (all_renewed (Mark n h))) (sym shaped.0))
-    ∙ ap (λ (l : List Use). use_renewed (all_renewed (Mark n h)) u ∷ l) (others_heard n h xs us shaped.1 others.1))
+    ∙ (ap (λ (v : Use). v ∷ map (use_heard n h) us) (use_other n h x u.line u.known no.0 ∙ ap (use_renewed (all_renewed (Mark n h))) (sym shaped.0))
+    ∙ ap (λ (l : List Use). use_renewed (all_renewed (Mark n h)) u ∷ l) (others_heard n h xs us shaped.1 no.1))
 
 heard_among : (n : ℕ) (h : Heard) (xs ys : List Shape) (x : Shape) (k : Known) (b a : List Use) → AreShaped xs b → AreShaped ys a
-    → HaveOtherLines n b → HaveOtherLines n a
+    → list_any (line_is n) b ≡ false → list_any (line_is n) a ≡ false
     → map (use_heard n h) (b ++ used x n k ∷ a) ≡ renews (Mark n h) b ++ own x n k h ∷ renews (Mark n h) a
 heard_among n h [] ys x k [] a front back before after =
     ap (λ (v : Use). v ∷ map (use_heard n h) a) (use_same n h x k)
@@ -267,27 +174,28 @@ heard_among n h [] ys x k [] a front back before after =
 heard_among n h [] ys x k (u ∷ b) a front back before after = absurd front
 heard_among n h (y ∷ xs) ys x k [] a front back before after = absurd front
 heard_among n h (y ∷ xs) ys x k (u ∷ b) a front back before after =
+    let no = or_parts (u.line == n) (list_any (line_is n) b) before in
     ap (λ (v : Use). use_heard n h v ∷ map (use_heard n h) (b ++ used x n k ∷ a)) front.0
     ∙ (ap (λ (v : Use). v ∷ map (use_heard n h) (b ++ used x n k ∷ a))
-    (use_other n h y u.line u.known before.0 ∙ ap (use_renewed (all_renewed (Mark n h))) (sym front.0))
-    ∙ ap (λ (l : List Use). use_renewed (all_renewed (Mark n h)) u ∷ l) (heard_among n h xs ys x k b a front.1 back before.1 after))
+    (use_other n h y u.line u.known no.0 ∙ ap (use_renewed (all_renewed (Mark n h))) (sym front.0))
+    ∙ ap (λ (l : List Use). use_renewed (all_renewed (Mark n h)) u ∷ l) (heard_among n h xs ys x k b a front.1 back no.1 after))
 
 gone : (f : Use → Use) (b : List Use) (u : Use) (after : List Use) → remove (map f b ++ u ∷ after) (length b) ≡ map f b ++ after
 gone f [] u after = refl
 gone f (v ∷ b) u after = ap (λ (l : List Use). f v ∷ l) (gone f b u after)
 
 -- it is at another stage
-pub heard_uses : (h : Heard) (before : List Shape) (x : Shape) (after : List Shape) (us : List Use) (hi : ℕ) → AreRising 0 us hi
+pub heard_uses : (h : Heard) (before : List Shape) (x : Shape) (after : List Shape) (us : List Use) (hi : ℕ) → AreCounted 0 us hi
     → (p : Split before x after us)
     → map (use_heard p.n h) us ≡ renews (Mark p.n h) p.b ++ own x p.n p.k h ∷ renews (Mark p.n h) p.a
 heard_uses h before x after us hi rising p =
     let u : Use = used x p.n p.k in
-    let r : AreRising 0 (p.b ++ u ∷ p.a) hi = subst (λ (l : List Use). AreRising 0 l hi) p.parts rising in
+    let r : AreCounted 0 (p.b ++ u ∷ p.a) hi = subst (λ (l : List Use). AreCounted 0 l hi) p.parts rising in
     ap (map (use_heard p.n h)) p.parts
-    ∙ heard_among p.n h before after x p.k p.b p.a p.front p.back (lines_before 0 p.b u p.a hi r) (lines_after 0 p.b u p.a hi r)
+    ∙ heard_among p.n h before after x p.k p.b p.a p.front p.back (none_before 0 p.b u p.a hi r) (none_after 0 p.b u p.a hi r)
 
 -- or gone
-pub ended_uses : (h : Heard) (before : List Shape) (x : Shape) (after : List Shape) (us : List Use) (hi : ℕ) → AreRising 0 us hi
+pub ended_uses : (h : Heard) (before : List Shape) (x : Shape) (after : List Shape) (us : List Use) (hi : ℕ) → AreCounted 0 us hi
     → (p : Split before x after us)
     → left_over (map (use_heard p.n h) us) (length p.b) true ≡ renews (Mark p.n h) p.b ++ renews (Mark p.n h) p.a
 ended_uses h before x after us hi rising p =

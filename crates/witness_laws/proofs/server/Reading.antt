@@ -44,10 +44,11 @@ use Rattle.witness_laws.proofs.server.Hearing.{IsAt, IsCounted, faulting_at, at_
 use Rattle.witness_laws.proofs.server.Completing.{stopped_so, completed_so}
 use Rattle.witness_laws.proofs.server.Replies.{says_failure, receives, fails_first, fails_here, ends_first, fails_heard}
 use Rattle.witness_laws.proofs.server.Opening.{running_one, IsAskedAs, IsOpen, AreOpen, AreApart, others_open, under_one, apart_more, all_fail_heard, all_fail_said}
-use Rattle.witness_laws.proofs.server.Opening.{open_more, AreFree, free_first, free_second, all_fail_at, says_more}
+use Rattle.witness_laws.proofs.server.Opening.{open_more, AreFree, free_first, free_second, all_fail_at}
 use Rattle.witness_laws.proofs.server.Following.{open_at, Follows, FollowsTo, still, none_open, line_first}
 use Rattle.witness_laws.proofs.server.Answering.{heard_there, heard_texts, IsHeard, AreHeard}
 use Rattle.protocol_model.proofs.written_lines.Writable.{AreReplies, replies_join}
+use Rattle.witness_laws.proofs.orders.More.{server_append}
 
 -- ---- a line is sent under a tag that is not in use
 
@@ -226,7 +227,7 @@ abort_ends P new tag ws rest t room ours at stored frame =
     all_fail_at P (selected (still new [])) (acts_of new) 9007 ws rest [] last t ours (free_first ws) at in
     let same : server_lines t (reply_texts (all_fail 9007 ws ++ Reply.Done tag ∷ [])) ≡ after u (server_line (reply_text (Reply.Done tag))) =
     ap (server_lines t) (texts_more (all_fail 9007 ws) (Reply.Done tag ∷ []))
-    ∙ says_more t (reply_texts (all_fail 9007 ws)) (reply_texts (Reply.Done tag ∷ [])) in
+    ∙ server_append t (reply_texts (all_fail 9007 ws)) (reply_texts (Reply.Done tag ∷ [])) in
     record {
       follows = none_open P new _
           (subst (IsAt P (selected (still new [])) (acts_of new) []) (sym same)

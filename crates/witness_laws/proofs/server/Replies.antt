@@ -46,7 +46,8 @@ use Rattle.witness_laws.proofs.server.Completing.{loses}
 use Rattle.witness_laws.proofs.server.Places.{Shape, opened, used, HaveOthers, renews, shaped_renewed, Split, split, said_is, heard_here, marked, own}
 use Rattle.witness_laws.proofs.server.Hearing.{Tells, tells_other, tells_same, IsAt, faulting_at, stays_at, ends_at, stops_at, done_at, known_first}
 use Rattle.witness_laws.proofs.server.Answering.{heard_there, IsHeard}
-use Rattle.witness_laws.proofs.server.Hearing.{none_before, counted_at}
+use Rattle.witness_laws.proofs.server.Hearing.{counted_at}
+use Rattle.witness_laws.proofs.server.Hearing.{none_shaped}
 
 -- ---- turns
 
@@ -262,7 +263,7 @@ fails_heard P s acts before tag asked after_it d code name room others h = (
 -- ---- the first of the open commands
 
 first_split : (x : Shape) (after_it : List Shape) (us : List Use) → (p : Split [] x after_it us) → p.b ≡ []
-first_split x after_it us p = none_before p.b p.front
+first_split x after_it us p = none_shaped p.b p.front
 
 -- what runs fails
 pub stops : (P : Tag → Bool) (s new : Selected) (acts : List Act) (tag : Tag) (c : Command) (after_it : List Shape) (d : Dialogue) (code : ℕ)

@@ -1,7 +1,7 @@
 -- What a witness reports that reads the lines of a course in another order, while further lines are on their way.
 use Rattle.std.proofs.Common.{◌≡◌, ℕ, ◌≤◌, is_none, Option, Bool, true, false, cond, not, ◌||◌, List, [], ◌∷◌, ◌++◌, map, Some, None, Result, Ok, Err}
 use Rattle.std.proofs.Common.{refl, sym, ap, ◌∙◌, subst, arith, append_assoc, append-nil, ne_eqb}
-use Rattle.std.proofs.lemmas.Bool.{false≢true, and_parts}
+use Rattle.std.proofs.lemmas.Bool.{false≢true, and_parts, not-true}
 use Rattle.contact_ledger.specs.declared.acts.Act.{Act}
 use Rattle.contact_ledger.specs.declared.acts.Act.TheVariants as act
 use Rattle.dme_line.specs.CommandText.{ReadsCommand}
@@ -41,13 +41,13 @@ use Rattle.witness_laws.specs.Claims.{in_turn, IsPart, unknown as part_unknown, 
 use Rattle.witness_laws.specs.Courses.{AreLinesOf, whole_lines, are_whole_lines}
 use Rattle.witness_laws.specs.Orders.{Line, Up, Down, said_all, ups, downs, at_once_line, is_under, some_sends, IsBehind, IsCausal, IsPrefix}
 use Rattle.witness_laws.proofs.orders.Arrivals.{whole_after, whole_none}
-use Rattle.witness_laws.proofs.orders.Claimed.{ups_append, downs_append}
+use Rattle.witness_laws.proofs.orders.Claimed.{ups_append, downs_append, only_ups, no_downs}
 use Rattle.witness_laws.proofs.orders.Courses.{recorded_told}
 use Rattle.witness_laws.specs.Lockstep.{line_read, all_read, replies, answered, seen, all_seen, AreAnew, IsCourse}
 use Rattle.witness_laws.specs.Reports.{is_other, act_reports, some_foreign, NamesNoOther, IsReportOf, AreReportsOf}
 use Rattle.witness_laws.specs.Transit.{lines_seen, AreReportsOfFirst, fed_by, all_fed, all_written}
 use Rattle.witness_laws.proofs.server.Answering.{IsHeard, AreHeard}
-use Rattle.witness_laws.proofs.server.Courses.{IsOn, CountLines, count_parts, count_own, call_on, begun_on, reports_of_acts, is_false}
+use Rattle.witness_laws.proofs.server.Courses.{IsOn, CountLines, count_parts, count_own, call_on, begun_on, reports_of_acts}
 use Rattle.witness_laws.proofs.server.Following.{machined_follows, turned_follows}
 use Rattle.witness_laws.proofs.server.Reading.{AreAnswersTo, read_follows}
 use Rattle.line_framing.specs.Calls.{line_in}
@@ -58,6 +58,9 @@ use Rattle.line_framing.proofs.FirstLine.{found}
 use Rattle.line_framing.proofs.Streams.{line_bytes-append, AreLines-append}
 use Rattle.server_core.proofs.Deeds.{chosen}
 use Rattle.server_core.proofs.Reached.{reached_steady}
+use Rattle.witness_laws.proofs.orders.Commands.{ups_are_causal}
+use Rattle.witness_laws.proofs.orders.Sorting.{all_append, all_ups, all_downs}
+use Rattle.witness_laws.proofs.orders.More.{server_append}
 
 -- ---- each answer comes after its command
 
@@ -164,14 +167,10 @@ ups_causal : (d : Dialogue) (lines : List (List ℕ)) (rest : List Line) → IsC
 ups_causal d [] rest causal = causal
 ups_causal d (line ∷ lines) rest causal = ups_causal (after d (client_line line)) lines rest causal
 
-only_ups : (d : Dialogue) (up : List (List ℕ)) → IsCausal d (map Up up)
-only_ups d [] = tt
-only_ups d (line ∷ up) = only_ups (after d (client_line line)) up
-
 -- with any lines of the client after them
 lines_causal : (P : Tag → Bool) (n : ℕ) (calls : List Call) (e : ServerEnd) (d : Dialogue) (later : List (List ℕ)) → IsCourse calls e
     → CountLines P (all_read calls e) → IsOn P n e d → IsCausal d (lines_seen calls e ++ map Up later)
-lines_causal P n [] e d later course counts h = only_ups d later
+lines_causal P n [] e d later course counts h = ups_are_causal d later
 lines_causal P n (call ∷ calls) e d later course counts h =
     let up : List (List ℕ) = line_read call e in
     let down : List (List ℕ) = reply_texts (answered call e) in
@@ -185,19 +184,6 @@ lines_causal P n (call ∷ calls) e d later course counts h =
     (lines_causal P n calls (behind_call call e) (seen call e d) later course.2 both.1 (call_on P n call e d course.0 course.1 both.0 h))))
 
 -- ---- the same lines
-
-all_append : (d : Dialogue) (lines more : List Line) → said_all d (lines ++ more) ≡ said_all (said_all d lines) more
-all_append d [] more = refl
-all_append d (Up line ∷ lines) more = all_append (after d (client_line line)) lines more
-all_append d (Down line ∷ lines) more = all_append (after d (server_line line)) lines more
-
-all_ups : (d : Dialogue) (up : List (List ℕ)) → said_all d (map Up up) ≡ client_lines d up
-all_ups d [] = refl
-all_ups d (line ∷ up) = all_ups (after d (client_line line)) up
-
-all_downs : (d : Dialogue) (down : List (List ℕ)) → said_all d (map Down down) ≡ server_lines d down
-all_downs d [] = refl
-all_downs d (line ∷ down) = all_downs (after d (server_line line)) down
 
 said_first : (d : Dialogue) (lines more : List Line) (u : Dialogue) → said_all d lines ≡ u → said_all d (lines ++ more) ≡ said_all u more
 said_first d lines more u e = all_append d lines more ∙ ap (λ (s : Dialogue). said_all s more) e
@@ -215,17 +201,9 @@ ups_of_downs : (lines : List (List ℕ)) → ups (map Down lines) ≡ []
 ups_of_downs [] = refl
 ups_of_downs (line ∷ lines) = ups_of_downs lines
 
-downs_of_ups : (lines : List (List ℕ)) → downs (map Up lines) ≡ []
-downs_of_ups [] = refl
-downs_of_ups (line ∷ lines) = downs_of_ups lines
-
 downs_of_downs : (lines : List (List ℕ)) → downs (map Down lines) ≡ lines
 downs_of_downs [] = refl
 downs_of_downs (line ∷ lines) = ap (λ (l : List (List ℕ)). line ∷ l) (downs_of_downs lines)
-
-ups_of_ups : (lines : List (List ℕ)) → ups (map Up lines) ≡ lines
-ups_of_ups [] = refl
-ups_of_ups (line ∷ lines) = ap (λ (l : List (List ℕ)). line ∷ l) (ups_of_ups lines)
 
 -- the lines of the client in a course: that of the first call, and those of the others
 ups_seen : (call : Call) (calls : List Call) (e : ServerEnd)
@@ -235,7 +213,7 @@ ups_seen call calls e =
     let down : List (List ℕ) = reply_texts (answered call e) in
     let rest : List Line = lines_seen calls (behind_call call e) in
     ups_append (map Up up) (map Down down ++ rest)
-    ∙ (ap (λ (l : List (List ℕ)). l ++ ups (map Down down ++ rest)) (ups_of_ups up)
+    ∙ (ap (λ (l : List (List ℕ)). l ++ ups (map Down down ++ rest)) (only_ups up)
     ∙ ap (λ (l : List (List ℕ)). up ++ l)
     (ups_append (map Down down) rest ∙ ap (λ (l : List (List ℕ)). l ++ ups rest) (ups_of_downs down)))
 
@@ -312,7 +290,7 @@ turns_of_acts xs ys acts claims h =
     subst (λ l. AreReportsOf l acts) (in_turn_acts xs)
     (claims_of_acts (in_turn xs) (in_turn ys) acts claims (subst (λ l. AreReportsOf l acts) (sym (in_turn_acts ys)) h))
 
--- what `told_orders` proves of two recordings
+-- what is proved of two recordings
 abbrev pub Recorded : Type 0
 Recorded = (lines : List Line) (later : List (List ℕ)) → IsCausal (silence false) (lines ++ map Up later)
     → ClaimNoMore (in_turn (ledger (ups lines ++ later) (downs lines)).reported) (in_turn (said_all (silence false) lines).reported)
@@ -370,13 +348,9 @@ prefix_of first all acts p h =
     first_of (act_reports first) (act_reports p.rest) acts
     (subst (λ (l : List Reported). AreReportsOf l acts) (ap act_reports p.parts ∙ reports_append first p.rest) h)
 
--- what `told_orders` proves of more lines
+-- what is proved of more lines
 abbrev pub Prefixes : Type 0
 Prefixes = (d : Dialogue) (lines more : List Line) → IsPrefix (said_all d lines).reported (said_all d (lines ++ more)).reported
-
-server_append : (d : Dialogue) (xs ys : List (List ℕ)) → server_lines d (xs ++ ys) ≡ server_lines (server_lines d xs) ys
-server_append d [] ys = refl
-server_append d (x ∷ xs) ys = server_append (after d (server_line x)) xs ys
 
 -- what the first lines of a server report is a prefix of what all report
 downs_prefix : Prefixes → (d : Dialogue) (read unread : List (List ℕ))
@@ -407,11 +381,11 @@ first_reported recorded prefixes tools before n calls later read unread may cour
 both_ups : (up down : List (List ℕ)) → ups (map Up up ++ map Down down) ≡ up
 both_ups up down =
     ups_append (map Up up) (map Down down)
-    ∙ (ap (λ (l : List (List ℕ)). ups (map Up up) ++ l) (ups_of_downs down) ∙ (append-nil (ups (map Up up)) ∙ ups_of_ups up))
+    ∙ (ap (λ (l : List (List ℕ)). ups (map Up up) ++ l) (ups_of_downs down) ∙ (append-nil (ups (map Up up)) ∙ only_ups up))
 
 both_downs : (up down : List (List ℕ)) → downs (map Up up ++ map Down down) ≡ down
 both_downs up down =
-    downs_append (map Up up) (map Down down) ∙ (ap (λ (l : List (List ℕ)). l ++ downs (map Down down)) (downs_of_ups up) ∙ downs_of_downs down)
+    downs_append (map Up up) (map Down down) ∙ (ap (λ (l : List (List ℕ)). l ++ downs (map Down down)) (no_downs up) ∙ downs_of_downs down)
 
 are_lines : (up down : List ℕ) → AreLinesOf up down (map Up (whole_lines up) ++ map Down (whole_lines down))
 are_lines up down =
@@ -573,7 +547,7 @@ downs_seen call calls e =
     let down : List (List ℕ) = reply_texts (answered call e) in
     let rest : List Line = lines_seen calls (behind_call call e) in
     downs_append (map Up up) (map Down down ++ rest)
-    ∙ (ap (λ (l : List (List ℕ)). l ++ downs (map Down down ++ rest)) (downs_of_ups up)
+    ∙ (ap (λ (l : List (List ℕ)). l ++ downs (map Down down ++ rest)) (no_downs up)
     ∙ (downs_append (map Down down) rest ∙ ap (λ (l : List (List ℕ)). l ++ downs rest) (downs_of_downs down)))
 
 -- the bytes that are written are those of these lines
@@ -619,7 +593,7 @@ accepted_rest : (tools : List (List ℕ)) (before : List Call) (n : ℕ) → may
     → (serving_accepted n (reached tools before)).input.rest ≡ []
 accepted_rest tools before n may =
     ap (λ (f : Framing). f.rest)
-    ((reached_steady tools before).off (is_false (reached tools before).server.on ((and_parts _ _ may).0))).input
+    ((reached_steady tools before).off (not-true (reached tools before).server.on ((and_parts _ _ may).0))).input
 
 pub recorded_reported : Recorded → Prefixes → (tools : List (List ℕ)) (before : List Call) (n : ℕ) (calls : List Call)
     (up down more unsent : List ℕ) (w : Watching)
