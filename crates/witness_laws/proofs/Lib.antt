@@ -1,3 +1,4 @@
+pub mod Names
 pub mod orders
 pub mod server
 pub mod client

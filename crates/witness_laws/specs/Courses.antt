@@ -4,8 +4,8 @@ use Rattle.line_framing.specs.Next.{Front, next_of}
 use Rattle.line_framing.specs.Stream.{IsStream}
 use Rattle.line_framing.specs.declared.faults.FramingFault.{FramingFault}
 use Rattle.line_framing.proofs.Streams.{some_stream}
-use Rattle.witness.specs.Relaying.{Relaying, Reads, none, client, server, Move, FromClient, FromServer, Read, MakeDue, Write, ToServer, ToClient}
-use Rattle.witness.specs.Relaying.{Did, Course, Relays, begun, moved}
+use Rattle.witness.specs.Relaying.{Relaying, Reads, none, client, server, Move, FromClient, FromServer, Read, MakeDue, Write, ToServer, ToClient, Did, Course}
+use Rattle.witness.specs.Relaying.{Relays, begun, moved}
 use Rattle.witness.specs.Watching.{Watching}
 use Rattle.witness_laws.specs.Orders.{Line, Up, Down, ups, downs}
 

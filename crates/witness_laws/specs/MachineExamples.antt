@@ -7,8 +7,8 @@ use Rattle.dme_line.specs.declared.commands.Command.TheVariants as command
 use Rattle.witness.specs.Asking.{Line, Ack, Done, Error}
 use Rattle.witness.specs.Examples.{of_each, asks, tool, other_tool, machine, part, zero_point, touch, foreign, untagged, hears, hears_event, given, done, touched}
 use Rattle.witness.specs.Rules.{all_reported}
-use Rattle.witness_laws.specs.Machines.{Effect, TakesTool, SelectsFrame, StoresZero, Touches, InTurn, AtOnce, ForNoLine, Entry, Message, Does}
-use Rattle.witness_laws.specs.Machines.{lines, tool_at_contact, frame_at_contact}
+use Rattle.witness_laws.specs.Machines.{Effect, TakesTool, SelectsFrame, StoresZero, Touches, InTurn, AtOnce, ForNoLine, Entry, Message, Does, lines}
+use Rattle.witness_laws.specs.Machines.{tool_at_contact, frame_at_contact}
 use Rattle.witness_laws.specs.Premises.{Always, ActsWithin, ActsInOrder, ActsBefore, ChangesAreMade, LossesAreReported, TouchesAreMade}
 
 -- ---- what is known, and what was so

@@ -6,8 +6,8 @@ use Rattle.dme_line.specs.Written.{written_command}
 use Rattle.dme_line.specs.declared.commands.Command.TheVariants as command
 use Rattle.dme_line.specs.declared.tags.Tag.TheVariants.{Std}
 use Rattle.witness.specs.Dialogues.{Dialogue, silence}
-use Rattle.witness.specs.Relaying.{Relaying, fresh, client_came, server_came, Reads, none, client, server, IsClientRead}
-use Rattle.witness.specs.Relaying.{FromClient, FromServer, Read, Course, no_course, with_move, Relays, begun, moved}
+use Rattle.witness.specs.Relaying.{Relaying, fresh, client_came, server_came, Reads, none, client, server, IsClientRead, FromClient, FromServer, Read, Course}
+use Rattle.witness.specs.Relaying.{no_course, with_move, Relays, begun, moved}
 use Rattle.witness.specs.Watching.{client_read, server_read}
 use Rattle.witness_laws.specs.Orders.{Line, Up, Down, said_all}
 

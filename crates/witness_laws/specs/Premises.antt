@@ -22,8 +22,8 @@ use Rattle.witness.specs.declared.lines.SentCommand.{SentCommand}
 use Rattle.witness.specs.declared.lines.SentCommand.TheVariants as sends
 use Rattle.witness.specs.declared.lines.Stage.{Stage}
 use Rattle.witness.specs.declared.lines.Stage.TheVariants as stage
-use Rattle.witness_laws.specs.Machines.{Effect, TakesTool, SelectsFrame, StoresZero, Touches, Cause, InTurn, AtOnce, ForNoLine, Entry, Message, Does}
-use Rattle.witness_laws.specs.Machines.{lines, sent_at, tool_taken, frame_selected, zero_stored, last, frame_now, part_selected, before_last, is_contact}
+use Rattle.witness_laws.specs.Machines.{Effect, TakesTool, SelectsFrame, StoresZero, Touches, Cause, InTurn, AtOnce, ForNoLine, Entry, Message, Does, lines, sent_at}
+use Rattle.witness_laws.specs.Machines.{tool_taken, frame_selected, zero_stored, last, frame_now, part_selected, before_last, is_contact}
 
 -- it holds of each entry, with those before it
 abbrev pub Always : (Entry → List Entry → Type 0) → List Entry → Type 0

@@ -1,6 +1,5 @@
 -- Examples: acts, and servers and witnesses that are written out (this profile). No law cites these definitions.
-use Rattle.std.specs.Prelude.{ℕ, true, List, [], ◌∷◌, ◌++◌, codes, Option, Some, None, pos}
-use Rattle.std.specs.Prelude.{false, Ok}
+use Rattle.std.specs.Prelude.{ℕ, true, List, [], ◌∷◌, ◌++◌, codes, Option, Some, None, pos, false, Ok}
 use Rattle.fixed_um.specs.declared.lengths.Point.{Point}
 use Rattle.fixed_um.specs.declared.frames.Frame.TheVariants.{Machine}
 use Rattle.contact_ledger.specs.declared.acts.Act.{Act}

@@ -1,52 +1,32 @@
 -- What a client holds open and counts, next to what a witness knows and reports.
-use Rattle.std.proofs.Common.{◌≡◌, ℕ, Bool, true, false, cond, None, ◌&&◌, ◌||◌, not, List, [], ◌∷◌, ◌++◌, map, refl, sym, ◌∙◌, ap, subst}
-use Rattle.std.proofs.lemmas.Bool.{false≢true, or_parts, and_parts}
-use Rattle.std.specs.Prelude.{◌==◌}
-use Rattle.std.specs.List.{list_any}
-use Rattle.dme_line.specs.Kinds.{kind_of, is_event_kind}
-use Rattle.dme_line.specs.declared.tags.Tag.{Tag}
-use Rattle.dme_line.specs.declared.tags.Tag.TheVariants as tag
-use Rattle.dme_line.specs.declared.commands.Kind.{Kind}
-use Rattle.dme_line.specs.declared.commands.Command.{Command}
-use Rattle.dme_line.specs.declared.commands.Command.TheVariants as command
-use Rattle.protocol_model.specs.Replies.{tag_is}
-use Rattle.protocol_model.specs.Open.{is_failed, is_held}
-use Rattle.protocol_model.specs.Client.{Tally, Table, is_homing, without_homing, passed_over}
-use Rattle.protocol_model.specs.declared.held.OpenCommand.{OpenCommand}
-use Rattle.protocol_model.specs.declared.plans.Planned.{Planned}
-use Rattle.protocol_model.proofs.plan.Marks.{HasNoAbort}
-use Rattle.protocol_model.proofs.table.Basics.{if_true, if_false, if_cases}
-use Rattle.protocol_model.proofs.written_lines.PlainClient.{HaveArguments}
+use Rattle.witness_laws.proofs.Names.{◌&&◌, ◌++◌, ◌==◌, ◌||◌, ◌∙◌, ◌∷◌, ◌≡◌, [], and_parts, ap, AreCounted, Asking, Bool, Command, cond, Dialogue}
+use Rattle.witness_laws.proofs.Names.{false, false≢true, Foreign, has_turn, HasNoAbort, HaveArguments, if_cases, if_false, if_true, is_event_kind}
+use Rattle.witness_laws.proofs.Names.{is_failed, is_held, is_homing, Kind, kind_of, Known, List, list_any, map, None, not, OpenCommand, or_parts}
+use Rattle.witness_laws.proofs.Names.{passed_over, Planned, refl, SentCommand, Stage, subst, sym, Table, Tag, tag_is, Tally, true, Use, use_renewed}
+use Rattle.witness_laws.proofs.Names.{waits, without_homing, ℕ}
+use Rattle.witness.specs.declared.lines.SentCommand.TheVariants.{Known as Sends}
 use Rattle.client_core.proofs.Fronts.{live_kinds, live_failed, live_calm}
-use Rattle.witness.specs.Dialogues.{Dialogue, waits, use_renewed}
-use Rattle.witness.specs.Marks.{has_turn}
-use Rattle.witness.specs.declared.lines.Known.{Known}
-use Rattle.witness.specs.declared.lines.SentCommand.{SentCommand}
-use Rattle.witness.specs.declared.lines.SentCommand.TheVariants.{Known as Sends, Asking, Foreign}
-use Rattle.witness.specs.declared.lines.Stage.{Stage}
-use Rattle.witness.specs.declared.lines.Stage.TheVariants as stage
-use Rattle.witness.specs.declared.lines.Use.{Use}
-use Rattle.witness_laws.specs.Orders.{AreCounted}
 use Rattle.witness_laws.specs.Acts.{all_done, Claims}
 use Rattle.witness_laws.proofs.client.Cuts.{kind_by, stage_by, entry, picks, picks_in, picks_out, all_failed, has_tag, other_tag}
 use Rattle.witness_laws.proofs.client.Holding.{Holds}
 use Rattle.witness_laws.proofs.client.Knowing.{Selected, selected_after, Agrees}
+use Rattle.witness_laws.proofs.orders.Counts.{Each}
 
 -- ---- the uses of a client's commands
 
 abbrev pub is_standard : Tag → Bool
-is_standard (tag.Std n) = true
-is_standard (tag.Event n) = false
+is_standard (Tag.Std n) = true
+is_standard (Tag.Event n) = false
 
 abbrev pub is_event : Tag → Bool
-is_event (tag.Std n) = false
-is_event (tag.Event n) = true
+is_event (Tag.Std n) = false
+is_event (Tag.Event n) = true
 
 abbrev pub is_lost : Stage → Bool
-is_lost stage.Sent = false
-is_lost stage.Received = false
-is_lost (stage.Given d) = false
-is_lost stage.Lost = true
+is_lost Stage.Sent = false
+is_lost Stage.Received = false
+is_lost (Stage.Given d) = false
+is_lost Stage.Lost = true
 
 -- a use is a command of a client: under a tag of its sort, and no other was open under that
 pub record IsOurs (u : Use) : Type 0 where
@@ -55,15 +35,10 @@ pub record IsOurs (u : Use) : Type 0 where
   pub alone : u.rival ≡ None
   pub lost : u.has_failed ≡ is_lost u.stage
   pub sort : is_event_kind (kind_of command) ≡ is_event u.tag
-  pub some : tag_is u.tag (tag.Event 0) ≡ false
+  pub some : tag_is u.tag (Tag.Event 0) ≡ false
 
 abbrev pub AreOurs : List Use → Type 0
-AreOurs [] = Unit {0}
-AreOurs (u ∷ us) = IsOurs u × AreOurs us
-
-pub ours_join : (us vs : List Use) → AreOurs us → AreOurs vs → AreOurs (us ++ vs)
-ours_join [] vs h g = g
-ours_join (u ∷ us) vs h g = (h.0, ours_join us vs h.1 g)
+AreOurs us = Each IsOurs us
 
 pub ours_front : (us vs : List Use) → AreOurs (us ++ vs) → AreOurs us
 ours_front [] vs h = tt
@@ -96,8 +71,8 @@ picks_renewed test f (u ∷ us) = ap (λ (l : List OpenCommand). cond (test u.ta
 
 abbrev pub command_in : SentCommand → Command
 command_in (Sends c) = c
-command_in Asking = command.AbortE
-command_in (Foreign line) = command.AbortE
+command_in Asking = Command.AbortE
+command_in (Foreign line) = Command.AbortE
 
 -- the commands for which the machine is used, without those that have failed, in the order in which they were sent
 abbrev pub live : List Use → List Command
@@ -146,10 +121,10 @@ live_none (u ∷ us) e = go (waits u) refl (live_none us)
 -- ---- whether a use waits
 
 pub same_failed : (s : Stage) → is_failed (stage_by s) ≡ is_lost s
-same_failed stage.Sent = refl
-same_failed stage.Received = refl
-same_failed (stage.Given d) = refl
-same_failed stage.Lost = refl
+same_failed Stage.Sent = refl
+same_failed Stage.Received = refl
+same_failed (Stage.Given d) = refl
+same_failed Stage.Lost = refl
 
 -- an event command does not
 pub event_rests : (u : Use) → IsOurs u → is_event u.tag ≡ true → waits u ≡ false
@@ -162,8 +137,8 @@ standard_waits u h e = ap (λ (a : SentCommand). has_turn a && not u.has_failed)
     ∙ (ap (λ (b : Bool). not b && not u.has_failed) (IsOurs.sort h ∙ e) ∙ ap not (IsOurs.lost h ∙ sym (same_failed u.stage)))
 
 pub sorts : (t : Tag) → is_event t ≡ not (is_standard t)
-sorts (tag.Std n) = refl
-sorts (tag.Event n) = refl
+sorts (Tag.Std n) = refl
+sorts (Tag.Event n) = refl
 
 pub failed_rests : (u : Use) → IsOurs u → is_failed (stage_by u.stage) ≡ true → waits u ≡ false
 failed_rests u h e = go (is_event u.tag) refl

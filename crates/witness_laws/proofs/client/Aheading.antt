@@ -1,44 +1,26 @@
 -- A witness that reads lines of the server before the client does: what it has reported begins with what the client counts.
-use Rattle.std.proofs.Common.{◌≡◌, ℕ, Bool, true, false, cond, List, [], ◌∷◌, ◌++◌, length, drop, refl, sym, ◌∙◌, ap, subst, Option, Some, None}
-use Rattle.std.proofs.Common.{Result, Ok, Err}
-use Rattle.std.specs.List.{list_any}
-use Rattle.line_framing.specs.Next.{Front, next_of}
-use Rattle.dme_line.specs.Written.{written_command}
-use Rattle.dme_line.specs.declared.commands.Command.{Command}
-use Rattle.dme_line.specs.declared.commands.Command.TheVariants as command
-use Rattle.dme_line.specs.declared.reading.LineFault.{LineFault}
-use Rattle.dme_line.specs.declared.tags.Tag.{Tag}
-use Rattle.dme_line.specs.declared.tags.Tag.TheVariants as tag
-use Rattle.contact_ledger.specs.declared.acts.Act.{Act}
-use Rattle.contact_ledger.specs.declared.features.Feature.{Feature}
+use Rattle.witness_laws.proofs.Names.{◌++◌, ◌∙◌, ◌∷◌, ◌≡◌, [], Act, after, answered, answers, ap, AreCounted, Bool, client_lines, ClientEnd, Command}
+use Rattle.witness_laws.proofs.Names.{command_read, command_texts, cond, Dialogue, drop, Err, false, false≢true, Feature, Front, length, LineFault}
+use Rattle.witness_laws.proofs.Names.{List, list_any, new_client_end, next_number, next_of, None, Ok, Option, Planned, refl, response_of, Result}
+use Rattle.witness_laws.proofs.Names.{Sends, sends_abort, sends_next, sent, server_front, server_line, server_lines, silence, Some, subst, sym, Tag}
+use Rattle.witness_laws.proofs.Names.{true, written_command, ℕ}
+use Rattle.protocol_model.specs.Client.{Client}
+use Rattle.witness.specs.declared.lines.SentCommand.TheVariants.{Known}
 use Rattle.dmis_program.specs.Meaning.{Meaning}
 use Rattle.dmis_program.specs.Programs.{IsProgram}
-use Rattle.protocol_model.specs.Readings.{response_of}
-use Rattle.protocol_model.specs.Client.{Client, next_number, sends_next, sends_abort}
-use Rattle.protocol_model.specs.Ends.{ClientEnd, new_client_end}
-use Rattle.protocol_model.specs.Lines.{command_texts}
-use Rattle.protocol_model.specs.declared.plans.Planned.{Planned}
-use Rattle.protocol_model.proofs.written_lines.Writable.{command_read}
-use Rattle.client_core.specs.Calls.{Call, Connected, Send, Feed, ReadOne, Abort, Resume, Leave, Restart, Sent, possible, done_by}
-use Rattle.client_core.specs.Calls.{behind_calls, Plans, plans_begun}
+use Rattle.client_core.specs.Calls.{Call, Connected, Send, Feed, ReadOne, Abort, Resume, Leave, Restart, Sent, possible, done_by, behind_calls, Plans, plans_begun}
 use Rattle.client_core.specs.Clients.{are_ours}
 use Rattle.client_core.proofs.Runs.{Holds, behind_holds}
-use Rattle.witness.specs.Asking.{Sends, server_line, sent, answered}
-use Rattle.witness.specs.Dialogues.{Dialogue, silence, after}
-use Rattle.witness.specs.Watching.{client_lines, server_lines, server_front}
-use Rattle.witness.specs.declared.lines.SentCommand.TheVariants.{Known}
-use Rattle.witness_laws.specs.Orders.{AreCounted, answers}
 use Rattle.witness_laws.proofs.orders.Commands.{swap_command}
 use Rattle.witness_laws.specs.Acts.{BeginsWith, BeginsToClaim}
-use Rattle.witness_laws.specs.Ahead.{Turn, Calls, Comes, Watched, written_by, line_at, read_by, called, after_turn, after_turns}
-use Rattle.witness_laws.specs.Ahead.{AreUnanswered, IsCausalCall, IsCausalTurn, AreCausal, unasked_turn, unasked_turns, begun_on}
+use Rattle.witness_laws.specs.Ahead.{Turn, Calls, Comes, Watched, written_by, line_at, read_by, called, after_turn, after_turns, AreUnanswered, IsCausalCall}
+use Rattle.witness_laws.specs.Ahead.{IsCausalTurn, AreCausal, unasked_turn, unasked_turns, begun_on}
 use Rattle.witness_laws.specs.Lines.{witnessed_by, unasked_by}
 use Rattle.witness_laws.proofs.client.Agreeing.{AgreesOn}
 use Rattle.witness_laws.proofs.client.Claiming.{Begins, begins_with, begins_to_claim}
 use Rattle.witness_laws.proofs.client.Growing.{answer_grows, begins_still}
-use Rattle.witness_laws.proofs.client.Seeing.{IsSeen, IsDrawn, not_foreign, sent_drawn, aborted_drawn, sending_agrees, aborting_agrees, done_seen}
-use Rattle.witness_laws.proofs.client.Seeing.{connected_seen, IsBehind, behind_one_more}
-use Rattle.std.proofs.lemmas.Bool.{false≢true}
+use Rattle.witness_laws.proofs.client.Seeing.{IsSeen, IsDrawn, not_foreign, sent_drawn, aborted_drawn, sending_agrees, aborting_agrees, done_seen, connected_seen}
+use Rattle.witness_laws.proofs.client.Seeing.{IsBehind, behind_one_more}
 
 -- ---- lines of the server
 
@@ -71,22 +53,22 @@ one_apart d x c ahead counted k none =
         (command_read x c (IsDrawn.writable k))
 
 sent_apart : (lossy : Bool) (c : Client) (d : Dialogue) (ahead : List (List ℕ)) → AgreesOn lossy c.table d → (l : List Planned)
-    → c.table.tally.unsent ≡ l → (number : Option ℕ) → next_number tag.Std c.table.standard c.drawn ≡ number
+    → c.table.tally.unsent ≡ l → (number : Option ℕ) → next_number Tag.Std c.table.standard c.drawn ≡ number
     → AreUnanswered (sends_next c l number).lines ahead
     → client_lines (server_lines d ahead) (command_texts (sends_next c l number).lines)
     ≡ server_lines (client_lines d (command_texts (sends_next c l number).lines)) ahead
 sent_apart lossy c d ahead a [] is number drawn none = refl
 sent_apart lossy c d ahead a (q ∷ qs) is None drawn none = refl
 sent_apart lossy c d ahead a (q ∷ qs) is (Some n) drawn none =
-    one_apart d (tag.Std n) q.command ahead (AgreesOn.rising a) (sent_drawn lossy c d a q qs is n drawn) none.0
+    one_apart d (Tag.Std n) q.command ahead (AgreesOn.rising a) (sent_drawn lossy c d a q qs is n drawn) none.0
 
 abort_apart : (lossy : Bool) (c : Client) (d : Dialogue) (ahead : List (List ℕ)) → AgreesOn lossy c.table d → (number : Option ℕ)
-    → next_number tag.Event c.table.event c.event_drawn ≡ number → AreUnanswered (sends_abort c number).lines ahead
+    → next_number Tag.Event c.table.event c.event_drawn ≡ number → AreUnanswered (sends_abort c number).lines ahead
     → client_lines (server_lines d ahead) (command_texts (sends_abort c number).lines)
     ≡ server_lines (client_lines d (command_texts (sends_abort c number).lines)) ahead
 abort_apart lossy c d ahead a None drawn none = refl
 abort_apart lossy c d ahead a (Some n) drawn none =
-    one_apart d (tag.Event n) command.AbortE ahead (AgreesOn.rising a) (aborted_drawn lossy c d a n drawn) none.0
+    one_apart d (Tag.Event n) Command.AbortE ahead (AgreesOn.rising a) (aborted_drawn lossy c d a n drawn) none.0
 
 -- ---- what is read
 
@@ -112,10 +94,10 @@ call_apart : (lossy : Bool) (p : Meaning) (plans : Plans) (call : Call) (w : Wat
     ≡ server_lines (witnessed_by call w.client d) (drop (length (read_by call w.client)) w.ahead)
 call_apart lossy p plans Send w d h may s k =
     sent_apart lossy w.client.client d w.ahead (sending_agrees lossy p plans w.client.client d h may s)
-    w.client.client.table.tally.unsent refl (next_number tag.Std w.client.client.table.standard w.client.client.drawn) refl k.unanswered
+    w.client.client.table.tally.unsent refl (next_number Tag.Std w.client.client.table.standard w.client.client.drawn) refl k.unanswered
 call_apart lossy p plans Abort w d h may s k =
     abort_apart lossy w.client.client d w.ahead (aborting_agrees lossy p plans w.client.client d h may s)
-    (next_number tag.Event w.client.client.table.event w.client.client.event_drawn) refl k.unanswered
+    (next_number Tag.Event w.client.client.table.event w.client.client.event_drawn) refl k.unanswered
 call_apart lossy p plans ReadOne w d h may s k = read_apart d w.ahead k.later (next_of w.client.input.rest) k.first
 call_apart lossy p plans (Feed bytes) w d h may s k = refl
 call_apart lossy p plans Resume w d h may s k = refl

@@ -1,29 +1,23 @@
 -- Reports, one list after another, and the acts that they are of.
-use Rattle.std.proofs.Common.{◌≡◌, Bool, false, List, [], ◌∷◌, ◌++◌, refl, sym, ◌∙◌, ap, subst, append_assoc, append-nil}
-use Rattle.contact_ledger.specs.declared.acts.Act.{Act}
-use Rattle.witness.specs.declared.lines.Reported.{Reported}
-use Rattle.witness_laws.specs.Acts.{all_done, BeginsWith, AreShown, unless_unasked, without_unasked, Claims, BeginsToClaim}
+use Rattle.witness_laws.proofs.Names.{◌++◌, ◌∙◌, ◌∷◌, ◌≡◌, [], Act, ap, append-nil, append_assoc, Bool, false, List, refl, Reported, subst, sym}
+use Rattle.witness_laws.specs.Acts.{all_done, BeginsWith, unless_unasked, without_unasked, Claims, BeginsToClaim}
+use Rattle.witness_laws.specs.Reports.{AreReportsOf}
+use Rattle.witness_laws.proofs.orders.Claiming.{reports_join}
 
 pub without_more : (xs ys : List Reported) → without_unasked (xs ++ ys) ≡ without_unasked xs ++ without_unasked ys
 without_more [] ys = refl
 without_more (x ∷ xs) ys = ap (λ (l : List Reported). unless_unasked x ++ l) (without_more xs ys)
     ∙ sym (append_assoc (unless_unasked x) (without_unasked xs) (without_unasked ys))
 
-shown_join : (acts bs : List Act) (xs ys : List Reported) → AreShown acts xs → AreShown bs ys → AreShown (acts ++ bs) (xs ++ ys)
-shown_join [] bs [] ys h g = g
-shown_join [] bs (x ∷ xs) ys h g = absurd h
-shown_join (a ∷ acts) bs [] ys h g = absurd h
-shown_join (a ∷ acts) bs (x ∷ xs) ys h g = (h.0, shown_join acts bs xs ys h.1 g)
-
 -- more acts are reported
-pub claims_more : (acts more : List Act) (xs ys : List Reported) → Claims acts xs → AreShown more (without_unasked ys)
+pub claims_more : (acts more : List Act) (xs ys : List Reported) → Claims acts xs → AreReportsOf (without_unasked ys) more
     → Claims (acts ++ more) (xs ++ ys)
-claims_more acts more xs ys h g = subst (AreShown (acts ++ more)) (sym (without_more xs ys))
-    (shown_join acts more (without_unasked xs) (without_unasked ys) h g)
+claims_more acts more xs ys h g = subst (λ (l : List Reported). AreReportsOf l (acts ++ more)) (sym (without_more xs ys))
+    (reports_join acts more (without_unasked xs) (without_unasked ys) h g)
 
 -- no act is
 pub claims_same : (acts : List Act) (xs ys : List Reported) → Claims acts xs → without_unasked ys ≡ [] → Claims acts (xs ++ ys)
-claims_same acts xs ys h none = subst (AreShown acts)
+claims_same acts xs ys h none = subst (λ (l : List Reported). AreReportsOf l acts)
     (sym (without_more xs ys ∙ (ap (λ (l : List Reported). without_unasked xs ++ l) none ∙ append-nil (without_unasked xs)))) h
 
 -- what was reported begins with what is of these acts, exactly so unless a line came that belongs to no command

@@ -1,40 +1,27 @@
 -- The first command of a tag in a list of uses, and what a client and a witness do at a mark of it.
-use Rattle.std.proofs.Common.{◌≡◌, ℕ, suc, ◌+◌, Bool, true, false, cond, ◌&&◌, ◌||◌, not, List, [], ◌∷◌, ◌++◌, length, take, refl}
-use Rattle.std.proofs.Common.{sym, ◌∙◌, ap, arith, length-append, Option, Some, None, Ok, Err, nat_lt, le_refl}
-use Rattle.std.proofs.lemmas.Bool.{false≢true, lt-ltb, le-ltb}
-use Rattle.std.specs.Prelude.{position, remove, slice_get}
-use Rattle.std.specs.List.{list_any, position_or_len}
-use Rattle.dme_line.specs.Kinds.{kind_of}
-use Rattle.dme_line.specs.declared.tags.Tag.{Tag}
-use Rattle.dme_line.specs.declared.commands.Kind.{Kind}
-use Rattle.dme_line.specs.declared.commands.Kind.TheVariants as kind
-use Rattle.protocol_model.specs.Replies.{Mark, tag_is}
-use Rattle.protocol_model.specs.Open.{Effect, Heard, heard_in, judged, settled, put_before, is_failed}
-use Rattle.protocol_model.specs.Ends.{held_kind}
-use Rattle.protocol_model.specs.declared.held.OpenCommand.{OpenCommand}
-use Rattle.protocol_model.proofs.table.Basics.{if_true, if_false, if_cases, tag_is-true}
-use Rattle.protocol_model.proofs.table.Walks.{two, same_two}
+use Rattle.witness_laws.proofs.Names.{◌&&◌, ◌++◌, ◌||◌, ◌∙◌, ◌∷◌, ◌≡◌, [], ap, Asking, Bool, cond, Effect, Err, false, false≢true, Foreign}
+use Rattle.witness_laws.proofs.Names.{heard_in, held_kind, if_cases, if_false, if_true, is_failed, judged, Kind, kind_of, length, List, list_any, Ok}
+use Rattle.witness_laws.proofs.Names.{OpenCommand, Option, put_before, refl, same_two, SentCommand, settled, Some, Stage, sym, Tag, tag_is}
+use Rattle.witness_laws.proofs.Names.{tag_is-true, take, true, two, Use}
+use Rattle.protocol_model.specs.Replies.{Mark}
+use Rattle.protocol_model.specs.Open.{Heard}
 use Rattle.protocol_model.specs.declared.held.Stage.{Stage as OpenStage}
-use Rattle.witness.specs.declared.lines.SentCommand.{SentCommand}
-use Rattle.witness.specs.declared.lines.SentCommand.TheVariants.{Known, Asking, Foreign}
-use Rattle.witness.specs.declared.lines.Stage.{Stage}
-use Rattle.witness.specs.declared.lines.Stage.TheVariants as stage
-use Rattle.witness.specs.declared.lines.Use.{Use}
+use Rattle.witness.specs.declared.lines.SentCommand.TheVariants.{Known}
 
 -- ---- uses as a client's open commands
 
 -- the kind of what was sent; of what a client does not send, any
 abbrev pub kind_by : SentCommand → Kind
 kind_by (Known c) = kind_of c
-kind_by Asking = kind.AbortE
-kind_by (Foreign line) = kind.AbortE
+kind_by Asking = Kind.AbortE
+kind_by (Foreign line) = Kind.AbortE
 
 -- a stage, as the client's
 abbrev pub stage_by : Stage → OpenStage
-stage_by stage.Sent = OpenStage.Sent
-stage_by stage.Received = OpenStage.Received
-stage_by (stage.Given d) = OpenStage.Given d
-stage_by stage.Lost = OpenStage.Failed
+stage_by Stage.Sent = OpenStage.Sent
+stage_by Stage.Received = OpenStage.Received
+stage_by (Stage.Given d) = OpenStage.Given d
+stage_by Stage.Lost = OpenStage.Failed
 
 abbrev pub entry : Use → OpenCommand
 entry u = record { tag = u.tag; kind = kind_by u.command; stage = stage_by u.stage }

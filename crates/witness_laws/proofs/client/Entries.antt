@@ -1,21 +1,10 @@
 -- Runs of contacts in what was reported, next to runs in a ledger of acts.
-use Rattle.std.proofs.Common.{◌≡◌, ℕ, zero, suc, ◌+◌, ◌<◌, ◌≤◌, true, List, [], ◌∷◌, ◌++◌, length, map, take, drop}
-use Rattle.std.proofs.Common.{refl, sym, ◌∙◌, ap, subst, arith, append_assoc, length-append}
-use Rattle.std.proofs.lemmas.List.{map-append}
-use Rattle.std.proofs.Math.Seq.{drop-append-add}
-use Rattle.std.specs.List.{list_all}
-use Rattle.fixed_um.specs.declared.lengths.Point.{Point}
-use Rattle.contact_ledger.specs.declared.acts.Act.{Act}
-use Rattle.contact_ledger.specs.declared.acts.Act.TheVariants as act
-use Rattle.contact_ledger.specs.declared.features.Feature.{Feature}
+use Rattle.witness_laws.proofs.Names.{◌++◌, ◌+◌, ◌<◌, ◌∙◌, ◌∷◌, ◌≡◌, ◌≤◌, [], Act, ap, append_assoc, arith, contacts, done_on, drop, drop-append-add}
+use Rattle.witness_laws.proofs.Names.{Feature, IsRun, length, length-append, List, list_all, MadeContact, map, map-append, numbered, Point, refl}
+use Rattle.witness_laws.proofs.Names.{Reported, Serves, subst, suc, sym, take, true, zero, ℕ}
 use Rattle.dmis_program.specs.declared.features.Touch.{Touch}
 use Rattle.dmis_program.specs.declared.features.Wanted.{Wanted}
-use Rattle.protocol_model.specs.Claims.{MadeContact, contacts, Serves, IsRun}
-use Rattle.protocol_model.proofs.invariant.Moves.{done_on}
-use Rattle.witness.specs.Texts.{numbered}
-use Rattle.witness.specs.declared.lines.Reported.{Reported}
-use Rattle.told_files.specs.Runs.{Part, Made, Passes, made_on, entry_part, parts_of, known_contacts, is_made, lies_between, AreNext}
-use Rattle.told_files.specs.Runs.{IsToldRun}
+use Rattle.told_files.specs.Runs.{Part, Made, Passes, made_on, entry_part, parts_of, known_contacts, is_made, lies_between, AreNext, IsToldRun}
 use Rattle.witness_laws.specs.Acts.{all_done}
 
 -- ---- lines, one list after another
@@ -72,14 +61,14 @@ lines_of n acts = parts_of (entries_of n acts)
 
 known_acts : (n : ℕ) (acts : List Act) → known_contacts (lines_of n acts) ≡ contacts (done_on n acts)
 known_acts n [] = refl
-known_acts n (act.Contact target dir tool frame point ∷ acts) =
+known_acts n (Act.Contact target dir tool frame point ∷ acts) =
     let m : MadeContact = record { connection = n; target = target; dir = dir; tool = tool; frame = frame; point = point } in
     ap (λ (l : List MadeContact). m ∷ l) (known_acts n acts)
-known_acts n (act.HomedIs homed ∷ acts) = known_acts n acts
-known_acts n (act.Homed ∷ acts) = known_acts n acts
-known_acts n (act.Moved p f ∷ acts) = known_acts n acts
-known_acts n (act.Changed m ∷ acts) = known_acts n acts
-known_acts n (act.Framed f ∷ acts) = known_acts n acts
+known_acts n (Act.HomedIs homed ∷ acts) = known_acts n acts
+known_acts n (Act.Homed ∷ acts) = known_acts n acts
+known_acts n (Act.Moved p f ∷ acts) = known_acts n acts
+known_acts n (Act.Changed m ∷ acts) = known_acts n acts
+known_acts n (Act.Framed f ∷ acts) = known_acts n acts
 
 -- on a connection a contact follows, and before it lies only what may
 record Follows (n : ℕ) (ls : List (ℕ × Part)) : Type 0 where
@@ -104,7 +93,7 @@ follows_past n ls h = record {
 
 some_follows : (n : ℕ) (acts : List Act) → 0 < length (contacts (done_on n acts)) → Follows n (lines_of n acts)
 some_follows n [] some = absurd (omega (arith, some))
-some_follows n (act.Contact target dir tool frame point ∷ acts) some = record {
+some_follows n (Act.Contact target dir tool frame point ∷ acts) some = record {
   between = [];
   next = (n, Made target dir tool frame point);
   after = lines_of n acts;
@@ -113,11 +102,11 @@ some_follows n (act.Contact target dir tool frame point ∷ acts) some = record 
   same = refl;
   quiet = refl;
 }
-some_follows n (act.HomedIs homed ∷ acts) some = follows_past n (lines_of n acts) (some_follows n acts some)
-some_follows n (act.Homed ∷ acts) some = follows_past n (lines_of n acts) (some_follows n acts some)
-some_follows n (act.Moved p f ∷ acts) some = follows_past n (lines_of n acts) (some_follows n acts some)
-some_follows n (act.Changed m ∷ acts) some = follows_past n (lines_of n acts) (some_follows n acts some)
-some_follows n (act.Framed f ∷ acts) some = follows_past n (lines_of n acts) (some_follows n acts some)
+some_follows n (Act.HomedIs homed ∷ acts) some = follows_past n (lines_of n acts) (some_follows n acts some)
+some_follows n (Act.Homed ∷ acts) some = follows_past n (lines_of n acts) (some_follows n acts some)
+some_follows n (Act.Moved p f ∷ acts) some = follows_past n (lines_of n acts) (some_follows n acts some)
+some_follows n (Act.Changed m ∷ acts) some = follows_past n (lines_of n acts) (some_follows n acts some)
+some_follows n (Act.Framed f ∷ acts) some = follows_past n (lines_of n acts) (some_follows n acts some)
 
 next_past : (x : ℕ × Part) (ls : List (ℕ × Part)) (k j : ℕ) → (h : AreNext ls k) → length (known_contacts (x ∷ h.before)) ≡ j
     → AreNext (x ∷ ls) j
@@ -153,20 +142,20 @@ next_first n part ls made h = record {
 -- contacts of one connection that follow one another are next to one another
 next_in : (n : ℕ) (acts : List Act) (k : ℕ) → suc k < length (contacts (done_on n acts)) → AreNext (lines_of n acts) k
 next_in n [] k less = absurd (omega (arith, less))
-next_in n (act.Contact target dir tool frame point ∷ acts) zero less =
+next_in n (Act.Contact target dir tool frame point ∷ acts) zero less =
     next_first n (Made target dir tool frame point) (lines_of n acts) refl (some_follows n acts (omega (arith, less)))
-next_in n (act.Contact target dir tool frame point ∷ acts) (suc k) less =
+next_in n (Act.Contact target dir tool frame point ∷ acts) (suc k) less =
     let h : AreNext (lines_of n acts) k = next_in n acts k (omega (arith, less)) in
     next_past (n, Made target dir tool frame point) (lines_of n acts) k (suc k) h (ap suc h.number)
-next_in n (act.HomedIs homed ∷ acts) k less = let h : AreNext (lines_of n acts) k = next_in n acts k less
+next_in n (Act.HomedIs homed ∷ acts) k less = let h : AreNext (lines_of n acts) k = next_in n acts k less
     in next_past (n, Passes) (lines_of n acts) k k h h.number
-next_in n (act.Homed ∷ acts) k less = let h : AreNext (lines_of n acts) k = next_in n acts k less
+next_in n (Act.Homed ∷ acts) k less = let h : AreNext (lines_of n acts) k = next_in n acts k less
     in next_past (n, Passes) (lines_of n acts) k k h h.number
-next_in n (act.Moved p f ∷ acts) k less = let h : AreNext (lines_of n acts) k = next_in n acts k less
+next_in n (Act.Moved p f ∷ acts) k less = let h : AreNext (lines_of n acts) k = next_in n acts k less
     in next_past (n, Passes) (lines_of n acts) k k h h.number
-next_in n (act.Changed m ∷ acts) k less = let h : AreNext (lines_of n acts) k = next_in n acts k less
+next_in n (Act.Changed m ∷ acts) k less = let h : AreNext (lines_of n acts) k = next_in n acts k less
     in next_past (n, Passes) (lines_of n acts) k k h h.number
-next_in n (act.Framed f ∷ acts) k less = let h : AreNext (lines_of n acts) k = next_in n acts k less
+next_in n (Act.Framed f ∷ acts) k less = let h : AreNext (lines_of n acts) k = next_in n acts k less
     in next_past (n, Passes) (lines_of n acts) k k h h.number
 
 -- ---- a run is whole

@@ -1,53 +1,33 @@
 -- What a witness may know for a command of a client: the changes that stand above it are as far as the commands that made them.
-use Rattle.std.proofs.Common.{◌≡◌, ℕ, suc, ◌<◌, ◌≤◌, Bool, true, false, cond, ◌&&◌, ◌||◌, not, List, [], ◌∷◌, ◌++◌, map, refl, sym, ◌∙◌, ap}
-use Rattle.std.proofs.Common.{subst, arith, ne_eqb, eq-eqb, Option, Some, None}
-use Rattle.std.specs.Prelude.{◌==◌}
-use Rattle.std.specs.List.{list_any}
-use Rattle.std.proofs.lemmas.Bool.{false≢true, eqb-true, or_parts}
-use Rattle.fixed_um.specs.declared.lengths.Point.{Point}
-use Rattle.fixed_um.specs.declared.frames.Frame.{Frame}
-use Rattle.fixed_um.specs.declared.frames.Frame.TheVariants.{Machine, Part}
-use Rattle.dme_line.specs.declared.commands.Command.{Command}
-use Rattle.dme_line.specs.declared.commands.Command.TheVariants as command
-use Rattle.dme_line.specs.declared.commands.Csy.{Csy}
-use Rattle.dme_line.specs.declared.commands.Csy.TheVariants.{MachineCsy, PartCsy}
-use Rattle.dme_line.specs.Kinds.{kind_of}
-use Rattle.protocol_model.specs.Open.{asks_data}
-use Rattle.witness.specs.Dialogues.{waits, use_renewed}
-use Rattle.witness.specs.Known.{at, renewed, with_mark, unless_refused, is_rival, one_renewed, all_renewed, standing, below_command}
-use Rattle.witness.specs.Known.{frame_by, frame_in, part_at, done, if_done}
+use Rattle.witness_laws.proofs.Names.{◌&&◌, ◌++◌, ◌<◌, ◌==◌, ◌||◌, ◌∙◌, ◌∷◌, ◌≡◌, ◌≤◌, [], all_renewed, Answer, ap, AreCounted, arith, asks_data, at}
+use Rattle.witness_laws.proofs.Names.{below_command, Bool, Command, cond, Csy, done, eq-eqb, eqb-true, false, false≢true, Fault, Frame, frame_by}
+use Rattle.witness_laws.proofs.Names.{frame_in, Heard, if_done, is_error, is_rival, kind_of, Known, List, list_any, Machine, MachineCsy, map, Mark}
+use Rattle.witness_laws.proofs.Names.{ne_eqb, None, not, one_renewed, Option, or_parts, Part, part_at, PartCsy, Point, Progress, refl, Renewal}
+use Rattle.witness_laws.proofs.Names.{renewed, Some, Stage, Standing, standing, subst, suc, sym, true, unless_refused, Use, use_renewed, waits}
+use Rattle.witness_laws.proofs.Names.{with_mark, ℕ}
 use Rattle.witness.specs.Known as knows
-use Rattle.witness.specs.Marks.{is_error}
-use Rattle.witness.specs.declared.lines.Heard.{Heard}
-use Rattle.witness.specs.declared.lines.Known.{Known}
-use Rattle.witness.specs.declared.lines.Progress.{Progress}
-use Rattle.witness.specs.declared.lines.Progress.TheVariants as progress
-use Rattle.witness.specs.declared.lines.Renewal.{Renewal}
-use Rattle.witness.specs.declared.lines.Renewal.TheVariants.{Fault, Mark, Answer}
-use Rattle.witness.specs.declared.lines.Stage.{Stage}
-use Rattle.witness.specs.declared.lines.Stage.TheVariants as stage
-use Rattle.witness.specs.declared.lines.Standing.{Standing}
-use Rattle.witness.specs.declared.lines.Use.{Use}
-use Rattle.witness_laws.specs.Orders.{AreCounted}
 use Rattle.witness_laws.proofs.client.Cuts.{kind_by}
 use Rattle.witness_laws.proofs.client.Knowing.{Selected, none_selected, selected_after, unless_part, IsOr, Fits}
 use Rattle.witness_laws.proofs.orders.Counts.{none_below, none_before, none_after, line_is}
+
+not_here : (n m : ℕ) → n < m → (m == n) ≡ false
+not_here n m h = ne_eqb m n (λ e. omega (arith, h, e))
 
 -- ---- how far a change is
 
 -- by the stage of its command, if that waits and asks for no data
 abbrev pub by_stage : Stage → Option Progress
-by_stage stage.Sent = Some progress.Sent
-by_stage stage.Received = Some progress.Begun
-by_stage (stage.Given d) = None
-by_stage stage.Lost = None
+by_stage Stage.Sent = Some Progress.Sent
+by_stage Stage.Received = Some Progress.Begun
+by_stage (Stage.Given d) = None
+by_stage Stage.Lost = None
 
 abbrev pub so_far : Use → Option Progress
 so_far u = cond (waits u && not (asks_data (kind_by u.command))) (by_stage u.stage) None
 
 -- of the line of a number; one that is not open is done
 abbrev pub progress_in : List Use → ℕ → Option Progress
-progress_in [] n = Some progress.Done
+progress_in [] n = Some Progress.Done
 progress_in (u ∷ us) n = cond (u.line == n) (so_far u) (progress_in us n)
 
 pub progress_renewed : (f : Known → Known) (us : List Use) (n : ℕ) → progress_in (map (use_renewed f) us) n ≡ progress_in us n
@@ -83,7 +63,7 @@ progress_own (w ∷ before) u after n own none =
     let parts = or_parts (w.line == n) (list_any (line_is n) before) none in
     past w (before ++ u ∷ after) n parts.0 ∙ progress_own before u after n own parts.1
 
-progress_none : (us : List Use) (n : ℕ) → list_any (line_is n) us ≡ false → progress_in us n ≡ Some progress.Done
+progress_none : (us : List Use) (n : ℕ) → list_any (line_is n) us ≡ false → progress_in us n ≡ Some Progress.Done
 progress_none [] n none = refl
 progress_none (w ∷ us) n none =
     let parts = or_parts (w.line == n) (list_any (line_is n) us) none in
@@ -105,9 +85,9 @@ none_renewed f (u ∷ us) n e =
 -- of a line above the first one that waits: it is done
 pub progress_front : (from : ℕ) (before : List Use) (u : Use) (after : List Use) (top n : ℕ) (p : Progress)
     → AreCounted from (before ++ u ∷ after) top → list_any waits before ≡ false → n < u.line
-    → progress_in (before ++ u ∷ after) n ≡ Some p → p ≡ progress.Done
+    → progress_in (before ++ u ∷ after) n ≡ Some p → p ≡ Progress.Done
 progress_front from [] u after top n p h none low is =
-    let done_now : ◌≡◌ {A = Option Progress} (Some progress.Done) (Some p) =
+    let done_now : ◌≡◌ {A = Option Progress} (Some Progress.Done) (Some p) =
     sym (progress_none after n (none_below (suc u.line) after top n h.1 (omega (arith, low))))
     ∙ (sym (past u after n (not_here n u.line low)) ∙ is) in
     cc
@@ -118,7 +98,7 @@ progress_front from (w ∷ before) u after top n p h none low is =
     rests = ap (λ (b : Bool). cond (b && not (asks_data (kind_by w.command))) (by_stage w.stage) None)
         (or_parts (waits w) (list_any waits before) none).0
 
-    go : (b : Bool) → (w.line == n) ≡ b → (progress_in (before ++ u ∷ after) n ≡ Some p → p ≡ progress.Done) → p ≡ progress.Done
+    go : (b : Bool) → (w.line == n) ≡ b → (progress_in (before ++ u ∷ after) n ≡ Some p → p ≡ Progress.Done) → p ≡ Progress.Done
     go true own later =
         let clash : ◌≡◌ {A = Option Progress} None (Some p) = sym rests ∙ (sym (first w (before ++ u ∷ after) n own) ∙ is) in
         absurd (cc)
@@ -163,7 +143,7 @@ none_held lossy us top k = record { tool = tt; frame = tt; zero = tt }
 
 -- all that stands above a line is done
 abbrev pub AreDone : List Use → ℕ → Type 0
-AreDone us top = (s : Standing) → IsFine us top s → s.progress ≡ progress.Done
+AreDone us top = (s : Standing) → IsFine us top s → s.progress ≡ Progress.Done
 
 pub front_done : (before : List Use) (u : Use) (after : List Use) (top : ℕ) → AreCounted 0 (before ++ u ∷ after) top
     → list_any waits before ≡ false → AreDone (before ++ u ∷ after) u.line
@@ -251,9 +231,9 @@ fault_moves lossy us top = record { lost = λ e. refl; each = each }
     }
 
     go : (s : Standing) (p : Progress) → IsFine us top s → IsThere true (map (use_renewed (all_renewed Fault)) us) top (knows.faulted s p)
-    go s progress.Sent fine = kept s fine
-    go s progress.Begun fine = refl
-    go s progress.Done fine = refl
+    go s Progress.Sent fine = kept s fine
+    go s Progress.Begun fine = refl
+    go s Progress.Done fine = refl
 
     each : (s : Standing) → IsFine us top s → IsThere true (map (use_renewed (all_renewed Fault)) us) top (renewed Fault s)
     each s fine = go s s.progress fine
@@ -331,11 +311,11 @@ kept_moves lossy f from before u v after top high h rising same carries =
     none = none_before from before u after high rising
 
 pub gone_moves : (lossy : Bool) (f : Known → Known) (from : ℕ) (before : List Use) (u : Use) (after : List Use) (top high : ℕ) (h : Heard)
-    → AreCounted from (before ++ u ∷ after) high → Carries (so_far u) h (Some progress.Done)
+    → AreCounted from (before ++ u ∷ after) high → Carries (so_far u) h (Some Progress.Done)
     → Moves lossy lossy (before ++ u ∷ after) (map (use_renewed f) before ++ map (use_renewed f) after) top (Mark u.line h)
 gone_moves lossy f from before u after top high h rising carries =
     mark_moves lossy (before ++ u ∷ after) (map (use_renewed f) before ++ map (use_renewed f) after) top u.line h (so_far u)
-    (Some progress.Done)
+    (Some Progress.Done)
     (λ n other. progress_left f before u after n other)
     (progress_own before u after u.line (eq-eqb u.line u.line refl) none)
     (progress_none (map (use_renewed f) before ++ map (use_renewed f) after) u.line
@@ -415,24 +395,24 @@ holds_below lossy us vs top more s v k m h c may = go (holds_stays lossy us vs t
   where
     go : Holds lossy vs more v k → (c : Command) → (asks_data (kind_of c) ≡ false → IsFine vs more s)
         → Holds lossy vs more (selected_after v c) (below_command (Some s) c k)
-    go g command.StartSession fine = none_held lossy vs more (below_command (Some s) command.StartSession k)
-    go g command.EndSession fine = none_held lossy vs more (below_command (Some s) command.EndSession k)
-    go g command.Home fine = record { tool = tt; frame = Holds.frame g; zero = Holds.zero g }
-    go g (command.ChangeTool n) fine = record { tool = (refl, fine refl); frame = Holds.frame g; zero = Holds.zero g }
-    go g (command.SetCsyTransformation p) fine = record {
+    go g Command.StartSession fine = none_held lossy vs more (below_command (Some s) Command.StartSession k)
+    go g Command.EndSession fine = none_held lossy vs more (below_command (Some s) Command.EndSession k)
+    go g Command.Home fine = record { tool = tt; frame = Holds.frame g; zero = Holds.zero g }
+    go g (Command.ChangeTool n) fine = record { tool = (refl, fine refl); frame = Holds.frame g; zero = Holds.zero g }
+    go g (Command.SetCsyTransformation p) fine = record {
       tool = Holds.tool g;
       frame = frame_unless lossy vs more v.frame k.csy k.part (Holds.frame g);
       zero = (refl, fine refl);
     }
-    go g (command.SetCoordSystem MachineCsy) fine = record { tool = Holds.tool g; frame = (refl, fine refl); zero = Holds.zero g }
-    go g (command.SetCoordSystem PartCsy) fine = record {
+    go g (Command.SetCoordSystem MachineCsy) fine = record { tool = Holds.tool g; frame = (refl, fine refl); zero = Holds.zero g }
+    go g (Command.SetCoordSystem PartCsy) fine = record {
       tool = Holds.tool g;
       frame = part_selected lossy vs more s v.zero k.zero (fine refl) (Holds.zero g);
       zero = Holds.zero g;
     }
-    go g command.ClearAllErrors fine = g
-    go g command.IsHomed fine = g
-    go g command.OnPtMeasReport fine = g
-    go g (command.GoTo p) fine = g
-    go g (command.PtMeas p d) fine = g
-    go g command.AbortE fine = g
+    go g Command.ClearAllErrors fine = g
+    go g Command.IsHomed fine = g
+    go g Command.OnPtMeasReport fine = g
+    go g (Command.GoTo p) fine = g
+    go g (Command.PtMeas p d) fine = g
+    go g Command.AbortE fine = g

@@ -1,19 +1,10 @@
 -- Features that are sound for a ledger of what was reported are true of what was reported.
-use Rattle.std.proofs.Common.{◌≡◌, ℕ, zero, suc, ◌+◌, ◌-◌, ◌<◌, ◌≤◌, ◌⊎◌, inl, inr, true, List, [], ◌∷◌, ◌++◌, length, map, take, drop}
-use Rattle.std.proofs.Common.{refl, sym, ◌∙◌, ap, subst, arith, Option, Some, None}
-use Rattle.std.proofs.lemmas.List.{drop-append-le, take-append-le, length-drop, drop-map, take-map}
-use Rattle.std.proofs.Math.Seq.{drop-append-add}
-use Rattle.std.proofs.lemmas.Bool.{cases_lt}
-use Rattle.fixed_um.specs.declared.lengths.Point.{Point}
-use Rattle.contact_ledger.specs.declared.acts.Act.{Act}
-use Rattle.contact_ledger.specs.declared.acts.Act.TheVariants as act
-use Rattle.contact_ledger.specs.declared.features.Feature.{Feature}
+use Rattle.witness_laws.proofs.Names.{◌++◌, ◌+◌, ◌-◌, ◌<◌, ◌∙◌, ◌∷◌, ◌≡◌, ◌≤◌, ◌⊎◌, [], Act, ap, AreRuns, arith, cases_lt, contacts, contacts_more}
+use Rattle.witness_laws.proofs.Names.{done_on, drop, drop-append-add, drop-append-le, drop-map, Feature, inl, inr, IsRun, length, length-drop, List}
+use Rattle.witness_laws.proofs.Names.{MadeContact, map, None, Option, Point, refl, Reported, Serves, Some, Sound, subst, suc, sym, take}
+use Rattle.witness_laws.proofs.Names.{take-append-le, take-map, true, zero, ℕ}
 use Rattle.dmis_program.specs.declared.features.Touch.{Touch}
 use Rattle.dmis_program.specs.declared.features.Wanted.{Wanted}
-use Rattle.protocol_model.specs.Claims.{MadeContact, contacts, Serves, IsRun, AreRuns, Sound}
-use Rattle.protocol_model.proofs.invariant.Moves.{done_on}
-use Rattle.protocol_model.proofs.invariant.Served.{contacts_more}
-use Rattle.witness.specs.declared.lines.Reported.{Reported}
 use Rattle.told_files.specs.Numbering.{numbered_from}
 use Rattle.told_files.specs.Runs.{parts_of, known_contacts, IsToldRun, AreToldRuns, SoundByTold, connection_at, unnumbered, AreRunContacts}
 use Rattle.told_files.proofs.NextContacts.{numbered_all}
@@ -31,14 +22,14 @@ renumbered n ((m, a) ∷ l) = (suc (n + m), a) ∷ renumbered n l
 
 raised_contacts : (n : ℕ) (l : List (ℕ × Act)) → contacts (renumbered n l) ≡ map (raised n) (contacts l)
 raised_contacts n [] = refl
-raised_contacts n ((m, act.Contact target dir tool frame point) ∷ l) =
+raised_contacts n ((m, Act.Contact target dir tool frame point) ∷ l) =
     let x : MadeContact = record { connection = suc (n + m); target = target; dir = dir; tool = tool; frame = frame; point = point } in
     ap (λ (ms : List MadeContact). x ∷ ms) (raised_contacts n l)
-raised_contacts n ((m, act.HomedIs homed) ∷ l) = raised_contacts n l
-raised_contacts n ((m, act.Homed) ∷ l) = raised_contacts n l
-raised_contacts n ((m, act.Moved p f) ∷ l) = raised_contacts n l
-raised_contacts n ((m, act.Changed k) ∷ l) = raised_contacts n l
-raised_contacts n ((m, act.Framed f) ∷ l) = raised_contacts n l
+raised_contacts n ((m, Act.HomedIs homed) ∷ l) = raised_contacts n l
+raised_contacts n ((m, Act.Homed) ∷ l) = raised_contacts n l
+raised_contacts n ((m, Act.Moved p f) ∷ l) = raised_contacts n l
+raised_contacts n ((m, Act.Changed k) ∷ l) = raised_contacts n l
+raised_contacts n ((m, Act.Framed f) ∷ l) = raised_contacts n l
 
 unnumbered_raised : (n : ℕ) (ms : List MadeContact) → map unnumbered (map (raised n) ms) ≡ map unnumbered ms
 unnumbered_raised n [] = refl
@@ -91,12 +82,12 @@ above_behind n (suc s) (m ∷ ms) h = above_behind n s ms h.1
 
 done_at : (n : ℕ) (acts : List Act) → AreAt n (contacts (done_on n acts))
 done_at n [] = tt
-done_at n (act.Contact target dir tool frame point ∷ acts) = (refl, done_at n acts)
-done_at n (act.HomedIs homed ∷ acts) = done_at n acts
-done_at n (act.Homed ∷ acts) = done_at n acts
-done_at n (act.Moved p f ∷ acts) = done_at n acts
-done_at n (act.Changed m ∷ acts) = done_at n acts
-done_at n (act.Framed f ∷ acts) = done_at n acts
+done_at n (Act.Contact target dir tool frame point ∷ acts) = (refl, done_at n acts)
+done_at n (Act.HomedIs homed ∷ acts) = done_at n acts
+done_at n (Act.Homed ∷ acts) = done_at n acts
+done_at n (Act.Moved p f ∷ acts) = done_at n acts
+done_at n (Act.Changed m ∷ acts) = done_at n acts
+done_at n (Act.Framed f ∷ acts) = done_at n acts
 
 -- contacts on one connection are not both above another and on it
 not_both : (c n k : ℕ) (xs ys : List MadeContact) → 0 < length xs → length xs < k → length (take k (xs ++ ys)) ≡ k
@@ -121,14 +112,14 @@ placed m x = record x { connection = m }
 
 placed_contacts : (n m : ℕ) (acts : List Act) → contacts (done_on m acts) ≡ map (placed m) (contacts (done_on n acts))
 placed_contacts n m [] = refl
-placed_contacts n m (act.Contact target dir tool frame point ∷ acts) =
+placed_contacts n m (Act.Contact target dir tool frame point ∷ acts) =
     let x : MadeContact = record { connection = m; target = target; dir = dir; tool = tool; frame = frame; point = point } in
     ap (λ (ms : List MadeContact). x ∷ ms) (placed_contacts n m acts)
-placed_contacts n m (act.HomedIs homed ∷ acts) = placed_contacts n m acts
-placed_contacts n m (act.Homed ∷ acts) = placed_contacts n m acts
-placed_contacts n m (act.Moved p f ∷ acts) = placed_contacts n m acts
-placed_contacts n m (act.Changed k ∷ acts) = placed_contacts n m acts
-placed_contacts n m (act.Framed f ∷ acts) = placed_contacts n m acts
+placed_contacts n m (Act.HomedIs homed ∷ acts) = placed_contacts n m acts
+placed_contacts n m (Act.Homed ∷ acts) = placed_contacts n m acts
+placed_contacts n m (Act.Moved p f ∷ acts) = placed_contacts n m acts
+placed_contacts n m (Act.Changed k ∷ acts) = placed_contacts n m acts
+placed_contacts n m (Act.Framed f ∷ acts) = placed_contacts n m acts
 
 placed_serves : (c m : ℕ) (ts : List Touch) (ps : List Point) (ms : List MadeContact) → Serves c ts ps ms → Serves m ts ps (map (placed m) ms)
 placed_serves c m [] [] [] h = tt

@@ -1,40 +1,16 @@
 -- What a witness does at a mark of a command that a client sent, next to what the client does.
-use Rattle.std.proofs.Common.{◌≡◌, ℕ, Bool, true, false, cond, ◌&&◌, ◌||◌, not, List, [], ◌∷◌, ◌++◌, length, map, take, refl}
-use Rattle.std.proofs.Common.{sym, ◌∙◌, ap, subst, eq-eqb, Option, Some, None}
-use Rattle.std.proofs.lemmas.Bool.{false≢true, or_parts, and_parts}
-use Rattle.std.proofs.lemmas.List.{map-append, length-map}
-use Rattle.std.specs.Prelude.{position, slice_get, remove, ◌==◌}
-use Rattle.std.specs.List.{list_any}
-use Rattle.dme_line.specs.Kinds.{kind_of}
-use Rattle.dme_line.specs.declared.tags.Tag.{Tag}
-use Rattle.dme_line.specs.declared.commands.Kind.{Kind}
-use Rattle.dme_line.specs.declared.commands.Kind.TheVariants as kind
-use Rattle.dme_line.specs.declared.commands.Command.{Command}
-use Rattle.protocol_model.specs.Replies.{Mark, tag_is}
-use Rattle.protocol_model.specs.Open.{Verdict, Becomes, Breaks, Closes, Counts, Refused, judged, judged_given, judged_done, fits, asks_data}
-use Rattle.protocol_model.specs.declared.held.Datum.{Datum}
+use Rattle.witness_laws.proofs.Names.{◌&&◌, ◌++◌, ◌==◌, ◌||◌, ◌∙◌, ◌∷◌, ◌≡◌, [], act_of, after_mark, all_renewed, and_parts, answered_known, ap}
+use Rattle.witness_laws.proofs.Names.{asks_data, at_use, Becomes, Bool, Closes, Command, cond, Counts, Datum, Dialogue, eq-eqb, false, false≢true}
+use Rattle.witness_laws.proofs.Names.{faulting, fits, has_turn, Heard, heard_as, heard_at, heard_under, hearing, is_answer, is_end, is_error}
+use Rattle.witness_laws.proofs.Names.{is_foreign, is_out_of_turn, is_rival, judged, judged_done, judged_given, Kind, kind_of, Known, left_over}
+use Rattle.witness_laws.proofs.Names.{length, length-map, List, list_any, map, map-append, None, not, NotInTurn, Option, or_parts, position, Progress}
+use Rattle.witness_laws.proofs.Names.{refl, Refused, remove, Renewal, report_of, Reported, reported_by, SentCommand, server_answered, Signal}
+use Rattle.witness_laws.proofs.Names.{slice_get, Some, Stage, stage_after, Step, step, subst, sym, Tag, tag_is, take, true, unknowing, unless_crossed}
+use Rattle.witness_laws.proofs.Names.{Use, use_heard, use_renewed, Verdict, waits, without_rival, ℕ}
+use Rattle.protocol_model.specs.Replies.{Mark}
+use Rattle.protocol_model.specs.Open.{Breaks}
 use Rattle.protocol_model.specs.declared.held.Stage.{Stage as OpenStage}
-use Rattle.witness.specs.Asking.{Signal}
-use Rattle.witness.specs.Dialogues.{Dialogue, waits, use_renewed, after_mark, answered_known, without_rival, unknowing, use_heard, left_over}
-use Rattle.witness.specs.Dialogues.{is_out_of_turn, hearing, at_use, heard_at, heard_under, server_answered, reported_by, report_of}
-use Rattle.witness.specs.Dialogues.{act_of, unless_crossed, faulting}
-use Rattle.witness.specs.Known.{all_renewed, is_rival}
-use Rattle.witness.specs.Marks.{heard_as, is_end, step, stage_after, is_answer, is_error, has_turn, is_foreign}
-use Rattle.witness.specs.declared.lines.Heard.{Heard}
-use Rattle.witness.specs.declared.lines.Heard.TheVariants as heard
-use Rattle.witness.specs.declared.lines.Known.{Known}
-use Rattle.witness.specs.declared.lines.Progress.{Progress}
-use Rattle.witness.specs.declared.lines.Progress.TheVariants as progress
-use Rattle.witness.specs.declared.lines.Renewal.TheVariants as renewal
-use Rattle.witness.specs.declared.lines.Reported.{Reported}
-use Rattle.witness.specs.declared.lines.Reported.TheVariants as reports
-use Rattle.witness.specs.declared.lines.Rule.TheVariants.{NotInTurn}
-use Rattle.witness.specs.declared.lines.SentCommand.{SentCommand}
 use Rattle.witness.specs.declared.lines.SentCommand.TheVariants.{Known as Sends}
-use Rattle.witness.specs.declared.lines.Stage.{Stage}
-use Rattle.witness.specs.declared.lines.Stage.TheVariants as stage
-use Rattle.witness.specs.declared.lines.Step.{Step}
-use Rattle.witness.specs.declared.lines.Use.{Use}
 use Rattle.witness_laws.proofs.client.Agreeing.{IsOurs, AreOurs, is_lost}
 use Rattle.witness_laws.proofs.client.Cuts.{stage_by, has_tag, taken}
 use Rattle.witness_laws.proofs.client.Holding.{by_stage, Carries}
@@ -45,7 +21,7 @@ use Rattle.witness_laws.proofs.orders.Counts.{line_is}
 
 -- what is known of the others, and the use itself
 abbrev pub marked : ℕ → Heard → Known → Known
-marked line h k = all_renewed (renewal.Mark line h) k
+marked line h k = all_renewed (Renewal.Mark line h) k
 
 abbrev pub others : ℕ → Heard → List Use → List Use
 others line h us = map (use_renewed (marked line h)) us
@@ -174,7 +150,7 @@ heard_first d line tag signal h before u after c parts none here ours_before our
     ap (heard_under d line tag signal) (ap (position (has_tag tag)) parts ∙ place (has_tag tag) before u after none here)
     ∙ (ap (at_use d (length before) signal) (ap (λ (l : List Use). slice_get l (length before)) parts ∙ get_there before u after)
     ∙ (ap (λ (x : Heard). heard_at d (length before) u x (is_end signal)) is
-    ∙ (ap (λ (b : Bool). cond b (hearing (faulting d (reports.Broken NotInTurn u.tag)) (length before) (use_renewed (all_renewed renewal.Fault) u) h (is_end signal))
+    ∙ (ap (λ (b : Bool). cond b (hearing (faulting d (Reported.Broken NotInTurn u.tag)) (length before) (use_renewed (all_renewed Renewal.Fault) u) h (is_end signal))
     (hearing d (length before) u h (is_end signal))) (turn_kept d.uses before u after c h parts sends turn)
     ∙ hearing_is d before u after h (is_end signal) c parts ours_before ours_after alone sends none_before none_after straight)))
 
@@ -182,10 +158,10 @@ heard_first d line tag signal h before u after c parts none here ours_before our
 
 -- what a client hears, as a witness hears it
 abbrev pub heard_of : Mark → Heard
-heard_of Mark.Ack = heard.Received
-heard_of (Mark.Given d) = heard.Given d
-heard_of Mark.Done = heard.Complete
-heard_of Mark.Error = heard.Failed
+heard_of Mark.Ack = Heard.Received
+heard_of (Mark.Given d) = Heard.Given d
+heard_of Mark.Done = Heard.Complete
+heard_of Mark.Error = Heard.Failed
 
 -- whether it ends a command
 abbrev pub ends : Mark → Bool
@@ -199,7 +175,7 @@ abbrev pub Carried : Bool → Stage → Heard → Stage → Type 0
 Carried asks s h later = (waits : Bool) → Carries (cond (waits && not asks) (by_stage s) None) h (cond (waits && not asks) (by_stage later) None)
 
 abbrev pub CarriedOut : Bool → Stage → Heard → Type 0
-CarriedOut asks s h = (waits : Bool) → Carries (cond (waits && not asks) (by_stage s) None) h (Some progress.Done)
+CarriedOut asks s h = (waits : Bool) → Carries (cond (waits && not asks) (by_stage s) None) h (Some Progress.Done)
 
 -- the stage is as the client's, and failed if an error came
 abbrev pub IsStaged : Stage → Mark → Step → OpenStage → Type 0
@@ -235,76 +211,76 @@ asked_carried asks b s later h is =
     (subst (λ (x : Bool). Carries (cond x (by_stage s) None) h (cond x (by_stage later) None)) (sym (not_asked b))
     (nothing_carried false h None))
 
-sent_carried : (b : Bool) → Carries (cond b (Some progress.Sent) None) heard.Received (cond b (Some progress.Begun) None)
+sent_carried : (b : Bool) → Carries (cond b (Some Progress.Sent) None) Heard.Received (cond b (Some Progress.Begun) None)
 sent_carried true s p is =
-    let same : p ≡ progress.Sent = cc in
-    rw same (record { progress = progress.Begun; is = refl; reached = refl })
+    let same : p ≡ Progress.Sent = cc in
+    rw same (record { progress = Progress.Begun; is = refl; reached = refl })
 sent_carried false s p is = absurd (cc)
 
-begun_out : (b : Bool) → Carries (cond b (Some progress.Begun) None) heard.Complete (Some progress.Done)
+begun_out : (b : Bool) → Carries (cond b (Some Progress.Begun) None) Heard.Complete (Some Progress.Done)
 begun_out true s p is =
-    let same : p ≡ progress.Begun = cc in
-    rw same (record { progress = progress.Done; is = refl; reached = refl })
+    let same : p ≡ Progress.Begun = cc in
+    rw same (record { progress = Progress.Done; is = refl; reached = refl })
 begun_out false s p is = absurd (cc)
 
 fits_asks : (k : Kind) (d : Datum) → fits k d ≡ true → asks_data k ≡ true
-fits_asks kind.PtMeas d e = refl
-fits_asks kind.IsHomed d e = refl
-fits_asks kind.StartSession d e = absurd (false≢true e)
-fits_asks kind.EndSession d e = absurd (false≢true e)
-fits_asks kind.ClearAllErrors d e = absurd (false≢true e)
-fits_asks kind.Home d e = absurd (false≢true e)
-fits_asks kind.OnPtMeasReport d e = absurd (false≢true e)
-fits_asks kind.GoTo d e = absurd (false≢true e)
-fits_asks kind.ChangeTool d e = absurd (false≢true e)
-fits_asks kind.SetCsyTransformation d e = absurd (false≢true e)
-fits_asks kind.SetCoordSystem d e = absurd (false≢true e)
-fits_asks kind.AbortE d e = absurd (false≢true e)
+fits_asks Kind.PtMeas d e = refl
+fits_asks Kind.IsHomed d e = refl
+fits_asks Kind.StartSession d e = absurd (false≢true e)
+fits_asks Kind.EndSession d e = absurd (false≢true e)
+fits_asks Kind.ClearAllErrors d e = absurd (false≢true e)
+fits_asks Kind.Home d e = absurd (false≢true e)
+fits_asks Kind.OnPtMeasReport d e = absurd (false≢true e)
+fits_asks Kind.GoTo d e = absurd (false≢true e)
+fits_asks Kind.ChangeTool d e = absurd (false≢true e)
+fits_asks Kind.SetCsyTransformation d e = absurd (false≢true e)
+fits_asks Kind.SetCoordSystem d e = absurd (false≢true e)
+fits_asks Kind.AbortE d e = absurd (false≢true e)
 
 given_follows : (b asks : Bool) (c : Command) (s : Stage) (d : Datum) → asks_data (kind_of c) ≡ asks → (b ≡ true → asks ≡ true)
-    → Follows c s (Mark.Given d) (step asks s (heard.Given d)) (judged_given b (stage_by s) d)
+    → Follows c s (Mark.Given d) (step asks s (Heard.Given d)) (judged_given b (stage_by s) d)
 given_follows false asks c s d same lets = tt
-given_follows true asks c stage.Sent d same lets = tt
-given_follows true asks c stage.Received d same lets = (
+given_follows true asks c Stage.Sent d same lets = tt
+given_follows true asks c Stage.Received d same lets = (
   refl,
   (refl, refl),
   (λ k tag. refl),
-  λ b. asked_carried (asks_data (kind_of c)) b stage.Received (stage.Given d) (heard.Given d) (same ∙ lets refl),
+  λ b. asked_carried (asks_data (kind_of c)) b Stage.Received (Stage.Given d) (Heard.Given d) (same ∙ lets refl),
 )
-given_follows true asks c (stage.Given e) d same lets = tt
-given_follows true asks c stage.Lost d same lets = tt
+given_follows true asks c (Stage.Given e) d same lets = tt
+given_follows true asks c Stage.Lost d same lets = tt
 
 -- the table
 pub follows : (front : Bool) (c : Command) (s : Stage) (m : Mark)
     → Follows c s m (step (asks_data (kind_of c)) s (heard_of m)) (judged front (kind_of c) (stage_by s) m)
 follows front c s (Mark.Given d) = given_follows (front && fits (kind_of c) d) (asks_data (kind_of c)) c s d refl
     (λ e. fits_asks (kind_of c) d (and_parts front (fits (kind_of c) d) e).1)
-follows front c stage.Sent Mark.Ack = (refl, (refl, refl), (λ k tag. refl), λ b. sent_carried (b && not (asks_data (kind_of c))))
-follows front c stage.Received Mark.Ack = tt
-follows front c (stage.Given e) Mark.Ack = tt
-follows front c stage.Lost Mark.Ack = tt
-follows front c stage.Sent Mark.Error = (refl, (refl, refl), λ k tag. refl)
-follows front c stage.Received Mark.Error = (refl, (refl, refl), λ k tag. refl)
-follows front c (stage.Given e) Mark.Error = (refl, (refl, refl), λ k tag. refl)
-follows front c stage.Lost Mark.Error =
-    (refl, (refl, refl), (λ k tag. refl), λ b. nothing_carried (b && not (asks_data (kind_of c))) heard.Failed _)
+follows front c Stage.Sent Mark.Ack = (refl, (refl, refl), (λ k tag. refl), λ b. sent_carried (b && not (asks_data (kind_of c))))
+follows front c Stage.Received Mark.Ack = tt
+follows front c (Stage.Given e) Mark.Ack = tt
+follows front c Stage.Lost Mark.Ack = tt
+follows front c Stage.Sent Mark.Error = (refl, (refl, refl), λ k tag. refl)
+follows front c Stage.Received Mark.Error = (refl, (refl, refl), λ k tag. refl)
+follows front c (Stage.Given e) Mark.Error = (refl, (refl, refl), λ k tag. refl)
+follows front c Stage.Lost Mark.Error =
+    (refl, (refl, refl), (λ k tag. refl), λ b. nothing_carried (b && not (asks_data (kind_of c))) Heard.Failed _)
 follows front c s Mark.Done = go front (asks_data (kind_of c)) s refl
   where
     go : (f asks : Bool) (s : Stage) → asks_data (kind_of c) ≡ asks
-        → Follows c s Mark.Done (step asks s heard.Complete) (judged_done f asks (stage_by s))
-    go f asks stage.Lost same =
-        (refl, (λ k tag. refl), λ b. nothing_carried (b && not (asks_data (kind_of c))) heard.Complete (Some progress.Done))
-    go true true stage.Sent same = tt
-    go true false stage.Sent same = tt
-    go true true stage.Received same = tt
-    go true false stage.Received same = (refl, (λ k tag. refl), λ b. begun_out (b && not (asks_data (kind_of c))))
-    go true true (stage.Given e) same =
-        (refl, (λ k tag. refl), λ b. nothing_carried (b && not (asks_data (kind_of c))) heard.Complete (Some progress.Done))
-    go true false (stage.Given e) same =
-        (refl, (λ k tag. refl), λ b. nothing_carried (b && not (asks_data (kind_of c))) heard.Complete (Some progress.Done))
-    go false asks stage.Sent same = tt
-    go false asks stage.Received same = tt
-    go false asks (stage.Given e) same = tt
+        → Follows c s Mark.Done (step asks s Heard.Complete) (judged_done f asks (stage_by s))
+    go f asks Stage.Lost same =
+        (refl, (λ k tag. refl), λ b. nothing_carried (b && not (asks_data (kind_of c))) Heard.Complete (Some Progress.Done))
+    go true true Stage.Sent same = tt
+    go true false Stage.Sent same = tt
+    go true true Stage.Received same = tt
+    go true false Stage.Received same = (refl, (λ k tag. refl), λ b. begun_out (b && not (asks_data (kind_of c))))
+    go true true (Stage.Given e) same =
+        (refl, (λ k tag. refl), λ b. nothing_carried (b && not (asks_data (kind_of c))) Heard.Complete (Some Progress.Done))
+    go true false (Stage.Given e) same =
+        (refl, (λ k tag. refl), λ b. nothing_carried (b && not (asks_data (kind_of c))) Heard.Complete (Some Progress.Done))
+    go false asks Stage.Sent same = tt
+    go false asks Stage.Received same = tt
+    go false asks (Stage.Given e) same = tt
 
 -- an answer to what has not failed is expected at the front only
 abbrev pub IsTaken : Verdict → Type 0
@@ -320,7 +296,7 @@ needs_front true k s m answer calm taken = refl
 needs_front false k s Mark.Ack answer calm taken = absurd (false≢true answer)
 needs_front false k s Mark.Error answer calm taken = absurd (false≢true answer)
 needs_front false k s (Mark.Given d) answer calm taken = absurd (taken)
-needs_front false k stage.Sent Mark.Done answer calm taken = absurd (taken)
-needs_front false k stage.Received Mark.Done answer calm taken = absurd (taken)
-needs_front false k (stage.Given e) Mark.Done answer calm taken = absurd (taken)
-needs_front false k stage.Lost Mark.Done answer calm taken = absurd (false≢true (sym calm))
+needs_front false k Stage.Sent Mark.Done answer calm taken = absurd (taken)
+needs_front false k Stage.Received Mark.Done answer calm taken = absurd (taken)
+needs_front false k (Stage.Given e) Mark.Done answer calm taken = absurd (taken)
+needs_front false k Stage.Lost Mark.Done answer calm taken = absurd (false≢true (sym calm))

@@ -1,47 +1,23 @@
 -- A reply that a client expects: it and the witness still agree.
-use Rattle.std.proofs.Common.{◌≡◌, ℕ, Bool, true, false, cond, not, ◌&&◌, ◌||◌, List, [], ◌∷◌, ◌++◌, refl, sym, ◌∙◌, ap, subst}
-use Rattle.std.proofs.Common.{append-nil, Option, Some, None}
-use Rattle.std.specs.List.{list_any}
-use Rattle.dme_line.specs.Kinds.{kind_of}
-use Rattle.dme_line.specs.declared.tags.Tag.{Tag}
-use Rattle.dme_line.specs.declared.commands.Kind.{Kind}
-use Rattle.dme_line.specs.declared.commands.Command.{Command}
+use Rattle.witness_laws.proofs.Names.{◌&&◌, ◌++◌, ◌||◌, ◌∙◌, ◌∷◌, ◌≡◌, [], all_renewed, answered_known, ap, append-nil, AreCounted, asks_data}
+use Rattle.witness_laws.proofs.Names.{Becomes, becomes_calm, Bool, Closes, Command, cond, Counts, Datum, Dialogue, false, HasNoAbort, HaveArguments}
+use Rattle.witness_laws.proofs.Names.{Heard, is_answer, is_error, is_failed, judged, Kind, kind_of, Known, List, list_any, no_closes, no_counts, None}
+use Rattle.witness_laws.proofs.Names.{not, OpenCommand, Option, Progress, refl, Renewal, Reported, SentCommand, Some, stage_after, stage_with, step}
+use Rattle.witness_laws.proofs.Names.{subst, sym, Table, tabled, Tag, Tally, true, Use, waits, ℕ}
 use Rattle.protocol_model.specs.Replies.{Mark}
-use Rattle.protocol_model.specs.Open.{Becomes, Closes, Counts, judged, is_failed, asks_data}
-use Rattle.protocol_model.specs.Client.{Tally, Table}
-use Rattle.protocol_model.specs.declared.held.Datum.{Datum}
 use Rattle.protocol_model.specs.declared.held.Stage.{Stage as OpenStage}
-use Rattle.protocol_model.specs.declared.held.OpenCommand.{OpenCommand}
-use Rattle.protocol_model.proofs.plan.Marks.{HasNoAbort}
 use Rattle.protocol_model.proofs.table.Counts.{failed_stays, is_failed-true, never_counts}
-use Rattle.protocol_model.proofs.table.Replying.{tabled}
-use Rattle.protocol_model.proofs.undisturbed_run.Following.{becomes_calm, no_closes, no_counts}
-use Rattle.protocol_model.proofs.written_lines.PlainClient.{HaveArguments}
-use Rattle.witness.specs.Dialogues.{Dialogue, waits, answered_known}
-use Rattle.witness.specs.Known.{all_renewed}
-use Rattle.witness.specs.Marks.{step, stage_after, stage_with, is_answer, is_error}
-use Rattle.witness.specs.declared.lines.Heard.{Heard}
-use Rattle.witness.specs.declared.lines.Known.{Known}
-use Rattle.witness.specs.declared.lines.Progress.{Progress}
-use Rattle.witness.specs.declared.lines.Progress.TheVariants as progress
-use Rattle.witness.specs.declared.lines.Renewal.TheVariants as renewal
-use Rattle.witness.specs.declared.lines.Reported.{Reported}
-use Rattle.witness.specs.declared.lines.SentCommand.{SentCommand}
 use Rattle.witness.specs.declared.lines.SentCommand.TheVariants.{Known as Sends}
-use Rattle.witness.specs.declared.lines.Use.{Use}
-use Rattle.witness_laws.specs.Orders.{AreCounted}
 use Rattle.witness_laws.specs.Acts.{all_done, Claims}
-use Rattle.witness_laws.proofs.client.Agreeing.{is_standard, is_event, is_lost, IsOurs, AreOurs, ours_join, ours_front, ours_rest, renewed_ours, picks_renewed}
-use Rattle.witness_laws.proofs.client.Agreeing.{command_in, live, live_out, live_more, live_renewed, waits_renewed, event_rests, standard_waits}
-use Rattle.witness_laws.proofs.client.Agreeing.{selected_past, selected_all, KnowsIf, AreKnown, selected_join, known_join, known_front, known_rest}
-use Rattle.witness_laws.proofs.client.Agreeing.{selected_renewed, past_none, past_one, none_past, none_known, known_moved}
-use Rattle.witness_laws.proofs.client.Agreeing.{commands_of, IsNext, AgreesOn}
+use Rattle.witness_laws.proofs.client.Agreeing.{is_standard, is_event, is_lost, IsOurs, AreOurs, ours_front, ours_rest, renewed_ours, picks_renewed, command_in}
+use Rattle.witness_laws.proofs.client.Agreeing.{live, live_out, live_more, live_renewed, waits_renewed, event_rests, standard_waits, selected_past, selected_all}
+use Rattle.witness_laws.proofs.client.Agreeing.{KnowsIf, AreKnown, selected_join, known_join, known_front, known_rest, selected_renewed, past_none, past_one}
+use Rattle.witness_laws.proofs.client.Agreeing.{none_past, none_known, known_moved, commands_of, IsNext, AgreesOn}
 use Rattle.witness_laws.proofs.client.Cuts.{kind_by, stage_by, entry, picks, picks_in, picks_out, picks_more}
-use Rattle.witness_laws.proofs.client.Holding.{by_stage, so_far, Holds, AreDone}
-use Rattle.witness_laws.proofs.client.Holding.{front_done, holds_moved, answer_moves, Carries, kept_moves, gone_moves}
+use Rattle.witness_laws.proofs.client.Holding.{by_stage, so_far, Holds, AreDone, front_done, holds_moved, answer_moves, Carries, kept_moves, gone_moves}
 use Rattle.witness_laws.proofs.client.Knowing.{Selected, selected_after}
 use Rattle.witness_laws.proofs.client.Marks.{marked, others, own, uses_after, marked_as}
-use Rattle.witness_laws.proofs.orders.Counts.{marked_counted, gone_counted}
+use Rattle.witness_laws.proofs.orders.Counts.{marked_counted, gone_counted, each_more}
 
 -- ---- what is picked of the uses after a mark
 
@@ -154,9 +130,9 @@ marked_agrees lossy b d before u after h ended more standard event y a one stand
     }
   where
     ours : (e : Bool) → (e ≡ false → IsOurs (own h u)) → AreOurs (uses_after before u after h e)
-    ours true kept = ours_join (others u.line h before) (others u.line h after) (renewed_ours (marked u.line h) before (Around.earlier a))
+    ours true kept = each_more IsOurs (others u.line h before) (others u.line h after) (renewed_ours (marked u.line h) before (Around.earlier a))
         (renewed_ours (marked u.line h) after (Around.later a))
-    ours false kept = ours_join (others u.line h before) (own h u ∷ others u.line h after)
+    ours false kept = each_more IsOurs (others u.line h before) (own h u ∷ others u.line h after)
         (renewed_ours (marked u.line h) before (Around.earlier a)) (kept refl, renewed_ours (marked u.line h) after (Around.later a))
 
     rising : (e : Bool) → AreCounted 0 (uses_after before u after h e) d.lines
@@ -185,8 +161,8 @@ answered_holds : (lossy : Bool) (us : List Use) (top : ℕ) (v : Selected) (k : 
     → Holds lossy us top v k → Holds lossy us top v (answered_known h k)
 answered_holds lossy us top v k h all holds = go (is_answer h) refl
   where
-    go : (b : Bool) → is_answer h ≡ b → Holds lossy us top v (cond b (all_renewed renewal.Answer k) k)
-    go true is = holds_moved lossy lossy us us top renewal.Answer v k (answer_moves lossy us top (all is)) holds
+    go : (b : Bool) → is_answer h ≡ b → Holds lossy us top v (cond b (all_renewed Renewal.Answer k) k)
+    go true is = holds_moved lossy lossy us us top Renewal.Answer v k (answer_moves lossy us top (all is)) holds
     go false is = holds
 
 -- along the uses before and after one
@@ -251,7 +227,7 @@ next_kept lossy d y before u after h more parts rising same carries front n = re
     moved : (top : ℕ) (v : Selected) (k : Known) → Holds lossy (before ++ u ∷ after) top v k
         → Holds lossy (others u.line h before ++ own h u ∷ others u.line h after) top v (marked u.line h k)
     moved top v k = holds_moved lossy lossy (before ++ u ∷ after) (others u.line h before ++ own h u ∷ others u.line h after) top
-        (renewal.Mark u.line h) v k (kept_moves lossy (marked u.line h) 0 before u (own h u) after top d.lines h rising refl carries)
+        (Renewal.Mark u.line h) v k (kept_moves lossy (marked u.line h) 0 before u (own h u) after top d.lines h rising refl carries)
 
     here : (b : Bool) → waits u ≡ b → KnowsIf b lossy (before ++ u ∷ after) (selected_all (IsNext.base n) before) u
         → KnowsIf b lossy (others u.line h before ++ own h u ∷ others u.line h after) (selected_all (IsNext.base n) before) (own h u)
@@ -273,11 +249,11 @@ next_kept lossy d y before u after h more parts rising same carries front n = re
         ∙ selected_renewed (marked u.line h) (selected_past (selected_all (IsNext.base n) before) u) after))
 
 gone_holds : (lossy : Bool) (d : Dialogue) (before : List Use) (u : Use) (after : List Use) (h : Heard)
-    → AreCounted 0 (before ++ u ∷ after) d.lines → Carries (so_far u) h (Some progress.Done)
+    → AreCounted 0 (before ++ u ∷ after) d.lines → Carries (so_far u) h (Some Progress.Done)
     → (top : ℕ) (v : Selected) (k : Known) → Holds lossy (before ++ u ∷ after) top v k
     → Holds lossy (others u.line h before ++ others u.line h after) top v (marked u.line h k)
 gone_holds lossy d before u after h rising carries top v k =
-    holds_moved lossy lossy (before ++ u ∷ after) (others u.line h before ++ others u.line h after) top (renewal.Mark u.line h) v k
+    holds_moved lossy lossy (before ++ u ∷ after) (others u.line h before ++ others u.line h after) top (Renewal.Mark u.line h) v k
     (gone_moves lossy (marked u.line h) 0 before u after top d.lines h rising carries)
 
 -- a use is gone that did not wait
@@ -310,7 +286,7 @@ next_closed lossy d y before u after h more parts rising rests n = record {
 
     moved : (top : ℕ) (v : Selected) (k : Known) → Holds lossy (before ++ u ∷ after) top v k
         → Holds lossy (others u.line h before ++ others u.line h after) top v (marked u.line h k)
-    moved = gone_holds lossy d before u after h rising (rest_carries u h (Some progress.Done) rests)
+    moved = gone_holds lossy d before u after h rising (rest_carries u h (Some Progress.Done) rests)
 
     selected_same : selected_all (IsNext.base n) (others u.line h before ++ others u.line h after)
         ≡ selected_all (selected_past (selected_all (IsNext.base n) before) u) after
@@ -329,7 +305,7 @@ pub record IsCounted (lossy : Bool) (d : Dialogue) (before : List Use) (u : Use)
 
 pub next_counted : (lossy : Bool) (d : Dialogue) (y : Tally) (before : List Use) (u : Use) (after : List Use) (h : Heard) (c : Command)
     → d.uses ≡ before ++ u ∷ after → AreCounted 0 (before ++ u ∷ after) d.lines → waits u ≡ true → list_any waits before ≡ false
-    → u.command ≡ Sends c → Carries (so_far u) h (Some progress.Done) → (n : IsNext lossy d y)
+    → u.command ≡ Sends c → Carries (so_far u) h (Some Progress.Done) → (n : IsNext lossy d y)
     → IsCounted lossy d before u after h (IsNext.base n) (selected_after (IsNext.base n) c)
 next_counted lossy d y before u after h c parts rising waits_now none sends carries n = record {
   fits = subst (λ (v : Selected). Holds lossy (before ++ u ∷ after) u.line v u.known) none_before_it

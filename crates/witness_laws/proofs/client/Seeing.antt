@@ -1,93 +1,53 @@
 -- What a witness reports after every list of calls of a client.
-use Rattle.std.proofs.Common.{◌≡◌, ℕ, zero, suc, ◌≤◌, Bool, true, false, cond, not, List, [], ◌∷◌, ◌++◌, length, map, refl, sym, ◌∙◌, ap, subst}
-use Rattle.std.proofs.Common.{is_some, arith, append_assoc, append-nil, ne_eqb, ◌||◌, Option, Some, None, Result, Ok, Err}
-use Rattle.std.proofs.lemmas.Bool.{false≢true, not-true}
-use Rattle.std.specs.Prelude.{◌+◌, ◌==◌, ◌&&◌}
-use Rattle.std.specs.List.{list_any}
-use Rattle.fixed_um.specs.declared.lengths.Point.{Point}
-use Rattle.line_framing.specs.Next.{Front, next_of}
-use Rattle.line_framing.specs.declared.faults.FramingFault.TheVariants as framing
-use Rattle.dme_line.specs.Kinds.{kind_of, is_event_kind}
-use Rattle.dme_line.specs.Written.{written_command, IsWritable}
-use Rattle.dme_line.specs.declared.tags.Tag.{Tag}
-use Rattle.dme_line.specs.declared.tags.Tag.TheVariants as tag
-use Rattle.dme_line.specs.declared.commands.Kind.{Kind}
-use Rattle.dme_line.specs.declared.commands.Kind.TheVariants as kind
-use Rattle.dme_line.specs.declared.commands.Command.{Command}
-use Rattle.dme_line.specs.declared.commands.Command.TheVariants as command
-use Rattle.dme_line.specs.declared.reading.LineFault.{LineFault}
-use Rattle.dme_line.specs.declared.homed.NotHomedText.{NotHomedText}
-use Rattle.dme_line.specs.declared.points.NotPoint.{NotPoint}
+use Rattle.witness_laws.proofs.Names.{◌&&◌, ◌++◌, ◌+◌, ◌==◌, ◌||◌, ◌∙◌, ◌∷◌, ◌≡◌, ◌≤◌, [], Ack, all_renewed, answered, ap, append-nil, append_assoc}
+use Rattle.witness_laws.proofs.Names.{AreCounted, arith, asks_data, at_once, below_command, Bool, Cause, client_connected, client_hears, client_left}
+use Rattle.witness_laws.proofs.Names.{client_lines, client_restarted, client_resumed, client_sent, ClientEnd, Command, command_read, command_texts}
+use Rattle.witness_laws.proofs.Names.{cond, count_open, Datum, Dialogue, due, Err, false, false≢true, Fault, faulting, Feature, foreign_event}
+use Rattle.witness_laws.proofs.Names.{FramingFault, Front, front_read, Given, given_under, HasNoAbort, HaveArguments, heard_as, heard_event, heard_in}
+use Rattle.witness_laws.proofs.Names.{heard_on, heard_standard, heard_under, held_now, held_under, homed_of, is_end, is_event_kind, is_held}
+use Rattle.witness_laws.proofs.Names.{is_report, is_some, IsWritable, Kind, kind_of, Known, last_under, later, length, Line, line_read, LineFault}
+use Rattle.witness_laws.proofs.Names.{List, list_any, map, may_abort, ne_eqb, new_client_end, next_number, next_of, None, not, not-true, nothing}
+use Rattle.witness_laws.proofs.Names.{NotHomedText, NotPoint, NotResponse, Ok, OpenCommand, Option, plan, plan_arguments, plan_no_abort, Planned}
+use Rattle.witness_laws.proofs.Names.{Point, point_of, Progress, refl, Reported, Response, response_of, response_read, Result, said_all, sending}
+use Rattle.witness_laws.proofs.Names.{sending_after, sends_abort, sends_next, sent, server_answered, server_front, Signal, signal_of, silence, Some}
+use Rattle.witness_laws.proofs.Names.{Stage, standard_kind, Start, State, subst, suc, sym, Table, Tag, tag_is, tag_is-true, Tally, true, Use}
+use Rattle.witness_laws.proofs.Names.{use_renewed, waits, with_event, written_command, zero, ℕ}
 use Rattle.dme_line.specs.declared.responses.Mark.{Mark as Marked}
+use Rattle.protocol_model.specs.Replies.{Mark}
+use Rattle.protocol_model.specs.Open.{Heard as Heardings}
+use Rattle.protocol_model.specs.Client.{Client, faulted, client_read}
+use Rattle.protocol_model.specs.Ends.{given_point, given_homed, given_for}
+use Rattle.protocol_model.proofs.table.NextNumber.{drawn_free, drawn_within}
+use Rattle.witness.specs.Asking.{Done}
+use Rattle.witness.specs.declared.lines.SentCommand.TheVariants.{Known as Sends}
 use Rattle.dme_line.specs.declared.responses.Mark.TheVariants as mark
-use Rattle.dme_line.specs.declared.responses.Response.{Response}
-use Rattle.dme_line.specs.declared.responses.NotResponse.{NotResponse}
-use Rattle.contact_ledger.specs.declared.features.Feature.{Feature}
 use Rattle.dmis_program.specs.Meaning.{Meaning}
 use Rattle.dmis_program.specs.Programs.{IsProgram}
-use Rattle.protocol_model.specs.Readings.{response_of, point_of, homed_of}
-use Rattle.protocol_model.specs.Replies.{Mark, tag_is}
-use Rattle.protocol_model.specs.Open.{Heard as Heardings, heard_in, count_open, is_held, asks_data}
-use Rattle.protocol_model.specs.Plan.{plan}
-use Rattle.protocol_model.specs.Client.{Client, Tally, Table, heard_on, heard_standard, heard_event, faulted, client_hears, client_read}
-use Rattle.protocol_model.specs.Client.{sends_next, sends_abort, next_number, client_connected, client_resumed, client_left, client_restarted}
-use Rattle.protocol_model.specs.Client.{held_now, may_abort}
-use Rattle.protocol_model.specs.Client.{due}
-use Rattle.protocol_model.specs.Ends.{ClientEnd, new_client_end, held_under, given_point, given_homed, given_for, given_under}
-use Rattle.protocol_model.specs.Ends.{response_read, line_read, front_read}
-use Rattle.protocol_model.specs.Lines.{command_texts}
-use Rattle.protocol_model.specs.declared.held.Datum.TheVariants as datum
-use Rattle.protocol_model.specs.declared.held.OpenCommand.{OpenCommand}
-use Rattle.protocol_model.specs.declared.plans.Planned.{Planned}
-use Rattle.protocol_model.specs.declared.plans.Start.{Start}
-use Rattle.protocol_model.specs.declared.states.Cause.{Cause}
-use Rattle.protocol_model.specs.declared.states.State.{State}
-use Rattle.protocol_model.proofs.plan.Marks.{HasNoAbort, plan_no_abort}
-use Rattle.protocol_model.proofs.table.Basics.{tag_is-true}
-use Rattle.protocol_model.proofs.table.NextNumber.{drawn_free, drawn_within}
-use Rattle.protocol_model.proofs.written_lines.PlainClient.{HaveArguments, plan_arguments, standard_kind}
-use Rattle.protocol_model.proofs.written_lines.Writable.{command_read}
-use Rattle.client_core.specs.Calls.{Call, Connected, Send, Feed, ReadOne, Abort, Resume, Leave, Restart, Sent, possible, done_by}
-use Rattle.client_core.specs.Calls.{behind_call, behind_calls, client_behind, Plans, plans_begun}
+use Rattle.client_core.specs.Calls.{Call, Connected, Send, Feed, ReadOne, Abort, Resume, Leave, Restart, Sent, possible, done_by, behind_call, behind_calls}
+use Rattle.client_core.specs.Calls.{client_behind, Plans, plans_begun}
 use Rattle.client_core.specs.Clients.{are_ours, is_faulted, may_read}
 use Rattle.client_core.proofs.Fits.{both}
 use Rattle.client_core.proofs.Fronts.{live_kinds, IsAskedLast}
 use Rattle.client_core.proofs.Fronts as fronts
 use Rattle.client_core.proofs.Runs.{Holds, behind_holds, IsOnPlan, on_unless_off, due_running, resumed_state}
-use Rattle.witness.specs.Asking.{Signal, Ack, Done, Given, signal_of, sent, answered}
 use Rattle.witness.specs.Asking as asking
-use Rattle.witness.specs.Dialogues.{Dialogue, silence, waits, faulting, server_answered, heard_under, is_report}
-use Rattle.witness.specs.Dialogues.{client_sent, sending_after, sending, foreign_event, at_once, with_event, last_under, later, use_renewed}
-use Rattle.witness.specs.Known.{all_renewed, below_command, nothing}
 use Rattle.witness.specs.Marks as marks
-use Rattle.witness.specs.Marks.{heard_as, is_end}
-use Rattle.witness.specs.Watching.{client_lines, server_front}
-use Rattle.witness.specs.declared.lines.Known.{Known}
-use Rattle.witness.specs.declared.lines.Progress.TheVariants as progress
-use Rattle.witness.specs.declared.lines.Renewal.TheVariants.{Fault}
-use Rattle.witness.specs.declared.lines.Reported.{Reported}
-use Rattle.witness.specs.declared.lines.Reported.TheVariants as reports
-use Rattle.witness.specs.declared.lines.SentCommand.TheVariants.{Known as Sends}
-use Rattle.witness.specs.declared.lines.Stage.TheVariants as stage
-use Rattle.witness.specs.declared.lines.Use.{Use}
 use Rattle.witness_laws.specs.Acts.{all_done, BeginsWith, Claims, BeginsToClaim}
-use Rattle.witness_laws.specs.Orders.{AreCounted, Line, said_all}
 use Rattle.witness_laws.specs.Lines.{witnessed_by, witnessed_call, witnessed, is_unasked, unasked_front, unasked_by, unasked_call}
 use Rattle.witness_laws.specs.Lines as lines
 use Rattle.witness_laws.proofs.client.Cuts.{entry, picks, picks_in, picks_out, picks_more, has_tag}
 use Rattle.witness_laws.proofs.client.Knowing.{Selected, none_selected, selected_after, plan_agrees}
 use Rattle.witness_laws.proofs.client.Marks.{heard_of, ends}
-use Rattle.witness_laws.proofs.client.Agreeing.{is_standard, is_event, IsOurs, AreOurs, ours_join, live, live_in, live_out, live_more, renewed_ours}
-use Rattle.witness_laws.proofs.client.Agreeing.{picks_renewed, live_renewed, live_none, event_rests, standard_waits, live_are, no_kinds, not_held}
-use Rattle.witness_laws.proofs.client.Agreeing.{commands_of, selected_past, selected_all, selected_join, selected_renewed, past_none, past_one, KnowsIf}
-use Rattle.witness_laws.proofs.client.Agreeing.{AreKnown, known_join, known_moved, none_known, none_past, IsNext, AgreesOn}
+use Rattle.witness_laws.proofs.client.Agreeing.{is_standard, is_event, IsOurs, AreOurs, live, live_in, live_out, live_more, renewed_ours, picks_renewed}
+use Rattle.witness_laws.proofs.client.Agreeing.{live_renewed, live_none, event_rests, standard_waits, live_are, no_kinds, not_held, commands_of, selected_past}
+use Rattle.witness_laws.proofs.client.Agreeing.{selected_all, selected_join, selected_renewed, past_none, past_one, KnowsIf, AreKnown, known_join, known_moved}
+use Rattle.witness_laws.proofs.client.Agreeing.{none_known, none_past, IsNext, AgreesOn}
 use Rattle.witness_laws.proofs.client.Claiming.{Begins, begins_all, begins_with, begins_to_claim, claims_same}
 use Rattle.witness_laws.proofs.client.Growing.{Grows, grows_not, answer_grows, begins_still, begins_after}
-use Rattle.witness_laws.proofs.client.Holding.{progress_sent}
-use Rattle.witness_laws.proofs.client.Holding.{IsFine, fine_more, Holds as HoldsFor, none_held, holds_moved, holds_stays, holds_below, fault_moves}
+use Rattle.witness_laws.proofs.client.Holding.{progress_sent, IsFine, fine_more, Holds as HoldsFor, none_held, holds_moved, holds_stays, holds_below, fault_moves}
 use Rattle.witness_laws.proofs.client.Steps.{standard_agrees, event_agrees}
 use Rattle.witness_laws.proofs.orders.Marks.{nowhere}
-use Rattle.witness_laws.proofs.orders.Counts.{renewed_counted, bound, none_above, one_counted}
+use Rattle.witness_laws.proofs.orders.Counts.{renewed_counted, bound, none_above, one_counted, each_more}
 
 -- ---- what holds at any time
 
@@ -136,7 +96,7 @@ next_faulted lossy d y report n = record {
         (fault_moves lossy d.uses top)
 
 unasked_agrees : (lossy : Bool) (b : Table) (d : Dialogue) (line : List ℕ) → AgreesOn lossy b d
-    → AgreesOn true b (faulting d (reports.Unasked line))
+    → AgreesOn true b (faulting d (Reported.Unasked line))
 unasked_agrees lossy b d line a = record {
   ours = renewed_ours (all_renewed Fault) d.uses (AgreesOn.ours a);
   rising = renewed_counted (all_renewed Fault) 0 d.uses d.lines (AgreesOn.rising a);
@@ -145,37 +105,37 @@ unasked_agrees lossy b d line a = record {
   standard = picks_renewed is_standard (all_renewed Fault) d.uses ∙ AgreesOn.standard a;
   event = picks_renewed is_event (all_renewed Fault) d.uses ∙ AgreesOn.event a;
   exact = λ e. absurd (false≢true (sym e));
-  claims = claims_same b.tally.counted d.reported (reports.Unasked line ∷ []) (AgreesOn.claims a) refl;
+  claims = claims_same b.tally.counted d.reported (Reported.Unasked line ∷ []) (AgreesOn.claims a) refl;
   arguments = AgreesOn.arguments a;
   no_abort = AgreesOn.no_abort a;
-  calm = λ calm. next_faulted lossy d b.tally (reports.Unasked line) (AgreesOn.calm a calm);
+  calm = λ calm. next_faulted lossy d b.tally (Reported.Unasked line) (AgreesOn.calm a calm);
 }
 
 -- no use is under the event tag of number 0, and no report by event is
-none_zero : (us : List Use) → AreOurs us → list_any (has_tag (tag.Event 0)) us ≡ false
+none_zero : (us : List Use) → AreOurs us → list_any (has_tag (Tag.Event 0)) us ≡ false
 none_zero [] h = refl
-none_zero (u ∷ us) h = ap (λ (b : Bool). b || list_any (has_tag (tag.Event 0)) us) (IsOurs.some h.0) ∙ none_zero us h.1
+none_zero (u ∷ us) h = ap (λ (b : Bool). b || list_any (has_tag (Tag.Event 0)) us) (IsOurs.some h.0) ∙ none_zero us h.1
 
-no_report : (signal : Signal) (events : List ℕ) → list_any (λ (m : ℕ). m == 0) events ≡ false → is_report (tag.Event 0) signal events ≡ false
+no_report : (signal : Signal) (events : List ℕ) → list_any (λ (m : ℕ). m == 0) events ≡ false → is_report (Tag.Event 0) signal events ≡ false
 no_report Ack events none = refl
 no_report (Given p homed) events none = none
 no_report Done events none = refl
 no_report asking.Error events none = refl
 
 zero_is : (lossy : Bool) (b : Table) (d : Dialogue) (line : List ℕ) (signal : Signal) → AgreesOn lossy b d
-    → server_answered d line (Some (tag.Event 0, signal)) ≡ faulting d (reports.Unasked line)
+    → server_answered d line (Some (Tag.Event 0, signal)) ≡ faulting d (Reported.Unasked line)
 zero_is lossy b d line signal a =
-    ap (heard_under d line (tag.Event 0) signal) (nowhere (has_tag (tag.Event 0)) d.uses (none_zero d.uses (AgreesOn.ours a)))
-    ∙ ap (λ (x : Bool). cond x d (faulting d (reports.Unasked line))) (no_report signal d.events (AgreesOn.events a))
+    ap (heard_under d line (Tag.Event 0) signal) (nowhere (has_tag (Tag.Event 0)) d.uses (none_zero d.uses (AgreesOn.ours a)))
+    ∙ ap (λ (x : Bool). cond x d (faulting d (Reported.Unasked line))) (no_report signal d.events (AgreesOn.events a))
 
-zero_seen : (lossy : Bool) (c : Client) (d : Dialogue) (line : List ℕ) (x : Tag) (signal : Signal) → tag_is x (tag.Event 0) ≡ true
+zero_seen : (lossy : Bool) (c : Client) (d : Dialogue) (line : List ℕ) (x : Tag) (signal : Signal) → tag_is x (Tag.Event 0) ≡ true
     → AgreesOn lossy c.table d → IsSeen true c (server_answered d line (Some (x, signal)))
 zero_seen lossy c d line x signal same a =
-    subst (λ (y : Tag). IsSeen true c (server_answered d line (Some (y, signal)))) (sym (tag_is-true x (tag.Event 0) same))
+    subst (λ (y : Tag). IsSeen true c (server_answered d line (Some (y, signal)))) (sym (tag_is-true x (Tag.Event 0) same))
     (subst (IsSeen true c) (sym (zero_is lossy c.table d line signal a))
-    (now_seen true c (faulting d (reports.Unasked line)) (unasked_agrees lossy c.table d line a)))
+    (now_seen true c (faulting d (Reported.Unasked line)) (unasked_agrees lossy c.table d line a)))
 
-zero_read : (c : Client) (x : Tag) (m : Marked) → tag_is x (tag.Event 0) ≡ true → response_read c x m ≡ c
+zero_read : (c : Client) (x : Tag) (m : Marked) → tag_is x (Tag.Event 0) ≡ true → response_read c x m ≡ c
 zero_read c x mark.Ack same = ap (λ (b : Bool). cond b c (client_hears c x Mark.Ack (heard_on c.program.features c.table x Mark.Ack))) same
 zero_read c x mark.Done same = ap (λ (b : Bool). cond b c (client_hears c x Mark.Done (heard_on c.program.features c.table x Mark.Done))) same
 zero_read c x (mark.Error text) same =
@@ -196,56 +156,56 @@ asked_last_of lossy c d r calm =
     let last = on.calm calm in last.asked_last
 
 standard_hears : (lossy : Bool) (c : Client) (d : Dialogue) (line : List ℕ) (n : ℕ) (signal : Signal) (m : Mark) → IsReading lossy c d
-    → ReadsUnder (tag.Std n) c signal m → (r : Heardings) → heard_in (not c.table.tally.failed) c.table.standard (tag.Std n) m ≡ r
-    → IsSeen lossy (client_hears c (tag.Std n) m (heard_standard c.program.features c.table r))
-    (server_answered d line (Some (tag.Std n, signal)))
+    → ReadsUnder (Tag.Std n) c signal m → (r : Heardings) → heard_in (not c.table.tally.failed) c.table.standard (Tag.Std n) m ≡ r
+    → IsSeen lossy (client_hears c (Tag.Std n) m (heard_standard c.program.features c.table r))
+    (server_answered d line (Some (Tag.Std n, signal)))
 standard_hears lossy c d line n signal m h reads (Ok (hs, e)) is =
     let on : IsOnPlan c.program c.table.standard c.table.tally (IsReading.plan_is h).0 = (IsReading.plan_is h).1 in
-    now_seen lossy (client_hears c (tag.Std n) m (heard_standard c.program.features c.table (Ok (hs, e)))) _
+    now_seen lossy (client_hears c (Tag.Std n) m (heard_standard c.program.features c.table (Ok (hs, e)))) _
     (standard_agrees lossy c.program.features c.table d line n m signal hs e is
     (record { heard = ReadsUnder.heard reads; ended = ReadsUnder.ended reads }) on.filled (asked_last_of lossy c d h) (IsReading.agrees h))
 standard_hears lossy c d line n signal m h reads (Err cause) is = fault_seen lossy cause c d _ (IsReading.seen h)
-    (answer_grows d line (Some (tag.Std n, signal)))
+    (answer_grows d line (Some (Tag.Std n, signal)))
 
 event_hears : (lossy : Bool) (c : Client) (d : Dialogue) (line : List ℕ) (n : ℕ) (signal : Signal) (m : Mark) → IsReading lossy c d
-    → ReadsUnder (tag.Event n) c signal m → (r : Heardings) → heard_in true c.table.event (tag.Event n) m ≡ r
-    → IsSeen lossy (client_hears c (tag.Event n) m (heard_event c.table r)) (server_answered d line (Some (tag.Event n, signal)))
+    → ReadsUnder (Tag.Event n) c signal m → (r : Heardings) → heard_in true c.table.event (Tag.Event n) m ≡ r
+    → IsSeen lossy (client_hears c (Tag.Event n) m (heard_event c.table r)) (server_answered d line (Some (Tag.Event n, signal)))
 event_hears lossy c d line n signal m h reads (Ok (hs, e)) is =
-    now_seen lossy (client_hears c (tag.Event n) m (heard_event c.table (Ok (hs, e)))) _
+    now_seen lossy (client_hears c (Tag.Event n) m (heard_event c.table (Ok (hs, e)))) _
     (event_agrees lossy c.table d line n m signal hs e is (record { heard = ReadsUnder.heard reads; ended = ReadsUnder.ended reads })
     (IsReading.agrees h))
 event_hears lossy c d line n signal m h reads (Err cause) is = fault_seen lossy cause c d _ (IsReading.seen h)
-    (answer_grows d line (Some (tag.Event n, signal)))
+    (answer_grows d line (Some (Tag.Event n, signal)))
 
 reply_seen : (lossy : Bool) (c : Client) (d : Dialogue) (line : List ℕ) (x : Tag) (signal : Signal) (m : Mark) → IsReading lossy c d
-    → tag_is x (tag.Event 0) ≡ false → ReadsUnder x c signal m → IsSeen lossy (client_read c x m) (server_answered d line (Some (x, signal)))
-reply_seen lossy c d line (tag.Std n) signal m h other reads = standard_hears lossy c d line n signal m h reads
-    (heard_in (not c.table.tally.failed) c.table.standard (tag.Std n) m) refl
-reply_seen lossy c d line (tag.Event n) signal m h other reads =
-    subst (λ (b : Bool). IsSeen lossy (cond b c (client_hears c (tag.Event n) m
-    (heard_event c.table (heard_in true c.table.event (tag.Event n) m)))) (server_answered d line (Some (tag.Event n, signal)))) (sym other)
-    (event_hears lossy c d line n signal m h reads (heard_in true c.table.event (tag.Event n) m) refl)
+    → tag_is x (Tag.Event 0) ≡ false → ReadsUnder x c signal m → IsSeen lossy (client_read c x m) (server_answered d line (Some (x, signal)))
+reply_seen lossy c d line (Tag.Std n) signal m h other reads = standard_hears lossy c d line n signal m h reads
+    (heard_in (not c.table.tally.failed) c.table.standard (Tag.Std n) m) refl
+reply_seen lossy c d line (Tag.Event n) signal m h other reads =
+    subst (λ (b : Bool). IsSeen lossy (cond b c (client_hears c (Tag.Event n) m
+    (heard_event c.table (heard_in true c.table.event (Tag.Event n) m)))) (server_answered d line (Some (Tag.Event n, signal)))) (sym other)
+    (event_hears lossy c d line n signal m h reads (heard_in true c.table.event (Tag.Event n) m) refl)
 
 same_kind : (k l : Kind) → ◌≡◌ {A = Option Kind} (Some k) (Some l) → l ≡ k
 same_kind k l e = cc
 
 point_seen : (lossy : Bool) (c : Client) (d : Dialogue) (line : List ℕ) (x : Tag) (homed : Result Bool NotHomedText) → IsReading lossy c d
-    → tag_is x (tag.Event 0) ≡ false → held_under x c ≡ Some kind.PtMeas → (r : Result Point NotPoint)
+    → tag_is x (Tag.Event 0) ≡ false → held_under x c ≡ Some Kind.PtMeas → (r : Result Point NotPoint)
     → IsSeen lossy (given_point c x r) (server_answered d line (Some (x, Given r homed)))
 point_seen lossy c d line x homed h other held (Ok p) =
-    reply_seen lossy c d line x (Given (Ok p) homed) (Mark.Given (datum.Point p)) h other (record {
-      heard = λ k e. ap (λ (j : Kind). marks.given_for j (Ok p) homed) (same_kind kind.PtMeas (kind_of k) (sym held ∙ e));
+    reply_seen lossy c d line x (Given (Ok p) homed) (Mark.Given (Datum.Point p)) h other (record {
+      heard = λ k e. ap (λ (j : Kind). marks.given_for j (Ok p) homed) (same_kind Kind.PtMeas (kind_of k) (sym held ∙ e));
       ended = refl;
     })
 point_seen lossy c d line x homed h other held (Err why) = fault_seen lossy Cause.NotResponse c d _ (IsReading.seen h)
     (answer_grows d line (Some (x, Given (Err why) homed)))
 
 homed_seen : (lossy : Bool) (c : Client) (d : Dialogue) (line : List ℕ) (x : Tag) (p : Result Point NotPoint) → IsReading lossy c d
-    → tag_is x (tag.Event 0) ≡ false → held_under x c ≡ Some kind.IsHomed → (r : Result Bool NotHomedText)
+    → tag_is x (Tag.Event 0) ≡ false → held_under x c ≡ Some Kind.IsHomed → (r : Result Bool NotHomedText)
     → IsSeen lossy (given_homed c x r) (server_answered d line (Some (x, Given p r)))
 homed_seen lossy c d line x p h other held (Ok homed) =
-    reply_seen lossy c d line x (Given p (Ok homed)) (Mark.Given (datum.Homed homed)) h other (record {
-      heard = λ k e. ap (λ (j : Kind). marks.given_for j p (Ok homed)) (same_kind kind.IsHomed (kind_of k) (sym held ∙ e));
+    reply_seen lossy c d line x (Given p (Ok homed)) (Mark.Given (Datum.Homed homed)) h other (record {
+      heard = λ k e. ap (λ (j : Kind). marks.given_for j p (Ok homed)) (same_kind Kind.IsHomed (kind_of k) (sym held ∙ e));
       ended = refl;
     })
 homed_seen lossy c d line x p h other held (Err why) = fault_seen lossy Cause.NotResponse c d _ (IsReading.seen h)
@@ -258,29 +218,29 @@ stray_seen lossy cause c d line x text h = fault_seen lossy cause c d _ (IsReadi
     (answer_grows d line (Some (x, signal_of (mark.Given text))))
 
 data_seen : (lossy : Bool) (c : Client) (d : Dialogue) (line : List ℕ) (x : Tag) (text : List ℕ) → IsReading lossy c d
-    → tag_is x (tag.Event 0) ≡ false → (k : Kind) → held_under x c ≡ Some k
+    → tag_is x (Tag.Event 0) ≡ false → (k : Kind) → held_under x c ≡ Some k
     → IsSeen lossy (given_for c x text k) (server_answered d line (Some (x, signal_of (mark.Given text))))
-data_seen lossy c d line x text h other kind.PtMeas held = point_seen lossy c d line x (homed_of text) h other held (point_of text)
-data_seen lossy c d line x text h other kind.IsHomed held = homed_seen lossy c d line x (point_of text) h other held (homed_of text)
-data_seen lossy c d line x text h other kind.StartSession held = stray_seen lossy Cause.OutOfOrder c d line x text h
-data_seen lossy c d line x text h other kind.EndSession held = stray_seen lossy Cause.OutOfOrder c d line x text h
-data_seen lossy c d line x text h other kind.ClearAllErrors held = stray_seen lossy Cause.OutOfOrder c d line x text h
-data_seen lossy c d line x text h other kind.Home held = stray_seen lossy Cause.OutOfOrder c d line x text h
-data_seen lossy c d line x text h other kind.OnPtMeasReport held = stray_seen lossy Cause.OutOfOrder c d line x text h
-data_seen lossy c d line x text h other kind.GoTo held = stray_seen lossy Cause.OutOfOrder c d line x text h
-data_seen lossy c d line x text h other kind.ChangeTool held = stray_seen lossy Cause.OutOfOrder c d line x text h
-data_seen lossy c d line x text h other kind.SetCsyTransformation held = stray_seen lossy Cause.OutOfOrder c d line x text h
-data_seen lossy c d line x text h other kind.SetCoordSystem held = stray_seen lossy Cause.OutOfOrder c d line x text h
-data_seen lossy c d line x text h other kind.AbortE held = stray_seen lossy Cause.OutOfOrder c d line x text h
+data_seen lossy c d line x text h other Kind.PtMeas held = point_seen lossy c d line x (homed_of text) h other held (point_of text)
+data_seen lossy c d line x text h other Kind.IsHomed held = homed_seen lossy c d line x (point_of text) h other held (homed_of text)
+data_seen lossy c d line x text h other Kind.StartSession held = stray_seen lossy Cause.OutOfOrder c d line x text h
+data_seen lossy c d line x text h other Kind.EndSession held = stray_seen lossy Cause.OutOfOrder c d line x text h
+data_seen lossy c d line x text h other Kind.ClearAllErrors held = stray_seen lossy Cause.OutOfOrder c d line x text h
+data_seen lossy c d line x text h other Kind.Home held = stray_seen lossy Cause.OutOfOrder c d line x text h
+data_seen lossy c d line x text h other Kind.OnPtMeasReport held = stray_seen lossy Cause.OutOfOrder c d line x text h
+data_seen lossy c d line x text h other Kind.GoTo held = stray_seen lossy Cause.OutOfOrder c d line x text h
+data_seen lossy c d line x text h other Kind.ChangeTool held = stray_seen lossy Cause.OutOfOrder c d line x text h
+data_seen lossy c d line x text h other Kind.SetCsyTransformation held = stray_seen lossy Cause.OutOfOrder c d line x text h
+data_seen lossy c d line x text h other Kind.SetCoordSystem held = stray_seen lossy Cause.OutOfOrder c d line x text h
+data_seen lossy c d line x text h other Kind.AbortE held = stray_seen lossy Cause.OutOfOrder c d line x text h
 
 given_seen : (lossy : Bool) (c : Client) (d : Dialogue) (line : List ℕ) (x : Tag) (text : List ℕ) → IsReading lossy c d
-    → tag_is x (tag.Event 0) ≡ false → (held : Option Kind) → held_under x c ≡ held
+    → tag_is x (Tag.Event 0) ≡ false → (held : Option Kind) → held_under x c ≡ held
     → IsSeen lossy (given_under c x text held) (server_answered d line (Some (x, signal_of (mark.Given text))))
 given_seen lossy c d line x text h other None is = stray_seen lossy Cause.UnknownTag c d line x text h
 given_seen lossy c d line x text h other (Some k) is = data_seen lossy c d line x text h other k is
 
 response_seen : (lossy : Bool) (c : Client) (d : Dialogue) (line : List ℕ) (x : Tag) (m : Marked) → IsReading lossy c d
-    → tag_is x (tag.Event 0) ≡ false → IsSeen lossy (response_read c x m) (server_answered d line (Some (x, signal_of m)))
+    → tag_is x (Tag.Event 0) ≡ false → IsSeen lossy (response_read c x m) (server_answered d line (Some (x, signal_of m)))
 response_seen lossy c d line x mark.Ack h other =
     reply_seen lossy c d line x (signal_of mark.Ack) Mark.Ack h other (record { heard = λ k e. refl; ended = refl })
 response_seen lossy c d line x mark.Done h other =
@@ -305,9 +265,9 @@ line_seen : (lossy : Bool) (c : Client) (d : Dialogue) (line : List ℕ) → IsR
 line_seen lossy c d line h (Err why) =
     subst (λ (b : Bool). IsSeen b (faulted Cause.NotResponse c) (server_answered d line None)) (sym (or_false lossy))
     (fault_seen lossy Cause.NotResponse c d _ (IsReading.seen h) (answer_grows d line None))
-line_seen lossy c d line h (Ok r) = go (tag_is r.tag (tag.Event 0)) refl
+line_seen lossy c d line h (Ok r) = go (tag_is r.tag (Tag.Event 0)) refl
   where
-    go : (b : Bool) → tag_is r.tag (tag.Event 0) ≡ b
+    go : (b : Bool) → tag_is r.tag (Tag.Event 0) ≡ b
         → IsSeen (lossy || b) (response_read c r.tag r.mark) (server_answered d line (Some (r.tag, signal_of r.mark)))
     go true same =
         subst (λ (b : Bool). IsSeen b (response_read c r.tag r.mark) (server_answered d line (Some (r.tag, signal_of r.mark)))) (sym (or_true lossy))
@@ -321,8 +281,8 @@ front_seen : (lossy : Bool) (c : Client) (d : Dialogue) → IsReading lossy c d 
     → IsSeen (unasked_front lossy f) (front_read c f) (server_front d f)
 front_seen lossy c d h (Ok None) = IsReading.seen h
 front_seen lossy c d h (Ok (Some (line, rest))) = line_seen lossy c d line h (response_of line)
-front_seen lossy c d h (Err framing.LineTooLong) = fault_seen lossy Cause.LineTooLong c d d (IsReading.seen h) (grows_not d d refl)
-front_seen lossy c d h (Err framing.BadByte) = fault_seen lossy Cause.BadByte c d d (IsReading.seen h) (grows_not d d refl)
+front_seen lossy c d h (Err FramingFault.LineTooLong) = fault_seen lossy Cause.LineTooLong c d d (IsReading.seen h) (grows_not d d refl)
+front_seen lossy c d h (Err FramingFault.BadByte) = fault_seen lossy Cause.BadByte c d d (IsReading.seen h) (grows_not d d refl)
 
 -- ---- what is written
 
@@ -332,15 +292,15 @@ used d x c = record {
   tag = x;
   command = Sends c;
   line = d.lines;
-  stage = stage.Sent;
+  stage = Stage.Sent;
   has_failed = false;
   rival = None;
   known = d.known;
 }
 
 pub not_foreign : (x : Tag) (c : Command) → foreign_event x (Sends c) ≡ false
-not_foreign (tag.Std n) c = refl
-not_foreign (tag.Event n) c = refl
+not_foreign (Tag.Std n) c = refl
+not_foreign (Tag.Event n) c = refl
 
 none_under : (x : Tag) (us : List Use) → list_any (has_tag x) us ≡ false → last_under x us None ≡ None
 none_under x [] free = refl
@@ -367,7 +327,7 @@ picks_still : (test : Tag → Bool) (us : List Use) (u : Use) → test u.tag ≡
 picks_still test us u is = picks_more test us (u ∷ [])
     ∙ (ap (λ (l : List OpenCommand). picks test us ++ l) (picks_out test u [] is) ∙ append-nil (picks test us))
 
-sent_ours : (d : Dialogue) (x : Tag) (c : Command) → is_event_kind (kind_of c) ≡ is_event x → tag_is x (tag.Event 0) ≡ false
+sent_ours : (d : Dialogue) (x : Tag) (c : Command) → is_event_kind (kind_of c) ≡ is_event x → tag_is x (Tag.Event 0) ≡ false
     → IsOurs (used d x c)
 sent_ours d x c sort some = record { command = c; sends = refl; alone = refl; lost = refl; sort = sort; some = some }
 
@@ -396,13 +356,13 @@ next_stays lossy d u top v k is high h = holds_stays lossy d.uses (d.uses ++ u �
     (λ s fine. fine_more d.uses u d.lines top s (omega (arith, is)) high fine) h
 
 sent_fine : (d : Dialogue) (x : Tag) (c : Command) → AreCounted 0 d.uses d.lines → waits (used d x c) ≡ true → asks_data (kind_of c) ≡ false
-    → IsFine (d.uses ++ used d x c ∷ []) (d.lines + 1) (record { line = d.lines; rival = None; progress = progress.Sent })
+    → IsFine (d.uses ++ used d x c ∷ []) (d.lines + 1) (record { line = d.lines; rival = None; progress = Progress.Sent })
 sent_fine d x c rising waiting plain = record {
   alone = refl;
   below = omega arith;
   reached = progress_sent d.uses (used d x c) d.lines (none_above 0 d.uses d.lines rising) refl
-      ∙ (ap (λ (b : Bool). cond (b && not (asks_data (kind_of c))) (Some progress.Sent) None) waiting
-      ∙ ap (λ (b : Bool). cond (not b) (Some progress.Sent) None) plain);
+      ∙ (ap (λ (b : Bool). cond (b && not (asks_data (kind_of c))) (Some Progress.Sent) None) waiting
+      ∙ ap (λ (b : Bool). cond (not b) (Some Progress.Sent) None) plain);
 }
 
 -- a command of the plan is sent
@@ -422,7 +382,7 @@ next_sent lossy d y x q qs rising waiting is n = record {
     tt,
   );
   last = subst (λ (v : Selected). HoldsFor lossy all (d.lines + 1) v (below_it d.known)) (sym selected_is)
-      (holds_below lossy d.uses all d.lines (d.lines + 1) (record { line = d.lines; rival = None; progress = progress.Sent }) there d.known
+      (holds_below lossy d.uses all d.lines (d.lines + 1) (record { line = d.lines; rival = None; progress = Progress.Sent }) there d.known
       (λ s fine. fine_more d.uses u d.lines (d.lines + 1) s (omega arith) (omega arith) fine) (IsNext.last n) q.command
       (sent_fine d x q.command rising waiting));
 }
@@ -437,7 +397,7 @@ next_sent lossy d y x q qs rising waiting is n = record {
     there = selected_all (IsNext.base n) d.uses
 
     below_it : Known → Known
-    below_it k = below_command (Some (record { line = d.lines; rival = None; progress = progress.Sent })) q.command k
+    below_it k = below_command (Some (record { line = d.lines; rival = None; progress = Progress.Sent })) q.command k
 
     selected_is : selected_all (IsNext.base n) (d.uses ++ used d x q.command ∷ []) ≡ selected_after (selected_all (IsNext.base n) d.uses) q.command
     selected_is = selected_join (IsNext.base n) d.uses (used d x q.command ∷ [])
@@ -446,17 +406,17 @@ next_sent lossy d y x q qs rising waiting is n = record {
 sent_agrees : (lossy : Bool) (b : Table) (d : Dialogue) (n : ℕ) (q : Planned) (qs : List Planned) → AgreesOn lossy b d
     → b.tally.unsent ≡ q ∷ qs → is_event_kind (kind_of q.command) ≡ false
     → AgreesOn lossy (record b {
-      standard = b.standard ++ held_now (tag.Std n) (kind_of q.command) ∷ [];
+      standard = b.standard ++ held_now (Tag.Std n) (kind_of q.command) ∷ [];
       tally = record (b.tally) { unsent = qs };
-    }) (sending_after d (tag.Std n) (Sends q.command) None)
+    }) (sending_after d (Tag.Std n) (Sends q.command) None)
 sent_agrees lossy b d n q qs a is sort =
-    let u : Use = used d (tag.Std n) q.command in
-    let one : IsOurs u = sent_ours d (tag.Std n) q.command sort refl in
+    let u : Use = used d (Tag.Std n) q.command in
+    let one : IsOurs u = sent_ours d (Tag.Std n) q.command sort refl in
     let waiting : waits u ≡ true = standard_waits u one refl in
     let arguments : HaveArguments (q ∷ qs) = subst HaveArguments is (AgreesOn.arguments a) in
     let no_abort : HasNoAbort (q ∷ qs) = subst HasNoAbort is (AgreesOn.no_abort a) in
     record {
-      ours = ours_join d.uses (u ∷ []) (AgreesOn.ours a) (one, tt);
+      ours = each_more IsOurs d.uses (u ∷ []) (AgreesOn.ours a) (one, tt);
       rising = one_counted 0 d.uses u (AgreesOn.rising a);
       straight = still_straight d.ordered d.crossed (AgreesOn.straight a);
       events = AgreesOn.events a;
@@ -466,12 +426,12 @@ sent_agrees lossy b d n q qs a is sort =
       claims = AgreesOn.claims a;
       arguments = arguments.1;
       no_abort = no_abort.1;
-      calm = λ calm. next_sent lossy d b.tally (tag.Std n) q qs (AgreesOn.rising a) waiting is (AgreesOn.calm a calm);
+      calm = λ calm. next_sent lossy d b.tally (Tag.Std n) q qs (AgreesOn.rising a) waiting is (AgreesOn.calm a calm);
     }
 
 -- an abort is sent
-next_aborted : (lossy : Bool) (d : Dialogue) (y : Tally) (x : Tag) → AreCounted 0 d.uses d.lines → waits (used d x command.AbortE) ≡ false
-    → IsNext lossy d y → IsNext lossy (sending_after d x (Sends command.AbortE) None) y
+next_aborted : (lossy : Bool) (d : Dialogue) (y : Tally) (x : Tag) → AreCounted 0 d.uses d.lines → waits (used d x Command.AbortE) ≡ false
+    → IsNext lossy d y → IsNext lossy (sending_after d x (Sends Command.AbortE) None) y
 next_aborted lossy d y x rising rests n = record {
   base = IsNext.base n;
   commands = ap (λ (l : List Command). l ++ commands_of y.unsent)
@@ -486,15 +446,15 @@ next_aborted lossy d y x rising rests n = record {
 }
   where
     u : Use
-    u = used d x command.AbortE
+    u = used d x Command.AbortE
 
     all : List Use
-    all = d.uses ++ used d x command.AbortE ∷ []
+    all = d.uses ++ used d x Command.AbortE ∷ []
 
     there : Selected
     there = selected_all (IsNext.base n) d.uses
 
-other_number : (n : ℕ) → tag_is (tag.Event n) (tag.Event 0) ≡ false → (n == 0) ≡ false
+other_number : (n : ℕ) → tag_is (Tag.Event n) (Tag.Event 0) ≡ false → (n == 0) ≡ false
 other_number n e = e
 
 any_last : (events : List ℕ) (n : ℕ) → list_any (λ (m : ℕ). m == 0) events ≡ false → (n == 0) ≡ false
@@ -509,21 +469,21 @@ any_last (m ∷ events) n none other = go (m == 0) none (any_last events n)
     go false e deeper = deeper e other
 
 event_more : (events : List ℕ) (n : ℕ) → list_any (λ (m : ℕ). m == 0) events ≡ false → (n == 0) ≡ false
-    → list_any (λ (m : ℕ). m == 0) (with_event (tag.Event n) events) ≡ false
+    → list_any (λ (m : ℕ). m == 0) (with_event (Tag.Event n) events) ≡ false
 event_more events n none other = go (list_any (λ (m : ℕ). m == n) events)
   where
     go : (b : Bool) → list_any (λ (m : ℕ). m == 0) (cond b events (events ++ n ∷ [])) ≡ false
     go true = none
     go false = any_last events n none other
 
-aborted_agrees : (lossy : Bool) (b : Table) (d : Dialogue) (n : ℕ) → AgreesOn lossy b d → tag_is (tag.Event n) (tag.Event 0) ≡ false
-    → AgreesOn lossy (record b { event = b.event ++ held_now (tag.Event n) kind.AbortE ∷ [] })
-    (sending_after d (tag.Event n) (Sends command.AbortE) None)
+aborted_agrees : (lossy : Bool) (b : Table) (d : Dialogue) (n : ℕ) → AgreesOn lossy b d → tag_is (Tag.Event n) (Tag.Event 0) ≡ false
+    → AgreesOn lossy (record b { event = b.event ++ held_now (Tag.Event n) Kind.AbortE ∷ [] })
+    (sending_after d (Tag.Event n) (Sends Command.AbortE) None)
 aborted_agrees lossy b d n a some =
-    let u : Use = used d (tag.Event n) command.AbortE in
-    let one : IsOurs u = sent_ours d (tag.Event n) command.AbortE refl some in
+    let u : Use = used d (Tag.Event n) Command.AbortE in
+    let one : IsOurs u = sent_ours d (Tag.Event n) Command.AbortE refl some in
     record {
-      ours = ours_join d.uses (u ∷ []) (AgreesOn.ours a) (one, tt);
+      ours = each_more IsOurs d.uses (u ∷ []) (AgreesOn.ours a) (one, tt);
       rising = one_counted 0 d.uses u (AgreesOn.rising a);
       straight = still_straight d.ordered d.crossed (AgreesOn.straight a);
       events = event_more d.events n (AgreesOn.events a) some;
@@ -533,10 +493,10 @@ aborted_agrees lossy b d n a some =
       claims = AgreesOn.claims a;
       arguments = AgreesOn.arguments a;
       no_abort = AgreesOn.no_abort a;
-      calm = λ calm. next_aborted lossy d b.tally (tag.Event n) (AgreesOn.rising a) (event_rests u one refl) (AgreesOn.calm a calm);
+      calm = λ calm. next_aborted lossy d b.tally (Tag.Event n) (AgreesOn.rising a) (event_rests u one refl) (AgreesOn.calm a calm);
     }
 
-not_zero : (n : ℕ) → 1 ≤ n → tag_is (tag.Event n) (tag.Event 0) ≡ false
+not_zero : (n : ℕ) → 1 ≤ n → tag_is (Tag.Event n) (Tag.Event 0) ≡ false
 not_zero zero some = absurd (omega (arith, some))
 not_zero (suc n) some = ne_eqb (suc n) 0 (λ e. omega (arith, e))
 
@@ -546,50 +506,50 @@ pub record IsDrawn (d : Dialogue) (x : Tag) (c : Command) : Type 0 where
   pub free : list_any (has_tag x) d.uses ≡ false
 
 pub sent_drawn : (lossy : Bool) (c : Client) (d : Dialogue) → AgreesOn lossy c.table d → (q : Planned) (qs : List Planned)
-    → c.table.tally.unsent ≡ q ∷ qs → (n : ℕ) → next_number tag.Std c.table.standard c.drawn ≡ Some n → IsDrawn d (tag.Std n) q.command
+    → c.table.tally.unsent ≡ q ∷ qs → (n : ℕ) → next_number Tag.Std c.table.standard c.drawn ≡ Some n → IsDrawn d (Tag.Std n) q.command
 sent_drawn lossy c d a q qs is n drawn =
     let arguments : HaveArguments (q ∷ qs) = subst HaveArguments is (AgreesOn.arguments a) in
     let no_abort : HasNoAbort (q ∷ qs) = subst HasNoAbort is (AgreesOn.no_abort a) in
-    let within = drawn_within tag.Std c.table.standard c.drawn n drawn in
+    let within = drawn_within Tag.Std c.table.standard c.drawn n drawn in
     record {
       writable = record {
         tagged = record { numbered = (within.0, omega (arith, within.1)); sort = standard_kind q.command no_abort.0 };
         arguments = arguments.0;
       };
-      free = not_held is_standard (tag.Std n) d.uses refl
-          (ap (is_held (tag.Std n)) (AgreesOn.standard a) ∙ drawn_free tag.Std c.table.standard c.drawn n drawn);
+      free = not_held is_standard (Tag.Std n) d.uses refl
+          (ap (is_held (Tag.Std n)) (AgreesOn.standard a) ∙ drawn_free Tag.Std c.table.standard c.drawn n drawn);
     }
 
 pub aborted_drawn : (lossy : Bool) (c : Client) (d : Dialogue) → AgreesOn lossy c.table d → (n : ℕ)
-    → next_number tag.Event c.table.event c.event_drawn ≡ Some n → IsDrawn d (tag.Event n) command.AbortE
+    → next_number Tag.Event c.table.event c.event_drawn ≡ Some n → IsDrawn d (Tag.Event n) Command.AbortE
 aborted_drawn lossy c d a n drawn =
-    let within = drawn_within tag.Event c.table.event c.event_drawn n drawn in
+    let within = drawn_within Tag.Event c.table.event c.event_drawn n drawn in
     record {
       writable = record { tagged = record { numbered = (within.0, within.1); sort = refl }; arguments = tt };
-      free = not_held is_event (tag.Event n) d.uses refl
-          (ap (is_held (tag.Event n)) (AgreesOn.event a) ∙ drawn_free tag.Event c.table.event c.event_drawn n drawn);
+      free = not_held is_event (Tag.Event n) d.uses refl
+          (ap (is_held (Tag.Event n)) (AgreesOn.event a) ∙ drawn_free Tag.Event c.table.event c.event_drawn n drawn);
     }
 
 sends_seen : (lossy : Bool) (c : Client) (d : Dialogue) → IsSeen lossy c d → AgreesOn lossy c.table d → (l : List Planned)
-    → c.table.tally.unsent ≡ l → (number : Option ℕ) → next_number tag.Std c.table.standard c.drawn ≡ number
+    → c.table.tally.unsent ≡ l → (number : Option ℕ) → next_number Tag.Std c.table.standard c.drawn ≡ number
     → IsSeen lossy (sends_next c l number).client (client_lines d (command_texts (sends_next c l number).lines))
 sends_seen lossy c d h a [] is number drawn = h
 sends_seen lossy c d h a (q ∷ qs) is None drawn = fault_seen lossy Cause.TagsSpent c d d h (grows_not d d refl)
 sends_seen lossy c d h a (q ∷ qs) is (Some n) drawn =
     let no_abort : HasNoAbort (q ∷ qs) = subst HasNoAbort is (AgreesOn.no_abort a) in
-    let k : IsDrawn d (tag.Std n) q.command = sent_drawn lossy c d a q qs is n drawn in
-    subst (IsSeen lossy (sends_next c (q ∷ qs) (Some n)).client) (sym (written_is d (tag.Std n) q.command (IsDrawn.writable k) (IsDrawn.free k)))
+    let k : IsDrawn d (Tag.Std n) q.command = sent_drawn lossy c d a q qs is n drawn in
+    subst (IsSeen lossy (sends_next c (q ∷ qs) (Some n)).client) (sym (written_is d (Tag.Std n) q.command (IsDrawn.writable k) (IsDrawn.free k)))
     (now_seen lossy (sends_next c (q ∷ qs) (Some n)).client _
     (sent_agrees lossy c.table d n q qs a is (sym (standard_kind q.command no_abort.0))))
 
 aborts_seen : (lossy : Bool) (c : Client) (d : Dialogue) → IsSeen lossy c d → AgreesOn lossy c.table d → (number : Option ℕ)
-    → next_number tag.Event c.table.event c.event_drawn ≡ number
+    → next_number Tag.Event c.table.event c.event_drawn ≡ number
     → IsSeen lossy (sends_abort c number).client (client_lines d (command_texts (sends_abort c number).lines))
 aborts_seen lossy c d h a None drawn = fault_seen lossy Cause.TagsSpent c d d h (grows_not d d refl)
 aborts_seen lossy c d h a (Some n) drawn =
-    let within = drawn_within tag.Event c.table.event c.event_drawn n drawn in
-    let k : IsDrawn d (tag.Event n) command.AbortE = aborted_drawn lossy c d a n drawn in
-    subst (IsSeen lossy (sends_abort c (Some n)).client) (sym (written_is d (tag.Event n) command.AbortE (IsDrawn.writable k) (IsDrawn.free k)))
+    let within = drawn_within Tag.Event c.table.event c.event_drawn n drawn in
+    let k : IsDrawn d (Tag.Event n) Command.AbortE = aborted_drawn lossy c d a n drawn in
+    subst (IsSeen lossy (sends_abort c (Some n)).client) (sym (written_is d (Tag.Event n) Command.AbortE (IsDrawn.writable k) (IsDrawn.free k)))
     (now_seen lossy (sends_abort c (Some n)).client _ (aborted_agrees lossy c.table d n a (not_zero n within.0)))
 
 -- ---- plans are begun
@@ -709,12 +669,12 @@ pub done_seen : (lossy : Bool) (p : Meaning) (plans : Plans) (call : Call) (e : 
     → IsSeen (unasked_by call e lossy) (done_by call e).client (witnessed_by call e d)
 done_seen lossy p plans (Connected n) e d h may s = connected_seen d.ordered n e.client h.program
 done_seen lossy p plans Send e d h may s = sends_seen lossy e.client d s (sending_agrees lossy p plans e.client d h may s)
-    e.client.table.tally.unsent refl (next_number tag.Std e.client.table.standard e.client.drawn) refl
+    e.client.table.tally.unsent refl (next_number Tag.Std e.client.table.standard e.client.drawn) refl
 done_seen lossy p plans (Feed bytes) e d h may s = s
 done_seen lossy p plans ReadOne e d h may s =
     front_seen lossy e.client d (reading lossy p plans e.client d h may s) (next_of e.input.rest)
 done_seen lossy p plans Abort e d h may s = aborts_seen lossy e.client d s (aborting_agrees lossy p plans e.client d h may s)
-    (next_number tag.Event e.client.table.event e.client.event_drawn) refl
+    (next_number Tag.Event e.client.table.event e.client.event_drawn) refl
 done_seen lossy p plans Resume e d h may s =
     let halted : e.client.state ≡ State.Halted = resumed_state e.client e.client.state may in
     resumed_seen lossy e.client d h.program (halted_rests p plans e.client halted h)

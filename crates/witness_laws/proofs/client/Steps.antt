@@ -1,69 +1,35 @@
 -- What each expected mark does, next to what a witness does at it.
-use Rattle.std.proofs.Common.{◌≡◌, ℕ, Bool, true, false, cond, ◌&&◌, ◌||◌, not, List, [], ◌∷◌, ◌++◌, map, refl, sym, ◌∙◌, ap, subst, suc}
-use Rattle.std.proofs.Common.{Option, Some, None, Err}
-use Rattle.std.proofs.lemmas.Bool.{false≢true, and_parts, not-true}
-use Rattle.std.proofs.lemmas.List.{map-append}
-use Rattle.std.specs.List.{list_any}
-use Rattle.dme_line.specs.Kinds.{kind_of, is_event_kind}
-use Rattle.dme_line.specs.declared.tags.Tag.{Tag}
-use Rattle.dme_line.specs.declared.tags.Tag.TheVariants as tag
-use Rattle.dme_line.specs.declared.commands.Kind.{Kind}
-use Rattle.dme_line.specs.declared.commands.Command.{Command}
-use Rattle.dme_line.specs.declared.commands.Command.TheVariants as command
-use Rattle.dmis_program.specs.declared.features.Wanted.{Wanted}
+use Rattle.witness_laws.proofs.Names.{◌&&◌, ◌++◌, ◌||◌, ◌∙◌, ◌∷◌, ◌≡◌, [], Act, act_of, all_renewed, and_false, and_parts, ap, AreCounted, AreFilled}
+use Rattle.witness_laws.proofs.Names.{asks_data, Becomes, begins_session, Bool, Cause, Closes, Command, cond, counted_next, Counts, Datum, Dialogue}
+use Rattle.witness_laws.proofs.Names.{Effect, Err, false, false≢true, fits, has_turn, HasNoAbort, HaveArguments, Heard, heard_as, heard_in, held_kind}
+use Rattle.witness_laws.proofs.Names.{is_end, is_event_kind, IsGiven, judged, judged_given, Kind, kind_of, Known, List, list_any, map, map-append}
+use Rattle.witness_laws.proofs.Names.{measured, None, not, not-true, OpenCommand, Option, passed_no_abort, passed_over, passes, Planned, Progress}
+use Rattle.witness_laws.proofs.Names.{put_before, refl, Refused, Renewal, report_of, Reported, same_two, SentCommand, server_answered, settled}
+use Rattle.witness_laws.proofs.Names.{Signal, Some, Stage, stage_after, staged, Step, step, subst, suc, sym, Table, tabled, Tag, tallied, Tally}
+use Rattle.witness_laws.proofs.Names.{tells_homed, true, two, Use, Verdict, waits, ℕ}
 use Rattle.protocol_model.specs.Replies.{Mark}
-use Rattle.protocol_model.specs.Open.{Verdict, Effect, Heard as Heardings, Becomes, Breaks, Closes, Counts, Refused, judged, judged_given, settled, put_before, heard_in}
-use Rattle.protocol_model.specs.Open.{asks_data, fits}
-use Rattle.protocol_model.specs.Client.{Tally, Table, act_of as act_for, counted_next, tallied, begins_session, tells_homed, passed_over, measured}
-use Rattle.protocol_model.specs.Ends.{held_kind}
-use Rattle.protocol_model.specs.declared.held.Datum.{Datum}
+use Rattle.protocol_model.specs.Open.{Heard as Heardings, Breaks}
+use Rattle.protocol_model.specs.Client.{act_of as act_for}
 use Rattle.protocol_model.specs.declared.held.Stage.{Stage as OpenStage}
-use Rattle.protocol_model.specs.declared.held.OpenCommand.{OpenCommand}
-use Rattle.protocol_model.specs.declared.plans.Planned.{Planned}
-use Rattle.protocol_model.specs.declared.states.Cause.{Cause}
-use Rattle.contact_ledger.specs.declared.acts.Act.{Act}
-use Rattle.protocol_model.proofs.table.Basics.{and_false}
 use Rattle.protocol_model.proofs.invariant.Touching.{Keeps, measured_keeps}
-use Rattle.protocol_model.proofs.plan.Marks.{HasNoAbort}
-use Rattle.protocol_model.proofs.plan.PassedOver.{passes, passed_no_abort}
-use Rattle.protocol_model.proofs.table.Walks.{two, staged, same_two}
-use Rattle.protocol_model.proofs.table.Replying.{tabled}
-use Rattle.protocol_model.proofs.undisturbed_run.Following.{IsGiven, AreFilled}
-use Rattle.protocol_model.proofs.written_lines.PlainClient.{HaveArguments}
+use Rattle.witness.specs.declared.lines.SentCommand.TheVariants.{Known as Sends}
+use Rattle.dmis_program.specs.declared.features.Wanted.{Wanted}
 use Rattle.client_core.proofs.Fronts.{live_kinds, Fronted, fronted, IsAskedLast}
 use Rattle.client_core.proofs.Homing.{told_asks}
-use Rattle.witness.specs.Asking.{Signal}
-use Rattle.witness.specs.Dialogues.{Dialogue, waits, server_answered, act_of, report_of}
-use Rattle.witness.specs.Known.{all_renewed}
-use Rattle.witness.specs.Marks.{heard_as, is_end, step, stage_after, has_turn}
-use Rattle.witness.specs.declared.lines.Heard.{Heard}
-use Rattle.witness.specs.declared.lines.Heard.TheVariants as heard
-use Rattle.witness.specs.declared.lines.Known.{Known}
-use Rattle.witness.specs.declared.lines.Progress.{Progress}
-use Rattle.witness.specs.declared.lines.Progress.TheVariants as progress
-use Rattle.witness.specs.declared.lines.Renewal.TheVariants as renewal
-use Rattle.witness.specs.declared.lines.Reported.{Reported}
-use Rattle.witness.specs.declared.lines.SentCommand.{SentCommand}
-use Rattle.witness.specs.declared.lines.SentCommand.TheVariants.{Known as Sends}
-use Rattle.witness.specs.declared.lines.Stage.{Stage}
-use Rattle.witness.specs.declared.lines.Step.{Step}
-use Rattle.witness.specs.declared.lines.Use.{Use}
-use Rattle.witness_laws.specs.Orders.{AreCounted}
 use Rattle.witness_laws.specs.Acts.{all_done, Claims}
-use Rattle.witness_laws.proofs.client.Agreeing.{is_standard, is_event, is_lost, IsOurs, AreOurs, ours_join, ours_front, command_in, live}
-use Rattle.witness_laws.proofs.client.Agreeing.{live_in, live_more, none_live, event_rests, standard_waits, sorts, failed_rests, failed_wait, live_are}
-use Rattle.witness_laws.proofs.client.Agreeing.{same_failed, no_kinds, commands_of, passed_commands, IsNext, AgreesOn}
+use Rattle.witness_laws.proofs.client.Agreeing.{is_standard, is_event, is_lost, IsOurs, AreOurs, ours_front, command_in, live, live_in, live_more, none_live}
+use Rattle.witness_laws.proofs.client.Agreeing.{event_rests, standard_waits, sorts, failed_rests, failed_wait, live_are, same_failed, no_kinds, commands_of}
+use Rattle.witness_laws.proofs.client.Agreeing.{passed_commands, IsNext, AgreesOn}
 use Rattle.witness_laws.proofs.client.Claiming.{claims_more, claims_same}
 use Rattle.witness_laws.proofs.client.Cuts.{kind_by, stage_by, entry, picks, picks_more, all_failed, put_all, put_fine, IsCut, cut}
-use Rattle.witness_laws.proofs.client.Holding.{so_far, by_stage, Holds, front_done, holds_moved, holds_fits, answer_moves, aside_moves}
-use Rattle.witness_laws.proofs.client.Holding.{Carries}
+use Rattle.witness_laws.proofs.client.Holding.{so_far, by_stage, Holds, front_done, holds_moved, holds_fits, answer_moves, aside_moves, Carries}
 use Rattle.witness_laws.proofs.client.Knowing.{Selected, selected_after, Fits, Tells, TellsAs, Agrees, passed_agrees}
-use Rattle.witness_laws.proofs.client.Marks.{own, uses_after, marked_as, reports_of, heard_first, heard_of, ends, Follows, follows}
-use Rattle.witness_laws.proofs.client.Marks.{IsInTurn, IsQuiet, Carried, CarriedOut, IsTaken, needs_front}
-use Rattle.witness_laws.proofs.client.Replying.{picks_kept, picks_gone, picks_other, live_gone, Around, around, own_stage, own_ours, marked_agrees}
-use Rattle.witness_laws.proofs.client.Replying.{quiet_exact, rest_carries, next_kept, next_closed, IsCounted, next_counted, becomes_alike, same_waits}
-use Rattle.witness_laws.proofs.client.Replying.{closed_failed, counted_calm, counted_front}
-use Rattle.witness_laws.proofs.orders.Counts.{none_before, none_after}
+use Rattle.witness_laws.proofs.client.Marks.{own, uses_after, marked_as, reports_of, heard_first, heard_of, ends, Follows, follows, IsInTurn, IsQuiet, Carried}
+use Rattle.witness_laws.proofs.client.Marks.{CarriedOut, IsTaken, needs_front}
+use Rattle.witness_laws.proofs.client.Replying.{picks_kept, picks_gone, picks_other, live_gone, Around, around, own_stage, own_ours, marked_agrees, quiet_exact}
+use Rattle.witness_laws.proofs.client.Replying.{rest_carries, next_kept, next_closed, IsCounted, next_counted, becomes_alike, same_waits, closed_failed}
+use Rattle.witness_laws.proofs.client.Replying.{counted_calm, counted_front}
+use Rattle.witness_laws.proofs.orders.Counts.{none_before, none_after, each_more}
 
 not_event : (u : Use) → is_standard u.tag ≡ true → is_event u.tag ≡ false
 not_event u is = sorts u.tag ∙ ap not is
@@ -72,8 +38,8 @@ not_standard : (u : Use) → is_event u.tag ≡ true → is_standard u.tag ≡ f
 not_standard u is = go u.tag is
   where
     go : (t : Tag) → is_event t ≡ true → is_standard t ≡ false
-    go (tag.Std n) e = absurd (false≢true e)
-    go (tag.Event n) e = refl
+    go (Tag.Std n) e = absurd (false≢true e)
+    go (Tag.Event n) e = refl
 
 -- ---- a use is at another stage, or is gone uncounted
 
@@ -128,12 +94,12 @@ passed_next true lives unsent rest e none = ap (λ (l : List Command). l ++ comm
 -- what a witness knows of a command that is complete, when it reports it
 known_fits : (lossy : Bool) (before : List Use) (u : Use) (after : List Use) (lines : ℕ) (base : Selected)
     → AreCounted 0 (before ++ u ∷ after) lines → list_any waits before ≡ false → Holds lossy (before ++ u ∷ after) u.line base u.known
-    → Fits lossy base (own heard.Complete u).known
+    → Fits lossy base (own Heard.Complete u).known
 known_fits lossy before u after lines base rising none holds =
-    holds_fits lossy (before ++ u ∷ after) u.line base (own heard.Complete u).known (front_done before u after lines rising none)
-    (holds_moved lossy lossy (before ++ u ∷ after) (before ++ u ∷ after) u.line (renewal.Mark u.line heard.Complete) base
-    (all_renewed renewal.Answer u.known) (aside_moves lossy (before ++ u ∷ after) u.line heard.Complete)
-    (holds_moved lossy lossy (before ++ u ∷ after) (before ++ u ∷ after) u.line renewal.Answer base u.known
+    holds_fits lossy (before ++ u ∷ after) u.line base (own Heard.Complete u).known (front_done before u after lines rising none)
+    (holds_moved lossy lossy (before ++ u ∷ after) (before ++ u ∷ after) u.line (Renewal.Mark u.line Heard.Complete) base
+    (all_renewed Renewal.Answer u.known) (aside_moves lossy (before ++ u ∷ after) u.line Heard.Complete)
+    (holds_moved lossy lossy (before ++ u ∷ after) (before ++ u ∷ after) u.line Renewal.Answer base u.known
     (answer_moves lossy (before ++ u ∷ after) u.line (front_done before u after lines rising none)) holds))
 
 counts_agrees : (lossy : Bool) (ws : List Wanted) (b : Table) (d : Dialogue) (before : List Use) (u : Use) (after : List Use)
@@ -141,9 +107,9 @@ counts_agrees : (lossy : Bool) (ws : List Wanted) (b : Table) (d : Dialogue) (be
     → Around lossy b d before u after → is_standard u.tag ≡ true → picks is_standard before ++ picks is_standard after ≡ hs
     → u.command ≡ Sends c → waits u ≡ true → list_any waits before ≡ false → b.tally.failed ≡ false → IsGiven (kind_of c) given
     → live_kinds b.standard ≡ kind_of c ∷ live_kinds hs → IsAskedLast (live_kinds b.standard)
-    → Carries (so_far u) heard.Complete (Some progress.Done)
+    → Carries (so_far u) Heard.Complete (Some Progress.Done)
     → AgreesOn lossy (tabled hs b.event (counted_next ws (kind_of c) given b.tally.todo b.tally))
-    (marked_as d before u after heard.Complete true (act_of (own heard.Complete u).known c given))
+    (marked_as d before u after Heard.Complete true (act_of (own Heard.Complete u).known c given))
 counts_agrees lossy ws b d before u after hs given c a is same sends waits_now none calm given_one kinds last carries = go b.tally.todo refl
   where
     y : Tally
@@ -160,15 +126,15 @@ counts_agrees lossy ws b d before u after hs given c a is same sends waits_now n
         ∙ (ap (λ (l : List Command). l ++ live (u ∷ after)) (none_live before none)
         ∙ (live_in u after waits_now ∙ ap (λ (x : SentCommand). command_in x ∷ live after) sends)))
 
-    left : live (uses_after before u after heard.Complete true) ≡ live after
-    left = live_gone before u after heard.Complete ∙ ap (λ (l : List Command). l ++ live after) (none_live before none)
+    left : live (uses_after before u after Heard.Complete true) ≡ live after
+    left = live_gone before u after Heard.Complete ∙ ap (λ (l : List Command). l ++ live after) (none_live before none)
 
-    standard_is : picks is_standard (uses_after before u after heard.Complete true) ≡ hs
-    standard_is = picks_gone is_standard before u after heard.Complete ∙ same
+    standard_is : picks is_standard (uses_after before u after Heard.Complete true) ≡ hs
+    standard_is = picks_gone is_standard before u after Heard.Complete ∙ same
 
     kinds_left : live_kinds hs ≡ map kind_of (live (before ++ after))
     kinds_left = ap live_kinds (sym (picks_more is_standard before after ∙ same))
-        ∙ live_are (before ++ after) (ours_join before after (Around.earlier a) (Around.later a))
+        ∙ live_are (before ++ after) (each_more IsOurs before after (Around.earlier a) (Around.later a))
 
     left_none : over ≡ true → live after ≡ []
     left_none e =
@@ -180,17 +146,17 @@ counts_agrees lossy ws b d before u after hs given c a is same sends waits_now n
     next : IsNext lossy d y
     next = AgreesOn.calm g calm
 
-    counted : IsCounted lossy d before u after heard.Complete (IsNext.base next) (selected_after (IsNext.base next) c)
-    counted = next_counted lossy d y before u after heard.Complete c (Around.parts a) (Around.rising a) waits_now none sends carries next
+    counted : IsCounted lossy d before u after Heard.Complete (IsNext.base next) (selected_after (IsNext.base next) c)
+    counted = next_counted lossy d y before u after Heard.Complete c (Around.parts a) (Around.rising a) waits_now none sends carries next
 
-    fits : Fits lossy (IsNext.base next) (own heard.Complete u).known
+    fits : Fits lossy (IsNext.base next) (own Heard.Complete u).known
     fits = known_fits lossy before u after d.lines (IsNext.base next) (Around.rising a) none (IsCounted.fits counted)
 
     whole : c ∷ (live after ++ commands_of y.unsent) ≡ commands_of y.todo
     whole = ap (λ (l : List Command). l ++ commands_of y.unsent) (sym lives) ∙ IsNext.commands next
 
     go : (todo : List Planned) → y.todo ≡ todo → AgreesOn lossy (tabled hs b.event (counted_next ws (kind_of c) given todo y))
-        (marked_as d before u after heard.Complete true (act_of (own heard.Complete u).known c given))
+        (marked_as d before u after Heard.Complete true (act_of (own Heard.Complete u).known c given))
     go [] todo_is = absurd (no_more c (live after ++ commands_of y.unsent) (whole ∙ ap commands_of todo_is))
     go (q ∷ rest) todo_is =
         let now : c ∷ (live after ++ commands_of y.unsent) ≡ q.command ∷ commands_of rest = whole ∙ ap commands_of todo_is in
@@ -207,13 +173,13 @@ counts_agrees lossy ws b d before u after hs given c a is same sends waits_now n
         } in
         let end : Tally = measured ws q.does given mid in
         let keeps : Keeps mid end = measured_keeps ws q.does given mid in
-        let reports : List Reported = act_of (own heard.Complete u).known c given in
+        let reports : List Reported = act_of (own Heard.Complete u).known c given in
         let tells : Tells lossy (act_for q.does given) reports =
-        subst (λ (x : Command). Tells lossy (act_for q.does given) (act_of (own heard.Complete u).known x given)) (sym first)
-        (agrees.0 lossy (own heard.Complete u).known fits given (subst (λ (x : Command). IsGiven (kind_of x) given) first given_one)) in
-        marked_agrees lossy b d before u after heard.Complete true reports hs b.event end a (λ e. absurd (false≢true (sym e)))
+        subst (λ (x : Command). Tells lossy (act_for q.does given) (act_of (own Heard.Complete u).known x given)) (sym first)
+        (agrees.0 lossy (own Heard.Complete u).known fits given (subst (λ (x : Command). IsGiven (kind_of x) given) first given_one)) in
+        marked_agrees lossy b d before u after Heard.Complete true reports hs b.event end a (λ e. absurd (false≢true (sym e)))
         standard_is
-        (kept_out lossy b d is_event before u after heard.Complete true b.event (Around.parts a) (not_event u is) (AgreesOn.event g))
+        (kept_out lossy b d is_event before u after Heard.Complete true b.event (Around.parts a) (not_event u is) (AgreesOn.event g))
         (λ e. ap (λ (l : List Reported). l ++ reports) (AgreesOn.exact g e)
         ∙ (ap (λ (l : List Reported). all_done y.counted ++ l) (Tells.exact tells e)
         ∙ (sym (map-append _ y.counted (act_for q.does given)) ∙ ap all_done (sym keeps.counted))))
@@ -223,7 +189,7 @@ counts_agrees lossy ws b d before u after hs given c a is same sends waits_now n
         (subst HasNoAbort (sym keeps.unsent) (passed_no_abort over y.unsent (AgreesOn.no_abort g)))
         (λ e. record {
           base = selected_after (IsNext.base next) c;
-          commands = ap (λ (l : List Planned). live (uses_after before u after heard.Complete true) ++ commands_of l) keeps.unsent
+          commands = ap (λ (l : List Planned). live (uses_after before u after Heard.Complete true) ++ commands_of l) keeps.unsent
               ∙ (ap (λ (l : List Command). l ++ commands_of (passed_over over y.unsent)) left
               ∙ (passed_next over (live after) y.unsent rest rest_is left_none ∙ ap commands_of (sym keeps.todo)));
           agrees = subst (Agrees (selected_after (IsNext.base next) c)) (sym keeps.todo)
@@ -263,7 +229,7 @@ quiet_is d before u after c m ended is quiet =
 
 -- the mark that counts
 counting : (front : Bool) (k : Kind) (s : OpenStage) (m : Mark) (given : Option Datum) → judged front k s m ≡ Counts given
-    → heard_of m ≡ heard.Complete
+    → heard_of m ≡ Heard.Complete
 counting front k s Mark.Done given v = refl
 counting front k OpenStage.Sent Mark.Ack given v = absurd (cc)
 counting front k OpenStage.Received Mark.Ack given v = absurd (cc)
@@ -275,7 +241,7 @@ counting front k (OpenStage.Given e) Mark.Error given v = absurd (cc)
 counting front k OpenStage.Failed Mark.Error given v = absurd (cc)
 counting front k s (Mark.Given d) given v = go (front && fits k d) s v
   where
-    go : (b : Bool) (s : OpenStage) → judged_given b s d ≡ Counts given → heard.Given d ≡ heard.Complete
+    go : (b : Bool) (s : OpenStage) → judged_given b s d ≡ Counts given → Heard.Given d ≡ Heard.Complete
     go false s v = absurd (cc)
     go true OpenStage.Sent v = absurd (cc)
     go true OpenStage.Received v = absurd (cc)
@@ -300,8 +266,8 @@ kept_carries u h c sends same carried =
     (carried (waits u)))
 
 out_carries : (u : Use) (h : Heard) (c : Command) → u.command ≡ Sends c → CarriedOut (asks_data (kind_of c)) u.stage h
-    → Carries (so_far u) h (Some progress.Done)
-out_carries u h c sends carried = subst (λ (x : Option Progress). Carries x h (Some progress.Done))
+    → Carries (so_far u) h (Some Progress.Done)
+out_carries u h c sends carried = subst (λ (x : Option Progress). Carries x h (Some Progress.Done))
     (ap (λ (x : SentCommand). cond (waits u && not (asks_data (kind_by x))) (by_stage u.stage) None) (sym sends)) (carried (waits u))
 
 -- a standard use that waits has not failed
@@ -314,9 +280,9 @@ waiting_calm u one event waiting = go (is_lost u.stage) refl
 
 -- what is reported of a command that is counted
 count_is : (d : Dialogue) (before : List Use) (u : Use) (after : List Use) (c : Command) (m : Mark) (given : Option Datum) → ends m ≡ true
-    → heard_of m ≡ heard.Complete → ((k : Known) (tag : Tag) → report_of k tag c (step_for u c m) ≡ act_of k c given)
+    → heard_of m ≡ Heard.Complete → ((k : Known) (tag : Tag) → report_of k tag c (step_for u c m) ≡ act_of k c given)
     → marked_as d before u after (heard_of m) (ends m) (reports_of u (heard_of m) c)
-    ≡ marked_as d before u after heard.Complete true (act_of (own heard.Complete u).known c given)
+    ≡ marked_as d before u after Heard.Complete true (act_of (own Heard.Complete u).known c given)
 count_is d before u after c m given is it reports =
     ap (λ (e : Bool). marked_as d before u after (heard_of m) e (reports_of u (heard_of m) c)) is
     ∙ (ap (λ (l : List Reported). marked_as d before u after (heard_of m) true l) (reports (own (heard_of m) u).known u.tag)
@@ -380,7 +346,7 @@ standard_by lossy ws b d before u after m hs e front c a is sends leads fronts l
     let lead = leads (counted_front front (kind_of c) (stage_by u.stage) m given v) in
     let fronted_now : Fronted (not b.tally.failed) (live_kinds b.standard) (live_kinds hs) (Effect.Count (kind_of c) given) =
     subst (λ (x : Effect). Fronted (not b.tally.failed) (live_kinds b.standard) (live_kinds hs) x) (sym counted) fronts in
-    let it : heard_of m ≡ heard.Complete = counting front (kind_of c) (stage_by u.stage) m given v in
+    let it : heard_of m ≡ Heard.Complete = counting front (kind_of c) (stage_by u.stage) m given v in
     let waits_now : waits u ≡ true = standard_waits u (Around.one a) (not_event u is)
     ∙ ap not (counted_calm front (kind_of c) (stage_by u.stage) m given v) in
     subst (λ (x : Effect). AgreesOn lossy (tabled hs b.event (tallied ws x b.tally))
@@ -388,7 +354,7 @@ standard_by lossy ws b d before u after m hs e front c a is sends leads fronts l
     (subst (AgreesOn lossy (tabled hs b.event (counted_next ws (kind_of c) given b.tally.todo b.tally)))
     (sym (count_is d before u after c m given f.0 it f.1))
     (counts_agrees lossy ws b d before u after hs given c a is same.0 sends waits_now lead.0 lead.1 fronted_now.2 fronted_now.1 (last lead.1)
-    (subst (λ (h : Heard). Carries (so_far u) h (Some progress.Done)) it (out_carries u (heard_of m) c sends f.2))))
+    (subst (λ (h : Heard). Carries (so_far u) h (Some Progress.Done)) it (out_carries u (heard_of m) c sends f.2))))
 standard_by lossy ws b d before u after m hs e front c a is sends leads fronts last (Refused cause) v settles f =
     absurd (no_answer (picks is_standard before) hs e cause settles)
 
@@ -441,17 +407,17 @@ leads_at lossy b d tag m hs e k g now =
 
 -- the client's table and the witness agree after it, where the command is found
 standard_at : (lossy : Bool) (ws : List Wanted) (b : Table) (d : Dialogue) (line : List ℕ) (n : ℕ) (m : Mark) (signal : Signal)
-    (hs : List OpenCommand) (e : Effect) → (k : IsCut is_standard (not b.tally.failed) d.uses (tag.Std n) m hs e)
-    → Around lossy b d k.before k.u k.after → Leads k.now b k.before → ReadsAs (tag.Std n) b.standard signal m
+    (hs : List OpenCommand) (e : Effect) → (k : IsCut is_standard (not b.tally.failed) d.uses (Tag.Std n) m hs e)
+    → Around lossy b d k.before k.u k.after → Leads k.now b k.before → ReadsAs (Tag.Std n) b.standard signal m
     → Fronted (not b.tally.failed) (live_kinds b.standard) (live_kinds hs) e
     → (b.tally.failed ≡ false → IsAskedLast (live_kinds b.standard))
-    → AgreesOn lossy (tabled hs b.event (tallied ws e b.tally)) (server_answered d line (Some (tag.Std n, signal)))
+    → AgreesOn lossy (tabled hs b.event (tallied ws e b.tally)) (server_answered d line (Some (Tag.Std n, signal)))
 standard_at lossy ws b d line n m signal hs e k a leads reads fronts last =
     let one : IsOurs k.u = Around.one a in
     let c : Command = IsOurs.command one in
     let settles = settles_by is_standard k.before k.u k.after m k.now hs e c (IsOurs.sends one) k.settles in
     subst (AgreesOn lossy (tabled hs b.event (tallied ws e b.tally)))
-    (sym (mark_first lossy b d line is_standard b.standard (tag.Std n) signal m (not b.tally.failed) hs e (AgreesOn.standard (Around.agrees a))
+    (sym (mark_first lossy b d line is_standard b.standard (Tag.Std n) signal m (not b.tally.failed) hs e (AgreesOn.standard (Around.agrees a))
     reads k a
     (λ answer calm. ap (λ (x : Bool). has_turn k.u.command && x) (leads (needs_front k.now (kind_of c) k.u.stage m answer
     (sym (IsOurs.lost one) ∙ calm) (taken_by (picks is_standard k.before) (picks is_standard k.after) (entry k.u) hs e
@@ -462,35 +428,35 @@ standard_at lossy ws b d line n m signal hs e k a leads reads fronts last =
 -- and so they do after it
 pub standard_agrees : (lossy : Bool) (ws : List Wanted) (b : Table) (d : Dialogue) (line : List ℕ) (n : ℕ) (m : Mark) (signal : Signal)
     (hs : List OpenCommand) (e : Effect)
-    → heard_in (not b.tally.failed) b.standard (tag.Std n) m ≡ two hs e → ReadsAs (tag.Std n) b.standard signal m
+    → heard_in (not b.tally.failed) b.standard (Tag.Std n) m ≡ two hs e → ReadsAs (Tag.Std n) b.standard signal m
     → AreFilled b.standard → (b.tally.failed ≡ false → IsAskedLast (live_kinds b.standard)) → AgreesOn lossy b d
-    → AgreesOn lossy (tabled hs b.event (tallied ws e b.tally)) (server_answered d line (Some (tag.Std n, signal)))
+    → AgreesOn lossy (tabled hs b.event (tallied ws e b.tally)) (server_answered d line (Some (Tag.Std n, signal)))
 standard_agrees lossy ws b d line n m signal hs e is reads filled last g =
-    found (cut is_standard (not b.tally.failed) d.uses (tag.Std n) m hs e refl
-    (ap (λ (l : List OpenCommand). heard_in (not b.tally.failed) l (tag.Std n) m) (AgreesOn.standard g) ∙ is))
+    found (cut is_standard (not b.tally.failed) d.uses (Tag.Std n) m hs e refl
+    (ap (λ (l : List OpenCommand). heard_in (not b.tally.failed) l (Tag.Std n) m) (AgreesOn.standard g) ∙ is))
   where
-    found : (k : IsCut is_standard (not b.tally.failed) d.uses (tag.Std n) m hs e)
-        → AgreesOn lossy (tabled hs b.event (tallied ws e b.tally)) (server_answered d line (Some (tag.Std n, signal)))
+    found : (k : IsCut is_standard (not b.tally.failed) d.uses (Tag.Std n) m hs e)
+        → AgreesOn lossy (tabled hs b.event (tallied ws e b.tally)) (server_answered d line (Some (Tag.Std n, signal)))
     found k = standard_at lossy ws b d line n m signal hs e k (around lossy b d k.before k.u k.after g k.parts)
-        (leads_at lossy b d (tag.Std n) m hs e k g) reads
-        (fronted (not b.tally.failed) b.standard (tag.Std n) m hs e is filled) last
+        (leads_at lossy b d (Tag.Std n) m hs e k g) reads
+        (fronted (not b.tally.failed) b.standard (Tag.Std n) m hs e is filled) last
 
 -- ---- an expected mark of an event command
 
 -- it is an abort
-the_abort : (c : Command) → is_event_kind (kind_of c) ≡ true → c ≡ command.AbortE
-the_abort command.AbortE e = refl
-the_abort command.StartSession e = absurd (false≢true e)
-the_abort command.EndSession e = absurd (false≢true e)
-the_abort command.ClearAllErrors e = absurd (false≢true e)
-the_abort command.IsHomed e = absurd (false≢true e)
-the_abort command.Home e = absurd (false≢true e)
-the_abort command.OnPtMeasReport e = absurd (false≢true e)
-the_abort (command.GoTo p) e = absurd (false≢true e)
-the_abort (command.PtMeas p d) e = absurd (false≢true e)
-the_abort (command.ChangeTool n) e = absurd (false≢true e)
-the_abort (command.SetCsyTransformation p) e = absurd (false≢true e)
-the_abort (command.SetCoordSystem s) e = absurd (false≢true e)
+the_abort : (c : Command) → is_event_kind (kind_of c) ≡ true → c ≡ Command.AbortE
+the_abort Command.AbortE e = refl
+the_abort Command.StartSession e = absurd (false≢true e)
+the_abort Command.EndSession e = absurd (false≢true e)
+the_abort Command.ClearAllErrors e = absurd (false≢true e)
+the_abort Command.IsHomed e = absurd (false≢true e)
+the_abort Command.Home e = absurd (false≢true e)
+the_abort Command.OnPtMeasReport e = absurd (false≢true e)
+the_abort (Command.GoTo p) e = absurd (false≢true e)
+the_abort (Command.PtMeas p d) e = absurd (false≢true e)
+the_abort (Command.ChangeTool n) e = absurd (false≢true e)
+the_abort (Command.SetCsyTransformation p) e = absurd (false≢true e)
+the_abort (Command.SetCoordSystem s) e = absurd (false≢true e)
 
 act_none : (k : Known) (c : Command) (given : Option Datum) → is_event_kind (kind_of c) ≡ true → act_of k c given ≡ []
 act_none k c given e = ap (λ (x : Command). act_of k x given) (the_abort c e)
@@ -555,15 +521,15 @@ event_by lossy b d before u after m hs e c a is sort sends (Refused cause) settl
     absurd (no_answer (picks is_event before) hs e cause settles)
 
 event_at : (lossy : Bool) (b : Table) (d : Dialogue) (line : List ℕ) (n : ℕ) (m : Mark) (signal : Signal) (hs : List OpenCommand) (e : Effect)
-    → (k : IsCut is_event true d.uses (tag.Event n) m hs e) → Around lossy b d k.before k.u k.after
-    → ReadsAs (tag.Event n) b.event signal m
-    → AgreesOn lossy (tabled b.standard hs b.tally) (server_answered d line (Some (tag.Event n, signal)))
+    → (k : IsCut is_event true d.uses (Tag.Event n) m hs e) → Around lossy b d k.before k.u k.after
+    → ReadsAs (Tag.Event n) b.event signal m
+    → AgreesOn lossy (tabled b.standard hs b.tally) (server_answered d line (Some (Tag.Event n, signal)))
 event_at lossy b d line n m signal hs e k a reads =
     let one : IsOurs k.u = Around.one a in
     let c : Command = IsOurs.command one in
     let sort : is_event_kind (kind_of c) ≡ true = IsOurs.sort one ∙ k.picked in
     subst (AgreesOn lossy (tabled b.standard hs b.tally))
-    (sym (mark_first lossy b d line is_event b.event (tag.Event n) signal m true hs e (AgreesOn.event (Around.agrees a)) reads k a
+    (sym (mark_first lossy b d line is_event b.event (Tag.Event n) signal m true hs e (AgreesOn.event (Around.agrees a)) reads k a
     (λ answer calm. ap (λ (x : SentCommand). has_turn x && list_any waits k.before) (IsOurs.sends one)
     ∙ ap (λ (x : Bool). not x && list_any waits k.before) sort)))
     (event_by lossy b d k.before k.u k.after m hs e c a k.picked sort (IsOurs.sends one)
@@ -572,12 +538,12 @@ event_at lossy b d line n m signal hs e k a reads =
 
 -- they agree after it
 pub event_agrees : (lossy : Bool) (b : Table) (d : Dialogue) (line : List ℕ) (n : ℕ) (m : Mark) (signal : Signal) (hs : List OpenCommand)
-    (e : Effect) → heard_in true b.event (tag.Event n) m ≡ two hs e → ReadsAs (tag.Event n) b.event signal m → AgreesOn lossy b d
-    → AgreesOn lossy (tabled b.standard hs b.tally) (server_answered d line (Some (tag.Event n, signal)))
+    (e : Effect) → heard_in true b.event (Tag.Event n) m ≡ two hs e → ReadsAs (Tag.Event n) b.event signal m → AgreesOn lossy b d
+    → AgreesOn lossy (tabled b.standard hs b.tally) (server_answered d line (Some (Tag.Event n, signal)))
 event_agrees lossy b d line n m signal hs e is reads g =
-    found (cut is_event true d.uses (tag.Event n) m hs e refl
-    (ap (λ (l : List OpenCommand). heard_in true l (tag.Event n) m) (AgreesOn.event g) ∙ is))
+    found (cut is_event true d.uses (Tag.Event n) m hs e refl
+    (ap (λ (l : List OpenCommand). heard_in true l (Tag.Event n) m) (AgreesOn.event g) ∙ is))
   where
-    found : (k : IsCut is_event true d.uses (tag.Event n) m hs e)
-        → AgreesOn lossy (tabled b.standard hs b.tally) (server_answered d line (Some (tag.Event n, signal)))
+    found : (k : IsCut is_event true d.uses (Tag.Event n) m hs e)
+        → AgreesOn lossy (tabled b.standard hs b.tally) (server_answered d line (Some (Tag.Event n, signal)))
     found k = event_at lossy b d line n m signal hs e k (around lossy b d k.before k.u k.after g k.parts) reads

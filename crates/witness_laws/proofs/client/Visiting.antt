@@ -1,24 +1,14 @@
 -- The connections of a client, one after another: the features that it holds are true of what a witness wrote of them.
-use Rattle.std.proofs.Common.{◌≡◌, ℕ, ◌<◌, Bool, true, false, cond, ◌&&◌, ◌||◌, List, [], ◌∷◌, ◌++◌, map, refl, sym, ◌∙◌, ap, subst}
-use Rattle.std.proofs.Common.{arith, append_assoc, append-nil, is_some, nat_lt, nat_le, Option, Some, None}
-use Rattle.std.proofs.lemmas.Bool.{false≢true, ltb-true, lt-ltb, or_parts}
-use Rattle.std.proofs.lemmas.List.{map-append}
-use Rattle.std.specs.List.{list_all}
-use Rattle.dme_line.specs.declared.tags.Tag.TheVariants as tag
-use Rattle.line_framing.specs.Next.{next_of}
+use Rattle.witness_laws.proofs.Names.{◌&&◌, ◌++◌, ◌<◌, ◌∙◌, ◌∷◌, ◌≡◌, [], Act, ap, append-nil, append_assoc, arith, Bool, client_left, ClientEnd}
+use Rattle.witness_laws.proofs.Names.{cond, contacts, done_on, due, end_connected, end_left, false, false≢true, Feature, is_running, is_some}
+use Rattle.witness_laws.proofs.Names.{left_state, Line, List, list_all, lt-ltb, ltb-true, map, map-append, may_abort, may_resume, nat_le, nat_lt}
+use Rattle.witness_laws.proofs.Names.{new_client_end, next_number, next_of, None, numbered as on_connection, Option, or_parts, Planned, refl}
+use Rattle.witness_laws.proofs.Names.{Reported, said_all, sends_abort, sends_next, silence, Some, Sound, State, subst, sym, Tag, Tally, true, ℕ}
 use Rattle.contact_ledger.specs.Ledgers.{connection_most}
-use Rattle.contact_ledger.specs.declared.acts.Act.{Act}
-use Rattle.contact_ledger.specs.declared.features.Feature.{Feature}
+use Rattle.protocol_model.specs.Client.{Client}
 use Rattle.dmis_program.specs.Meaning.{Meaning}
 use Rattle.dmis_program.specs.Programs.{IsProgram}
-use Rattle.protocol_model.specs.Claims.{Sound, contacts}
-use Rattle.protocol_model.specs.Client.{Client, Tally, next_number, sends_next, sends_abort, client_left, left_state, due, is_running, may_abort, may_resume}
-use Rattle.protocol_model.specs.Ends.{ClientEnd, new_client_end, end_left, end_connected}
-use Rattle.protocol_model.specs.declared.plans.Planned.{Planned}
-use Rattle.protocol_model.specs.declared.states.State.{State}
-use Rattle.protocol_model.proofs.invariant.Moves.{done_on}
-use Rattle.client_core.specs.Calls.{Call, Connected, Send, Feed, ReadOne, Abort, Resume, Leave, Restart, Sent, possible, done_by}
-use Rattle.client_core.specs.Calls.{behind_call, behind_calls}
+use Rattle.client_core.specs.Calls.{Call, Connected, Send, Feed, ReadOne, Abort, Resume, Leave, Restart, Sent, possible, done_by, behind_call, behind_calls}
 use Rattle.client_core.specs.Clients.{are_ours, is_apart, may_connect, may_read}
 use Rattle.client_core.proofs.Fits.{both}
 use Rattle.client_core.proofs.Runs.{program_stays, due_running}
@@ -27,15 +17,11 @@ use Rattle.told_acts.proofs.Counts.{Grows, grows_told, heard_grows, numbered_don
 use Rattle.told_acts.proofs.Sounds.{sound_served, served_ours}
 use Rattle.told_acts.proofs.Tells.{told_are_sound}
 use Rattle.told_acts.proofs.Views.{read_all}
-use Rattle.witness.specs.Dialogues.{silence}
-use Rattle.witness.specs.Texts.{numbered as on_connection}
-use Rattle.witness.specs.declared.lines.Reported.{Reported}
 use Rattle.told_files.specs.Numbering.{numbered_from}
 use Rattle.told_files.specs.Runs.{parts_of, SoundByTold}
 use Rattle.told_files.proofs.NextContacts.{numbered_all}
 use Rattle.told_files.proofs.SameRuns.{told_sound}
 use Rattle.witness_laws.specs.Acts.{all_done, BeginsWith}
-use Rattle.witness_laws.specs.Orders.{Line, said_all}
 use Rattle.witness_laws.specs.Lines.{witnessed, unasked}
 use Rattle.witness_laws.specs.Visits.{stays, Visit, is_visit, calls_of, told_of, behind_visits, told_of_all, some_unasked, BeginSo, written_of}
 use Rattle.witness_laws.proofs.client.Entries.{entries_of}
@@ -58,14 +44,14 @@ aborts_grows c (Some n) = grows_not c.table.tally c.table.tally refl refl
 
 done_grows : (call : Call) (e : ClientEnd) → stays call ≡ true → Grows e.client.table.tally (done_by call e).client.table.tally
 done_grows (Connected n) e on = absurd (false≢true on)
-done_grows Send e on = sends_grows e.client e.client.table.tally.unsent (next_number tag.Std e.client.table.standard e.client.drawn)
+done_grows Send e on = sends_grows e.client e.client.table.tally.unsent (next_number Tag.Std e.client.table.standard e.client.drawn)
 done_grows (Feed bytes) e on = grows_not e.client.table.tally e.client.table.tally refl refl
 done_grows ReadOne e on = read_all e.client (λ (d : Client). Grows e.client.table.tally d.table.tally) (record {
   same = grows_not e.client.table.tally e.client.table.tally refl refl;
   fault = λ cause. grows_not e.client.table.tally e.client.table.tally refl refl;
   reply = λ t m b s is. heard_grows e.client.program.features e.client.table b t m is;
 }) (next_of e.input.rest)
-done_grows Abort e on = aborts_grows e.client (next_number tag.Event e.client.table.event e.client.event_drawn)
+done_grows Abort e on = aborts_grows e.client (next_number Tag.Event e.client.table.event e.client.event_drawn)
 done_grows Resume e on = grows_not e.client.table.tally (done_by Resume e).client.table.tally refl refl
 done_grows Leave e on = absurd (false≢true on)
 done_grows (Restart k) e on = absurd (false≢true on)

@@ -1,20 +1,10 @@
 -- The last line above that may change a tool, a frame or a zero point.
-use Rattle.std.proofs.Common.{◌≡◌, ℕ, suc, ◌<◌, ◌==◌, Bool, true, false, if◌then◌else◌, List, [], ◌∷◌}
-use Rattle.std.proofs.Common.{Option, Some, None, refl, ap, sym, ◌∙◌, subst, arith}
-use Rattle.fixed_um.specs.Points.{point_opposite}
-use Rattle.fixed_um.specs.declared.frames.Frame.{Frame}
-use Rattle.fixed_um.specs.declared.frames.Frame.TheVariants.{Machine}
-use Rattle.fixed_um.specs.declared.lengths.Point.{Point}
-use Rattle.dme_line.specs.declared.commands.Command.{Command}
-use Rattle.dme_line.specs.declared.commands.Command.TheVariants as command
-use Rattle.dme_line.specs.declared.commands.Csy.{Csy}
-use Rattle.dme_line.specs.declared.commands.Csy.TheVariants.{MachineCsy, PartCsy}
-use Rattle.dme_line.specs.declared.tags.Tag.{Tag}
-use Rattle.witness.specs.Asking.{Line, Sends, Answers, Signal}
-use Rattle.witness.specs.Histories.{Sent, count_sent, place}
-use Rattle.witness.specs.Rules.{tool_after, csy_after, zero_after, unless_part, last_tool, last_csy, last_zero, last_part}
-use Rattle.witness.specs.declared.lines.SentCommand.{SentCommand}
-use Rattle.witness.specs.declared.lines.SentCommand.TheVariants as sends
+use Rattle.witness_laws.proofs.Names.{◌<◌, ◌==◌, ◌∙◌, ◌∷◌, ◌≡◌, [], Answers, ap, arith, Bool, Command, count_sent, Csy, csy_after, false, Frame}
+use Rattle.witness_laws.proofs.Names.{if◌then◌else◌, last_csy, last_part, last_tool, last_zero, List, Machine, MachineCsy, None, Option, PartCsy}
+use Rattle.witness_laws.proofs.Names.{place, Point, point_opposite, refl, Sends, Sent, SentCommand, Signal, Some, subst, suc, sym, Tag, tool_after}
+use Rattle.witness_laws.proofs.Names.{true, zero_after, ℕ}
+use Rattle.witness.specs.Asking.{Line}
+use Rattle.witness.specs.Rules.{unless_part}
 use Rattle.witness_laws.specs.Machines.{TakesTool, SelectsFrame, StoresZero, sent_at}
 use Rattle.witness_laws.specs.Premises.{line_may}
 use Rattle.witness_laws.proofs.machines.Places.{sent_within, IsLine, line_stays, line_begins}
@@ -67,7 +57,7 @@ last_begins asks may line tag c h a asked = (line_begins line tag c h, asked, λ
 -- ---- the tool
 
 abbrev pub AsksTool : List ℕ → SentCommand → Type 0
-AsksTool tool c = c ≡ sends.Known (command.ChangeTool tool)
+AsksTool tool c = c ≡ SentCommand.Known (Command.ChangeTool tool)
 
 abbrev pub may_take : {A : Type 0} → A → Option (Tag × SentCommand) → Bool
 may_take a w = line_may (TakesTool None) None w
@@ -76,28 +66,28 @@ abbrev IsTool : List Line → Option (List ℕ × Sent) → Type 0
 IsTool h o = IsLast AsksTool may_take h o
 
 tool_command : (line : List ℕ) (tag : Tag) (h : List Line) (c : Command) (o : Option (List ℕ × Sent)) → IsTool h o
-    → IsTool (Sends line (Some (tag, sends.Known c)) ∷ h)
-    (tool_after (record { above = h; tag = tag; command = sends.Known c }) c o)
-tool_command line tag h command.StartSession o is = tt
-tool_command line tag h command.EndSession o is = tt
-tool_command line tag h command.Home o is = tt
-tool_command line tag h (command.ChangeTool tool) o is =
-    last_begins AsksTool may_take line tag (sends.Known (command.ChangeTool tool)) h tool refl
-tool_command line tag h c o is = last_stays AsksTool may_take line (Some (tag, sends.Known c)) h o (λ a. refl) is
+    → IsTool (Sends line (Some (tag, SentCommand.Known c)) ∷ h)
+    (tool_after (record { above = h; tag = tag; command = SentCommand.Known c }) c o)
+tool_command line tag h Command.StartSession o is = tt
+tool_command line tag h Command.EndSession o is = tt
+tool_command line tag h Command.Home o is = tt
+tool_command line tag h (Command.ChangeTool tool) o is =
+    last_begins AsksTool may_take line tag (SentCommand.Known (Command.ChangeTool tool)) h tool refl
+tool_command line tag h c o is = last_stays AsksTool may_take line (Some (tag, SentCommand.Known c)) h o (λ a. refl) is
 
 pub tool_is : (h : List Line) → IsTool h (last_tool h)
 tool_is [] = tt
 tool_is (Sends line None ∷ h) = tt
-tool_is (Sends line (Some (tag, sends.Known c)) ∷ h) = tool_command line tag h c (last_tool h) (tool_is h)
-tool_is (Sends line (Some (tag, sends.Asking)) ∷ h) =
-    last_stays AsksTool may_take line (Some (tag, sends.Asking)) h (last_tool h) (λ a. refl) (tool_is h)
-tool_is (Sends line (Some (tag, sends.Foreign x)) ∷ h) = tt
+tool_is (Sends line (Some (tag, SentCommand.Known c)) ∷ h) = tool_command line tag h c (last_tool h) (tool_is h)
+tool_is (Sends line (Some (tag, SentCommand.Asking)) ∷ h) =
+    last_stays AsksTool may_take line (Some (tag, SentCommand.Asking)) h (last_tool h) (λ a. refl) (tool_is h)
+tool_is (Sends line (Some (tag, SentCommand.Foreign x)) ∷ h) = tt
 tool_is (Answers line what ∷ h) = last_answered AsksTool may_take (Answers line what) h (last_tool h) (λ n. refl) (tool_is h)
 
 -- ---- the coordinate system
 
 abbrev pub AsksCsy : Csy → SentCommand → Type 0
-AsksCsy csy c = c ≡ sends.Known (command.SetCoordSystem csy)
+AsksCsy csy c = c ≡ SentCommand.Known (Command.SetCoordSystem csy)
 
 -- the frame in which a zero point that is stored selects none
 abbrev pub frame_of_csy : Csy → Option Frame
@@ -111,38 +101,38 @@ abbrev IsCsy : List Line → Option (Csy × Sent) → Type 0
 IsCsy h o = IsLast AsksCsy may_select h o
 
 csy_zero : (line : List ℕ) (tag : Tag) (p : Point) (h : List Line) (o : Option (Csy × Sent)) → IsCsy h o
-    → IsCsy (Sends line (Some (tag, sends.Known (command.SetCsyTransformation p))) ∷ h) (unless_part o)
+    → IsCsy (Sends line (Some (tag, SentCommand.Known (Command.SetCsyTransformation p))) ∷ h) (unless_part o)
 csy_zero line tag p h None is = tt
 csy_zero line tag p h (Some (PartCsy, s)) is = tt
 csy_zero line tag p h (Some (MachineCsy, s)) is = (
-  line_stays s (Sends line (Some (tag, sends.Known (command.SetCsyTransformation p)))) h is.0,
+  line_stays s (Sends line (Some (tag, SentCommand.Known (Command.SetCsyTransformation p)))) h is.0,
   is.1,
-  quiet_more (may_select MachineCsy) (place s) line (Some (tag, sends.Known (command.SetCsyTransformation p))) h refl is.2,
+  quiet_more (may_select MachineCsy) (place s) line (Some (tag, SentCommand.Known (Command.SetCsyTransformation p))) h refl is.2,
 )
 
 csy_command : (line : List ℕ) (tag : Tag) (h : List Line) (c : Command) (o : Option (Csy × Sent)) → IsCsy h o
-    → IsCsy (Sends line (Some (tag, sends.Known c)) ∷ h)
-    (csy_after (record { above = h; tag = tag; command = sends.Known c }) c o)
-csy_command line tag h command.StartSession o is = tt
-csy_command line tag h command.EndSession o is = tt
-csy_command line tag h (command.SetCsyTransformation p) o is = csy_zero line tag p h o is
-csy_command line tag h (command.SetCoordSystem csy) o is =
-    last_begins AsksCsy may_select line tag (sends.Known (command.SetCoordSystem csy)) h csy refl
-csy_command line tag h c o is = last_stays AsksCsy may_select line (Some (tag, sends.Known c)) h o (λ a. refl) is
+    → IsCsy (Sends line (Some (tag, SentCommand.Known c)) ∷ h)
+    (csy_after (record { above = h; tag = tag; command = SentCommand.Known c }) c o)
+csy_command line tag h Command.StartSession o is = tt
+csy_command line tag h Command.EndSession o is = tt
+csy_command line tag h (Command.SetCsyTransformation p) o is = csy_zero line tag p h o is
+csy_command line tag h (Command.SetCoordSystem csy) o is =
+    last_begins AsksCsy may_select line tag (SentCommand.Known (Command.SetCoordSystem csy)) h csy refl
+csy_command line tag h c o is = last_stays AsksCsy may_select line (Some (tag, SentCommand.Known c)) h o (λ a. refl) is
 
 pub csy_is : (h : List Line) → IsCsy h (last_csy h)
 csy_is [] = tt
 csy_is (Sends line None ∷ h) = tt
-csy_is (Sends line (Some (tag, sends.Known c)) ∷ h) = csy_command line tag h c (last_csy h) (csy_is h)
-csy_is (Sends line (Some (tag, sends.Asking)) ∷ h) =
-    last_stays AsksCsy may_select line (Some (tag, sends.Asking)) h (last_csy h) (λ a. refl) (csy_is h)
-csy_is (Sends line (Some (tag, sends.Foreign x)) ∷ h) = tt
+csy_is (Sends line (Some (tag, SentCommand.Known c)) ∷ h) = csy_command line tag h c (last_csy h) (csy_is h)
+csy_is (Sends line (Some (tag, SentCommand.Asking)) ∷ h) =
+    last_stays AsksCsy may_select line (Some (tag, SentCommand.Asking)) h (last_csy h) (λ a. refl) (csy_is h)
+csy_is (Sends line (Some (tag, SentCommand.Foreign x)) ∷ h) = tt
 csy_is (Answers line what ∷ h) = last_answered AsksCsy may_select (Answers line what) h (last_csy h) (λ n. refl) (csy_is h)
 
 -- ---- the zero point
 
 abbrev pub AsksZero : Point → SentCommand → Type 0
-AsksZero at c = (p : Point) × (c ≡ sends.Known (command.SetCsyTransformation p)) × (at ≡ point_opposite p)
+AsksZero at c = (p : Point) × (c ≡ SentCommand.Known (Command.SetCsyTransformation p)) × (at ≡ point_opposite p)
 
 abbrev pub may_store : {A : Type 0} → A → Option (Tag × SentCommand) → Bool
 may_store a w = line_may (StoresZero None) None w
@@ -151,21 +141,21 @@ abbrev IsZero : List Line → Option (Point × Sent) → Type 0
 IsZero h o = IsLast AsksZero may_store h o
 
 zero_command : (line : List ℕ) (tag : Tag) (h : List Line) (c : Command) (o : Option (Point × Sent)) → IsZero h o
-    → IsZero (Sends line (Some (tag, sends.Known c)) ∷ h)
-    (zero_after (record { above = h; tag = tag; command = sends.Known c }) c o)
-zero_command line tag h command.StartSession o is = tt
-zero_command line tag h command.EndSession o is = tt
-zero_command line tag h (command.SetCsyTransformation p) o is =
-    last_begins AsksZero may_store line tag (sends.Known (command.SetCsyTransformation p)) h (point_opposite p) (p, refl, refl)
-zero_command line tag h c o is = last_stays AsksZero may_store line (Some (tag, sends.Known c)) h o (λ a. refl) is
+    → IsZero (Sends line (Some (tag, SentCommand.Known c)) ∷ h)
+    (zero_after (record { above = h; tag = tag; command = SentCommand.Known c }) c o)
+zero_command line tag h Command.StartSession o is = tt
+zero_command line tag h Command.EndSession o is = tt
+zero_command line tag h (Command.SetCsyTransformation p) o is =
+    last_begins AsksZero may_store line tag (SentCommand.Known (Command.SetCsyTransformation p)) h (point_opposite p) (p, refl, refl)
+zero_command line tag h c o is = last_stays AsksZero may_store line (Some (tag, SentCommand.Known c)) h o (λ a. refl) is
 
 pub zero_is : (h : List Line) → IsZero h (last_zero h)
 zero_is [] = tt
 zero_is (Sends line None ∷ h) = tt
-zero_is (Sends line (Some (tag, sends.Known c)) ∷ h) = zero_command line tag h c (last_zero h) (zero_is h)
-zero_is (Sends line (Some (tag, sends.Asking)) ∷ h) =
-    last_stays AsksZero may_store line (Some (tag, sends.Asking)) h (last_zero h) (λ a. refl) (zero_is h)
-zero_is (Sends line (Some (tag, sends.Foreign x)) ∷ h) = tt
+zero_is (Sends line (Some (tag, SentCommand.Known c)) ∷ h) = zero_command line tag h c (last_zero h) (zero_is h)
+zero_is (Sends line (Some (tag, SentCommand.Asking)) ∷ h) =
+    last_stays AsksZero may_store line (Some (tag, SentCommand.Asking)) h (last_zero h) (λ a. refl) (zero_is h)
+zero_is (Sends line (Some (tag, SentCommand.Foreign x)) ∷ h) = tt
 zero_is (Answers line what ∷ h) = last_answered AsksZero may_store (Answers line what) h (last_zero h) (λ n. refl) (zero_is h)
 
 -- that of a part's frame is the last above the line that selects it
@@ -175,7 +165,7 @@ IsPart h None = Unit {0}
 IsPart h (Some (csy, s)) = last_part h ≡ last_zero s.above
 
 part_zero : (line : List ℕ) (tag : Tag) (p : Point) (h : List Line) (o : Option (Csy × Sent)) → IsPart h o
-    → IsPart (Sends line (Some (tag, sends.Known (command.SetCsyTransformation p))) ∷ h) (unless_part o)
+    → IsPart (Sends line (Some (tag, SentCommand.Known (Command.SetCsyTransformation p))) ∷ h) (unless_part o)
 part_zero line tag p h None is = tt
 part_zero line tag p h (Some (PartCsy, s)) is = tt
 part_zero line tag p h (Some (MachineCsy, s)) is = is
@@ -186,13 +176,13 @@ part_stays line what h None same is = tt
 part_stays line what h (Some (csy, s)) same is = same ∙ is
 
 part_command : (line : List ℕ) (tag : Tag) (h : List Line) (c : Command) (o : Option (Csy × Sent)) → IsPart h o
-    → IsPart (Sends line (Some (tag, sends.Known c)) ∷ h)
-    (csy_after (record { above = h; tag = tag; command = sends.Known c }) c o)
-part_command line tag h command.StartSession o is = tt
-part_command line tag h command.EndSession o is = tt
-part_command line tag h (command.SetCsyTransformation p) o is = part_zero line tag p h o is
-part_command line tag h (command.SetCoordSystem csy) o is = refl
-part_command line tag h c o is = part_stays line (Some (tag, sends.Known c)) h o refl is
+    → IsPart (Sends line (Some (tag, SentCommand.Known c)) ∷ h)
+    (csy_after (record { above = h; tag = tag; command = SentCommand.Known c }) c o)
+part_command line tag h Command.StartSession o is = tt
+part_command line tag h Command.EndSession o is = tt
+part_command line tag h (Command.SetCsyTransformation p) o is = part_zero line tag p h o is
+part_command line tag h (Command.SetCoordSystem csy) o is = refl
+part_command line tag h c o is = part_stays line (Some (tag, SentCommand.Known c)) h o refl is
 
 answered_part : (line : List ℕ) (what : Option (Tag × Signal)) (h : List Line) (o : Option (Csy × Sent)) → IsPart h o → IsPart (Answers line what ∷ h) o
 answered_part line what h None is = tt
@@ -201,9 +191,9 @@ answered_part line what h (Some (csy, s)) is = is
 pub part_is : (h : List Line) → IsPart h (last_csy h)
 part_is [] = tt
 part_is (Sends line None ∷ h) = tt
-part_is (Sends line (Some (tag, sends.Known c)) ∷ h) = part_command line tag h c (last_csy h) (part_is h)
-part_is (Sends line (Some (tag, sends.Asking)) ∷ h) = part_stays line (Some (tag, sends.Asking)) h (last_csy h) refl (part_is h)
-part_is (Sends line (Some (tag, sends.Foreign x)) ∷ h) = tt
+part_is (Sends line (Some (tag, SentCommand.Known c)) ∷ h) = part_command line tag h c (last_csy h) (part_is h)
+part_is (Sends line (Some (tag, SentCommand.Asking)) ∷ h) = part_stays line (Some (tag, SentCommand.Asking)) h (last_csy h) refl (part_is h)
+part_is (Sends line (Some (tag, SentCommand.Foreign x)) ∷ h) = tt
 part_is (Answers line what ∷ h) = answered_part line what h (last_csy h) (part_is h)
 
 pub part_last : (csy : Csy) (s : Sent) (h : List Line) → last_csy h ≡ Some (csy, s) → last_part h ≡ last_zero s.above

@@ -1,35 +1,15 @@
 -- The frame that is known of a contact is the one that the machine had.
-use Rattle.std.proofs.Common.{◌≡◌, ℕ, ◌==◌, Bool, true, false, if◌then◌else◌, List, [], ◌∷◌, Option, Some, None, is_some}
-use Rattle.std.proofs.Common.{refl, ap, sym, ◌∙◌, subst, inl, inr}
-use Rattle.std.specs.Prelude.{◌⊎◌}
-use Rattle.std.specs.Prelude.{slice_get}
-use Rattle.std.specs.List.{list_any}
-use Rattle.std.proofs.lemmas.Bool.{false≢true, or_right, eqb-true}
-use Rattle.fixed_um.specs.Shapes.{Direction}
-use Rattle.fixed_um.specs.declared.frames.Frame.{Frame}
-use Rattle.fixed_um.specs.declared.frames.Frame.TheVariants.{Machine, Part}
-use Rattle.fixed_um.specs.declared.lengths.Point.{Point}
-use Rattle.dme_line.specs.declared.commands.Command.{Command}
-use Rattle.dme_line.specs.declared.commands.Command.TheVariants as command
-use Rattle.dme_line.specs.declared.commands.Csy.{Csy}
-use Rattle.dme_line.specs.declared.commands.Csy.TheVariants.{MachineCsy, PartCsy}
-use Rattle.dme_line.specs.declared.tags.Tag.{Tag}
-use Rattle.protocol_model.specs.declared.held.Datum.TheVariants as datum
-use Rattle.witness.specs.Asking.{Line, Sends, Answers, Signal}
-use Rattle.witness.specs.Dialogues.{touched}
-use Rattle.witness.specs.Histories.{Sent, place, mark_in, with_mark, marks, stage_of}
-use Rattle.witness.specs.Known.{done, frame_by, frame_of}
-use Rattle.witness.specs.Rules.{is_crossed, at_once_below, fault_since, progress_with, progress_of, last_csy, last_zero, last_part, may_hold_for, all_for, reported_of, known_for}
-use Rattle.witness.specs.declared.lines.Heard.{Heard}
-use Rattle.witness.specs.declared.lines.Heard.TheVariants as heard
-use Rattle.witness.specs.declared.lines.Progress.TheVariants.{Done}
-use Rattle.witness.specs.declared.lines.Reported.{Reported}
-use Rattle.witness.specs.declared.lines.SentCommand.{SentCommand}
-use Rattle.witness.specs.declared.lines.SentCommand.TheVariants as sends
-use Rattle.witness.specs.declared.lines.Stage.TheVariants as stage
-use Rattle.witness_laws.specs.Machines.{Effect, TakesTool, SelectsFrame, StoresZero, Touches, Cause, InTurn, AtOnce, ForNoLine, Entry, Message, Does}
-use Rattle.witness_laws.specs.Machines.{lines, IsPast, whole, past, sent_at, frame_selected, zero_stored, last, so, zero_now, frame_now, before_last, is_for_line}
-use Rattle.witness_laws.specs.Machines.{is_contact, is_selection, there, part_of, part_when, part_selected}
+use Rattle.witness_laws.proofs.Names.{◌==◌, ◌∙◌, ◌∷◌, ◌≡◌, ◌⊎◌, [], all_for, Answers, ap, at_once_below, Bool, Command, Csy, Datum, Direction, Done}
+use Rattle.witness_laws.proofs.Names.{done, eqb-true, false, false≢true, fault_since, Frame, frame_by, frame_of, Heard, if◌then◌else◌, inl, inr}
+use Rattle.witness_laws.proofs.Names.{is_crossed, is_some, known_for, last_csy, last_part, last_zero, List, list_any, Machine, MachineCsy, mark_in}
+use Rattle.witness_laws.proofs.Names.{marks, may_hold_for, None, Option, or_right, Part, PartCsy, place, Point, progress_of, progress_with, refl}
+use Rattle.witness_laws.proofs.Names.{Reported, reported_of, Sends, Sent, SentCommand, Signal, slice_get, Some, Stage, stage_of, subst, sym, Tag}
+use Rattle.witness_laws.proofs.Names.{touched, true, ℕ}
+use Rattle.witness.specs.Asking.{Line}
+use Rattle.witness.specs.Histories.{with_mark}
+use Rattle.witness_laws.specs.Machines.{Effect, TakesTool, SelectsFrame, StoresZero, Touches, Cause, InTurn, AtOnce, ForNoLine, Entry, Message, Does, lines, IsPast}
+use Rattle.witness_laws.specs.Machines.{whole, past, sent_at, frame_selected, zero_stored, last, so, zero_now, frame_now, before_last, is_for_line, is_contact}
+use Rattle.witness_laws.specs.Machines.{is_selection, there, part_of, part_when, part_selected}
 use Rattle.witness_laws.specs.Premises.{Keeps, KeepsUnlessCrossed, ActsWithin, selects_frame, takes_a_tool, line_may, is_complete, has_ended}
 use Rattle.witness_laws.specs.Contacts.{contact_frame, HadFrame}
 use Rattle.witness_laws.proofs.machines.Places.{same_place, IsLine, sent_within, line_through, line_stays}
@@ -48,9 +28,9 @@ use Rattle.witness_laws.proofs.machines.Held.{IsHeld, Holds, held_for, known_all
 known_selects : (csy : Csy) (effect : Effect) (w : Option (Tag × SentCommand)) → is_some (frame_selected effect) ≡ true
     → line_may effect (frame_of_csy csy) w ≡ true → may_select csy w ≡ true
 known_selects csy (SelectsFrame frame) None some may = refl
-known_selects csy (SelectsFrame frame) (Some (tag, sends.Known c)) some may = may
-known_selects csy (SelectsFrame frame) (Some (tag, sends.Asking)) some may = may
-known_selects csy (SelectsFrame frame) (Some (tag, sends.Foreign line)) some may = refl
+known_selects csy (SelectsFrame frame) (Some (tag, SentCommand.Known c)) some may = may
+known_selects csy (SelectsFrame frame) (Some (tag, SentCommand.Asking)) some may = may
+known_selects csy (SelectsFrame frame) (Some (tag, SentCommand.Foreign line)) some may = refl
 known_selects csy (TakesTool tool) w some may = absurd (false≢true some)
 known_selects csy (StoresZero point) w some may = absurd (false≢true some)
 known_selects csy Touches w some may = absurd (false≢true some)
@@ -59,23 +39,23 @@ known_selects csy Touches w some may = absurd (false≢true some)
 part_selects : (effect : Effect) (now : Option Frame) (w : Option (Tag × SentCommand)) → is_some (frame_selected effect) ≡ true
     → line_may effect now w ≡ true → may_select PartCsy w ≡ true
 part_selects (SelectsFrame frame) now None some may = refl
-part_selects (SelectsFrame frame) now (Some (tag, sends.Known c)) some may = part_command c may
+part_selects (SelectsFrame frame) now (Some (tag, SentCommand.Known c)) some may = part_command c may
   where
     part_command : (c : Command) → selects_frame now c ≡ true → selects_frame None c ≡ true
-    part_command command.StartSession e = refl
-    part_command command.EndSession e = refl
-    part_command (command.SetCoordSystem csy) e = refl
-    part_command (command.SetCsyTransformation p) e = refl
-    part_command command.ClearAllErrors e = e
-    part_command command.IsHomed e = e
-    part_command command.Home e = e
-    part_command command.OnPtMeasReport e = e
-    part_command (command.GoTo p) e = e
-    part_command (command.PtMeas p d) e = e
-    part_command (command.ChangeTool tool) e = e
-    part_command command.AbortE e = e
-part_selects (SelectsFrame frame) now (Some (tag, sends.Asking)) some may = may
-part_selects (SelectsFrame frame) now (Some (tag, sends.Foreign line)) some may = refl
+    part_command Command.StartSession e = refl
+    part_command Command.EndSession e = refl
+    part_command (Command.SetCoordSystem csy) e = refl
+    part_command (Command.SetCsyTransformation p) e = refl
+    part_command Command.ClearAllErrors e = e
+    part_command Command.IsHomed e = e
+    part_command Command.Home e = e
+    part_command Command.OnPtMeasReport e = e
+    part_command (Command.GoTo p) e = e
+    part_command (Command.PtMeas p d) e = e
+    part_command (Command.ChangeTool tool) e = e
+    part_command Command.AbortE e = e
+part_selects (SelectsFrame frame) now (Some (tag, SentCommand.Asking)) some may = may
+part_selects (SelectsFrame frame) now (Some (tag, SentCommand.Foreign line)) some may = refl
 part_selects (TakesTool tool) now w some may = absurd (false≢true some)
 part_selects (StoresZero point) now w some may = absurd (false≢true some)
 part_selects Touches now w some may = absurd (false≢true some)
@@ -83,9 +63,9 @@ part_selects Touches now w some may = absurd (false≢true some)
 known_stores : (effect : Effect) (now : Option Frame) (w : Option (Tag × SentCommand)) → is_some (zero_stored effect) ≡ true
     → line_may effect now w ≡ true → may_store {A = Bool} true w ≡ true
 known_stores (StoresZero point) now None some may = refl
-known_stores (StoresZero point) now (Some (tag, sends.Known c)) some may = may
-known_stores (StoresZero point) now (Some (tag, sends.Asking)) some may = may
-known_stores (StoresZero point) now (Some (tag, sends.Foreign line)) some may = refl
+known_stores (StoresZero point) now (Some (tag, SentCommand.Known c)) some may = may
+known_stores (StoresZero point) now (Some (tag, SentCommand.Asking)) some may = may
+known_stores (StoresZero point) now (Some (tag, SentCommand.Foreign line)) some may = refl
 known_stores (TakesTool tool) now w some may = absurd (false≢true some)
 known_stores (SelectsFrame frame) now w some may = absurd (false≢true some)
 known_stores Touches now w some may = absurd (false≢true some)
@@ -171,23 +151,23 @@ none_prompt i j (Does cause effect ∷ h) none = none_prompt i j h none
 
 -- ---- the zero point at the selection
 
-part_quiet : (c : SentCommand) (csy : Csy) (tag : Tag) → c ≡ sends.Known (command.SetCoordSystem csy) → may_store {A = Bool} true (Some (tag, c)) ≡ false
+part_quiet : (c : SentCommand) (csy : Csy) (tag : Tag) → c ≡ SentCommand.Known (Command.SetCoordSystem csy) → may_store {A = Bool} true (Some (tag, c)) ≡ false
 part_quiet c csy tag is = ap (λ (x : SentCommand). may_store {A = Bool} true (Some (tag, x))) is
 
-zero_fits : (at : Point) (z s : Sent) (all : List Entry) → IsLine s (lines all) → s.command ≡ sends.Known (command.SetCoordSystem PartCsy)
+zero_fits : (at : Point) (z s : Sent) (all : List Entry) → IsLine s (lines all) → s.command ≡ SentCommand.Known (Command.SetCoordSystem PartCsy)
     → IsLast AsksZero may_store s.above (Some (at, z)) → Fits ⊥ zero_stored (place z) (place s) (Some at) all
 zero_fits at z s all is_line is last_is =
     let line_of : IsLine z (lines all) = line_through z s (lines all) last_is.0 is_line in
     let p : Point = last_is.1.0 in
-    let sent : sent_at (place z) (lines all) ≡ Some (Some (z.tag, sends.Known (command.SetCsyTransformation p))) =
+    let sent : sent_at (place z) (lines all) ≡ Some (Some (z.tag, SentCommand.Known (Command.SetCsyTransformation p))) =
     IsLine.sent line_of ∙ ap (λ (c : SentCommand). Some (Some (z.tag, c))) last_is.1.1 in
     record {
       above = sent_within (place z) (Some (z.tag, z.command)) s.above (IsLine.sent last_is.0);
       no_touch = refl;
       made = λ line what e h k t mark done calm.
-          made_sent (place z) line what e all h (Some (z.tag, sends.Known (command.SetCsyTransformation p))) k t sent mark done calm
+          made_sent (place z) line what e all h (Some (z.tag, SentCommand.Known (Command.SetCsyTransformation p))) k t sent mark done calm
           ∙ ap (λ (x : Point). Some (InTurn (place z), Some x)) (sym last_is.1.2);
-      in_turn = λ h t may. known_in_turn (place z) all h z.tag (command.SetCsyTransformation p) t sent may;
+      in_turn = λ h t may. known_in_turn (place z) all h z.tag (Command.SetCsyTransformation p) t sent may;
       quiet = λ n effect h t acts lt le e some.
           below_quiet (may_store {A = Bool} true) (place z) s all is_line (part_quiet s.command PartCsy s.tag is) last_is.2
           n effect h t acts lt le (λ w may. known_stores effect (frame_now h) w some may);
@@ -195,7 +175,7 @@ zero_fits at z s all is_line is last_is =
       loss = λ effect h acts some. no_zero_lost effect acts some;
     }
 
-zero_there : (at : Point) (z s : Sent) (h : List Entry) → IsLine s (lines h) → s.command ≡ sends.Known (command.SetCoordSystem PartCsy)
+zero_there : (at : Point) (z s : Sent) (h : List Entry) → IsLine s (lines h) → s.command ≡ SentCommand.Known (Command.SetCoordSystem PartCsy)
     → IsLast AsksZero may_store s.above (Some (at, z)) → Keeps h → at_once_below (place z) (lines h) ≡ false → fault_since (place z) (lines h) ≡ false
     → progress_of (marks (place z) (lines h)) ≡ Some Done → fault_since (place s) (lines h) ≡ false
     → progress_of (marks (place s) (lines h)) ≡ Some Done → There ⊥ zero_stored (place z) (Some at) (is_selection (place s)) h
@@ -205,7 +185,7 @@ zero_there at z s h is_line is last_is k none calm done s_calm s_done =
 
 -- ---- the frame
 
-touch_quiet : (csy : Csy) (c : SentCommand) (tag : Tag) (p : Point) (d : Option Direction) → c ≡ sends.Known (command.PtMeas p d)
+touch_quiet : (csy : Csy) (c : SentCommand) (tag : Tag) (p : Point) (d : Option Direction) → c ≡ SentCommand.Known (Command.PtMeas p d)
     → may_select csy (Some (tag, c)) ≡ false
 touch_quiet csy c tag p d is = ap (λ (x : SentCommand). may_select csy (Some (tag, x))) is
 
@@ -215,18 +195,18 @@ held_last cause h (inl l) = absurd l
 held_last cause h (inr e) = e
 
 machine_fits : (s u : Sent) (p : Point) (d : Option Direction) (all : List Entry) → IsLine u (lines all)
-    → u.command ≡ sends.Known (command.PtMeas p d) → IsLast AsksCsy may_select u.above (Some (MachineCsy, s))
+    → u.command ≡ SentCommand.Known (Command.PtMeas p d) → IsLast AsksCsy may_select u.above (Some (MachineCsy, s))
     → Fits ⊥ frame_selected (place s) (place u) (Some Machine) all
 machine_fits s u p d all iu is last_is =
     let is_line : IsLine s (lines all) = line_through s u (lines all) last_is.0 iu in
-    let sent : sent_at (place s) (lines all) ≡ Some (Some (s.tag, sends.Known (command.SetCoordSystem MachineCsy))) =
+    let sent : sent_at (place s) (lines all) ≡ Some (Some (s.tag, SentCommand.Known (Command.SetCoordSystem MachineCsy))) =
     IsLine.sent is_line ∙ ap (λ (c : SentCommand). Some (Some (s.tag, c))) last_is.1 in
     record {
       above = sent_within (place s) (Some (s.tag, s.command)) u.above (IsLine.sent last_is.0);
       no_touch = refl;
       made = λ line what e h k t mark done calm.
-          made_sent (place s) line what e all h (Some (s.tag, sends.Known (command.SetCoordSystem MachineCsy))) k t sent mark done calm;
-      in_turn = λ h t may. known_in_turn (place s) all h s.tag (command.SetCoordSystem MachineCsy) t sent may;
+          made_sent (place s) line what e all h (Some (s.tag, SentCommand.Known (Command.SetCoordSystem MachineCsy))) k t sent mark done calm;
+      in_turn = λ h t may. known_in_turn (place s) all h s.tag (Command.SetCoordSystem MachineCsy) t sent may;
       quiet = λ n effect h t acts lt le e some.
           below_quiet (may_select MachineCsy) (place s) u all iu (touch_quiet MachineCsy u.command u.tag p d is) last_is.2
           n effect h t acts lt le (λ w may. known_selects MachineCsy effect w some
@@ -265,20 +245,20 @@ part_made at z s line what e all h kept t mark d zero_is_there made =
     made ∙ (ap (λ x. Some (InTurn (place s), part_when (there zero_now x))) (sym same) ∙ ap (λ x. Some (InTurn (place s), x)) part)
 
 part_fits : (at : Point) (z s u : Sent) (p : Point) (d : Option Direction) (all : List Entry) → Keeps all → IsLine u (lines all)
-    → u.command ≡ sends.Known (command.PtMeas p d) → IsLast AsksCsy may_select u.above (Some (PartCsy, s))
+    → u.command ≡ SentCommand.Known (Command.PtMeas p d) → IsLast AsksCsy may_select u.above (Some (PartCsy, s))
     → There ⊥ zero_stored (place z) (Some at) (is_selection (place s)) all
     → Fits ⊥ frame_selected (place s) (place u) (Some (Part at)) all
 part_fits at z s u p d all kept iu is last_is zero_is_there =
     let is_line : IsLine s (lines all) = line_through s u (lines all) last_is.0 iu in
-    let sent : sent_at (place s) (lines all) ≡ Some (Some (s.tag, sends.Known (command.SetCoordSystem PartCsy))) =
+    let sent : sent_at (place s) (lines all) ≡ Some (Some (s.tag, SentCommand.Known (Command.SetCoordSystem PartCsy))) =
     IsLine.sent is_line ∙ ap (λ (c : SentCommand). Some (Some (s.tag, c))) last_is.1 in
     record {
       above = sent_within (place s) (Some (s.tag, s.command)) u.above (IsLine.sent last_is.0);
       no_touch = refl;
       made = λ line what e h k t mark done calm.
           part_made at z s line what e all h kept t mark done zero_is_there
-          (made_sent (place s) line what e all h (Some (s.tag, sends.Known (command.SetCoordSystem PartCsy))) k t sent mark done calm);
-      in_turn = λ h t may. known_in_turn (place s) all h s.tag (command.SetCoordSystem PartCsy) t sent may;
+          (made_sent (place s) line what e all h (Some (s.tag, SentCommand.Known (Command.SetCoordSystem PartCsy))) k t sent mark done calm);
+      in_turn = λ h t may. known_in_turn (place s) all h s.tag (Command.SetCoordSystem PartCsy) t sent may;
       quiet = λ n effect h t acts lt le e some.
           below_quiet (may_select PartCsy) (place s) u all iu (touch_quiet PartCsy u.command u.tag p d is) last_is.2
           n effect h t acts lt le (λ w may. part_selects effect (frame_now h) w some may);
@@ -293,14 +273,14 @@ IsFrameHad what h r = (frame : Frame) → contact_frame r ≡ Some frame → Had
 
 -- in a frame that holds at the end of a touch
 frame_had : (frame : Frame) (s u : Sent) (p : Point) (d : Option Direction) (at : Point) (line : List ℕ) (what : Option (Tag × Signal)) (h : List Entry)
-    → Keeps (Message (Answers line what) ∷ h) → IsLine u (lines h) → mark_in what (lines h) ≡ Some (place u, heard.Complete)
-    → u.command ≡ sends.Known (command.PtMeas p d) → stage_of u.command (marks (place u) (lines h)) ≡ stage.Given (datum.Point at)
+    → Keeps (Message (Answers line what) ∷ h) → IsLine u (lines h) → mark_in what (lines h) ≡ Some (place u, Heard.Complete)
+    → u.command ≡ SentCommand.Known (Command.PtMeas p d) → stage_of u.command (marks (place u) (lines h)) ≡ Stage.Given (Datum.Point at)
     → IsHeld s u (Answers line what ∷ lines h) → Fits ⊥ frame_selected (place s) (place u) (Some frame) (Message (Answers line what) ∷ h)
     → HadFrame what h frame
 frame_had frame s u p d at line what h k iu mark is given held fits =
     go (had_there ⊥ frame_selected (place s) (place u) (Some frame) (is_contact (place u)) (Message (Answers line what) ∷ h)
     (Message (Answers line what) ∷ h) fits (contact_of frame_selected (place u) refl) k whole
-    (touch_prompt (command.PtMeas p d) (place s) (place u) (Message (Answers line what) ∷ h) (IsHeld.order held)
+    (touch_prompt (Command.PtMeas p d) (place s) (place u) (Message (Answers line what) ∷ h) (IsHeld.order held)
     (ended_sound u p d at line what h mark is given))
     (IsHeld.none held) (IsHeld.calm held) (IsHeld.is_done held))
   where
@@ -331,8 +311,8 @@ frame_is (Some PartCsy) (Some at) frame e = inr (at, refl, refl, sym (ap frame_o
     frame_or (Some x) = x
 
 known_frame_had : (frame : Frame) (u : Sent) (p : Point) (d : Option Direction) (at : Point) (line : List ℕ) (what : Option (Tag × Signal)) (h : List Entry)
-    → Keeps (Message (Answers line what) ∷ h) → IsLine u (lines h) → mark_in what (lines h) ≡ Some (place u, heard.Complete)
-    → u.command ≡ sends.Known (command.PtMeas p d) → stage_of u.command (marks (place u) (lines h)) ≡ stage.Given (datum.Point at)
+    → Keeps (Message (Answers line what) ∷ h) → IsLine u (lines h) → mark_in what (lines h) ≡ Some (place u, Heard.Complete)
+    → u.command ≡ SentCommand.Known (Command.PtMeas p d) → stage_of u.command (marks (place u) (lines h)) ≡ Stage.Given (Datum.Point at)
     → frame_of (all_for u (Answers line what ∷ lines h)) ≡ Some frame → HadFrame what h frame
 known_frame_had frame u p d at line what h k iu mark is given known =
     elim (frame_is (done (may_hold_for u (last_csy u.above) all)) (done (may_hold_for u (last_part u.above) all)) frame known) [

@@ -1,21 +1,11 @@
 -- A change that holds by the rules: what the machine has since then, if its server keeps the premises.
-use Rattle.std.proofs.Common.{◌≡◌, ℕ, ◌<◌, ◌≤◌, ◌==◌, Bool, true, false, ◌&&◌, not, if◌then◌else◌, nat_lt, List, [], ◌∷◌}
-use Rattle.std.proofs.Common.{Option, Some, None, is_some, inl, inr, refl, ap, sym, ◌∙◌, subst}
-use Rattle.std.specs.Prelude.{◌⊎◌}
-use Rattle.std.proofs.lemmas.Bool.{false≢true, and_parts, and_from, or_left, or_right, or_parts, cases_order, cases_lt}
-use Rattle.fixed_um.specs.declared.frames.Frame.{Frame}
-use Rattle.dme_line.specs.declared.tags.Tag.{Tag}
-use Rattle.witness.specs.Asking.{Sends, Answers, Signal}
-use Rattle.witness.specs.Histories.{count_sent, mark_in, marks}
-use Rattle.witness.specs.Rules.{is_fault, is_at_once, at_once_below, fault_since, progress_with, progress_of}
-use Rattle.witness.specs.declared.lines.Heard.{Heard}
-use Rattle.witness.specs.declared.lines.Progress.TheVariants.{Done}
-use Rattle.witness.specs.declared.lines.SentCommand.{SentCommand}
-use Rattle.witness_laws.specs.Machines.{Effect, TakesTool, SelectsFrame, StoresZero, Touches, InTurn, AtOnce, ForNoLine, Entry, Message, Does}
-use Rattle.witness_laws.specs.Machines.{lines, IsPast, whole, past, sent_at, last, or_before, is_for_line, frame_now}
-use Rattle.witness_laws.specs.Premises.{ActsWithin, Keeps}
-use Rattle.witness_laws.specs.Premises.{may_in_turn, may_at_once, line_may, has_ended, keep_order}
-use Rattle.witness_laws.specs.Premises.{is_unreported, out_of_turn}
+use Rattle.witness_laws.proofs.Names.{◌&&◌, ◌<◌, ◌==◌, ◌∙◌, ◌∷◌, ◌≡◌, ◌≤◌, ◌⊎◌, [], and_from, and_parts, Answers, ap, at_once_below, Bool, cases_lt}
+use Rattle.witness_laws.proofs.Names.{cases_order, count_sent, Done, false, false≢true, fault_since, Frame, Heard, if◌then◌else◌, inl, inr}
+use Rattle.witness_laws.proofs.Names.{is_at_once, is_fault, is_some, List, mark_in, marks, nat_lt, None, not, Option, or_left, or_parts, or_right}
+use Rattle.witness_laws.proofs.Names.{progress_of, progress_with, refl, Sends, SentCommand, Signal, Some, subst, sym, Tag, true, ℕ}
+use Rattle.witness_laws.specs.Machines.{Effect, TakesTool, SelectsFrame, StoresZero, Touches, InTurn, AtOnce, ForNoLine, Entry, Message, Does, lines, IsPast, whole}
+use Rattle.witness_laws.specs.Machines.{past, sent_at, last, or_before, is_for_line, frame_now}
+use Rattle.witness_laws.specs.Premises.{ActsWithin, Keeps, may_in_turn, may_at_once, line_may, has_ended, keep_order, is_unreported, out_of_turn}
 use Rattle.witness_laws.proofs.machines.Places.{sent_stays, below_at_once, same_place}
 use Rattle.witness_laws.proofs.machines.Orders.{is_it, unshown, unshown_for, crossing, none_crossed, did_last}
 use Rattle.witness_laws.proofs.machines.Marking.{IsEarly, early_none, IsDoneBy, ends, stays, done_step, calm_none, has_end}

@@ -1,27 +1,13 @@
 -- Changes, contacts and touches, as a history that keeps the premises has them.
-use Rattle.std.proofs.Common.{◌≡◌, ℕ, ◌<◌, ◌≤◌, Bool, true, false, ◌&&◌, ◌||◌, not, if◌then◌else◌, List, ◌∷◌, Option, Some, None, is_some}
-use Rattle.std.proofs.Common.{refl, ap, sym, ◌∙◌, subst, arith, inl, inr}
-use Rattle.std.proofs.lemmas.Bool.{false≢true, eqb-true, and_parts, cases_lt}
-use Rattle.fixed_um.specs.Shapes.{Direction}
-use Rattle.fixed_um.specs.declared.lengths.Point.{Point}
-use Rattle.dme_line.specs.declared.commands.Command.{Command}
-use Rattle.dme_line.specs.declared.commands.Command.TheVariants as command
-use Rattle.dme_line.specs.declared.tags.Tag.{Tag}
-use Rattle.dme_line.specs.declared.tags.Tag.TheVariants.{Std, Event}
-use Rattle.protocol_model.specs.declared.held.Datum.TheVariants as datum
-use Rattle.witness.specs.Asking.{Answers, Signal}
-use Rattle.witness.specs.Histories.{Sent, place, mark_in, with_mark, marks, stage_of}
-use Rattle.witness.specs.Marks.{step, stage_after}
-use Rattle.witness.specs.Rules.{is_fault, is_at_once, is_done, progress_with, progress_of}
-use Rattle.witness.specs.declared.lines.Heard.{Heard}
-use Rattle.witness.specs.declared.lines.Heard.TheVariants as heard
-use Rattle.witness.specs.declared.lines.Progress.TheVariants.{Done}
-use Rattle.witness.specs.declared.lines.SentCommand.{SentCommand}
-use Rattle.witness.specs.declared.lines.SentCommand.TheVariants as sends
-use Rattle.witness.specs.declared.lines.Stage.TheVariants as stage
-use Rattle.witness_laws.specs.Machines.{Effect, TakesTool, SelectsFrame, StoresZero, Touches, Cause, InTurn, AtOnce, ForNoLine, Entry, Message, Does}
-use Rattle.witness_laws.specs.Machines.{lines, IsPast, past, sent_at, frame_now, before_last, is_contact}
-use Rattle.witness_laws.specs.Premises.{Keeps, ActsWithin, IfTrue, MadeSent, line_may, may_in_turn, may_at_once, has_ended, is_loss_reported, is_lost_before, has_contact, has_point, point_given, MadeAt}
+use Rattle.witness_laws.proofs.Names.{◌&&◌, ◌<◌, ◌||◌, ◌∙◌, ◌∷◌, ◌≡◌, ◌≤◌, and_parts, Answers, ap, arith, Bool, cases_lt, Command, Datum, Direction}
+use Rattle.witness_laws.proofs.Names.{Done, eqb-true, Event, false, false≢true, Heard, if◌then◌else◌, inl, inr, is_at_once, is_done, is_fault}
+use Rattle.witness_laws.proofs.Names.{is_some, List, mark_in, marks, None, not, Option, place, Point, progress_of, progress_with, refl, Sent}
+use Rattle.witness_laws.proofs.Names.{SentCommand, Signal, Some, Stage, stage_after, stage_of, Std, step, subst, sym, Tag, true, ℕ}
+use Rattle.witness.specs.Histories.{with_mark}
+use Rattle.witness_laws.specs.Machines.{Effect, TakesTool, SelectsFrame, StoresZero, Touches, Cause, InTurn, AtOnce, ForNoLine, Entry, Message, Does, lines, IsPast}
+use Rattle.witness_laws.specs.Machines.{past, sent_at, frame_now, before_last, is_contact}
+use Rattle.witness_laws.specs.Premises.{Keeps, ActsWithin, IfTrue, MadeSent, line_may, may_in_turn, may_at_once, has_ended, is_loss_reported, is_lost_before}
+use Rattle.witness_laws.specs.Premises.{has_contact, has_point, point_given, MadeAt}
 use Rattle.witness_laws.proofs.machines.Places.{same_place, IsLine, IsMarked, mark_is}
 use Rattle.witness_laws.proofs.machines.Holding.{agrees}
 use Rattle.witness_laws.proofs.machines.There.{IsOf}
@@ -55,18 +41,18 @@ sent_as i all h w x t e f = ap some_of (sym (agrees all h t i x f) ∙ e)
     some_of (Some y) = y
 
 -- it is not carried out at once
-pub known_in_turn : (i : ℕ) (all h : List Entry) (tag : Tag) (c : Command) → IsPast all h → sent_at i (lines all) ≡ Some (Some (tag, sends.Known c))
+pub known_in_turn : (i : ℕ) (all h : List Entry) (tag : Tag) (c : Command) → IsPast all h → sent_at i (lines all) ≡ Some (Some (tag, SentCommand.Known c))
     → may_at_once (sent_at i (lines h)) ≡ true → ⊥
 known_in_turn i all h tag c t e may = go (sent_at i (lines h)) refl may
   where
-    none : (t : Tag) → is_at_once (Some (t, sends.Known c)) ≡ false
+    none : (t : Tag) → is_at_once (Some (t, SentCommand.Known c)) ≡ false
     none (Std n) = refl
     none (Event n) = refl
 
     go : (o : Option (Option (Tag × SentCommand))) → sent_at i (lines h) ≡ o → may_at_once o ≡ true → ⊥
     go None is f = false≢true f
     go (Some x) is f =
-        let it : x ≡ Some (tag, sends.Known c) = sent_as i all h (Some (tag, sends.Known c)) x t e is in
+        let it : x ≡ Some (tag, SentCommand.Known c) = sent_as i all h (Some (tag, SentCommand.Known c)) x t e is in
         false≢true (sym (none tag) ∙ (ap is_at_once (sym it) ∙ f))
 
 -- its end, in turn, means that it was made
@@ -122,38 +108,38 @@ below_quiet may i u all iu not_this quiet n effect h t acts lt le known = go (do
 
 -- something that was lost before the contact was reported at its end
 pub not_lost : (j : ℕ) (line : List ℕ) (what : Option (Tag × Signal)) (h : List Entry) → Keeps (Message (Answers line what) ∷ h)
-    → mark_in what (lines h) ≡ Some (j, heard.Complete) → is_lost_before (is_contact j) (Message (Answers line what) ∷ h) ≡ true → ⊥
+    → mark_in what (lines h) ≡ Some (j, Heard.Complete) → is_lost_before (is_contact j) (Message (Answers line what) ∷ h) ≡ true → ⊥
 not_lost j line what h k mark lost =
-    let reported : is_loss_reported (Some (j, heard.Complete)) h ≡ true = subst (λ m. is_loss_reported m h ≡ true) mark (Keeps.reported k).0 in
+    let reported : is_loss_reported (Some (j, Heard.Complete)) h ≡ true = subst (λ m. is_loss_reported m h ≡ true) mark (Keeps.reported k).0 in
     let was : is_lost_before (is_contact j) h ≡ true =
     (and_parts (not (is_fault what (lines h))) (is_lost_before (is_contact j) h) lost).1 in
     false≢true (sym (ap not was) ∙ reported)
 
 -- the contact was made
 pub not_never : (u : Sent) (p : Point) (d : Option Direction) (at : Point) (line : List ℕ) (what : Option (Tag × Signal)) (h : List Entry)
-    → Keeps (Message (Answers line what) ∷ h) → IsLine u (lines h) → mark_in what (lines h) ≡ Some (place u, heard.Complete)
-    → stage_of u.command (marks (place u) (lines h)) ≡ stage.Given (datum.Point at) → before_last (is_contact (place u)) h ≡ None → ⊥
+    → Keeps (Message (Answers line what) ∷ h) → IsLine u (lines h) → mark_in what (lines h) ≡ Some (place u, Heard.Complete)
+    → stage_of u.command (marks (place u) (lines h)) ≡ Stage.Given (Datum.Point at) → before_last (is_contact (place u)) h ≡ None → ⊥
 not_never u p d at line what h k iu mark given none =
-    let touched : has_contact (Some (place u, heard.Complete)) h ≡ true = subst (λ m. has_contact m h ≡ true) mark (Keeps.touched k).0 in
+    let touched : has_contact (Some (place u, Heard.Complete)) h ≡ true = subst (λ m. has_contact m h ≡ true) mark (Keeps.touched k).0 in
     let at_sent : (not (point_given (Some (Some (u.tag, u.command))) (marks (place u) (lines h)))
     || is_some (before_last (is_contact (place u)) h)) ≡ true =
     subst (λ o. (not (point_given o (marks (place u) (lines h)))
     || is_some (before_last (is_contact (place u)) h)) ≡ true) (IsLine.sent iu) touched in
-    let at_stage : (not (has_point (stage.Given (datum.Point at)))
+    let at_stage : (not (has_point (Stage.Given (Datum.Point at)))
     || is_some (before_last (is_contact (place u)) h)) ≡ true =
     subst (λ s. (not (has_point s) || is_some (before_last (is_contact (place u)) h)) ≡ true) given at_sent in
     false≢true (ap is_some (sym none) ∙ at_stage)
 
 -- a touch that ends with its data had no error
 pub ended_sound : (u : Sent) (p : Point) (d : Option Direction) (at : Point) (line : List ℕ) (what : Option (Tag × Signal)) (h : List Entry)
-    → mark_in what (lines h) ≡ Some (place u, heard.Complete) → u.command ≡ sends.Known (command.PtMeas p d)
-    → stage_of u.command (marks (place u) (lines h)) ≡ stage.Given (datum.Point at)
-    → IsSound (stage_of (sends.Known (command.PtMeas p d)) (marks (place u) (Answers line what ∷ lines h)))
+    → mark_in what (lines h) ≡ Some (place u, Heard.Complete) → u.command ≡ SentCommand.Known (Command.PtMeas p d)
+    → stage_of u.command (marks (place u) (lines h)) ≡ Stage.Given (Datum.Point at)
+    → IsSound (stage_of (SentCommand.Known (Command.PtMeas p d)) (marks (place u) (Answers line what ∷ lines h)))
 ended_sound u p d at line what h mark is given =
-    let one : with_mark (place u) (mark_in what (lines h)) (marks (place u) (lines h)) ≡ heard.Complete ∷ marks (place u) (lines h) =
+    let one : with_mark (place u) (mark_in what (lines h)) (marks (place u) (lines h)) ≡ Heard.Complete ∷ marks (place u) (lines h) =
     ap (λ m. with_mark (place u) m (marks (place u) (lines h))) mark
-    ∙ ap (λ (b : Bool). if b then heard.Complete ∷ marks (place u) (lines h) else marks (place u) (lines h)) (same_place (place u)) in
-    let before : stage_of (sends.Known (command.PtMeas p d)) (marks (place u) (lines h)) ≡ stage.Given (datum.Point at) =
+    ∙ ap (λ (b : Bool). if b then Heard.Complete ∷ marks (place u) (lines h) else marks (place u) (lines h)) (same_place (place u)) in
+    let before : stage_of (SentCommand.Known (Command.PtMeas p d)) (marks (place u) (lines h)) ≡ Stage.Given (Datum.Point at) =
     sym (ap (λ c. stage_of c (marks (place u) (lines h))) is) ∙ given in
-    subst (λ ms. IsSound (stage_of (sends.Known (command.PtMeas p d)) ms)) (sym one)
-    (subst (λ s. IsSound (stage_after s (step true s heard.Complete))) (sym before) tt)
+    subst (λ ms. IsSound (stage_of (SentCommand.Known (Command.PtMeas p d)) ms)) (sym one)
+    (subst (λ s. IsSound (stage_after s (step true s Heard.Complete))) (sym before) tt)

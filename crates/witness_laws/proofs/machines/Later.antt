@@ -1,15 +1,11 @@
 -- A relay that reads replies later knows no more than one that reads them as they are sent.
-use Rattle.std.proofs.Common.{◌≡◌, ℕ, Bool, true, false, not, List, [], ◌∷◌, ◌++◌, refl, ap, ◌∙◌, subst}
-use Rattle.protocol_model.specs.Readings.{response_of}
-use Rattle.witness.specs.Dialogues.{Dialogue, silence}
-use Rattle.witness.specs.declared.lines.Reported.{Reported}
-use Rattle.witness_laws.specs.Claims.{is_at_once_report, in_turn, ClaimNoMore}
-use Rattle.witness_laws.specs.Orders.{Line, Up, Down, said, said_all, ups, IsCausal, IsCounted}
+use Rattle.witness_laws.proofs.Names.{◌++◌, ◌∙◌, ◌∷◌, ◌≡◌, [], ap, Bool, ClaimNoMore, Dialogue, Down, false, in_turn, is_at_once_report, IsCausal}
+use Rattle.witness_laws.proofs.Names.{IsCounted, Line, List, not, refl, Reported, response_of, said, said_all, silence, subst, true, Up, ups, ℕ}
 use Rattle.witness_laws.proofs.orders.Claiming.{in_turn_fair}
 use Rattle.witness_laws.proofs.orders.Claimed.{causal_without, told_unordered}
 use Rattle.witness_laws.proofs.orders.Counts.{said_counted, silence_counted}
 use Rattle.witness_laws.proofs.orders.Sinking.{Claims, trans, same_below, swap_below}
-use Rattle.witness_laws.proofs.orders.Sorting.{said_ordered, after_first}
+use Rattle.witness_laws.proofs.orders.Sorting.{said_ordered, behind_first}
 use Rattle.witness_laws.proofs.orders.Views.{causal_swapped}
 use Rattle.witness_laws.specs.Relays.{IsReadLater, as_sent, later}
 
@@ -21,7 +17,7 @@ swapped : (d : Dialogue) (before after : List Line) (up down : List ℕ) → IsC
     → IsCausal d (before ++ Down down ∷ Up up ∷ after)
     → Claims chosen (said_all d (before ++ Up up ∷ Down down ∷ after)) (said_all d (before ++ Down down ∷ Up up ∷ after))
 swapped d [] after up down c free causal =
-    swap_below chosen in_turn_fair d up down c free (after_first d.uses up (ups after) (response_of down) causal.0) (λ e. ap not e) after
+    swap_below chosen in_turn_fair d up down c free (behind_first d.uses up (ups after) (response_of down) causal.0) (λ e. ap not e) after
 swapped d (Up line ∷ before) after up down c free causal =
     swapped (said d (Up line)) before after up down (said_counted d (Up line) c) (said_ordered d (Up line) ∙ free) causal
 swapped d (Down line ∷ before) after up down c free causal =

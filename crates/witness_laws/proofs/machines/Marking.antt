@@ -1,15 +1,9 @@
 -- A mark and a change whose marks must be just `&` and then `%`.
-use Rattle.std.proofs.Common.{◌≡◌, ℕ, ◌==◌, Bool, true, false, ◌&&◌, ◌||◌, if◌then◌else◌, List, [], ◌∷◌, Option, Some, None, refl, ap, sym, subst}
-use Rattle.std.specs.List.{list_any}
-use Rattle.std.proofs.lemmas.Bool.{eqb-true, or_parts}
-use Rattle.witness.specs.Asking.{Sends, Answers}
-use Rattle.witness.specs.Histories.{mark_in, is_for, with_mark, marks}
-use Rattle.witness.specs.Marks.{is_received}
-use Rattle.witness.specs.Rules.{is_fault, fault_since, progress_with, progress_of}
-use Rattle.witness.specs.declared.lines.Heard.{Heard}
-use Rattle.witness.specs.declared.lines.Heard.TheVariants as heard
-use Rattle.witness.specs.declared.lines.Progress.{Progress}
-use Rattle.witness.specs.declared.lines.Progress.TheVariants.{Sent, Begun, Done}
+use Rattle.witness_laws.proofs.Names.{◌&&◌, ◌==◌, ◌||◌, ◌∷◌, ◌≡◌, [], Answers, ap, Begun, Bool, Done, eqb-true, false, fault_since, Heard}
+use Rattle.witness_laws.proofs.Names.{if◌then◌else◌, is_fault, is_for, is_received, List, list_any, mark_in, marks, None, Option, or_parts, Progress}
+use Rattle.witness_laws.proofs.Names.{progress_of, progress_with, refl, Sends, Some, subst, sym, true, ℕ}
+use Rattle.witness.specs.Histories.{with_mark}
+use Rattle.witness.specs.declared.lines.Progress.TheVariants.{Sent}
 use Rattle.witness_laws.specs.Machines.{Entry, Message, Does, lines}
 use Rattle.witness_laws.specs.Premises.{is_complete, has_ended, place_of, out_of_turn}
 use Rattle.witness_laws.proofs.machines.Orders.{is_it, NoneShown}
@@ -25,16 +19,16 @@ IsEarly (Some Done) = ⊥
 -- a mark for it then is the first `&`
 early_mark : (e : Heard) (p : Option Progress) → IsEarly (progress_with p e) → (is_received e ≡ true) × IsEarly p
 early_mark e None is = elim is [ ]
-early_mark heard.Received (Some Sent) is = (refl, tt)
-early_mark (heard.Given d) (Some Sent) is = elim is [ ]
-early_mark heard.Unread (Some Sent) is = elim is [ ]
-early_mark heard.Complete (Some Sent) is = elim is [ ]
-early_mark heard.Failed (Some Sent) is = elim is [ ]
-early_mark heard.Received (Some Begun) is = elim is [ ]
-early_mark (heard.Given d) (Some Begun) is = elim is [ ]
-early_mark heard.Unread (Some Begun) is = elim is [ ]
-early_mark heard.Complete (Some Begun) is = elim is [ ]
-early_mark heard.Failed (Some Begun) is = elim is [ ]
+early_mark Heard.Received (Some Sent) is = (refl, tt)
+early_mark (Heard.Given d) (Some Sent) is = elim is [ ]
+early_mark Heard.Unread (Some Sent) is = elim is [ ]
+early_mark Heard.Complete (Some Sent) is = elim is [ ]
+early_mark Heard.Failed (Some Sent) is = elim is [ ]
+early_mark Heard.Received (Some Begun) is = elim is [ ]
+early_mark (Heard.Given d) (Some Begun) is = elim is [ ]
+early_mark Heard.Unread (Some Begun) is = elim is [ ]
+early_mark Heard.Complete (Some Begun) is = elim is [ ]
+early_mark Heard.Failed (Some Begun) is = elim is [ ]
 early_mark e (Some Done) is = elim is [ ]
 
 -- no mark of another line is out of turn for it
@@ -83,23 +77,23 @@ pub data IsDoneBy (i : ℕ) (mk : Option (ℕ × Heard)) (ft fs : Bool) (ms : Li
       → IsDoneBy i mk ft fs ms
   stays : progress_of ms ≡ Some Done → ft ≡ false → fs ≡ false → IsDoneBy i mk ft fs ms
 
-done_mark : (e : Heard) (p : Option Progress) → progress_with p e ≡ Some Done → (p ≡ Some Begun) × (e ≡ heard.Complete)
+done_mark : (e : Heard) (p : Option Progress) → progress_with p e ≡ Some Done → (p ≡ Some Begun) × (e ≡ Heard.Complete)
 done_mark e None is = absurd (cc)
-done_mark heard.Received (Some Sent) is = absurd (cc)
-done_mark (heard.Given d) (Some Sent) is = absurd (cc)
-done_mark heard.Unread (Some Sent) is = absurd (cc)
-done_mark heard.Complete (Some Sent) is = absurd (cc)
-done_mark heard.Failed (Some Sent) is = absurd (cc)
-done_mark heard.Received (Some Begun) is = absurd (cc)
-done_mark (heard.Given d) (Some Begun) is = absurd (cc)
-done_mark heard.Unread (Some Begun) is = absurd (cc)
-done_mark heard.Complete (Some Begun) is = (refl, refl)
-done_mark heard.Failed (Some Begun) is = absurd (cc)
-done_mark heard.Received (Some Done) is = absurd (cc)
-done_mark (heard.Given d) (Some Done) is = absurd (cc)
-done_mark heard.Unread (Some Done) is = absurd (cc)
-done_mark heard.Complete (Some Done) is = absurd (cc)
-done_mark heard.Failed (Some Done) is = absurd (cc)
+done_mark Heard.Received (Some Sent) is = absurd (cc)
+done_mark (Heard.Given d) (Some Sent) is = absurd (cc)
+done_mark Heard.Unread (Some Sent) is = absurd (cc)
+done_mark Heard.Complete (Some Sent) is = absurd (cc)
+done_mark Heard.Failed (Some Sent) is = absurd (cc)
+done_mark Heard.Received (Some Begun) is = absurd (cc)
+done_mark (Heard.Given d) (Some Begun) is = absurd (cc)
+done_mark Heard.Unread (Some Begun) is = absurd (cc)
+done_mark Heard.Complete (Some Begun) is = (refl, refl)
+done_mark Heard.Failed (Some Begun) is = absurd (cc)
+done_mark Heard.Received (Some Done) is = absurd (cc)
+done_mark (Heard.Given d) (Some Done) is = absurd (cc)
+done_mark Heard.Unread (Some Done) is = absurd (cc)
+done_mark Heard.Complete (Some Done) is = absurd (cc)
+done_mark Heard.Failed (Some Done) is = absurd (cc)
 
 pub done_step : (i : ℕ) (mk : Option (ℕ × Heard)) (ft fs : Bool) (ms : List Heard) → progress_of (with_mark i mk ms) ≡ Some Done
     → (if is_for is_received i mk then false else ft || fs) ≡ false → IsDoneBy i mk ft fs ms
@@ -109,7 +103,7 @@ done_step i (Some (m, e)) ft fs ms is calm = go (i == m) refl is calm
     go : (b : Bool) → (i == m) ≡ b → progress_of (if b then e ∷ ms else ms) ≡ Some Done
         → (if b && is_received e then false else ft || fs) ≡ false → IsDoneBy i (Some (m, e)) ft fs ms
     go true same done quiet =
-        let both : (progress_of ms ≡ Some Begun) × (e ≡ heard.Complete) = done_mark e (progress_of ms) done in
+        let both : (progress_of ms ≡ Some Begun) × (e ≡ Heard.Complete) = done_mark e (progress_of ms) done in
         let clear : (ft || fs) ≡ false = subst (λ (x : Heard). (if is_received x then false else ft || fs) ≡ false) both.1 quiet in
         let it : Some (m, e) ≡ Some (i, e) = ap (λ (k : ℕ). Some (k, e)) (sym (eqb-true i m same)) in
         ends e it both.0 done (or_parts ft fs clear).0
@@ -137,7 +131,7 @@ done_none i (Message (Answers line what) ∷ h) is calm =
 pub done_ended : (ms : List Heard) → progress_of ms ≡ Some Done → list_any is_complete ms ≡ true
 done_ended [] is = absurd (cc)
 done_ended (e ∷ ms) is =
-    let both : (progress_of ms ≡ Some Begun) × (e ≡ heard.Complete) = done_mark e (progress_of ms) is in
+    let both : (progress_of ms ≡ Some Begun) × (e ≡ Heard.Complete) = done_mark e (progress_of ms) is in
     ap (λ (x : Heard). is_complete x || list_any is_complete ms) both.1
 
 pub has_end : (i : ℕ) (h : List Entry) → progress_of (marks i (lines h)) ≡ Some Done → has_ended i (lines h) ≡ true

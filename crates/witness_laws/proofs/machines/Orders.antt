@@ -1,10 +1,9 @@
 -- What the machine does for lines in their order: what it did for a line, and has not been shown by a mark out of turn.
-use Rattle.std.proofs.Common.{◌≡◌, ℕ, ◌<◌, ◌==◌, Bool, true, false, ◌&&◌, ◌||◌, not, if◌then◌else◌, nat_lt, List, [], ◌∷◌}
-use Rattle.std.proofs.Common.{Option, Some, None, refl, ap, sym, ◌∙◌, subst}
-use Rattle.std.proofs.lemmas.Bool.{false≢true, eqb-true, lt-ltb, and_from, or_right, or_from, not-true}
-use Rattle.witness.specs.Asking.{Sends, Answers}
-use Rattle.witness_laws.specs.Machines.{Effect, TakesTool, SelectsFrame, StoresZero, Touches, Cause, InTurn, AtOnce, ForNoLine, Entry, Message, Does}
-use Rattle.witness_laws.specs.Machines.{lines, last, or_before, before_last, is_for_line}
+use Rattle.witness_laws.proofs.Names.{◌&&◌, ◌<◌, ◌==◌, ◌||◌, ◌∙◌, ◌∷◌, ◌≡◌, [], and_from, Answers, ap, Bool, eqb-true, false, false≢true}
+use Rattle.witness_laws.proofs.Names.{if◌then◌else◌, List, lt-ltb, nat_lt, None, not, not-true, Option, or_from, or_right, refl, Sends, Some, subst}
+use Rattle.witness_laws.proofs.Names.{sym, true, ℕ}
+use Rattle.witness_laws.specs.Machines.{Effect, TakesTool, SelectsFrame, StoresZero, Touches, Cause, InTurn, AtOnce, ForNoLine, Entry, Message, Does, lines, last}
+use Rattle.witness_laws.specs.Machines.{or_before, before_last, is_for_line}
 use Rattle.witness_laws.specs.Premises.{keep_order, out_of_turn, with_shown, is_listed, comes_in_order, none_below}
 use Rattle.witness_laws.proofs.machines.Places.{same_place}
 

@@ -1,15 +1,9 @@
 -- Lines of the client by their places.
-use Rattle.std.proofs.Common.{◌≡◌, ℕ, zero, suc, ◌<◌, ◌==◌, Bool, true, false, ◌&&◌, ◌||◌, if◌then◌else◌, nat_lt, List, [], ◌∷◌, ◌++◌}
-use Rattle.std.proofs.Common.{Option, Some, None, refl, ap, ◌∙◌, arith}
-use Rattle.std.specs.Prelude.{remove, slice_get}
-use Rattle.std.proofs.lemmas.Bool.{ne_eqb, eq-eqb, eqb-true, lt-ltb, or_right}
-use Rattle.dme_line.specs.declared.tags.Tag.{Tag}
-use Rattle.witness.specs.Asking.{Line, Sends, Answers, Signal}
-use Rattle.witness.specs.Histories.{Sent, count_sent, place, open_lines, first_of, line_at, without, owner, for_line, mark_in}
-use Rattle.witness.specs.Marks.{is_end}
-use Rattle.witness.specs.Rules.{is_at_once, at_once_below}
-use Rattle.witness.specs.declared.lines.Heard.{Heard}
-use Rattle.witness.specs.declared.lines.SentCommand.{SentCommand}
+use Rattle.witness_laws.proofs.Names.{◌&&◌, ◌++◌, ◌<◌, ◌==◌, ◌||◌, ◌∙◌, ◌∷◌, ◌≡◌, [], Answers, ap, arith, at_once_below, Bool, count_sent, eq-eqb}
+use Rattle.witness_laws.proofs.Names.{eqb-true, false, first_of, for_line, Heard, if◌then◌else◌, is_at_once, is_end, line_at, List, lt-ltb, mark_in}
+use Rattle.witness_laws.proofs.Names.{nat_lt, ne_eqb, None, open_lines, Option, or_right, owner, place, refl, remove, Sends, Sent, SentCommand}
+use Rattle.witness_laws.proofs.Names.{Signal, slice_get, Some, suc, Tag, true, without, zero, ℕ}
+use Rattle.witness.specs.Asking.{Line}
 use Rattle.witness_laws.specs.Machines.{sent_at}
 
 pub not_place : (n m : ℕ) → m < n → (n == m) ≡ false

@@ -1,20 +1,11 @@
 -- A touch whose data come after the end of a change above it, and which has no error: none of its marks came out of turn before.
-use Rattle.std.proofs.Common.{◌≡◌, ℕ, ◌==◌, Bool, true, false, ◌&&◌, ◌||◌, not, if◌then◌else◌, List, [], ◌∷◌, Option, Some, None, refl, sym, ◌∙◌, subst}
-use Rattle.std.proofs.lemmas.Bool.{false≢true, and_parts}
-use Rattle.dme_line.specs.Kinds.{kind_of}
-use Rattle.dme_line.specs.declared.commands.Command.{Command}
-use Rattle.protocol_model.specs.Open.{asks_data}
-use Rattle.witness.specs.Asking.{Sends, Answers}
-use Rattle.witness.specs.Histories.{mark_in, is_for, with_mark, marks, stage_of}
-use Rattle.witness.specs.Marks.{is_received, is_error, is_answer, step, stage_after}
-use Rattle.witness.specs.Rules.{is_fault, is_done, done_before, progress_of}
-use Rattle.witness.specs.declared.lines.Heard.{Heard}
-use Rattle.witness.specs.declared.lines.Heard.TheVariants as heard
-use Rattle.witness.specs.declared.lines.Progress.{Progress}
-use Rattle.witness.specs.declared.lines.Progress.TheVariants.{Sent, Begun, Done}
+use Rattle.witness_laws.proofs.Names.{◌&&◌, ◌==◌, ◌||◌, ◌∙◌, ◌∷◌, ◌≡◌, [], and_parts, Answers, asks_data, Begun, Bool, Command, Done, done_before}
+use Rattle.witness_laws.proofs.Names.{false, false≢true, Heard, if◌then◌else◌, is_answer, is_done, is_error, is_fault, is_for, is_received, kind_of}
+use Rattle.witness_laws.proofs.Names.{List, mark_in, marks, None, not, Option, Progress, progress_of, refl, Sends, Some, Stage, stage_after, stage_of}
+use Rattle.witness_laws.proofs.Names.{step, subst, sym, true, ℕ}
+use Rattle.witness.specs.Histories.{with_mark}
+use Rattle.witness.specs.declared.lines.Progress.TheVariants.{Sent}
 use Rattle.witness.specs.declared.lines.SentCommand.TheVariants.{Known}
-use Rattle.witness.specs.declared.lines.Stage.{Stage}
-use Rattle.witness.specs.declared.lines.Stage.TheVariants as stage
 use Rattle.witness_laws.specs.Machines.{Entry, Message, Does, lines}
 use Rattle.witness_laws.specs.Premises.{place_of, out_of_turn}
 use Rattle.witness_laws.proofs.machines.Orders.{is_it, NoneShown}
@@ -22,36 +13,36 @@ use Rattle.witness_laws.proofs.machines.Marking.{IsEarly, early_step, other_line
 use Rattle.witness_laws.proofs.machines.There.{IsPrompt}
 
 abbrev pub IsSound : Stage → Type 0
-IsSound stage.Sent = Unit {0}
-IsSound stage.Received = Unit {0}
-IsSound (stage.Given d) = Unit {0}
-IsSound stage.Lost = ⊥
+IsSound Stage.Sent = Unit {0}
+IsSound Stage.Received = Unit {0}
+IsSound (Stage.Given d) = Unit {0}
+IsSound Stage.Lost = ⊥
 
 sound_mark : (asks : Bool) (s : Stage) (e : Heard) → IsSound (stage_after s (step asks s e)) → (is_error e ≡ false) × IsSound s
-sound_mark asks stage.Lost e is = elim is [ ]
-sound_mark asks stage.Sent heard.Received is = (refl, tt)
-sound_mark asks stage.Sent (heard.Given d) is = elim is [ ]
-sound_mark asks stage.Sent heard.Unread is = elim is [ ]
-sound_mark asks stage.Sent heard.Complete is = elim is [ ]
-sound_mark asks stage.Sent heard.Failed is = elim is [ ]
-sound_mark asks stage.Received heard.Received is = elim is [ ]
-sound_mark asks stage.Received (heard.Given d) is = (refl, tt)
-sound_mark asks stage.Received heard.Unread is = elim is [ ]
-sound_mark asks stage.Received heard.Complete is = (refl, tt)
-sound_mark asks stage.Received heard.Failed is = elim is [ ]
-sound_mark asks (stage.Given g) heard.Received is = elim is [ ]
-sound_mark asks (stage.Given g) (heard.Given d) is = elim is [ ]
-sound_mark asks (stage.Given g) heard.Unread is = elim is [ ]
-sound_mark asks (stage.Given g) heard.Complete is = (refl, tt)
-sound_mark asks (stage.Given g) heard.Failed is = elim is [ ]
+sound_mark asks Stage.Lost e is = elim is [ ]
+sound_mark asks Stage.Sent Heard.Received is = (refl, tt)
+sound_mark asks Stage.Sent (Heard.Given d) is = elim is [ ]
+sound_mark asks Stage.Sent Heard.Unread is = elim is [ ]
+sound_mark asks Stage.Sent Heard.Complete is = elim is [ ]
+sound_mark asks Stage.Sent Heard.Failed is = elim is [ ]
+sound_mark asks Stage.Received Heard.Received is = elim is [ ]
+sound_mark asks Stage.Received (Heard.Given d) is = (refl, tt)
+sound_mark asks Stage.Received Heard.Unread is = elim is [ ]
+sound_mark asks Stage.Received Heard.Complete is = (refl, tt)
+sound_mark asks Stage.Received Heard.Failed is = elim is [ ]
+sound_mark asks (Stage.Given g) Heard.Received is = elim is [ ]
+sound_mark asks (Stage.Given g) (Heard.Given d) is = elim is [ ]
+sound_mark asks (Stage.Given g) Heard.Unread is = elim is [ ]
+sound_mark asks (Stage.Given g) Heard.Complete is = (refl, tt)
+sound_mark asks (Stage.Given g) Heard.Failed is = elim is [ ]
 
 -- a mark that is no error is `&`, or an answer
 no_answer : (e : Heard) → is_error e ≡ false → is_answer e ≡ false → is_received e ≡ true
-no_answer heard.Received er an = refl
-no_answer (heard.Given d) er an = absurd (false≢true (sym an))
-no_answer heard.Unread er an = absurd (false≢true (sym an))
-no_answer heard.Complete er an = absurd (false≢true (sym an))
-no_answer heard.Failed er an = absurd (false≢true (sym er))
+no_answer Heard.Received er an = refl
+no_answer (Heard.Given d) er an = absurd (false≢true (sym an))
+no_answer Heard.Unread er an = absurd (false≢true (sym an))
+no_answer Heard.Complete er an = absurd (false≢true (sym an))
+no_answer Heard.Failed er an = absurd (false≢true (sym er))
 
 early_not_done : (p : Option Progress) → IsEarly p → is_done p ≡ false
 early_not_done None is = elim is [ ]

@@ -1,18 +1,11 @@
 -- What a relay knows is so on the machine, also if it reads replies later.
-use Rattle.std.proofs.Common.{◌≡◌, ℕ, zero, suc, Bool, true, false, cond, not, List, [], ◌∷◌, ◌++◌, Option, Some, None, inl, inr, refl, ap, sym, ◌∙◌, subst}
-use Rattle.std.specs.Prelude.{◌⊎◌, slice_get, filter}
-use Rattle.fixed_um.specs.declared.frames.Frame.{Frame}
-use Rattle.dme_line.specs.declared.tags.Tag.{Tag}
+use Rattle.witness_laws.proofs.Names.{◌++◌, ◌∙◌, ◌∷◌, ◌≡◌, ◌⊎◌, [], after_all, all_reported, Answers, ap, Bool, ClaimNoMore, ClaimsNoMore, Client}
+use Rattle.witness_laws.proofs.Names.{client_line, cond, Dialogue, Down, false, filter, Frame, in_turn, inl, inr, is_at_once, is_at_once_report}
+use Rattle.witness_laws.proofs.Names.{is_crossed, IsCausal, IsPart, Line, List, None, not, Option, refl, Reported, reported_at_once, reported_of}
+use Rattle.witness_laws.proofs.Names.{said_all, Sends, server_line, Signal, silence, slice_get, Some, subst, suc, sym, Tag, true, Up, zero, ℕ}
 use Rattle.witness.proofs.Exactness.{exact}
-use Rattle.witness.specs.Asking.{Line as Heard, Sends, Answers, Signal, client_line, server_line}
-use Rattle.witness.specs.Dialogues.{Dialogue, silence, after_all}
-use Rattle.witness.specs.Rules.{is_at_once, is_crossed, reported_at_once, reported_of, all_reported}
-use Rattle.witness.specs.declared.lines.Reported.{Reported}
-use Rattle.witness.specs.declared.lines.Reported.TheVariants as reports
-use Rattle.witness.specs.declared.lines.Side.TheVariants.{Client}
+use Rattle.witness.specs.Asking.{Line as Heard}
 use Rattle.witness_laws.specs.Claims as claims
-use Rattle.witness_laws.specs.Claims.{IsPart, is_at_once_report, in_turn, ClaimsNoMore, ClaimNoMore}
-use Rattle.witness_laws.specs.Orders.{Line, Up, Down, said_all, IsCausal}
 use Rattle.witness_laws.specs.Contacts.{contact_tool, contact_frame, HadTool, HadFrame}
 use Rattle.witness_laws.specs.Machines.{Entry, Message, Does, lines, IsPast, whole, past}
 use Rattle.witness_laws.specs.Premises.{Keeps, KeepsUnlessCrossed}
@@ -100,7 +93,7 @@ claimed_frame _ _ frame (claims.contact p d t name f g at a b) e = part_known f 
 
 -- ---- all that a history reports
 
-reported_at_once_is : {A : Type 0} (look : Reported → Option A) (a : A) (r : Reported) (line : List ℕ) (b : Bool) → look (reports.Other Client line) ≡ None
+reported_at_once_is : {A : Type 0} (look : Reported → Option A) (a : A) (r : Reported) (line : List ℕ) (b : Bool) → look (Reported.Other Client line) ≡ None
     → IsIn r (reported_at_once line b) → look r ≡ Some a → ⊥
 reported_at_once_is look a r line false none is e = is
 reported_at_once_is look a r line true none (inl same) e =
@@ -113,7 +106,7 @@ Tells look a Had = (line : List ℕ) (what : Option (Tag × Signal)) (h : List E
     → (i : ℕ) (r : Reported) → slice_get (reported_of true line what (lines h)) i ≡ Some r → look r ≡ Some a → Had what h
 
 brought : {A : Type 0} (look : Reported → Option A) (a : A) (Had : Option (Tag × Signal) → List Entry → Type 0) → Tells look a Had
-    → ((line : List ℕ) → look (reports.Other Client line) ≡ None)
+    → ((line : List ℕ) → look (Reported.Other Client line) ≡ None)
     → (all h : List Entry) → IsPast all h → Keeps all → (r : Reported) → IsIn r (all_reported true (lines h)) → look r ≡ Some a → IsBroughtBy Had all r
 brought look a Had tells none all [] t k r is e = elim is [ ]
 brought look a Had tells none all (Does cause effect ∷ h) t k r is e = brought look a Had tells none all h (past (Does cause effect) h t) k r is e
@@ -163,7 +156,7 @@ uncrossed sent h e free =
 -- ---- of a relay
 
 relayed : {A : Type 0} (look : Reported → Option A) (a : A) (Had : Option (Tag × Signal) → List Entry → Type 0) → Tells look a Had
-    → ((line : List ℕ) → look (reports.Other Client line) ≡ None)
+    → ((line : List ℕ) → look (Reported.Other Client line) ≡ None)
     → ((x y : Reported) → ClaimsNoMore x y → look x ≡ Some a → look y ≡ Some a)
     → (sent read : List Line) (h : List Entry) → lines h ≡ onto sent [] → IsReadLater sent read → IsCausal (silence true) sent
     → (said_all (silence true) sent).crossed ≡ false → (said_all (silence true) read).crossed ≡ false → Keeps h

@@ -1,33 +1,12 @@
 -- What a line of the server reports: no contact, or that of a touch which it ends.
-use Rattle.std.proofs.Common.{◌≡◌, ℕ, zero, suc, Bool, true, false, List, [], ◌∷◌, ◌++◌, Option, Some, None, refl, ap, ◌∙◌, subst}
-use Rattle.std.specs.Prelude.{slice_get}
-use Rattle.fixed_um.specs.Shapes.{Direction}
-use Rattle.fixed_um.specs.declared.frames.Frame.{Frame}
-use Rattle.fixed_um.specs.declared.lengths.Point.{Point}
-use Rattle.dme_line.specs.Kinds.{kind_of}
-use Rattle.dme_line.specs.declared.commands.Command.{Command}
-use Rattle.dme_line.specs.declared.commands.Command.TheVariants as command
-use Rattle.dme_line.specs.declared.tags.Tag.{Tag}
-use Rattle.dme_line.specs.declared.tags.Tag.TheVariants.{Std, Event}
-use Rattle.protocol_model.specs.Open.{asks_data}
-use Rattle.protocol_model.specs.declared.held.Datum.{Datum}
-use Rattle.protocol_model.specs.declared.held.Datum.TheVariants as datum
-use Rattle.witness.specs.Asking.{Line, Answers, Signal}
-use Rattle.witness.specs.Dialogues.{unless_crossed, reported_by, report_of, act_of, other_at, touched, moved, framed, is_report}
-use Rattle.witness.specs.Histories.{Sent, place, open_lines, first_of, line_at, owner, for_line, mark_in, marks, stage_of}
-use Rattle.witness.specs.Known.{tool_of, frame_of, frame_in, done}
-use Rattle.witness.specs.Marks.{heard_as, step}
-use Rattle.witness.specs.Rules.{known_for, is_crossed, comes_early, early, by_owner, unless_report, by_answer, reported_of, events_of}
-use Rattle.witness.specs.declared.lines.Heard.{Heard}
-use Rattle.witness.specs.declared.lines.Heard.TheVariants as heard
-use Rattle.witness.specs.declared.lines.Known.{Known}
-use Rattle.witness.specs.declared.lines.Reported.{Reported}
-use Rattle.witness.specs.declared.lines.SentCommand.{SentCommand}
-use Rattle.witness.specs.declared.lines.SentCommand.TheVariants as sends
-use Rattle.witness.specs.declared.lines.Stage.{Stage}
-use Rattle.witness.specs.declared.lines.Stage.TheVariants as stage
-use Rattle.witness.specs.declared.lines.Step.{Step}
-use Rattle.witness.specs.declared.lines.Step.TheVariants.{Stays, Comes, Fails, Breaks, Counts}
+use Rattle.witness_laws.proofs.Names.{◌++◌, ◌∙◌, ◌∷◌, ◌≡◌, [], act_of, Answers, ap, asks_data, Bool, Breaks, by_answer, by_owner, Comes, comes_early}
+use Rattle.witness_laws.proofs.Names.{Command, Datum, Direction, done, early, Event, events_of, Fails, false, first_of, for_line, Frame, frame_in}
+use Rattle.witness_laws.proofs.Names.{frame_of, framed, Heard, heard_as, is_crossed, is_report, kind_of, Known, known_for, line_at, List, mark_in}
+use Rattle.witness_laws.proofs.Names.{marks, moved, None, open_lines, Option, other_at, owner, place, Point, refl, report_of, Reported, reported_by}
+use Rattle.witness_laws.proofs.Names.{reported_of, Sent, SentCommand, Signal, slice_get, Some, Stage, stage_of, Stays, Std, Step, step, subst, suc}
+use Rattle.witness_laws.proofs.Names.{Tag, tool_of, touched, true, unless_crossed, unless_report, zero, ℕ}
+use Rattle.witness.specs.Asking.{Line}
+use Rattle.witness.specs.declared.lines.Step.TheVariants.{Counts}
 use Rattle.witness_laws.specs.Contacts.{contact_tool, contact_frame}
 use Rattle.witness_laws.proofs.machines.Places.{IsLine, IsSomeLine, owner_is}
 
@@ -65,29 +44,29 @@ framed_is : (P : Reported → Type 0) → Plain P → (f : Option Frame) → P (
 framed_is P plain None = plain (framed None) (refl, refl)
 framed_is P plain (Some frame) = plain (framed (Some frame)) (refl, refl)
 
-homed_are : (P : Reported → Type 0) → Plain P → (k : Known) (given : Option Datum) → AllOf P (act_of k command.IsHomed given)
+homed_are : (P : Reported → Type 0) → Plain P → (k : Known) (given : Option Datum) → AllOf P (act_of k Command.IsHomed given)
 homed_are P plain k None = tt
-homed_are P plain k (Some (datum.Point p)) = tt
-homed_are P plain k (Some (datum.Homed homed)) = (plain _ (refl, refl), tt)
+homed_are P plain k (Some (Datum.Point p)) = tt
+homed_are P plain k (Some (Datum.Homed homed)) = (plain _ (refl, refl), tt)
 
 -- a touch, and its point
 abbrev pub OnTouch : (Reported → Type 0) → Known → Command → Option Datum → Type 0
-OnTouch P k c given = (p : Point) (d : Option Direction) (at : Point) → c ≡ command.PtMeas p d → given ≡ Some (datum.Point at)
+OnTouch P k c given = (p : Point) (d : Option Direction) (at : Point) → c ≡ Command.PtMeas p d → given ≡ Some (Datum.Point at)
     → P (touched (tool_of k) (frame_of k) p d at)
 
-touch_are : (P : Reported → Type 0) (k : Known) (p : Point) (d : Option Direction) (given : Option Datum) → OnTouch P k (command.PtMeas p d) given
-    → AllOf P (act_of k (command.PtMeas p d) given)
+touch_are : (P : Reported → Type 0) (k : Known) (p : Point) (d : Option Direction) (given : Option Datum) → OnTouch P k (Command.PtMeas p d) given
+    → AllOf P (act_of k (Command.PtMeas p d) given)
 touch_are P k p d None on = tt
-touch_are P k p d (Some (datum.Homed homed)) on = tt
-touch_are P k p d (Some (datum.Point at)) on = (on p d at refl refl, tt)
+touch_are P k p d (Some (Datum.Homed homed)) on = tt
+touch_are P k p d (Some (Datum.Point at)) on = (on p d at refl refl, tt)
 
 acts_are : (P : Reported → Type 0) → Plain P → (k : Known) (c : Command) (given : Option Datum) → OnTouch P k c given → AllOf P (act_of k c given)
-acts_are P plain k command.IsHomed given on = homed_are P plain k given
-acts_are P plain k command.Home given on = (plain _ (refl, refl), tt)
-acts_are P plain k (command.GoTo p) given on = (moved_is P plain p (frame_of k), tt)
-acts_are P plain k (command.PtMeas p d) given on = touch_are P k p d given on
-acts_are P plain k (command.ChangeTool tool) given on = (plain _ (refl, refl), tt)
-acts_are P plain k (command.SetCoordSystem csy) given on = (framed_is P plain (frame_in csy (done k.zero)), tt)
+acts_are P plain k Command.IsHomed given on = homed_are P plain k given
+acts_are P plain k Command.Home given on = (plain _ (refl, refl), tt)
+acts_are P plain k (Command.GoTo p) given on = (moved_is P plain p (frame_of k), tt)
+acts_are P plain k (Command.PtMeas p d) given on = touch_are P k p d given on
+acts_are P plain k (Command.ChangeTool tool) given on = (plain _ (refl, refl), tt)
+acts_are P plain k (Command.SetCoordSystem csy) given on = (framed_is P plain (frame_in csy (done k.zero)), tt)
 acts_are P plain k c given on = tt
 
 step_are : (P : Reported → Type 0) → Plain P → (k : Known) (tag : Tag) (c : Command) (st : Step)
@@ -101,52 +80,52 @@ step_are P plain k tag c (Counts given) on = acts_are P plain k c given (on give
 -- ---- a mark of a line
 
 -- it counts a point only as the end of what was given one
-counts_point : (asks : Bool) (s : Stage) (e : Heard) (at : Point) → step asks s e ≡ Counts (Some (datum.Point at))
-    → (s ≡ stage.Given (datum.Point at)) × (e ≡ heard.Complete)
-counts_point asks stage.Lost e at is = absurd (cc)
-counts_point asks stage.Sent heard.Received at is = absurd (cc)
-counts_point asks stage.Sent (heard.Given d) at is = absurd (cc)
-counts_point asks stage.Sent heard.Unread at is = absurd (cc)
-counts_point asks stage.Sent heard.Complete at is = absurd (cc)
-counts_point asks stage.Sent heard.Failed at is = absurd (cc)
-counts_point asks stage.Received heard.Received at is = absurd (cc)
-counts_point asks stage.Received (heard.Given d) at is = absurd (cc)
-counts_point asks stage.Received heard.Unread at is = absurd (cc)
-counts_point true stage.Received heard.Complete at is = absurd (cc)
-counts_point false stage.Received heard.Complete at is = absurd (cc)
-counts_point asks stage.Received heard.Failed at is = absurd (cc)
-counts_point asks (stage.Given g) heard.Received at is = absurd (cc)
-counts_point asks (stage.Given g) (heard.Given d) at is = absurd (cc)
-counts_point asks (stage.Given g) heard.Unread at is = absurd (cc)
-counts_point asks (stage.Given g) heard.Complete at is = (ap given_of is, refl)
+counts_point : (asks : Bool) (s : Stage) (e : Heard) (at : Point) → step asks s e ≡ Counts (Some (Datum.Point at))
+    → (s ≡ Stage.Given (Datum.Point at)) × (e ≡ Heard.Complete)
+counts_point asks Stage.Lost e at is = absurd (cc)
+counts_point asks Stage.Sent Heard.Received at is = absurd (cc)
+counts_point asks Stage.Sent (Heard.Given d) at is = absurd (cc)
+counts_point asks Stage.Sent Heard.Unread at is = absurd (cc)
+counts_point asks Stage.Sent Heard.Complete at is = absurd (cc)
+counts_point asks Stage.Sent Heard.Failed at is = absurd (cc)
+counts_point asks Stage.Received Heard.Received at is = absurd (cc)
+counts_point asks Stage.Received (Heard.Given d) at is = absurd (cc)
+counts_point asks Stage.Received Heard.Unread at is = absurd (cc)
+counts_point true Stage.Received Heard.Complete at is = absurd (cc)
+counts_point false Stage.Received Heard.Complete at is = absurd (cc)
+counts_point asks Stage.Received Heard.Failed at is = absurd (cc)
+counts_point asks (Stage.Given g) Heard.Received at is = absurd (cc)
+counts_point asks (Stage.Given g) (Heard.Given d) at is = absurd (cc)
+counts_point asks (Stage.Given g) Heard.Unread at is = absurd (cc)
+counts_point asks (Stage.Given g) Heard.Complete at is = (ap given_of is, refl)
   where
     given_of : Step → Stage
-    given_of (Counts (Some d)) = stage.Given d
-    given_of _ = stage.Given g
-counts_point asks (stage.Given g) heard.Failed at is = absurd (cc)
+    given_of (Counts (Some d)) = Stage.Given d
+    given_of _ = Stage.Given g
+counts_point asks (Stage.Given g) Heard.Failed at is = absurd (cc)
 
 other_are : (P : Reported → Type 0) → Plain P → (tag : Tag) (line : List ℕ) (s : Stage) → AllOf P (other_at tag line s)
-other_are P plain (Std n) line stage.Sent = (plain _ (refl, refl), tt)
-other_are P plain (Std n) line stage.Received = tt
-other_are P plain (Std n) line (stage.Given d) = tt
-other_are P plain (Std n) line stage.Lost = tt
+other_are P plain (Std n) line Stage.Sent = (plain _ (refl, refl), tt)
+other_are P plain (Std n) line Stage.Received = tt
+other_are P plain (Std n) line (Stage.Given d) = tt
+other_are P plain (Std n) line Stage.Lost = tt
 other_are P plain (Event n) line s = tt
 
 -- the end of a touch that was given its point
 abbrev pub OnEnd : (Reported → Type 0) → Known → SentCommand → Stage → Heard → Type 0
-OnEnd P k what s e = (p : Point) (d : Option Direction) (at : Point) → what ≡ sends.Known (command.PtMeas p d) → s ≡ stage.Given (datum.Point at)
-    → e ≡ heard.Complete → P (touched (tool_of k) (frame_of k) p d at)
+OnEnd P k what s e = (p : Point) (d : Option Direction) (at : Point) → what ≡ SentCommand.Known (Command.PtMeas p d) → s ≡ Stage.Given (Datum.Point at)
+    → e ≡ Heard.Complete → P (touched (tool_of k) (frame_of k) p d at)
 
 marks_are : (P : Reported → Type 0) → Plain P → (k : Known) (tag : Tag) (what : SentCommand) (s : Stage) (e : Heard) → OnEnd P k what s e
     → AllOf P (reported_by k tag what s e)
-marks_are P plain k tag sends.Asking s e on = tt
-marks_are P plain k tag (sends.Foreign line) s e on = other_are P plain tag line s
-marks_are P plain k tag (sends.Known c) s e on =
+marks_are P plain k tag SentCommand.Asking s e on = tt
+marks_are P plain k tag (SentCommand.Foreign line) s e on = other_are P plain tag line s
+marks_are P plain k tag (SentCommand.Known c) s e on =
     step_are P plain k tag c (step (asks_data (kind_of c)) s e)
     (λ given counts p d at is point.
-    let both : (s ≡ stage.Given (datum.Point at)) × (e ≡ heard.Complete) =
+    let both : (s ≡ Stage.Given (Datum.Point at)) × (e ≡ Heard.Complete) =
     counts_point (asks_data (kind_of c)) s e at (counts ∙ ap Counts point) in
-    on p d at (ap sends.Known is) both.0 both.1)
+    on p d at (ap SentCommand.Known is) both.0 both.1)
 
 -- ---- a line of the server
 
@@ -155,8 +134,8 @@ known_at line what older u = unless_crossed (is_crossed true older) (known_for u
 
 abbrev pub OnContact : (Reported → Type 0) → List ℕ → Option (Tag × Signal) → List Line → Type 0
 OnContact P line what older = (u : Sent) (p : Point) (d : Option Direction) (at : Point) → IsLine u older
-    → mark_in what older ≡ Some (place u, heard.Complete) → u.command ≡ sends.Known (command.PtMeas p d)
-    → stage_of u.command (marks (place u) older) ≡ stage.Given (datum.Point at)
+    → mark_in what older ≡ Some (place u, Heard.Complete) → u.command ≡ SentCommand.Known (Command.PtMeas p d)
+    → stage_of u.command (marks (place u) older) ≡ Stage.Given (Datum.Point at)
     → P (touched (tool_of (known_at line what older u)) (frame_of (known_at line what older u)) p d at)
 
 early_are : (P : Reported → Type 0) → Plain P → (b : Bool) (tag : Tag) → AllOf P (early b tag)

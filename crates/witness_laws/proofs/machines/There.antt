@@ -1,13 +1,10 @@
 -- What the machine had at a contact, or at a selection, of a line below a change that holds.
-use Rattle.std.proofs.Common.{◌≡◌, ℕ, Bool, true, false, ◌&&◌, not, if◌then◌else◌, nat_lt, List, [], ◌∷◌}
-use Rattle.std.proofs.Common.{Option, Some, None, refl, ap, sym, ◌∙◌, subst}
-use Rattle.std.proofs.lemmas.Bool.{and_from, or_parts}
-use Rattle.witness.specs.Asking.{Line, Sends, Answers}
-use Rattle.witness.specs.Histories.{count_sent, mark_in, marks}
-use Rattle.witness.specs.Rules.{is_fault, is_at_once, at_once_below, fault_since, progress_of}
-use Rattle.witness.specs.declared.lines.Progress.TheVariants.{Begun, Done}
-use Rattle.witness_laws.specs.Machines.{Effect, TakesTool, SelectsFrame, StoresZero, Touches, Cause, InTurn, AtOnce, ForNoLine, Entry, Message, Does}
-use Rattle.witness_laws.specs.Machines.{lines, IsPast, past, last, or_before, before_last}
+use Rattle.witness_laws.proofs.Names.{◌&&◌, ◌∙◌, ◌∷◌, ◌≡◌, [], and_from, Answers, ap, at_once_below, Begun, Bool, count_sent, Done, false}
+use Rattle.witness_laws.proofs.Names.{fault_since, if◌then◌else◌, is_at_once, is_fault, List, mark_in, marks, nat_lt, None, not, Option, or_parts}
+use Rattle.witness_laws.proofs.Names.{progress_of, refl, Sends, Some, subst, sym, true, ℕ}
+use Rattle.witness.specs.Asking.{Line}
+use Rattle.witness_laws.specs.Machines.{Effect, TakesTool, SelectsFrame, StoresZero, Touches, Cause, InTurn, AtOnce, ForNoLine, Entry, Message, Does, lines, IsPast}
+use Rattle.witness_laws.specs.Machines.{past, last, or_before, before_last}
 use Rattle.witness_laws.specs.Premises.{Keeps, ActsInOrder, keep_order, is_unreported, is_lost_before}
 use Rattle.witness_laws.proofs.machines.Orders.{unshown, keeps_more, unshown_for, crossing, NoneShown, did_there, cause_of}
 use Rattle.witness_laws.proofs.machines.Marking.{IsDoneBy, ends, stays, done_step}

@@ -1,26 +1,9 @@
 -- The tool that is known of a contact is the one that the machine had.
-use Rattle.std.proofs.Common.{◌≡◌, ℕ, true, List, [], ◌∷◌, Option, Some, None, is_some}
-use Rattle.std.proofs.Common.{refl, ap, sym, ◌∙◌, subst}
-use Rattle.std.specs.Prelude.{slice_get}
-use Rattle.std.proofs.lemmas.Bool.{false≢true}
-use Rattle.fixed_um.specs.Shapes.{Direction}
-use Rattle.fixed_um.specs.declared.frames.Frame.{Frame}
-use Rattle.fixed_um.specs.declared.lengths.Point.{Point}
-use Rattle.dme_line.specs.declared.commands.Command.TheVariants as command
-use Rattle.dme_line.specs.declared.tags.Tag.{Tag}
-use Rattle.protocol_model.specs.declared.held.Datum.TheVariants as datum
-use Rattle.witness.specs.Asking.{Answers, Signal}
-use Rattle.witness.specs.Dialogues.{touched}
-use Rattle.witness.specs.Histories.{Sent, place, mark_in, marks, stage_of}
-use Rattle.witness.specs.Known.{tool_of}
-use Rattle.witness.specs.Rules.{is_crossed, last_tool, reported_of, known_for}
-use Rattle.witness.specs.declared.lines.Heard.TheVariants as heard
-use Rattle.witness.specs.declared.lines.Reported.{Reported}
-use Rattle.witness.specs.declared.lines.SentCommand.{SentCommand}
-use Rattle.witness.specs.declared.lines.SentCommand.TheVariants as sends
-use Rattle.witness.specs.declared.lines.Stage.TheVariants as stage
-use Rattle.witness_laws.specs.Machines.{Effect, TakesTool, SelectsFrame, StoresZero, Touches, Entry, Message}
-use Rattle.witness_laws.specs.Machines.{lines, whole, sent_at, tool_taken, so, tool_now, frame_now, is_contact, there}
+use Rattle.witness_laws.proofs.Names.{◌∙◌, ◌∷◌, ◌≡◌, [], Answers, ap, Command, Datum, Direction, false≢true, Frame, Heard, is_crossed, is_some}
+use Rattle.witness_laws.proofs.Names.{known_for, last_tool, List, mark_in, marks, None, Option, place, Point, refl, Reported, reported_of, Sent}
+use Rattle.witness_laws.proofs.Names.{SentCommand, Signal, slice_get, Some, Stage, stage_of, subst, sym, Tag, tool_of, touched, true, ℕ}
+use Rattle.witness_laws.specs.Machines.{Effect, TakesTool, SelectsFrame, StoresZero, Touches, Entry, Message, lines, whole, sent_at, tool_taken, so, tool_now}
+use Rattle.witness_laws.specs.Machines.{frame_now, is_contact, there}
 use Rattle.witness_laws.specs.Premises.{Keeps, KeepsUnlessCrossed, line_may}
 use Rattle.witness_laws.specs.Contacts.{contact_tool, HadTool}
 use Rattle.witness_laws.proofs.machines.Places.{IsLine, sent_within, line_through, line_stays}
@@ -37,26 +20,26 @@ use Rattle.witness_laws.proofs.machines.Held.{IsHeld, Holds, held_for, known_all
 known_takes : (effect : Effect) (w : Option (Tag × SentCommand)) → is_some (tool_taken effect) ≡ true → (now : Option Frame)
     → line_may effect now w ≡ true → may_take {A = List ℕ} [] w ≡ true
 known_takes (TakesTool tool) None some now may = refl
-known_takes (TakesTool tool) (Some (tag, sends.Known c)) some now may = may
-known_takes (TakesTool tool) (Some (tag, sends.Asking)) some now may = may
-known_takes (TakesTool tool) (Some (tag, sends.Foreign line)) some now may = refl
+known_takes (TakesTool tool) (Some (tag, SentCommand.Known c)) some now may = may
+known_takes (TakesTool tool) (Some (tag, SentCommand.Asking)) some now may = may
+known_takes (TakesTool tool) (Some (tag, SentCommand.Foreign line)) some now may = refl
 known_takes (SelectsFrame frame) w some now may = absurd (false≢true some)
 known_takes (StoresZero point) w some now may = absurd (false≢true some)
 known_takes Touches w some now may = absurd (false≢true some)
 
 tool_fits : (tool : List ℕ) (s u : Sent) (p : Point) (d : Option Direction) (all : List Entry) → IsLine u (lines all)
-    → u.command ≡ sends.Known (command.PtMeas p d) → IsLast AsksTool may_take u.above (Some (tool, s))
+    → u.command ≡ SentCommand.Known (Command.PtMeas p d) → IsLast AsksTool may_take u.above (Some (tool, s))
     → Fits (Unit {0}) tool_taken (place s) (place u) (Some tool) all
 tool_fits tool s u p d all iu is last_is =
     let is_line : IsLine s (lines all) = line_through s u (lines all) last_is.0 iu in
-    let sent : sent_at (place s) (lines all) ≡ Some (Some (s.tag, sends.Known (command.ChangeTool tool))) =
+    let sent : sent_at (place s) (lines all) ≡ Some (Some (s.tag, SentCommand.Known (Command.ChangeTool tool))) =
     IsLine.sent is_line ∙ ap (λ (c : SentCommand). Some (Some (s.tag, c))) last_is.1 in
     record {
       above = sent_within (place s) (Some (s.tag, s.command)) u.above (IsLine.sent last_is.0);
       no_touch = refl;
       made = λ line what e h k t mark done clear.
-          made_sent (place s) line what e all h (Some (s.tag, sends.Known (command.ChangeTool tool))) k t sent mark done clear;
-      in_turn = λ h t may. known_in_turn (place s) all h s.tag (command.ChangeTool tool) t sent may;
+          made_sent (place s) line what e all h (Some (s.tag, SentCommand.Known (Command.ChangeTool tool))) k t sent mark done clear;
+      in_turn = λ h t may. known_in_turn (place s) all h s.tag (Command.ChangeTool tool) t sent may;
       quiet = λ n effect h t acts lt le e some.
           below_quiet (may_take {A = List ℕ} []) (place s) u all iu (ap (λ (c : SentCommand). may_take {A = List ℕ} [] (Some (u.tag, c))) is) last_is.2
           n effect h t acts lt le (λ w may. known_takes effect w some (frame_now h) may);
@@ -70,8 +53,8 @@ abbrev pub IsToolHad : Option (Tag × Signal) → List Entry → Reported → Ty
 IsToolHad what h r = (tool : List ℕ) → contact_tool r ≡ Some tool → HadTool what h tool
 
 tool_had : (tool : List ℕ) (u : Sent) (p : Point) (d : Option Direction) (at : Point) (line : List ℕ) (what : Option (Tag × Signal)) (h : List Entry)
-    → Keeps (Message (Answers line what) ∷ h) → IsLine u (lines h) → mark_in what (lines h) ≡ Some (place u, heard.Complete)
-    → u.command ≡ sends.Known (command.PtMeas p d) → stage_of u.command (marks (place u) (lines h)) ≡ stage.Given (datum.Point at)
+    → Keeps (Message (Answers line what) ∷ h) → IsLine u (lines h) → mark_in what (lines h) ≡ Some (place u, Heard.Complete)
+    → u.command ≡ SentCommand.Known (Command.PtMeas p d) → stage_of u.command (marks (place u) (lines h)) ≡ Stage.Given (Datum.Point at)
     → Holds (last_tool u.above) u (Answers line what ∷ lines h) tool → HadTool what h tool
 tool_had tool u p d at line what h k iu mark is given held = go the_there
   where
@@ -86,7 +69,7 @@ tool_had tool u p d at line what h k iu mark is given held = go the_there
         (tool_fits tool s u p d all (line_stays u (Answers line what) (lines h) iu) is
         (subst (IsLast AsksTool may_take u.above) held.1 (tool_is u.above)))
         (contact_of tool_taken (place u) refl) k whole
-        (touch_prompt (command.PtMeas p d) (place s) (place u) all (IsHeld.order held.2) (ended_sound u p d at line what h mark is given))
+        (touch_prompt (Command.PtMeas p d) (place s) (place u) all (IsHeld.order held.2) (ended_sound u p d at line what h mark is given))
         (IsHeld.none held.2) (IsHeld.calm held.2) (IsHeld.is_done held.2)
 
     go : There (Unit {0}) tool_taken (place s) (Some tool) (is_contact (place u)) all → HadTool what h tool

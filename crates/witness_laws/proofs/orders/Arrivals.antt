@@ -1,24 +1,14 @@
 -- A relay reads the lines of the client no later than they came, and all others in their order.
-use Rattle.std.proofs.Common.{◌≡◌, ℕ, true, false, List, [], ◌∷◌, ◌++◌, length, drop, map, Option, Some, None, Ok, Err}
-use Rattle.std.proofs.Common.{refl, ap, sym, ◌∙◌, subst, append_assoc, append-nil}
-use Rattle.std.proofs.Math.Seq.{drop-append_seam}
-use Rattle.std.proofs.lemmas.List.{map-append, append_cancel_left}
-use Rattle.line_framing.specs.Calls.{IsAccounted, bytes_fed, handed_out, after_calls}
-use Rattle.line_framing.specs.Content.{AreLines, line_bytes}
-use Rattle.line_framing.specs.Framing.{Framing, IsLineDue, no_bytes}
-use Rattle.line_framing.specs.Next.{Front, next_of}
-use Rattle.line_framing.specs.Stream.{IsStream, fault_in}
-use Rattle.line_framing.specs.declared.faults.FramingFault.{FramingFault}
-use Rattle.line_framing.proofs.CallLists.{nothing_is_lost}
-use Rattle.line_framing.proofs.Streams.{one_stream, line_bytes-append, AreLines-append}
-use Rattle.witness.specs.Relaying.{Relaying, Reads, none, client, server, Move, FromClient, FromServer, Read, MakeDue, Write, ToServer, ToClient}
-use Rattle.witness.specs.Relaying.{Did, Course, with_move, Relays, begun, moved, IsAllTold}
-use Rattle.witness.specs.Dialogues.{silence}
-use Rattle.witness.specs.Texts.{told_lines}
-use Rattle.witness.specs.Watching.{Watching, client_read, server_read, AreAllRead}
-use Rattle.witness.specs.declared.lines.Reported.{Reported}
-use Rattle.witness_laws.specs.Courses.{up_in, down_in, lines_read, lines_in, lines_of, whole_lines, are_whole_lines, completed, lines_coming, lines_came}
-use Rattle.witness_laws.specs.Orders.{Line, Up, Down, said_all, ups, downs, IsCausal, IsClear}
+use Rattle.witness_laws.proofs.Names.{◌++◌, ◌∙◌, ◌∷◌, ◌≡◌, [], after_calls, ap, append-nil, append_assoc, append_cancel_left, are_whole_lines}
+use Rattle.witness_laws.proofs.Names.{AreAllRead, AreLines, AreLines-append, begun, bytes_fed, client, client_read, completed, Course, Down, down_in}
+use Rattle.witness_laws.proofs.Names.{downs, drop, drop-append_seam, Err, false, fault_in, Framing, FramingFault, FromClient, FromServer, Front}
+use Rattle.witness_laws.proofs.Names.{handed_out, IsAccounted, IsAllTold, IsCausal, IsClear, IsLineDue, IsStream, length, Line, line_bytes}
+use Rattle.witness_laws.proofs.Names.{line_bytes-append, lines_came, lines_coming, lines_in, lines_of, lines_read, List, MakeDue, map, map-append}
+use Rattle.witness_laws.proofs.Names.{Move, next_of, no_bytes, None, none, nothing_is_lost, Ok, one_stream, Option, Read, Reads, refl, Relaying}
+use Rattle.witness_laws.proofs.Names.{Relays, Reported, said_all, server, silence, Some, subst, sym, ToClient, told_lines, ToServer, true, Up, up_in}
+use Rattle.witness_laws.proofs.Names.{ups, Watching, whole_lines, with_move, Write, ℕ}
+use Rattle.witness.specs.Relaying.{Did, moved}
+use Rattle.witness.specs.Watching.{server_read}
 use Rattle.witness_laws.proofs.orders.Claimed.{ups_append, downs_append}
 use Rattle.witness_laws.proofs.orders.Counts.{silence_counted}
 use Rattle.witness_laws.proofs.orders.Courses.{IsRead, IsAt, read_stream, at_course, at_client, at_server, at_reads, written_recorded}

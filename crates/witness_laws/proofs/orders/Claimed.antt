@@ -1,30 +1,17 @@
 -- Recordings claim no more than a witness that knows the order.
-use Rattle.std.proofs.Common.{◌≡◌, ℕ, Bool, true, false, not, ◌&&◌, ◌||◌, if◌then◌else◌, cond, List, [], ◌∷◌, ◌++◌, map, filter, slice_get}
-use Rattle.std.proofs.Common.{Option, Some, None, is_some, refl, ap, sym, ◌∙◌, subst, append-nil}
-use Rattle.std.proofs.lemmas.List.Elements.{filter-append}
-use Rattle.std.proofs.lemmas.List.Folds.{list_any-append}
-use Rattle.dme_line.specs.declared.tags.Tag.{Tag}
-use Rattle.protocol_model.specs.Readings.{command_of, response_of}
-use Rattle.witness.specs.Asking.{sent, answered, Signal}
-use Rattle.witness.specs.Dialogues.{Dialogue, silence, last_under, line_of, sending, at_once, foreign_event, client_sent, faulting, is_out_of_turn, at_use, is_report}
-use Rattle.witness.specs.Dialogues.{heard_under, first_under, server_answered}
-use Rattle.witness.specs.Marks.{heard_as}
-use Rattle.witness.specs.Rules.{reported_at_once}
-use Rattle.witness.specs.Watching.{ledger}
-use Rattle.witness.specs.declared.lines.Reported.{Reported}
-use Rattle.witness.specs.declared.lines.Reported.TheVariants as reports
-use Rattle.witness.specs.declared.lines.SentCommand.{SentCommand}
-use Rattle.witness.specs.declared.lines.Side.TheVariants.{Client}
-use Rattle.witness.specs.declared.lines.Use.{Use}
-use Rattle.witness_laws.specs.Claims.{reported_first, is_at_once_report, in_turn, ClaimNoMore}
-use Rattle.witness_laws.specs.Orders.{Line, Up, Down, said, said_all, ups, downs, at_once_line, some_at_once, IsCausal}
+use Rattle.witness_laws.proofs.Names.{◌&&◌, ◌++◌, ◌||◌, ◌∙◌, ◌∷◌, ◌≡◌, [], answered, ap, append-nil, at_once, at_once_line, at_use, Bool, ClaimNoMore}
+use Rattle.witness_laws.proofs.Names.{Client, client_sent, command_of, cond, Dialogue, Down, downs, false, faulting, filter, filter-append}
+use Rattle.witness_laws.proofs.Names.{first_under, foreign_event, heard_as, heard_under, if◌then◌else◌, in_turn, is_at_once_report, is_out_of_turn}
+use Rattle.witness_laws.proofs.Names.{is_report, is_some, IsCausal, last_under, ledger, Line, line_of, List, list_any-append, map, None, not, Option}
+use Rattle.witness_laws.proofs.Names.{or_parts, refl, Reported, reported_at_once, reported_first, response_of, said, said_all, sending, sent}
+use Rattle.witness_laws.proofs.Names.{SentCommand, server_answered, Signal, silence, slice_get, Some, some_at_once, subst, sym, Tag, true, Up, ups}
+use Rattle.witness_laws.proofs.Names.{Use, ℕ}
 use Rattle.witness_laws.proofs.orders.Claiming.{IsFair, all_fair, all_of, in_turn_fair}
 use Rattle.witness_laws.proofs.orders.Counts.{answered_keeps, silence_counted}
 use Rattle.witness_laws.proofs.orders.More.{ups_report_first}
 use Rattle.witness_laws.proofs.orders.Sinking.{Claims}
 use Rattle.witness_laws.proofs.orders.Sorting.{Drops, none_drops, sort_below}
 use Rattle.witness_laws.proofs.orders.Views.{causal_alike, silence_alike}
-use Rattle.std.proofs.lemmas.Bool.{or_parts}
 
 pub ups_append : (lines more : List Line) → ups (lines ++ more) ≡ ups lines ++ ups more
 ups_append [] more = refl
@@ -59,7 +46,7 @@ use_unordered d at signal (Some u) = if_unordered _ _ (is_out_of_turn d.uses at 
 
 under_unordered : (d : Dialogue) (line : List ℕ) (tag : Tag) (signal : Signal) (at : Option ℕ)
     → heard_under (unordered d) line tag signal at ≡ unordered (heard_under d line tag signal at)
-under_unordered d line tag signal None = if_unordered d (faulting d (reports.Unasked line)) (is_report tag signal d.events)
+under_unordered d line tag signal None = if_unordered d (faulting d (Reported.Unasked line)) (is_report tag signal d.events)
 under_unordered d line tag signal (Some at) = use_unordered d at signal (slice_get d.uses at)
 
 answered_unordered : (d : Dialogue) (line : List ℕ) (r : Option (Tag × Signal)) → server_answered (unordered d) line r ≡ unordered (server_answered d line r)
@@ -126,7 +113,7 @@ abbrev chosen_in_turn : Reported → Bool
 chosen_in_turn r = not (is_at_once_report r)
 
 none_chosen : (line : List ℕ) (b : Bool) → at_once_line line ≡ b → filter chosen_in_turn (reported_at_once line b) ≡ []
-none_chosen line true e = ap (λ (b : Bool). cond (not b) (reports.Other Client line ∷ []) []) e
+none_chosen line true e = ap (λ (b : Bool). cond (not b) (Reported.Other Client line ∷ []) []) e
 none_chosen line false e = refl
 
 none_in_turn : (up : List (List ℕ)) → filter chosen_in_turn (reported_first up) ≡ []

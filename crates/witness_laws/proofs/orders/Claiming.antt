@@ -1,33 +1,13 @@
 -- Which of two lists of reports claims more: what holds of any lists, and of what a mark reports.
-use Rattle.std.proofs.Common.{◌≡◌, ℕ, Bool, true, false, not, cond, List, [], ◌∷◌, ◌++◌, filter, Option, Some, None, refl, ap, sym, ◌∙◌, subst}
-use Rattle.std.proofs.lemmas.Bool.{false≢true}
-use Rattle.std.proofs.lemmas.List.Elements.{filter-append}
-use Rattle.fixed_um.specs.Shapes.{Direction}
-use Rattle.fixed_um.specs.declared.frames.Frame.{Frame}
-use Rattle.fixed_um.specs.declared.lengths.Point.{Point}
-use Rattle.dme_line.specs.Kinds.{kind_of}
-use Rattle.dme_line.specs.declared.commands.Command.{Command}
-use Rattle.dme_line.specs.declared.commands.Command.TheVariants as command
-use Rattle.dme_line.specs.declared.tags.Tag.{Tag}
-use Rattle.contact_ledger.specs.declared.acts.Act.TheVariants as act
-use Rattle.protocol_model.specs.Open.{asks_data}
-use Rattle.protocol_model.specs.declared.held.Datum.{Datum}
-use Rattle.protocol_model.specs.declared.held.Datum.TheVariants as datum
-use Rattle.witness.specs.Dialogues.{moved, framed, touched, act_of, report_of, other_at, reported_by}
-use Rattle.witness.specs.Known.{done, frame_in, tool_of, frame_of}
-use Rattle.witness.specs.Marks.{step}
-use Rattle.witness.specs.declared.lines.Heard.{Heard}
-use Rattle.witness.specs.declared.lines.Known.{Known}
-use Rattle.witness.specs.declared.lines.Reported.{Reported}
-use Rattle.witness.specs.declared.lines.Reported.TheVariants as reports
-use Rattle.witness.specs.declared.lines.SentCommand.{SentCommand}
-use Rattle.witness.specs.declared.lines.SentCommand.TheVariants as sends
-use Rattle.witness.specs.declared.lines.Stage.{Stage}
-use Rattle.witness.specs.declared.lines.Step.{Step}
-use Rattle.witness.specs.declared.lines.Step.TheVariants.{Stays, Comes, Fails, Breaks, Counts}
-use Rattle.witness_laws.specs.Claims.{is_at_once_report, in_turn, IsPart, unknown, known, ClaimsNoMore, ClaimNoMore}
+use Rattle.witness_laws.proofs.Names.{◌++◌, ◌∙◌, ◌∷◌, ◌≡◌, [], Act, act_of, ap, asks_data, Bool, Breaks, ClaimNoMore, ClaimsNoMore, Comes, Command}
+use Rattle.witness_laws.proofs.Names.{cond, Datum, Direction, done, Fails, false, false≢true, filter, filter-append, Frame, frame_in, frame_of}
+use Rattle.witness_laws.proofs.Names.{framed, Heard, is_at_once_report, IsPart, kind_of, Known, known, List, moved, None, not, Option, other_at}
+use Rattle.witness_laws.proofs.Names.{Point, refl, report_of, Reported, reported_by, SentCommand, Some, Stage, Stays, Step, step, subst, sym, Tag}
+use Rattle.witness_laws.proofs.Names.{tool_of, touched, true, unknown, ℕ}
+use Rattle.witness.specs.declared.lines.Step.TheVariants.{Counts}
 use Rattle.witness_laws.specs.Claims as claims
 use Rattle.witness_laws.proofs.orders.Knowing.{LessKnown, tool_less, frame_less, done_part, by_part}
+use Rattle.witness_laws.specs.Reports.{AreReportsOf}
 
 -- ---- any reports
 
@@ -64,13 +44,13 @@ claims_trans (x ∷ xs) (y ∷ ys) (z ∷ zs) p q = (one_trans x y z p.0 q.0, cl
 
 -- the tool and the frame of a touch
 touch_tool : Reported → Option (List ℕ)
-touch_tool (reports.Touched p d tool frame at) = tool
-touch_tool (reports.Did (act.Contact p d tool frame at)) = Some tool
+touch_tool (Reported.Touched p d tool frame at) = tool
+touch_tool (Reported.Did (Act.Contact p d tool frame at)) = Some tool
 touch_tool _ = None
 
 touch_frame : Reported → Option Frame
-touch_frame (reports.Touched p d tool frame at) = frame
-touch_frame (reports.Did (act.Contact p d tool frame at)) = Some frame
+touch_frame (Reported.Touched p d tool frame at) = frame
+touch_frame (Reported.Did (Act.Contact p d tool frame at)) = Some frame
 touch_frame _ = None
 
 tool_part : (x y : Reported) → ClaimsNoMore x y → IsPart (touch_tool x) (touch_tool y)
@@ -91,7 +71,7 @@ frame_part _ _ (claims.contact p d tool name frame in_frame at a b) = b
 
 -- one that is not the other names more
 abbrev pub is_named : Reported → Bool
-is_named (reports.Did done) = true
+is_named (Reported.Did done) = true
 is_named _ = false
 
 pub named_stays : (x y : Reported) → ClaimsNoMore x y → is_named x ≡ true → is_named y ≡ true
@@ -107,8 +87,8 @@ one_both _ _ (claims.same x) q = refl
 one_both _ _ (claims.moved p frame) q = absurd (false≢true (named_stays _ _ q refl))
 one_both _ _ (claims.framed frame) q = absurd (false≢true (named_stays _ _ q refl))
 one_both _ _ (claims.touched p d tool tool_too frame frame_too at a b) q =
-    ap (λ t. reports.Touched p d t frame at) (part_both tool tool_too a (tool_part _ _ q))
-    ∙ ap (λ x. reports.Touched p d tool_too x at) (part_both frame frame_too b (frame_part _ _ q))
+    ap (λ t. Reported.Touched p d t frame at) (part_both tool tool_too a (tool_part _ _ q))
+    ∙ ap (λ x. Reported.Touched p d tool_too x at) (part_both frame frame_too b (frame_part _ _ q))
 one_both _ _ (claims.contact p d tool name frame in_frame at a b) q = absurd (false≢true (named_stays _ _ q refl))
 
 pub claims_both : (xs ys : List Reported) → ClaimNoMore xs ys → ClaimNoMore ys xs → xs ≡ ys
@@ -167,59 +147,68 @@ more_chosen f fair xs ys zs ws p q =
 -- ---- what a mark reports
 
 moved_less : (p : Point) (x y : Option Frame) → IsPart x y → ClaimsNoMore (moved p x) (moved p y)
-moved_less p _ _ (unknown None) = claims.same (reports.MovedSomewhere p)
+moved_less p _ _ (unknown None) = claims.same (Reported.MovedSomewhere p)
 moved_less p _ _ (unknown (Some frame)) = claims.moved p frame
 moved_less p _ _ (known x) = claims.same (moved p x)
 
 framed_less : (x y : Option Frame) → IsPart x y → ClaimsNoMore (framed x) (framed y)
-framed_less _ _ (unknown None) = claims.same reports.FramedSomehow
+framed_less _ _ (unknown None) = claims.same Reported.FramedSomehow
 framed_less _ _ (unknown (Some frame)) = claims.framed frame
 framed_less _ _ (known x) = claims.same (framed x)
 
 touched_less : (t u : Option (List ℕ)) (x y : Option Frame) (p : Point) (d : Option Direction) (at : Point) → IsPart t u → IsPart x y
     → ClaimsNoMore (touched t x p d at) (touched u y p d at)
 touched_less _ _ _ _ p d at (unknown None) (unknown y) = claims.touched p d None None None y at (unknown None) (unknown y)
-touched_less _ _ _ _ p d at (unknown None) (known y) = claims.same (reports.Touched p d None y at)
+touched_less _ _ _ _ p d at (unknown None) (known y) = claims.same (Reported.Touched p d None y at)
 touched_less _ _ _ _ p d at (unknown (Some t)) (unknown None) = claims.touched p d None (Some t) None None at (unknown (Some t)) (unknown None)
 touched_less _ _ _ _ p d at (unknown (Some t)) (unknown (Some y)) = claims.contact p d None t None y at (unknown (Some t)) (unknown (Some y))
 touched_less _ _ _ _ p d at (unknown (Some t)) (known None) = claims.touched p d None (Some t) None None at (unknown (Some t)) (known None)
 touched_less _ _ _ _ p d at (unknown (Some t)) (known (Some y)) = claims.contact p d None t (Some y) y at (unknown (Some t)) (known (Some y))
 touched_less _ _ _ _ p d at (known None) (unknown y) = claims.touched p d None None None y at (known None) (unknown y)
-touched_less _ _ _ _ p d at (known None) (known y) = claims.same (reports.Touched p d None y at)
-touched_less _ _ _ _ p d at (known (Some t)) (unknown None) = claims.same (reports.Touched p d (Some t) None at)
+touched_less _ _ _ _ p d at (known None) (known y) = claims.same (Reported.Touched p d None y at)
+touched_less _ _ _ _ p d at (known (Some t)) (unknown None) = claims.same (Reported.Touched p d (Some t) None at)
 touched_less _ _ _ _ p d at (known (Some t)) (unknown (Some y)) = claims.contact p d (Some t) t None y at (known (Some t)) (unknown (Some y))
 touched_less _ _ _ _ p d at (known (Some t)) (known y) = claims.same (touched (Some t) y p d at)
 
 act_less : (Live : ℕ → Type 0) (k m : Known) → LessKnown Live k m → (c : Command) (given : Option Datum) → ClaimNoMore (act_of k c given) (act_of m c given)
-act_less Live k m l command.StartSession given = tt
-act_less Live k m l command.EndSession given = tt
-act_less Live k m l command.ClearAllErrors given = tt
-act_less Live k m l command.IsHomed None = tt
-act_less Live k m l command.IsHomed (Some (datum.Point at)) = tt
-act_less Live k m l command.IsHomed (Some (datum.Homed homed)) = same_claims (act_of m command.IsHomed (Some (datum.Homed homed)))
-act_less Live k m l command.Home given = same_claims (act_of m command.Home given)
-act_less Live k m l command.OnPtMeasReport given = tt
-act_less Live k m l (command.GoTo p) given = (moved_less p (frame_of k) (frame_of m) (frame_less Live k m l), tt)
-act_less Live k m l (command.PtMeas p d) None = tt
-act_less Live k m l (command.PtMeas p d) (Some (datum.Point at)) =
+act_less Live k m l Command.StartSession given = tt
+act_less Live k m l Command.EndSession given = tt
+act_less Live k m l Command.ClearAllErrors given = tt
+act_less Live k m l Command.IsHomed None = tt
+act_less Live k m l Command.IsHomed (Some (Datum.Point at)) = tt
+act_less Live k m l Command.IsHomed (Some (Datum.Homed homed)) = same_claims (act_of m Command.IsHomed (Some (Datum.Homed homed)))
+act_less Live k m l Command.Home given = same_claims (act_of m Command.Home given)
+act_less Live k m l Command.OnPtMeasReport given = tt
+act_less Live k m l (Command.GoTo p) given = (moved_less p (frame_of k) (frame_of m) (frame_less Live k m l), tt)
+act_less Live k m l (Command.PtMeas p d) None = tt
+act_less Live k m l (Command.PtMeas p d) (Some (Datum.Point at)) =
     (touched_less (tool_of k) (tool_of m) (frame_of k) (frame_of m) p d at (tool_less Live k m l) (frame_less Live k m l), tt)
-act_less Live k m l (command.PtMeas p d) (Some (datum.Homed homed)) = tt
-act_less Live k m l (command.ChangeTool tool) given = same_claims (act_of m (command.ChangeTool tool) given)
-act_less Live k m l (command.SetCsyTransformation p) given = tt
-act_less Live k m l (command.SetCoordSystem csy) given =
+act_less Live k m l (Command.PtMeas p d) (Some (Datum.Homed homed)) = tt
+act_less Live k m l (Command.ChangeTool tool) given = same_claims (act_of m (Command.ChangeTool tool) given)
+act_less Live k m l (Command.SetCsyTransformation p) given = tt
+act_less Live k m l (Command.SetCoordSystem csy) given =
     (framed_less (frame_in csy (done k.zero)) (frame_in csy (done m.zero)) (by_part csy (done k.zero) (done m.zero) (done_part Live k.zero m.zero l.zero)), tt)
-act_less Live k m l command.AbortE given = tt
+act_less Live k m l Command.AbortE given = tt
 
 step_less : (Live : ℕ → Type 0) (k m : Known) → LessKnown Live k m → (tag : Tag) (c : Command) (s : Step)
     → ClaimNoMore (report_of k tag c s) (report_of m tag c s)
 step_less Live k m l tag c Stays = tt
 step_less Live k m l tag c (Comes s) = tt
 step_less Live k m l tag c Fails = tt
-step_less Live k m l tag c (Breaks rule) = same_claims (reports.Broken rule tag ∷ [])
+step_less Live k m l tag c (Breaks rule) = same_claims (Reported.Broken rule tag ∷ [])
 step_less Live k m l tag c (Counts given) = act_less Live k m l c given
 
 pub reported_less : (Live : ℕ → Type 0) (k m : Known) → LessKnown Live k m → (tag : Tag) (what : SentCommand) (s : Stage) (h : Heard)
     → ClaimNoMore (reported_by k tag what s h) (reported_by m tag what s h)
-reported_less Live k m l tag (sends.Known c) s h = step_less Live k m l tag c (step (asks_data (kind_of c)) s h)
-reported_less Live k m l tag sends.Asking s h = tt
-reported_less Live k m l tag (sends.Foreign line) s h = same_claims (other_at tag line s)
+reported_less Live k m l tag (SentCommand.Known c) s h = step_less Live k m l tag c (step (asks_data (kind_of c)) s h)
+reported_less Live k m l tag SentCommand.Asking s h = tt
+reported_less Live k m l tag (SentCommand.Foreign line) s h = same_claims (other_at tag line s)
+
+-- ---- reports of acts
+
+pub reports_join : (acts more : List Act) (xs ys : List Reported) → AreReportsOf xs acts → AreReportsOf ys more
+    → AreReportsOf (xs ++ ys) (acts ++ more)
+reports_join [] more [] ys h g = g
+reports_join [] more (x ∷ xs) ys h g = absurd h
+reports_join (a ∷ acts) more [] ys h g = absurd h
+reports_join (a ∷ acts) more (x ∷ xs) ys h g = (h.0, reports_join acts more xs ys h.1 g)

@@ -1,33 +1,14 @@
 -- What makes an order clear.
-use Rattle.std.proofs.Common.{◌≡◌, ℕ, Bool, true, false, ◌&&◌, ◌||◌, if◌then◌else◌, List, [], ◌∷◌, ◌++◌, map, remove, zero, suc, ◌==◌}
-use Rattle.std.proofs.Common.{Option, Some, None, Result, Ok, Err, refl, ap, sym, ◌∙◌}
-use Rattle.std.proofs.lemmas.Bool.{false≢true, or_parts, or_from}
-use Rattle.std.proofs.lemmas.List.Folds.{list_any-append}
-use Rattle.std.specs.List.{list_any}
-use Rattle.fixed_um.specs.declared.lengths.Point.{Point}
-use Rattle.dme_line.specs.Kinds.{kind_of}
-use Rattle.dme_line.specs.declared.commands.Kind.{Kind}
-use Rattle.dme_line.specs.declared.commands.Kind.TheVariants as kind
-use Rattle.dme_line.specs.declared.homed.NotHomedText.{NotHomedText}
-use Rattle.dme_line.specs.declared.points.NotPoint.{NotPoint}
-use Rattle.dme_line.specs.declared.responses.Response.{Response}
-use Rattle.dme_line.specs.declared.responses.NotResponse.{NotResponse}
-use Rattle.dme_line.specs.declared.tags.Tag.{Tag}
-use Rattle.protocol_model.specs.Readings.{command_of, response_of}
-use Rattle.protocol_model.specs.Replies.{tag_is}
-use Rattle.witness.specs.Asking.{sent, answered, Signal, Ack, Given, Done, Error, signal_of}
-use Rattle.witness.specs.Dialogues.{Dialogue, silence, last_under, sending, unknowing, at_once, foreign_event, client_sent, use_renewed, use_heard, left_over}
-use Rattle.witness.specs.Known.{all_renewed}
-use Rattle.witness.specs.Marks.{given_point, given_homed, given_for, given_to, heard_as, is_error}
-use Rattle.witness.specs.declared.lines.Heard.{Heard}
-use Rattle.witness.specs.declared.lines.Renewal.TheVariants.{Fault}
-use Rattle.witness.specs.declared.lines.SentCommand.{SentCommand}
-use Rattle.witness.specs.declared.lines.SentCommand.TheVariants as sends
-use Rattle.witness.specs.declared.lines.Use.{Use}
-use Rattle.witness_laws.specs.Orders.{Line, Up, Down, said, ups, downs, some_sends, two_send, is_under, is_open, at_once_line, some_at_once, has_failed_under}
-use Rattle.witness_laws.specs.Orders.{is_error_signal, is_refusal, refuses, IsSure, IsClear}
+use Rattle.witness_laws.proofs.Names.{◌&&◌, ◌==◌, ◌||◌, ◌∙◌, ◌∷◌, ◌≡◌, [], Ack, all_renewed, answered, ap, at_once, at_once_line, Bool, client_sent}
+use Rattle.witness_laws.proofs.Names.{command_of, Dialogue, Down, downs, Err, Error, false, false≢true, Fault, foreign_event, Given, given_for}
+use Rattle.witness_laws.proofs.Names.{given_homed, given_point, given_to, has_failed_under, Heard, heard_as, if◌then◌else◌, is_error, is_error_signal}
+use Rattle.witness_laws.proofs.Names.{is_open, is_refusal, is_under, IsClear, IsSure, Kind, kind_of, last_under, Line, List, list_any}
+use Rattle.witness_laws.proofs.Names.{list_any-append, map, None, NotHomedText, NotPoint, NotResponse, Ok, Option, or_from, or_parts, Point, refl}
+use Rattle.witness_laws.proofs.Names.{refuses, Response, response_of, Result, said, sending, sent, SentCommand, Signal, signal_of, silence, Some}
+use Rattle.witness_laws.proofs.Names.{some_at_once, some_sends, sym, Tag, tag_is, true, two_send, unknowing, Up, ups, Use, use_heard, use_renewed, ℕ}
+use Rattle.witness.specs.Asking.{Done}
 use Rattle.witness_laws.proofs.orders.Commands.{stays_closed}
-use Rattle.witness_laws.proofs.orders.Counts.{AreHeard, heard_keeps, heard_failed}
+use Rattle.witness_laws.proofs.orders.Counts.{AreHeard, heard_keeps, heard_failed, Each, each_map, each_more, each_left}
 use Rattle.witness_laws.proofs.orders.Swaps.{new_use, and_no}
 use Rattle.witness_laws.proofs.orders.Sinking.{open_unknowing}
 
@@ -108,37 +89,18 @@ one_use_is_clear ordered lines waits once = lone_clear (silence ordered) lines w
 -- ---- the server refuses nothing
 
 abbrev Unfailed : List Use → Type 0
-Unfailed [] = Unit {0}
-Unfailed (u ∷ uses) = (u.has_failed ≡ false) × Unfailed uses
-
-map_unfailed : (f : Use → Use) → ((u : Use) → u.has_failed ≡ false → (f u).has_failed ≡ false) → (uses : List Use) → Unfailed uses → Unfailed (map f uses)
-map_unfailed f same [] w = tt
-map_unfailed f same (u ∷ uses) w = (same u w.0, map_unfailed f same uses w.1)
-
-remove_unfailed : (uses : List Use) (at : ℕ) → Unfailed uses → Unfailed (remove uses at)
-remove_unfailed [] zero w = tt
-remove_unfailed [] (suc at) w = tt
-remove_unfailed (u ∷ uses) zero w = w.1
-remove_unfailed (u ∷ uses) (suc at) w = (w.0, remove_unfailed uses at w.1)
-
-left_unfailed : (uses : List Use) (at : ℕ) (ended : Bool) → Unfailed uses → Unfailed (left_over uses at ended)
-left_unfailed uses at true w = remove_unfailed uses at w
-left_unfailed uses at false w = w
-
-end_unfailed : (uses : List Use) (u : Use) → u.has_failed ≡ false → Unfailed uses → Unfailed (uses ++ u ∷ [])
-end_unfailed [] u e w = (e, tt)
-end_unfailed (x ∷ uses) u e w = (w.0, end_unfailed uses u e w.1)
+Unfailed uses = Each (λ (u : Use). u.has_failed ≡ false) uses
 
 sending_unfailed : (d : Dialogue) (tag : Tag) (what : SentCommand) → Unfailed d.uses → Unfailed (sending d tag what).uses
-sending_unfailed d tag what w = end_unfailed d.uses (new_use d.lines tag what (last_under tag d.uses None) d.known) refl w
+sending_unfailed d tag what w = each_more (λ (u : Use). u.has_failed ≡ false) d.uses (new_use d.lines tag what (last_under tag d.uses None) d.known ∷ []) w (refl, tt)
 
 if_unfailed : (d : Dialogue) (line : List ℕ) (tag : Tag) (what : SentCommand) → Unfailed d.uses → (b : Bool)
     → Unfailed (if b then sending (at_once d line) tag what else sending d tag what).uses
-if_unfailed d line tag what w true = sending_unfailed (at_once d line) tag what (map_unfailed unknowing (λ u e. e) d.uses w)
+if_unfailed d line tag what w true = sending_unfailed (at_once d line) tag what (each_map (λ (u : Use). u.has_failed ≡ false) unknowing (λ u e. e) d.uses w)
 if_unfailed d line tag what w false = sending_unfailed d tag what w
 
 client_unfailed : (d : Dialogue) (line : List ℕ) (w : Option (Tag × SentCommand)) → Unfailed d.uses → Unfailed (client_sent d line w).uses
-client_unfailed d line None none = map_unfailed unknowing (λ u e. e) d.uses none
+client_unfailed d line None none = each_map (λ (u : Use). u.has_failed ≡ false) unknowing (λ u e. e) d.uses none
 client_unfailed d line (Some (tag, what)) none = if_unfailed d line tag what none (foreign_event tag what)
 
 point_is_no_error : (p : Result Point NotPoint) → is_error (given_point p) ≡ false
@@ -150,14 +112,14 @@ homed_is_no_error (Ok homed) = refl
 homed_is_no_error (Err why) = refl
 
 data_are_no_error : (k : Kind) (p : Result Point NotPoint) (homed : Result Bool NotHomedText) → is_error (given_for k p homed) ≡ false
-data_are_no_error kind.PtMeas p homed = point_is_no_error p
-data_are_no_error kind.IsHomed p homed = homed_is_no_error homed
+data_are_no_error Kind.PtMeas p homed = point_is_no_error p
+data_are_no_error Kind.IsHomed p homed = homed_is_no_error homed
 data_are_no_error _ p homed = refl
 
 given_is_no_error : (c : SentCommand) (p : Result Point NotPoint) (homed : Result Bool NotHomedText) → is_error (given_to c p homed) ≡ false
-given_is_no_error (sends.Known command) p homed = data_are_no_error (kind_of command) p homed
-given_is_no_error sends.Asking p homed = refl
-given_is_no_error (sends.Foreign line) p homed = refl
+given_is_no_error (SentCommand.Known command) p homed = data_are_no_error (kind_of command) p homed
+given_is_no_error SentCommand.Asking p homed = refl
+given_is_no_error (SentCommand.Foreign line) p homed = refl
 
 signal_is_no_error : (signal : Signal) → is_error_signal signal ≡ false → (c : SentCommand) → is_error (heard_as c signal) ≡ false
 signal_is_no_error Ack e c = refl
@@ -175,8 +137,8 @@ heard_unfailed n h none u e =
 
 answered_unfailed : (d : Dialogue) (line : List ℕ) → refuses line ≡ false → Unfailed d.uses → Unfailed (said d (Down line)).uses
 answered_unfailed d line e w = heard_keeps (λ x. Unfailed x.uses) (λ h. is_error h ≡ false)
-    (λ x y p. map_unfailed (use_renewed (all_renewed Fault)) (λ u e. e) x.uses p)
-    (λ x at u h ended q p. left_unfailed (map (use_heard u.line h) x.uses) at ended (map_unfailed (use_heard u.line h) (heard_unfailed u.line h q) x.uses p))
+    (λ x y p. each_map (λ (u : Use). u.has_failed ≡ false) (use_renewed (all_renewed Fault)) (λ u e. e) x.uses p)
+    (λ x at u h ended q p. each_left (λ (u : Use). u.has_failed ≡ false) (map (use_heard u.line h) x.uses) at ended (each_map (λ (u : Use). u.has_failed ≡ false) (use_heard u.line h) (heard_unfailed u.line h q) x.uses p))
     d line (answered (response_of line)) (heard_no_error (response_of line) e) w
 
 none_failed : (tag : Tag) (uses : List Use) → Unfailed uses → has_failed_under tag uses ≡ false

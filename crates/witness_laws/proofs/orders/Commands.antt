@@ -1,19 +1,10 @@
 -- A command may be read before the replies to others, with the same result.
-use Rattle.std.proofs.Common.{◌≡◌, ℕ, zero, suc, Bool, true, false, ◌&&◌, if◌then◌else◌, List, [], ◌∷◌, ◌++◌, map, remove}
-use Rattle.std.proofs.Common.{Option, Some, None, is_some, Result, Ok, Err, refl, ap, sym, ◌∙◌, subst}
-use Rattle.std.proofs.lemmas.Bool.{false≢true, or_parts, or_from}
-use Rattle.std.specs.List.{list_any}
-use Rattle.dme_line.specs.declared.responses.Response.{Response}
-use Rattle.dme_line.specs.declared.responses.NotResponse.{NotResponse}
-use Rattle.dme_line.specs.declared.tags.Tag.{Tag}
-use Rattle.protocol_model.specs.Readings.{command_of, response_of}
-use Rattle.protocol_model.specs.Replies.{tag_is}
-use Rattle.witness.specs.Asking.{sent, answered, Signal, Sends}
-use Rattle.witness.specs.Dialogues.{Dialogue, last_under, line_of, sending_after, sending, at_once, foreign_event, sent_tagged, client_sent, use_heard, left_over, server_answered, after}
-use Rattle.witness.specs.Watching.{client_lines, server_lines}
-use Rattle.witness.specs.declared.lines.SentCommand.{SentCommand}
-use Rattle.witness.specs.declared.lines.Use.{Use}
-use Rattle.witness_laws.specs.Orders.{Line, Up, Down, said, ups, is_open, is_of, answers, IsBehind, IsCausal, IsCounted, IsNew, IsFresh, AreFresh, IsAnswer, AreAnswers}
+use Rattle.witness_laws.proofs.Names.{◌&&◌, ◌++◌, ◌∙◌, ◌∷◌, ◌≡◌, [], after, answered, answers, ap, AreAnswers, AreFresh, at_once, Bool, client_lines}
+use Rattle.witness_laws.proofs.Names.{client_sent, command_of, Dialogue, Down, Err, false, false≢true, foreign_event, if◌then◌else◌, is_of, is_open}
+use Rattle.witness_laws.proofs.Names.{is_some, IsAnswer, IsBehind, IsCausal, IsCounted, IsFresh, IsNew, last_under, left_over, Line, line_of, List}
+use Rattle.witness_laws.proofs.Names.{list_any, map, None, NotResponse, Ok, Option, or_from, or_parts, refl, remove, Response, response_of, Result}
+use Rattle.witness_laws.proofs.Names.{said, sending, sending_after, Sends, sent, sent_tagged, SentCommand, server_answered, server_lines, Signal}
+use Rattle.witness_laws.proofs.Names.{Some, subst, suc, sym, Tag, tag_is, true, Up, ups, Use, use_heard, zero, ℕ}
 use Rattle.witness_laws.proofs.orders.Counts.{answered_keeps, said_counted}
 use Rattle.witness_laws.proofs.orders.More.{ups_after, open_heard}
 use Rattle.witness_laws.proofs.orders.Sends.{AfterSend, after_send, Agrees, alike, ended, IsEndOf, NotEarly, open_fault}

@@ -1,25 +1,11 @@
 -- What stays as it is while lines are read.
-use Rattle.std.proofs.Common.{◌≡◌, ℕ, zero, suc, ◌+◌, ◌≤◌, ◌<◌, ◌==◌, Bool, true, false, ◌&&◌, ◌||◌, if◌then◌else◌, List, [], ◌∷◌, ◌++◌, map, remove, slice_get}
-use Rattle.std.proofs.Common.{Option, Some, None, refl, ap, sym, ◌∙◌, subst, arith, append_assoc, append-nil}
-use Rattle.dme_line.specs.declared.tags.Tag.{Tag}
-use Rattle.protocol_model.specs.Readings.{command_of, response_of}
-use Rattle.witness.specs.Asking.{sent, answered, Signal}
-use Rattle.witness.specs.Dialogues.{Dialogue, silence, sending, unknowing, at_once, foreign_event, client_sent, use_renewed, faulting, after_mark, without_rival, use_heard}
-use Rattle.witness.specs.Dialogues.{answered_known, left_over, hearing, is_out_of_turn, at_use, is_report, heard_under, first_under, server_answered}
-use Rattle.witness.specs.Known.{nothing, is_rival, all_renewed}
-use Rattle.witness.specs.Marks.{heard_as, is_end, is_error, is_answer}
-use Rattle.witness.specs.declared.lines.Heard.{Heard}
-use Rattle.witness.specs.declared.lines.Known.{Known}
-use Rattle.witness.specs.declared.lines.Renewal.TheVariants.{Fault, Mark, Answer}
-use Rattle.witness.specs.declared.lines.Reported.{Reported}
-use Rattle.witness.specs.declared.lines.Reported.TheVariants as reports
-use Rattle.witness.specs.declared.lines.Rule.TheVariants.{NotInTurn}
-use Rattle.witness.specs.declared.lines.SentCommand.{SentCommand}
-use Rattle.witness.specs.declared.lines.Side.TheVariants.{Server}
-use Rattle.witness.specs.declared.lines.Use.{Use}
-use Rattle.witness_laws.specs.Orders.{Line, Up, Down, said, said_all, AreCounted, IsCounted, IsPrefix}
-use Rattle.std.specs.List.{list_any}
-use Rattle.std.proofs.Common.{ne_eqb}
+use Rattle.witness_laws.proofs.Names.{◌&&◌, ◌++◌, ◌+◌, ◌<◌, ◌==◌, ◌||◌, ◌∙◌, ◌∷◌, ◌≡◌, ◌≤◌, [], after_mark, all_renewed, Answer, answered}
+use Rattle.witness_laws.proofs.Names.{answered_known, ap, append-nil, append_assoc, AreCounted, arith, at_once, at_use, Bool, client_sent, command_of}
+use Rattle.witness_laws.proofs.Names.{Dialogue, Down, false, Fault, faulting, first_under, foreign_event, Heard, heard_as, heard_under, hearing}
+use Rattle.witness_laws.proofs.Names.{if◌then◌else◌, is_answer, is_end, is_error, is_out_of_turn, is_report, is_rival, IsCounted, IsPrefix, Known}
+use Rattle.witness_laws.proofs.Names.{left_over, Line, List, list_any, map, Mark, ne_eqb, None, nothing, NotInTurn, Option, refl, remove, Reported}
+use Rattle.witness_laws.proofs.Names.{response_of, said, said_all, sending, sent, SentCommand, Server, server_answered, Signal, silence, slice_get}
+use Rattle.witness_laws.proofs.Names.{Some, subst, suc, sym, Tag, true, unknowing, Up, Use, use_heard, use_renewed, without_rival, zero, ℕ}
 
 -- ---- what faults and marks keep, a line of the server keeps; Q: the marks that are heard
 
@@ -35,9 +21,9 @@ AreHeard Q (Some (tag, signal)) = (command : SentCommand) → Q (heard_as comman
 
 if_early : (P : Dialogue → Type 0) (Q : Heard → Type 0) → KeptByFaults P → KeptByMarks P Q → (d : Dialogue) (at : ℕ) (u : Use) (h : Heard) (ended : Bool)
     → Q h → P d → (b : Bool)
-    → P (if b then hearing (faulting d (reports.Broken NotInTurn u.tag)) at (use_renewed (all_renewed Fault) u) h ended else hearing d at u h ended)
+    → P (if b then hearing (faulting d (Reported.Broken NotInTurn u.tag)) at (use_renewed (all_renewed Fault) u) h ended else hearing d at u h ended)
 if_early P Q faults marks d at u h ended q p true =
-    marks (faulting d (reports.Broken NotInTurn u.tag)) at (use_renewed (all_renewed Fault) u) h ended q (faults d (reports.Broken NotInTurn u.tag) p)
+    marks (faulting d (Reported.Broken NotInTurn u.tag)) at (use_renewed (all_renewed Fault) u) h ended q (faults d (Reported.Broken NotInTurn u.tag) p)
 if_early P Q faults marks d at u h ended q p false = marks d at u h ended q p
 
 use_keeps : (P : Dialogue → Type 0) (Q : Heard → Type 0) → KeptByFaults P → KeptByMarks P Q → (d : Dialogue) (at : ℕ) (signal : Signal)
@@ -48,9 +34,9 @@ use_keeps P Q faults marks d at signal q p (Some u) =
     (is_out_of_turn d.uses at u (heard_as u.command signal))
 
 if_report : (P : Dialogue → Type 0) → KeptByFaults P → (d : Dialogue) (line : List ℕ) → P d → (b : Bool)
-    → P (if b then d else faulting d (reports.Unasked line))
+    → P (if b then d else faulting d (Reported.Unasked line))
 if_report P faults d line p true = p
-if_report P faults d line p false = faults d (reports.Unasked line) p
+if_report P faults d line p false = faults d (Reported.Unasked line) p
 
 under_keeps : (P : Dialogue → Type 0) (Q : Heard → Type 0) → KeptByFaults P → KeptByMarks P Q → (d : Dialogue) (line : List ℕ) (tag : Tag)
     (signal : Signal) → ((command : SentCommand) → Q (heard_as command signal)) → P d → (at : Option ℕ) → P (heard_under d line tag signal at)
@@ -59,7 +45,7 @@ under_keeps P Q faults marks d line tag signal q p (Some at) = use_keeps P Q fau
 
 pub heard_keeps : (P : Dialogue → Type 0) (Q : Heard → Type 0) → KeptByFaults P → KeptByMarks P Q → (d : Dialogue) (line : List ℕ)
     (what : Option (Tag × Signal)) → AreHeard Q what → P d → P (server_answered d line what)
-heard_keeps P Q faults marks d line None q p = faults d (reports.Other Server line) p
+heard_keeps P Q faults marks d line None q p = faults d (Reported.Other Server line) p
 heard_keeps P Q faults marks d line (Some (tag, signal)) q p = under_keeps P Q faults marks d line tag signal q p (first_under tag d.uses)
 
 any_heard : (what : Option (Tag × Signal)) → AreHeard (λ h. Unit {0}) what
@@ -82,27 +68,22 @@ ordered_answered d line what = answered_keeps (λ e. e.ordered ≡ d.ordered) (�
 
 -- ---- a command after a mark
 
-own_line : (h : Heard) (w : Use) (own : Bool) → (if own then after_mark (use_renewed (answered_known h) w) h else w).line ≡ w.line
-own_line h w true = refl
-own_line h w false = refl
+either_kept : {B : Type 0} (look : Use → B) (x y : Use) (b : Bool) → look x ≡ look y → look (if b then x else y) ≡ look y
+either_kept look x y true e = e
+either_kept look x y false e = refl
 
-rival_line : (u : Use) (b : Bool) → (if b then unknowing u else u).line ≡ u.line
-rival_line u true = refl
-rival_line u false = refl
+pub heard_field : {B : Type 0} (look : Use → B) (n : ℕ) (h : Heard) (u : Use)
+    → look (after_mark (use_renewed (answered_known h) (without_rival n h u)) h) ≡ look (without_rival n h u) → look (unknowing u) ≡ look u
+    → look (if u.line == n then after_mark (use_renewed (answered_known h) (without_rival n h u)) h else without_rival n h u) ≡ look u
+heard_field look n h u own rival =
+    either_kept look (after_mark (use_renewed (answered_known h) (without_rival n h u)) h) (without_rival n h u) (u.line == n) own
+    ∙ either_kept look (unknowing u) u (is_rival n u.rival && is_error h) rival
 
 pub heard_line : (n : ℕ) (h : Heard) (u : Use) → (use_heard n h u).line ≡ u.line
-heard_line n h u = own_line h (without_rival n h u) (u.line == n) ∙ rival_line u (is_rival n u.rival && is_error h)
-
-own_tag : (h : Heard) (w : Use) (own : Bool) → (if own then after_mark (use_renewed (answered_known h) w) h else w).tag ≡ w.tag
-own_tag h w true = refl
-own_tag h w false = refl
-
-rival_tag : (u : Use) (b : Bool) → (if b then unknowing u else u).tag ≡ u.tag
-rival_tag u true = refl
-rival_tag u false = refl
+heard_line n h u = heard_field (λ (v : Use). v.line) n h u refl refl
 
 pub heard_tag : (n : ℕ) (h : Heard) (u : Use) → (use_heard n h u).tag ≡ u.tag
-heard_tag n h u = own_tag h (without_rival n h u) (u.line == n) ∙ rival_tag u (is_rival n u.rival && is_error h)
+heard_tag n h u = heard_field (λ (v : Use). v.tag) n h u refl refl
 
 or_not : (b : Bool) → b ≡ (b || false)
 or_not true = refl
@@ -113,15 +94,11 @@ own_failed : (h : Heard) (w : Use) (own : Bool)
 own_failed h w true = refl
 own_failed h w false = or_not w.has_failed
 
-rival_failed : (u : Use) (b : Bool) → (if b then unknowing u else u).has_failed ≡ u.has_failed
-rival_failed u true = refl
-rival_failed u false = refl
-
 pub heard_failed : (n : ℕ) (h : Heard) (u : Use) → (use_heard n h u).has_failed ≡ (u.has_failed || ((u.line == n) && is_error h))
 heard_failed n h u =
     own_failed h (without_rival n h u) (u.line == n)
     ∙ ap (λ (b : Bool). (without_rival n h u).has_failed || (b && is_error h)) (ap (λ (m : ℕ). m == n) refl)
-    ∙ ap (λ (b : Bool). b || ((u.line == n) && is_error h)) (rival_failed u (is_rival n u.rival && is_error h))
+    ∙ ap (λ (b : Bool). b || ((u.line == n) && is_error h)) (either_kept (λ (v : Use). v.has_failed) (unknowing u) u (is_rival n u.rival && is_error h) refl)
 
 -- ---- open commands are in order
 
@@ -198,11 +175,34 @@ silence_counted ordered = omega arith
 pub counted_after : (ordered : Bool) (lines : List Line) → IsCounted (said_all (silence ordered) lines)
 counted_after ordered lines = all_counted (silence ordered) lines (silence_counted ordered)
 
+-- ---- each of the open commands
+
+abbrev pub Each : {A : Type 0} → (A → Type 0) → List A → Type 0
+Each P [] = Unit {0}
+Each P (x ∷ xs) = P x × Each P xs
+
+pub each_map : {A : Type 0} (P : A → Type 0) (f : A → A) → ((x : A) → P x → P (f x)) → (xs : List A) → Each P xs → Each P (map f xs)
+each_map P f h [] e = tt
+each_map P f h (x ∷ xs) e = (h x e.0, each_map P f h xs e.1)
+
+pub each_more : {A : Type 0} (P : A → Type 0) (xs ys : List A) → Each P xs → Each P ys → Each P (xs ++ ys)
+each_more P [] ys e g = g
+each_more P (x ∷ xs) ys e g = (e.0, each_more P xs ys e.1 g)
+
+each_less : (P : Use → Type 0) (uses : List Use) (at : ℕ) → Each P uses → Each P (remove uses at)
+each_less P [] zero e = tt
+each_less P [] (suc at) e = tt
+each_less P (u ∷ uses) zero e = e.1
+each_less P (u ∷ uses) (suc at) e = (e.0, each_less P uses at e.1)
+
+pub each_left : (P : Use → Type 0) (uses : List Use) (at : ℕ) (ended : Bool) → Each P uses → Each P (left_over uses at ended)
+each_left P uses at true e = each_less P uses at e
+each_left P uses at false e = e
+
 -- ---- one of them is before the next line, and no other is on its line
 
 abbrev pub Without : ℕ → List Use → Type 0
-Without n [] = Unit {0}
-Without n (u ∷ uses) = (u.line ≡ n → ⊥) × Without n uses
+Without n uses = Each (λ (u : Use). u.line ≡ n → ⊥) uses
 
 pub is_before : (first : ℕ) (before : List Use) (u : Use) (after : List Use) (next : ℕ) → AreCounted first (before ++ u ∷ after) next → u.line < next
 is_before first [] u after next c = bound (suc u.line) after next c.1
@@ -226,8 +226,7 @@ others_without first (x ∷ before) u after next c =
     ((λ same. omega (arith, r, same)), others_without (suc x.line) before u after next c.1)
 
 pub map_without : (n : ℕ) (f : Use → Use) → ((u : Use) → (f u).line ≡ u.line) → (uses : List Use) → Without n uses → Without n (map f uses)
-map_without n f same [] w = tt
-map_without n f same (u ∷ uses) w = ((λ e. w.0 (sym (same u) ∙ e)), map_without n f same uses w.1)
+map_without n f same = each_map (λ (u : Use). u.line ≡ n → ⊥) f (λ u other e. other (sym (same u) ∙ e))
 
 -- ---- a command among others
 
@@ -280,30 +279,15 @@ gone_counted f first (w ∷ before) u after next c = (c.0, gone_counted f (suc w
 -- ---- once nothing is known, the server changes that no more
 
 abbrev pub AllBlank : List Use → Type 0
-AllBlank [] = Unit {0}
-AllBlank (u ∷ uses) = (u.known ≡ nothing) × AllBlank uses
+AllBlank uses = Each (λ (u : Use). u.known ≡ nothing) uses
 
 pub record KnowsNothing (d : Dialogue) : Type 0 where
   pub uses : AllBlank d.uses
   pub known : d.known ≡ nothing
 
-map_blank : (f : Use → Use) → ((u : Use) → u.known ≡ nothing → (f u).known ≡ nothing) → (uses : List Use) → AllBlank uses → AllBlank (map f uses)
-map_blank f same [] b = tt
-map_blank f same (u ∷ uses) b = (same u b.0, map_blank f same uses b.1)
-
 pub all_unknowing : (uses : List Use) → AllBlank (map unknowing uses)
 all_unknowing [] = tt
 all_unknowing (u ∷ uses) = (refl, all_unknowing uses)
-
-remove_blank : (uses : List Use) (at : ℕ) → AllBlank uses → AllBlank (remove uses at)
-remove_blank [] zero b = tt
-remove_blank [] (suc at) b = tt
-remove_blank (u ∷ uses) zero b = b.1
-remove_blank (u ∷ uses) (suc at) b = (b.0, remove_blank uses at b.1)
-
-left_blank : (uses : List Use) (at : ℕ) (ended : Bool) → AllBlank uses → AllBlank (left_over uses at ended)
-left_blank uses at true b = remove_blank uses at b
-left_blank uses at false b = b
 
 answered_blank : (k : Known) (b : Bool) → k ≡ nothing → (if b then all_renewed Answer k else k) ≡ nothing
 answered_blank k true e = ap (all_renewed Answer) e
@@ -326,11 +310,11 @@ heard_blank n h u e =
 pub answered_nothing : (d : Dialogue) (line : List ℕ) (what : Option (Tag × Signal)) → KnowsNothing d → KnowsNothing (server_answered d line what)
 answered_nothing d line what b = answered_keeps KnowsNothing
     (λ e x p. record {
-      uses = map_blank (use_renewed (all_renewed Fault)) (λ u k. ap (all_renewed Fault) k) e.uses p.uses;
+      uses = each_map (λ (v : Use). v.known ≡ nothing) (use_renewed (all_renewed Fault)) (λ u k. ap (all_renewed Fault) k) e.uses p.uses;
       known = ap (all_renewed Fault) p.known;
     })
     (λ e at u h ended p. record {
-      uses = left_blank (map (use_heard u.line h) e.uses) at ended (map_blank (use_heard u.line h) (heard_blank u.line h) e.uses p.uses);
+      uses = each_left (λ (v : Use). v.known ≡ nothing) (map (use_heard u.line h) e.uses) at ended (each_map (λ (v : Use). v.known ≡ nothing) (use_heard u.line h) (heard_blank u.line h) e.uses p.uses);
       known = ap (all_renewed (Mark u.line h)) p.known;
     }) d line what b
 

@@ -1,23 +1,15 @@
 -- What a relay reads is the lines of both ends, and what it writes is what two recordings report.
-use Rattle.std.proofs.Common.{◌≡◌, ℕ, zero, suc, true, false, List, [], ◌∷◌, ◌++◌, Some, None, Ok, Err, IfOk, IsNone}
-use Rattle.std.proofs.Common.{refl, ap, sym, ◌∙◌, subst, append_assoc, append-nil}
-use Rattle.line_framing.specs.Calls.{Call, Feed, Ask, after_calls, line_in, handed_out, bytes_fed, NoLineLeft}
-use Rattle.line_framing.specs.Framing.{Framing, IsLineDue, no_bytes, fed, after_next}
-use Rattle.line_framing.specs.Next.{Front, next_of}
-use Rattle.line_framing.specs.Stream.{IsStream, fault_in}
-use Rattle.line_framing.proofs.CallLists.{handed_out_all}
-use Rattle.line_framing.proofs.Streams.{one_stream}
-use Rattle.witness.specs.Relaying.{Relaying, Reads, none, client, server, Move, FromClient, FromServer, Read, MakeDue, Write, ToServer, ToClient}
-use Rattle.witness.specs.Relaying.{Did, Course, with_move, Relays, begun, moved, IsAllTold}
-use Rattle.witness.specs.Dialogues.{Dialogue, silence}
-use Rattle.witness.specs.Texts.{told_lines}
-use Rattle.witness.specs.Watching.{Watching, client_front, server_front, client_read, server_read, client_lines, server_lines, ledger}
-use Rattle.witness.specs.Watching.{client_times, server_times, ReadsClient, ReadsServer, came, AreAllRead}
-use Rattle.witness.specs.declared.lines.Reported.{Reported}
-use Rattle.witness_laws.specs.Courses.{up_in, down_in, lines_read, lines_in, lines_of, AreLinesOf}
-use Rattle.witness_laws.specs.Orders.{Line, said_all, ups, downs, IsCausal, IsClear}
+use Rattle.witness_laws.proofs.Names.{◌++◌, ◌∙◌, ◌∷◌, ◌≡◌, [], after_calls, after_next, ap, append-nil, append_assoc, AreAllRead, AreLinesOf, Ask}
+use Rattle.witness_laws.proofs.Names.{begun, bytes_fed, Call, came, ClaimNoMore, client, client_front, client_lines, client_read, client_times}
+use Rattle.witness_laws.proofs.Names.{Course, Dialogue, down_in, downs, Err, false, fault_in, fed, Feed, Framing, FromClient, FromServer, Front}
+use Rattle.witness_laws.proofs.Names.{handed_out, handed_out_all, IfOk, in_turn, IsAllTold, IsCausal, IsClear, IsLineDue, IsNone, IsStream, ledger}
+use Rattle.witness_laws.proofs.Names.{Line, line_in, lines_in, lines_of, lines_read, List, MakeDue, Move, next_of, no_bytes, NoLineLeft, None, none}
+use Rattle.witness_laws.proofs.Names.{Ok, one_stream, Read, Reads, ReadsClient, ReadsServer, refl, Relaying, Relays, Reported, said_all, server}
+use Rattle.witness_laws.proofs.Names.{server_front, server_lines, server_times, silence, Some, subst, suc, sym, ToClient, told_lines, ToServer, true}
+use Rattle.witness_laws.proofs.Names.{up_in, ups, Watching, with_move, Write, zero, ℕ}
+use Rattle.witness.specs.Relaying.{Did, moved}
+use Rattle.witness.specs.Watching.{server_read}
 use Rattle.witness.proofs.Prefixes.{with_reports, prefixed, client_after, server_after}
-use Rattle.witness_laws.specs.Claims.{in_turn, ClaimNoMore}
 use Rattle.witness_laws.proofs.orders.Claimed.{ups_append, downs_append, causal_without, told_unordered, ordered_claim}
 use Rattle.witness_laws.proofs.orders.More.{client_append, server_append}
 use Rattle.witness_laws.proofs.orders.Sorting.{all_append, same_told}

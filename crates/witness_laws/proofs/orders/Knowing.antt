@@ -1,27 +1,10 @@
 -- One knows no more than another: what becomes of it with each line.
-use Rattle.std.proofs.Common.{◌≡◌, ℕ, ◌==◌, Bool, true, false, ◌&&◌, if◌then◌else◌, Option, Some, None, refl, ap, ◌∙◌}
-use Rattle.std.proofs.lemmas.Bool.{false≢true}
-use Rattle.fixed_um.specs.Points.{point_opposite}
-use Rattle.fixed_um.specs.declared.lengths.Point.{Point}
-use Rattle.dme_line.specs.declared.commands.Command.{Command}
-use Rattle.dme_line.specs.declared.commands.Command.TheVariants as command
-use Rattle.dme_line.specs.declared.commands.Csy.{Csy}
-use Rattle.dme_line.specs.declared.commands.Csy.TheVariants.{MachineCsy, PartCsy}
-use Rattle.witness.specs.Dialogues.{answered_known, unless_crossed}
-use Rattle.witness.specs.Known.{nothing, is_rival, renewed, unless_refused, with_mark, standing, one_renewed, all_renewed, unless_part, below_command, below}
-use Rattle.witness.specs.Known.{done, if_done, part_at, frame_by, tool_of, frame_of}
-use Rattle.witness.specs.Marks.{is_error, is_answer}
-use Rattle.witness.specs.declared.lines.Heard.{Heard}
-use Rattle.witness.specs.declared.lines.Heard.TheVariants as heard
-use Rattle.witness.specs.declared.lines.Known.{Known}
-use Rattle.witness.specs.declared.lines.Progress.{Progress}
-use Rattle.witness.specs.declared.lines.Progress.TheVariants.{Sent, Begun, Done}
-use Rattle.witness.specs.declared.lines.Renewal.{Renewal}
-use Rattle.witness.specs.declared.lines.Renewal.TheVariants.{Fault, Mark, Answer}
-use Rattle.witness.specs.declared.lines.SentCommand.{SentCommand}
-use Rattle.witness.specs.declared.lines.SentCommand.TheVariants as sends
-use Rattle.witness.specs.declared.lines.Standing.{Standing}
-use Rattle.witness_laws.specs.Claims.{IsPart, unknown, known}
+use Rattle.witness_laws.proofs.Names.{◌&&◌, ◌==◌, ◌∙◌, ◌≡◌, all_renewed, Answer, answered_known, ap, Begun, below, below_command, Bool, Command, Csy}
+use Rattle.witness_laws.proofs.Names.{Done, done, false, false≢true, Fault, frame_by, frame_of, Heard, if_done, if◌then◌else◌, is_answer, is_error}
+use Rattle.witness_laws.proofs.Names.{is_rival, IsPart, Known, known, MachineCsy, Mark, None, nothing, one_renewed, Option, part_at, PartCsy, Point}
+use Rattle.witness_laws.proofs.Names.{point_opposite, Progress, refl, Renewal, renewed, SentCommand, Some, Standing, standing, tool_of, true, unknown}
+use Rattle.witness_laws.proofs.Names.{unless_crossed, unless_part, unless_refused, with_mark, ℕ}
+use Rattle.witness.specs.declared.lines.Progress.TheVariants.{Sent}
 
 -- ---- what becomes of a change that was just sent
 
@@ -48,17 +31,17 @@ part_renewed r (Some (PartCsy, s)) = no_part_standing (renewed r s)
 
 below_command_renewed : (r : Renewal) (s : Option Standing) (c : Command) (k : Known)
     → all_renewed r (below_command s c k) ≡ below_command (then_renewed r s) c (all_renewed r k)
-below_command_renewed r s command.StartSession k = refl
-below_command_renewed r s command.EndSession k = refl
-below_command_renewed r s command.ClearAllErrors k = refl
-below_command_renewed r s command.IsHomed k = refl
-below_command_renewed r s command.Home k = refl
-below_command_renewed r s command.OnPtMeasReport k = refl
-below_command_renewed r s (command.GoTo p) k = refl
-below_command_renewed r s (command.PtMeas p d) k = refl
-below_command_renewed r s (command.ChangeTool tool) k =
+below_command_renewed r s Command.StartSession k = refl
+below_command_renewed r s Command.EndSession k = refl
+below_command_renewed r s Command.ClearAllErrors k = refl
+below_command_renewed r s Command.IsHomed k = refl
+below_command_renewed r s Command.Home k = refl
+below_command_renewed r s Command.OnPtMeasReport k = refl
+below_command_renewed r s (Command.GoTo p) k = refl
+below_command_renewed r s (Command.PtMeas p d) k = refl
+below_command_renewed r s (Command.ChangeTool tool) k =
     ap (λ x. record { tool = x; csy = one_renewed r k.csy; part = one_renewed r k.part; zero = one_renewed r k.zero }) (one_standing r tool s)
-below_command_renewed r s (command.SetCsyTransformation p) k =
+below_command_renewed r s (Command.SetCsyTransformation p) k =
     ap (λ x. record {
       tool = one_renewed r k.tool;
       csy = one_renewed r (unless_part k.csy);
@@ -71,15 +54,15 @@ below_command_renewed r s (command.SetCsyTransformation p) k =
       part = one_renewed r k.part;
       zero = standing (point_opposite p) (then_renewed r s);
     }) (part_renewed r k.csy)
-below_command_renewed r s (command.SetCoordSystem csy) k =
+below_command_renewed r s (Command.SetCoordSystem csy) k =
     ap (λ x. record { tool = one_renewed r k.tool; csy = x; part = one_renewed r k.zero; zero = one_renewed r k.zero }) (one_standing r csy s)
-below_command_renewed r s command.AbortE k = refl
+below_command_renewed r s Command.AbortE k = refl
 
 pub below_renewed : (r : Renewal) (s : Option Standing) (what : SentCommand) (k : Known)
     → all_renewed r (below s what k) ≡ below (then_renewed r s) what (all_renewed r k)
-below_renewed r s (sends.Known c) k = below_command_renewed r s c k
-below_renewed r s sends.Asking k = refl
-below_renewed r s (sends.Foreign line) k = refl
+below_renewed r s (SentCommand.Known c) k = below_command_renewed r s c k
+below_renewed r s SentCommand.Asking k = refl
+below_renewed r s (SentCommand.Foreign line) k = refl
 
 -- ---- one change
 
@@ -125,21 +108,21 @@ unless_less Live line p more less covers false false e hits = stands line p more
 mark_less : (Live : ℕ → Type 0) (line : ℕ) (p : Progress) (h : Heard) (more less : Option ℕ) → Covers Live more less
     → LessStanding Live (with_mark (record { line = line; rival = more; progress = p }) p h)
     (with_mark (record { line = line; rival = less; progress = p }) p h)
-mark_less Live line Sent heard.Received more less covers = stands line Begun more less covers
-mark_less Live line Sent (heard.Given d) more less covers = gone None
-mark_less Live line Sent heard.Unread more less covers = gone None
-mark_less Live line Sent heard.Complete more less covers = gone None
-mark_less Live line Sent heard.Failed more less covers = gone None
-mark_less Live line Begun heard.Received more less covers = gone None
-mark_less Live line Begun (heard.Given d) more less covers = gone None
-mark_less Live line Begun heard.Unread more less covers = gone None
-mark_less Live line Begun heard.Complete more less covers = stands line Done more less covers
-mark_less Live line Begun heard.Failed more less covers = gone None
-mark_less Live line Done heard.Received more less covers = gone None
-mark_less Live line Done (heard.Given d) more less covers = gone None
-mark_less Live line Done heard.Unread more less covers = gone None
-mark_less Live line Done heard.Complete more less covers = gone None
-mark_less Live line Done heard.Failed more less covers = gone None
+mark_less Live line Sent Heard.Received more less covers = stands line Begun more less covers
+mark_less Live line Sent (Heard.Given d) more less covers = gone None
+mark_less Live line Sent Heard.Unread more less covers = gone None
+mark_less Live line Sent Heard.Complete more less covers = gone None
+mark_less Live line Sent Heard.Failed more less covers = gone None
+mark_less Live line Begun Heard.Received more less covers = gone None
+mark_less Live line Begun (Heard.Given d) more less covers = gone None
+mark_less Live line Begun Heard.Unread more less covers = gone None
+mark_less Live line Begun Heard.Complete more less covers = stands line Done more less covers
+mark_less Live line Begun Heard.Failed more less covers = gone None
+mark_less Live line Done Heard.Received more less covers = gone None
+mark_less Live line Done (Heard.Given d) more less covers = gone None
+mark_less Live line Done Heard.Unread more less covers = gone None
+mark_less Live line Done Heard.Complete more less covers = gone None
+mark_less Live line Done Heard.Failed more less covers = gone None
 
 -- ---- a renewal
 
@@ -221,31 +204,31 @@ part_less Live _ _ (kept PartCsy line p more less covers) = lost None
 
 below_command_less : (Live : ℕ → Type 0) (s t : Option Standing) → LessStanding Live s t → (c : Command) (k m : Known) → LessKnown Live k m
     → LessKnown Live (below_command s c k) (below_command t c m)
-below_command_less Live s t l command.StartSession k m e = nothing_less Live nothing
-below_command_less Live s t l command.EndSession k m e = nothing_less Live nothing
-below_command_less Live s t l command.ClearAllErrors k m e = e
-below_command_less Live s t l command.IsHomed k m e = e
-below_command_less Live s t l command.Home k m e = record { tool = lost None; csy = e.csy; part = e.part; zero = e.zero }
-below_command_less Live s t l command.OnPtMeasReport k m e = e
-below_command_less Live s t l (command.GoTo p) k m e = e
-below_command_less Live s t l (command.PtMeas p d) k m e = e
-below_command_less Live s t l (command.ChangeTool tool) k m e =
+below_command_less Live s t l Command.StartSession k m e = nothing_less Live nothing
+below_command_less Live s t l Command.EndSession k m e = nothing_less Live nothing
+below_command_less Live s t l Command.ClearAllErrors k m e = e
+below_command_less Live s t l Command.IsHomed k m e = e
+below_command_less Live s t l Command.Home k m e = record { tool = lost None; csy = e.csy; part = e.part; zero = e.zero }
+below_command_less Live s t l Command.OnPtMeasReport k m e = e
+below_command_less Live s t l (Command.GoTo p) k m e = e
+below_command_less Live s t l (Command.PtMeas p d) k m e = e
+below_command_less Live s t l (Command.ChangeTool tool) k m e =
     record { tool = standing_less Live tool s t l; csy = e.csy; part = e.part; zero = e.zero }
-below_command_less Live s t l (command.SetCsyTransformation p) k m e = record {
+below_command_less Live s t l (Command.SetCsyTransformation p) k m e = record {
   tool = e.tool;
   csy = part_less Live k.csy m.csy e.csy;
   part = e.part;
   zero = standing_less Live (point_opposite p) s t l;
 }
-below_command_less Live s t l (command.SetCoordSystem csy) k m e =
+below_command_less Live s t l (Command.SetCoordSystem csy) k m e =
     record { tool = e.tool; csy = standing_less Live csy s t l; part = e.zero; zero = e.zero }
-below_command_less Live s t l command.AbortE k m e = e
+below_command_less Live s t l Command.AbortE k m e = e
 
 pub below_less : (Live : ℕ → Type 0) (s t : Option Standing) → LessStanding Live s t → (what : SentCommand) (k m : Known) → LessKnown Live k m
     → LessKnown Live (below s what k) (below t what m)
-below_less Live s t l (sends.Known c) k m e = below_command_less Live s t l c k m e
-below_less Live s t l sends.Asking k m e = e
-below_less Live s t l (sends.Foreign line) k m e = nothing_less Live nothing
+below_less Live s t l (SentCommand.Known c) k m e = below_command_less Live s t l c k m e
+below_less Live s t l SentCommand.Asking k m e = e
+below_less Live s t l (SentCommand.Foreign line) k m e = nothing_less Live nothing
 
 -- ---- the tool and the frame
 

@@ -1,34 +1,16 @@
 -- Of two dialogues with the same open lines, one knows no more than the other and claims no more: so it stays, whatever lines come.
-use Rattle.std.proofs.Common.{◌≡◌, ℕ, ◌+◌, ◌==◌, Bool, true, false, ◌&&◌, ◌||◌, if◌then◌else◌, cond, List, [], ◌∷◌, ◌++◌, map, take, remove, slice_get}
-use Rattle.std.proofs.Common.{filter, Option, Some, None, is_some, refl, ap, sym, ◌∙◌, subst, zero, suc}
-use Rattle.std.proofs.lemmas.Bool.{false≢true}
-use Rattle.std.proofs.lemmas.Iterator.Adapters.{position_from-zero}
-use Rattle.std.specs.List.{list_any, position_from}
-use Rattle.dme_line.specs.declared.tags.Tag.{Tag}
-use Rattle.protocol_model.specs.Readings.{command_of, response_of}
-use Rattle.protocol_model.specs.Replies.{tag_is}
-use Rattle.witness.specs.Asking.{sent, answered, Signal}
-use Rattle.witness.specs.Dialogues.{Dialogue, last_under, later, line_of, is_lost, with_event, sending_after, sending, unknowing, at_once, one_more, foreign_event}
-use Rattle.witness.specs.Dialogues.{client_sent, use_renewed, faulting, reported_by, waits, is_out_of_turn, after_mark, without_rival, if_own, use_heard}
-use Rattle.witness.specs.Dialogues.{answered_known, left_over, unless_crossed, hearing, at_use, is_report, unasked, heard_under, first_under, server_answered}
-use Rattle.witness.specs.Known.{nothing, is_rival, all_renewed, below, fresh}
-use Rattle.witness.specs.Marks.{heard_as, is_end, is_error, stage_with}
-use Rattle.witness.specs.declared.lines.Heard.{Heard}
-use Rattle.witness.specs.declared.lines.Known.{Known}
-use Rattle.witness.specs.declared.lines.Renewal.{Renewal}
-use Rattle.witness.specs.declared.lines.Renewal.TheVariants.{Fault, Mark}
-use Rattle.witness.specs.declared.lines.Reported.{Reported}
-use Rattle.witness.specs.declared.lines.Reported.TheVariants as reports
-use Rattle.witness.specs.declared.lines.Rule.TheVariants.{NotInTurn}
-use Rattle.witness.specs.declared.lines.SentCommand.{SentCommand}
-use Rattle.witness.specs.declared.lines.Side.TheVariants.{Client, Server}
-use Rattle.witness.specs.declared.lines.Stage.{Stage}
-use Rattle.witness.specs.declared.lines.Stage.TheVariants as stage
-use Rattle.witness.specs.declared.lines.Use.{Use}
-use Rattle.witness_laws.specs.Claims.{ClaimNoMore}
-use Rattle.witness_laws.specs.Orders.{Line, Up, Down, said}
+use Rattle.witness_laws.proofs.Names.{◌&&◌, ◌++◌, ◌+◌, ◌==◌, ◌||◌, ◌∙◌, ◌∷◌, ◌≡◌, [], after_mark, all_renewed, answered, answered_known, ap, at_once}
+use Rattle.witness_laws.proofs.Names.{at_use, below, Bool, ClaimNoMore, Client, client_sent, command_of, cond, Dialogue, Down, false, false≢true}
+use Rattle.witness_laws.proofs.Names.{Fault, faulting, filter, first_under, foreign_event, fresh, Heard, heard_as, heard_under, hearing, if_own}
+use Rattle.witness_laws.proofs.Names.{if◌then◌else◌, is_end, is_error, is_lost, is_out_of_turn, is_report, is_rival, is_some, Known, last_under}
+use Rattle.witness_laws.proofs.Names.{later, left_over, Line, line_of, List, list_any, map, Mark, None, nothing, NotInTurn, one_more, Option}
+use Rattle.witness_laws.proofs.Names.{position_from, position_from-zero, refl, remove, Renewal, Reported, reported_by, response_of, said, sending}
+use Rattle.witness_laws.proofs.Names.{sending_after, sent, SentCommand, Server, server_answered, Signal, slice_get, Some, Stage, stage_with, subst}
+use Rattle.witness_laws.proofs.Names.{suc, sym, Tag, tag_is, take, true, unasked, unknowing, unless_crossed, Up, Use, use_heard, use_renewed, waits}
+use Rattle.witness_laws.proofs.Names.{with_event, without_rival, zero, ℕ}
 use Rattle.witness_laws.proofs.orders.Claiming.{IsFair, same_claims, more_chosen, reported_less}
-use Rattle.witness_laws.proofs.orders.Knowing.{Covers, Hits, LessKnown, nothing_less, same_known, all_less, answered_less, if_nothing, crossed_less, same_standing, below_less}
+use Rattle.witness_laws.proofs.orders.Knowing.{Covers, Hits, LessKnown, nothing_less, same_known, all_less, answered_less, if_nothing, crossed_less, same_standing}
+use Rattle.witness_laws.proofs.orders.Knowing.{below_less}
 
 -- ---- open lines
 
@@ -208,12 +190,12 @@ turn_less Live us vs ls at h _ _ (alike tag command line here failed more lesser
 if_early : (Live : ℕ → Type 0) (f : Reported → Bool) → IsFair f → (at : ℕ) (h : Heard) (ended : Bool) (u v : Use) → LessUse Live u v
     → (d e : Dialogue) → Less Live f d e → (x y : Bool) → x ≡ y
     → Less Live f
-    (if x then hearing (faulting d (reports.Broken NotInTurn u.tag)) at (use_renewed (all_renewed Fault) u) h ended else hearing d at u h ended)
-    (if y then hearing (faulting e (reports.Broken NotInTurn v.tag)) at (use_renewed (all_renewed Fault) v) h ended else hearing e at v h ended)
+    (if x then hearing (faulting d (Reported.Broken NotInTurn u.tag)) at (use_renewed (all_renewed Fault) u) h ended else hearing d at u h ended)
+    (if y then hearing (faulting e (Reported.Broken NotInTurn v.tag)) at (use_renewed (all_renewed Fault) v) h ended else hearing e at v h ended)
 if_early Live f fair at h ended _ _ (alike tag command line here failed more lesser k m live covers l) d e p true true same =
     hearing_less Live f fair at h ended _ _
     (use_less Live Fault tt _ _ (alike tag command line here failed more lesser k m live covers l))
-    (faulting d (reports.Broken NotInTurn tag)) (faulting e (reports.Broken NotInTurn tag)) (fault_less Live f fair (reports.Broken NotInTurn tag) d e p)
+    (faulting d (Reported.Broken NotInTurn tag)) (faulting e (Reported.Broken NotInTurn tag)) (fault_less Live f fair (Reported.Broken NotInTurn tag) d e p)
 if_early Live f fair at h ended u v l d e p true false same = absurd (cc (same))
 if_early Live f fair at h ended u v l d e p false true same = absurd (cc (same))
 if_early Live f fair at h ended u v l d e p false false same = hearing_less Live f fair at h ended u v l d e p
@@ -233,9 +215,9 @@ at_less Live f fair at signal _ _ (there u v l) _ _ (less ordered lines us vs ev
         (turn_less Live us vs ls at (heard_as command signal) _ _ (alike tag command line here failed more lesser a b live covers ul))
 
 if_report : (Live : ℕ → Type 0) (f : Reported → Bool) → IsFair f → (line : List ℕ) (d e : Dialogue) → Less Live f d e → (b : Bool)
-    → Less Live f (if b then d else faulting d (reports.Unasked line)) (if b then e else faulting e (reports.Unasked line))
+    → Less Live f (if b then d else faulting d (Reported.Unasked line)) (if b then e else faulting e (Reported.Unasked line))
 if_report Live f fair line d e p true = p
-if_report Live f fair line d e p false = fault_less Live f fair (reports.Unasked line) d e p
+if_report Live f fair line d e p false = fault_less Live f fair (Reported.Unasked line) d e p
 
 unasked_less : (Live : ℕ → Type 0) (f : Reported → Bool) → IsFair f → (line : List ℕ) (tag : Tag) (signal : Signal) (d e : Dialogue) → Less Live f d e
     → Less Live f (unasked d line tag signal) (unasked e line tag signal)
@@ -251,7 +233,7 @@ under_less Live f fair line tag signal _ _ (less ordered lines us vs events cros
 
 pub answered_less_line : (Live : ℕ → Type 0) (f : Reported → Bool) → IsFair f → (line : List ℕ) (what : Option (Tag × Signal)) (d e : Dialogue)
     → Less Live f d e → Less Live f (server_answered d line what) (server_answered e line what)
-answered_less_line Live f fair line None d e p = fault_less Live f fair (reports.Other Server line) d e p
+answered_less_line Live f fair line None d e p = fault_less Live f fair (Reported.Other Server line) d e p
 answered_less_line Live f fair line (Some (tag, signal)) _ _ (less ordered lines us vs events crossed k m xs ys ls kl p) =
     subst (λ (at : Option ℕ). Less Live f
     (heard_under (record { ordered = ordered; lines = lines; uses = us; events = events; crossed = crossed; known = k; reported = xs }) line tag signal (first_under tag us))
@@ -267,7 +249,7 @@ sending_less Live f tag what _ _ b live (less ordered lines us vs events crossed
     less ordered (lines + 1) (us ++ _ ∷ []) (vs ++ _ ∷ []) (with_event tag events) (crossed || (ordered && is_some (line_of b)))
     (below (fresh lines (line_of b) (is_lost b)) what k) (below (fresh lines (line_of b) (is_lost b)) what m) xs ys
     (append_less Live us vs _ _ ls (one _ _ [] []
-    (alike tag what lines stage.Sent false (line_of b) (line_of b) (if is_lost b then nothing else k) (if is_lost b then nothing else m)
+    (alike tag what lines Stage.Sent false (line_of b) (line_of b) (if is_lost b then nothing else k) (if is_lost b then nothing else m)
     live (λ line here hit. hit) (if_nothing Live (is_lost b) k m l)) none))
     (below_less Live (fresh lines (line_of b) (is_lost b)) (fresh lines (line_of b) (is_lost b))
     (same_standing Live (fresh lines (line_of b) (is_lost b))) what k m l) p
@@ -284,9 +266,9 @@ sent_less Live f tag what _ _ live (less ordered lines us vs events crossed k m 
 at_once_less : (Live : ℕ → Type 0) (f : Reported → Bool) → IsFair f → (line : List ℕ) (d e : Dialogue) → Less Live f d e
     → Less Live f (at_once d line) (at_once e line)
 at_once_less Live f fair line _ _ (less ordered lines us vs events crossed k m xs ys ls l p) =
-    less ordered lines (map unknowing us) (map unknowing vs) events crossed nothing nothing (xs ++ reports.Other Client line ∷ [])
-    (ys ++ reports.Other Client line ∷ []) (map_less Live unknowing unknowing (both_unknowing Live) us vs ls) (nothing_less Live nothing)
-    (more_chosen f fair xs ys _ _ p (same_claims (reports.Other Client line ∷ [])))
+    less ordered lines (map unknowing us) (map unknowing vs) events crossed nothing nothing (xs ++ Reported.Other Client line ∷ [])
+    (ys ++ Reported.Other Client line ∷ []) (map_less Live unknowing unknowing (both_unknowing Live) us vs ls) (nothing_less Live nothing)
+    (more_chosen f fair xs ys _ _ p (same_claims (Reported.Other Client line ∷ [])))
 
 pub one_more_less : (Live : ℕ → Type 0) (f : Reported → Bool) (d e : Dialogue) → Less Live f d e → Less Live f (one_more d) (one_more e)
 one_more_less Live f _ _ (less ordered lines us vs events crossed k m xs ys ls l p) = less ordered (lines + 1) us vs events crossed k m xs ys ls l p

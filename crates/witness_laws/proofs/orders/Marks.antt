@@ -1,16 +1,7 @@
 -- What a line of the server does, by the commands before and after the one that it is for.
-use Rattle.std.proofs.Common.{◌≡◌, ℕ, ◌+◌, Bool, true, false, cond, ◌||◌, List, [], ◌∷◌, ◌++◌, length, remove, slice_get, position, Some, None}
-use Rattle.std.proofs.Common.{refl, ap, ◌∙◌, arith}
-use Rattle.std.proofs.lemmas.Iterator.Adapters.{position_from-zero}
-use Rattle.std.specs.List.{list_any, position_from}
-use Rattle.dme_line.specs.declared.tags.Tag.{Tag}
-use Rattle.protocol_model.specs.Replies.{tag_is}
-use Rattle.witness.specs.Asking.{Signal}
-use Rattle.witness.specs.Dialogues.{Dialogue, at_use, heard_at, heard_under, first_under, unasked}
-use Rattle.witness.specs.Marks.{heard_as, is_end}
-use Rattle.witness.specs.declared.lines.Use.{Use}
-use Rattle.witness_laws.specs.Orders.{is_open}
-use Rattle.std.proofs.lemmas.Bool.{or_parts, or_from}
+use Rattle.witness_laws.proofs.Names.{◌++◌, ◌+◌, ◌||◌, ◌∙◌, ◌∷◌, ◌≡◌, [], ap, arith, at_use, Bool, cond, Dialogue, false, first_under, heard_as}
+use Rattle.witness_laws.proofs.Names.{heard_at, heard_under, is_end, is_open, length, List, list_any, None, or_from, or_parts, position}
+use Rattle.witness_laws.proofs.Names.{position_from, position_from-zero, refl, remove, Signal, slice_get, Some, Tag, tag_is, true, unasked, Use, ℕ}
 
 -- ---- the first of a list that passes
 

@@ -1,33 +1,13 @@
 -- More lines report more, and lines of the client report nothing until they are answered.
-use Rattle.std.proofs.Common.{◌≡◌, ℕ, zero, suc, Bool, true, false, ◌&&◌, ◌||◌, if◌then◌else◌, List, [], ◌∷◌, ◌++◌, map, length, take, remove}
-use Rattle.std.proofs.Common.{Option, Some, None, is_some, Result, Ok, Err, refl, ap, sym, ◌∙◌, subst, append_assoc, append-nil}
-use Rattle.std.proofs.lemmas.Bool.{false≢true, or_parts, or_from}
-use Rattle.std.proofs.lemmas.List.{map-append}
-use Rattle.std.proofs.lemmas.List.Folds.{list_any-append}
-use Rattle.std.specs.List.{list_any}
-use Rattle.dme_line.specs.declared.responses.Response.{Response}
-use Rattle.dme_line.specs.declared.responses.NotResponse.{NotResponse}
-use Rattle.dme_line.specs.declared.tags.Tag.{Tag}
-use Rattle.protocol_model.specs.Readings.{command_of, response_of}
-use Rattle.protocol_model.specs.Replies.{tag_is}
-use Rattle.witness.specs.Asking.{sent, answered, Signal, signal_of}
-use Rattle.witness.specs.Dialogues.{Dialogue, silence, last_under, line_of, sending, at_once, foreign_event, client_sent, use_renewed, faulting, reported_by, waits}
-use Rattle.witness.specs.Dialogues.{is_out_of_turn, may_not_come, use_heard, left_over, unless_crossed, hearing, heard_at, is_report, unasked, server_answered}
-use Rattle.witness.specs.Known.{all_renewed}
-use Rattle.witness.specs.Marks.{heard_as, is_end, has_turn}
-use Rattle.witness.specs.Rules.{is_at_once, reported_at_once}
-use Rattle.witness.specs.Watching.{client_lines, server_lines, ledger}
-use Rattle.witness.specs.declared.lines.Heard.{Heard}
-use Rattle.witness.specs.declared.lines.Renewal.TheVariants.{Fault}
-use Rattle.witness.specs.declared.lines.Reported.{Reported}
-use Rattle.witness.specs.declared.lines.Reported.TheVariants as reports
-use Rattle.witness.specs.declared.lines.Rule.TheVariants.{NotInTurn}
-use Rattle.witness.specs.declared.lines.SentCommand.{SentCommand}
-use Rattle.witness.specs.declared.lines.Side.TheVariants.{Server}
-use Rattle.witness.specs.declared.lines.Use.{Use}
-use Rattle.witness_laws.specs.Claims.{reported_first}
-use Rattle.witness_laws.specs.Orders.{Line, Up, Down, said, said_all, ups, downs, is_open, is_under, some_sends, at_once_line, some_at_once}
-use Rattle.witness_laws.specs.Orders.{IsBehind, IsCausal, IsClear, IsPrefix}
+use Rattle.witness_laws.proofs.Names.{◌&&◌, ◌++◌, ◌||◌, ◌∙◌, ◌∷◌, ◌≡◌, [], all_renewed, answered, ap, append-nil, append_assoc, at_once, at_once_line}
+use Rattle.witness_laws.proofs.Names.{Bool, client_lines, client_sent, command_of, Dialogue, Down, downs, Err, false, false≢true, Fault, faulting}
+use Rattle.witness_laws.proofs.Names.{foreign_event, has_turn, Heard, heard_as, heard_at, hearing, if◌then◌else◌, is_at_once, is_end, is_open}
+use Rattle.witness_laws.proofs.Names.{is_out_of_turn, is_report, is_some, is_under, IsBehind, IsCausal, IsClear, IsPrefix, last_under, ledger}
+use Rattle.witness_laws.proofs.Names.{left_over, length, Line, line_of, List, list_any, list_any-append, map, map-append, may_not_come, None}
+use Rattle.witness_laws.proofs.Names.{NotInTurn, NotResponse, Ok, Option, or_from, or_parts, refl, remove, Reported, reported_at_once, reported_by}
+use Rattle.witness_laws.proofs.Names.{reported_first, Response, response_of, Result, said, said_all, sending, sent, SentCommand, Server}
+use Rattle.witness_laws.proofs.Names.{server_answered, server_lines, Signal, signal_of, silence, Some, some_at_once, some_sends, subst, suc, sym, Tag}
+use Rattle.witness_laws.proofs.Names.{tag_is, take, true, unasked, unless_crossed, Up, ups, Use, use_heard, use_renewed, waits, zero, ℕ}
 use Rattle.witness_laws.proofs.orders.Counts.{answered_prefix, prefix_more, same_prefix, heard_tag}
 use Rattle.witness_laws.proofs.orders.Marks.{Found, find_first, marks_first, marks_none}
 use Rattle.witness_laws.proofs.orders.Sends.{open_fault, report_same}
@@ -189,11 +169,11 @@ hearing_longer later d e at u h ended here l = record {
 
 if_early : (later : List (List ℕ)) (d e : Dialogue) (at : ℕ) (u : Use) (h : Heard) (ended : Bool) → InList d.uses at → IsLonger later d e → (b : Bool)
     → IsLonger later
-    (if b then hearing (faulting d (reports.Broken NotInTurn u.tag)) at (use_renewed (all_renewed Fault) u) h ended else hearing d at u h ended)
-    (if b then hearing (faulting e (reports.Broken NotInTurn u.tag)) at (use_renewed (all_renewed Fault) u) h ended else hearing e at u h ended)
+    (if b then hearing (faulting d (Reported.Broken NotInTurn u.tag)) at (use_renewed (all_renewed Fault) u) h ended else hearing d at u h ended)
+    (if b then hearing (faulting e (Reported.Broken NotInTurn u.tag)) at (use_renewed (all_renewed Fault) u) h ended else hearing e at u h ended)
 if_early later d e at u h ended here l true =
-    hearing_longer later (faulting d (reports.Broken NotInTurn u.tag)) (faulting e (reports.Broken NotInTurn u.tag)) at (use_renewed (all_renewed Fault) u) h
-    ended (in_map (use_renewed (all_renewed Fault)) d.uses at here) (fault_longer later d e (reports.Broken NotInTurn u.tag) l)
+    hearing_longer later (faulting d (Reported.Broken NotInTurn u.tag)) (faulting e (Reported.Broken NotInTurn u.tag)) at (use_renewed (all_renewed Fault) u) h
+    ended (in_map (use_renewed (all_renewed Fault)) d.uses at here) (fault_longer later d e (Reported.Broken NotInTurn u.tag) l)
 if_early later d e at u h ended here l false = hearing_longer later d e at u h ended here l
 
 heard_longer : (later : List (List ℕ)) (d e : Dialogue) (at : ℕ) (u : Use) (h : Heard) (ended : Bool) → InList d.uses at → IsLonger later d e
@@ -201,14 +181,14 @@ heard_longer : (later : List (List ℕ)) (d e : Dialogue) (at : ℕ) (u : Use) (
 heard_longer later d e at u h ended here l =
     subst (λ (x : List Use). IsLonger later (heard_at d at u h ended)
     (if has_turn u.command && (list_any waits x && may_not_come u h)
-    then hearing (faulting e (reports.Broken NotInTurn u.tag)) at (use_renewed (all_renewed Fault) u) h ended else hearing e at u h ended))
+    then hearing (faulting e (Reported.Broken NotInTurn u.tag)) at (use_renewed (all_renewed Fault) u) h ended else hearing e at u h ended))
     (sym (ap (take at) l.uses ∙ ahead_longer d.uses l.more at here))
     (if_early later d e at u h ended here l (is_out_of_turn d.uses at u h))
 
 if_report : (later : List (List ℕ)) (d e : Dialogue) (line : List ℕ) → IsLonger later d e → (b : Bool)
-    → IsLonger later (if b then d else faulting d (reports.Unasked line)) (if b then e else faulting e (reports.Unasked line))
+    → IsLonger later (if b then d else faulting d (Reported.Unasked line)) (if b then e else faulting e (Reported.Unasked line))
 if_report later d e line l true = l
-if_report later d e line l false = fault_longer later d e (reports.Unasked line) l
+if_report later d e line l false = fault_longer later d e (Reported.Unasked line) l
 
 first_longer : (later : List (List ℕ)) (d e : Dialogue) (line : List ℕ) (tag : Tag) (signal : Signal) → IsLonger later d e
     → Found (λ (u : Use). tag_is u.tag tag) d.uses
@@ -230,12 +210,12 @@ none_longer later d e line tag signal l none other =
     (sym (marks_none e line tag signal
     (ap (is_open tag) l.uses ∙ list_any-append (λ (u : Use). tag_is u.tag tag) d.uses l.more
     ∙ or_from (is_open tag d.uses) (is_open tag l.more) none (l.under tag other))))
-    (subst (λ (b : Bool). IsLonger later (unasked d line tag signal) (if b then e else faulting e (reports.Unasked line)))
+    (subst (λ (b : Bool). IsLonger later (unasked d line tag signal) (if b then e else faulting e (Reported.Unasked line)))
     (sym (l.events tag signal other)) (if_report later d e line l (is_report tag signal d.events))))
 
 answered_longer : (later : List (List ℕ)) (d e : Dialogue) (line : List ℕ) (r : Result Response NotResponse) → IsLonger later d e
     → IsBehind d.uses later r → IsLonger later (server_answered d line (answered r)) (server_answered e line (answered r))
-answered_longer later d e line (Err why) l behind = fault_longer later d e (reports.Other Server line) l
+answered_longer later d e line (Err why) l behind = fault_longer later d e (Reported.Other Server line) l
 answered_longer later d e line (Ok r) l behind = go (is_open r.tag d.uses) refl where
   go : (b : Bool) → is_open r.tag d.uses ≡ b → IsLonger later (server_answered d line (answered (Ok r))) (server_answered e line (answered (Ok r)))
   go true is = first_longer later d e line r.tag (signal_of r.mark) l (find_first (λ (u : Use). tag_is u.tag r.tag) d.uses is)

@@ -1,30 +1,15 @@
 -- A command is sent, and then a line of the server is read: it is as if it were sent after that line.
-use Rattle.std.proofs.Common.{◌≡◌, ℕ, suc, ◌<◌, ◌==◌, Bool, true, false, ◌&&◌, ◌||◌, if◌then◌else◌, List, [], ◌∷◌, ◌++◌, map, length, remove}
-use Rattle.std.proofs.Common.{Option, Some, None, is_some, refl, ap, sym, ◌∙◌, subst, append_assoc, ne_eqb, arith}
-use Rattle.std.proofs.lemmas.Bool.{false≢true, or_parts, or_from}
-use Rattle.std.proofs.lemmas.List.{map-append}
-use Rattle.std.proofs.lemmas.List.Folds.{list_any-append}
-use Rattle.std.specs.List.{list_any}
-use Rattle.dme_line.specs.declared.tags.Tag.{Tag}
-use Rattle.dme_line.specs.declared.tags.Tag.TheVariants.{Std, Event}
-use Rattle.protocol_model.specs.Replies.{tag_is}
-use Rattle.witness.specs.Asking.{Signal, Ack, Given, Done, Error}
-use Rattle.witness.specs.Dialogues.{Dialogue, last_under, line_of, with_event, sending_after, sending, use_renewed, faulting, is_out_of_turn, use_heard, hearing, heard_at}
-use Rattle.witness.specs.Dialogues.{is_report, unasked, server_answered}
-use Rattle.witness.specs.Known.{all_renewed}
-use Rattle.witness.specs.Marks.{heard_as, is_end, is_error}
-use Rattle.witness.specs.declared.lines.Heard.{Heard}
-use Rattle.witness.specs.declared.lines.Renewal.TheVariants.{Fault}
-use Rattle.witness.specs.declared.lines.Reported.TheVariants as reports
-use Rattle.witness.specs.declared.lines.Rule.TheVariants.{NotInTurn}
-use Rattle.witness.specs.declared.lines.SentCommand.{SentCommand}
-use Rattle.witness.specs.declared.lines.Side.TheVariants.{Server}
-use Rattle.witness.specs.declared.lines.Use.{Use}
-use Rattle.witness_laws.specs.Orders.{is_open, has_failed_under, AreCounted, IsCounted}
+use Rattle.witness_laws.proofs.Names.{◌&&◌, ◌++◌, ◌<◌, ◌==◌, ◌||◌, ◌∙◌, ◌∷◌, ◌≡◌, [], Ack, all_renewed, ap, append_assoc, AreCounted, arith, Bool}
+use Rattle.witness_laws.proofs.Names.{Dialogue, Error, Event, false, false≢true, Fault, faulting, Given, has_failed_under, Heard, heard_as, heard_at}
+use Rattle.witness_laws.proofs.Names.{hearing, if◌then◌else◌, is_end, is_error, is_open, is_out_of_turn, is_report, is_some, IsCounted, last_under}
+use Rattle.witness_laws.proofs.Names.{length, line_of, List, list_any, list_any-append, map, map-append, ne_eqb, None, NotInTurn, Option, or_from}
+use Rattle.witness_laws.proofs.Names.{or_parts, refl, remove, Reported, sending, sending_after, SentCommand, Server, server_answered, Signal, Some}
+use Rattle.witness_laws.proofs.Names.{Std, subst, suc, sym, Tag, tag_is, true, unasked, Use, use_heard, use_renewed, with_event, ℕ}
+use Rattle.witness.specs.Asking.{Done}
 use Rattle.witness_laws.proofs.orders.Counts.{lines_answered, heard_line, is_before, others_without, Without, map_without, fault_counted}
 use Rattle.witness_laws.proofs.orders.Marks.{Found, find_first, marks_first, marks_none}
-use Rattle.witness_laws.proofs.orders.Swaps.{heard_last, last_fault, new_use, InList, in_there, send_fault, send_heard_at, one_tag, IsLast, stays, ends}
-use Rattle.witness_laws.proofs.orders.Swaps.{removed_map, last_hearing}
+use Rattle.witness_laws.proofs.orders.Swaps.{heard_last, last_fault, new_use, InList, in_there, send_fault, send_heard_at, one_tag, IsLast, stays, ends, removed_map}
+use Rattle.witness_laws.proofs.orders.Swaps.{last_hearing}
 
 -- ---- which command was sent last under a tag, after a mark that may come out of turn
 
@@ -49,17 +34,17 @@ of_faulted tag u ended _ _ (ends under e) = ends under e
 last_early : (d : Dialogue) (tag : Tag) (before : List Use) (u : Use) (after : List Use) (h : Heard) (ended : Bool) → d.uses ≡ before ++ u ∷ after
     → is_open u.tag before ≡ false → (ended ≡ true → is_error h ≡ false) → (x : Bool)
     → IsLast tag u ended (heard_last u.line h (last_under tag d.uses None))
-    (last_under tag (if x then hearing (faulting d (reports.Broken NotInTurn u.tag)) (length before) (use_renewed (all_renewed Fault) u) h ended
+    (last_under tag (if x then hearing (faulting d (Reported.Broken NotInTurn u.tag)) (length before) (use_renewed (all_renewed Fault) u) h ended
     else hearing d (length before) u h ended).uses None)
 last_early d tag before u after h ended parts first none true =
     subst (λ (n : ℕ). IsLast tag u ended (heard_last u.line h (last_under tag d.uses None))
-    (last_under tag (hearing (faulting d (reports.Broken NotInTurn u.tag)) n (use_renewed (all_renewed Fault) u) h ended).uses None))
+    (last_under tag (hearing (faulting d (Reported.Broken NotInTurn u.tag)) n (use_renewed (all_renewed Fault) u) h ended).uses None))
     (length_fault before)
     (subst (λ (b : Option (ℕ × Bool)). IsLast tag u ended (heard_last u.line h b)
-    (last_under tag (hearing (faulting d (reports.Broken NotInTurn u.tag)) (length (map (use_renewed (all_renewed Fault)) before))
+    (last_under tag (hearing (faulting d (Reported.Broken NotInTurn u.tag)) (length (map (use_renewed (all_renewed Fault)) before))
     (use_renewed (all_renewed Fault) u) h ended).uses None)) (last_fault tag d.uses None)
     (of_faulted tag u ended _ _
-    (last_hearing (faulting d (reports.Broken NotInTurn u.tag)) tag (map (use_renewed (all_renewed Fault)) before) (use_renewed (all_renewed Fault) u)
+    (last_hearing (faulting d (Reported.Broken NotInTurn u.tag)) tag (map (use_renewed (all_renewed Fault)) before) (use_renewed (all_renewed Fault) u)
     (map (use_renewed (all_renewed Fault)) after) h ended (fault_parts d before u after parts) (open_fault u.tag before ∙ first) none)))
 last_early d tag before u after h ended parts first none false = last_hearing d tag before u after h ended parts first none
 
@@ -73,13 +58,13 @@ without_hearing d before u after h parts c =
 
 without_early : (d : Dialogue) (before : List Use) (u : Use) (after : List Use) (h : Heard) (ended : Bool) → d.uses ≡ before ++ u ∷ after → IsCounted d
     → ended ≡ true → (x : Bool)
-    → Without u.line (if x then hearing (faulting d (reports.Broken NotInTurn u.tag)) (length before) (use_renewed (all_renewed Fault) u) h ended
+    → Without u.line (if x then hearing (faulting d (Reported.Broken NotInTurn u.tag)) (length before) (use_renewed (all_renewed Fault) u) h ended
     else hearing d (length before) u h ended).uses
 without_early d before u after h true parts c e true =
-    subst (λ (n : ℕ). Without u.line (hearing (faulting d (reports.Broken NotInTurn u.tag)) n (use_renewed (all_renewed Fault) u) h true).uses)
+    subst (λ (n : ℕ). Without u.line (hearing (faulting d (Reported.Broken NotInTurn u.tag)) n (use_renewed (all_renewed Fault) u) h true).uses)
     (length_fault before)
-    (without_hearing (faulting d (reports.Broken NotInTurn u.tag)) (map (use_renewed (all_renewed Fault)) before) (use_renewed (all_renewed Fault) u)
-    (map (use_renewed (all_renewed Fault)) after) h (fault_parts d before u after parts) (fault_counted d (reports.Broken NotInTurn u.tag) c))
+    (without_hearing (faulting d (Reported.Broken NotInTurn u.tag)) (map (use_renewed (all_renewed Fault)) before) (use_renewed (all_renewed Fault) u)
+    (map (use_renewed (all_renewed Fault)) after) h (fault_parts d before u after parts) (fault_counted d (Reported.Broken NotInTurn u.tag) c))
 without_early d before u after h true parts c e false = without_hearing d before u after h parts c
 without_early d before u after h false parts c e x = absurd (false≢true e)
 
@@ -185,13 +170,13 @@ report_same tag (Event n) Done events other = refl
 report_same tag (Event n) Error events other = refl
 
 if_reported : (d : Dialogue) (tag : Tag) (what : SentCommand) (b : Option (ℕ × Bool)) (line : List ℕ) (x : Bool)
-    → (if x then sending_after d tag what b else faulting (sending_after d tag what b) (reports.Unasked line))
-    ≡ sending_after (if x then d else faulting d (reports.Unasked line)) tag what b
+    → (if x then sending_after d tag what b else faulting (sending_after d tag what b) (Reported.Unasked line))
+    ≡ sending_after (if x then d else faulting d (Reported.Unasked line)) tag what b
 if_reported d tag what b line true = refl
-if_reported d tag what b line false = send_fault d tag what b (reports.Unasked line)
+if_reported d tag what b line false = send_fault d tag what b (Reported.Unasked line)
 
 last_unasked : (d : Dialogue) (tag : Tag) (line : List ℕ) (x : Bool)
-    → last_under tag d.uses None ≡ last_under tag (if x then d else faulting d (reports.Unasked line)).uses None
+    → last_under tag d.uses None ≡ last_under tag (if x then d else faulting d (Reported.Unasked line)).uses None
 last_unasked d tag line true = refl
 last_unasked d tag line false = sym (last_fault tag d.uses None)
 
@@ -206,7 +191,7 @@ send_none d tag what line t signal none other =
       same = marks_none (sending d tag what) line t signal
           (list_any-append (λ (u : Use). tag_is u.tag t) d.uses (new ∷ [])
           ∙ or_from (is_open t d.uses) (is_open t (new ∷ [])) none (or_from (tag_is tag t) false other refl))
-          ∙ ap (λ (x : Bool). if x then sending d tag what else faulting (sending d tag what) (reports.Unasked line)) (report_same tag t signal d.events other)
+          ∙ ap (λ (x : Bool). if x then sending d tag what else faulting (sending d tag what) (Reported.Unasked line)) (report_same tag t signal d.events other)
           ∙ if_reported d tag what b line (is_report t signal d.events)
           ∙ ap (λ (e : Dialogue). sending_after e tag what b) (sym left);
       agrees = subst (Agrees d tag (Some (t, signal)) (server_answered d line (Some (t, signal))) b)
@@ -219,7 +204,7 @@ pub after_send : (d : Dialogue) (tag : Tag) (what : SentCommand) (line : List �
     → (d.ordered && is_some (line_of (last_under tag d.uses None))) ≡ false → NotEarly d.uses tag r → AfterSend d tag what line r
 after_send d tag what line None c free early = record {
   last = last_under tag d.uses None;
-  same = send_fault d tag what (last_under tag d.uses None) (reports.Other Server line);
+  same = send_fault d tag what (last_under tag d.uses None) (Reported.Other Server line);
   agrees = subst (Agrees d tag None (server_answered d line None) (last_under tag d.uses None)) (sym (last_fault tag d.uses None))
       (alike (last_under tag d.uses None));
 }

@@ -1,34 +1,18 @@
 -- A line of the server is read before the client's later lines, or after them: what is reported then, and after any further lines.
-use Rattle.std.proofs.Common.{◌≡◌, ℕ, ◌+◌, ◌≤◌, Bool, true, false, ◌&&◌, ◌||◌, if◌then◌else◌, cond, List, [], ◌∷◌, ◌++◌, map, filter, slice_get}
-use Rattle.std.proofs.Common.{Option, Some, None, is_some, Result, Ok, Err, refl, ap, sym, ◌∙◌, subst, eqb-true, arith, append-nil}
-use Rattle.std.proofs.lemmas.Bool.{false≢true, or_parts}
-use Rattle.std.proofs.lemmas.List.Elements.{filter-append}
-use Rattle.dme_line.specs.declared.responses.Response.{Response}
-use Rattle.dme_line.specs.declared.responses.NotResponse.{NotResponse}
-use Rattle.dme_line.specs.declared.tags.Tag.{Tag}
-use Rattle.protocol_model.specs.Readings.{command_of, response_of}
-use Rattle.protocol_model.specs.Replies.{tag_is}
-use Rattle.witness.specs.Asking.{sent, answered, Signal}
-use Rattle.witness.specs.Dialogues.{Dialogue, last_under, line_of, with_event, sending_after, sending, unknowing, at_once, one_more, foreign_event, client_sent}
-use Rattle.witness.specs.Dialogues.{faulting, is_out_of_turn, at_use, is_report, heard_under, first_under, server_answered}
-use Rattle.witness.specs.Known.{nothing, below, fresh, tool_of, frame_of}
-use Rattle.witness.specs.Marks.{heard_as}
-use Rattle.witness.specs.Rules.{is_at_once}
-use Rattle.witness.specs.declared.lines.Known.{Known}
-use Rattle.witness.specs.declared.lines.Progress.TheVariants as progress
-use Rattle.witness.specs.declared.lines.Reported.{Reported}
-use Rattle.witness.specs.declared.lines.Reported.TheVariants as reports
-use Rattle.witness.specs.declared.lines.SentCommand.{SentCommand}
-use Rattle.witness.specs.declared.lines.Side.TheVariants.{Client}
-use Rattle.witness.specs.declared.lines.Stage.TheVariants as stage
-use Rattle.witness.specs.declared.lines.Use.{Use}
-use Rattle.witness_laws.specs.Claims.{IsPart, ClaimNoMore}
-use Rattle.witness_laws.specs.Orders.{Line, Up, Down, said, said_all, is_open, is_under, at_once_line, IsBehind, IsSure, IsCounted}
+use Rattle.witness_laws.proofs.Names.{◌&&◌, ◌++◌, ◌+◌, ◌||◌, ◌∙◌, ◌∷◌, ◌≡◌, ◌≤◌, [], answered, ap, append-nil, arith, at_once, at_once_line, at_use}
+use Rattle.witness_laws.proofs.Names.{below, Bool, ClaimNoMore, Client, client_sent, command_of, cond, Dialogue, Down, eqb-true, Err, false}
+use Rattle.witness_laws.proofs.Names.{false≢true, faulting, filter, filter-append, first_under, foreign_event, frame_of, fresh, heard_as, heard_under}
+use Rattle.witness_laws.proofs.Names.{if◌then◌else◌, is_at_once, is_open, is_out_of_turn, is_report, is_some, is_under, IsBehind, IsCounted, IsPart}
+use Rattle.witness_laws.proofs.Names.{IsSure, Known, last_under, Line, line_of, List, map, None, nothing, NotResponse, Ok, one_more, Option, or_parts}
+use Rattle.witness_laws.proofs.Names.{Progress, refl, Reported, Response, response_of, Result, said, said_all, sending, sending_after, sent}
+use Rattle.witness_laws.proofs.Names.{SentCommand, server_answered, Signal, slice_get, Some, Stage, subst, sym, Tag, tag_is, tool_of, true, unknowing}
+use Rattle.witness_laws.proofs.Names.{Up, Use, with_event, ℕ}
 use Rattle.witness_laws.proofs.orders.Claiming.{IsFair, same_claims, claims_trans, part_trans, chosen}
 use Rattle.witness_laws.proofs.orders.Counts.{lines_answered, ordered_answered, at_once_counted, answered_nothing, AllBlank, KnowsNothing, all_unknowing, Without}
+use Rattle.witness_laws.proofs.orders.Counts.{Each}
 use Rattle.witness_laws.proofs.orders.Knowing.{Covers, LessKnown, nothing_less, same_known, tool_less, frame_less, LessStanding, gone, stands, below_less}
-use Rattle.witness_laws.proofs.orders.Lesser.{LessUse, LessUses, none, one, same_use, append_less, Less, less, answered_less_line, sent_less, one_more_less, said_less}
-use Rattle.witness_laws.proofs.orders.Lesser.{alike as alike_use}
+use Rattle.witness_laws.proofs.orders.Lesser.{LessUse, LessUses, none, one, same_use, append_less, Less, less, answered_less_line, sent_less, one_more_less}
+use Rattle.witness_laws.proofs.orders.Lesser.{said_less, alike as alike_use}
 use Rattle.witness_laws.proofs.orders.Sends.{AfterSend, after_send, Agrees, alike, ended, IsEndOf, NotEarly}
 
 -- ---- what one claims, and after any further lines
@@ -90,8 +74,7 @@ abbrev pub Any : ℕ → Type 0
 Any n = Unit {0}
 
 abbrev AllLive : (ℕ → Type 0) → List Use → Type 0
-AllLive Live [] = Unit {0}
-AllLive Live (u ∷ uses) = Live u.line × AllLive Live uses
+AllLive Live uses = Each (λ (u : Use). Live u.line) uses
 
 same_uses : (Live : ℕ → Type 0) (uses : List Use) → AllLive Live uses → LessUses Live uses uses
 same_uses Live [] all = none
@@ -120,7 +103,7 @@ without_live p (u ∷ uses) w = (w.0, without_live p uses w.1)
 
 lost_standing : (n p : ℕ) (failed : Bool) → LessStanding Any (fresh n (Some p) failed) (fresh n None false)
 lost_standing n p true = gone _
-lost_standing n p false = stands n progress.Sent (Some p) None (λ line live hit. absurd (false≢true hit))
+lost_standing n p false = stands n Progress.Sent (Some p) None (λ line live hit. absurd (false≢true hit))
 
 lost_known : (failed : Bool) (k : Known) → LessKnown Any (if failed then nothing else k) k
 lost_known true k = nothing_less Any k
@@ -140,7 +123,7 @@ lost_less f fair d tag what p failed =
     (below (fresh d.lines (Some p) failed) what d.known) (below (fresh d.lines None false) what d.known) d.reported d.reported
     (append_less Any d.uses d.uses _ _ (same_uses Any d.uses (any_live d.uses))
     (one _ _ [] []
-    (alike_use tag what d.lines stage.Sent false (Some p) None (if failed then nothing else d.known) d.known tt (λ line live hit. absurd (false≢true hit))
+    (alike_use tag what d.lines Stage.Sent false (Some p) None (if failed then nothing else d.known) d.known tt (λ line live hit. absurd (false≢true hit))
     (lost_known failed d.known)) none))
     (below_less Any (fresh d.lines (Some p) failed) (fresh d.lines None false) (lost_standing d.lines p failed) what d.known d.known (same_known Any d.known))
     (chosen f fair d.reported d.reported (same_claims d.reported))
@@ -155,8 +138,8 @@ kept_less f fair d tag what p next others =
     (below (fresh d.lines None false) what d.known) (below (fresh d.lines (Some p) false) what d.known) d.reported d.reported
     (append_less (other_than p) d.uses d.uses _ _ (same_uses (other_than p) d.uses (without_live p d.uses others))
     (one _ _ [] []
-    (alike_use tag what d.lines stage.Sent false None (Some p) d.known d.known next (kept_covers p) (same_known (other_than p) d.known)) none))
-    (below_less (other_than p) (fresh d.lines None false) (fresh d.lines (Some p) false) (stands d.lines progress.Sent None (Some p) (kept_covers p)) what
+    (alike_use tag what d.lines Stage.Sent false None (Some p) d.known d.known next (kept_covers p) (same_known (other_than p) d.known)) none))
+    (below_less (other_than p) (fresh d.lines None false) (fresh d.lines (Some p) false) (stands d.lines Progress.Sent None (Some p) (kept_covers p)) what
     d.known d.known (same_known (other_than p) d.known))
     (chosen f fair d.reported d.reported (same_claims d.reported))
 
@@ -215,11 +198,11 @@ unknowing_uses (u ∷ uses) =
     (alike_use u.tag u.command u.line u.stage u.has_failed u.rival u.rival nothing u.known tt (λ line live hit. hit) (nothing_less Any u.known))
     (unknowing_uses uses)
 
-at_once_less : (f : Reported → Bool) → IsFair f → (d : Dialogue) (line : List ℕ) → f (reports.Other Client line) ≡ false → Less Any f (at_once d line) d
+at_once_less : (f : Reported → Bool) → IsFair f → (d : Dialogue) (line : List ℕ) → f (Reported.Other Client line) ≡ false → Less Any f (at_once d line) d
 at_once_less f fair d line drops =
-    less d.ordered d.lines (map unknowing d.uses) d.uses d.events d.crossed nothing d.known (d.reported ++ reports.Other Client line ∷ []) d.reported
+    less d.ordered d.lines (map unknowing d.uses) d.uses d.events d.crossed nothing d.known (d.reported ++ Reported.Other Client line ∷ []) d.reported
     (unknowing_uses d.uses) (nothing_less Any d.known)
-    (subst (λ (l : List Reported). ClaimNoMore l (filter f d.reported)) (sym (dropped f d.reported (reports.Other Client line) drops))
+    (subst (λ (l : List Reported). ClaimNoMore l (filter f d.reported)) (sym (dropped f d.reported (Reported.Other Client line) drops))
     (chosen f fair d.reported d.reported (same_claims d.reported)))
 
 blank_use : (u v : Use) → LessUse Any u v → u.known ≡ nothing → LessUse Any u (unknowing v)
@@ -230,14 +213,14 @@ blank_uses : (us vs : List Use) → LessUses Any us vs → AllBlank us → LessU
 blank_uses _ _ none b = none
 blank_uses _ _ (one u v us vs l ls) b = one u (unknowing v) us (map unknowing vs) (blank_use u v l b.0) (blank_uses us vs ls b.1)
 
-blank_less : (f : Reported → Bool) (d e : Dialogue) (line : List ℕ) → f (reports.Other Client line) ≡ false → Less Any f d e → KnowsNothing d
+blank_less : (f : Reported → Bool) (d e : Dialogue) (line : List ℕ) → f (Reported.Other Client line) ≡ false → Less Any f d e → KnowsNothing d
     → Less Any f d (at_once e line)
 blank_less f _ _ line drops (less ordered lines us vs events crossed k m xs ys ls l p) b =
-    less ordered lines us (map unknowing vs) events crossed k nothing xs (ys ++ reports.Other Client line ∷ []) (blank_uses us vs ls b.uses)
+    less ordered lines us (map unknowing vs) events crossed k nothing xs (ys ++ Reported.Other Client line ∷ []) (blank_uses us vs ls b.uses)
     (subst (λ (x : Known). LessKnown Any x nothing) (sym b.known) (nothing_less Any nothing))
-    (subst (ClaimNoMore (filter f xs)) (sym (dropped f ys (reports.Other Client line) drops)) p)
+    (subst (ClaimNoMore (filter f xs)) (sym (dropped f ys (Reported.Other Client line) drops)) p)
 
-at_once_before : (f : Reported → Bool) → IsFair f → (d : Dialogue) (line down : List ℕ) (r : Option (Tag × Signal)) → f (reports.Other Client line) ≡ false
+at_once_before : (f : Reported → Bool) → IsFair f → (d : Dialogue) (line down : List ℕ) (r : Option (Tag × Signal)) → f (Reported.Other Client line) ≡ false
     → Less Any f (server_answered (at_once d line) down r) (at_once (server_answered d down r) line)
 at_once_before f fair d line down r drops =
     blank_less f (server_answered (at_once d line) down r) (server_answered d down r) line drops
@@ -256,7 +239,7 @@ use_one_more d at signal (Some u) = if_one_more _ _ (is_out_of_turn d.uses at u 
 
 under_one_more : (d : Dialogue) (line : List ℕ) (tag : Tag) (signal : Signal) (at : Option ℕ)
     → heard_under (one_more d) line tag signal at ≡ one_more (heard_under d line tag signal at)
-under_one_more d line tag signal None = if_one_more d (faulting d (reports.Unasked line)) (is_report tag signal d.events)
+under_one_more d line tag signal None = if_one_more d (faulting d (Reported.Unasked line)) (is_report tag signal d.events)
 under_one_more d line tag signal (Some at) = use_one_more d at signal (slice_get d.uses at)
 
 pub one_more_answered : (d : Dialogue) (line : List ℕ) (r : Option (Tag × Signal))
@@ -275,10 +258,10 @@ early_unknowing uses tag None early = tt
 early_unknowing uses tag (Some (t, signal)) early = λ e. early (sym (open_unknowing t uses) ∙ e)
 
 abbrev MayDrop : (Reported → Bool) → List ℕ → Option (Tag × SentCommand) → Type 0
-MayDrop f line w = is_at_once w ≡ true → f (reports.Other Client line) ≡ false
+MayDrop f line w = is_at_once w ≡ true → f (Reported.Other Client line) ≡ false
 
 if_below : (f : Reported → Bool) → IsFair f → (d : Dialogue) (up down : List ℕ) (tag : Tag) (what : SentCommand) (r : Option (Tag × Signal))
-    → IsCounted d → d.ordered ≡ false → NotEarly d.uses tag r → (b : Bool) → (b ≡ true → f (reports.Other Client up) ≡ false)
+    → IsCounted d → d.ordered ≡ false → NotEarly d.uses tag r → (b : Bool) → (b ≡ true → f (Reported.Other Client up) ≡ false)
     → Below f (server_answered (if b then sending (at_once d up) tag what else sending d tag what) down r)
     (if b then sending (at_once (server_answered d down r) up) tag what else sending (server_answered d down r) tag what)
 if_below f fair d up down tag what r c free early true drops =
@@ -294,7 +277,7 @@ early_of uses up tag what (Ok r) is behind =
 early_of uses up tag what (Err why) is behind = tt
 
 pub swap_below : (f : Reported → Bool) → IsFair f → (d : Dialogue) (up down : List ℕ) → IsCounted d → d.ordered ≡ false
-    → IsBehind d.uses (up ∷ []) (response_of down) → (at_once_line up ≡ true → f (reports.Other Client up) ≡ false)
+    → IsBehind d.uses (up ∷ []) (response_of down) → (at_once_line up ≡ true → f (Reported.Other Client up) ≡ false)
     → Below f (said (said d (Up up)) (Down down)) (said (said d (Down down)) (Up up))
 swap_below f fair d up down c free behind drops = go (sent up (command_of up)) refl drops where
   go : (w : Option (Tag × SentCommand)) → sent up (command_of up) ≡ w → MayDrop f up w

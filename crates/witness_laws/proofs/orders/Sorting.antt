@@ -1,24 +1,10 @@
 -- All lines of the client are read first: what is reported then.
-use Rattle.std.proofs.Common.{◌≡◌, ℕ, Bool, true, false, ◌||◌, if◌then◌else◌, List, [], ◌∷◌, ◌++◌, map, filter, Option, Some, None, Result, Ok, Err}
-use Rattle.std.proofs.Common.{refl, ap, sym, ◌∙◌, subst}
-use Rattle.std.proofs.lemmas.Bool.{false≢true, or_parts, or_from}
-use Rattle.std.proofs.lemmas.List.Folds.{list_any-append}
-use Rattle.dme_line.specs.declared.responses.Response.{Response}
-use Rattle.dme_line.specs.declared.responses.NotResponse.{NotResponse}
-use Rattle.dme_line.specs.declared.tags.Tag.{Tag}
-use Rattle.protocol_model.specs.Readings.{command_of, response_of}
-use Rattle.protocol_model.specs.Replies.{tag_is}
-use Rattle.witness.specs.Asking.{sent, answered}
-use Rattle.witness.specs.Dialogues.{Dialogue, silence, last_under, sending, unknowing, at_once, foreign_event, client_sent}
-use Rattle.witness.specs.Known.{tool_of, frame_of}
-use Rattle.witness.specs.Watching.{client_lines, server_lines, ledger}
-use Rattle.witness.specs.declared.lines.Reported.{Reported}
-use Rattle.witness.specs.declared.lines.Reported.TheVariants as reports
-use Rattle.witness.specs.declared.lines.SentCommand.{SentCommand}
-use Rattle.witness.specs.declared.lines.Side.TheVariants.{Client}
-use Rattle.witness.specs.declared.lines.Use.{Use}
-use Rattle.witness_laws.specs.Orders.{Line, Up, Down, said, said_all, ups, downs, is_open, sends, some_sends, at_once_line, some_at_once}
-use Rattle.witness_laws.specs.Orders.{IsBehind, IsCausal, has_failed_under, IsSure, IsClear, IsCounted}
+use Rattle.witness_laws.proofs.Names.{◌++◌, ◌∙◌, ◌∷◌, ◌≡◌, [], answered, ap, at_once, at_once_line, Bool, Client, client_lines, client_sent}
+use Rattle.witness_laws.proofs.Names.{command_of, Dialogue, Down, downs, Err, false, false≢true, filter, foreign_event, frame_of, has_failed_under}
+use Rattle.witness_laws.proofs.Names.{if◌then◌else◌, is_open, IsBehind, IsCausal, IsClear, IsCounted, IsSure, last_under, ledger, Line, List}
+use Rattle.witness_laws.proofs.Names.{list_any-append, map, None, NotResponse, Ok, Option, or_from, or_parts, refl, Reported, Response, response_of}
+use Rattle.witness_laws.proofs.Names.{Result, said, said_all, sending, sends, sent, SentCommand, server_lines, silence, Some, some_at_once}
+use Rattle.witness_laws.proofs.Names.{some_sends, subst, sym, Tag, tag_is, tool_of, true, unknowing, Up, ups, Use, ℕ}
 use Rattle.witness_laws.proofs.orders.Claiming.{IsFair, all_fair, all_of, claims_both, part_both}
 use Rattle.witness_laws.proofs.orders.Counts.{said_counted, ordered_answered, silence_counted}
 use Rattle.witness_laws.proofs.orders.Swaps.{new_use}
@@ -143,7 +129,7 @@ sure_later d up later (Err why) sure = tt
 -- the reports that are compared leave out lines that may be carried out at once
 abbrev pub Drops : (Reported → Bool) → List (List ℕ) → Type 0
 Drops f [] = Unit {0}
-Drops f (line ∷ lines) = (at_once_line line ≡ true → f (reports.Other Client line) ≡ false) × Drops f lines
+Drops f (line ∷ lines) = (at_once_line line ≡ true → f (Reported.Other Client line) ≡ false) × Drops f lines
 
 sink_below : (f : Reported → Bool) → IsFair f → (d : Dialogue) (up : List (List ℕ)) (down : List ℕ) → IsCounted d → d.ordered ≡ false
     → IsBehind d.uses up (response_of down) → Drops f up

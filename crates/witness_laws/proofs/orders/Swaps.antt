@@ -1,28 +1,11 @@
 -- A command may be read before the replies to others.
-use Rattle.std.proofs.Common.{◌≡◌, ℕ, zero, suc, ◌+◌, ◌==◌, Bool, true, false, ◌&&◌, ◌||◌, if◌then◌else◌, List, [], ◌∷◌, ◌++◌, map, length, take, remove}
-use Rattle.std.proofs.Common.{Option, Some, None, is_some, refl, ap, sym, ◌∙◌, subst, eqb-true}
-use Rattle.std.proofs.lemmas.Bool.{false≢true, or_parts, or_from}
-use Rattle.std.proofs.lemmas.List.{map-append}
-use Rattle.std.specs.List.{list_any}
-use Rattle.dme_line.specs.declared.tags.Tag.{Tag}
-use Rattle.dme_line.specs.declared.tags.Tag.TheVariants.{Std, Event}
-use Rattle.protocol_model.specs.Replies.{tag_is}
-use Rattle.witness.specs.Dialogues.{Dialogue, last_under, later, line_of, is_lost, with_event, sending_after, unknowing, use_renewed, faulting, reported_by}
-use Rattle.witness.specs.Dialogues.{waits, is_out_of_turn, may_not_come, use_heard, left_over, unless_crossed, hearing, heard_at}
-use Rattle.witness.specs.Known.{nothing, all_renewed, below, fresh}
-use Rattle.witness.specs.Marks.{is_error, has_turn}
-use Rattle.witness.specs.declared.lines.Heard.{Heard}
-use Rattle.witness.specs.declared.lines.Known.{Known}
+use Rattle.witness_laws.proofs.Names.{◌&&◌, ◌++◌, ◌+◌, ◌==◌, ◌||◌, ◌∙◌, ◌∷◌, ◌≡◌, [], all_renewed, ap, below, Bool, Dialogue, eqb-true, Event, false}
+use Rattle.witness_laws.proofs.Names.{false≢true, Fault, faulting, fresh, has_turn, Heard, heard_at, hearing, if◌then◌else◌, is_error, is_lost}
+use Rattle.witness_laws.proofs.Names.{is_open, is_out_of_turn, is_some, Known, last_under, later, left_over, length, line_of, List, list_any, map}
+use Rattle.witness_laws.proofs.Names.{map-append, Mark, may_not_come, None, nothing, NotInTurn, Option, or_from, or_parts, refl, remove, Reported}
+use Rattle.witness_laws.proofs.Names.{reported_by, sending_after, SentCommand, Some, Stage, Standing, Std, subst, suc, sym, Tag, tag_is, take, true}
+use Rattle.witness_laws.proofs.Names.{unknowing, unless_crossed, Use, use_heard, use_renewed, waits, with_event, zero, ℕ}
 use Rattle.witness.specs.declared.lines.Progress.TheVariants as Progress
-use Rattle.witness.specs.declared.lines.Renewal.TheVariants.{Fault, Mark}
-use Rattle.witness.specs.declared.lines.Reported.{Reported}
-use Rattle.witness.specs.declared.lines.Reported.TheVariants as reports
-use Rattle.witness.specs.declared.lines.Rule.TheVariants.{NotInTurn}
-use Rattle.witness.specs.declared.lines.SentCommand.{SentCommand}
-use Rattle.witness.specs.declared.lines.Stage.TheVariants as stage
-use Rattle.witness.specs.declared.lines.Standing.{Standing}
-use Rattle.witness.specs.declared.lines.Use.{Use}
-use Rattle.witness_laws.specs.Orders.{is_open}
 use Rattle.witness_laws.proofs.orders.Counts.{heard_line, heard_tag, heard_failed}
 use Rattle.witness_laws.proofs.orders.Knowing.{then_renewed, below_renewed}
 
@@ -92,7 +75,7 @@ new_use n tag what b k = record {
   tag = tag;
   command = what;
   line = n;
-  stage = stage.Sent;
+  stage = Stage.Sent;
   has_failed = false;
   rival = line_of b;
   known = if is_lost b then nothing else k;
@@ -209,14 +192,14 @@ send_hearing d tag what b at u h ended here other free =
 
 if_early : (d : Dialogue) (tag : Tag) (what : SentCommand) (b : Option (ℕ × Bool)) (at : ℕ) (u : Use) (h : Heard) (ended : Bool)
     → InList d.uses at → (d.lines == u.line) ≡ false → (d.ordered && is_some (line_of b)) ≡ false → (x : Bool)
-    → (if x then hearing (faulting (sending_after d tag what b) (reports.Broken NotInTurn u.tag)) at (use_renewed (all_renewed Fault) u) h ended
+    → (if x then hearing (faulting (sending_after d tag what b) (Reported.Broken NotInTurn u.tag)) at (use_renewed (all_renewed Fault) u) h ended
     else hearing (sending_after d tag what b) at u h ended)
     ≡ sending_after
-    (if x then hearing (faulting d (reports.Broken NotInTurn u.tag)) at (use_renewed (all_renewed Fault) u) h ended else hearing d at u h ended)
+    (if x then hearing (faulting d (Reported.Broken NotInTurn u.tag)) at (use_renewed (all_renewed Fault) u) h ended else hearing d at u h ended)
     tag what (heard_last u.line h b)
 if_early d tag what b at u h ended here other free true =
-    ap (λ (e : Dialogue). hearing e at (use_renewed (all_renewed Fault) u) h ended) (send_fault d tag what b (reports.Broken NotInTurn u.tag))
-    ∙ send_hearing (faulting d (reports.Broken NotInTurn u.tag)) tag what b at (use_renewed (all_renewed Fault) u) h ended
+    ap (λ (e : Dialogue). hearing e at (use_renewed (all_renewed Fault) u) h ended) (send_fault d tag what b (Reported.Broken NotInTurn u.tag))
+    ∙ send_hearing (faulting d (Reported.Broken NotInTurn u.tag)) tag what b at (use_renewed (all_renewed Fault) u) h ended
     (in_map (use_renewed (all_renewed Fault)) d.uses at here) other free
 if_early d tag what b at u h ended here other free false = send_hearing d tag what b at u h ended here other free
 
@@ -225,7 +208,7 @@ pub send_heard_at : (d : Dialogue) (tag : Tag) (what : SentCommand) (b : Option 
     → heard_at (sending_after d tag what b) at u h ended ≡ sending_after (heard_at d at u h ended) tag what (heard_last u.line h b)
 send_heard_at d tag what b at u h ended here other free =
     ap (λ (l : List Use). if has_turn u.command && (list_any waits l && may_not_come u h)
-    then hearing (faulting (sending_after d tag what b) (reports.Broken NotInTurn u.tag)) at (use_renewed (all_renewed Fault) u) h ended
+    then hearing (faulting (sending_after d tag what b) (Reported.Broken NotInTurn u.tag)) at (use_renewed (all_renewed Fault) u) h ended
     else hearing (sending_after d tag what b) at u h ended)
     (ahead_append d.uses at (new_use d.lines tag what b d.known) here)
     ∙ if_early d tag what b at u h ended here other free (is_out_of_turn d.uses at u h)

@@ -1,36 +1,17 @@
 -- What makes an order causal and clear depends only on the open lines, and on which of them have failed.
-use Rattle.std.proofs.Common.{◌≡◌, ℕ, zero, suc, ◌+◌, ◌==◌, Bool, true, false, ◌&&◌, ◌||◌, if◌then◌else◌, cond, List, [], ◌∷◌, ◌++◌, map, remove, slice_get}
-use Rattle.std.proofs.Common.{Option, Some, None, Result, Ok, Err, refl, ap, sym, ◌∙◌, subst}
-use Rattle.std.proofs.lemmas.Iterator.Adapters.{position_from-zero}
-use Rattle.std.specs.List.{position_from}
-use Rattle.dme_line.specs.declared.responses.Response.{Response}
-use Rattle.dme_line.specs.declared.responses.NotResponse.{NotResponse}
-use Rattle.dme_line.specs.declared.tags.Tag.{Tag}
-use Rattle.protocol_model.specs.Readings.{command_of, response_of}
-use Rattle.protocol_model.specs.Replies.{tag_is}
-use Rattle.witness.specs.Asking.{sent, answered, Signal}
-use Rattle.witness.specs.Dialogues.{Dialogue, silence, last_under, line_of, is_lost, sending_after, sending, unknowing, at_once, one_more, foreign_event, client_sent, use_renewed, faulting}
-use Rattle.witness.specs.Dialogues.{is_out_of_turn, after_mark, if_own, use_heard, answered_known, left_over, hearing, at_use, is_report}
-use Rattle.witness.specs.Dialogues.{heard_under, first_under, server_answered}
-use Rattle.witness.specs.Known.{nothing, is_rival, all_renewed}
-use Rattle.witness.specs.Marks.{heard_as, is_end, is_error, stage_with}
-use Rattle.witness.specs.declared.lines.Heard.{Heard}
-use Rattle.witness.specs.declared.lines.Known.{Known}
-use Rattle.witness.specs.declared.lines.Renewal.TheVariants.{Fault, Mark}
-use Rattle.witness.specs.declared.lines.Reported.{Reported}
-use Rattle.witness.specs.declared.lines.Reported.TheVariants as reports
-use Rattle.witness.specs.declared.lines.Rule.TheVariants.{NotInTurn}
-use Rattle.witness.specs.declared.lines.SentCommand.{SentCommand}
-use Rattle.witness.specs.declared.lines.Side.TheVariants.{Server}
-use Rattle.witness.specs.declared.lines.Stage.{Stage}
-use Rattle.witness.specs.declared.lines.Stage.TheVariants as stage
-use Rattle.witness.specs.declared.lines.Use.{Use}
-use Rattle.witness_laws.specs.Orders.{Line, Up, Down, said, ups, at_once_line, some_at_once, is_open, has_failed_under, IsBehind, IsCausal, IsSure, IsClear, IsCounted}
+use Rattle.witness_laws.proofs.Names.{◌&&◌, ◌++◌, ◌+◌, ◌==◌, ◌||◌, ◌∙◌, ◌∷◌, ◌≡◌, [], after_mark, all_renewed, answered, answered_known, ap, at_once}
+use Rattle.witness_laws.proofs.Names.{at_once_line, at_use, Bool, client_sent, command_of, cond, Dialogue, Down, Err, false, Fault, faulting}
+use Rattle.witness_laws.proofs.Names.{first_under, foreign_event, has_failed_under, Heard, heard_as, heard_under, hearing, if_own, if◌then◌else◌}
+use Rattle.witness_laws.proofs.Names.{is_end, is_error, is_lost, is_open, is_out_of_turn, is_report, is_rival, IsBehind, IsCausal, IsClear, IsCounted}
+use Rattle.witness_laws.proofs.Names.{IsSure, Known, last_under, left_over, Line, line_of, List, map, Mark, None, nothing, NotInTurn, NotResponse, Ok}
+use Rattle.witness_laws.proofs.Names.{one_more, Option, or_parts, position_from, position_from-zero, refl, remove, Reported, Response, response_of}
+use Rattle.witness_laws.proofs.Names.{Result, said, sending, sending_after, sent, SentCommand, Server, server_answered, Signal, silence, slice_get}
+use Rattle.witness_laws.proofs.Names.{Some, some_at_once, Stage, stage_with, subst, suc, sym, Tag, tag_is, true, unknowing, Up, ups, Use, use_heard}
+use Rattle.witness_laws.proofs.Names.{use_renewed, zero, ℕ}
 use Rattle.witness_laws.proofs.orders.Counts.{said_counted}
 use Rattle.witness_laws.proofs.orders.Sends.{AfterSend, after_send, NotEarly}
 use Rattle.witness_laws.proofs.orders.Sinking.{early_of, one_more_answered}
 use Rattle.witness_laws.proofs.orders.Sorting.{behind_first, behind_later, sure_later}
-use Rattle.std.proofs.lemmas.Bool.{or_parts}
 
 -- ---- open lines that are the same but for their stage and for what is known
 
@@ -174,19 +155,19 @@ hearing_alike at h ended _ _ (alike tag command line s t failed r q k m) d e l =
 
 if_early : (at : ℕ) (h : Heard) (ended : Bool) (u v : Use) → AlikeUse u v → (d e : Dialogue) → IsAlike d e → (x y : Bool)
     → IsAlike
-    (if x then hearing (faulting d (reports.Broken NotInTurn u.tag)) at (use_renewed (all_renewed Fault) u) h ended else hearing d at u h ended)
-    (if y then hearing (faulting e (reports.Broken NotInTurn v.tag)) at (use_renewed (all_renewed Fault) v) h ended else hearing e at v h ended)
+    (if x then hearing (faulting d (Reported.Broken NotInTurn u.tag)) at (use_renewed (all_renewed Fault) u) h ended else hearing d at u h ended)
+    (if y then hearing (faulting e (Reported.Broken NotInTurn v.tag)) at (use_renewed (all_renewed Fault) v) h ended else hearing e at v h ended)
 if_early at h ended u v l d e p true true =
     hearing_alike at h ended (use_renewed (all_renewed Fault) u) (use_renewed (all_renewed Fault) v)
-    (renewed_alike (all_renewed Fault) (all_renewed Fault) u v l) (faulting d (reports.Broken NotInTurn u.tag)) (faulting e (reports.Broken NotInTurn v.tag))
-    (fault_alike d e (reports.Broken NotInTurn u.tag) (reports.Broken NotInTurn v.tag) p)
+    (renewed_alike (all_renewed Fault) (all_renewed Fault) u v l) (faulting d (Reported.Broken NotInTurn u.tag)) (faulting e (Reported.Broken NotInTurn v.tag))
+    (fault_alike d e (Reported.Broken NotInTurn u.tag) (Reported.Broken NotInTurn v.tag) p)
 if_early at h ended u v l d e p true false =
     hearing_alike at h ended (use_renewed (all_renewed Fault) u) v (renewed_alike (all_renewed Fault) (λ k. k) u v l)
-    (faulting d (reports.Broken NotInTurn u.tag)) e (fault_left d e (reports.Broken NotInTurn u.tag) p)
+    (faulting d (Reported.Broken NotInTurn u.tag)) e (fault_left d e (Reported.Broken NotInTurn u.tag) p)
 if_early at h ended u v l d e p false true =
     hearing_alike at h ended u (use_renewed (all_renewed Fault) v) (renewed_alike (λ k. k) (all_renewed Fault) u v l) d
-    (faulting e (reports.Broken NotInTurn v.tag))
-    (alike_sym (faulting e (reports.Broken NotInTurn v.tag)) d (fault_left e d (reports.Broken NotInTurn v.tag) (alike_sym d e p)))
+    (faulting e (Reported.Broken NotInTurn v.tag))
+    (alike_sym (faulting e (Reported.Broken NotInTurn v.tag)) d (fault_left e d (Reported.Broken NotInTurn v.tag) (alike_sym d e p)))
 if_early at h ended u v l d e p false false = hearing_alike at h ended u v l d e p
 
 heard_at_alike : (at : ℕ) (signal : Signal) (u v : Use) → AlikeUse u v → (d e : Dialogue) → IsAlike d e
@@ -202,12 +183,12 @@ use_alike at signal _ _ nowhere d e p = p
 use_alike at signal _ _ (there u v l) d e p = heard_at_alike at signal u v l d e p
 
 if_report : (line : List ℕ) (d e : Dialogue) → IsAlike d e → (x y : Bool)
-    → IsAlike (if x then d else faulting d (reports.Unasked line)) (if y then e else faulting e (reports.Unasked line))
+    → IsAlike (if x then d else faulting d (Reported.Unasked line)) (if y then e else faulting e (Reported.Unasked line))
 if_report line d e p true true = p
 if_report line d e p true false =
-    alike_sym (faulting e (reports.Unasked line)) d (fault_left e d (reports.Unasked line) (alike_sym d e p))
-if_report line d e p false true = fault_left d e (reports.Unasked line) p
-if_report line d e p false false = fault_alike d e (reports.Unasked line) (reports.Unasked line) p
+    alike_sym (faulting e (Reported.Unasked line)) d (fault_left e d (Reported.Unasked line) (alike_sym d e p))
+if_report line d e p false true = fault_left d e (Reported.Unasked line) p
+if_report line d e p false false = fault_alike d e (Reported.Unasked line) (Reported.Unasked line) p
 
 under_alike : (line : List ℕ) (tag : Tag) (signal : Signal) (d e : Dialogue) → IsAlike d e → (at : Option ℕ)
     → IsAlike (heard_under d line tag signal at) (heard_under e line tag signal at)
@@ -216,7 +197,7 @@ under_alike line tag signal d e p (Some at) =
     use_alike at signal (slice_get d.uses at) (slice_get e.uses at) (get_alike d.uses e.uses p.uses_are at) d e p
 
 answered_alike : (line : List ℕ) (r : Option (Tag × Signal)) (d e : Dialogue) → IsAlike d e → IsAlike (server_answered d line r) (server_answered e line r)
-answered_alike line None d e p = fault_alike d e (reports.Other Server line) (reports.Other Server line) p
+answered_alike line None d e p = fault_alike d e (Reported.Other Server line) (Reported.Other Server line) p
 answered_alike line (Some (tag, signal)) d e p =
     subst (λ (at : Option ℕ). IsAlike (heard_under d line tag signal (first_under tag d.uses)) (heard_under e line tag signal at))
     (first_alike tag d.uses e.uses p.uses_are) (under_alike line tag signal d e p (first_under tag d.uses))
@@ -228,9 +209,9 @@ sending_alike tag what d e b c p = record {
   uses_are = append_alike d.uses e.uses _ _ p.uses_are
       (one _ _ [] []
       (subst (λ (n : ℕ). AlikeUse
-      (record { tag = tag; command = what; line = d.lines; stage = stage.Sent; has_failed = false; rival = line_of b; known = if is_lost b then nothing else d.known })
-      (record { tag = tag; command = what; line = n; stage = stage.Sent; has_failed = false; rival = line_of c; known = if is_lost c then nothing else e.known }))
-      p.lines_are (alike tag what d.lines stage.Sent stage.Sent false (line_of b) (line_of c) _ _)) none);
+      (record { tag = tag; command = what; line = d.lines; stage = Stage.Sent; has_failed = false; rival = line_of b; known = if is_lost b then nothing else d.known })
+      (record { tag = tag; command = what; line = n; stage = Stage.Sent; has_failed = false; rival = line_of c; known = if is_lost c then nothing else e.known }))
+      p.lines_are (alike tag what d.lines Stage.Sent Stage.Sent false (line_of b) (line_of c) _ _)) none);
 }
 
 at_once_alike : (line : List ℕ) (d e : Dialogue) → IsAlike d e → IsAlike (at_once d line) (at_once e line)

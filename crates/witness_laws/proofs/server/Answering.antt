@@ -1,20 +1,8 @@
 -- Each line of a server is for a command that is open at the witness.
-use Rattle.std.proofs.Common.{◌≡◌, ℕ, Bool, true, false, ◌||◌, List, [], ◌∷◌, ◌++◌, Result, Ok, Err, refl, sym, ap, ◌∙◌, subst}
-use Rattle.dme_line.specs.declared.responses.Response.{Response}
-use Rattle.dme_line.specs.declared.responses.NotResponse.{NotResponse}
-use Rattle.dme_line.specs.declared.tags.Tag.{Tag}
-use Rattle.protocol_model.specs.Lines.{reply_text, reply_texts}
-use Rattle.protocol_model.specs.Readings.{response_of}
-use Rattle.protocol_model.specs.Replies.{Reply, tag_is}
-use Rattle.protocol_model.proofs.table.Basics.{tag_is-refl}
-use Rattle.protocol_model.proofs.written_lines.Writable.{IsWritableReply, response_for, reply_read}
-use Rattle.witness.specs.Asking.{server_line}
-use Rattle.witness.specs.Dialogues.{Dialogue, after}
-use Rattle.witness.specs.Watching.{server_lines}
-use Rattle.witness.specs.declared.lines.Use.{Use}
-use Rattle.witness_laws.specs.Orders.{is_open}
+use Rattle.witness_laws.proofs.Names.{◌++◌, ◌∙◌, ◌∷◌, ◌≡◌, [], after, ap, Dialogue, Err, is_open, IsWritableReply, List, NotResponse, Ok, or_left}
+use Rattle.witness_laws.proofs.Names.{or_right, Reply, reply_read, reply_text, reply_texts, Response, response_for, response_of, Result, server_line}
+use Rattle.witness_laws.proofs.Names.{server_lines, subst, sym, Tag, tag_is, tag_is-refl, true, Use, ℕ}
 use Rattle.witness_laws.proofs.server.Places.{Shape, AreShaped}
-use Rattle.std.proofs.lemmas.Bool.{or_left, or_right}
 
 -- a line is a response under a tag under which a command is open
 abbrev pub IsHeard : List Use → Result Response NotResponse → Type 0

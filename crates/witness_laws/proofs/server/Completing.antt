@@ -1,23 +1,7 @@
 -- What may be known once a command is done, or has failed, is so.
-use Rattle.std.proofs.Common.{◌≡◌, ℕ, ◌==◌, false, Option, Some, None, refl, sym, ap, subst, eq-eqb}
-use Rattle.fixed_um.specs.Points.{point_opposite}
-use Rattle.fixed_um.specs.declared.lengths.Point.{Point}
-use Rattle.fixed_um.specs.declared.frames.Frame.{Frame}
-use Rattle.fixed_um.specs.declared.frames.Frame.TheVariants.{Machine, Part}
-use Rattle.dme_line.specs.declared.commands.Command.{Command}
-use Rattle.dme_line.specs.declared.commands.Command.TheVariants as command
-use Rattle.dme_line.specs.declared.commands.Csy.{Csy}
-use Rattle.dme_line.specs.declared.commands.Csy.TheVariants.{MachineCsy, PartCsy}
-use Rattle.protocol_model.proofs.table.Basics.{if_true}
-use Rattle.witness.specs.Known.{with_mark, unless_refused, renewed, standing, one_renewed, all_renewed, unless_part, below}
-use Rattle.witness.specs.declared.lines.Heard.TheVariants as heard
-use Rattle.witness.specs.declared.lines.Known.{Known}
-use Rattle.witness.specs.declared.lines.Progress.TheVariants as progress
-use Rattle.witness.specs.declared.lines.Renewal.{Renewal}
-use Rattle.witness.specs.declared.lines.Renewal.TheVariants.{Mark}
-use Rattle.witness.specs.declared.lines.SentCommand.TheVariants as sends
-use Rattle.witness.specs.declared.lines.Stage.TheVariants as stage
-use Rattle.witness.specs.declared.lines.Standing.{Standing}
+use Rattle.witness_laws.proofs.Names.{◌==◌, ◌≡◌, all_renewed, ap, below, Command, Csy, eq-eqb, false, Frame, Heard, if_true, Known, Machine}
+use Rattle.witness_laws.proofs.Names.{MachineCsy, Mark, None, one_renewed, Option, Part, PartCsy, Point, point_opposite, Progress, refl, Renewal}
+use Rattle.witness_laws.proofs.Names.{renewed, SentCommand, Some, Stage, Standing, standing, subst, sym, unless_part, unless_refused, with_mark, ℕ}
 use Rattle.witness_laws.proofs.server.Knowing.{pending}
 use Rattle.witness_laws.proofs.server.Selected.{Selected, is_change, IsSo, IsSoOne, IsSoTool, IsSoPart, IsSoFrame, nothing_so, still_so}
 
@@ -32,9 +16,9 @@ framed_by MachineCsy stored = Machine
 framed_by PartCsy stored = Part stored
 
 abbrev pub completed : Command → Selected → Selected
-completed (command.ChangeTool name) s = record { changing = false; tool = Some name; frame = s.frame; stored = s.stored }
-completed (command.SetCsyTransformation p) s = record { changing = false; tool = s.tool; frame = s.frame; stored = point_opposite p }
-completed (command.SetCoordSystem csy) s = record { changing = false; tool = s.tool; frame = framed_by csy s.stored; stored = s.stored }
+completed (Command.ChangeTool name) s = record { changing = false; tool = Some name; frame = s.frame; stored = s.stored }
+completed (Command.SetCsyTransformation p) s = record { changing = false; tool = s.tool; frame = s.frame; stored = point_opposite p }
+completed (Command.SetCoordSystem csy) s = record { changing = false; tool = s.tool; frame = framed_by csy s.stored; stored = s.stored }
 completed _ s = idle s
 
 -- what is so is so at a server on which no change of tool runs
@@ -53,48 +37,48 @@ without_part s k h = record { tool = h.tool; zero = h.zero; frame = unless_so k.
 
 -- ---- a command fails
 
-pub loses : (n : ℕ) → renewed (Mark n heard.Failed) (pending n stage.Received) ≡ None
+pub loses : (n : ℕ) → renewed (Mark n Heard.Failed) (pending n Stage.Received) ≡ None
 loses n =
-    if_true (n == n) (with_mark (pending n stage.Received) progress.Begun heard.Failed) (unless_refused (pending n stage.Received) n heard.Failed)
+    if_true (n == n) (with_mark (pending n Stage.Received) Progress.Begun Heard.Failed) (unless_refused (pending n Stage.Received) n Heard.Failed)
     (eq-eqb n n refl)
 
 pub stopped_so : (s : Selected) (c : Command) (n : ℕ) (k : Known) → s.changing ≡ is_change c → IsSo s k
-    → IsSo (idle s) (all_renewed (Mark n heard.Failed) (below (Some (pending n stage.Received)) (sends.Known c) k))
-stopped_so s command.StartSession n k e h = nothing_so (idle s)
-stopped_so s command.EndSession n k e h = nothing_so (idle s)
-stopped_so s command.Home n k e h =
-    let still : IsSo s (all_renewed (Mark n heard.Failed) k) = still_so (Mark n heard.Failed) s k h in
+    → IsSo (idle s) (all_renewed (Mark n Heard.Failed) (below (Some (pending n Stage.Received)) (SentCommand.Known c) k))
+stopped_so s Command.StartSession n k e h = nothing_so (idle s)
+stopped_so s Command.EndSession n k e h = nothing_so (idle s)
+stopped_so s Command.Home n k e h =
+    let still : IsSo s (all_renewed (Mark n Heard.Failed) k) = still_so (Mark n Heard.Failed) s k h in
     record { tool = tt; zero = still.zero; frame = still.frame }
-stopped_so s (command.ChangeTool tool) n k e h =
-    let still : IsSo s (all_renewed (Mark n heard.Failed) k) = still_so (Mark n heard.Failed) s k h in
+stopped_so s (Command.ChangeTool tool) n k e h =
+    let still : IsSo s (all_renewed (Mark n Heard.Failed) k) = still_so (Mark n Heard.Failed) s k h in
     record { tool = subst (λ o. IsSoTool false s.tool (standing tool o)) (sym (loses n)) tt; zero = still.zero; frame = still.frame }
-stopped_so s (command.SetCsyTransformation p) n k e h =
-    let still : IsSo (idle s) (all_renewed (Mark n heard.Failed) (record { tool = k.tool; csy = unless_part k.csy; part = k.part; zero = k.zero })) =
-    idle_so s _ e (still_so (Mark n heard.Failed) s _ (without_part s k h)) in
+stopped_so s (Command.SetCsyTransformation p) n k e h =
+    let still : IsSo (idle s) (all_renewed (Mark n Heard.Failed) (record { tool = k.tool; csy = unless_part k.csy; part = k.part; zero = k.zero })) =
+    idle_so s _ e (still_so (Mark n Heard.Failed) s _ (without_part s k h)) in
     record { tool = still.tool; zero = subst (λ o. IsSoOne (standing (point_opposite p) o) s.stored) (sym (loses n)) tt; frame = still.frame }
-stopped_so s (command.SetCoordSystem csy) n k e h =
-    let still : IsSo (idle s) (all_renewed (Mark n heard.Failed) k) = idle_so s _ e (still_so (Mark n heard.Failed) s k h) in
+stopped_so s (Command.SetCoordSystem csy) n k e h =
+    let still : IsSo (idle s) (all_renewed (Mark n Heard.Failed) k) = idle_so s _ e (still_so (Mark n Heard.Failed) s k h) in
     record {
       tool = still.tool;
       zero = still.zero;
-      frame = subst (λ o. IsSoFrame (standing csy o) (one_renewed (Mark n heard.Failed) k.zero) s.frame) (sym (loses n)) tt;
+      frame = subst (λ o. IsSoFrame (standing csy o) (one_renewed (Mark n Heard.Failed) k.zero) s.frame) (sym (loses n)) tt;
     }
-stopped_so s command.ClearAllErrors n k e h = idle_so s _ e (still_so (Mark n heard.Failed) s k h)
-stopped_so s command.IsHomed n k e h = idle_so s _ e (still_so (Mark n heard.Failed) s k h)
-stopped_so s command.OnPtMeasReport n k e h = idle_so s _ e (still_so (Mark n heard.Failed) s k h)
-stopped_so s (command.GoTo p) n k e h = idle_so s _ e (still_so (Mark n heard.Failed) s k h)
-stopped_so s (command.PtMeas p d) n k e h = idle_so s _ e (still_so (Mark n heard.Failed) s k h)
-stopped_so s command.AbortE n k e h = idle_so s _ e (still_so (Mark n heard.Failed) s k h)
+stopped_so s Command.ClearAllErrors n k e h = idle_so s _ e (still_so (Mark n Heard.Failed) s k h)
+stopped_so s Command.IsHomed n k e h = idle_so s _ e (still_so (Mark n Heard.Failed) s k h)
+stopped_so s Command.OnPtMeasReport n k e h = idle_so s _ e (still_so (Mark n Heard.Failed) s k h)
+stopped_so s (Command.GoTo p) n k e h = idle_so s _ e (still_so (Mark n Heard.Failed) s k h)
+stopped_so s (Command.PtMeas p d) n k e h = idle_so s _ e (still_so (Mark n Heard.Failed) s k h)
+stopped_so s Command.AbortE n k e h = idle_so s _ e (still_so (Mark n Heard.Failed) s k h)
 
 -- ---- a command is done
 
 abbrev ended : ℕ → Standing
-ended n = record { line = n; rival = None; progress = progress.Done }
+ended n = record { line = n; rival = None; progress = Progress.Done }
 
-ends : (n : ℕ) → renewed (Mark n heard.Complete) (pending n stage.Received) ≡ Some (ended n)
+ends : (n : ℕ) → renewed (Mark n Heard.Complete) (pending n Stage.Received) ≡ Some (ended n)
 ends n =
-    if_true (n == n) (with_mark (pending n stage.Received) progress.Begun heard.Complete)
-    (unless_refused (pending n stage.Received) n heard.Complete) (eq-eqb n n refl)
+    if_true (n == n) (with_mark (pending n Stage.Received) Progress.Begun Heard.Complete)
+    (unless_refused (pending n Stage.Received) n Heard.Complete) (eq-eqb n n refl)
 
 part_of : (k : Option (Point × Standing)) (stored : Point) → IsSoOne k stored → IsSoPart k (Part stored)
 part_of None stored h = tt
@@ -104,43 +88,43 @@ part_selected : (r : Renewal) (s : Selected) (k : Known) → IsSo s k → IsSoPa
 part_selected r s k h = part_of (one_renewed r k.zero) s.stored (still_so r s k h).zero
 
 coord_so : (csy : Csy) (s : Selected) (n : ℕ) (k : Known) → IsSo s k
-    → IsSoFrame (Some (csy, ended n)) (one_renewed (Mark n heard.Complete) k.zero) (framed_by csy s.stored)
+    → IsSoFrame (Some (csy, ended n)) (one_renewed (Mark n Heard.Complete) k.zero) (framed_by csy s.stored)
 coord_so MachineCsy s n k h = (refl, refl)
-coord_so PartCsy s n k h = (refl, part_selected (Mark n heard.Complete) s k h)
+coord_so PartCsy s n k h = (refl, part_selected (Mark n Heard.Complete) s k h)
 
 pub completed_so : (s : Selected) (c : Command) (n : ℕ) (k : Known) → s.changing ≡ is_change c → IsSo s k
-    → IsSo (completed c s) (all_renewed (Mark n heard.Complete) (below (Some (pending n stage.Received)) (sends.Known c) k))
-completed_so s command.StartSession n k e h = nothing_so (idle s)
-completed_so s command.EndSession n k e h = nothing_so (idle s)
-completed_so s command.Home n k e h =
-    let still : IsSo s (all_renewed (Mark n heard.Complete) k) = still_so (Mark n heard.Complete) s k h in
+    → IsSo (completed c s) (all_renewed (Mark n Heard.Complete) (below (Some (pending n Stage.Received)) (SentCommand.Known c) k))
+completed_so s Command.StartSession n k e h = nothing_so (idle s)
+completed_so s Command.EndSession n k e h = nothing_so (idle s)
+completed_so s Command.Home n k e h =
+    let still : IsSo s (all_renewed (Mark n Heard.Complete) k) = still_so (Mark n Heard.Complete) s k h in
     record { tool = tt; zero = still.zero; frame = still.frame }
-completed_so s (command.ChangeTool tool) n k e h =
-    let still : IsSo s (all_renewed (Mark n heard.Complete) k) = still_so (Mark n heard.Complete) s k h in
+completed_so s (Command.ChangeTool tool) n k e h =
+    let still : IsSo s (all_renewed (Mark n Heard.Complete) k) = still_so (Mark n Heard.Complete) s k h in
     record {
       tool = subst (λ o. IsSoTool false (Some tool) (standing tool o)) (sym (ends n)) (refl, refl);
       zero = still.zero;
       frame = still.frame;
     }
-completed_so s (command.SetCsyTransformation p) n k e h =
-    let still : IsSo (idle s) (all_renewed (Mark n heard.Complete) (record { tool = k.tool; csy = unless_part k.csy; part = k.part; zero = k.zero })) =
-    idle_so s _ e (still_so (Mark n heard.Complete) s _ (without_part s k h)) in
+completed_so s (Command.SetCsyTransformation p) n k e h =
+    let still : IsSo (idle s) (all_renewed (Mark n Heard.Complete) (record { tool = k.tool; csy = unless_part k.csy; part = k.part; zero = k.zero })) =
+    idle_so s _ e (still_so (Mark n Heard.Complete) s _ (without_part s k h)) in
     record {
       tool = still.tool;
       zero = subst (λ o. IsSoOne (standing (point_opposite p) o) (point_opposite p)) (sym (ends n)) (refl, refl);
       frame = still.frame;
     }
-completed_so s (command.SetCoordSystem csy) n k e h =
-    let still : IsSo (idle s) (all_renewed (Mark n heard.Complete) k) = idle_so s _ e (still_so (Mark n heard.Complete) s k h) in
+completed_so s (Command.SetCoordSystem csy) n k e h =
+    let still : IsSo (idle s) (all_renewed (Mark n Heard.Complete) k) = idle_so s _ e (still_so (Mark n Heard.Complete) s k h) in
     record {
       tool = still.tool;
       zero = still.zero;
-      frame = subst (λ o. IsSoFrame (standing csy o) (one_renewed (Mark n heard.Complete) k.zero) (framed_by csy s.stored)) (sym (ends n))
+      frame = subst (λ o. IsSoFrame (standing csy o) (one_renewed (Mark n Heard.Complete) k.zero) (framed_by csy s.stored)) (sym (ends n))
           (coord_so csy s n k h);
     }
-completed_so s command.ClearAllErrors n k e h = idle_so s _ e (still_so (Mark n heard.Complete) s k h)
-completed_so s command.IsHomed n k e h = idle_so s _ e (still_so (Mark n heard.Complete) s k h)
-completed_so s command.OnPtMeasReport n k e h = idle_so s _ e (still_so (Mark n heard.Complete) s k h)
-completed_so s (command.GoTo p) n k e h = idle_so s _ e (still_so (Mark n heard.Complete) s k h)
-completed_so s (command.PtMeas p d) n k e h = idle_so s _ e (still_so (Mark n heard.Complete) s k h)
-completed_so s command.AbortE n k e h = idle_so s _ e (still_so (Mark n heard.Complete) s k h)
+completed_so s Command.ClearAllErrors n k e h = idle_so s _ e (still_so (Mark n Heard.Complete) s k h)
+completed_so s Command.IsHomed n k e h = idle_so s _ e (still_so (Mark n Heard.Complete) s k h)
+completed_so s Command.OnPtMeasReport n k e h = idle_so s _ e (still_so (Mark n Heard.Complete) s k h)
+completed_so s (Command.GoTo p) n k e h = idle_so s _ e (still_so (Mark n Heard.Complete) s k h)
+completed_so s (Command.PtMeas p d) n k e h = idle_so s _ e (still_so (Mark n Heard.Complete) s k h)
+completed_so s Command.AbortE n k e h = idle_so s _ e (still_so (Mark n Heard.Complete) s k h)

@@ -1,53 +1,29 @@
 -- What a witness reports of a server after each list of its calls on one connection.
-use Rattle.std.proofs.Common.{◌≡◌, ℕ, zero, suc, ◌<◌, ◌≤◌, Bool, true, false, cond, not, ◌&&◌, ◌||◌, List, [], ◌∷◌, ◌++◌}
-use Rattle.std.proofs.Common.{refl, sym, ap, ◌∙◌, subst, arith, append-nil, Option, Some, None, Ok, Err}
-use Rattle.std.specs.Prelude.{slice_get}
-use Rattle.std.specs.List.{list_all}
-use Rattle.std.proofs.lemmas.Bool.{false≢true, and_parts, ltb-true, or_left, or_right, not-true}
-use Rattle.fixed_um.specs.Points.{IsInVolume, zero_point}
-use Rattle.fixed_um.specs.declared.frames.Frame.{Frame}
-use Rattle.fixed_um.specs.declared.frames.Frame.TheVariants.{Machine}
-use Rattle.contact_ledger.specs.declared.acts.Act.{Act}
-use Rattle.contact_ledger.specs.declared.acts.Act.TheVariants as act
-use Rattle.line_framing.specs.Next.{Front, next_of}
-use Rattle.protocol_model.specs.Claims.{acts_on}
-use Rattle.protocol_model.specs.Lines.{reading_of, reply_texts, reply_bytes}
-use Rattle.protocol_model.specs.Readings.{command_of}
-use Rattle.protocol_model.specs.Server.{Server, offset, may_end, server_turned, server_machined}
-use Rattle.protocol_model.specs.Ends.{ServerEnd, front_served, serving_accepted, serving_turned, serving_machined}
+use Rattle.witness_laws.proofs.Names.{◌&&◌, ◌++◌, ◌<◌, ◌||◌, ◌∙◌, ◌∷◌, ◌≡◌, ◌≤◌, [], Act, acts_none, acts_on, and_parts, ap, append-nil, arith, Bool}
+use Rattle.witness_laws.proofs.Names.{client_lines, command_of, cond, Dialogue, done_on, Err, false, false≢true, Frame, Front, front_served}
+use Rattle.witness_laws.proofs.Names.{is_foreign, IsInVolume, line_in, List, list_all, ltb-true, Machine, machined_moves, may_end, Moves, next_of}
+use Rattle.witness_laws.proofs.Names.{None, not, not-true, nothing, offset, Ok, Option, or_left, or_right, Outcome, read_moves, reading_of, refl}
+use Rattle.witness_laws.proofs.Names.{reply_bytes, reply_texts, Reported, sent, SentCommand, server_lines, server_machined, server_turned, ServerEnd}
+use Rattle.witness_laws.proofs.Names.{serving_accepted, serving_machined, serving_turned, silence, slice_get, Some, subst, suc, sym, Tag, tag_is}
+use Rattle.witness_laws.proofs.Names.{tag_is-refl, true, turned_moves, up_to_above, up_to_done, up_to_join, Waiting, zero, ℕ}
+use Rattle.protocol_model.specs.Server.{Server}
 use Rattle.protocol_model.specs.Undisturbed.{AreUpTo}
 use Rattle.protocol_model.specs.declared.lines.Line.{Line}
-use Rattle.protocol_model.specs.declared.lines.Waiting.{Waiting}
-use Rattle.protocol_model.specs.declared.machine.Outcome.{Outcome}
-use Rattle.protocol_model.proofs.invariant.Served.{acts_none, up_to_above}
-use Rattle.protocol_model.proofs.invariant.Moves.{Moves, done_on, up_to_join, up_to_done, read_moves, turned_moves, machined_moves}
-use Rattle.server_core.specs.Calls.{Call, Accept, Feed, ReadOne, Turn, Machine, Leave, Restart, Sent, possible, done_by, behind_call}
-use Rattle.server_core.specs.Calls.{behind_calls, reached, gives_up}
+use Rattle.server_core.specs.Calls.{Call, Accept, Feed, ReadOne, Turn, Machine, Leave, Restart, Sent, possible, done_by, behind_call, behind_calls, reached}
+use Rattle.server_core.specs.Calls.{gives_up}
 use Rattle.server_core.specs.Serving.{may_accept, may_turn}
 use Rattle.server_core.specs.Steady.{IsOff}
 use Rattle.server_core.proofs.Deeds.{chosen}
 use Rattle.server_core.proofs.Reached.{reached_steady}
 use Rattle.server_core.proofs.Steadies.{nothing_runs}
-use Rattle.dme_line.specs.declared.tags.Tag.{Tag}
-use Rattle.protocol_model.specs.Replies.{tag_is}
-use Rattle.protocol_model.proofs.table.Basics.{tag_is-refl}
-use Rattle.witness.specs.Asking.{sent}
-use Rattle.witness.specs.Dialogues.{Dialogue, silence}
-use Rattle.witness.specs.Known.{nothing}
-use Rattle.witness.specs.Marks.{is_foreign}
-use Rattle.witness.specs.Watching.{client_lines, server_lines}
-use Rattle.witness.specs.declared.lines.Reported.{Reported}
-use Rattle.witness.specs.declared.lines.Reported.TheVariants as reports
-use Rattle.witness.specs.declared.lines.SentCommand.{SentCommand}
-use Rattle.witness_laws.specs.Lockstep.{line_read, all_read, replies, answered, seen, all_seen}
-use Rattle.witness_laws.specs.Lockstep.{keeps_out, AreAnew, IsCourse}
-use Rattle.witness_laws.specs.Reports.{is_foreign_under, some_foreign, breaks_only, act_reports, NamesNoOther, IsReportOf, AreReportsOf, tool_of, frame_of, tool_named, frame_named}
+use Rattle.witness_laws.specs.Lockstep.{line_read, all_read, replies, answered, seen, all_seen, keeps_out, AreAnew, IsCourse}
+use Rattle.witness_laws.specs.Reports.{is_foreign_under, some_foreign, breaks_only, act_reports, NamesNoOther, IsReportOf, AreReportsOf, tool_of, frame_of}
+use Rattle.witness_laws.specs.Reports.{tool_named, frame_named}
 use Rattle.witness_laws.proofs.server.Knowing.{nothing_within}
 use Rattle.witness_laws.proofs.server.Selected.{nothing_so}
 use Rattle.witness_laws.proofs.server.Opening.{running_one, AreOpen, AreApart}
 use Rattle.witness_laws.proofs.server.Following.{Follows, machined_follows, turned_follows, zero_in_volume}
 use Rattle.witness_laws.proofs.server.Reading.{CountsLine, read_follows}
-use Rattle.line_framing.specs.Calls.{line_in}
 
 -- ---- lines that this profile does not know
 
@@ -286,36 +262,36 @@ nothing_named : {A : Type 0} (x : A) (o : Option A) → None ≡ Some x → o �
 nothing_named x o e = absurd (cc)
 
 tool_is : (x : Reported) (a : Act) (name : List ℕ) → IsReportOf x a → tool_named x ≡ Some name → tool_of a ≡ Some name
-tool_is (reports.Did b) a name h e = ap tool_of (sym h) ∙ e
-tool_is (reports.Touched p d n f at) (act.Contact target dir tool frame point) name h e = none_tool n tool name h.2 e
-tool_is (reports.Touched p d n f at) (act.HomedIs homed) name h e = absurd h
-tool_is (reports.Touched p d n f at) act.Homed name h e = absurd h
-tool_is (reports.Touched p d n f at) (act.Moved target frame) name h e = absurd h
-tool_is (reports.Touched p d n f at) (act.Changed tool) name h e = absurd h
-tool_is (reports.Touched p d n f at) (act.Framed frame) name h e = absurd h
-tool_is (reports.MovedSomewhere p) a name h e = nothing_named name (tool_of a) e
-tool_is reports.FramedSomehow a name h e = nothing_named name (tool_of a) e
-tool_is (reports.Other side line) a name h e = nothing_named name (tool_of a) e
-tool_is (reports.Unasked line) a name h e = nothing_named name (tool_of a) e
-tool_is (reports.Broken rule tag) a name h e = nothing_named name (tool_of a) e
-tool_is reports.Opened a name h e = nothing_named name (tool_of a) e
-tool_is reports.Left a name h e = nothing_named name (tool_of a) e
+tool_is (Reported.Did b) a name h e = ap tool_of (sym h) ∙ e
+tool_is (Reported.Touched p d n f at) (Act.Contact target dir tool frame point) name h e = none_tool n tool name h.2 e
+tool_is (Reported.Touched p d n f at) (Act.HomedIs homed) name h e = absurd h
+tool_is (Reported.Touched p d n f at) Act.Homed name h e = absurd h
+tool_is (Reported.Touched p d n f at) (Act.Moved target frame) name h e = absurd h
+tool_is (Reported.Touched p d n f at) (Act.Changed tool) name h e = absurd h
+tool_is (Reported.Touched p d n f at) (Act.Framed frame) name h e = absurd h
+tool_is (Reported.MovedSomewhere p) a name h e = nothing_named name (tool_of a) e
+tool_is Reported.FramedSomehow a name h e = nothing_named name (tool_of a) e
+tool_is (Reported.Other side line) a name h e = nothing_named name (tool_of a) e
+tool_is (Reported.Unasked line) a name h e = nothing_named name (tool_of a) e
+tool_is (Reported.Broken rule tag) a name h e = nothing_named name (tool_of a) e
+tool_is Reported.Opened a name h e = nothing_named name (tool_of a) e
+tool_is Reported.Left a name h e = nothing_named name (tool_of a) e
 
 frame_is : (x : Reported) (a : Act) (name : Frame) → IsReportOf x a → frame_named x ≡ Some name → frame_of a ≡ Some name
-frame_is (reports.Did b) a name h e = ap frame_of (sym h) ∙ e
-frame_is (reports.Touched p d n f at) (act.Contact target dir tool frame point) name h e = none_frame f frame name h.3 e
-frame_is (reports.Touched p d n f at) (act.HomedIs homed) name h e = absurd h
-frame_is (reports.Touched p d n f at) act.Homed name h e = absurd h
-frame_is (reports.Touched p d n f at) (act.Moved target frame) name h e = absurd h
-frame_is (reports.Touched p d n f at) (act.Changed tool) name h e = absurd h
-frame_is (reports.Touched p d n f at) (act.Framed frame) name h e = absurd h
-frame_is (reports.MovedSomewhere p) a name h e = nothing_named name (frame_of a) e
-frame_is reports.FramedSomehow a name h e = nothing_named name (frame_of a) e
-frame_is (reports.Other side line) a name h e = nothing_named name (frame_of a) e
-frame_is (reports.Unasked line) a name h e = nothing_named name (frame_of a) e
-frame_is (reports.Broken rule tag) a name h e = nothing_named name (frame_of a) e
-frame_is reports.Opened a name h e = nothing_named name (frame_of a) e
-frame_is reports.Left a name h e = nothing_named name (frame_of a) e
+frame_is (Reported.Did b) a name h e = ap frame_of (sym h) ∙ e
+frame_is (Reported.Touched p d n f at) (Act.Contact target dir tool frame point) name h e = none_frame f frame name h.3 e
+frame_is (Reported.Touched p d n f at) (Act.HomedIs homed) name h e = absurd h
+frame_is (Reported.Touched p d n f at) Act.Homed name h e = absurd h
+frame_is (Reported.Touched p d n f at) (Act.Moved target frame) name h e = absurd h
+frame_is (Reported.Touched p d n f at) (Act.Changed tool) name h e = absurd h
+frame_is (Reported.Touched p d n f at) (Act.Framed frame) name h e = absurd h
+frame_is (Reported.MovedSomewhere p) a name h e = nothing_named name (frame_of a) e
+frame_is Reported.FramedSomehow a name h e = nothing_named name (frame_of a) e
+frame_is (Reported.Other side line) a name h e = nothing_named name (frame_of a) e
+frame_is (Reported.Unasked line) a name h e = nothing_named name (frame_of a) e
+frame_is (Reported.Broken rule tag) a name h e = nothing_named name (frame_of a) e
+frame_is Reported.Opened a name h e = nothing_named name (frame_of a) e
+frame_is Reported.Left a name h e = nothing_named name (frame_of a) e
 
 -- the i-th report is that of the i-th act
 pair_at : (xs : List Reported) (acts : List Act) (i : ℕ) (x : Reported) (a : Act) → AreReportsOf xs acts → slice_get xs i ≡ Some x

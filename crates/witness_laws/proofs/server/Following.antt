@@ -1,47 +1,17 @@
 -- What holds of a server and a witness that has read all lines of its connection, at the end of a command.
-use Rattle.std.proofs.Common.{◌≡◌, ℕ, Bool, true, false, List, [], ◌∷◌, ◌++◌, Option, Some, None, Result, Ok, Err}
-use Rattle.std.proofs.Common.{refl, sym, ap, ◌∙◌, subst, append-nil, arith}
-use Rattle.std.proofs.lemmas.Bool.{false≢true}
-use Rattle.fixed_um.specs.Points.{IsInVolume, zero_point, point_opposite, point_difference}
-use Rattle.fixed_um.specs.Shapes.{Direction}
-use Rattle.fixed_um.specs.declared.lengths.Point.{Point}
-use Rattle.fixed_um.specs.declared.frames.Frame.{Frame}
-use Rattle.fixed_um.specs.declared.frames.Frame.TheVariants.{Machine, Part}
-use Rattle.contact_ledger.specs.declared.acts.Act.{Act}
-use Rattle.contact_ledger.specs.declared.acts.Act.TheVariants as act
-use Rattle.dme_line.specs.Kinds.{kind_of}
-use Rattle.dme_line.specs.Tags.{IsTag}
-use Rattle.dme_line.specs.declared.commands.Command.{Command}
-use Rattle.dme_line.specs.declared.commands.Command.TheVariants as command
-use Rattle.dme_line.specs.declared.commands.Csy.TheVariants.{MachineCsy, PartCsy}
-use Rattle.dme_line.specs.declared.tags.Tag.{Tag}
-use Rattle.protocol_model.specs.Claims.{acts_on}
-use Rattle.protocol_model.specs.Lines.{reply_text, reply_texts}
-use Rattle.protocol_model.specs.Replies.{Reply}
-use Rattle.protocol_model.specs.Server.{Server, Answer, answers, kind_in, all_fail, in_error, waits_under, fault_number, refusal, offset, in_volume}
-use Rattle.protocol_model.specs.Server.{acted, carried_out, taken, turned_to, server_turned, stopped, finished, touched, machined, has_outcome, may_end}
-use Rattle.protocol_model.specs.declared.held.Datum.TheVariants as datum
+use Rattle.witness_laws.proofs.Names.{◌++◌, ◌∙◌, ◌∷◌, ◌≡◌, [], Act, acted, acts_done, acts_more, acts_on, after, all_fail, all_renewed, ap}
+use Rattle.witness_laws.proofs.Names.{append-nil, AreReplies, arith, below, Bool, carried_out, Command, Datum, Dialogue, difference_on_wire}
+use Rattle.witness_laws.proofs.Names.{Direction, done, Err, false, false≢true, fault_number, finished, Frame, frame_of as known_frame_of, framed}
+use Rattle.witness_laws.proofs.Names.{has_outcome, Heard, in_error, in_volume, IsInVolume, IsOnWire, IsTag, IsWritableReply, kind_in, kind_of, Known}
+use Rattle.witness_laws.proofs.Names.{List, Machine, MachineCsy, machined, Mark, may_end, Misread, moved, None, offset, Ok, opposite_in_volume}
+use Rattle.witness_laws.proofs.Names.{Option, Outcome, Part, part_at, PartCsy, Point, point_difference, point_opposite, refl, refusal, Reply}
+use Rattle.witness_laws.proofs.Names.{reply_text, reply_texts, Reported, reported_by, response_of, Result, SentCommand, server_line, server_lines}
+use Rattle.witness_laws.proofs.Names.{server_turned, Some, Stage, stopped, subst, sym, Tag, taken, tool_of as known_tool_of, true, turned_to, Waiting}
+use Rattle.witness_laws.proofs.Names.{waits_under, zero_point, ℕ}
+use Rattle.protocol_model.specs.Server.{Server, Answer, answers, touched}
 use Rattle.protocol_model.specs.declared.lines.Line.{Line}
-use Rattle.protocol_model.specs.declared.lines.Misread.{Misread}
-use Rattle.protocol_model.specs.declared.lines.Waiting.{Waiting}
-use Rattle.protocol_model.specs.declared.machine.Outcome.{Outcome}
-use Rattle.protocol_model.proofs.invariant.Moves.{acts_more, acts_done}
 use Rattle.protocol_model.proofs.whole_run.PlainServer.{volume_is}
-use Rattle.protocol_model.proofs.written_lines.Writable.{difference_on_wire, opposite_in_volume, IsWritableReply, AreReplies}
-use Rattle.witness.specs.Asking.{server_line}
-use Rattle.witness.specs.Dialogues.{Dialogue, after, moved, framed, reported_by}
 use Rattle.witness.specs.Dialogues as effects
-use Rattle.witness.specs.Known.{all_renewed, below, done, part_at, tool_of as known_tool_of, frame_of as known_frame_of}
-use Rattle.witness.specs.Watching.{server_lines}
-use Rattle.witness.specs.declared.lines.Heard.TheVariants as heard
-use Rattle.witness.specs.declared.lines.Known.{Known}
-use Rattle.witness.specs.declared.lines.Renewal.TheVariants.{Mark}
-use Rattle.witness.specs.declared.lines.Reported.{Reported}
-use Rattle.witness.specs.declared.lines.Reported.TheVariants as reports
-use Rattle.witness.specs.declared.lines.SentCommand.{SentCommand}
-use Rattle.witness.specs.declared.lines.SentCommand.TheVariants as asks
-use Rattle.witness.specs.declared.lines.Stage.{Stage}
-use Rattle.witness.specs.declared.lines.Stage.TheVariants as stage
 use Rattle.witness_laws.specs.Reports.{is_other, breaks_only, NamesNoOther, IsReportOf}
 use Rattle.witness_laws.proofs.server.Knowing.{pending}
 use Rattle.witness_laws.proofs.server.Selected.{Selected, selected, is_change, IsSo, IsSoTool, IsToolNamed, known_tool, known_frame, known_zero}
@@ -50,8 +20,6 @@ use Rattle.witness_laws.proofs.server.Places.{Shape, opened}
 use Rattle.witness_laws.proofs.server.Hearing.{Tells, tells_more, tells_same, IsAt}
 use Rattle.witness_laws.proofs.server.Replies.{fails_here, fails_first, ends_first, homed_given, point_given, says_failure, fails_heard}
 use Rattle.witness_laws.proofs.server.Opening.{running_one, IsOpen, AreOpen, AreApart, free_first, all_fail_at, all_fail_heard, all_fail_said}
-use Rattle.protocol_model.specs.Readings.{response_of}
-use Rattle.dme_line.specs.Points.{IsOnWire}
 use Rattle.witness_laws.proofs.server.Answering.{heard_there, IsHeard, AreHeard}
 
 -- ---- the invariant
@@ -90,8 +58,8 @@ line_first P s d r rs heard room f = record { follows = f.follows; heard = (hear
 -- this command is the first that is open, and these are the others
 pub record IsFirst (P : Tag → Bool) (tag : Tag) (c : Command) (ws : List Waiting) (s : Selected) (acts : List Act) (d : Dialogue) : Type 0 where
   pub rest : List Shape
-  pub at : IsAt P s acts (opened tag (asks.Known c) stage.Received ∷ rest) d
-  pub first : IsOpen (record { tag = tag; reading = Ok c }) (asks.Known c)
+  pub at : IsAt P s acts (opened tag (SentCommand.Known c) Stage.Received ∷ rest) d
+  pub first : IsOpen (record { tag = tag; reading = Ok c }) (SentCommand.Known c)
   pub under : waits_under tag ws ≡ false
   pub apart : AreApart ws
   pub others : AreOpen ws rest
@@ -100,10 +68,10 @@ pub is_first : (P : Tag → Bool) (tag : Tag) (c : Command) (ws : List Waiting) 
     → AreOpen (record { tag = tag; reading = Ok c } ∷ ws) uses → AreApart (record { tag = tag; reading = Ok c } ∷ ws) → IsAt P s acts uses d
     → IsFirst P tag c ws s acts d
 is_first P tag c ws s acts uses d ours apart at =
-    let same : ours.0 ≡ asks.Known c = ours.3.asks in record {
+    let same : ours.0 ≡ SentCommand.Known c = ours.3.asks in record {
       rest = ours.1;
       at = subst (λ (us : List Shape). IsAt P s acts us d)
-          (ours.2 ∙ ap (λ (a : SentCommand). opened tag a stage.Received ∷ ours.1) same) at;
+          (ours.2 ∙ ap (λ (a : SentCommand). opened tag a Stage.Received ∷ ours.1) same) at;
       first = subst (IsOpen (record { tag = tag; reading = Ok c })) same ours.3;
       under = apart.0;
       apart = apart.1;
@@ -127,18 +95,18 @@ tells_act P n l so_far x a h one =
     subst (Tells P (so_far ++ x ∷ [])) (sym (acts_one n l a))
     (tells_more P so_far (acts_on n l) x a (IsReported.act one) (IsReported.breaks one) h (IsReported.is one))
 
-did : (P : Tag → Bool) (a : Act) → IsReported P (reports.Did a) a
+did : (P : Tag → Bool) (a : Act) → IsReported P (Reported.Did a) a
 did P a = record { act = refl; breaks = refl; is = refl }
 
 moved_reported : (P : Tag → Bool) (p : Point) (known : Option Frame) (f : Frame) → NamesNoOther known f
-    → IsReported P (moved p known) (act.Moved p f)
+    → IsReported P (moved p known) (Act.Moved p f)
 moved_reported P p None f h = record { act = refl; breaks = refl; is = refl }
-moved_reported P p (Some g) f h = record { act = refl; breaks = refl; is = ap (act.Moved p) h }
+moved_reported P p (Some g) f h = record { act = refl; breaks = refl; is = ap (Act.Moved p) h }
 
 part_reported : (P : Tag → Bool) (known : Option Point) (stored : Point) → NamesNoOther known stored
-    → IsReported P (framed (part_at known)) (act.Framed (Part stored))
+    → IsReported P (framed (part_at known)) (Act.Framed (Part stored))
 part_reported P None stored h = record { act = refl; breaks = refl; is = tt }
-part_reported P (Some p) stored h = record { act = refl; breaks = refl; is = ap (λ (q : Point). act.Framed (Part q)) h }
+part_reported P (Some p) stored h = record { act = refl; breaks = refl; is = ap (λ (q : Point). Act.Framed (Part q)) h }
 
 abbrev name_or : List ℕ → Option (List ℕ) → List ℕ
 name_or d None = d
@@ -146,14 +114,14 @@ name_or d (Some n) = n
 
 touch_reported : (P : Tag → Bool) (p : Point) (d : Option Direction) (at : Point) (tool : List ℕ) (f : Frame) (head : Option (List ℕ))
     (n : Option (List ℕ)) (g : Option Frame) → head ≡ Some tool → IsToolNamed head n → NamesNoOther g f
-    → IsReported P (effects.touched n g p d at) (act.Contact p d tool f at)
+    → IsReported P (effects.touched n g p d at) (Act.Contact p d tool f at)
 touch_reported P p d at tool f head None g is known frame = record { act = refl; breaks = refl; is = (refl, refl, tt, frame, refl) }
 touch_reported P p d at tool f head (Some m) None is known frame =
     record { act = refl; breaks = refl; is = (refl, refl, ap (name_or m) (sym known ∙ is), tt, refl) }
 touch_reported P p d at tool f head (Some m) (Some g) is known frame = record {
   act = refl;
   breaks = refl;
-  is = ap (λ (x : List ℕ). act.Contact p d x g at) (ap (name_or m) (sym known ∙ is)) ∙ ap (λ (x : Frame). act.Contact p d tool x at) frame;
+  is = ap (λ (x : List ℕ). Act.Contact p d x g at) (ap (name_or m) (sym known ∙ is)) ∙ ap (λ (x : Frame). Act.Contact p d tool x at) frame;
 }
 
 -- ---- the end of the first command
@@ -164,11 +132,11 @@ still s ws = record s { running = None; waiting = ws }
 
 -- the first command ends, nothing runs after it, and the others are still open
 ended : (P : Tag → Bool) (new : Server) (old : Selected) (acts : List Act) (tag : Tag) (c : Command) (at_stage : Stage) (ws : List Waiting)
-    (rest : List Shape) (d : Dialogue) → IsTag tag → IsAt P old acts (opened tag (asks.Known c) at_stage ∷ rest) d
+    (rest : List Shape) (d : Dialogue) → IsTag tag → IsAt P old acts (opened tag (SentCommand.Known c) at_stage ∷ rest) d
     → ((n : ℕ) (k : Known) → IsSo old k
-    → IsSo (selected (still new ws)) (all_renewed (Mark n heard.Complete) (below (Some (pending n at_stage)) (asks.Known c) k)))
+    → IsSo (selected (still new ws)) (all_renewed (Mark n Heard.Complete) (below (Some (pending n at_stage)) (SentCommand.Known c) k)))
     → ((k : Known) → IsSo old k
-    → Tells P (d.reported ++ reported_by k tag (asks.Known c) at_stage heard.Complete) (acts_on new.last new.ledger))
+    → Tells P (d.reported ++ reported_by k tag (SentCommand.Known c) at_stage Heard.Complete) (acts_on new.last new.ledger))
     → AreOpen ws rest → AreApart ws → IsInVolume new.stored → IsInVolume (offset new.frame)
     → FollowsTo P d (answers (still new ws) (Reply.Done tag ∷ []))
 ended P new old acts tag c at_stage ws rest d room at so tells others apart stored frame = record {
@@ -180,7 +148,7 @@ ended P new old acts tag c at_stage ws rest d room at so tells others apart stor
     stored = stored;
     frame = frame;
   };
-  heard = (heard_there d (Reply.Done tag) [] (opened tag (asks.Known c) at_stage) rest room refl at.shaped, tt);
+  heard = (heard_there d (Reply.Done tag) [] (opened tag (SentCommand.Known c) at_stage) rest room refl at.shaped, tt);
   said = (room, tt);
 }
 
@@ -190,12 +158,12 @@ ended P new old acts tag c at_stage ws rest d room at so tells others apart stor
 runs_now : (P : Tag → Bool) (new : Server) (tag : Tag) (c : Command) (ws : List Waiting) (old : Selected) (acts : List Act) (d : Dialogue)
     → (h : IsFirst P tag c ws old acts d)
     → IsAt P (selected (record new { running = Some (record { tag = tag; command = c }); waiting = ws })) (acts_on new.last new.ledger)
-    (opened tag (asks.Known c) stage.Received ∷ h.rest) d
+    (opened tag (SentCommand.Known c) Stage.Received ∷ h.rest) d
     → IsInVolume new.stored → IsInVolume (offset new.frame)
     → Follows P (record new { running = Some (record { tag = tag; command = c }); waiting = ws }) d
 runs_now P new tag c ws old acts d h at stored frame = record {
-  uses = opened tag (asks.Known c) stage.Received ∷ h.rest;
-  ours = (asks.Known c, h.rest, refl, h.first, h.others);
+  uses = opened tag (SentCommand.Known c) Stage.Received ∷ h.rest;
+  ours = (SentCommand.Known c, h.rest, refl, h.first, h.others);
   apart = (h.under, h.apart);
   at = at;
   stored = stored;
@@ -212,11 +180,11 @@ zero_in_volume = record { x = omega arith; y = omega arith; z = omega arith }
 plainly : (P : Tag → Bool) (new : Server) (old : Selected) (acts : List Act) (tag : Tag) (c : Command) (ws : List Waiting) (d : Dialogue)
     → (h : IsFirst P tag c ws old acts d) → acts ≡ acts_on new.last new.ledger
     → ((n : ℕ) (k : Known) → IsSo old k
-    → IsSo (selected (still new ws)) (all_renewed (Mark n heard.Complete) (below (Some (pending n stage.Received)) (asks.Known c) k)))
-    → ((k : Known) → reported_by k tag (asks.Known c) stage.Received heard.Complete ≡ []) → IsInVolume new.stored
+    → IsSo (selected (still new ws)) (all_renewed (Mark n Heard.Complete) (below (Some (pending n Stage.Received)) (SentCommand.Known c) k)))
+    → ((k : Known) → reported_by k tag (SentCommand.Known c) Stage.Received Heard.Complete ≡ []) → IsInVolume new.stored
     → IsInVolume (offset new.frame) → FollowsTo P d (answers (still new ws) (Reply.Done tag ∷ []))
 plainly P new old acts tag c ws d h same so none stored frame =
-    ended P new old acts tag c stage.Received ws h.rest d h.first.room h.at so
+    ended P new old acts tag c Stage.Received ws h.rest d h.first.room h.at so
     (λ k is. subst (λ l. Tells P (d.reported ++ l) (acts_on new.last new.ledger)) (sym (none k))
     (tells_same P d.reported (acts_on new.last new.ledger) (subst (Tells P d.reported) same h.at.tells)))
     h.others h.apart stored frame
@@ -243,57 +211,57 @@ changing_at P s line ws acts xs d change h = record {
 pub carried_follows : (P : Tag → Bool) (s : Server) (ws : List Waiting) (tag : Tag) (c : Command) (d : Dialogue)
     → IsFirst P tag c ws (selected (still s ws)) (acts_on s.last s.ledger) d → IsInVolume s.stored → IsInVolume (offset s.frame)
     → FollowsTo P d (carried_out (still s ws) tag c)
-carried_follows P s ws tag command.StartSession d h stored frame =
-    plainly P (record s { session = true }) (selected (still s ws)) (acts_on s.last s.ledger) tag command.StartSession ws d h refl
-    (λ n k is. completed_so (selected (still s ws)) command.StartSession n k refl is) (λ k. refl) stored frame
-carried_follows P s ws tag command.EndSession d h stored frame =
-    plainly P (record s { session = false }) (selected (still s ws)) (acts_on s.last s.ledger) tag command.EndSession ws d h refl
-    (λ n k is. completed_so (selected (still s ws)) command.EndSession n k refl is) (λ k. refl) stored frame
-carried_follows P s ws tag command.ClearAllErrors d h stored frame =
-    plainly P s (selected (still s ws)) (acts_on s.last s.ledger) tag command.ClearAllErrors ws d h refl
-    (λ n k is. completed_so (selected (still s ws)) command.ClearAllErrors n k refl is) (λ k. refl) stored frame
-carried_follows P s ws tag command.OnPtMeasReport d h stored frame =
-    plainly P s (selected (still s ws)) (acts_on s.last s.ledger) tag command.OnPtMeasReport ws d h refl
-    (λ n k is. completed_so (selected (still s ws)) command.OnPtMeasReport n k refl is) (λ k. refl) stored frame
-carried_follows P s ws tag command.IsHomed d h stored frame =
-    line_first P (still (acted (act.HomedIs s.homed) s) ws) d (Reply.Given tag (datum.Homed s.homed)) (Reply.Done tag ∷ [])
-    (heard_there d (Reply.Given tag (datum.Homed s.homed)) [] (opened tag (asks.Known command.IsHomed) stage.Received) h.rest (h.first.room, tt)
+carried_follows P s ws tag Command.StartSession d h stored frame =
+    plainly P (record s { session = true }) (selected (still s ws)) (acts_on s.last s.ledger) tag Command.StartSession ws d h refl
+    (λ n k is. completed_so (selected (still s ws)) Command.StartSession n k refl is) (λ k. refl) stored frame
+carried_follows P s ws tag Command.EndSession d h stored frame =
+    plainly P (record s { session = false }) (selected (still s ws)) (acts_on s.last s.ledger) tag Command.EndSession ws d h refl
+    (λ n k is. completed_so (selected (still s ws)) Command.EndSession n k refl is) (λ k. refl) stored frame
+carried_follows P s ws tag Command.ClearAllErrors d h stored frame =
+    plainly P s (selected (still s ws)) (acts_on s.last s.ledger) tag Command.ClearAllErrors ws d h refl
+    (λ n k is. completed_so (selected (still s ws)) Command.ClearAllErrors n k refl is) (λ k. refl) stored frame
+carried_follows P s ws tag Command.OnPtMeasReport d h stored frame =
+    plainly P s (selected (still s ws)) (acts_on s.last s.ledger) tag Command.OnPtMeasReport ws d h refl
+    (λ n k is. completed_so (selected (still s ws)) Command.OnPtMeasReport n k refl is) (λ k. refl) stored frame
+carried_follows P s ws tag Command.IsHomed d h stored frame =
+    line_first P (still (acted (Act.HomedIs s.homed) s) ws) d (Reply.Given tag (Datum.Homed s.homed)) (Reply.Done tag ∷ [])
+    (heard_there d (Reply.Given tag (Datum.Homed s.homed)) [] (opened tag (SentCommand.Known Command.IsHomed) Stage.Received) h.rest (h.first.room, tt)
     refl h.at.shaped)
     (h.first.room, tt)
-    (ended P (acted (act.HomedIs s.homed) s) (selected (still s ws)) (acts_on s.last s.ledger) tag command.IsHomed
-    (stage.Given (datum.Homed s.homed)) ws h.rest (after d (server_line (reply_text (Reply.Given tag (datum.Homed s.homed))))) h.first.room
+    (ended P (acted (Act.HomedIs s.homed) s) (selected (still s ws)) (acts_on s.last s.ledger) tag Command.IsHomed
+    (Stage.Given (Datum.Homed s.homed)) ws h.rest (after d (server_line (reply_text (Reply.Given tag (Datum.Homed s.homed))))) h.first.room
     (homed_given P (selected (still s ws)) (acts_on s.last s.ledger) tag h.rest d s.homed h.first.room h.at)
-    (λ n k is. completed_so (selected (still s ws)) command.IsHomed n k refl is)
-    (λ k is. tells_act P s.last s.ledger _ (reports.Did (act.HomedIs s.homed)) (act.HomedIs s.homed)
-    (homed_given P (selected (still s ws)) (acts_on s.last s.ledger) tag h.rest d s.homed h.first.room h.at).tells (did P (act.HomedIs s.homed)))
+    (λ n k is. completed_so (selected (still s ws)) Command.IsHomed n k refl is)
+    (λ k is. tells_act P s.last s.ledger _ (Reported.Did (Act.HomedIs s.homed)) (Act.HomedIs s.homed)
+    (homed_given P (selected (still s ws)) (acts_on s.last s.ledger) tag h.rest d s.homed h.first.room h.at).tells (did P (Act.HomedIs s.homed)))
     h.others h.apart stored frame)
-carried_follows P s ws tag (command.SetCsyTransformation p) d h stored frame =
-    plainly P (record s { stored = point_opposite p }) (selected (still s ws)) (acts_on s.last s.ledger) tag (command.SetCsyTransformation p) ws d
-    h refl (λ n k is. completed_so (selected (still s ws)) (command.SetCsyTransformation p) n k refl is) (λ k. refl)
+carried_follows P s ws tag (Command.SetCsyTransformation p) d h stored frame =
+    plainly P (record s { stored = point_opposite p }) (selected (still s ws)) (acts_on s.last s.ledger) tag (Command.SetCsyTransformation p) ws d
+    h refl (λ n k is. completed_so (selected (still s ws)) (Command.SetCsyTransformation p) n k refl is) (λ k. refl)
     (opposite_in_volume p h.first.fit) frame
-carried_follows P s ws tag (command.SetCoordSystem MachineCsy) d h stored frame =
-    ended P (acted (act.Framed Machine) (record s { frame = Machine })) (selected (still s ws)) (acts_on s.last s.ledger) tag
-    (command.SetCoordSystem MachineCsy) stage.Received ws h.rest d h.first.room h.at
-    (λ n k is. completed_so (selected (still s ws)) (command.SetCoordSystem MachineCsy) n k refl is)
-    (λ k is. tells_act P s.last s.ledger d.reported (reports.Did (act.Framed Machine)) (act.Framed Machine) h.at.tells (did P (act.Framed Machine)))
+carried_follows P s ws tag (Command.SetCoordSystem MachineCsy) d h stored frame =
+    ended P (acted (Act.Framed Machine) (record s { frame = Machine })) (selected (still s ws)) (acts_on s.last s.ledger) tag
+    (Command.SetCoordSystem MachineCsy) Stage.Received ws h.rest d h.first.room h.at
+    (λ n k is. completed_so (selected (still s ws)) (Command.SetCoordSystem MachineCsy) n k refl is)
+    (λ k is. tells_act P s.last s.ledger d.reported (Reported.Did (Act.Framed Machine)) (Act.Framed Machine) h.at.tells (did P (Act.Framed Machine)))
     h.others h.apart stored zero_in_volume
-carried_follows P s ws tag (command.SetCoordSystem PartCsy) d h stored frame =
-    ended P (acted (act.Framed (Part s.stored)) (record s { frame = Part s.stored })) (selected (still s ws)) (acts_on s.last s.ledger) tag
-    (command.SetCoordSystem PartCsy) stage.Received ws h.rest d h.first.room h.at
-    (λ n k is. completed_so (selected (still s ws)) (command.SetCoordSystem PartCsy) n k refl is)
-    (λ k is. tells_act P s.last s.ledger d.reported (framed (part_at (done (Known.zero k)))) (act.Framed (Part s.stored)) h.at.tells
+carried_follows P s ws tag (Command.SetCoordSystem PartCsy) d h stored frame =
+    ended P (acted (Act.Framed (Part s.stored)) (record s { frame = Part s.stored })) (selected (still s ws)) (acts_on s.last s.ledger) tag
+    (Command.SetCoordSystem PartCsy) Stage.Received ws h.rest d h.first.room h.at
+    (λ n k is. completed_so (selected (still s ws)) (Command.SetCoordSystem PartCsy) n k refl is)
+    (λ k is. tells_act P s.last s.ledger d.reported (framed (part_at (done (Known.zero k)))) (Act.Framed (Part s.stored)) h.at.tells
     (part_reported P (done (Known.zero k)) s.stored (known_zero (Known.zero k) s.stored is.zero)))
     h.others h.apart stored stored
-carried_follows P s ws tag command.Home d h stored frame =
-    silent P _ d (runs_now P (record s { homed = false }) tag command.Home ws _ _ d h h.at stored frame)
-carried_follows P s ws tag (command.ChangeTool n) d h stored frame =
-    silent P _ d (runs_now P (record s { tool = None }) tag (command.ChangeTool n) ws _ _ d h
-    (changing_at P s (record { tag = tag; command = command.ChangeTool n }) ws (acts_on s.last s.ledger) _ d refl h.at) stored frame)
-carried_follows P s ws tag (command.GoTo p) d h stored frame =
-    silent P _ d (runs_now P s tag (command.GoTo p) ws _ _ d h h.at stored frame)
-carried_follows P s ws tag (command.PtMeas p dir) d h stored frame =
-    silent P _ d (runs_now P s tag (command.PtMeas p dir) ws _ _ d h h.at stored frame)
-carried_follows P s ws tag command.AbortE d h stored frame = absurd (false≢true (sym h.first.plain))
+carried_follows P s ws tag Command.Home d h stored frame =
+    silent P _ d (runs_now P (record s { homed = false }) tag Command.Home ws _ _ d h h.at stored frame)
+carried_follows P s ws tag (Command.ChangeTool n) d h stored frame =
+    silent P _ d (runs_now P (record s { tool = None }) tag (Command.ChangeTool n) ws _ _ d h
+    (changing_at P s (record { tag = tag; command = Command.ChangeTool n }) ws (acts_on s.last s.ledger) _ d refl h.at) stored frame)
+carried_follows P s ws tag (Command.GoTo p) d h stored frame =
+    silent P _ d (runs_now P s tag (Command.GoTo p) ws _ _ d h h.at stored frame)
+carried_follows P s ws tag (Command.PtMeas p dir) d h stored frame =
+    silent P _ d (runs_now P s tag (Command.PtMeas p dir) ws _ _ d h h.at stored frame)
+carried_follows P s ws tag Command.AbortE d h stored frame = absurd (false≢true (sym h.first.plain))
 
 -- ---- what runs ends
 
@@ -311,56 +279,56 @@ runs_first P s tag c d h =
 done_follows : (P : Tag → Bool) (s new : Server) (tag : Tag) (c : Command) (d : Dialogue) → Follows P (busy s tag c s.waiting) d
     → completed c (selected (busy s tag c s.waiting)) ≡ selected (still new s.waiting)
     → ((k : Known) → IsSo (selected (busy s tag c s.waiting)) k
-    → Tells P (d.reported ++ reported_by k tag (asks.Known c) stage.Received heard.Complete) (acts_on new.last new.ledger))
+    → Tells P (d.reported ++ reported_by k tag (SentCommand.Known c) Stage.Received Heard.Complete) (acts_on new.last new.ledger))
     → IsInVolume new.stored → IsInVolume (offset new.frame)
     → FollowsTo P d (answers (still new s.waiting) (Reply.Done tag ∷ []))
 done_follows P s new tag c d f same tells stored frame =
     let h = runs_first P s tag c d f in
-    ended P new (selected (busy s tag c s.waiting)) (acts_on s.last s.ledger) tag c stage.Received s.waiting h.rest d h.first.room h.at
-    (λ n k is. subst (λ x. IsSo x (all_renewed (Mark n heard.Complete) (below (Some (pending n stage.Received)) (asks.Known c) k))) same
+    ended P new (selected (busy s tag c s.waiting)) (acts_on s.last s.ledger) tag c Stage.Received s.waiting h.rest d h.first.room h.at
+    (λ n k is. subst (λ x. IsSo x (all_renewed (Mark n Heard.Complete) (below (Some (pending n Stage.Received)) (SentCommand.Known c) k))) same
     (completed_so (selected (busy s tag c s.waiting)) c n k refl is))
     tells h.others h.apart stored frame
 
 pub finished_follows : (P : Tag → Bool) (s : Server) (tag : Tag) (c : Command) (d : Dialogue) → Follows P (busy s tag c s.waiting) d
     → FollowsTo P d (finished (busy s tag c s.waiting) tag c)
-finished_follows P s tag command.Home d f =
-    done_follows P s (acted act.Homed (record s { homed = true })) tag command.Home d f refl
-    (λ k is. tells_act P s.last s.ledger d.reported (reports.Did act.Homed) act.Homed f.at.tells (did P act.Homed)) f.stored f.frame
-finished_follows P s tag (command.ChangeTool n) d f =
-    done_follows P s (acted (act.Changed n) (record s { tool = Some n })) tag (command.ChangeTool n) d f refl
-    (λ k is. tells_act P s.last s.ledger d.reported (reports.Did (act.Changed n)) (act.Changed n) f.at.tells (did P (act.Changed n))) f.stored
+finished_follows P s tag Command.Home d f =
+    done_follows P s (acted Act.Homed (record s { homed = true })) tag Command.Home d f refl
+    (λ k is. tells_act P s.last s.ledger d.reported (Reported.Did Act.Homed) Act.Homed f.at.tells (did P Act.Homed)) f.stored f.frame
+finished_follows P s tag (Command.ChangeTool n) d f =
+    done_follows P s (acted (Act.Changed n) (record s { tool = Some n })) tag (Command.ChangeTool n) d f refl
+    (λ k is. tells_act P s.last s.ledger d.reported (Reported.Did (Act.Changed n)) (Act.Changed n) f.at.tells (did P (Act.Changed n))) f.stored
     f.frame
-finished_follows P s tag (command.GoTo p) d f =
-    done_follows P s (acted (act.Moved p s.frame) s) tag (command.GoTo p) d f refl
-    (λ k is. tells_act P s.last s.ledger d.reported (moved p (known_frame_of k)) (act.Moved p s.frame) f.at.tells
-    (moved_reported P p (known_frame_of k) s.frame (known_frame (selected (busy s tag (command.GoTo p) s.waiting)) k is))) f.stored f.frame
-finished_follows P s tag command.StartSession d f = silent P _ d f
-finished_follows P s tag command.EndSession d f = silent P _ d f
-finished_follows P s tag command.ClearAllErrors d f = silent P _ d f
-finished_follows P s tag command.IsHomed d f = silent P _ d f
-finished_follows P s tag command.OnPtMeasReport d f = silent P _ d f
-finished_follows P s tag (command.PtMeas p dir) d f = silent P _ d f
-finished_follows P s tag (command.SetCsyTransformation p) d f = silent P _ d f
-finished_follows P s tag (command.SetCoordSystem system) d f = silent P _ d f
-finished_follows P s tag command.AbortE d f = silent P _ d f
+finished_follows P s tag (Command.GoTo p) d f =
+    done_follows P s (acted (Act.Moved p s.frame) s) tag (Command.GoTo p) d f refl
+    (λ k is. tells_act P s.last s.ledger d.reported (moved p (known_frame_of k)) (Act.Moved p s.frame) f.at.tells
+    (moved_reported P p (known_frame_of k) s.frame (known_frame (selected (busy s tag (Command.GoTo p) s.waiting)) k is))) f.stored f.frame
+finished_follows P s tag Command.StartSession d f = silent P _ d f
+finished_follows P s tag Command.EndSession d f = silent P _ d f
+finished_follows P s tag Command.ClearAllErrors d f = silent P _ d f
+finished_follows P s tag Command.IsHomed d f = silent P _ d f
+finished_follows P s tag Command.OnPtMeasReport d f = silent P _ d f
+finished_follows P s tag (Command.PtMeas p dir) d f = silent P _ d f
+finished_follows P s tag (Command.SetCsyTransformation p) d f = silent P _ d f
+finished_follows P s tag (Command.SetCoordSystem system) d f = silent P _ d f
+finished_follows P s tag Command.AbortE d f = silent P _ d f
 
 touch_follows : (P : Tag → Bool) (s : Server) (tag : Tag) (p : Point) (dir : Option Direction) (at : Point) (tool : Option (List ℕ)) (d : Dialogue)
-    → s.tool ≡ tool → in_volume at ≡ true → Follows P (busy s tag (command.PtMeas p dir) s.waiting) d
-    → FollowsTo P d (touched (busy s tag (command.PtMeas p dir) s.waiting) tag (command.PtMeas p dir) at tool)
+    → s.tool ≡ tool → in_volume at ≡ true → Follows P (busy s tag (Command.PtMeas p dir) s.waiting) d
+    → FollowsTo P d (touched (busy s tag (Command.PtMeas p dir) s.waiting) tag (Command.PtMeas p dir) at tool)
 touch_follows P s tag p dir at None d head within f = silent P _ d f
 touch_follows P s tag p dir at (Some tool) d head within f =
-    let h = runs_first P s tag (command.PtMeas p dir) d f in
-    let old : Selected = selected (busy s tag (command.PtMeas p dir) s.waiting) in
+    let h = runs_first P s tag (Command.PtMeas p dir) d f in
+    let old : Selected = selected (busy s tag (Command.PtMeas p dir) s.waiting) in
     let point : Point = point_difference at (offset s.frame) in
-    let a : Act = act.Contact p dir tool s.frame point in
+    let a : Act = Act.Contact p dir tool s.frame point in
     let wire : IsOnWire point = difference_on_wire at (offset s.frame) (volume_is at within) f.frame in
     let given = point_given P old (acts_on s.last s.ledger) tag p dir h.rest d point h.first.room wire h.at in
-    line_first P (still (acted a s) s.waiting) d (Reply.Given tag (datum.Point point)) (Reply.Done tag ∷ [])
-    (heard_there d (Reply.Given tag (datum.Point point)) [] (opened tag (asks.Known (command.PtMeas p dir)) stage.Received) h.rest
+    line_first P (still (acted a s) s.waiting) d (Reply.Given tag (Datum.Point point)) (Reply.Done tag ∷ [])
+    (heard_there d (Reply.Given tag (Datum.Point point)) [] (opened tag (SentCommand.Known (Command.PtMeas p dir)) Stage.Received) h.rest
     (h.first.room, wire) refl h.at.shaped)
     (h.first.room, wire)
-    (ended P (acted a s) old (acts_on s.last s.ledger) tag (command.PtMeas p dir) (stage.Given (datum.Point point)) s.waiting h.rest _
-    h.first.room given (λ n k is. completed_so old (command.PtMeas p dir) n k refl is)
+    (ended P (acted a s) old (acts_on s.last s.ledger) tag (Command.PtMeas p dir) (Stage.Given (Datum.Point point)) s.waiting h.rest _
+    h.first.room given (λ n k is. completed_so old (Command.PtMeas p dir) n k refl is)
     (λ k is. tells_act P s.last s.ledger _ (effects.touched (known_tool_of k) (known_frame_of k) p dir point) a given.tells
     (touch_reported P p dir point tool s.frame s.tool (known_tool_of k) (known_frame_of k) head (known_tool old k refl is) (known_frame old k is)))
     h.others h.apart f.stored f.frame)
@@ -369,18 +337,18 @@ touch_follows P s tag p dir at (Some tool) d head within f =
 pub touched_follows : (P : Tag → Bool) (s : Server) (tag : Tag) (c : Command) (at : Point) (tool : Option (List ℕ)) (d : Dialogue) → s.tool ≡ tool
     → has_outcome c (Outcome.Touched at) ≡ true → Follows P (busy s tag c s.waiting) d
     → FollowsTo P d (touched (busy s tag c s.waiting) tag c at tool)
-touched_follows P s tag (command.PtMeas p dir) at tool d head may f = touch_follows P s tag p dir at tool d head may f
-touched_follows P s tag command.StartSession at tool d head may f = silent P _ d f
-touched_follows P s tag command.EndSession at tool d head may f = silent P _ d f
-touched_follows P s tag command.ClearAllErrors at tool d head may f = silent P _ d f
-touched_follows P s tag command.IsHomed at tool d head may f = silent P _ d f
-touched_follows P s tag command.Home at tool d head may f = silent P _ d f
-touched_follows P s tag command.OnPtMeasReport at tool d head may f = silent P _ d f
-touched_follows P s tag (command.GoTo p) at tool d head may f = silent P _ d f
-touched_follows P s tag (command.ChangeTool n) at tool d head may f = silent P _ d f
-touched_follows P s tag (command.SetCsyTransformation p) at tool d head may f = silent P _ d f
-touched_follows P s tag (command.SetCoordSystem system) at tool d head may f = silent P _ d f
-touched_follows P s tag command.AbortE at tool d head may f = silent P _ d f
+touched_follows P s tag (Command.PtMeas p dir) at tool d head may f = touch_follows P s tag p dir at tool d head may f
+touched_follows P s tag Command.StartSession at tool d head may f = silent P _ d f
+touched_follows P s tag Command.EndSession at tool d head may f = silent P _ d f
+touched_follows P s tag Command.ClearAllErrors at tool d head may f = silent P _ d f
+touched_follows P s tag Command.IsHomed at tool d head may f = silent P _ d f
+touched_follows P s tag Command.Home at tool d head may f = silent P _ d f
+touched_follows P s tag Command.OnPtMeasReport at tool d head may f = silent P _ d f
+touched_follows P s tag (Command.GoTo p) at tool d head may f = silent P _ d f
+touched_follows P s tag (Command.ChangeTool n) at tool d head may f = silent P _ d f
+touched_follows P s tag (Command.SetCsyTransformation p) at tool d head may f = silent P _ d f
+touched_follows P s tag (Command.SetCoordSystem system) at tool d head may f = silent P _ d f
+touched_follows P s tag Command.AbortE at tool d head may f = silent P _ d f
 
 -- ---- a failure
 
@@ -409,7 +377,7 @@ stopped_follows P s tag c number d f =
     let old : Selected = selected (busy s tag c s.waiting) in
     let new : Selected = selected (still s []) in
     let acts : List Act = acts_on s.last s.ledger in
-    let two = fails_heard P old acts [] tag (asks.Known c) h.rest d number (Some (kind_of c)) h.first.room tt h.at in
+    let two = fails_heard P old acts [] tag (SentCommand.Known c) h.rest d number (Some (kind_of c)) h.first.room tt h.at in
     let at : IsAt P new acts h.rest (says_failure d tag number (Some (kind_of c))) =
     fails_first P old new acts tag c h.rest d number (Some (kind_of c)) h.first.room (λ n k is. stopped_so old c n k refl is) h.at in
     record {
@@ -436,7 +404,7 @@ taken_follows : (P : Tag → Bool) (s : Server) (tag : Tag) (reading : Result Co
 taken_follows P s tag reading ws (Some number) d refused f =
     let now : Selected = selected (still s []) in
     let acts : List Act = acts_on s.last s.ledger in
-    let first : IsAt P now acts (opened tag f.ours.0 stage.Received ∷ f.ours.1) d =
+    let first : IsAt P now acts (opened tag f.ours.0 Stage.Received ∷ f.ours.1) d =
     subst (λ (us : List Shape). IsAt P now acts us d) f.ours.2 f.at in
     let two = fails_heard P now acts [] tag f.ours.0 f.ours.1 d number (kind_in reading) f.ours.3.room tt first in
     let at : IsAt P now acts f.ours.1 (says_failure d tag number (kind_in reading)) =

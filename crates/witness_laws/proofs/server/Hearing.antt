@@ -1,38 +1,19 @@
 -- What a witness that has read all lines of a server knows and has reported, and what a mark makes of it.
-use Rattle.std.proofs.Common.{◌≡◌, ℕ, ◌+◌, ◌==◌, Bool, true, false, cond, ◌&&◌, ◌||◌, List, [], ◌∷◌, ◌++◌, length, map, Some, None}
-use Rattle.std.proofs.Common.{refl, sym, ap, ◌∙◌, subst, inl, inr, append-nil}
-use Rattle.std.proofs.lemmas.Bool.{false≢true, or_parts}
-use Rattle.std.proofs.lemmas.List.Folds.{list_all-append}
-use Rattle.std.specs.List.{list_all, list_any}
-use Rattle.contact_ledger.specs.declared.acts.Act.{Act}
-use Rattle.dme_line.specs.declared.commands.Command.{Command}
-use Rattle.dme_line.specs.declared.tags.Tag.{Tag}
-use Rattle.protocol_model.proofs.table.Basics.{if_false, and_false}
-use Rattle.witness.specs.Dialogues.{Dialogue, use_renewed, use_heard, unknowing, reported_by, unless_crossed, left_over, hearing, faulting, sending, sending_after}
-use Rattle.witness.specs.Dialogues.{at_once, one_more, answered_known}
-use Rattle.witness.specs.Known.{nothing, with_mark, renewed, all_renewed, unless_refused, below}
-use Rattle.witness.specs.Marks.{is_foreign}
-use Rattle.witness.specs.declared.lines.Heard.{Heard}
-use Rattle.witness.specs.declared.lines.Heard.TheVariants as heard
-use Rattle.witness.specs.declared.lines.Known.{Known}
-use Rattle.witness.specs.declared.lines.Renewal.{Renewal}
-use Rattle.witness.specs.declared.lines.Renewal.TheVariants.{Fault, Mark, Answer}
-use Rattle.witness.specs.declared.lines.Reported.{Reported}
-use Rattle.witness.specs.declared.lines.Reported.TheVariants as reports
-use Rattle.witness.specs.declared.lines.SentCommand.{SentCommand}
-use Rattle.witness.specs.declared.lines.SentCommand.TheVariants as sends
-use Rattle.witness.specs.declared.lines.Side.TheVariants.{Client}
-use Rattle.witness.specs.declared.lines.Stage.{Stage}
-use Rattle.witness.specs.declared.lines.Stage.TheVariants as stage
-use Rattle.witness.specs.declared.lines.Use.{Use}
+use Rattle.witness_laws.proofs.Names.{◌&&◌, ◌++◌, ◌==◌, ◌||◌, ◌∙◌, ◌∷◌, ◌≡◌, [], Act, all_renewed, and_false, Answer, answered_known, ap}
+use Rattle.witness_laws.proofs.Names.{append-nil, at_once, below, Bool, Client, Command, cond, Dialogue, false, false≢true, Fault, faulting, Heard}
+use Rattle.witness_laws.proofs.Names.{hearing, if_false, inl, inr, is_foreign, Known, left_over, length, List, list_all, list_all-append, list_any}
+use Rattle.witness_laws.proofs.Names.{map, Mark, None, nothing, one_more, or_parts, refl, Renewal, renewed, Reported, reported_by, sending}
+use Rattle.witness_laws.proofs.Names.{sending_after, SentCommand, Some, Stage, subst, sym, Tag, true, unknowing, unless_crossed, unless_refused, Use}
+use Rattle.witness_laws.proofs.Names.{use_heard, use_renewed, with_mark, ℕ}
 use Rattle.witness_laws.specs.Reports.{is_other, act_reports, breaks_only, IsReportOf, AreReportsOf}
-use Rattle.witness_laws.proofs.server.Knowing.{IsWithin, within_itself, within_trans, answer_within, Becomes, below_renewed}
-use Rattle.witness_laws.proofs.server.Knowing.{begun_at, pending, next, AreWithin, more_within, IsStep, AreSteps, steps_within, gone_within, nothing_left}
+use Rattle.witness_laws.proofs.server.Knowing.{IsWithin, within_itself, within_trans, answer_within, Becomes, below_renewed, begun_at, pending, next, AreWithin}
+use Rattle.witness_laws.proofs.server.Knowing.{more_within, IsStep, AreSteps, steps_within, gone_within, nothing_left}
 use Rattle.witness_laws.proofs.server.Selected.{Selected, IsSo, still_so, less_so}
-use Rattle.witness_laws.proofs.server.Places.{Shape, opened, used, AreShaped, HaveOthers, renews, shaped_renewed, shaped_join, Split}
-use Rattle.witness_laws.proofs.server.Places.{none_under, marked, own, use_same, heard_uses, ended_uses}
+use Rattle.witness_laws.proofs.server.Places.{Shape, opened, used, AreShaped, HaveOthers, renews, shaped_renewed, shaped_join, Split, none_under, marked, own}
+use Rattle.witness_laws.proofs.server.Places.{use_same, heard_uses, ended_uses}
 use Rattle.witness_laws.proofs.orders.Counts.{line_is, none_before, none_after, renewed_counted, marked_counted, gone_counted, map_counted, higher, one_counted}
 use Rattle.witness_laws.specs.Orders
+use Rattle.witness_laws.proofs.orders.Claiming.{reports_join}
 
 -- ---- reports
 
@@ -58,13 +39,6 @@ reports_other [] x e = no_report x e
 reports_other (y ∷ ys) x e =
     reports_step_other (is_other y) y (act_reports (ys ++ x ∷ [])) (act_reports ys) (reports_other ys x e)
 
-pair_more : (xs : List Reported) (acts : List Act) (x : Reported) (a : Act) → AreReportsOf xs acts → IsReportOf x a
-    → AreReportsOf (xs ++ x ∷ []) (acts ++ a ∷ [])
-pair_more [] [] x a h one = (one, tt)
-pair_more [] (b ∷ acts) x a h one = absurd h
-pair_more (y ∷ xs) [] x a h one = absurd h
-pair_more (y ∷ xs) (b ∷ acts) x a h one = (h.0, pair_more xs acts x a h.1 one)
-
 all_more : (P : Tag → Bool) (so_far : List Reported) (x : Reported) → list_all (breaks_only P) so_far ≡ true → breaks_only P x ≡ true
     → list_all (breaks_only P) (so_far ++ x ∷ []) ≡ true
 all_more P so_far x h one =
@@ -80,7 +54,7 @@ pub record Tells (P : Tag → Bool) (so_far : List Reported) (acts : List Act) :
 pub tells_more : (P : Tag → Bool) (so_far : List Reported) (acts : List Act) (x : Reported) (a : Act) → is_other x ≡ false
     → breaks_only P x ≡ true → Tells P so_far acts → IsReportOf x a → Tells P (so_far ++ x ∷ []) (acts ++ a ∷ [])
 tells_more P so_far acts x a e b h one = record {
-  are = subst (λ (l : List Reported). AreReportsOf l (acts ++ a ∷ [])) (sym (reports_more so_far x e)) (pair_more (act_reports so_far) acts x a h.are one);
+  are = subst (λ (l : List Reported). AreReportsOf l (acts ++ a ∷ [])) (sym (reports_more so_far x e)) (reports_join acts (a ∷ []) (act_reports so_far) (x ∷ []) h.are (one, tt));
   breaks = all_more P so_far x h.breaks b;
 }
 
@@ -151,10 +125,10 @@ kept r u h =
     go false e = below_renewed r (pending u.line u.stage) (pending u.line u.stage) u.command e h
 
 fault_becomes : (n : ℕ) (at : Stage) → Becomes (renewed Fault (pending n at)) (pending n at)
-fault_becomes n stage.Sent = inr refl
-fault_becomes n stage.Received = inl refl
-fault_becomes n (stage.Given d) = inl refl
-fault_becomes n stage.Lost = inl refl
+fault_becomes n Stage.Sent = inr refl
+fault_becomes n Stage.Received = inl refl
+fault_becomes n (Stage.Given d) = inl refl
+fault_becomes n Stage.Lost = inl refl
 
 faults_step : (us : List Use) → AreSteps Fault us (renews Fault us)
 faults_step [] = tt
@@ -214,7 +188,7 @@ at_once_at P s acts xs d line h = record {
   rising = map_counted unknowing (λ u. refl) 0 d.uses d.lines h.rising;
   clear = h.clear;
   counted = h.counted;
-  tells = tells_other P d.reported acts (reports.Other Client line) refl refl h.tells;
+  tells = tells_other P d.reported acts (Reported.Other Client line) refl refl h.tells;
 }
 
 pub one_more_at : (P : Tag → Bool) (s : Selected) (acts : List Act) (xs : List Shape) (d : Dialogue) → IsAt P s acts xs d
@@ -233,24 +207,24 @@ one_more_at P s acts xs d h = record {
 -- one under a tag that is not in use
 first_sent : (P : Tag → Bool) (s : Selected) (acts : List Act) (xs : List Shape) (d : Dialogue) (tag : Tag) (what : SentCommand)
     → IsCounted P tag what → IsAt P s acts xs d
-    → IsAt P s acts (xs ++ opened tag what stage.Sent ∷ []) (sending_after d tag what None)
+    → IsAt P s acts (xs ++ opened tag what Stage.Sent ∷ []) (sending_after d tag what None)
 first_sent P s acts xs d tag what counts h =
-    let u : Use = used (opened tag what stage.Sent) d.lines d.known in record {
+    let u : Use = used (opened tag what Stage.Sent) d.lines d.known in record {
       view = h.view;
       so = h.so;
-      within = more_within h.view d.uses u d.known (below (Some (pending d.lines stage.Sent)) what d.known) h.within
-          (within_itself d.known) (within_itself (below (Some (pending d.lines stage.Sent)) what d.known));
-      shaped = shaped_join xs (opened tag what stage.Sent ∷ []) d.uses (u ∷ []) h.shaped (refl, tt);
+      within = more_within h.view d.uses u d.known (below (Some (pending d.lines Stage.Sent)) what d.known) h.within
+          (within_itself d.known) (within_itself (below (Some (pending d.lines Stage.Sent)) what d.known));
+      shaped = shaped_join xs (opened tag what Stage.Sent ∷ []) d.uses (u ∷ []) h.shaped (refl, tt);
       rising = one_counted 0 d.uses u h.rising;
       clear = ap (λ (b : Bool). b || (d.ordered && false)) h.clear ∙ and_false d.ordered;
-      counted = counted_more P xs (opened tag what stage.Sent) h.counted counts;
+      counted = counted_more P xs (opened tag what Stage.Sent) h.counted counts;
       tells = h.tells;
     }
 
 pub sent_at : (P : Tag → Bool) (s : Selected) (acts : List Act) (xs : List Shape) (d : Dialogue) (tag : Tag) (what : SentCommand)
-    → IsCounted P tag what → HaveOthers tag xs → IsAt P s acts xs d → IsAt P s acts (xs ++ opened tag what stage.Sent ∷ []) (sending d tag what)
+    → IsCounted P tag what → HaveOthers tag xs → IsAt P s acts xs d → IsAt P s acts (xs ++ opened tag what Stage.Sent ∷ []) (sending d tag what)
 sent_at P s acts xs d tag what counts others h =
-    subst (λ o. IsAt P s acts (xs ++ opened tag what stage.Sent ∷ []) (sending_after d tag what o))
+    subst (λ o. IsAt P s acts (xs ++ opened tag what Stage.Sent ∷ []) (sending_after d tag what o))
     (sym (none_under tag xs d.uses h.shaped others)) (first_sent P s acts xs d tag what counts h)
 
 -- ---- a mark for a command
@@ -333,30 +307,30 @@ known_first P s acts x after d h at p first waiting =
     (less_so s (answered_known h p.k) at.view (answered_less h p.k at.view (here.0 waiting)) at.so)))
   where
     answered_less : (g : Heard) (k e : Known) → IsWithin k e → IsWithin (answered_known g k) e
-    answered_less heard.Received k e w = w
-    answered_less heard.Failed k e w = w
-    answered_less (heard.Given g) k e w = within_trans (all_renewed Answer k) k e (answer_within k) w
-    answered_less heard.Unread k e w = within_trans (all_renewed Answer k) k e (answer_within k) w
-    answered_less heard.Complete k e w = within_trans (all_renewed Answer k) k e (answer_within k) w
+    answered_less Heard.Received k e w = w
+    answered_less Heard.Failed k e w = w
+    answered_less (Heard.Given g) k e w = within_trans (all_renewed Answer k) k e (answer_within k) w
+    answered_less Heard.Unread k e w = within_trans (all_renewed Answer k) k e (answer_within k) w
+    answered_less Heard.Complete k e w = within_trans (all_renewed Answer k) k e (answer_within k) w
 
 -- the first command fails: what it has begun is lost
 pub stops_at : (P : Tag → Bool) (s new : Selected) (acts : List Act) (tag : Tag) (c : Command) (after : List Shape) (d : Dialogue)
-    → (at : IsAt P s acts (opened tag (sends.Known c) stage.Received ∷ after) d)
-    → (p : Split [] (opened tag (sends.Known c) stage.Received) after d.uses)
+    → (at : IsAt P s acts (opened tag (SentCommand.Known c) Stage.Received ∷ after) d)
+    → (p : Split [] (opened tag (SentCommand.Known c) Stage.Received) after d.uses)
     → ((n : ℕ) (k : Known) → IsSo s k
-    → IsSo new (all_renewed (Mark n heard.Failed) (below (Some (pending n stage.Received)) (sends.Known c) k)))
-    → Tells P (d.reported ++ said_of d (opened tag (sends.Known c) stage.Received) p.n p.k heard.Failed) acts
-    → IsAt P new acts (marked (opened tag (sends.Known c) stage.Received) heard.Failed ∷ after)
-    (hearing d (length p.b) (used (opened tag (sends.Known c) stage.Received) p.n p.k) heard.Failed false)
+    → IsSo new (all_renewed (Mark n Heard.Failed) (below (Some (pending n Stage.Received)) (SentCommand.Known c) k)))
+    → Tells P (d.reported ++ said_of d (opened tag (SentCommand.Known c) Stage.Received) p.n p.k Heard.Failed) acts
+    → IsAt P new acts (marked (opened tag (SentCommand.Known c) Stage.Received) Heard.Failed ∷ after)
+    (hearing d (length p.b) (used (opened tag (SentCommand.Known c) Stage.Received) p.n p.k) Heard.Failed false)
 stops_at P s new acts tag c after d at p so tells =
-    let x : Shape = opened tag (sends.Known c) stage.Received in
-    let r : Renewal = Mark p.n heard.Failed in
+    let x : Shape = opened tag (SentCommand.Known c) Stage.Received in
+    let r : Renewal = Mark p.n Heard.Failed in
     let u : Use = used x p.n p.k in
-    let v : Use = own x p.n p.k heard.Failed in
+    let v : Use = own x p.n p.k Heard.Failed in
     let first : p.b ≡ [] = none_shaped p.b p.front in
-    let is : map (use_heard p.n heard.Failed) d.uses ≡ renews r p.b ++ v ∷ renews r p.a =
-    heard_uses heard.Failed [] x after d.uses d.lines at.rising p in
-    let only : map (use_heard p.n heard.Failed) d.uses ≡ v ∷ renews r p.a = is ∙ ap (λ b. renews r b ++ v ∷ renews r p.a) first in
+    let is : map (use_heard p.n Heard.Failed) d.uses ≡ renews r p.b ++ v ∷ renews r p.a =
+    heard_uses Heard.Failed [] x after d.uses d.lines at.rising p in
+    let only : map (use_heard p.n Heard.Failed) d.uses ≡ v ∷ renews r p.a = is ∙ ap (λ b. renews r b ++ v ∷ renews r p.a) first in
     let rising : Orders.AreCounted 0 (p.b ++ u ∷ p.a) d.lines = subst (λ us. Orders.AreCounted 0 us d.lines) p.parts at.rising in
     let here : AreWithin at.view (u ∷ p.a) d.known =
     subst (λ b. AreWithin at.view (b ++ u ∷ p.a) d.known) first (subst (λ us. AreWithin at.view us d.known) p.parts at.within) in
@@ -366,9 +340,9 @@ stops_at P s new acts tag c after d at p so tells =
       within = subst (λ us. AreWithin (all_renewed r (next u at.view)) us (all_renewed r d.known)) (sym only) (
         λ waiting. absurd (false≢true (sym waiting)),
         steps_within r (next u at.view) p.a (renews r p.a) d.known
-            (others_step p.n heard.Failed p.a (none_after 0 p.b u p.a d.lines rising)) here.1,
+            (others_step p.n Heard.Failed p.a (none_after 0 p.b u p.a d.lines rising)) here.1,
       );
-      shaped = subst (AreShaped (marked x heard.Failed ∷ after)) (sym only)
+      shaped = subst (AreShaped (marked x Heard.Failed ∷ after)) (sym only)
           (refl, shaped_renewed (all_renewed r) after p.a p.back);
       rising = subst (λ us. Orders.AreCounted 0 us d.lines) (sym is) (marked_counted (all_renewed r) 0 p.b u v p.a d.lines refl rising);
       clear = at.clear;
@@ -378,29 +352,29 @@ stops_at P s new acts tag c after d at p so tells =
 
 -- the first command is done, with its act
 pub done_at : (P : Tag → Bool) (s new : Selected) (acts done : List Act) (tag : Tag) (c : Command) (at_stage : Stage) (after : List Shape)
-    (d : Dialogue) → (at : IsAt P s acts (opened tag (sends.Known c) at_stage ∷ after) d)
-    → (p : Split [] (opened tag (sends.Known c) at_stage) after d.uses)
-    → ((n : ℕ) (k : Known) → IsSo s k → IsSo new (all_renewed (Mark n heard.Complete) (below (Some (pending n at_stage)) (sends.Known c) k)))
-    → Tells P (d.reported ++ said_of d (opened tag (sends.Known c) at_stage) p.n p.k heard.Complete) done
-    → IsAt P new done after (hearing d (length p.b) (used (opened tag (sends.Known c) at_stage) p.n p.k) heard.Complete true)
+    (d : Dialogue) → (at : IsAt P s acts (opened tag (SentCommand.Known c) at_stage ∷ after) d)
+    → (p : Split [] (opened tag (SentCommand.Known c) at_stage) after d.uses)
+    → ((n : ℕ) (k : Known) → IsSo s k → IsSo new (all_renewed (Mark n Heard.Complete) (below (Some (pending n at_stage)) (SentCommand.Known c) k)))
+    → Tells P (d.reported ++ said_of d (opened tag (SentCommand.Known c) at_stage) p.n p.k Heard.Complete) done
+    → IsAt P new done after (hearing d (length p.b) (used (opened tag (SentCommand.Known c) at_stage) p.n p.k) Heard.Complete true)
 done_at P s new acts done tag c at_stage after d at p so tells =
-    let x : Shape = opened tag (sends.Known c) at_stage in
-    let r : Renewal = Mark p.n heard.Complete in
+    let x : Shape = opened tag (SentCommand.Known c) at_stage in
+    let r : Renewal = Mark p.n Heard.Complete in
     let u : Use = used x p.n p.k in
     let first : p.b ≡ [] = none_shaped p.b p.front in
-    let is : left_over (map (use_heard p.n heard.Complete) d.uses) (length p.b) true ≡ renews r p.b ++ renews r p.a =
-    ended_uses heard.Complete [] x after d.uses d.lines at.rising p in
-    let only : left_over (map (use_heard p.n heard.Complete) d.uses) (length p.b) true ≡ renews r p.a =
+    let is : left_over (map (use_heard p.n Heard.Complete) d.uses) (length p.b) true ≡ renews r p.b ++ renews r p.a =
+    ended_uses Heard.Complete [] x after d.uses d.lines at.rising p in
+    let only : left_over (map (use_heard p.n Heard.Complete) d.uses) (length p.b) true ≡ renews r p.a =
     is ∙ ap (λ b. renews r b ++ renews r p.a) first in
     let rising : Orders.AreCounted 0 (p.b ++ u ∷ p.a) d.lines = subst (λ us. Orders.AreCounted 0 us d.lines) p.parts at.rising in
     let here : AreWithin at.view (u ∷ p.a) d.known =
     subst (λ b. AreWithin at.view (b ++ u ∷ p.a) d.known) first (subst (λ us. AreWithin at.view us d.known) p.parts at.within) in
     record {
-      view = all_renewed r (below (Some (pending p.n at_stage)) (sends.Known c) at.view);
+      view = all_renewed r (below (Some (pending p.n at_stage)) (SentCommand.Known c) at.view);
       so = so p.n at.view at.so;
       within = subst (λ us. AreWithin (all_renewed r (next u at.view)) us (all_renewed r d.known)) (sym only)
           (steps_within r (next u at.view) p.a (renews r p.a) d.known
-          (others_step p.n heard.Complete p.a (none_after 0 p.b u p.a d.lines rising)) here.1);
+          (others_step p.n Heard.Complete p.a (none_after 0 p.b u p.a d.lines rising)) here.1);
       shaped = subst (AreShaped after) (sym only) (shaped_renewed (all_renewed r) after p.a p.back);
       rising = subst (λ us. Orders.AreCounted 0 us d.lines) (sym is) (gone_counted (all_renewed r) 0 p.b u p.a d.lines rising);
       clear = at.clear;

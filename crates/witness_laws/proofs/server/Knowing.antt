@@ -1,27 +1,8 @@
 -- What may be known for one line is what may be known for the line above it, and what that line changes.
-use Rattle.std.proofs.Common.{◌≡◌, ℕ, Bool, true, false, cond, ◌⊎◌, inl, inr, List, [], ◌∷◌, ◌++◌, map, Option, Some, None}
-use Rattle.std.proofs.Common.{refl, sym, ap, subst}
-use Rattle.fixed_um.specs.Points.{point_opposite}
-use Rattle.fixed_um.specs.declared.lengths.Point.{Point}
-use Rattle.dme_line.specs.declared.commands.Command.{Command}
-use Rattle.dme_line.specs.declared.commands.Command.TheVariants as command
-use Rattle.dme_line.specs.declared.commands.Csy.{Csy}
-use Rattle.dme_line.specs.declared.commands.Csy.TheVariants.{MachineCsy, PartCsy}
-use Rattle.protocol_model.proofs.table.Basics.{if_true}
-use Rattle.witness.specs.Dialogues.{unknowing}
-use Rattle.witness.specs.Known.{nothing, at, answering, renewed, standing, one_renewed, all_renewed}
-use Rattle.witness.specs.Known.{unless_part, below_command, below}
-use Rattle.witness.specs.declared.lines.Known.{Known}
-use Rattle.witness.specs.declared.lines.Progress.{Progress}
-use Rattle.witness.specs.declared.lines.Progress.TheVariants as progress
-use Rattle.witness.specs.declared.lines.Renewal.{Renewal}
-use Rattle.witness.specs.declared.lines.Renewal.TheVariants.{Answer}
-use Rattle.witness.specs.declared.lines.SentCommand.{SentCommand}
-use Rattle.witness.specs.declared.lines.SentCommand.TheVariants as sends
-use Rattle.witness.specs.declared.lines.Stage.{Stage}
-use Rattle.witness.specs.declared.lines.Stage.TheVariants as stage
-use Rattle.witness.specs.declared.lines.Standing.{Standing}
-use Rattle.witness.specs.declared.lines.Use.{Use}
+use Rattle.witness_laws.proofs.Names.{◌++◌, ◌∷◌, ◌≡◌, ◌⊎◌, [], all_renewed, Answer, answering, ap, at, below, below_command, Bool, Command, cond, Csy}
+use Rattle.witness_laws.proofs.Names.{false, if_true, inl, inr, Known, List, MachineCsy, map, None, nothing, one_renewed, Option, PartCsy, Point}
+use Rattle.witness_laws.proofs.Names.{point_opposite, Progress, refl, Renewal, renewed, SentCommand, Some, Stage, Standing, standing, subst, sym}
+use Rattle.witness_laws.proofs.Names.{true, unknowing, unless_part, Use, ℕ}
 
 -- ---- less is known
 
@@ -104,9 +85,9 @@ one_becomes a o s (inr e) = subst (λ p. IsOrNone (standing a p) (Some (a, s))) 
 
 -- an answer only takes what is known
 answer_takes : (s : Standing) (p : Progress) → s.progress ≡ p → Becomes (answering s p) s
-answer_takes s progress.Sent e = inl refl
-answer_takes s progress.Begun e = inl refl
-answer_takes s progress.Done e = inr refl
+answer_takes s Progress.Sent e = inl refl
+answer_takes s Progress.Begun e = inl refl
+answer_takes s Progress.Done e = inr refl
 
 one_answered : {A : Type 0} (x : Option (A × Standing)) → IsOrNone (one_renewed Answer x) x
 one_answered None = tt
@@ -134,28 +115,28 @@ unless_both (Some (MachineCsy, s)) p b q h = (ap unless_part h.0, h.1)
 unless_both (Some (PartCsy, s)) p b q h = tt
 
 command_within : (o : Option Standing) (c : Command) (k e : Known) → IsWithin k e → IsWithin (below_command o c k) (below_command o c e)
-command_within o command.StartSession k e h = within_itself nothing
-command_within o command.EndSession k e h = within_itself nothing
-command_within o command.Home k e h = record { tool = tt; zero = h.zero; frame = h.frame }
-command_within o (command.ChangeTool tool) k e h = record { tool = one_itself (standing tool o); zero = h.zero; frame = h.frame }
-command_within o (command.SetCsyTransformation p) k e h = record {
+command_within o Command.StartSession k e h = within_itself nothing
+command_within o Command.EndSession k e h = within_itself nothing
+command_within o Command.Home k e h = record { tool = tt; zero = h.zero; frame = h.frame }
+command_within o (Command.ChangeTool tool) k e h = record { tool = one_itself (standing tool o); zero = h.zero; frame = h.frame }
+command_within o (Command.SetCsyTransformation p) k e h = record {
   tool = h.tool;
   zero = one_itself (standing (point_opposite p) o);
   frame = unless_both k.csy k.part e.csy e.part h.frame;
 }
-command_within o (command.SetCoordSystem csy) k e h =
+command_within o (Command.SetCoordSystem csy) k e h =
     record { tool = h.tool; zero = h.zero; frame = frame_itself (standing csy o) k.zero e.zero h.zero }
-command_within o command.ClearAllErrors k e h = h
-command_within o command.IsHomed k e h = h
-command_within o command.OnPtMeasReport k e h = h
-command_within o (command.GoTo p) k e h = h
-command_within o (command.PtMeas p d) k e h = h
-command_within o command.AbortE k e h = h
+command_within o Command.ClearAllErrors k e h = h
+command_within o Command.IsHomed k e h = h
+command_within o Command.OnPtMeasReport k e h = h
+command_within o (Command.GoTo p) k e h = h
+command_within o (Command.PtMeas p d) k e h = h
+command_within o Command.AbortE k e h = h
 
 pub below_within : (o : Option Standing) (what : SentCommand) (k e : Known) → IsWithin k e → IsWithin (below o what k) (below o what e)
-below_within o (sends.Known c) k e h = command_within o c k e h
-below_within o sends.Asking k e h = h
-below_within o (sends.Foreign line) k e h = within_itself nothing
+below_within o (SentCommand.Known c) k e h = command_within o c k e h
+below_within o SentCommand.Asking k e h = h
+below_within o (SentCommand.Foreign line) k e h = within_itself nothing
 
 unless_renewed : (r : Renewal) (csy : Option (Csy × Standing)) (part : Option (Point × Standing))
     → IsFrameOrNone (one_renewed r (unless_part csy)) part (unless_part (one_renewed r csy)) part
@@ -175,40 +156,40 @@ frame_becomes csy part o t (inr e) = subst (λ p. IsFrameOrNone (standing csy p)
 -- what happens below a line happens above it, and to its own change
 command_renewed : (r : Renewal) (s t : Standing) (c : Command) (k : Known) → Becomes (renewed r s) t
     → IsWithin (all_renewed r (below_command (Some s) c k)) (below_command (Some t) c (all_renewed r k))
-command_renewed r s t command.StartSession k h = within_itself nothing
-command_renewed r s t command.EndSession k h = within_itself nothing
-command_renewed r s t command.Home k h = record {
+command_renewed r s t Command.StartSession k h = within_itself nothing
+command_renewed r s t Command.EndSession k h = within_itself nothing
+command_renewed r s t Command.Home k h = record {
   tool = tt;
   zero = one_itself (one_renewed r k.zero);
   frame = frame_itself (one_renewed r k.csy) (one_renewed r k.part) (one_renewed r k.part) (one_itself (one_renewed r k.part));
 }
-command_renewed r s t (command.ChangeTool tool) k h = record {
+command_renewed r s t (Command.ChangeTool tool) k h = record {
   tool = one_becomes tool (renewed r s) t h;
   zero = one_itself (one_renewed r k.zero);
   frame = frame_itself (one_renewed r k.csy) (one_renewed r k.part) (one_renewed r k.part) (one_itself (one_renewed r k.part));
 }
-command_renewed r s t (command.SetCsyTransformation p) k h = record {
+command_renewed r s t (Command.SetCsyTransformation p) k h = record {
   tool = one_itself (one_renewed r k.tool);
   zero = one_becomes (point_opposite p) (renewed r s) t h;
   frame = unless_renewed r k.csy (one_renewed r k.part);
 }
-command_renewed r s t (command.SetCoordSystem csy) k h = record {
+command_renewed r s t (Command.SetCoordSystem csy) k h = record {
   tool = one_itself (one_renewed r k.tool);
   zero = one_itself (one_renewed r k.zero);
   frame = frame_becomes csy (one_renewed r k.zero) (renewed r s) t h;
 }
-command_renewed r s t command.ClearAllErrors k h = within_itself (all_renewed r k)
-command_renewed r s t command.IsHomed k h = within_itself (all_renewed r k)
-command_renewed r s t command.OnPtMeasReport k h = within_itself (all_renewed r k)
-command_renewed r s t (command.GoTo p) k h = within_itself (all_renewed r k)
-command_renewed r s t (command.PtMeas p d) k h = within_itself (all_renewed r k)
-command_renewed r s t command.AbortE k h = within_itself (all_renewed r k)
+command_renewed r s t Command.ClearAllErrors k h = within_itself (all_renewed r k)
+command_renewed r s t Command.IsHomed k h = within_itself (all_renewed r k)
+command_renewed r s t Command.OnPtMeasReport k h = within_itself (all_renewed r k)
+command_renewed r s t (Command.GoTo p) k h = within_itself (all_renewed r k)
+command_renewed r s t (Command.PtMeas p d) k h = within_itself (all_renewed r k)
+command_renewed r s t Command.AbortE k h = within_itself (all_renewed r k)
 
 pub below_renewed : (r : Renewal) (s t : Standing) (what : SentCommand) (k : Known) → Becomes (renewed r s) t
     → IsWithin (all_renewed r (below (Some s) what k)) (below (Some t) what (all_renewed r k))
-below_renewed r s t (sends.Known c) k h = command_renewed r s t c k h
-below_renewed r s t sends.Asking k h = within_itself (all_renewed r k)
-below_renewed r s t (sends.Foreign line) k h = within_itself nothing
+below_renewed r s t (SentCommand.Known c) k h = command_renewed r s t c k h
+below_renewed r s t SentCommand.Asking k h = within_itself (all_renewed r k)
+below_renewed r s t (SentCommand.Foreign line) k h = within_itself nothing
 
 -- what a line that fails has begun is lost
 unless_lost : (r : Renewal) (csy : Option (Csy × Standing)) (part : Option (Point × Standing))
@@ -227,47 +208,47 @@ no_frame_left csy o p e q is = subst (λ x. IsFrameOrNone (standing csy x) p e q
 
 command_lost : (r : Renewal) (s : Standing) (c : Command) (k : Known) → renewed r s ≡ None
     → IsWithin (all_renewed r (below_command (Some s) c k)) (all_renewed r k)
-command_lost r s command.StartSession k h = nothing_within (all_renewed r k)
-command_lost r s command.EndSession k h = nothing_within (all_renewed r k)
-command_lost r s command.Home k h = record {
+command_lost r s Command.StartSession k h = nothing_within (all_renewed r k)
+command_lost r s Command.EndSession k h = nothing_within (all_renewed r k)
+command_lost r s Command.Home k h = record {
   tool = tt;
   zero = one_itself (one_renewed r k.zero);
   frame = frame_itself (one_renewed r k.csy) (one_renewed r k.part) (one_renewed r k.part) (one_itself (one_renewed r k.part));
 }
-command_lost r s (command.ChangeTool tool) k h = record {
+command_lost r s (Command.ChangeTool tool) k h = record {
   tool = none_left tool (renewed r s) (one_renewed r k.tool) h;
   zero = one_itself (one_renewed r k.zero);
   frame = frame_itself (one_renewed r k.csy) (one_renewed r k.part) (one_renewed r k.part) (one_itself (one_renewed r k.part));
 }
-command_lost r s (command.SetCsyTransformation p) k h = record {
+command_lost r s (Command.SetCsyTransformation p) k h = record {
   tool = one_itself (one_renewed r k.tool);
   zero = none_left (point_opposite p) (renewed r s) (one_renewed r k.zero) h;
   frame = unless_lost r k.csy (one_renewed r k.part);
 }
-command_lost r s (command.SetCoordSystem csy) k h = record {
+command_lost r s (Command.SetCoordSystem csy) k h = record {
   tool = one_itself (one_renewed r k.tool);
   zero = one_itself (one_renewed r k.zero);
   frame = no_frame_left csy (renewed r s) (one_renewed r k.zero) (one_renewed r k.csy) (one_renewed r k.part) h;
 }
-command_lost r s command.ClearAllErrors k h = within_itself (all_renewed r k)
-command_lost r s command.IsHomed k h = within_itself (all_renewed r k)
-command_lost r s command.OnPtMeasReport k h = within_itself (all_renewed r k)
-command_lost r s (command.GoTo p) k h = within_itself (all_renewed r k)
-command_lost r s (command.PtMeas p d) k h = within_itself (all_renewed r k)
-command_lost r s command.AbortE k h = within_itself (all_renewed r k)
+command_lost r s Command.ClearAllErrors k h = within_itself (all_renewed r k)
+command_lost r s Command.IsHomed k h = within_itself (all_renewed r k)
+command_lost r s Command.OnPtMeasReport k h = within_itself (all_renewed r k)
+command_lost r s (Command.GoTo p) k h = within_itself (all_renewed r k)
+command_lost r s (Command.PtMeas p d) k h = within_itself (all_renewed r k)
+command_lost r s Command.AbortE k h = within_itself (all_renewed r k)
 
 pub below_lost : (r : Renewal) (s : Standing) (what : SentCommand) (k : Known) → renewed r s ≡ None
     → IsWithin (all_renewed r (below (Some s) what k)) (all_renewed r k)
-below_lost r s (sends.Known c) k h = command_lost r s c k h
-below_lost r s sends.Asking k h = within_itself (all_renewed r k)
-below_lost r s (sends.Foreign line) k h = nothing_within (all_renewed r k)
+below_lost r s (SentCommand.Known c) k h = command_lost r s c k h
+below_lost r s SentCommand.Asking k h = within_itself (all_renewed r k)
+below_lost r s (SentCommand.Foreign line) k h = nothing_within (all_renewed r k)
 
 -- ---- lines, one below another
 
 -- how far the change of a line is that has not failed
 abbrev pub begun_at : Stage → Progress
-begun_at stage.Sent = progress.Sent
-begun_at _ = progress.Begun
+begun_at Stage.Sent = Progress.Sent
+begun_at _ = Progress.Begun
 
 abbrev pub pending : ℕ → Stage → Standing
 pending n at = record { line = n; rival = None; progress = begun_at at }

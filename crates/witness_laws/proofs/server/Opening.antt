@@ -1,31 +1,15 @@
 -- The commands that are open at a server, and at a witness.
-use Rattle.std.proofs.Common.{◌≡◌, ℕ, Bool, true, false, ◌||◌, List, [], ◌∷◌, ◌++◌, Option, Some, None, Result, Ok, Err}
-use Rattle.std.proofs.Common.{refl, sym, ap, ◌∙◌, subst}
-use Rattle.std.proofs.lemmas.Bool.{false≢true, or_parts, or_from}
-use Rattle.contact_ledger.specs.declared.acts.Act.{Act}
-use Rattle.dme_line.specs.Tags.{IsTag, is_event_tag}
-use Rattle.dme_line.specs.declared.commands.Command.{Command}
-use Rattle.dme_line.specs.declared.tags.Tag.{Tag}
-use Rattle.protocol_model.specs.Lines.{reply_texts}
-use Rattle.protocol_model.specs.Replies.{tag_is}
-use Rattle.protocol_model.specs.Server.{kind_in, all_fail, runs_under, waits_under, is_abort}
+use Rattle.witness_laws.proofs.Names.{◌++◌, ◌||◌, ◌∙◌, ◌∷◌, ◌≡◌, [], Act, all_fail, ap, AreReplies, Bool, Command, Dialogue, Err, false, false≢true}
+use Rattle.witness_laws.proofs.Names.{is_abort, is_event_tag, IsTag, kind_in, List, Misread, None, Ok, Option, or_from, or_parts, refl, reply_texts}
+use Rattle.witness_laws.proofs.Names.{Result, runs_under, SentCommand, server_lines, Some, Stage, subst, sym, Tag, tag_is, tag_is-refl, tag_is-true}
+use Rattle.witness_laws.proofs.Names.{true, Waiting, waits_under, ℕ}
 use Rattle.protocol_model.specs.declared.lines.Line.{Line}
-use Rattle.protocol_model.specs.declared.lines.Misread.{Misread}
-use Rattle.protocol_model.specs.declared.lines.Waiting.{Waiting}
-use Rattle.protocol_model.proofs.table.Basics.{tag_is-refl, tag_is-true}
 use Rattle.server_core.specs.Kept.{IsReadingFit}
-use Rattle.witness.specs.Asking.{server_line}
-use Rattle.witness.specs.Dialogues.{Dialogue, after}
-use Rattle.witness.specs.Watching.{server_lines}
-use Rattle.witness.specs.declared.lines.SentCommand.{SentCommand}
-use Rattle.witness.specs.declared.lines.SentCommand.TheVariants as asks
-use Rattle.witness.specs.declared.lines.Stage.TheVariants as stage
 use Rattle.witness_laws.proofs.server.Places.{Shape, HaveOthers, opened}
 use Rattle.witness_laws.proofs.server.Selected.{Selected}
 use Rattle.witness_laws.proofs.server.Hearing.{IsAt}
 use Rattle.witness_laws.proofs.server.Replies.{fails_here, fails_heard}
 use Rattle.witness_laws.proofs.server.Answering.{AreHeard}
-use Rattle.protocol_model.proofs.written_lines.Writable.{AreReplies}
 
 -- ---- what runs and waits
 
@@ -36,10 +20,10 @@ running_one (Some line) = record { tag = line.tag; reading = Ok line.command } �
 
 -- a witness has a line under this reading as what it is: a command, or a line that is not known
 abbrev pub IsAskedAs : Result Command Misread → SentCommand → Type 0
-IsAskedAs (Ok c) asked = asked ≡ asks.Known c
-IsAskedAs (Err why) (asks.Known c) = ⊥
-IsAskedAs (Err why) asks.Asking = Unit {0}
-IsAskedAs (Err why) (asks.Foreign line) = Unit {0}
+IsAskedAs (Ok c) asked = asked ≡ SentCommand.Known c
+IsAskedAs (Err why) (SentCommand.Known c) = ⊥
+IsAskedAs (Err why) SentCommand.Asking = Unit {0}
+IsAskedAs (Err why) (SentCommand.Foreign line) = Unit {0}
 
 -- what may run or wait: under a standard tag, no abort, with lengths in the volume
 pub record IsOpen (w : Waiting) (asked : SentCommand) : Type 0 where
@@ -53,7 +37,7 @@ pub record IsOpen (w : Waiting) (asked : SentCommand) : Type 0 where
 abbrev pub AreOpen : List Waiting → List Shape → Type 0
 AreOpen [] us = us ≡ []
 AreOpen (w ∷ ws) us =
-    (asked : SentCommand) × (rest : List Shape) × (us ≡ opened w.tag asked stage.Received ∷ rest) × IsOpen w asked × AreOpen ws rest
+    (asked : SentCommand) × (rest : List Shape) × (us ≡ opened w.tag asked Stage.Received ∷ rest) × IsOpen w asked × AreOpen ws rest
 
 -- no two of them have one tag
 abbrev pub AreApart : List Waiting → Type 0
@@ -97,13 +81,13 @@ apart_more (v ∷ ws) w h e =
     (waits_more v.tag ws w h.0 (tag_apart v.tag w.tag parts.0), apart_more ws w h.1 parts.1)
 
 pub open_more : (ws : List Waiting) (us : List Shape) (w : Waiting) (asked : SentCommand) → AreOpen ws us → IsOpen w asked
-    → AreOpen (ws ++ w ∷ []) (us ++ opened w.tag asked stage.Received ∷ [])
+    → AreOpen (ws ++ w ∷ []) (us ++ opened w.tag asked Stage.Received ∷ [])
 open_more [] us w asked h one =
-    (asked, [], ap (λ (l : List Shape). l ++ opened w.tag asked stage.Received ∷ []) h, one, refl)
+    (asked, [], ap (λ (l : List Shape). l ++ opened w.tag asked Stage.Received ∷ []) h, one, refl)
 open_more (v ∷ ws) us w asked h one = (
   h.0,
-  h.1 ++ opened w.tag asked stage.Received ∷ [],
-  ap (λ (l : List Shape). l ++ opened w.tag asked stage.Received ∷ []) h.2,
+  h.1 ++ opened w.tag asked Stage.Received ∷ [],
+  ap (λ (l : List Shape). l ++ opened w.tag asked Stage.Received ∷ []) h.2,
   h.3,
   open_more ws h.1 w asked h.4 one,
 )
@@ -141,7 +125,7 @@ pub all_fail_heard : (P : Tag → Bool) (s : Selected) (acts : List Act) (code :
     → AreOpen ws us → AreFree before ws → IsAt P s acts (before ++ (us ++ after_it)) t → AreHeard t (reply_texts (all_fail code ws))
 all_fail_heard P s acts code [] us before after_it t h free at = tt
 all_fail_heard P s acts code (w ∷ ws) us before after_it t h free at =
-    let first : IsAt P s acts (before ++ opened w.tag h.0 stage.Received ∷ (h.1 ++ after_it)) t =
+    let first : IsAt P s acts (before ++ opened w.tag h.0 Stage.Received ∷ (h.1 ++ after_it)) t =
     subst (λ (l : List Shape). IsAt P s acts (before ++ (l ++ after_it)) t) h.2 at in
     let two = fails_heard P s acts before w.tag h.0 (h.1 ++ after_it) t code (kind_in w.reading) h.3.room free.0 first in (
       two.0,

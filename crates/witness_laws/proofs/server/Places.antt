@@ -1,28 +1,10 @@
 -- The commands that are open at a witness, and for which of them it hears a written line of a server.
-use Rattle.std.proofs.Common.{◌≡◌, ℕ, ◌+◌, ◌≤◌, ◌==◌, Bool, true, false, ◌||◌, List, [], ◌∷◌, ◌++◌, length, map, Some, None}
-use Rattle.std.proofs.Common.{refl, sym, ap, ◌∙◌, subst, arith, eq-eqb, ne_eqb}
-use Rattle.std.specs.Prelude.{slice_get, remove}
-use Rattle.std.specs.List.{position_from, list_any}
-use Rattle.std.proofs.lemmas.Iterator.Adapters.{position_from-zero}
-use Rattle.dme_line.specs.declared.tags.Tag.{Tag}
-use Rattle.protocol_model.specs.Lines.{reply_text}
-use Rattle.protocol_model.specs.Replies.{Reply, tag_is}
-use Rattle.protocol_model.proofs.table.Basics.{if_true, if_false, tag_is-refl}
-use Rattle.protocol_model.proofs.written_lines.Writable.{IsWritableReply, response_for, reply_read}
-use Rattle.witness.specs.Asking.{Signal, signal_of, answered, server_line}
-use Rattle.witness.specs.Dialogues.{Dialogue, use_renewed, use_heard, after_mark, answered_known, left_over, last_under, heard_at, at_use, heard_under}
-use Rattle.witness.specs.Dialogues.{first_under, server_answered, after}
-use Rattle.witness.specs.Known.{all_renewed}
-use Rattle.witness.specs.Marks.{is_error, stage_with, heard_as, is_end}
-use Rattle.witness.specs.declared.lines.Heard.{Heard}
-use Rattle.witness.specs.declared.lines.Known.{Known}
-use Rattle.witness.specs.declared.lines.Renewal.{Renewal}
-use Rattle.witness.specs.declared.lines.Renewal.TheVariants.{Mark}
-use Rattle.witness.specs.declared.lines.SentCommand.{SentCommand}
-use Rattle.witness.specs.declared.lines.Stage.{Stage}
-use Rattle.witness.specs.declared.lines.Use.{Use}
-use Rattle.std.proofs.lemmas.Bool.{or_parts}
-use Rattle.witness_laws.specs.Orders.{is_open, AreCounted}
+use Rattle.witness_laws.proofs.Names.{◌++◌, ◌==◌, ◌||◌, ◌∙◌, ◌∷◌, ◌≡◌, [], after, after_mark, all_renewed, answered, answered_known, ap}
+use Rattle.witness_laws.proofs.Names.{AreCounted, Bool, Dialogue, eq-eqb, false, first_under, Heard, heard_as, heard_at, heard_under, if_false}
+use Rattle.witness_laws.proofs.Names.{if_true, is_end, is_error, is_open, IsWritableReply, Known, last_under, left_over, length, List, list_any, map}
+use Rattle.witness_laws.proofs.Names.{Mark, None, or_parts, refl, remove, Renewal, Reply, reply_read, reply_text, response_for, SentCommand}
+use Rattle.witness_laws.proofs.Names.{server_answered, server_line, Signal, signal_of, Stage, stage_with, subst, sym, Tag, tag_is, tag_is-refl, true}
+use Rattle.witness_laws.proofs.Names.{Use, use_heard, use_renewed, ℕ}
 use Rattle.witness_laws.proofs.orders.Counts.{line_is, none_before, none_after}
 use Rattle.witness_laws.proofs.orders.Marks.{nowhere, marks_first}
 use Rattle.witness_laws.proofs.orders.Swaps.{last_none}

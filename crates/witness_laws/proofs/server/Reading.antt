@@ -1,42 +1,19 @@
 -- A server and a witness read a line of the client.
-use Rattle.std.proofs.Common.{◌≡◌, ℕ, Bool, true, false, cond, not, ◌&&◌, ◌||◌, nat_le, List, [], ◌∷◌, ◌++◌, length, drop, Option, Some, None}
-use Rattle.std.proofs.Common.{Result, Ok, Err, refl, sym, ap, ◌∙◌, subst, append-nil, append_assoc, arith}
-use Rattle.std.proofs.lemmas.Bool.{false≢true}
-use Rattle.fixed_um.specs.Points.{IsInVolume}
-use Rattle.contact_ledger.specs.declared.acts.Act.{Act}
-use Rattle.dme_line.specs.CommandText.{ReadsCommand}
-use Rattle.dme_line.specs.Kinds.{kind_of}
-use Rattle.dme_line.specs.Tags.{IsTag, is_event_tag}
-use Rattle.dme_line.specs.declared.commands.Command.{Command}
-use Rattle.dme_line.specs.declared.commands.Command.TheVariants as command
-use Rattle.dme_line.specs.declared.commands.Kind.{Kind}
-use Rattle.dme_line.specs.declared.reading.LineFault.{LineFault}
-use Rattle.dme_line.specs.declared.reading.LineFault.TheVariants as fault
-use Rattle.dme_line.specs.declared.tags.Tag.{Tag}
-use Rattle.dme_line.specs.declared.tags.Tag.TheVariants.{Std, Event}
-use Rattle.dme_line.proofs.ReadWritable.{read_is_writable}
-use Rattle.protocol_model.specs.Claims.{acts_on}
-use Rattle.protocol_model.specs.Lines.{reading_of, reply_text, reply_texts}
-use Rattle.protocol_model.specs.Readings.{command_of, reads_command, response_of}
-use Rattle.protocol_model.specs.Replies.{Reply, tag_is}
-use Rattle.protocol_model.specs.Server.{Server, Answer, answers, kind_in, fails, all_fail, in_error, queued, runs_under, waits_under, is_abort, is_clear}
-use Rattle.protocol_model.specs.Server.{fault_number, aborted, stands, fresh, tagged, server_read, offset}
+use Rattle.witness_laws.proofs.Names.{◌&&◌, ◌++◌, ◌||◌, ◌∙◌, ◌∷◌, ◌≡◌, [], aborted, Act, acts_on, after, all_fail, ap, append-nil, append_assoc}
+use Rattle.witness_laws.proofs.Names.{AreReplies, arith, at_once, Bool, client_line, client_sent, Command, command_of, cond, Dialogue, drop, Err}
+use Rattle.witness_laws.proofs.Names.{Event, fails, false, false≢true, fault_number, foreign_event, heard_under, in_error, is_abort, is_asking}
+use Rattle.witness_laws.proofs.Names.{is_clear, is_event_tag, IsInVolume, IsTag, Kind, kind_in, kind_of, length, LineFault, List, Misread, nat_le}
+use Rattle.witness_laws.proofs.Names.{None, not, offset, Ok, one_more, Option, queued, read_is_writable, reading_of, reads_command, ReadsCommand}
+use Rattle.witness_laws.proofs.Names.{refl, replies_join, Reply, reply_text, reply_texts, Reported, response_of, Result, runs_under, sending, sent}
+use Rattle.witness_laws.proofs.Names.{sent_tagged, SentCommand, server_line, server_lines, server_read, Some, Stage, standard_kind, stands, Std}
+use Rattle.witness_laws.proofs.Names.{subst, sym, Tag, tag_is, tagged, true, Waiting, waits_under, ℕ}
+use Rattle.protocol_model.specs.Server.{Server, Answer, answers, fresh}
 use Rattle.protocol_model.specs.declared.lines.Line.{Line}
-use Rattle.protocol_model.specs.declared.lines.Misread.{Misread}
-use Rattle.protocol_model.specs.declared.lines.Misread.TheVariants as misread
-use Rattle.protocol_model.specs.declared.lines.Waiting.{Waiting}
-use Rattle.protocol_model.proofs.written_lines.PlainClient.{standard_kind}
+use Rattle.witness.specs.Asking.{unknown}
 use Rattle.server_core.specs.Kept.{IsLineFit}
 use Rattle.server_core.proofs.LinesRead.{read_is_fit}
 use Rattle.server_core.proofs.Steadies.{branch}
-use Rattle.witness.specs.Asking.{sent, unknown, is_asking, client_line, server_line}
-use Rattle.witness.specs.Dialogues.{Dialogue, sending, at_once, one_more, foreign_event, sent_tagged, client_sent, heard_under, after}
 use Rattle.witness.specs.Asking as witness
-use Rattle.witness.specs.Watching.{server_lines}
-use Rattle.witness.specs.declared.lines.Reported.TheVariants as reports
-use Rattle.witness.specs.declared.lines.SentCommand.{SentCommand}
-use Rattle.witness.specs.declared.lines.SentCommand.TheVariants as asks
-use Rattle.witness.specs.declared.lines.Stage.TheVariants as stage
 use Rattle.witness_laws.specs.Lockstep.{uses_again}
 use Rattle.witness_laws.proofs.server.Places.{Shape, HaveOthers, not_found, opened, said_is}
 use Rattle.witness_laws.proofs.server.Selected.{Selected, selected}
@@ -47,7 +24,6 @@ use Rattle.witness_laws.proofs.server.Opening.{running_one, IsAskedAs, IsOpen, A
 use Rattle.witness_laws.proofs.server.Opening.{open_more, AreFree, free_first, free_second, all_fail_at}
 use Rattle.witness_laws.proofs.server.Following.{open_at, Follows, FollowsTo, still, none_open, line_first}
 use Rattle.witness_laws.proofs.server.Answering.{heard_there, heard_texts, IsHeard, AreHeard}
-use Rattle.protocol_model.proofs.written_lines.Writable.{AreReplies, replies_join}
 use Rattle.witness_laws.proofs.orders.More.{server_append}
 
 -- ---- a line is sent under a tag that is not in use
@@ -59,7 +35,7 @@ record IsSent (P : Tag → Bool) (s : Server) (tag : Tag) (asked : SentCommand) 
   apart : AreApart (open_at s)
   under : waits_under tag (open_at s) ≡ false
   room : IsTag tag
-  at : IsAt P (selected s) (acts_on s.last s.ledger) (uses ++ opened tag asked stage.Sent ∷ []) t
+  at : IsAt P (selected s) (acts_on s.last s.ledger) (uses ++ opened tag asked Stage.Sent ∷ []) t
   stored : IsInVolume s.stored
   frame : IsInVolume (offset s.frame)
 
@@ -71,14 +47,14 @@ others P s tag asked t h = others_open tag (open_at s) (IsSent.uses h) (IsSent.o
 
 -- after its first answer it is received
 received : (P : Tag → Bool) (s : Server) (tag : Tag) (asked : SentCommand) (t : Dialogue) → (h : IsSent P s tag asked t)
-    → IsAt P (selected s) (acts_of s) (IsSent.uses h ++ opened tag asked stage.Received ∷ []) (after t (server_line (reply_text (Reply.Ack tag))))
+    → IsAt P (selected s) (acts_of s) (IsSent.uses h ++ opened tag asked Stage.Received ∷ []) (after t (server_line (reply_text (Reply.Ack tag))))
 received P s tag asked t h =
     receives P (selected s) (acts_of s) (IsSent.uses h) tag asked [] t (IsSent.room h) (others P s tag asked t h) (IsSent.at h)
 
 received_heard : (P : Tag → Bool) (s : Server) (tag : Tag) (asked : SentCommand) (t : Dialogue) → (h : IsSent P s tag asked t)
     → IsHeard t.uses (response_of (reply_text (Reply.Ack tag)))
 received_heard P s tag asked t h =
-    heard_there t (Reply.Ack tag) (IsSent.uses h) (opened tag asked stage.Sent) [] (IsSent.room h) refl (IsSent.at h).shaped
+    heard_there t (Reply.Ack tag) (IsSent.uses h) (opened tag asked Stage.Sent) [] (IsSent.room h) refl (IsSent.at h).shaped
 
 -- a command that is refused at once
 refused_now : (P : Tag → Bool) (s : Server) (tag : Tag) (asked : SentCommand) (t : Dialogue) (code : ℕ) (name : Option Kind) → (h : IsSent P s tag asked t)
@@ -122,8 +98,8 @@ queued_follows P s tag reading asked t error one h =
     append_assoc (running_one s.running) s.waiting (w ∷ []) in
     record {
       follows = record {
-        uses = IsSent.uses h ++ opened tag asked stage.Received ∷ [];
-        ours = subst (λ (ws : List Waiting). AreOpen ws (IsSent.uses h ++ opened tag asked stage.Received ∷ [])) same
+        uses = IsSent.uses h ++ opened tag asked Stage.Received ∷ [];
+        ours = subst (λ (ws : List Waiting). AreOpen ws (IsSent.uses h ++ opened tag asked Stage.Received ∷ [])) same
             (open_more (open_at s) (IsSent.uses h) w asked (IsSent.ours h) one);
         apart = subst AreApart same (apart_more (open_at s) w (IsSent.apart h) (IsSent.under h));
         at = received P s tag asked t h;
@@ -151,13 +127,13 @@ split_open : (running : Option Line) (ws : List Waiting) (us : List Shape) → A
 split_open None ws us ours apart =
     record { front = []; back = us; parts = refl; ours = refl; apart = tt; others = ours; free = free_first ws }
 split_open (Some line) ws us ours apart = record {
-  front = opened line.tag ours.0 stage.Received ∷ [];
+  front = opened line.tag ours.0 Stage.Received ∷ [];
   back = ours.1;
   parts = ours.2;
   ours = (ours.0, [], refl, ours.3, refl);
   apart = (refl, tt);
   others = ours.4;
-  free = free_second (opened line.tag ours.0 stage.Received) ws apart.0;
+  free = free_second (opened line.tag ours.0 Stage.Received) ws apart.0;
 }
 
 -- where 64 wait, the new one and all that wait fail
@@ -217,11 +193,11 @@ texts_more (x ∷ xs) ys = ap (λ (l : List (List ℕ)). reply_text x ∷ l) (te
 
 -- the abort ends after all others have failed
 abort_ends : (P : Tag → Bool) (new : Server) (tag : Tag) (ws : List Waiting) (rest : List Shape) (t : Dialogue) → IsTag tag → AreOpen ws rest
-    → IsAt P (selected (still new [])) (acts_of new) (rest ++ opened tag (asks.Known command.AbortE) stage.Received ∷ []) t
+    → IsAt P (selected (still new [])) (acts_of new) (rest ++ opened tag (SentCommand.Known Command.AbortE) Stage.Received ∷ []) t
     → IsInVolume new.stored → IsInVolume (offset new.frame)
     → FollowsTo P t (answers (still new []) (all_fail 9007 ws ++ Reply.Done tag ∷ []))
 abort_ends P new tag ws rest t room ours at stored frame =
-    let last : List Shape = opened tag (asks.Known command.AbortE) stage.Received ∷ [] in
+    let last : List Shape = opened tag (SentCommand.Known Command.AbortE) Stage.Received ∷ [] in
     let u : Dialogue = server_lines t (reply_texts (all_fail 9007 ws)) in
     let h : IsAt P (selected (still new [])) (acts_of new) last u =
     all_fail_at P (selected (still new [])) (acts_of new) 9007 ws rest [] last t ours (free_first ws) at in
@@ -231,34 +207,34 @@ abort_ends P new tag ws rest t room ours at stored frame =
     record {
       follows = none_open P new _
           (subst (IsAt P (selected (still new [])) (acts_of new) []) (sym same)
-          (ends_first P (selected (still new [])) (selected (still new [])) (acts_of new) (acts_of new) tag command.AbortE stage.Received [] u room
-          (λ n k is. completed_so (selected (still new [])) command.AbortE n k refl is) (λ k is. tells_same P u.reported (acts_of new) h.tells) h))
+          (ends_first P (selected (still new [])) (selected (still new [])) (acts_of new) (acts_of new) tag Command.AbortE Stage.Received [] u room
+          (λ n k is. completed_so (selected (still new [])) Command.AbortE n k refl is) (λ k is. tells_same P u.reported (acts_of new) h.tells) h))
           stored frame;
       heard = heard_texts t (all_fail 9007 ws) (Reply.Done tag ∷ [])
           (all_fail_heard P (selected (still new [])) (acts_of new) 9007 ws rest [] last t ours (free_first ws) at)
-          (heard_there u (Reply.Done tag) [] (opened tag (asks.Known command.AbortE) stage.Received) [] room refl h.shaped, tt);
+          (heard_there u (Reply.Done tag) [] (opened tag (SentCommand.Known Command.AbortE) Stage.Received) [] room refl h.shaped, tt);
       said = replies_join (all_fail 9007 ws) (Reply.Done tag ∷ []) (all_fail_said 9007 ws rest ours) (room, tt);
     }
 
 -- whatever runs fails first
 aborted_by : (P : Tag → Bool) (s : Server) (running : Option Line) (tag : Tag) (t : Dialogue)
-    → IsSent P (record s { running = running }) tag (asks.Known command.AbortE) t → FollowsTo P t (aborted (record s { running = running }) tag)
+    → IsSent P (record s { running = running }) tag (SentCommand.Known Command.AbortE) t → FollowsTo P t (aborted (record s { running = running }) tag)
 aborted_by P s None tag t h =
-    line_first P _ t (Reply.Ack tag) _ (received_heard P (record s { running = None }) tag (asks.Known command.AbortE) t h) (IsSent.room h)
+    line_first P _ t (Reply.Ack tag) _ (received_heard P (record s { running = None }) tag (SentCommand.Known Command.AbortE) t h) (IsSent.room h)
     (abort_ends P (in_error s) tag s.waiting (IsSent.uses h) _ (IsSent.room h) (IsSent.ours h)
-    (received P (record s { running = None }) tag (asks.Known command.AbortE) t h) (IsSent.stored h) (IsSent.frame h))
+    (received P (record s { running = None }) tag (SentCommand.Known Command.AbortE) t h) (IsSent.stored h) (IsSent.frame h))
 aborted_by P s (Some line) tag t h =
     let now : Server = record s { running = Some line } in
     let u : Dialogue = after t (server_line (reply_text (Reply.Ack tag))) in
-    let last : List Shape = opened tag (asks.Known command.AbortE) stage.Received ∷ [] in
+    let last : List Shape = opened tag (SentCommand.Known Command.AbortE) Stage.Received ∷ [] in
     let f = IsSent.ours h in
     let name : Option Kind = Some (kind_of line.command) in
-    let at : IsAt P (selected now) (acts_of now) (opened line.tag (asks.Known line.command) stage.Received ∷ (f.1 ++ last)) u =
-    subst (λ (a : SentCommand). IsAt P (selected now) (acts_of now) (opened line.tag a stage.Received ∷ (f.1 ++ last)) u) f.3.asks
+    let at : IsAt P (selected now) (acts_of now) (opened line.tag (SentCommand.Known line.command) Stage.Received ∷ (f.1 ++ last)) u =
+    subst (λ (a : SentCommand). IsAt P (selected now) (acts_of now) (opened line.tag a Stage.Received ∷ (f.1 ++ last)) u) f.3.asks
     (subst (λ (us : List Shape). IsAt P (selected now) (acts_of now) (us ++ last) u) f.2
-    (received P now tag (asks.Known command.AbortE) t h)) in
-    let two = fails_heard P (selected now) (acts_of now) [] line.tag (asks.Known line.command) (f.1 ++ last) u 9007 name f.3.room tt at in
-    line_first P _ t (Reply.Ack tag) _ (received_heard P now tag (asks.Known command.AbortE) t h) (IsSent.room h)
+    (received P now tag (SentCommand.Known Command.AbortE) t h)) in
+    let two = fails_heard P (selected now) (acts_of now) [] line.tag (SentCommand.Known line.command) (f.1 ++ last) u 9007 name f.3.room tt at in
+    line_first P _ t (Reply.Ack tag) _ (received_heard P now tag (SentCommand.Known Command.AbortE) t h) (IsSent.room h)
     (line_first P _ u (Reply.Error line.tag 9007 name) _ two.0 f.3.room
     (line_first P _ _ (Reply.Done line.tag) _ two.1 f.3.room
     (abort_ends P (in_error s) tag s.waiting f.1 _ (IsSent.room h) f.4
@@ -271,7 +247,7 @@ aborted_by P s (Some line) tag t h =
 -- a line is read, with its tag, under which no command runs or waits; it may be one that may be carried out at once
 sent_so : (b : Bool) (P : Tag → Bool) (s : Selected) (acts : List Act) (xs : List Shape) (d : Dialogue) (line : List ℕ) (tag : Tag)
     (asked : SentCommand) → IsCounted P tag asked → HaveOthers tag xs → IsAt P s acts xs d
-    → IsAt P s acts (xs ++ opened tag asked stage.Sent ∷ []) (cond b (sending (at_once d line) tag asked) (sending d tag asked))
+    → IsAt P s acts (xs ++ opened tag asked Stage.Sent ∷ []) (cond b (sending (at_once d line) tag asked) (sending d tag asked))
 sent_so true P s acts xs d line tag asked counts others h =
     sent_at P s acts xs (at_once d line) tag asked counts others (at_once_at P s acts xs d line h)
 sent_so false P s acts xs d line tag asked counts others h = sent_at P s acts xs d tag asked counts others h
@@ -291,8 +267,8 @@ is_sent P s line tag asked t room counts anew f =
       frame = f.frame;
     }
 
-is_the_abort : (c : Command) → is_abort (Ok c) ≡ true → c ≡ command.AbortE
-is_the_abort command.AbortE e = refl
+is_the_abort : (c : Command) → is_abort (Ok c) ≡ true → c ≡ Command.AbortE
+is_the_abort Command.AbortE e = refl
 is_the_abort c e = absurd (false≢true e)
 
 tagged_follows : (P : Tag → Bool) (s : Server) (tag : Tag) (reading : Result Command Misread) (u : Dialogue)
@@ -303,14 +279,14 @@ tagged_follows P s tag reading u anew f =
 
 command_follows : (P : Tag → Bool) (s : Server) (line : List ℕ) (tag : Tag) (c : Command) (t : Dialogue) → ReadsCommand line (Ok (tag, c))
     → (runs_under tag s.running || waits_under tag s.waiting) ≡ false → Follows P s t
-    → FollowsTo P (sent_tagged t line tag (asks.Known c)) (fresh s tag (Ok c))
+    → FollowsTo P (sent_tagged t line tag (SentCommand.Known c)) (fresh s tag (Ok c))
 command_follows P s line tag c t reads anew f =
     let fit : IsLineFit (Ok (tag, c)) = read_is_fit line (Ok (tag, c)) reads in
-    let u : Dialogue = sent_tagged t line tag (asks.Known c) in
-    let h : IsSent P s tag (asks.Known c) u = is_sent P s line tag (asks.Known c) t fit.0 (λ e. absurd (false≢true e)) anew f in
+    let u : Dialogue = sent_tagged t line tag (SentCommand.Known c) in
+    let h : IsSent P s tag (SentCommand.Known c) u = is_sent P s line tag (SentCommand.Known c) t fit.0 (λ e. absurd (false≢true e)) anew f in
     branch (FollowsTo P u) (is_abort (Ok c)) _ _
-    (λ aborts. aborted_by P s s.running tag u (subst (λ (d : Command). IsSent P s tag (asks.Known d) u) (is_the_abort c aborts) h))
-    (λ other. stands_follows P s tag (Ok c) (asks.Known c) u (record {
+    (λ aborts. aborted_by P s s.running tag u (subst (λ (d : Command). IsSent P s tag (SentCommand.Known d) u) (is_the_abort c aborts) h))
+    (λ other. stands_follows P s tag (Ok c) (SentCommand.Known c) u (record {
       asks = refl;
       room = fit.0;
       sort = (read_is_writable line tag c reads).tagged.sort ∙ sym (standard_kind c other);
@@ -329,7 +305,7 @@ misread_follows P s line tag why asked t room fits counts anew f =
     (λ standard. stands_follows P s tag (Err why) asked u
     (record { asks = fits; room = room; sort = standard; plain = refl; fit = tt }) h)
 
-unknown_as : (b : Bool) (line : List ℕ) (why : Misread) → IsAskedAs (Err why) (cond b asks.Asking (asks.Foreign line))
+unknown_as : (b : Bool) (line : List ℕ) (why : Misread) → IsAskedAs (Err why) (cond b SentCommand.Asking (SentCommand.Foreign line))
 unknown_as true line why = tt
 unknown_as false line why = tt
 
@@ -350,7 +326,7 @@ no_tag_at P s t xs free h =
     subst (IsAt P (selected s) (acts_of s) xs)
     (sym (said_is t (Reply.Error (Event 0) 9001 None) (omega arith)
     ∙ ap (heard_under t text (Event 0) witness.Error) (not_found (Event 0) xs t.uses h.shaped free)))
-    (faulting_at P (selected s) (acts_of s) xs t (reports.Unasked text) refl refl h)
+    (faulting_at P (selected s) (acts_of s) xs t (Reported.Unasked text) refl refl h)
 
 no_tag_follows : (P : Tag → Bool) (s : Server) (line : List ℕ) (t : Dialogue) → Follows P s t
     → Follows P s (after (one_more (at_once t line)) (server_line (reply_text (Reply.Error (Event 0) 9001 None))))
@@ -372,9 +348,9 @@ CountsLine P (Some (tag, what)) = IsCounted P tag what
 -- the answers to a line: each for an open command, or the refusal of a line without a tag
 abbrev pub AreAnswersTo : Result (Tag × Command) LineFault → Dialogue → List Reply → Type 0
 AreAnswersTo (Ok command) t said = AreHeard t (reply_texts said)
-AreAnswersTo (Err fault.NoTag) t said = said ≡ Reply.Error (Event 0) 9001 None ∷ []
-AreAnswersTo (Err (fault.UnknownCommand tag)) t said = AreHeard t (reply_texts said)
-AreAnswersTo (Err (fault.BadArguments tag kind)) t said = AreHeard t (reply_texts said)
+AreAnswersTo (Err LineFault.NoTag) t said = said ≡ Reply.Error (Event 0) 9001 None ∷ []
+AreAnswersTo (Err (LineFault.UnknownCommand tag)) t said = AreHeard t (reply_texts said)
+AreAnswersTo (Err (LineFault.BadArguments tag kind)) t said = AreHeard t (reply_texts said)
 
 -- a witness follows after a line of the client and the answers to it
 pub record FollowsLine (P : Tag → Bool) (r : Result (Tag × Command) LineFault) (t : Dialogue) (a : Answer) : Type 0 where
@@ -388,16 +364,16 @@ line_follows : (P : Tag → Bool) (s : Server) (line : List ℕ) (r : Result (Ta
 line_follows P s line (Ok (tag, c)) t reads anew counts f =
     let to = tagged_follows P s tag (Ok c) _ anew (command_follows P s line tag c t reads anew f) in
     record { follows = to.follows; heard = to.heard; said = to.said }
-line_follows P s line (Err fault.NoTag) t reads anew counts f =
+line_follows P s line (Err LineFault.NoTag) t reads anew counts f =
     record { follows = no_tag_follows P s line t f; heard = refl; said = (omega arith, tt) }
-line_follows P s line (Err (fault.UnknownCommand tag)) t reads anew counts f =
-    let to = tagged_follows P s tag (Err misread.UnknownCommand) _ anew
-    (misread_follows P s line tag misread.UnknownCommand (unknown line) t (read_is_fit line (Err (fault.UnknownCommand tag)) reads)
-    (unknown_as (is_asking (drop 6 line)) line misread.UnknownCommand) counts anew f) in
+line_follows P s line (Err (LineFault.UnknownCommand tag)) t reads anew counts f =
+    let to = tagged_follows P s tag (Err Misread.UnknownCommand) _ anew
+    (misread_follows P s line tag Misread.UnknownCommand (unknown line) t (read_is_fit line (Err (LineFault.UnknownCommand tag)) reads)
+    (unknown_as (is_asking (drop 6 line)) line Misread.UnknownCommand) counts anew f) in
     record { follows = to.follows; heard = to.heard; said = to.said }
-line_follows P s line (Err (fault.BadArguments tag k)) t reads anew counts f =
-    let to = tagged_follows P s tag (Err (misread.BadArguments k)) _ anew
-    (misread_follows P s line tag (misread.BadArguments k) (asks.Foreign line) t (read_is_fit line (Err (fault.BadArguments tag k)) reads) tt counts anew f) in
+line_follows P s line (Err (LineFault.BadArguments tag k)) t reads anew counts f =
+    let to = tagged_follows P s tag (Err (Misread.BadArguments k)) _ anew
+    (misread_follows P s line tag (Misread.BadArguments k) (SentCommand.Foreign line) t (read_is_fit line (Err (LineFault.BadArguments tag k)) reads) tt counts anew f) in
     record { follows = to.follows; heard = to.heard; said = to.said }
 
 -- both read a line of the client, and the witness reads what is answered

@@ -1,25 +1,10 @@
 -- What may be known for the first line is so at the server.
-use Rattle.std.proofs.Common.{◌≡◌, ℕ, ◌==◌, Bool, true, false, cond, ◌&&◌, inl, inr, List, Option, Some, None, refl, sym, ap, ◌∙◌, subst}
-use Rattle.fixed_um.specs.declared.lengths.Point.{Point}
-use Rattle.fixed_um.specs.declared.frames.Frame.{Frame}
-use Rattle.fixed_um.specs.declared.frames.Frame.TheVariants.{Machine, Part}
-use Rattle.dme_line.specs.declared.commands.Command.{Command}
-use Rattle.dme_line.specs.declared.commands.Command.TheVariants as command
-use Rattle.dme_line.specs.declared.commands.Csy.{Csy}
-use Rattle.dme_line.specs.declared.commands.Csy.TheVariants.{MachineCsy, PartCsy}
+use Rattle.witness_laws.proofs.Names.{◌&&◌, ◌==◌, ◌∙◌, ◌≡◌, all_renewed, Answer, answering, ap, Bool, Command, cond, Csy, done, false, Fault, faulted}
+use Rattle.witness_laws.proofs.Names.{Frame, frame_by, frame_of, Heard, if_done, inl, inr, is_error, is_rival, Known, List, Machine, MachineCsy, Mark}
+use Rattle.witness_laws.proofs.Names.{None, nothing, one_renewed, Option, Part, part_at, PartCsy, Point, Progress, refl, Renewal, renewed, Some}
+use Rattle.witness_laws.proofs.Names.{Standing, standing, subst, sym, tool_of, true, unless_refused, with_mark, ℕ}
 use Rattle.protocol_model.specs.Server.{Server}
 use Rattle.protocol_model.specs.declared.lines.Line.{Line}
-use Rattle.witness.specs.Known.{nothing, faulted, with_mark, answering, is_rival, unless_refused, renewed, standing, one_renewed, all_renewed}
-use Rattle.witness.specs.Known.{if_done, done, part_at, frame_by, tool_of, frame_of}
-use Rattle.witness.specs.Marks.{is_error}
-use Rattle.witness.specs.declared.lines.Heard.{Heard}
-use Rattle.witness.specs.declared.lines.Heard.TheVariants as heard
-use Rattle.witness.specs.declared.lines.Known.{Known}
-use Rattle.witness.specs.declared.lines.Progress.{Progress}
-use Rattle.witness.specs.declared.lines.Progress.TheVariants as progress
-use Rattle.witness.specs.declared.lines.Renewal.{Renewal}
-use Rattle.witness.specs.declared.lines.Renewal.TheVariants.{Fault, Mark, Answer}
-use Rattle.witness.specs.declared.lines.Standing.{Standing}
 use Rattle.witness_laws.specs.Reports.{NamesNoOther}
 use Rattle.witness_laws.proofs.server.Knowing.{IsOrNone, IsFrameOrNone, IsWithin, Becomes}
 
@@ -34,7 +19,7 @@ pub record Selected : Type 0 where
 
 -- a change of tool runs
 abbrev pub is_change : Command → Bool
-is_change (command.ChangeTool name) = true
+is_change (Command.ChangeTool name) = true
 is_change _ = false
 
 abbrev pub runs_change : Option Line → Bool
@@ -49,22 +34,22 @@ selected s = record { changing = runs_change s.running; tool = s.tool; frame = s
 -- a change that is done, and has this effect
 abbrev pub IsSoOne : {A : Type 0} → Option (A × Standing) → A → Type 0
 IsSoOne None x = Unit {0}
-IsSoOne (Some (y, s)) x = (s.progress ≡ progress.Done) × (y ≡ x)
+IsSoOne (Some (y, s)) x = (s.progress ≡ Progress.Done) × (y ≡ x)
 
 -- the tool is in the probe head, unless a change of tool runs
 abbrev pub IsSoTool : Bool → Option (List ℕ) → Option (List ℕ × Standing) → Type 0
 IsSoTool true tool known = Unit {0}
 IsSoTool false tool None = Unit {0}
-IsSoTool false tool (Some (name, s)) = (s.progress ≡ progress.Done) × (tool ≡ Some name)
+IsSoTool false tool (Some (name, s)) = (s.progress ≡ Progress.Done) × (tool ≡ Some name)
 
 abbrev pub IsSoPart : Option (Point × Standing) → Frame → Type 0
 IsSoPart None frame = Unit {0}
-IsSoPart (Some (p, s)) frame = (s.progress ≡ progress.Done) × (frame ≡ Part p)
+IsSoPart (Some (p, s)) frame = (s.progress ≡ Progress.Done) × (frame ≡ Part p)
 
 abbrev pub IsSoFrame : Option (Csy × Standing) → Option (Point × Standing) → Frame → Type 0
 IsSoFrame None part frame = Unit {0}
-IsSoFrame (Some (MachineCsy, s)) part frame = (s.progress ≡ progress.Done) × (frame ≡ Machine)
-IsSoFrame (Some (PartCsy, s)) part frame = (s.progress ≡ progress.Done) × IsSoPart part frame
+IsSoFrame (Some (MachineCsy, s)) part frame = (s.progress ≡ Progress.Done) × (frame ≡ Machine)
+IsSoFrame (Some (PartCsy, s)) part frame = (s.progress ≡ Progress.Done) × IsSoPart part frame
 
 pub record IsSo (s : Selected) (k : Known) : Type 0 where
   pub tool : IsSoTool s.changing s.tool k.tool
@@ -81,12 +66,12 @@ nothing_so s = record { tool = no_tool s.changing s.tool; zero = tt; frame = tt 
 
 -- ---- a change that is done is lost, or stays as it is
 
-mark_of_done : (s : Standing) (h : Heard) → with_mark s progress.Done h ≡ None
-mark_of_done s heard.Received = refl
-mark_of_done s (heard.Given d) = refl
-mark_of_done s heard.Unread = refl
-mark_of_done s heard.Complete = refl
-mark_of_done s heard.Failed = refl
+mark_of_done : (s : Standing) (h : Heard) → with_mark s Progress.Done h ≡ None
+mark_of_done s Heard.Received = refl
+mark_of_done s (Heard.Given d) = refl
+mark_of_done s Heard.Unread = refl
+mark_of_done s Heard.Complete = refl
+mark_of_done s Heard.Failed = refl
 
 refused_of_done : (s : Standing) (line : ℕ) (h : Heard) → Becomes (unless_refused s line h) s
 refused_of_done s line h = go (is_rival line s.rival && is_error h)
@@ -95,12 +80,12 @@ refused_of_done s line h = go (is_rival line s.rival && is_error h)
     go true = inl refl
     go false = inr refl
 
-marked_done : (b : Bool) (s : Standing) (line : ℕ) (h : Heard) → s.progress ≡ progress.Done
+marked_done : (b : Bool) (s : Standing) (line : ℕ) (h : Heard) → s.progress ≡ Progress.Done
     → Becomes (cond b (with_mark s s.progress h) (unless_refused s line h)) s
 marked_done true s line h e = inl (ap (λ (p : Progress). with_mark s p h) e ∙ mark_of_done s h)
 marked_done false s line h e = refused_of_done s line h
 
-pub done_stays : (r : Renewal) (s : Standing) → s.progress ≡ progress.Done → Becomes (renewed r s) s
+pub done_stays : (r : Renewal) (s : Standing) → s.progress ≡ Progress.Done → Becomes (renewed r s) s
 done_stays Fault s e = inl (ap (faulted s) e)
 done_stays (Mark line h) s e = marked_done (s.line == line) s line h e
 done_stays Answer s e = inr (ap (answering s) e)

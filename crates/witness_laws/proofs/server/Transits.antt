@@ -1,45 +1,19 @@
 -- What a witness reports that reads the lines of a course in another order, while further lines are on their way.
-use Rattle.std.proofs.Common.{◌≡◌, ℕ, ◌≤◌, is_none, Option, Bool, true, false, cond, not, ◌||◌, List, [], ◌∷◌, ◌++◌, map, Some, None, Result, Ok, Err}
-use Rattle.std.proofs.Common.{refl, sym, ap, ◌∙◌, subst, arith, append_assoc, append-nil, ne_eqb}
-use Rattle.std.proofs.lemmas.Bool.{false≢true, and_parts, not-true}
-use Rattle.contact_ledger.specs.declared.acts.Act.{Act}
-use Rattle.contact_ledger.specs.declared.acts.Act.TheVariants as act
-use Rattle.dme_line.specs.CommandText.{ReadsCommand}
-use Rattle.dme_line.specs.Tags.{IsNumbered}
-use Rattle.dme_line.specs.declared.commands.Command.{Command}
-use Rattle.dme_line.specs.declared.reading.LineFault.{LineFault}
-use Rattle.dme_line.specs.declared.reading.LineFault.TheVariants as fault
-use Rattle.dme_line.specs.declared.responses.Response.{Response}
-use Rattle.dme_line.specs.declared.responses.NotResponse.{NotResponse}
-use Rattle.dme_line.specs.declared.tags.Tag.{Tag}
-use Rattle.dme_line.specs.declared.tags.Tag.TheVariants.{Std, Event}
-use Rattle.dme_line.proofs.ReadWritable.{read_is_writable}
-use Rattle.fixed_um.specs.Shapes.{Direction}
-use Rattle.fixed_um.specs.declared.frames.Frame.{Frame}
-use Rattle.fixed_um.specs.declared.lengths.Point.{Point}
-use Rattle.line_framing.specs.Next.{Front, next_of}
-use Rattle.line_framing.specs.Stream.{IsStream}
-use Rattle.protocol_model.specs.Claims.{acts_on}
-use Rattle.protocol_model.specs.Ends.{ServerEnd, serving_accepted, front_served, serving_fed, serving_turned, serving_machined}
-use Rattle.protocol_model.specs.Lines.{reading_of, reply_text, reply_texts}
-use Rattle.protocol_model.specs.Readings.{command_of, response_of, reads_command}
-use Rattle.protocol_model.specs.Replies.{Reply, tag_is}
-use Rattle.protocol_model.specs.Server.{may_end, server_read, server_turned, server_machined}
-use Rattle.protocol_model.specs.declared.machine.Outcome.{Outcome}
-use Rattle.protocol_model.proofs.written_lines.Writable.{reply_read, AreReplies, reply_lines}
+use Rattle.witness_laws.proofs.Names.{◌++◌, ◌||◌, ◌∙◌, ◌∷◌, ◌≡◌, ◌≤◌, [], Act, acts_on, after, and_parts, ap, append-nil, append_assoc}
+use Rattle.witness_laws.proofs.Names.{are_whole_lines, AreAllRead, AreLines, AreLines-append, AreLinesOf, AreReplies, arith, at_once_line, Bool}
+use Rattle.witness_laws.proofs.Names.{ClaimNoMore, ClaimsNoMore, Client, client_line, client_lines, Command, command_of, cond, contact, Dialogue}
+use Rattle.witness_laws.proofs.Names.{Direction, Down, downs, Err, Event, false, false≢true, fed_behind, found, Frame, Framing, FramingFault, Front}
+use Rattle.witness_laws.proofs.Names.{front_served, in_turn, is_none, is_under, IsBehind, IsCausal, IsNumbered, IsPart, IsPrefix, IsStream}
+use Rattle.witness_laws.proofs.Names.{known as part_known, ledger, Line, line_bytes, line_bytes-append, line_in, LineFault, List, map, may_end}
+use Rattle.witness_laws.proofs.Names.{ne_eqb, next_of, None, not, not-true, NotResponse, Ok, Option, Outcome, Point, read_is_writable, reading_of}
+use Rattle.witness_laws.proofs.Names.{reads_command, ReadsCommand, refl, Reply, reply_lines, reply_read, reply_text, reply_texts, Reported, Response}
+use Rattle.witness_laws.proofs.Names.{response_of, Result, said_all, same, sent, Server, server_line, server_lines, server_machined, server_read}
+use Rattle.witness_laws.proofs.Names.{server_turned, ServerEnd, serving_accepted, serving_fed, serving_machined, serving_turned, silence, Some}
+use Rattle.witness_laws.proofs.Names.{some_sends, Std, subst, sym, Tag, tag_is, true, unknown as part_unknown, Up, ups, Use, Watching, whole_lines, ℕ}
+use Rattle.witness_laws.specs.Claims.{moved, framed, touched}
 use Rattle.server_core.specs.Calls.{Call, Accept, Feed, ReadOne, Turn, Machine, Leave, Restart, Sent, behind_call, behind_calls, reached, possible, gives_up}
 use Rattle.server_core.specs.Serving.{may_accept, may_turn, may_feed}
 use Rattle.server_core.proofs.Steadies.{nothing_runs}
-use Rattle.witness.specs.Asking.{sent, client_line, server_line}
-use Rattle.witness.specs.Dialogues.{Dialogue, silence, after}
-use Rattle.witness.specs.Watching.{Watching, AreAllRead, client_lines, server_lines, ledger}
-use Rattle.witness.specs.declared.lines.Reported.{Reported}
-use Rattle.witness.specs.declared.lines.Reported.TheVariants as reports
-use Rattle.witness.specs.declared.lines.Side.TheVariants.{Client, Server}
-use Rattle.witness.specs.declared.lines.Use.{Use}
-use Rattle.witness_laws.specs.Claims.{in_turn, IsPart, unknown as part_unknown, known as part_known, ClaimsNoMore, same, moved, framed, touched, contact, ClaimNoMore}
-use Rattle.witness_laws.specs.Courses.{AreLinesOf, whole_lines, are_whole_lines}
-use Rattle.witness_laws.specs.Orders.{Line, Up, Down, said_all, ups, downs, at_once_line, is_under, some_sends, IsBehind, IsCausal, IsPrefix}
 use Rattle.witness_laws.proofs.orders.Arrivals.{whole_after, whole_none}
 use Rattle.witness_laws.proofs.orders.Claimed.{ups_append, downs_append, only_ups, no_downs}
 use Rattle.witness_laws.proofs.orders.Courses.{recorded_told}
@@ -50,12 +24,6 @@ use Rattle.witness_laws.proofs.server.Answering.{IsHeard, AreHeard}
 use Rattle.witness_laws.proofs.server.Courses.{IsOn, CountLines, count_parts, count_own, call_on, begun_on, reports_of_acts}
 use Rattle.witness_laws.proofs.server.Following.{machined_follows, turned_follows}
 use Rattle.witness_laws.proofs.server.Reading.{AreAnswersTo, read_follows}
-use Rattle.line_framing.specs.Calls.{line_in}
-use Rattle.line_framing.specs.Content.{AreLines, line_bytes}
-use Rattle.line_framing.specs.Framing.{Framing, fed_behind}
-use Rattle.line_framing.specs.declared.faults.FramingFault.{FramingFault}
-use Rattle.line_framing.proofs.FirstLine.{found}
-use Rattle.line_framing.proofs.Streams.{line_bytes-append, AreLines-append}
 use Rattle.server_core.proofs.Deeds.{chosen}
 use Rattle.server_core.proofs.Reached.{reached_steady}
 use Rattle.witness_laws.proofs.orders.Commands.{ups_are_causal}
@@ -71,9 +39,9 @@ data AreFor (d : Dialogue) (lines : List (List ℕ)) : Type 0 where
 
 of_line : (r : Result (Tag × Command) LineFault) (d : Dialogue) (said : List Reply) → AreAnswersTo r d said → AreFor d (reply_texts said)
 of_line (Ok command) d said h = commands h
-of_line (Err fault.NoTag) d said h = no_tag (ap reply_texts h)
-of_line (Err (fault.UnknownCommand tag)) d said h = commands h
-of_line (Err (fault.BadArguments tag kind)) d said h = commands h
+of_line (Err LineFault.NoTag) d said h = no_tag (ap reply_texts h)
+of_line (Err (LineFault.UnknownCommand tag)) d said h = commands h
+of_line (Err (LineFault.BadArguments tag kind)) d said h = commands h
 
 front_said : (P : Tag → Bool) (n : ℕ) (e : ServerEnd) (front : Front) (d : Dialogue) → AreAnew e.server (line_in front)
     → CountLines P (line_in front) → IsOn P n e d
@@ -140,9 +108,9 @@ not_zero (Event n) h = ne_eqb n 0 (λ e. above n h.0 e)
 
 zero_reads : (line : List ℕ) (r : Result (Tag × Command) LineFault) → ReadsCommand line r → is_under (Event 0) (sent line r) ≡ false
 zero_reads line (Ok (tag, c)) reads = not_zero tag (read_is_writable line tag c reads).tagged.numbered
-zero_reads line (Err fault.NoTag) reads = refl
-zero_reads line (Err (fault.UnknownCommand tag)) reads = not_zero tag reads.2.tagged.numbered
-zero_reads line (Err (fault.BadArguments tag kind)) reads = not_zero tag reads.2.tagged.numbered
+zero_reads line (Err LineFault.NoTag) reads = refl
+zero_reads line (Err (LineFault.UnknownCommand tag)) reads = not_zero tag reads.2.tagged.numbered
+zero_reads line (Err (LineFault.BadArguments tag kind)) reads = not_zero tag reads.2.tagged.numbered
 
 none_sends : (lines : List (List ℕ)) → some_sends (Event 0) lines ≡ false
 none_sends [] = refl
@@ -224,14 +192,14 @@ part_names _ y a (part_unknown _) h = tt
 part_names _ _ a (part_known x) h = h
 
 touch_less : (p : Point) (d : Option Direction) (n m : Option (List ℕ)) (f g : Option Frame) (at : Point) (a : Act) → IsPart n m → IsPart f g
-    → IsReportOf (reports.Touched p d m g at) a → IsReportOf (reports.Touched p d n f at) a
-touch_less p d n m f g at (act.Contact target dir tool frame point) tool_part frame_part h =
+    → IsReportOf (Reported.Touched p d m g at) a → IsReportOf (Reported.Touched p d n f at) a
+touch_less p d n m f g at (Act.Contact target dir tool frame point) tool_part frame_part h =
     (h.0, h.1, part_names n m tool tool_part h.2, part_names f g frame frame_part h.3, h.4)
-touch_less p d n m f g at (act.HomedIs homed) tool_part frame_part h = absurd h
-touch_less p d n m f g at act.Homed tool_part frame_part h = absurd h
-touch_less p d n m f g at (act.Moved target frame) tool_part frame_part h = absurd h
-touch_less p d n m f g at (act.Changed tool) tool_part frame_part h = absurd h
-touch_less p d n m f g at (act.Framed frame) tool_part frame_part h = absurd h
+touch_less p d n m f g at (Act.HomedIs homed) tool_part frame_part h = absurd h
+touch_less p d n m f g at Act.Homed tool_part frame_part h = absurd h
+touch_less p d n m f g at (Act.Moved target frame) tool_part frame_part h = absurd h
+touch_less p d n m f g at (Act.Changed tool) tool_part frame_part h = absurd h
+touch_less p d n m f g at (Act.Framed frame) tool_part frame_part h = absurd h
 
 both_left : (b : Bool) (x : Reported) (xs ys : List Reported) (acts : List Act)
     → ((rest : List Act) → AreReportsOf ys rest → AreReportsOf xs rest) → AreReportsOf (cond b ys (x ∷ ys)) acts
@@ -245,14 +213,14 @@ one_less : (x y : Reported) (xs ys : List Reported) (acts : List Act) → Claims
     → AreReportsOf (act_reports (y ∷ ys)) acts → AreReportsOf (act_reports (x ∷ xs)) acts
 one_less _ _ xs ys acts (same r) rest h = both_left (is_other r) r (act_reports xs) (act_reports ys) acts rest h
 one_less _ _ xs ys [] (moved p frame) rest h = absurd h
-one_less _ _ xs ys (a ∷ acts) (moved p frame) rest h = (subst (IsReportOf (reports.MovedSomewhere p)) h.0 refl, rest acts h.1)
+one_less _ _ xs ys (a ∷ acts) (moved p frame) rest h = (subst (IsReportOf (Reported.MovedSomewhere p)) h.0 refl, rest acts h.1)
 one_less _ _ xs ys [] (framed frame) rest h = absurd h
-one_less _ _ xs ys (a ∷ acts) (framed frame) rest h = (subst (IsReportOf reports.FramedSomehow) h.0 tt, rest acts h.1)
+one_less _ _ xs ys (a ∷ acts) (framed frame) rest h = (subst (IsReportOf Reported.FramedSomehow) h.0 tt, rest acts h.1)
 one_less _ _ xs ys [] (touched p d n m f g at tool frame) rest h = absurd h
 one_less _ _ xs ys (a ∷ acts) (touched p d n m f g at tool frame) rest h = (touch_less p d n m f g at a tool frame h.0, rest acts h.1)
 one_less _ _ xs ys [] (contact p d n name f in_frame at tool frame) rest h = absurd h
 one_less _ _ xs ys (a ∷ acts) (contact p d n name f in_frame at tool frame) rest h = (
-  subst (IsReportOf (reports.Touched p d n f at)) h.0
+  subst (IsReportOf (Reported.Touched p d n f at)) h.0
       (refl, refl, part_names n (Some name) name tool refl, part_names f (Some in_frame) in_frame frame refl, refl),
   rest acts h.1,
 )
@@ -267,22 +235,22 @@ claims_of_acts (x ∷ xs) (y ∷ ys) acts claims h =
 
 -- lines of the client are no reports of acts
 left_out : (b : Bool) (line : List ℕ) (xs ys : List Reported) → act_reports xs ≡ ys
-    → act_reports (cond (not b) (reports.Other Client line ∷ xs) xs) ≡ ys
+    → act_reports (cond (not b) (Reported.Other Client line ∷ xs) xs) ≡ ys
 left_out true line xs ys e = e
 left_out false line xs ys e = e
 
 in_turn_acts : (xs : List Reported) → act_reports (in_turn xs) ≡ act_reports xs
 in_turn_acts [] = refl
-in_turn_acts (reports.Other Client line ∷ xs) = left_out (at_once_line line) line (in_turn xs) (act_reports xs) (in_turn_acts xs)
-in_turn_acts (reports.Other Server line ∷ xs) = in_turn_acts xs
-in_turn_acts (reports.Unasked line ∷ xs) = in_turn_acts xs
-in_turn_acts (reports.Broken rule tag ∷ xs) = in_turn_acts xs
-in_turn_acts (reports.Did a ∷ xs) = ap (λ (l : List Reported). reports.Did a ∷ l) (in_turn_acts xs)
-in_turn_acts (reports.MovedSomewhere p ∷ xs) = ap (λ (l : List Reported). reports.MovedSomewhere p ∷ l) (in_turn_acts xs)
-in_turn_acts (reports.FramedSomehow ∷ xs) = ap (λ (l : List Reported). reports.FramedSomehow ∷ l) (in_turn_acts xs)
-in_turn_acts (reports.Touched p d n f at ∷ xs) = ap (λ (l : List Reported). reports.Touched p d n f at ∷ l) (in_turn_acts xs)
-in_turn_acts (reports.Opened ∷ xs) = ap (λ (l : List Reported). reports.Opened ∷ l) (in_turn_acts xs)
-in_turn_acts (reports.Left ∷ xs) = ap (λ (l : List Reported). reports.Left ∷ l) (in_turn_acts xs)
+in_turn_acts (Reported.Other Client line ∷ xs) = left_out (at_once_line line) line (in_turn xs) (act_reports xs) (in_turn_acts xs)
+in_turn_acts (Reported.Other Server line ∷ xs) = in_turn_acts xs
+in_turn_acts (Reported.Unasked line ∷ xs) = in_turn_acts xs
+in_turn_acts (Reported.Broken rule tag ∷ xs) = in_turn_acts xs
+in_turn_acts (Reported.Did a ∷ xs) = ap (λ (l : List Reported). Reported.Did a ∷ l) (in_turn_acts xs)
+in_turn_acts (Reported.MovedSomewhere p ∷ xs) = ap (λ (l : List Reported). Reported.MovedSomewhere p ∷ l) (in_turn_acts xs)
+in_turn_acts (Reported.FramedSomehow ∷ xs) = ap (λ (l : List Reported). Reported.FramedSomehow ∷ l) (in_turn_acts xs)
+in_turn_acts (Reported.Touched p d n f at ∷ xs) = ap (λ (l : List Reported). Reported.Touched p d n f at ∷ l) (in_turn_acts xs)
+in_turn_acts (Reported.Opened ∷ xs) = ap (λ (l : List Reported). Reported.Opened ∷ l) (in_turn_acts xs)
+in_turn_acts (Reported.Left ∷ xs) = ap (λ (l : List Reported). Reported.Left ∷ l) (in_turn_acts xs)
 
 turns_of_acts : (xs ys : List Reported) (acts : List Act) → ClaimNoMore (in_turn xs) (in_turn ys) → AreReportsOf (act_reports ys) acts
     → AreReportsOf (act_reports xs) acts

@@ -1,12 +1,6 @@
-use Rattle.std.proofs.Common.{◌≡◌, false, List, ℕ, [], ◌∷◌, refl, sym, ap, Result, ◌∙◌, ◌||◌}
-use Rattle.std.proofs.lemmas.Bool.{false≢true}
-use Rattle.dme_line.specs.declared.responses.Response.{Response}
-use Rattle.dme_line.specs.declared.responses.NotResponse.{NotResponse}
-use Rattle.dme_line.specs.declared.tags.Tag.TheVariants.{Std}
+use Rattle.witness_laws.proofs.Names.{◌||◌, ◌∙◌, ◌∷◌, ◌≡◌, [], answered, ap, false, false≢true, is_of, List, NotResponse, refl, Response, Result}
+use Rattle.witness_laws.proofs.Names.{server_answered, Std, sym, ℕ}
 use Rattle.told_acts.specs.Examples.{completed}
-use Rattle.witness.specs.Asking.{answered}
-use Rattle.witness.specs.Dialogues.{server_answered}
-use Rattle.witness_laws.specs.Orders.{is_of}
 use Rattle.witness_laws.specs.ClientExamples.{watching}
 use Rattle.witness_laws.specs.Lines.{is_unasked}
 use Rattle.witness_laws.proofs.client.ExampleLines.{completed_reads, zero_reads}

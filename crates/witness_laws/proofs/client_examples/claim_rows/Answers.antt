@@ -1,5 +1,4 @@
-use Rattle.std.proofs.Common.{◌≡◌, ℕ, [], ◌∷◌, List, refl, ap, arith, codes, slice_index}
-use Rattle.witness.specs.declared.lines.Reported.TheVariants.{FramedSomehow, Left}
+use Rattle.witness_laws.proofs.Names.{◌∷◌, ◌≡◌, [], ap, arith, codes, FramedSomehow, Left, List, refl, slice_index, ℕ}
 use Rattle.witness_laws.proofs.client_examples.claim_rows.Goals as goal
 
 pub returns-clause-known : goal.returns-clause-known
@@ -13,8 +12,8 @@ returns-clause-no_frame c = ((refl, refl, refl, tt, refl), tt)
 
 pub returns-clause-other_tool : goal.returns-clause-other_tool
 returns-clause-other_tool c = λ h.
-    let name : codes "P1" ≡ codes "P2" = h.0.2 in
-    let n : 49 ≡ 50 = ap (λ (t : List ℕ). slice_index t 1) name in
+    let name : codes "P2" ≡ codes "P1" = h.0.2 in
+    let n : 50 ≡ 49 = ap (λ (t : List ℕ). slice_index t 1) name in
     omega (arith, n)
 
 pub returns-clause-moved : goal.returns-clause-moved

@@ -1,9 +1,4 @@
-use Rattle.std.proofs.Common.{true, false, ◌||◌, ap, Result}
-use Rattle.dme_line.specs.declared.responses.Response.{Response}
-use Rattle.dme_line.specs.declared.responses.NotResponse.{NotResponse}
-use Rattle.protocol_model.specs.Ends.{line_read}
-use Rattle.witness.specs.Asking.{answered}
-use Rattle.witness.specs.Dialogues.{silence, server_answered}
+use Rattle.witness_laws.proofs.Names.{◌||◌, answered, ap, false, line_read, NotResponse, Response, Result, server_answered, silence, true}
 use Rattle.witness_laws.specs.ClientExamples.{zero, stray}
 use Rattle.witness_laws.specs.Lines.{is_unasked}
 use Rattle.witness_laws.proofs.client.ExampleLines.{completed_reads, zero_reads}

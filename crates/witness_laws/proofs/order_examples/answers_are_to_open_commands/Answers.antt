@@ -1,4 +1,4 @@
-use Rattle.std.proofs.Common.{refl}
+use Rattle.witness_laws.proofs.Names.{refl}
 use Rattle.witness_laws.proofs.orders.Readings.{received_reads, ended_reads, home_reads, home_2_reads, untagged_reads, ended_2_reads}
 use Rattle.witness_laws.proofs.order_examples.answers_are_to_open_commands.Goals as goal
 

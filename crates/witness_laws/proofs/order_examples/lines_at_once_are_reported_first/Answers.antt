@@ -1,4 +1,4 @@
-use Rattle.std.proofs.Common.{refl}
+use Rattle.witness_laws.proofs.Names.{refl}
 use Rattle.witness_laws.proofs.orders.Readings.{home_reads, untagged_reads, received_reads, ended_reads}
 use Rattle.witness_laws.proofs.order_examples.lines_at_once_are_reported_first.Goals as goal
 

@@ -1,7 +1,4 @@
-use Rattle.std.proofs.Common.{[], refl, sym}
-use Rattle.line_framing.specs.Next.{next_of}
-use Rattle.line_framing.specs.Stream.{fault_in}
-use Rattle.line_framing.proofs.Streams.{stream_end}
+use Rattle.witness_laws.proofs.Names.{[], fault_in, next_of, refl, stream_end, sym}
 use Rattle.witness_laws.specs.OrderExamples.{home, received}
 use Rattle.witness_laws.proofs.orders.Arrivals.{whole_none}
 use Rattle.witness_laws.proofs.orders.Readings.{home_line, received_line, line_stream, line_whole}

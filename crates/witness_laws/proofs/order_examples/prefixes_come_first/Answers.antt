@@ -1,5 +1,4 @@
-use Rattle.std.proofs.Common.{[], ◌∷◌, refl}
-use Rattle.witness.specs.declared.lines.Reported.TheVariants.{FramedSomehow}
+use Rattle.witness_laws.proofs.Names.{◌∷◌, [], FramedSomehow, refl}
 use Rattle.witness_laws.proofs.order_examples.prefixes_come_first.Goals as goal
 
 pub returns-clause-first : goal.returns-clause-first

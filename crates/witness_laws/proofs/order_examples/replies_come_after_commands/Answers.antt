@@ -1,4 +1,4 @@
-use Rattle.std.proofs.Common.{refl}
+use Rattle.witness_laws.proofs.Names.{refl}
 use Rattle.witness_laws.proofs.orders.Readings.{received_reads, ended_reads, home_reads}
 use Rattle.witness_laws.proofs.order_examples.replies_come_after_commands.Goals as goal
 

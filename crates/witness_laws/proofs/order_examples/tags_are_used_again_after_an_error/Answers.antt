@@ -1,4 +1,4 @@
-use Rattle.std.proofs.Common.{refl}
+use Rattle.witness_laws.proofs.Names.{refl}
 use Rattle.witness_laws.proofs.orders.Readings.{received_reads, refused_reads, ended_reads, home_reads, selected_reads}
 use Rattle.witness_laws.proofs.order_examples.tags_are_used_again_after_an_error.Goals as goal
 

@@ -1,8 +1,4 @@
-use Rattle.std.proofs.Common.{refl}
-use Rattle.std.proofs.lemmas.Bool.{false≢true}
-use Rattle.fixed_um.specs.declared.frames.Frame.TheVariants.{Machine}
-use Rattle.contact_ledger.specs.declared.acts.Act.TheVariants as act
-use Rattle.witness.specs.declared.lines.Reported.TheVariants.{Did, MovedSomewhere}
+use Rattle.witness_laws.proofs.Names.{Act, Did, false≢true, Machine, MovedSomewhere, refl}
 use Rattle.witness_laws.specs.Claims.{moved}
 use Rattle.witness_laws.specs.OrderExamples.{origin}
 use Rattle.witness_laws.proofs.orders.Claiming.{named_stays}
@@ -23,7 +19,7 @@ pub returns-clause-ledger : goal.returns-clause-ledger
 returns-clause-ledger c = rw (received_reads, ended_reads, selected_reads, moves_reads) refl
 
 pub returns-clause-more : goal.returns-clause-more
-returns-clause-more c = λ p. absurd (false≢true (named_stays (Did (act.Moved origin Machine)) (MovedSomewhere origin) p.0 refl))
+returns-clause-more c = λ p. absurd (false≢true (named_stays (Did (Act.Moved origin Machine)) (MovedSomewhere origin) p.0 refl))
 
 pub returns-clause-less : goal.returns-clause-less
 returns-clause-less c = (moved origin Machine, tt)

@@ -1,22 +1,18 @@
-use Rattle.std.proofs.Common.{◌≡◌, [], codes, None, Ok, refl, sym, ap, ◌∙◌, arith}
-use Rattle.std.proofs.lemmas.Bool.{false≢true}
-use Rattle.dme_line.specs.Written.{IsWritable, written_command}
-use Rattle.dme_line.specs.declared.commands.Command.TheVariants as command
-use Rattle.dme_line.specs.declared.tags.Tag.TheVariants.{Std}
-use Rattle.protocol_model.specs.Readings.{command_of}
-use Rattle.protocol_model.proofs.written_lines.Writable.{command_read}
+use Rattle.witness_laws.proofs.Names.{◌∙◌, ◌≡◌, [], ap, arith, codes, Command, command_of, command_read, false≢true, IsWritable, None, Ok, refl, Std}
+use Rattle.witness_laws.proofs.Names.{sym}
+use Rattle.dme_line.specs.Written.{written_command}
 use Rattle.witness_laws.specs.Lockstep.{uses_again}
 use Rattle.witness_laws.specs.ServerExamples.{serving, waits}
 use Rattle.witness_laws.proofs.server_examples.course_rows.Goals as goal
 
-writable : IsWritable (Std 7) command.Home
+writable : IsWritable (Std 7) Command.Home
 writable = record { tagged = record { numbered = (omega arith, omega arith); sort = refl }; arguments = tt }
 
-home_read : command_of (codes "00007 Home()") ≡ Ok (Std 7, command.Home)
+home_read : command_of (codes "00007 Home()") ≡ Ok (Std 7, Command.Home)
 unfolding written_command
-home_read = command_read (Std 7) command.Home writable
+home_read = command_read (Std 7) Command.Home writable
 
 pub returns-clause-again : goal.returns-clause-again
 returns-clause-again c =
     λ course. false≢true (sym course.1
-    ∙ ap (uses_again (serving None (waits command.Home) []).server) home_read)
+    ∙ ap (uses_again (serving None (waits Command.Home) []).server) home_read)
