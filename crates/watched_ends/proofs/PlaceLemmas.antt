@@ -10,8 +10,8 @@ use Rattle.protocol_model.specs.Readings.{command_of}
 use Rattle.protocol_model.specs.Replies.{tag_is}
 use Rattle.witness.specs.Asking.{sent}
 use Rattle.witness.specs.declared.lines.SentCommand.{SentCommand}
-use Rattle.told_orders.specs.Orders.{is_under, sends, some_sends}
-use Rattle.told_orders.specs.Orders.{at_once_line}
+use Rattle.witness_laws.specs.Orders.{is_under, sends, some_sends}
+use Rattle.witness_laws.specs.Orders.{at_once_line}
 use Rattle.watched_ends.specs.Turns.{code_of, AreLast, AreQuiet, IsNoted}
 
 -- one tag has one place

@@ -13,11 +13,11 @@ use Rattle.witness.specs.Asking.{client_line, server_line, signal_of}
 use Rattle.witness.specs.Dialogues.{Dialogue, silence, after}
 use Rattle.witness.specs.Marks.{is_end}
 use Rattle.witness.specs.Watching.{ledger}
-use Rattle.told_orders.specs.Orders.{Line, Up, Down, said, said_all, ups, downs, is_open, some_sends, at_once_line, some_at_once}
-use Rattle.told_orders.specs.Orders.{has_failed_under, IsBehind, IsCausal, IsSure, IsClear}
-use Rattle.told_orders.proofs.Claimed.{ups_append, downs_append}
-use Rattle.told_orders.proofs.Commands.{ups_are_causal}
-use Rattle.told_orders.proofs.Sorting.{all_append, same_told}
+use Rattle.witness_laws.specs.Orders.{Line, Up, Down, said, said_all, ups, downs, is_open, some_sends, at_once_line, some_at_once}
+use Rattle.witness_laws.specs.Orders.{has_failed_under, IsBehind, IsCausal, IsSure, IsClear}
+use Rattle.witness_laws.proofs.orders.Claimed.{ups_append, downs_append}
+use Rattle.witness_laws.proofs.orders.Commands.{ups_are_causal}
+use Rattle.witness_laws.proofs.orders.Sorting.{all_append, same_told}
 use Rattle.watched_ends.specs.Turns.{AreQuiet, AreTaken, IsAnswer}
 use Rattle.watched_ends.proofs.PlaceLemmas.{none_any}
 

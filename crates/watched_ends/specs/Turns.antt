@@ -5,7 +5,7 @@ use Rattle.dme_line.specs.declared.tags.Tag.TheVariants.{Std, Event}
 use Rattle.dme_line.specs.declared.responses.Mark.{Mark}
 use Rattle.protocol_model.specs.Readings.{response_of}
 use Rattle.witness.specs.Dialogues.{Dialogue, silence}
-use Rattle.told_orders.specs.Orders.{Line, Up, said_all, ups, downs, sends, at_once_line, IsCausal, IsClear}
+use Rattle.witness_laws.specs.Orders.{Line, Up, said_all, ups, downs, sends, at_once_line, IsCausal, IsClear}
 
 -- the place of a tag in a table
 abbrev pub code_of : Tag → ℕ

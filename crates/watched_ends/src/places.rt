@@ -2,7 +2,7 @@
 
 ghost use Rattle.std.specs.Prelude.{◌≡◌, ◌<◌, ◌≤◌, ◌+◌, ◌^◌, ℕ, List, false, if◌then◌else◌, length, drop, get_or, IfOk, OnOk};
 ghost use Rattle.witness.specs.Dialogues.{foreign_event};
-ghost use Rattle.told_orders.specs.Orders.{at_once_line, some_sends};
+ghost use Rattle.witness_laws.specs.Orders.{at_once_line, some_sends};
 ghost use Rattle.watched_ends.specs.Turns as spec;
 
 use dme_line::Tag;

@@ -5,7 +5,7 @@ ghost use Rattle.dme_line.specs.Responses.{the_mark};
 ghost use Rattle.witness.specs.Asking.{signal_of};
 ghost use Rattle.witness.specs.Marks as marks;
 ghost use Rattle.witness.specs.Watching.{client_lines, server_lines, ledger};
-ghost use Rattle.told_orders.specs.Orders as orders;
+ghost use Rattle.witness_laws.specs.Orders as orders;
 ghost use Rattle.watched_ends.specs.Turns as spec;
 
 use crate::places::{Later, later_of, may_come};

@@ -1,5 +1,5 @@
 use Rattle.std.proofs.Common.{◌≡◌, drop}
-use Rattle.told_orders.specs.Orders.{has_failed_under}
+use Rattle.witness_laws.specs.Orders.{has_failed_under}
 use Rattle.watched_ends.proofs.turns.has_failed.Given as goal
 
 -- none of the lines before is under the tag

@@ -1,4 +1,0 @@
-pub mod Reports
-pub mod Lockstep
-pub mod Examples
-pub mod Transit

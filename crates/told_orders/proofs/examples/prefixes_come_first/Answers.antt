@@ -1,9 +1,0 @@
-use Rattle.std.proofs.Common.{[], ◌∷◌, refl}
-use Rattle.witness.specs.declared.lines.Reported.TheVariants.{FramedSomehow}
-use Rattle.told_orders.proofs.examples.prefixes_come_first.Goals as goal
-
-pub returns-clause-first : goal.returns-clause-first
-returns-clause-first c = record { rest = FramedSomehow ∷ []; parts = refl }
-
-pub returns-clause-other : goal.returns-clause-other
-returns-clause-other c = λ prefix. absurd (cc (prefix.parts))

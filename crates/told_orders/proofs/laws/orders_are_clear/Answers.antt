@@ -1,5 +1,0 @@
-use Rattle.told_orders.proofs.Clearing.{one_use_is_clear, no_refusal_is_clear}
-use Rattle.told_orders.proofs.laws.orders_are_clear.Goals as goal
-
-pub returns : goal.returns
-returns c = record { tags = one_use_is_clear; refusals = no_refusal_is_clear }

@@ -1,4 +1,0 @@
-pub mod Orders
-pub mod Claims
-pub mod Courses
-pub mod Examples

@@ -1,0 +1,5 @@
+pub mod Names
+pub mod orders
+pub mod server
+pub mod client
+pub mod machines

@@ -1,0 +1,12 @@
+pub mod Knowing
+pub mod Selected
+pub mod Places
+pub mod Hearing
+pub mod Replies
+pub mod Answering
+pub mod Opening
+pub mod Completing
+pub mod Following
+pub mod Reading
+pub mod Courses
+pub mod Transits
