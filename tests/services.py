@@ -1,4 +1,4 @@
-"""Services and runs beside which something goes wrong that they are to outlive, and limits of time that no noise extends.
+"""Services and runs that outlive what goes wrong around them, and limits of time that no noise extends.
 
 - An `accept`, a receive or a send that fails once, as `strace` makes it fail, ends neither a service nor a run: the report is that of a run that
   nothing disturbs.
