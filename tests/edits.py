@@ -6,13 +6,15 @@ Each crate with edits needs a line, whose checksum is that of the crate's presen
 
 import hashlib
 import pathlib
+import re
 
 ROOT = pathlib.Path(__file__).resolve().parent.parent
 RECORD = ROOT / "tools" / "edits.txt"
 PARTS = ("src", "specs", "proofs", "must-fail*")
 HEAD = """\
 # With which content the edits of a crate were last tried, each of which a goal then refused. `tools/edits` writes this file.
-# A line: the crate, the SHA-256 of its files in src/, specs/, proofs/ and must-fail*/ (names and bytes), how many edits it has.
+# A line: the crate, the SHA-256 of its files in src/, specs/, proofs/ and must-fail*/ (names, and bytes but for comments, imports and blank
+# lines), how many edits it has.
 # The crates below it are not in its checksum, although an edit may be refused by what a contract below promises.
 """
 
@@ -26,12 +28,29 @@ def crates_with_edits():
     return sorted({it.parent.parent.name for it in ROOT.glob("crates/*/must-fail*/*.edit")})
 
 
+def without_prose(path):
+    """The bytes of a file; of a source, a definition or a proof, its lines but for comments, imports and those without a word."""
+    text = path.read_bytes()
+    if path.suffix not in (".rt", ".antt"):
+        return text
+    comment = "//" if path.suffix == ".rt" else "--"
+    kept, is_import = [], False
+    for line in text.decode().splitlines():
+        word = line.strip()
+        begins = re.match(r"(ghost )?use ", word) is not None
+        if not (is_import or begins or not word or word.startswith(comment)):
+            kept.append(line)
+        # An import of a source ends with a semicolon, perhaps some lines below.
+        is_import = path.suffix == ".rt" and (is_import or begins) and not word.endswith(";")
+    return "\n".join(kept).encode()
+
+
 def content_of(crate):
     """What the line of a crate records of its content: the checksum and the count of edits."""
     files = {it.relative_to(crate).as_posix(): it for part in PARTS for it in crate.glob(f"{part}/**/*") if it.is_file()}
     whole = hashlib.sha256()
     for name in sorted(files):
-        text = files[name].read_bytes()
+        text = without_prose(files[name])
         whole.update(f"{name}\n{len(text)}\n".encode() + text)
     return f"{whole.hexdigest()} {len(edits_of(crate))}"
 
