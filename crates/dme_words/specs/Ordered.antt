@@ -1,5 +1,5 @@
 -- What the words of a command line ask for.
-use Rattle.std.specs.Prelude.{◌≡◌, ◌≢◌, ◌⊎◌, ◌≤◌, ◌||◌, not, ℕ, Bool, List, [], Option, Some, None, IsSomeAnd, codes, is_some, pos, true, unwrap_or}
+use Rattle.std.specs.Prelude.{◌≡◌, ◌≢◌, ◌⊎◌, ◌≤◌, ◌||◌, not, ℕ, Bool, List, [], Option, Some, None, IsSomeAnd, codes, is_some, pos, true, false, unwrap_or}
 use Rattle.std.specs.Prelude.{string_bytes}
 use Rattle.std.specs.Option.{option_map}
 use Rattle.std.specs.Str.Parse.{signed_digits_value}
@@ -67,13 +67,9 @@ IsWindowOf = IsNumberOf (codes "window") 16
 abbrev pub IsPortOf : List Row → ℕ → Type 0
 IsPortOf = IsNumberOf (codes "port") 65535
 
--- the number is the value of `--connections`; with `--endless` it is as many as can be numbered
+-- the number is the value of `--connections`
 abbrev pub IsCountOf : List Row → ℕ → Type 0
 IsCountOf = IsNumberOf (codes "connections") 4000000000
-
-abbrev pub IsConnectionsOf : List Row → ℕ → Type 0
-IsConnectionsOf rows number = (IsFlagOf (codes "endless") rows true × (number ≡ 4000000000))
-    ⊎ (IsFlagOf (codes "endless") rows false × IsCountOf rows number)
 
 -- the number is the value of `--connection`
 abbrev pub IsConnectionOf : List Row → ℕ → Type 0
@@ -86,6 +82,11 @@ IsListenedOf = IsNumberOf (codes "listen") 65535
 -- the flag with this id is set, or it is not, as `clap` writes it
 abbrev pub IsFlagOf : Text → List Row → Bool → Type 0
 IsFlagOf id rows is_set = first_of id rows ≡ Some (bool_text is_set)
+
+-- how many connections are taken: the value of `--connections`, or with `--endless` as many as can be numbered
+abbrev pub IsConnectionsOf : List Row → ℕ → Type 0
+IsConnectionsOf rows number = (IsFlagOf (codes "endless") rows true × (number ≡ 4000000000))
+    ⊎ (IsFlagOf (codes "endless") rows false × IsCountOf rows number)
 
 -- the flag `--explain` is set, or it is not
 abbrev pub IsExplainedOf : List Row → Bool → Type 0
