@@ -9,8 +9,8 @@ ghost use Rattle.dme_orders.specs.Orders.{went};
 ghost use Rattle.dme_orders.specs.Reading.{came, IsStillWorking};
 
 use byte_ports::{Failed, PullFault, Sink, Source, pull_all, push_all};
-use witness_judge::{judge, write_judgement};
 use std::alloc::{AllocError, Global};
+use witness_judge::{judge, write_judgement};
 
 /// The recordings of one connection, as sources.
 #[derive(Drop)]
