@@ -2,7 +2,17 @@
 use Rattle.std.proofs.Common.{◌≡◌, ◌∙◌, List, codes, sym, inl, inr, true≢false}
 use Rattle.std.proofs.lemmas.Slice.Eq.{bytes_eq-Decides}
 use Rattle.clap.specs.Walk.{Row, Text}
-use Rattle.dme_words.specs.Ordered.{HasRun, HasWatch, IsLaterAskable}
+use Rattle.dme_words.specs.Ordered.{HasRun, HasService, HasWatch, IsLaterAskable}
+
+pub has_service : (p : Text × List Row) → IsLaterAskable p → p.0 ≡ codes "serve" → HasService p.1
+has_service p (inl (is, has)) serve = has
+has_service p (inr (inl (is, has))) serve = absurd (true≢false (sym ((bytes_eq-Decides (codes "run") (codes "serve")).1 (sym is ∙ serve))))
+has_service p (inr (inr (inl (is, has)))) serve = absurd (true≢false (sym ((bytes_eq-Decides (codes "explain") (codes "serve")).1 (sym is ∙ serve))))
+has_service p (inr (inr (inr (inl (is, has))))) serve = absurd (true≢false (sym ((bytes_eq-Decides (codes "export") (codes "serve")).1 (sym is ∙ serve))))
+has_service p (inr (inr (inr (inr (inl is))))) serve = absurd (true≢false (sym ((bytes_eq-Decides (codes "review") (codes "serve")).1 (sym is ∙ serve))))
+has_service p (inr (inr (inr (inr (inr (inl (is, has))))))) serve = absurd (true≢false (sym ((bytes_eq-Decides (codes "ledger") (codes "serve")).1 (sym is ∙ serve))))
+has_service p (inr (inr (inr (inr (inr (inr (inl (is, has)))))))) serve = absurd (true≢false (sym ((bytes_eq-Decides (codes "judge") (codes "serve")).1 (sym is ∙ serve))))
+has_service p (inr (inr (inr (inr (inr (inr (inr (is, has)))))))) serve = absurd (true≢false (sym ((bytes_eq-Decides (codes "watch") (codes "serve")).1 (sym is ∙ serve))))
 
 pub has_run : (p : Text × List Row) → IsLaterAskable p → p.0 ≡ codes "run" → HasRun p.1
 has_run p (inl (is, has)) run = absurd (true≢false (sym ((bytes_eq-Decides (codes "serve") (codes "run")).1 (sym is ∙ run))))
