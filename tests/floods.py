@@ -2,7 +2,7 @@
 
 - Bytes that follow one that no line can hold, 10,000 lines and more that are never answered, and a line without an end that is shown or logged:
   `dme watch` sends on each byte, its memory stays as it is, and the next connection is witnessed as any other.
-- `dme ledger` over four times the lines takes about four times as long.
+- `dme ledger` and `dme judge` over four times the lines take about four times as long.
 
 `run` calls this; by itself: tests/floods.py [MEGABYTES], which sends that many in each flood (48 by default).
 """
@@ -102,12 +102,12 @@ def flood(folder, name, count):
 
 
 def recordings(folder, touches):
-    """The recordings of that many touches, of four lines each, and of two with an error."""
-    up, down = [], []
+    """The recordings of a session with that many touches, of four lines each, some with an error that stops nothing."""
+    up, down = ["00001 StartSession()\r\n"], ["00001 &\r\n00001 %\r\n"]
     for at in range(touches):
-        tag = "%05d" % (at % 99_999 + 1)
+        tag = "%05d" % (at % 99_998 + 2)
         up.append(f"{tag} PtMeas(X({at % 100}.000), Y(0.000), Z(0.000))\r\n")
-        down.append(f"{tag} &\r\n" + (f"{tag} # X(0.000), Y(0.000), Z(0.000)\r\n" if at % 999 else f'{tag} ! Error(3, 1000, "", "")\r\n') + f"{tag} %\r\n")
+        down.append(f"{tag} &\r\n" + (f"{tag} # X(0.000), Y(0.000), Z(0.000)\r\n" if at % 999 else f'{tag} ! Error(1, 1000, "", "")\r\n') + f"{tag} %\r\n")
     (folder / "long.up").write_text("".join(up))
     (folder / "long.down").write_text("".join(down))
 
@@ -115,7 +115,7 @@ def recordings(folder, touches):
 def seconds(folder, order):
     before = resource.getrusage(resource.RUSAGE_CHILDREN).ru_utime
     done = subprocess.run([str(PROGRAM), order, "--up", "long.up", "--down", "long.down"], cwd=folder, capture_output=True, timeout=SECONDS)
-    must(done.returncode in (0, 3), order, done.stderr[:200])
+    must(done.returncode == 0, order, done.stdout[:200], done.stderr[:200])
     return resource.getrusage(resource.RUSAGE_CHILDREN).ru_utime - before
 
 
@@ -132,7 +132,8 @@ def linear(folder, order, touches):
 def rows(megabytes):
     for name in FLOODS:
         yield name, lambda folder, name=name: f"{flood(folder, name, megabytes << 20)} KiB"
-    yield "long_ledger", lambda folder: linear(folder, "ledger", 12_500)
+    for order in ("ledger", "judge"):
+        yield f"long_{order}", lambda folder, order=order: linear(folder, order, 12_500)
 
 
 def check_floods(megabytes=MEGABYTES, is_told=False):

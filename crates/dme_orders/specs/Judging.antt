@@ -1,7 +1,7 @@
 -- What judging two recordings leaves (this profile).
 use Rattle.std.specs.Prelude.{◌≡◌, ◌⊎◌, ℕ, List, Result, Ok, Err}
-use Rattle.line_judge.specs.Judging.{Judged, IsJudged}
-use Rattle.line_judge.specs.Texts.{judgement_text, judgement_status}
+use Rattle.witness_judge.specs.Judging.{Judged, IsJudged}
+use Rattle.witness_judge.specs.Texts.{judgement_text, judgement_status}
 use Rattle.dme_orders.specs.Checked.{IsUnread}
 use Rattle.dme_orders.specs.Orders.{Went, IsDone, IsTorn}
 use Rattle.dme_orders.specs.Reading.{Came, Reads, IsUntouched, IsStillWorking}

@@ -9,7 +9,7 @@ ghost use Rattle.dme_orders.specs.Orders.{went};
 ghost use Rattle.dme_orders.specs.Reading.{came, IsStillWorking};
 
 use byte_ports::{Failed, PullFault, Sink, Source, pull_all, push_all};
-use line_judge::{judge, write_judgement};
+use witness_judge::{judge, write_judgement};
 use std::alloc::{AllocError, Global};
 
 /// The recordings of one connection, as sources.

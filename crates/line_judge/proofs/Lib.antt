@@ -1,6 +1,0 @@
-mod Readings
-mod Lists
-mod Stages
-mod TextLemmas
-mod FirstBreaks
-mod Halts

@@ -1,9 +1,0 @@
-use Rattle.line_judge.specs.ClientRules.{client_rule}
-use Rattle.line_judge.proofs.FirstBreaks.{breaks_first, never}
-use Rattle.line_judge.proofs.laws.clients_break_is_its_first.Goals as goal
-
-pub returns-clause-first : goal.returns-clause-first
-returns-clause-first c = λ up down found e at broken b. breaks_first (client_rule up down) up found e at broken b
-
-pub returns-clause-none : goal.returns-clause-none
-returns-clause-none c = λ up down e at broken b. never (client_rule up down) up e at broken b

@@ -1,0 +1,11 @@
+pub mod Readings
+pub mod Lists
+pub mod TextLemmas
+pub mod FirstBreaks
+pub mod Moments
+pub mod Notes
+pub mod Links
+pub mod TagTables
+pub mod AboveLemmas
+pub mod Fronts
+pub mod Standings

@@ -1,0 +1,62 @@
+-- What came for each command, with a line of the server more.
+use Rattle.std.proofs.Common.{◌≡◌, ℕ, zero, suc, ◌<◌, Bool, true, false, ◌&&◌, if◌then◌else◌, List, [], ◌∷◌, length, get_or, Option, Some, None, refl, ap, sym, subst, ◌∙◌}
+use Rattle.std.proofs.lemmas.List.{length-replicate}
+use Rattle.std.specs.Prelude.{replicate}
+use Rattle.std.specs.Option.{option_or}
+use Rattle.dme_line.specs.declared.tags.Tag.{Tag}
+use Rattle.witness_judge.specs.Uses.{has_mark, is_at, use_after, noted, moment, AreNoted}
+use Rattle.witness_judge.specs.declared.lines.Heard.{Heard}
+use Rattle.witness_judge.specs.declared.lines.Heard.TheVariants.{Response}
+use Rattle.witness_judge.specs.declared.lines.Mark.{Mark}
+use Rattle.witness_judge.specs.declared.lines.Reply.{Reply}
+use Rattle.witness_judge.specs.declared.lines.Sent.{Sent}
+use Rattle.witness_judge.specs.declared.rules.Moment.{Moment}
+
+or_none : {A : Type 0} (o : Option A) → o ≡ option_or o None
+or_none None = refl
+or_none (Some a) = refl
+
+not_noted : (now : Moment) (b c : Bool) (o : Option Moment) → b ≡ false → o ≡ option_or o (if b && c then Some now else None)
+not_noted now true c o is = absurd (cc)
+not_noted now false c o is = or_none o
+
+-- a mark of another sort
+pub other : (c m : Mark) (up : List Sent) (above : List Heard) (t : Tag) (r : Reply) (notes : List (Option Moment)) → AreNoted c m up above notes
+    → has_mark m r ≡ false → AreNoted c m up (Response t r ∷ above) notes
+other c m up above t r notes are is = record {
+  count = are.count;
+  each = λ at short. are.each at short ∙ not_noted (moment up (Response t r ∷ above)) (has_mark m r) (is_at (use_after c up above t) at) (noted c m up above at) is;
+}
+
+own_noted : (now : Moment) (b c : Bool) (o : Option Moment) → b ≡ true
+    → option_or o (if c then Some now else None) ≡ option_or o (if b && c then Some now else None)
+own_noted now true c o is = refl
+own_noted now false c o is = absurd (cc)
+
+-- one of this sort
+pub own : (c m : Mark) (up : List Sent) (above : List Heard) (t : Tag) (r : Reply) (old new : List (Option Moment)) (place : Option ℕ) (now : Moment)
+    → AreNoted c m up above old → has_mark m r ≡ true → place ≡ use_after c up above t → now ≡ moment up (Response t r ∷ above)
+    → length new ≡ length old
+    → ((at : ℕ) → at < length old → get_or new at None ≡ option_or (get_or old at None) (if is_at place at then Some now else None))
+    → AreNoted c m up (Response t r ∷ above) new
+own c m up above t r old new place now are is there is_now count each = record {
+  count = count ∙ are.count;
+  each = λ at short. go at (subst (λ (n : ℕ). at < n) (sym are.count) short);
+}
+  where
+    go : (at : ℕ) → at < length old → get_or new at None ≡ noted c m up (Response t r ∷ above) at
+    go at short = each at short
+        ∙ ap (λ (o : Option Moment). option_or o (if is_at place at then Some now else None)) (are.each at (subst (λ (n : ℕ). at < n) are.count short))
+        ∙ ap (λ (p : Option ℕ). option_or (noted c m up above at) (if is_at p at then Some now else None)) there
+        ∙ ap (λ (x : Moment). option_or (noted c m up above at) (if is_at (use_after c up above t) at then Some x else None)) is_now
+        ∙ own_noted (moment up (Response t r ∷ above)) (has_mark m r) (is_at (use_after c up above t) at) (noted c m up above at) is
+
+-- nothing came
+nothing : (n at : ℕ) → get_or {A = Option Moment} (replicate n None) at None ≡ None
+nothing zero zero = refl
+nothing zero (suc at) = refl
+nothing (suc n) zero = refl
+nothing (suc n) (suc at) = nothing n at
+
+pub none : (c m : Mark) (up : List Sent) (n : ℕ) → n ≡ length up → AreNoted c m up [] (replicate n None)
+none c m up n count = record { count = length-replicate n None ∙ count; each = λ at short. nothing n at }

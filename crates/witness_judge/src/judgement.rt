@@ -1,0 +1,142 @@
+// What two recordings of a connection say of either end.
+
+ghost use Rattle.std.specs.Prelude.{◌≡◌, ◌<◌, ◌^◌, IfOk};
+ghost use Rattle.std.specs.Option.{option_map};
+ghost use Rattle.witness_judge.specs.Judging as spec;
+
+use crate::client::client_break;
+use crate::counts::{client_counts, server_counts};
+use crate::reading::{heard_lines, sent_lines};
+use crate::rules::{Found, Rule};
+use crate::server::server_break;
+use dme_line::Text;
+use line_framing::{FramingFault, Line};
+use std::alloc::{AllocError, Global};
+use std::marker::Model;
+use witness::cut_lines;
+
+/// A line that breaks a rule.
+#[derive(Debug, Drop)]
+pub struct Break {
+    /// Its number, counted from 1.
+    pub number: usize,
+    pub rule: Rule,
+    /// The line without its end; empty if the bytes there are not a line.
+    pub line: Text,
+}
+
+/// What two recordings of a connection say of either end.
+#[derive(Drop)]
+pub struct Judgement {
+    client: Option<Break>,
+    server: Option<Break>,
+    commands: Vec<usize>,
+    marks: Vec<usize>,
+}
+
+impl Model for Judgement {
+    ghost use Rattle.witness_judge.specs.Judging.{Judged};
+
+    ghost Value = { Judged };
+
+    ghost view = { λ j. record {
+      client = j.client;
+      server = j.server;
+      commands = j.commands.items;
+      marks = j.marks.items;
+    } };
+}
+
+impl Judgement {
+    /// The first line of the client that breaks a rule.
+    pub fn client(&self) -> &Option<Break>
+        ensures { result.now ≡ self.now.client }
+    {
+        &self.client
+    }
+
+    /// The first line of the server that breaks a rule.
+    pub fn server(&self) -> &Option<Break>
+        ensures { result.now ≡ self.now.server }
+    {
+        &self.server
+    }
+
+    /// How many lines of the client have the name of each command, in the order of `KINDS`, and last how many have none of them.
+    pub fn commands(&self) -> &[usize]
+        ensures { result.now ≡ self.now.commands }
+    {
+        self.commands.as_slice()
+    }
+
+    /// How many lines of the server are of each mark: received, data, complete, error.
+    pub fn marks(&self) -> &[usize]
+        ensures { result.now ≡ self.now.marks }
+    {
+        self.marks.as_slice()
+    }
+}
+
+fn framing_rule(fault: FramingFault) -> Rule
+    ensures { result ≡ spec.framing_rule fault }
+{
+    match fault {
+        FramingFault::LineTooLong => Rule::LineTooLong,
+        FramingFault::BadByte => Rule::BadByte,
+    }
+}
+
+/// The first break of an end: a line, or the bytes after all lines.
+fn end_break(found: Option<Found>, count: usize, fault: Option<FramingFault>) -> Option<Found>
+    requires { count < 2 ^ 63 }
+    ensures { result ≡ spec.end_break found count fault }
+{
+    if let Some(found) = found {
+        return Some(found);
+    }
+    let fault = fault?;
+    Some(Found {
+        number: count + 1,
+        rule: framing_rule(fault),
+    })
+}
+
+/// A break with its line. Fails only if out of memory.
+fn shown(alloc: Global, lines: &[Line], found: Option<Found>) -> Result<Option<Break>, AllocError>
+    ensures { IfOk result (λ shown. shown ≡ option_map (spec.shown lines.now) found) }
+{
+    let Some(found) = found else {
+        return Ok(None);
+    };
+    let line = match lines.get(found.number.saturating_sub(1)) {
+        Some(line) => Text::new(alloc, line.as_slice())?,
+        None => Text::new(alloc, b"".as_slice())?,
+    };
+    Ok(Some(Break {
+        number: found.number,
+        rule: found.rule,
+        line,
+    }))
+}
+
+/// What two recordings of one connection say of either end: the bytes that its client sent, and those that its server sent. The first line of
+/// either end that breaks a rule, if one does, and how many lines of each sort there are. A line without its end is not read. Fails only if
+/// out of memory.
+pub fn judge(alloc: Global, up: &[u8], down: &[u8]) -> Result<Judgement, AllocError>
+    ensures { IfOk result (spec.IsJudged up.now down.now) }
+{
+    let (up_lines, up_fault) = cut_lines(alloc, up)?;
+    let (down_lines, down_fault) = cut_lines(alloc, down)?;
+    let sent = sent_lines(alloc, up_lines.as_slice())?;
+    let heard = heard_lines(alloc, down_lines.as_slice())?;
+    let (course, server) = server_break(alloc, sent.as_slice(), heard.as_slice())?;
+    let client = client_break(alloc, sent.as_slice(), heard.as_slice(), &course)?;
+    let client = end_break(client, sent.len(), up_fault);
+    let server = end_break(server, heard.len(), down_fault);
+    Ok(Judgement {
+        client: shown(alloc, up_lines.as_slice(), client)?,
+        server: shown(alloc, down_lines.as_slice(), server)?,
+        commands: client_counts(alloc, sent.as_slice())?,
+        marks: server_counts(alloc, heard.as_slice())?,
+    })
+}

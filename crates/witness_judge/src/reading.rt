@@ -1,0 +1,103 @@
+// What each line is.
+
+ghost use Rattle.std.specs.Prelude.{◌≡◌, map, drop, IfOk};
+ghost use Rattle.fixed_um.specs.declared.lengths.Point.{Point};
+ghost use Rattle.dme_line.specs.Responses.{the_mark};
+ghost use Rattle.protocol_model.specs.Readings.{command_of, response_of};
+ghost use Rattle.witness_judge.specs.Lines as spec;
+
+use crate::lines::{Data, Heard, Reply, Sent, Severity};
+use dme_line::{LineFault, MarkSlice, cut_response, read_command, read_homed, read_point};
+use line_framing::Line;
+use std::alloc::{AllocError, Global};
+use witness::only_asks;
+
+fn behind_tag(line: &[u8]) -> &[u8]
+    ensures { result.now ≡ drop 6 line.now }
+{
+    let (_, text) = line.split_at(line.len().min(6));
+    text
+}
+
+/// What a line of the client is, given without its end. Fails only if out of memory.
+#[tactic(auto, using(crate::proofs::Readings::one_command))]
+fn sent_of(alloc: Global, line: &[u8]) -> Result<Sent, AllocError>
+    ensures { IfOk result (λ sent. sent ≡ spec.sent_of line.now) }
+{
+    match read_command(alloc, line)? {
+        Ok((tag, command)) => Ok(Sent::Command(tag, command.kind())),
+        Err(LineFault::NoTag) => Ok(Sent::Untagged),
+        Err(LineFault::UnknownCommand(tag)) => if only_asks(behind_tag(line)) {
+            Ok(Sent::Standard(tag))
+        } else {
+            Ok(Sent::Unknown(tag))
+        }
+        Err(LineFault::BadArguments(tag, kind)) => Ok(Sent::Unread(tag, kind)),
+    }
+}
+
+#[tactic(auto, using(crate::proofs::Readings::one_point, crate::proofs::Readings::one_homed))]
+fn data_of(text: &[u8]) -> Data
+    ensures { result ≡ spec.data_of text.now }
+{
+    if read_point(text).is_ok() {
+        return Data::Point;
+    }
+    if read_homed(text).is_ok() {
+        return Data::Homed;
+    }
+    Data::Other
+}
+
+fn severity_of(text: &[u8]) -> Severity
+    ensures { result ≡ spec.severity_of text.now }
+{
+    if text.starts_with(b"Error(3,".as_slice()) {
+        return Severity::Three;
+    }
+    Severity::Other
+}
+
+fn reply_as(mark: MarkSlice<'_>) -> Reply
+    ensures { result ≡ spec.reply_as (the_mark mark.entry) }
+{
+    match mark {
+        MarkSlice::Ack => Reply::Received,
+        MarkSlice::Given(text) => Reply::Given(data_of(text)),
+        MarkSlice::Done => Reply::Complete,
+        MarkSlice::Error(text) => Reply::Error(severity_of(text)),
+    }
+}
+
+/// What a line of the server is, given without its end.
+#[tactic(auto, using(crate::proofs::Readings::one_response))]
+fn heard_of(line: &[u8]) -> Heard
+    ensures { result ≡ spec.heard_of line.now }
+{
+    match cut_response(line) {
+        Ok(response) => Heard::Response(response.tag, reply_as(response.mark)),
+        Err(_) => Heard::Other,
+    }
+}
+
+/// What each line of the client is. Fails only if out of memory.
+pub(crate) fn sent_lines(alloc: Global, lines: &[Line]) -> Result<Vec<Sent>, AllocError>
+    ensures { IfOk result (λ all. all.items ≡ map spec.sent_of lines.now) }
+{
+    let mut all = Vec::with_capacity(alloc, lines.len())?;
+    for line in lines {
+        all.push(sent_of(alloc, line.as_slice())?)?;
+    }
+    Ok(all)
+}
+
+/// What each line of the server is. Fails only if out of memory.
+pub(crate) fn heard_lines(alloc: Global, lines: &[Line]) -> Result<Vec<Heard>, AllocError>
+    ensures { IfOk result (λ all. all.items ≡ map spec.heard_of lines.now) }
+{
+    let mut all = Vec::with_capacity(alloc, lines.len())?;
+    for line in lines {
+        all.push(heard_of(line.as_slice()))?;
+    }
+    Ok(all)
+}

@@ -1,0 +1,403 @@
+// The first line of the server that breaks a rule.
+
+ghost use Rattle.std.specs.Prelude.{◌≡◌, ◌<◌, ◌≤◌, ◌+◌, ◌^◌, ◌∷◌, [], drop, length, reverse, slice_get, Some, None, IfOk};
+ghost use Rattle.std.specs.Option.{option_or};
+ghost use Rattle.witness_judge.specs.ServerRules as spec;
+ghost use Rattle.witness_judge.specs.Uses.{AreAllNoted, IsCourse, stage_of};
+ghost use Rattle.witness_judge.specs.Judging.{first_break, found_at};
+
+use crate::course::{Course, Notes};
+use crate::lines::{Data, Heard, Reply, Sent, Severity};
+use crate::rules::{Asks, Found, Rule, Sought, Stage, Standing};
+use dme_line::{Kind, Tag};
+use std::alloc::{AllocError, Global};
+
+fn kind_asks(kind: Kind) -> Asks
+    ensures { result ≡ spec.kind_asks kind }
+{
+    match kind {
+        Kind::PtMeas => Asks::Point,
+        Kind::IsHomed => Asks::Homed,
+        _ => Asks::Nothing,
+    }
+}
+
+fn asks_under(doubtful: bool, sent: Sent) -> Asks
+    ensures { result ≡ spec.asks_under doubtful sent }
+{
+    match sent {
+        Sent::Command(_, kind) if !doubtful => kind_asks(kind),
+        _ => Asks::Anything,
+    }
+}
+
+fn is_queued(sent: Sent) -> bool
+    ensures { result ≡ spec.is_queued sent }
+{
+    matches!(sent, Sent::Command(Tag::Std(_), _))
+}
+
+fn is_open(stage: Stage) -> bool
+    ensures { result ≡ spec.is_open stage }
+{
+    matches!(stage, Stage::Sent | Stage::Received | Stage::Given)
+}
+
+fn is_ended(stage: Stage) -> bool
+    ensures { result ≡ spec.is_ended stage }
+{
+    matches!(stage, Stage::Ended)
+}
+
+fn is_abort(sent: Sent) -> bool
+    ensures { result ≡ spec.is_abort sent }
+{
+    matches!(sent, Sent::Command(Tag::Event(_), Kind::AbortE))
+}
+
+fn is_clear(sent: Sent) -> bool
+    ensures { result ≡ spec.is_clear sent }
+{
+    matches!(sent, Sent::Command(_, Kind::ClearAllErrors))
+}
+
+fn is_session_end(sent: Sent) -> bool
+    ensures { result ≡ spec.is_session_end sent }
+{
+    matches!(sent, Sent::Command(_, Kind::EndSession))
+}
+
+fn is_sought(sought: Sought, sent: Sent, stage: Stage) -> bool
+    ensures { result ≡ spec.is_sought sought sent stage }
+{
+    match sought {
+        Sought::Open => is_queued(sent) && is_open(stage),
+        Sought::Unended => is_queued(sent) && !is_ended(stage),
+        Sought::Clearing => is_clear(sent) && is_open(stage),
+    }
+}
+
+/// How far the command at a place is.
+fn stage_at(up: &[Sent], above: &[Heard], notes: &Notes, at: usize) -> Stage
+    requires notes { AreAllNoted up.now (reverse above.now) notes.now }
+    requires within { at < length up.now }
+    ensures { result ≡ stage_of up.now (reverse above.now) at }
+{
+    if notes.complete[at].is_some() {
+        return Stage::Ended;
+    }
+    if notes.error[at].is_some() {
+        return Stage::Failed;
+    }
+    if notes.given[at].is_some() {
+        return Stage::Given;
+    }
+    if notes.received[at].is_some() {
+        return Stage::Received;
+    }
+    Stage::Sent
+}
+
+/// The place of the first line that is, or the count of all; no line before a place is.
+fn front(sought: Sought, up: &[Sent], above: &[Heard], notes: &Notes, from: usize) -> usize
+    requires notes { AreAllNoted up.now (reverse above.now) notes.now }
+    requires from { spec.first_from (spec.is_sought_after sought up.now (reverse above.now)) from
+        (drop from up.now) ≡ spec.front sought up.now (reverse above.now) }
+    requires within { from ≤ length up.now }
+    ensures place { result ≡ spec.front sought up.now (reverse above.now) }
+    ensures within { result ≤ length up.now }
+{
+    for at in from..up.len() {
+        if is_sought(sought, up[at], stage_at(up, above, notes, at)) {
+            return at;
+        }
+    }
+    up.len()
+}
+
+/// Whether a line of the server is an error after which nothing more is carried out.
+fn is_halt(heard: Heard) -> bool
+    ensures { result ≡ spec.halts heard }
+{
+    matches!(
+        heard,
+        Heard::Response(Tag::Std(_), Reply::Error(Severity::Three))
+    )
+}
+
+fn in_turn_rule(turn: bool) -> Option<Rule>
+    ensures { result ≡ spec.in_turn_rule turn }
+{
+    if turn { None } else { Some(Rule::NotInTurn) }
+}
+
+fn fits(asks: Asks, given: Data) -> bool
+    ensures { result ≡ spec.fits asks given }
+{
+    matches!(
+        (asks, given),
+        (Asks::Point, Data::Point) | (Asks::Homed, Data::Homed)
+    )
+}
+
+fn data_rule(stage: Stage, asks: Asks, turn: bool, given: Data) -> Option<Rule>
+    ensures { result ≡ spec.data_rule stage asks turn given }
+{
+    match (stage, asks) {
+        (Stage::Received | Stage::Given, Asks::Anything) => None,
+        (Stage::Received, _) if fits(asks, given) => in_turn_rule(turn),
+        (Stage::Given, _) if fits(asks, given) => Some(Rule::SecondData),
+        (Stage::Received | Stage::Given, _) => Some(Rule::OtherData),
+        _ => Some(Rule::OutOfOrder),
+    }
+}
+
+fn end_rule(turn: bool, barred: bool, left: bool) -> Option<Rule>
+    ensures { result ≡ spec.end_rule turn barred left }
+{
+    if !turn {
+        return Some(Rule::NotInTurn);
+    }
+    if barred {
+        return Some(Rule::NotCleared);
+    }
+    if left { Some(Rule::NoEnd) } else { None }
+}
+
+fn complete_rule(stage: Stage, asks: Asks, ending: Option<Rule>) -> Option<Rule>
+    ensures { result ≡ spec.complete_rule stage asks ending }
+{
+    match (stage, asks) {
+        (Stage::Received, Asks::Point | Asks::Homed) => Some(Rule::NoData),
+        (Stage::Received | Stage::Given, _) => ending,
+        (Stage::Failed, _) => None,
+        _ => Some(Rule::OutOfOrder),
+    }
+}
+
+/// The rule that a mark for a command breaks.
+fn mark_rule(
+    stage: Stage,
+    asks: Asks,
+    turn: bool,
+    ending: Option<Rule>,
+    reply: Reply,
+) -> Option<Rule>
+    ensures { result ≡ spec.mark_rule stage asks turn ending reply }
+{
+    match reply {
+        Reply::Received => match stage {
+            Stage::Sent => None,
+            _ => Some(Rule::OutOfOrder),
+        },
+        Reply::Given(data) => data_rule(stage, asks, turn, data),
+        Reply::Complete => complete_rule(stage, asks, ending),
+        Reply::Error(_) => None,
+    }
+}
+
+fn unasked_rule(tag: Tag) -> Option<Rule>
+    ensures { result ≡ spec.unasked_rule tag }
+{
+    match tag {
+        Tag::Event(0) => None,
+        _ => Some(Rule::UnknownTag),
+    }
+}
+
+fn is_doubtful(up: &[Sent], above: &[Heard], course: &Course, tag: Tag) -> bool
+    requires { IsCourse up.now (reverse above.now) course.now }
+    ensures { result ≡ spec.is_doubtful (reverse above.now) tag }
+{
+    course.has_end(up, above, tag) && course.moment.refusals > 0
+}
+
+fn is_in_turn(
+    up: &[Sent],
+    above: &[Heard],
+    course: &Course,
+    standing: Standing,
+    at: usize,
+    sent: Sent,
+) -> bool
+    requires course { IsCourse up.now (reverse above.now) course.now }
+    requires standing { spec.IsStanding up.now (reverse above.now) standing }
+    ensures { result ≡ spec.is_in_turn up.now (reverse above.now) at sent }
+{
+    !(is_queued(sent) || is_abort(sent)) || course.moment.refusals > 0 || !(standing.waiting < at)
+}
+
+/// Whether an error bars a command, if it is the first that is open.
+fn is_halted(up: &[Sent], above: &[Heard], course: &Course, standing: Standing, sent: Sent) -> bool
+    requires course { IsCourse up.now (reverse above.now) course.now }
+    requires standing { spec.IsStanding up.now (reverse above.now) standing }
+    ensures { result ≡ spec.is_halted up.now (reverse above.now)
+        (spec.front Sought.Open up.now (reverse above.now)) sent }
+{
+    is_queued(sent) && !is_clear(sent) && course.moment.refusals == 0 && standing.barred
+}
+
+fn leaves_some(
+    up: &[Sent],
+    above: &[Heard],
+    course: &Course,
+    standing: Standing,
+    at: usize,
+    sent: Sent,
+) -> bool
+    requires course { IsCourse up.now (reverse above.now) course.now }
+    requires standing { spec.IsStanding up.now (reverse above.now) standing }
+    ensures { result ≡ spec.leaves_some up.now (reverse above.now) at sent }
+{
+    is_session_end(sent) && course.moment.refusals == 0 && standing.unended < at
+}
+
+/// The rule that a mark for the command at a place breaks.
+#[tactic(auto, using(crate::proofs::Standings::first_ends))]
+fn command_rule(
+    up: &[Sent],
+    above: &[Heard],
+    course: &Course,
+    standing: Standing,
+    tag: Tag,
+    reply: Reply,
+    at: usize,
+    sent: Sent,
+) -> Option<Rule>
+    requires course { IsCourse up.now (reverse above.now) course.now }
+    requires standing { spec.IsStanding up.now (reverse above.now) standing }
+    requires within { at < length up.now }
+    requires there { slice_get up.now at ≡ Some sent }
+    ensures { result ≡ spec.command_rule up.now (reverse above.now) tag reply at sent }
+{
+    let stage = stage_at(up, above, &course.notes, at);
+    let asks = asks_under(is_doubtful(up, above, course, tag), sent);
+    let turn = is_in_turn(up, above, course, standing, at, sent);
+    let barred = is_halted(up, above, course, standing, sent);
+    let left = leaves_some(up, above, course, standing, at, sent);
+    mark_rule(stage, asks, turn, end_rule(turn, barred, left), reply)
+}
+
+/// The rule that a line breaks under the lines above it.
+fn rule_of(
+    up: &[Sent],
+    above: &[Heard],
+    course: &Course,
+    standing: Standing,
+    heard: Heard,
+) -> Option<Rule>
+    requires course { IsCourse up.now (reverse above.now) course.now }
+    requires standing { spec.IsStanding up.now (reverse above.now) standing }
+    ensures { result ≡ spec.server_rule up.now (reverse above.now) heard }
+{
+    let Heard::Response(tag, reply) = heard else {
+        return Some(Rule::NotResponse);
+    };
+    let Some(at) = course.place(up, above, tag) else {
+        return unasked_rule(tag);
+    };
+    match up.get(at) {
+        Some(sent) => command_rule(up, above, course, standing, tag, reply, at, *sent),
+        None => None,
+    }
+}
+
+fn reach_after(halts: bool, clearing: usize, reach: usize) -> usize
+    requires { clearing < 2 ^ 63 }
+    ensures { result ≡ spec.reach_after halts clearing reach }
+{
+    if halts && reach <= clearing {
+        clearing + 1
+    } else {
+        reach
+    }
+}
+
+/// Whether an error bars the first command that is open.
+fn first_barred(now: usize, before: usize, reach: usize, barred: bool) -> bool
+    ensures { result ≡ spec.first_barred now before reach barred }
+{
+    if now == before { barred } else { now < reach }
+}
+
+/// How far all commands are, after one line more, which stands last in `heard`.
+#[tactic(auto, using(crate::proofs::Fronts::front_moves, crate::proofs::Fronts::front_within, crate::proofs::Standings::stands))]
+fn stand(
+    up: &[Sent],
+    above: &[Heard],
+    lines: &[Heard],
+    heard: Heard,
+    notes: &Notes,
+    before: Standing,
+) -> Standing
+    requires lines { reverse lines.now ≡ heard ∷ reverse above.now }
+    requires notes { AreAllNoted up.now (heard ∷ reverse above.now) notes.now }
+    requires standing { spec.IsStanding up.now (reverse above.now) before }
+    requires short { length up.now < 2 ^ 63 }
+    ensures { spec.IsStanding up.now (heard ∷ reverse above.now) result }
+{
+    let waiting = front(Sought::Open, up, lines, notes, before.waiting);
+    let reach = reach_after(is_halt(heard), before.clearing, before.reach);
+    Standing {
+        waiting,
+        unended: front(Sought::Unended, up, lines, notes, before.unended),
+        clearing: front(Sought::Clearing, up, lines, notes, before.clearing),
+        barred: first_barred(waiting, before.waiting, reach, before.barred),
+        reach,
+    }
+}
+
+/// How far all commands are, before any line of the server.
+fn at_first(up: &[Sent], none: &[Heard], notes: &Notes) -> Standing
+    requires none { none.now ≡ [] }
+    requires notes { AreAllNoted up.now (reverse none.now) notes.now }
+    ensures { spec.IsStanding up.now (reverse none.now) result }
+{
+    Standing {
+        waiting: front(Sought::Open, up, none, notes, 0),
+        unended: front(Sought::Unended, up, none, notes, 0),
+        clearing: front(Sought::Clearing, up, none, notes, 0),
+        barred: false,
+        reach: 0,
+    }
+}
+
+/// What was found first, with a line more, which may break a rule.
+fn found_or(found: Option<Found>, at: usize, rule: Option<Rule>) -> Option<Found>
+    requires { at < 2 ^ 63 }
+    ensures { result ≡ option_or found (found_at (at + 1) rule None) }
+{
+    if found.is_some() {
+        return found;
+    }
+    let rule = rule?;
+    Some(Found {
+        number: at + 1,
+        rule,
+    })
+}
+
+/// What the server has done and the first line of it that breaks a rule. Fails only if out of memory.
+#[tactic(auto, using(crate::proofs::Lists::found_more))]
+pub(crate) fn server_break(
+    alloc: Global,
+    up: &[Sent],
+    down: &[Heard],
+) -> Result<(Course, Option<Found>), AllocError>
+    requires { length up.now < 2 ^ 63 }
+    ensures course { IfOk result (λ r. IsCourse up.now (reverse down.now) r.0) }
+    ensures found { IfOk result (λ r. r.1 ≡ first_break (spec.server_rule up.now) [] down.now) }
+{
+    let mut course = Course::new(alloc, up)?;
+    let mut standing = at_first(up, down.split_at(0).0, &course.notes);
+    let mut found = None;
+    for at in 0..down.len() {
+        let (above, _) = down.split_at(at);
+        let (lines, _) = down.split_at(at + 1);
+        let heard = down[at];
+        found = found_or(found, at, rule_of(up, above, &course, standing, heard));
+        course.hear(up, above, heard)?;
+        standing = stand(up, above, lines, heard, &course.notes, standing);
+    }
+    Ok((course, found))
+}

@@ -1,0 +1,134 @@
+// The uses of each tag.
+
+ghost use Rattle.std.specs.Prelude.{◌≡◌, ◌<◌, ◌+◌, ◌^◌, ℕ, Some, None, if◌then◌else◌, length, get_or, IfOk, OnOk};
+ghost use Rattle.protocol_model.specs.Replies.{tag_is};
+ghost use Rattle.dme_line.specs.declared.tags.Tag.{Tag};
+ghost use Rattle.witness_judge.specs.Uses as spec;
+
+use crate::lines::Sent;
+use dme_line::Tag;
+use std::alloc::{AllocError, Global};
+
+/// The tag of a line of the client.
+pub(crate) fn tag_of(sent: Sent) -> Option<Tag>
+    ensures { result ≡ spec.tag_of sent }
+{
+    match sent {
+        Sent::Untagged => None,
+        Sent::Command(tag, _) | Sent::Standard(tag) | Sent::Unknown(tag) | Sent::Unread(tag, _) => {
+            Some(tag)
+        }
+    }
+}
+
+fn code_of(tag: Tag) -> usize
+    ensures { result ≡ spec.code_of tag }
+{
+    match tag {
+        Tag::Std(number) => number as usize + number as usize,
+        Tag::Event(number) => number as usize + number as usize + 1,
+    }
+}
+
+/// What a table has for a tag.
+pub(crate) fn look(table: &[Option<usize>], tag: Tag) -> Option<usize>
+    ensures { result ≡ spec.found table.now tag }
+{
+    let code = code_of(tag);
+    if code < table.len() {
+        table[code]
+    } else {
+        None
+    }
+}
+
+/// Room for a number in a table. Fails only if out of memory.
+fn make_room(table: &mut Vec<Option<usize>>, code: usize) -> Result<(), AllocError>
+    requires { code < 2 ^ 40 }
+    ensures room { OnOk result (code < length table.new.items) }
+    ensures same { (at : ℕ) → OnOk result (get_or table.new.items at None
+        ≡ get_or table.old.items at None) }
+{
+    if table.len() <= code {
+        table.resize(code + 1, None)?;
+    }
+    Ok(())
+}
+
+fn change(table: &mut Vec<Option<usize>>, code: usize, place: Option<usize>)
+    requires { code < length table.old.items }
+    ensures count { length table.new.items ≡ length table.old.items }
+    ensures own { get_or table.new.items code None ≡ place }
+    ensures others { (at : ℕ) → (at ≡ code → ⊥)
+        → get_or table.new.items at None ≡ get_or table.old.items at None }
+{
+    table[code] = place;
+}
+
+/// Changes what a table has for a tag. Fails only if out of memory.
+#[tactic(auto, using(crate::proofs::TagTables::put_found))]
+pub(crate) fn put(
+    table: &mut Vec<Option<usize>>,
+    tag: Tag,
+    place: Option<usize>,
+) -> Result<(), AllocError>
+    ensures { OnOk result ((t : Tag) → spec.found table.new.items t
+        ≡ (if tag_is tag t then place else spec.found table.old.items t)) }
+{
+    let code = code_of(tag);
+    make_room(table, code)?;
+    change(table, code, place);
+    Ok(())
+}
+
+/// The uses of each tag, from a place on.
+#[derive(Drop)]
+pub(crate) struct Later {
+    /// The first use of each tag.
+    pub(crate) first: Vec<Option<usize>>,
+    /// For each line of the client, the next use of its tag.
+    pub(crate) next: Vec<Option<usize>>,
+}
+
+/// The place of the use after the one at a place.
+pub(crate) fn next_of(next: &[Option<usize>], place: Option<usize>) -> Option<usize>
+    ensures { result ≡ spec.next_of next.now place }
+{
+    match place {
+        Some(at) if at < next.len() => next[at],
+        _ => None,
+    }
+}
+
+/// The line at a place, before those that are noted. Fails only if out of memory.
+#[tactic(auto, using(crate::proofs::TagTables::first_more, crate::proofs::TagTables::next_more, crate::proofs::TagTables::first_untagged, crate::proofs::TagTables::next_untagged))]
+fn note_use(later: &mut Later, up: &[Sent], at: usize) -> Result<(), AllocError>
+    requires within { at < length up.now }
+    requires first { spec.AreFirst up.now (at + 1) later.old.first.items }
+    requires next { spec.AreNext up.now (at + 1) later.old.next.items }
+    ensures first { OnOk result (spec.AreFirst up.now at later.new.first.items) }
+    ensures next { OnOk result (spec.AreNext up.now at later.new.next.items) }
+{
+    let Some(tag) = tag_of(up[at]) else {
+        return Ok(());
+    };
+    let place = look(later.first.as_slice(), tag);
+    change(&mut later.next, at, place);
+    put(&mut later.first, tag, Some(at))
+}
+
+/// The uses of each tag. Fails only if out of memory.
+#[tactic(auto, using(crate::proofs::TagTables::next_none))]
+pub(crate) fn later_uses(alloc: Global, up: &[Sent]) -> Result<Later, AllocError>
+    ensures first { IfOk result (λ l. spec.AreFirst up.now 0 l.first.items) }
+    ensures next { IfOk result (λ l. spec.AreNext up.now 0 l.next.items) }
+{
+    let mut later = Later {
+        first: Vec::new(alloc),
+        next: vec![in alloc; None; up.len()]?,
+    };
+    for passed in 0..up.len() {
+        note_use(&mut later, up, up.len() - 1 - passed)?;
+    }
+    Ok(later)
+}

@@ -1,0 +1,170 @@
+// What is printed of a judgement.
+
+ghost use Rattle.std.specs.Prelude.{◌≡◌, ◌++◌, ◌<◌, length, slice_get, OnOk, IfOk, string_bytes};
+ghost use Rattle.fixed_um.specs.Calls.{Writes};
+ghost use Rattle.dme_line.specs.Kinds.{kind_name};
+ghost use Rattle.witness_judge.specs.Counts.{kinds};
+ghost use Rattle.witness_judge.specs.Texts as spec;
+
+use crate::counts::KINDS;
+use crate::judgement::{Break, Judgement};
+use crate::rules::Rule;
+use dme_line::Kind;
+use session_telling::visible;
+use std::alloc::{AllocError, Global};
+
+fn rule_name(rule: Rule) -> &'static str
+    ensures { result.now ≡ spec.rule_name rule }
+{
+    match rule {
+        Rule::NoTag => "NoTag",
+        Rule::TagInUse => "TagInUse",
+        Rule::UnknownCommand => "UnknownCommand",
+        Rule::WrongTag => "WrongTag",
+        Rule::BadArguments => "BadArguments",
+        Rule::NoSession => "NoSession",
+        Rule::SessionOpen => "SessionOpen",
+        Rule::QueueFull => "QueueFull",
+        Rule::NotResponse => "NotResponse",
+        Rule::UnknownTag => "UnknownTag",
+        Rule::OutOfOrder => "OutOfOrder",
+        Rule::NoData => "NoData",
+        Rule::SecondData => "SecondData",
+        Rule::OtherData => "OtherData",
+        Rule::NotInTurn => "NotInTurn",
+        Rule::NotCleared => "NotCleared",
+        Rule::NoEnd => "NoEnd",
+        Rule::LineTooLong => "LineTooLong",
+        Rule::BadByte => "BadByte",
+    }
+}
+
+fn kind_word(kind: Kind) -> &'static str
+    ensures { result.now ≡ kind_name kind }
+{
+    match kind {
+        Kind::StartSession => "StartSession",
+        Kind::EndSession => "EndSession",
+        Kind::ClearAllErrors => "ClearAllErrors",
+        Kind::IsHomed => "IsHomed",
+        Kind::Home => "Home",
+        Kind::OnPtMeasReport => "OnPtMeasReport",
+        Kind::GoTo => "GoTo",
+        Kind::PtMeas => "PtMeas",
+        Kind::ChangeTool => "ChangeTool",
+        Kind::SetCsyTransformation => "SetCsyTransformation",
+        Kind::SetCoordSystem => "SetCoordSystem",
+        Kind::AbortE => "AbortE",
+    }
+}
+
+/// Appends a line after a space, as it can be read.
+fn push_line(text: &mut String, line: &[u8]) -> Result<(), AllocError>
+    ensures { OnOk result (string_bytes text.new ≡ string_bytes text.old ++ spec.line_text line.now) }
+{
+    if line.is_empty() {
+        return Ok(());
+    }
+    let shown = visible(*text.allocator(), line)?;
+    text.push_str(" ")?;
+    text.push_str(shown.as_str())
+}
+
+fn push_break(text: &mut String, side: &str, broken: &Break) -> Result<(), AllocError>
+    ensures { OnOk result (string_bytes text.new ≡ string_bytes text.old
+        ++ spec.break_text side.now broken.now) }
+{
+    let number = broken.number;
+    let name = rule_name(broken.rule);
+    write!(text, "{side} LINE {number} {name}")?;
+    push_line(text, broken.line.as_slice())?;
+    text.push_str("\n")
+}
+
+fn push_end(text: &mut String, side: &str, broken: &Option<Break>) -> Result<(), AllocError>
+    ensures { OnOk result (string_bytes text.new ≡ string_bytes text.old
+        ++ spec.end_text side.now broken.now) }
+{
+    match broken {
+        Some(broken) => push_break(text, side, broken),
+        None => Ok(()),
+    }
+}
+
+/// Appends a count with its word, but not that of nothing.
+fn push_count(text: &mut String, word: &str, count: usize) -> Result<(), AllocError>
+    ensures { OnOk result (string_bytes text.new ≡ string_bytes text.old
+        ++ spec.count_text word.now count) }
+{
+    if count == 0 {
+        return Ok(());
+    }
+    writeln!(text, "{word} {count}")
+}
+
+/// The word of the count at a place.
+fn word_at(at: usize) -> &'static str
+    ensures { result.now ≡ spec.word_of (slice_get kinds at) }
+{
+    match KINDS.get(at) {
+        Some(kind) => kind_word(*kind),
+        None => "other",
+    }
+}
+
+/// Appends the counts of the lines of the client.
+fn push_commands(text: &mut String, counts: &[usize]) -> Result<(), AllocError>
+    ensures { OnOk result (string_bytes text.new ≡ string_bytes text.old
+        ++ spec.commands_text 0 counts.now) }
+{
+    for at in 0..counts.len() {
+        push_count(text, word_at(at), counts[at])?;
+    }
+    Ok(())
+}
+
+/// Appends the counts of the lines of the server.
+fn push_marks(text: &mut String, counts: &[usize]) -> Result<(), AllocError>
+    ensures { OnOk result (string_bytes text.new ≡ string_bytes text.old
+        ++ spec.marks_text counts.now) }
+{
+    let [received, given, complete, errors] = counts else {
+        return Ok(());
+    };
+    push_count(text, "&", *received)?;
+    push_count(text, "#", *given)?;
+    push_count(text, "%", *complete)?;
+    push_count(text, "!", *errors)
+}
+
+/// The text of a judgement. Fails only if out of memory.
+fn text_of(alloc: Global, judgement: &Judgement) -> Result<String, AllocError>
+    ensures { IfOk result (λ text. string_bytes text ≡ spec.judgement_text judgement.now) }
+{
+    let mut text = String::new(alloc);
+    if judgement.client().is_none() && judgement.server().is_none() {
+        text.push_str("dme: no line breaks the rules\n")?;
+        push_commands(&mut text, judgement.commands())?;
+        push_marks(&mut text, judgement.marks())?;
+        return Ok(text);
+    }
+    push_end(&mut text, "CLIENT", judgement.client())?;
+    push_end(&mut text, "SERVER", judgement.server())?;
+    Ok(text)
+}
+
+/// Appends what is printed of a judgement, and answers the exit status: the first line of either end that breaks a rule, the client's first, 3;
+/// or that no line does, and the counts that are not 0, 0 (this profile). Fails only if out of memory, and then appends nothing.
+#[tactic(auto, using(crate::proofs::TextLemmas::some_text))]
+pub fn write_judgement(out: &mut Vec<u8>, judgement: &Judgement) -> Result<u8, AllocError>
+    ensures text { Writes result out.old out.new (spec.judgement_text judgement.now) }
+    ensures some { 0 < length (spec.judgement_text judgement.now) }
+    ensures status { IfOk result (λ status. status ≡ spec.judgement_status judgement.now) }
+{
+    let text = text_of(*out.allocator(), judgement)?;
+    out.extend_from_slice(text.as_bytes())?;
+    if judgement.client().is_none() && judgement.server().is_none() {
+        return Ok(0);
+    }
+    Ok(3)
+}
