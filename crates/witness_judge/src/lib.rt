@@ -19,6 +19,7 @@ pub mod examples;
 pub mod judgement;
 pub mod laws;
 pub mod lines;
+pub mod orders;
 mod reading;
 pub mod rules;
 mod server;
