@@ -78,6 +78,15 @@ fn order_in<R: Files<File = File> + AllocGlobal>(
     Ok((name, file))
 }
 
+/// Forces a file to the device. An error is its name.
+fn force_one(alloc: Global, kept: &mut (String, File)) -> Result<(), String> {
+    let (name, file) = kept;
+    match file.sync_data() {
+        Ok(()) => Ok(()),
+        Err(_) => Err(mem::replace(name, String::new(alloc))),
+    }
+}
+
 impl Recording {
     /// New files for the bytes of the connection of this number in a folder.
     pub fn new<R: Files<File = File> + AllocGlobal>(
@@ -124,12 +133,13 @@ impl Recording {
 
     /// Forces all to the device. An error is the name of the file that cannot be written.
     pub fn force(&mut self, alloc: Global) -> Result<(), String> {
-        for (name, file) in [&mut self.up, &mut self.down, &mut self.order] {
-            if file.sync_data().is_err() {
-                return Err(mem::replace(name, String::new(alloc)));
-            }
+        if let Err(name) = force_one(alloc, &mut self.up) {
+            return Err(name);
         }
-        Ok(())
+        if let Err(name) = force_one(alloc, &mut self.down) {
+            return Err(name);
+        }
+        force_one(alloc, &mut self.order)
     }
 
     /// New files for the bytes of the first connection, in a folder that must hold no recordings.
