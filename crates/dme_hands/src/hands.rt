@@ -15,23 +15,24 @@ enum Open<F, I> {
 
 /// What carries out the effects of one command. It does not report what it did.
 #[derive(Drop)]
-pub struct RealHands<'a, R: Files + Input> {
-    rt: &'a R,
+pub struct RealHands<R: Files + Input + Drop> {
+    rt: R,
     up: Open<R::File, R::Reader>,
     down: Open<R::File, R::Reader>,
     order: Open<R::File, R::Reader>,
     came: Came,
 }
 
-impl<'a, R: Files + Input + Print + Eprint + AllocGlobal> RealHands<'a, R> {
+impl<R: Files + Input + Print + Eprint + AllocGlobal + Drop> RealHands<R> {
     /// Hands that have done nothing.
-    pub fn new(rt: &'a R) -> Self {
+    pub fn new(rt: R) -> Self {
+        let came = Came::new(rt.alloc());
         RealHands {
             rt,
             up: Open::Nothing,
             down: Open::Nothing,
             order: Open::Nothing,
-            came: Came::new(rt.alloc()),
+            came,
         }
     }
 
@@ -46,7 +47,7 @@ impl<'a, R: Files + Input + Print + Eprint + AllocGlobal> RealHands<'a, R> {
 
     fn open(&mut self, slot: Slot, place: Place<'_>) -> io::Result<()> {
         *self.file(slot) = match place {
-            Place::Named(name) => Open::File(fs::open(self.rt, name)?),
+            Place::Named(name) => Open::File(fs::open(&self.rt, name)?),
             Place::Input => Open::Input(self.rt.reader()),
             Place::Nothing => Open::Nothing,
         };
@@ -64,15 +65,15 @@ impl<'a, R: Files + Input + Print + Eprint + AllocGlobal> RealHands<'a, R> {
     }
 
     fn print(&mut self, bytes: &[u8]) -> io::Result<()> {
-        io::writer(self.rt).write_all(bytes)
+        io::writer(&self.rt).write_all(bytes)
     }
 
     fn say(&mut self, text: &str) -> io::Result<()> {
-        eprint!(self.rt; "{text}")
+        eprint!(&self.rt; "{text}")
     }
 }
 
-impl<'a, R: Files + Input + Print + Eprint + AllocGlobal> Hands for RealHands<'a, R> {
+impl<R: Files + Input + Print + Eprint + AllocGlobal + Drop> Hands for RealHands<R> {
     ghost use Rattle.std.specs.Prelude.{None};
 
     ghost told = { λ _. None };

@@ -250,13 +250,13 @@ fn audit_of_record<R: Files + Input + Print + Eprint + AllocGlobal>(
 
 /// The order `ledger`: its exit status, or 70 once no more turns can be counted.
 #[inline(never)]
-fn ledger<R: Files + Input + Print + Eprint + AllocGlobal>(
+fn ledger<R: Files + Input + Print + Eprint + AllocGlobal + Clone + Drop>(
     rt: &R,
     order: Ledger,
 ) -> Result<u8, Fault> {
     let connection = u64::from(order.connection);
     let mut session = Session::new(rt.alloc(), connection, order.up, order.down)?;
-    let mut hands = RealHands::new(rt);
+    let mut hands = RealHands::new(rt.clone());
     Ok(run_session(&mut session, &mut hands).unwrap_or(70))
 }
 
