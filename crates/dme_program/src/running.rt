@@ -255,8 +255,8 @@ fn ledger<R: Files + Input + Print + Eprint + AllocGlobal + Clone + Drop>(
     order: Ledger,
 ) -> Result<u8, Fault> {
     let connection = u64::from(order.connection);
+    let mut hands = RealHands::new(rt.clone()?);
     let mut session = Session::new(rt.alloc(), connection, order.up, order.down)?;
-    let mut hands = RealHands::new(rt.clone());
     Ok(run_session(&mut session, &mut hands).unwrap_or(70))
 }
 

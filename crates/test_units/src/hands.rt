@@ -25,7 +25,7 @@ fn gives<R: Files + Input + Print + Eprint + AllocGlobal + Drop>(
 #[test]
 fn a_file_is_read_to_its_end(rt: HostRuntime) {
     assert!(rt; fs::write(&rt, NAME, b"told".as_slice()).is_ok());
-    let mut hands = RealHands::new(rt.clone());
+    let mut hands = RealHands::new(rt);
     let open = Effect::Open(Slot::Down, Place::Named(NAME));
     assert!(rt; gives(&mut hands, open, Answer::Done));
     assert!(rt;
@@ -42,7 +42,7 @@ fn a_file_is_read_to_its_end(rt: HostRuntime) {
 
 #[test]
 fn what_is_not_open_has_no_bytes(rt: HostRuntime) {
-    let mut hands = RealHands::new(rt.clone());
+    let mut hands = RealHands::new(rt);
     assert!(rt; gives(&mut hands, Effect::Read(Slot::Up), Answer::End));
     assert!(rt;
         gives(
@@ -56,7 +56,7 @@ fn what_is_not_open_has_no_bytes(rt: HostRuntime) {
 
 #[test]
 fn a_folder_cannot_be_read(rt: HostRuntime) {
-    let mut hands = RealHands::new(rt.clone());
+    let mut hands = RealHands::new(rt);
     assert!(rt;
         gives(
             &mut hands,
@@ -69,7 +69,7 @@ fn a_folder_cannot_be_read(rt: HostRuntime) {
 
 #[test]
 fn the_standard_streams_are_read_and_written(rt: HostRuntime) {
-    let mut hands = RealHands::new(rt.clone());
+    let mut hands = RealHands::new(rt);
     assert!(rt;
         gives(
             &mut hands,
