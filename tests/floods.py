@@ -102,8 +102,8 @@ def flood(folder, name, count):
 # ---- long recordings
 
 
-def recordings(folder, touches):
-    """The recordings of a session with that many touches, of four lines each, some with an error that stops nothing."""
+def recordings(folder, touches, is_ordered):
+    """The recordings of a session with that many touches, of four lines each, some with an error that stops nothing; and their order, if that is known."""
     up, down = ["00001 StartSession()\r\n"], ["00001 &\r\n00001 %\r\n"]
     for at in range(touches):
         tag = "%05d" % (at % 99_998 + 2)
@@ -111,6 +111,8 @@ def recordings(folder, touches):
         down.append(f"{tag} &\r\n" + (f"{tag} # X(0.000), Y(0.000), Z(0.000)\r\n" if at % 999 else f'{tag} ! Error(1, 1000, "", "")\r\n') + f"{tag} %\r\n")
     (folder / "long.up").write_text("".join(up))
     (folder / "long.down").write_text("".join(down))
+    if is_ordered:
+        (folder / "long.order").write_text("DME-ORDER 1\n" + "".join(f"> {len(sent)}\n< {len(heard)}\n" for sent, heard in zip(up, down)))
 
 
 def seconds(folder, order):
@@ -120,11 +122,11 @@ def seconds(folder, order):
     return resource.getrusage(resource.RUSAGE_CHILDREN).ru_utime - before
 
 
-def linear(folder, order, touches):
+def linear(folder, order, touches, is_ordered):
     """Four times the lines take at most six times as long, and a tenth of a second more."""
-    recordings(folder, touches)
+    recordings(folder, touches, is_ordered)
     first = seconds(folder, order)
-    recordings(folder, 4 * touches)
+    recordings(folder, 4 * touches, is_ordered)
     second = seconds(folder, order)
     must(second < 6 * first + 0.1, order, first, second)
     return f"{16 * touches} lines in {second:.2f} s"
@@ -133,8 +135,9 @@ def linear(folder, order, touches):
 def rows(megabytes):
     for name in FLOODS:
         yield name, lambda folder, name=name: f"{flood(folder, name, megabytes << 20)} KiB"
-    for order in ("ledger", "judge"):
-        yield f"long_{order}", lambda folder, order=order: linear(folder, order, 12_500)
+    for order, is_ordered in (("ledger", False), ("judge", False), ("judge", True)):
+        name = f"long_{order}_in_order" if is_ordered else f"long_{order}"
+        yield name, lambda folder, order=order, is_ordered=is_ordered: linear(folder, order, 12_500, is_ordered)
 
 
 def check_floods(megabytes=MEGABYTES, is_told=False):

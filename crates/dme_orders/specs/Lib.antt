@@ -14,7 +14,6 @@ pub mod Simulating
 pub mod Auditing
 pub mod Broken
 pub mod Ends
-pub mod Judging
 pub mod Looping
 pub mod Driving
 pub mod Reviewing

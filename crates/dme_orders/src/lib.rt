@@ -9,7 +9,6 @@
 //! - `of_records`: a record is audited and exported; `missing`: which features were not measured; `run_errors`: what the
 //!   server reported meanwhile
 //! - `notes`: what an audit found, and in what a record differs from a program, besides what an order prints
-//! - `judging`: the recordings of both ends of a connection are judged
 //! - `preparing`: the files of an order over a connection are read before there is one
 //! - `looping`: a program is run over one connection between both ends
 //! - `driving`: a program is run on a server over a connection, and its features are kept; `confirming`: the answer that begins it
@@ -36,7 +35,6 @@ mod ends;
 mod explaining;
 mod exporting;
 mod faults;
-mod judging;
 mod looping;
 mod missing;
 mod notes;
@@ -65,7 +63,6 @@ pub use ends::kept_client;
 pub use explaining::explain;
 pub use exporting::{ExportFiles, export_files};
 pub use faults::{InputFile, InputFiles, OrderFault, place_of, shown_fault};
-pub use judging::{Recordings, RecordingsFault, judge_recordings};
 pub use looping::{LoopTask, loop_over};
 pub use missing::Missing;
 pub use notes::{audit_notes, other_program_notes};

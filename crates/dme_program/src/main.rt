@@ -9,13 +9,11 @@
 //! - `running`: an order is carried out on files and the standard streams
 //! - `connecting`: the order `loop`, over a connection of the process to itself; `tracing`: the lines of that connection
 //! - `exporting`: what was measured is printed, and what a refusal means
-//! - `judging`: which line of either end breaks a rule, by the bytes of both
 //! - `version`: which program this is
 #![tactic(auto)]
 
 mod connecting;
 mod exporting;
-mod judging;
 mod running;
 mod tracing;
 mod version;

@@ -7,7 +7,6 @@ ghost use Rattle.dme_program.specs.Blamed.{OnSetup};
 
 use crate::connecting::loop_program;
 use crate::exporting::{explain_topic, export, export_of_record, record_files, tell_notes};
-use crate::judging::judge;
 use crate::tracing::ErrorOutput;
 use crate::version;
 use byte_ports::Writing;
@@ -20,8 +19,8 @@ use dme_orders::{
 use dme_run::run_program;
 use dme_serve::serve;
 use dme_watch::watch;
-use dme_words::{Audit, Check, Ledger, Order, RecordAudit, Review, Simulation, read_words};
-use ledger_session::{Session, run as run_session};
+use dme_words::{Audit, Check, Order, RecordAudit, Review, Simulation, read_words};
+use ledger_session::{Job, Session, run as run_session};
 use review_report::{FindingForm, FindingStyle};
 use std::alloc::{AllocError, Global};
 use std::env::{self, Env};
@@ -248,15 +247,16 @@ fn audit_of_record<R: Files + Input + Print + Eprint + AllocGlobal>(
     audit_end(rt, result, record_files(rt, sought), order.explain)
 }
 
-/// The order `ledger`: its exit status, or 70 once no more turns can be counted.
+/// The order `ledger` or `judge`: its exit status, or 70 once no more turns can be counted.
 #[inline(never)]
-fn ledger<R: Files + Input + Print + Eprint + AllocGlobal + Clone + Drop>(
+fn read_recordings<R: Files + Input + Print + Eprint + AllocGlobal + Clone + Drop>(
     rt: &R,
-    order: Ledger,
+    job: Job,
+    up: String,
+    down: String,
 ) -> Result<u8, Fault> {
-    let connection = u64::from(order.connection);
     let mut hands = RealHands::new(rt.clone()?);
-    let mut session = Session::new(rt.alloc(), connection, order.up, order.down)?;
+    let mut session = Session::new(rt.alloc(), job, up, down)?;
     Ok(run_session(&mut session, &mut hands).unwrap_or(70))
 }
 
@@ -286,8 +286,11 @@ fn carry_out<
         Order::Export(order) => export(rt, order),
         Order::ExportRecord(order) => export_of_record(rt, order),
         Order::Review(order) => review(rt, order),
-        Order::Ledger(order) => ledger(rt, order),
-        Order::Judge(order) => judge(rt, order),
+        Order::Ledger(order) => {
+            let job = Job::Ledger(u64::from(order.connection));
+            read_recordings(rt, job, order.up, order.down)
+        }
+        Order::Judge(order) => read_recordings(rt, Job::Judge, order.up, order.down),
         Order::Watch(order) => watch(rt, order),
     }
 }

@@ -3,11 +3,11 @@ use Rattle.std.proofs.Common.{◌≡◌, ◌≢◌, ◌⊎◌, ℕ, List, [], �
 use Rattle.effects.specs.declared.vocabulary.Slot.{Slot}
 use Rattle.effects.specs.declared.vocabulary.Slot.TheVariants.{Up, Down, Order}
 use Rattle.effects.specs.Effects.{Ask, Open, Read, Print, Say, Exit, Where, Reply, Done, Bytes, End, Missing, Failed, Short, Did}
-use Rattle.watched_ends.specs.Recorded.{IsRecorded}
 use Rattle.watched_ends.specs.declared.recorded.Order.TheVariants as ordered
 use Rattle.watched_ends.specs.declared.recorded.Order as the
 use Rattle.ledger_session.specs.declared.stages.Stage.{Stage}
 use Rattle.ledger_session.specs.declared.stages.Stage.TheVariants.{Opening, Reading, Noting, Printing, Saying, Telling, Exiting}
+use Rattle.ledger_session.specs.Jobs.{IsAnswer}
 use Rattle.ledger_session.specs.Sessions.{Called, State, start, asked, asked_at, place_of, name_of, cannot_read, cannot_write, out_of_memory, Says, Tells, Notes, IsShort, IsOpened, IsReadOn, IsEnded, IsFinished, IsDue, IsPrinted, AreNotes, After, Steps, Led, begun, more, with_piece}
 use Rattle.ledger_session.specs.Outside.{Outside, untouched, asks, fails, opens, finds, reads, prints, answers, outside}
 use Rattle.ledger_session.specs.Claims.{files, all_files, Reports, Prints, Kept, blamed, IsNotTheirs, IsLast, Comes, is_whole, is_failed, is_other, is_short}
@@ -31,20 +31,18 @@ At slot c s o = (s.called ≡ c) × (s.up ≡ o.up) × (s.down ≡ o.down) × (s
 -- notes are said
 pub record IsNoted (c : Called) (s : State) (o : Outside) : Type 0 where
   pub order : the.Order
-  pub reports : Reports c o s.text order
+  pub reports : Reports c o s.text order s.status
   pub theirs : order ≢ ordered.NotTheirs
   pub notes_are : AreNotes c o.up o.down order s.said
   pub said : o.said ≡ s.said ∷ []
   pub printed : o.printed ≡ []
   pub failed : o.failed ≡ []
-  pub status : s.status ≡ 0
 
 -- the text is printed
 pub record IsShown (c : Called) (s : State) (o : Outside) : Type 0 where
-  pub prints : Prints c o
+  pub prints : Prints c o s.status
   pub said : o.said ≡ prints.notes ∷ []
   pub failed : o.failed ≡ []
-  pub status : s.status ≡ 0
 
 abbrev pub Live : Stage → Called → State → Outside → Type 0
 Live Opening c s o = At s.slot c s o
@@ -73,16 +71,16 @@ unprinted c o Up e p = record { opened = ((Down, place_of Down c) ∷ (Order, pl
 unprinted c o Down e p = record { opened = ((Order, place_of Order c) ∷ [], ap (λ (x : List (Slot × Where)). x ++ (Order, place_of Order c) ∷ []) (sym e)); printed = inl p }
 unprinted c o Order e p = record { opened = ([], ap (λ (x : List (Slot × Where)). x ++ []) (sym e)); printed = inl p }
 
-all_kept : (c : Called) (o : Outside) → Prints c o → Kept c o
-all_kept c o p = record { opened = ([], ap (λ (x : List (Slot × Where)). x ++ []) (sym p.reports.opened)); printed = inr p }
+all_kept : (c : Called) (o : Outside) (n : ℕ) → Prints c o n → Kept c o
+all_kept c o n p = record { opened = ([], ap (λ (x : List (Slot × Where)). x ++ []) (sym p.reports.opened)); printed = inr (n, p) }
 
 -- one more thing is said
-printed_said : (c : Called) (o : Outside) (m : List ℕ) → Prints c o → Prints c (asks o (Say m))
-printed_said c o m p = record {
+printed_said : (c : Called) (o : Outside) (m : List ℕ) (n : ℕ) → Prints c o n → Prints c (asks o (Say m)) n
+printed_said c o m n p = record {
   text = p.text;
   order = p.order;
   notes = p.notes;
-  reports = record { opened = p.reports.opened; ended = p.reports.ended; recorded = p.reports.recorded };
+  reports = record { opened = p.reports.opened; ended = p.reports.ended; answer = p.reports.answer };
   theirs = p.theirs;
   notes_are = p.notes_are;
   noted = (p.noted.0 ++ m ∷ [], ap (λ (x : List (List ℕ)). x ++ m ∷ []) p.noted.1);
@@ -90,15 +88,15 @@ printed_said c o m p = record {
 }
 
 kept_said : (c : Called) (o : Outside) (m : List ℕ) → Kept c o → Kept c (asks o (Say m))
-kept_said c o m k = record { opened = k.opened; printed = elim k.printed [ inl e ↦ inl e | inr p ↦ inr (printed_said c o m p) ] }
+kept_said c o m k = record { opened = k.opened; printed = elim k.printed [ inl e ↦ inl e | inr p ↦ inr (p.0, printed_said c o m p.0 p.1) ] }
 
 -- one more thing fails
-printed_failed : (c : Called) (o : Outside) (ask : Ask) → Prints c o → Prints c (fails o ask)
-printed_failed c o ask p = record {
+printed_failed : (c : Called) (o : Outside) (ask : Ask) (n : ℕ) → Prints c o n → Prints c (fails o ask) n
+printed_failed c o ask n p = record {
   text = p.text;
   order = p.order;
   notes = p.notes;
-  reports = record { opened = p.reports.opened; ended = p.reports.ended; recorded = p.reports.recorded };
+  reports = record { opened = p.reports.opened; ended = p.reports.ended; answer = p.reports.answer };
   theirs = p.theirs;
   notes_are = p.notes_are;
   noted = p.noted;
@@ -106,7 +104,7 @@ printed_failed c o ask p = record {
 }
 
 kept_failed : (c : Called) (o : Outside) (ask : Ask) → Kept c o → Kept c (fails o ask)
-kept_failed c o ask k = record { opened = k.opened; printed = elim k.printed [ inl e ↦ inl e | inr p ↦ inr (printed_failed c o ask p) ] }
+kept_failed c o ask k = record { opened = k.opened; printed = elim k.printed [ inl e ↦ inl e | inr p ↦ inr (p.0, printed_failed c o ask p.0 p.1) ] }
 
 -- nothing was said, or notes were
 abbrev pub Quiet : Called → Outside → Type 0
@@ -189,47 +187,52 @@ are_theirs ordered.Part = true
 are_theirs ordered.Unknown = true
 
 -- notes are to be said
-noting : (order : the.Order) (s t : State) (o : Outside) (notes text : List ℕ) → are_theirs order ≡ true → At Order s.called s o
-    → IsRecorded s.called.connection o.up o.down o.order text order → AreNotes s.called o.up o.down order notes → Notes notes text t
+noting : (order : the.Order) (s t : State) (o : Outside) (notes text : List ℕ) (status : ℕ) → are_theirs order ≡ true → At Order s.called s o
+    → IsAnswer s.called.job o.up o.down o.order text order status → AreNotes s.called o.up o.down order notes → Notes notes text status t
     → Inv s.called t (asks (reads o Order End) (asked t))
-noting order s t o notes text e a r n h =
+noting order s t o notes text status e a r n h =
     let p : Outside = asks (reads o Order End) (Say notes) in
     let ended : p.ended ≡ all_files = ap (λ (x : List Slot). x ++ Order ∷ []) a.5 in
     settled s.called t (reads o Order End) Noting (Say notes) h.stage (ap Say h.said) (unprinted s.called p Order a.4 a.6) (record {
       order = order;
-      reports = record { opened = a.4; ended = ended; recorded = subst (λ (x : List ℕ). IsRecorded s.called.connection o.up o.down o.order x order) (sym h.text) r };
+      reports = record {
+        opened = a.4;
+        ended = ended;
+        answer = subst (λ (x : List ℕ). IsAnswer s.called.job o.up o.down o.order x order t.status) (sym h.text)
+            (subst (λ (x : ℕ). IsAnswer s.called.job o.up o.down o.order text order x) (sym h.status) r);
+      };
       theirs = λ f. true≢false (sym e ∙ ap are_theirs f);
       notes_are = subst (AreNotes s.called o.up o.down order) (sym h.said) n;
       said = ap (λ (x : List (List ℕ)). x ++ notes ∷ []) a.7 ∙ ap (λ (x : List ℕ). x ∷ []) (sym h.said);
       printed = a.6;
       failed = a.8;
-      status = h.status;
     })
 
 -- all was read
-due : (order : the.Order) (s t : State) (o : Outside) (notes text : List ℕ) → At Order s.called s o
-    → IsRecorded s.called.connection o.up o.down o.order text order → AreNotes s.called o.up o.down order notes → IsDue order s.called notes text t
+due : (order : the.Order) (s t : State) (o : Outside) (notes text : List ℕ) (status : ℕ) → At Order s.called s o
+    → IsAnswer s.called.job o.up o.down o.order text order status → AreNotes s.called o.up o.down order notes → IsDue order s.called notes text status t
     → Inv s.called t (asks (reads o Order End) (asked t))
-due ordered.Whole s t o notes text a r n h = noting ordered.Whole s t o notes text refl a r n h
-due ordered.Part s t o notes text a r n h = noting ordered.Part s t o notes text refl a r n h
-due ordered.Unknown s t o notes text a r n h = noting ordered.Unknown s t o notes text refl a r n h
-due ordered.NotTheirs s t o notes text a r n h =
+due ordered.Whole s t o notes text status a r n h = noting ordered.Whole s t o notes text status refl a r n h
+due ordered.Part s t o notes text status a r n h = noting ordered.Part s t o notes text status refl a r n h
+due ordered.Unknown s t o notes text status a r n h = noting ordered.Unknown s t o notes text status refl a r n h
+due ordered.NotTheirs s t o notes text status a r n h =
     let m : List ℕ = notes ++ cannot_read (name_of Order s.called) in
     let ended : o.ended ++ Order ∷ [] ≡ all_files = ap (λ (x : List Slot). x ++ Order ∷ []) a.5 in
     says s.called t (reads o Order End) m 1 h (unprinted s.called (reads o Order End) Order a.4 a.6)
     (is_other a.8 a.6 (record {
       text = text;
       notes = notes;
-      reports = record { opened = a.4; ended = ended; recorded = r };
+      status = status;
+      reports = record { opened = a.4; ended = ended; answer = r };
       notes_are = n;
       said = ap (λ (x : List (List ℕ)). x ++ m ∷ []) a.7;
     }))
 
 finished : (s t : State) (o : Outside) → At Order s.called s o → IsFinished s t → Inv s.called t (asks (reads o Order End) (asked t))
-finished s t o a h = due h.known s t o h.notes h.text a
-    (subst (λ (x : List ℕ). IsRecorded s.called.connection o.up o.down x h.text h.known) a.3
-    (subst (λ (x : List ℕ). IsRecorded s.called.connection o.up x s.order h.text h.known) a.2
-    (subst (λ (x : List ℕ). IsRecorded s.called.connection x s.down s.order h.text h.known) a.1 h.recorded)))
+finished s t o a h = due h.known s t o h.notes h.text h.status a
+    (subst (λ (x : List ℕ). IsAnswer s.called.job o.up o.down x h.text h.known h.status) a.3
+    (subst (λ (x : List ℕ). IsAnswer s.called.job o.up x s.order h.text h.known h.status) a.2
+    (subst (λ (x : List ℕ). IsAnswer s.called.job x s.down s.order h.text h.known h.status) a.1 h.answer)))
     (subst (λ (x : List ℕ). AreNotes s.called o.up x h.known h.notes) a.2
     (subst (λ (x : List ℕ). AreNotes s.called x s.down h.known h.notes) a.1 h.notes_are))
     h.due
@@ -250,31 +253,31 @@ reading slot s t o Failed st e a k h = blames s.called t o (Read slot) h k a.7 a
 noted : (c : Called) (s t : State) (o : Outside) → IsNoted c s o → t ≡ record s { stage = Printing } → Inv c t (asks o (asked t))
 noted c s t o n h =
     let p : Outside = asks o (Print s.text) in
-    let prints : Prints c p = record {
+    let prints : Prints c p s.status = record {
       text = s.text;
       order = n.order;
       notes = s.said;
-      reports = record { opened = n.reports.opened; ended = n.reports.ended; recorded = n.reports.recorded };
+      reports = record { opened = n.reports.opened; ended = n.reports.ended; answer = n.reports.answer };
       theirs = n.theirs;
       notes_are = n.notes_are;
       noted = ([], n.said);
       printed = ap (λ (x : List (List ℕ)). x ++ s.text ∷ []) n.printed;
     } in
     subst (λ (x : State). Inv c x (asks o (asked x))) (sym h)
-    (record { kept = all_kept c p prints; live = record { prints = prints; said = n.said; failed = n.failed; status = n.status } })
+    (record { kept = all_kept c p s.status prints; live = record { prints = prints; said = n.said; failed = n.failed } })
 
 quiet : (c : Called) (s : State) (o : Outside) → IsShown c s o → Quiet c o
 quiet c s o n = inr (n.prints.notes, n.prints.order, n.prints.notes_are, n.said)
 
 unwritten : (c : Called) (s t : State) (o : Outside) → IsShown c s o → Tells cannot_write 1 t → Inv c t (asks (fails o (Print s.text)) (asked t))
-unwritten c s t o n h = tells c t (fails o (Print s.text)) cannot_write 1 h (kept_failed c o (Print s.text) (all_kept c o n.prints))
+unwritten c s t o n h = tells c t (fails o (Print s.text)) cannot_write 1 h (kept_failed c o (Print s.text) (all_kept c o s.status n.prints))
     (is_failed (Print s.text) (ap (λ (x : List Ask). x ++ Print s.text ∷ []) n.failed) (last_said c (fails o (Print s.text)) cannot_write (quiet c s o n)))
 
 -- the text was printed, or not
 printing : (c : Called) (s t : State) (o : Outside) (r : Reply) → IsShown c s o → IsPrinted s r t → Inv c t (asks (prints o s.text r) (asked t))
 printing c s t o Done n h = subst (λ (x : State). Inv c x (asks o (asked x))) (sym h)
-    (record { kept = all_kept c o n.prints; live = subst (Comes c o) (sym n.status) (is_whole n.prints n.failed n.said) })
-printing c s t o Short n h = ends_short c t o h (all_kept c o n.prints) (quiet c s o n)
+    (record { kept = all_kept c o s.status n.prints; live = is_whole s.status n.prints n.failed n.said })
+printing c s t o Short n h = ends_short c t o h (all_kept c o s.status n.prints) (quiet c s o n)
 printing c s t o (Bytes piece) n h = unwritten c s t o n h
 printing c s t o End n h = unwritten c s t o n h
 printing c s t o Missing n h = unwritten c s t o n h
@@ -298,12 +301,12 @@ reads_quiet slot c s o Missing a = (unprinted c (fails o (Read slot)) slot a.4 a
 reads_quiet slot c s o Failed a = (unprinted c (fails o (Read slot)) slot a.4 a.6, inl a.7)
 
 prints_quiet : (c : Called) (s : State) (o : Outside) (r : Reply) → IsShown c s o → IsQuiet c (prints o s.text r)
-prints_quiet c s o Done n = (all_kept c o n.prints, quiet c s o n)
-prints_quiet c s o Short n = (all_kept c o n.prints, quiet c s o n)
-prints_quiet c s o (Bytes piece) n = (kept_failed c o (Print s.text) (all_kept c o n.prints), quiet c s o n)
-prints_quiet c s o End n = (kept_failed c o (Print s.text) (all_kept c o n.prints), quiet c s o n)
-prints_quiet c s o Missing n = (kept_failed c o (Print s.text) (all_kept c o n.prints), quiet c s o n)
-prints_quiet c s o Failed n = (kept_failed c o (Print s.text) (all_kept c o n.prints), quiet c s o n)
+prints_quiet c s o Done n = (all_kept c o s.status n.prints, quiet c s o n)
+prints_quiet c s o Short n = (all_kept c o s.status n.prints, quiet c s o n)
+prints_quiet c s o (Bytes piece) n = (kept_failed c o (Print s.text) (all_kept c o s.status n.prints), quiet c s o n)
+prints_quiet c s o End n = (kept_failed c o (Print s.text) (all_kept c o s.status n.prints), quiet c s o n)
+prints_quiet c s o Missing n = (kept_failed c o (Print s.text) (all_kept c o s.status n.prints), quiet c s o n)
+prints_quiet c s o Failed n = (kept_failed c o (Print s.text) (all_kept c o s.status n.prints), quiet c s o n)
 
 over : (c : Called) (s t : State) (o : Outside) → Kept c o → Comes c o s.status → t ≡ record s { stage = Exiting } → Inv c t (asks o (asked t))
 over c s t o k l h = subst (λ (x : State). Inv c x (asks o (asked x))) (sym h) (record { kept = k; live = l })

@@ -15,13 +15,14 @@ pub swapped_fails : Kept called swapped → ⊥
 swapped_fails k = let d : 97 ≡ 98 = ap first_byte k.opened.1 in absurd (omega (arith, d))
 
 pub unprinted_fails : Comes called unprinted 0 → ⊥
-unprinted_fails (is_whole p f s) = absurd cc
+unprinted_fails (is_whole n p f s) = absurd cc
 
 abbrev blamed_first : List Ask → List ℕ
 blamed_first [] = []
 blamed_first (ask ∷ asks) = blamed called ask
 
 pub unsaid_fails : Comes called unprinted 1 → ⊥
+unsaid_fails (is_whole n p f s) = absurd cc
 unsaid_fails (is_failed ask f (inl e)) = let d : cannot_write ≡ blamed called ask = ap blamed_first f in absurd cc
 unsaid_fails (is_failed ask f (inr h)) = let e = h.3 in absurd cc
 unsaid_fails (is_other f p n) = absurd cc

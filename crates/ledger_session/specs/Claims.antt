@@ -1,11 +1,11 @@
--- What the session of `ledger` promises of the outside (this profile).
+-- What the session of `ledger` or `judge` promises of the outside (this profile).
 use Rattle.std.specs.Prelude.{◌≡◌, ◌≢◌, ◌⊎◌, ℕ, List, [], ◌∷◌, ◌++◌}
 use Rattle.effects.specs.declared.vocabulary.Slot.{Slot}
 use Rattle.effects.specs.declared.vocabulary.Slot.TheVariants.{Up, Down, Order}
 use Rattle.effects.specs.Effects.{Ask, Open, Read, Print, Say, Exit, Where}
-use Rattle.watched_ends.specs.Recorded.{IsRecorded}
 use Rattle.watched_ends.specs.declared.recorded.Order.TheVariants as ordered
 use Rattle.watched_ends.specs.declared.recorded.Order as the
+use Rattle.ledger_session.specs.Jobs.{IsAnswer}
 use Rattle.ledger_session.specs.Sessions.{Called, place_of, name_of, cannot_read, cannot_write, out_of_memory, AreNotes}
 use Rattle.ledger_session.specs.Outside.{Outside}
 
@@ -16,18 +16,18 @@ files c = (Up, place_of Up c) ∷ (Down, place_of Down c) ∷ (Order, place_of O
 abbrev pub all_files : List Slot
 all_files = Up ∷ Down ∷ Order ∷ []
 
--- all was read to its end, and reports this text, with what is known of the order between the two ends
-pub record Reports (c : Called) (o : Outside) (text : List ℕ) (order : the.Order) : Type 0 where
+-- all was read to its end, and this text and status are due, with what is known of the order between the two ends
+pub record Reports (c : Called) (o : Outside) (text : List ℕ) (order : the.Order) (status : ℕ) : Type 0 where
   pub opened : o.opened ≡ files c
   pub ended : o.ended ≡ all_files
-  pub recorded : IsRecorded c.connection o.up o.down o.order text order
+  pub answer : IsAnswer c.job o.up o.down o.order text order status
 
--- the text of what the recordings report is printed, once, after what is to be noted of them was said
-pub record Prints (c : Called) (o : Outside) : Type 0 where
+-- the text that goes with a status is printed, once, after what is to be noted of the recordings was said
+pub record Prints (c : Called) (o : Outside) (status : ℕ) : Type 0 where
   pub text : List ℕ
   pub order : the.Order
   pub notes : List ℕ
-  pub reports : Reports c o text order
+  pub reports : Reports c o text order status
   pub theirs : order ≢ ordered.NotTheirs
   pub notes_are : AreNotes c o.up o.down order notes
   pub noted : (later : List (List ℕ)) × (o.said ≡ notes ∷ later)
@@ -36,7 +36,7 @@ pub record Prints (c : Called) (o : Outside) : Type 0 where
 -- at any moment: the named files are opened in their order, and no others; nothing is printed before all was read
 pub record Kept (c : Called) (o : Outside) : Type 0 where
   pub opened : (later : List (Slot × Where)) × (files c ≡ o.opened ++ later)
-  pub printed : (o.printed ≡ []) ⊎ Prints c o
+  pub printed : (o.printed ≡ []) ⊎ ((status : ℕ) × Prints c o status)
 
 -- the message for an effect that was not carried out
 abbrev pub blamed : Called → Ask → List ℕ
@@ -48,7 +48,8 @@ blamed c _ = cannot_write
 pub record IsNotTheirs (c : Called) (o : Outside) : Type 0 where
   pub text : List ℕ
   pub notes : List ℕ
-  pub reports : Reports c o text ordered.NotTheirs
+  pub status : ℕ
+  pub reports : Reports c o text ordered.NotTheirs status
   pub notes_are : AreNotes c o.up o.down ordered.NotTheirs notes
   pub said : o.said ≡ (notes ++ cannot_read (name_of Order c)) ∷ []
 
@@ -59,7 +60,7 @@ IsLast c o message = (o.said ≡ message ∷ [])
 
 -- what came before an exit with this status
 pub data Comes (c : Called) (o : Outside) : ℕ → Type 0 where
-  is_whole : (p : Prints c o) → o.failed ≡ [] → o.said ≡ p.notes ∷ [] → Comes c o 0
+  is_whole : (status : ℕ) (p : Prints c o status) → o.failed ≡ [] → o.said ≡ p.notes ∷ [] → Comes c o status
   is_failed : (ask : Ask) → o.failed ≡ ask ∷ [] → IsLast c o (blamed c ask) → Comes c o 1
   is_other : o.failed ≡ [] → o.printed ≡ [] → IsNotTheirs c o → Comes c o 1
   is_short : IsLast c o out_of_memory → Comes c o 4

@@ -2,12 +2,13 @@
 use Rattle.std.specs.Prelude.{ℕ, List, [], ◌∷◌, None, codes}
 use Rattle.effects.specs.declared.vocabulary.Slot.TheVariants.{Up, Down, Order}
 use Rattle.effects.specs.Effects.{Ask, Print, Named, Nothing}
+use Rattle.ledger_session.specs.declared.jobs.Job.TheVariants.{Ledger}
 use Rattle.ledger_session.specs.Sessions.{Called}
 use Rattle.ledger_session.specs.Outside.{Outside, untouched}
 use Rattle.ledger_session.specs.Claims.{files, all_files}
 
 abbrev pub called : Called
-called = record { connection = 1; up = codes "a"; down = codes "b"; order = None }
+called = record { job = Ledger 1; up = codes "a"; down = codes "b"; order = None }
 
 abbrev pub text : List ℕ
 text = codes "DME-TOLD 1\n"

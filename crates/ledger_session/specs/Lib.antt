@@ -1,3 +1,4 @@
+pub mod Jobs
 pub mod Sessions
 pub mod Outside
 pub mod Claims

@@ -1,19 +1,21 @@
--- What the session of `ledger` asks, and what it does with an answer (this profile).
+-- What the session of `ledger` or `judge` asks, and what it does with an answer (this profile).
 use Rattle.std.specs.Prelude.{◌≡◌, ◌⊎◌, ℕ, suc, Bool, List, [], ◌∷◌, ◌++◌, length, codes, decimal, bytes_eq, if◌then◌else◌, Option, None, Some}
 use Rattle.effects.specs.declared.vocabulary.Slot.{Slot}
 use Rattle.effects.specs.declared.vocabulary.Slot.TheVariants.{Up, Down, Order}
 use Rattle.effects.specs.Effects.{Ask, Open, Read, Print, Say, Exit, Where, Named, Input, Nothing, Reply, Done, Bytes, End, Missing, Failed, Short, Did}
 use Rattle.line_framing.specs.Stream.{IsStream}
 use Rattle.line_framing.specs.declared.faults.FramingFault.{FramingFault}
-use Rattle.watched_ends.specs.Recorded.{IsRecorded}
 use Rattle.watched_ends.specs.declared.recorded.Order.TheVariants as ordered
 use Rattle.watched_ends.specs.declared.recorded.Order as the
+use Rattle.ledger_session.specs.Jobs.{IsAnswer}
+use Rattle.ledger_session.specs.declared.jobs.Job.{Job}
+use Rattle.ledger_session.specs.declared.jobs.Job.TheVariants.{Ledger, Judge}
 use Rattle.ledger_session.specs.declared.stages.Stage.{Stage}
 use Rattle.ledger_session.specs.declared.stages.Stage.TheVariants.{Opening, Reading, Noting, Printing, Saying, Telling, Exiting}
 
--- what was asked for: the number of the connection, and the names of the files
+-- what was asked for, and the names of the files
 pub record Called : Type 0 where
-  pub connection : ℕ
+  pub job : Job
   pub up : List ℕ
   pub down : List ℕ
   pub order : Option (List ℕ)
@@ -113,46 +115,53 @@ abbrev pub unread_note : List ℕ → List (List ℕ) → Option FramingFault �
 unread_note name lines None = []
 unread_note name lines (Some fault) = codes "dme: " ++ (name ++ (codes ": line " ++ (decimal (suc (length lines)) ++ codes " cannot be read, and nothing after it is\n")))
 
-abbrev pub IsNoteOf : List ℕ → List ℕ → List ℕ → Type 0
-IsNoteOf name bytes note = (lines : List (List ℕ)) × (rest : List ℕ) × (fault : Option FramingFault)
+-- a judgement says so itself
+abbrev pub IsNoteOf : Job → List ℕ → List ℕ → List ℕ → Type 0
+IsNoteOf (Ledger connection) name bytes note = (lines : List (List ℕ)) × (rest : List ℕ) × (fault : Option FramingFault)
     × IsStream bytes lines rest fault × (note ≡ unread_note name lines fault)
+IsNoteOf Judge name bytes note = note ≡ []
 
 -- what is noted of the order of the two ends
-abbrev pub order_note : the.Order → List ℕ
-order_note ordered.Whole = []
-order_note ordered.Part = codes "dme: the order ends before the recordings do, and what follows is not read\n"
-order_note ordered.Unknown = codes "dme: without the order of the two recordings, early replies and tags used while in use are not found\n"
-order_note ordered.NotTheirs = codes "dme: the order is not that of these recordings\n"
+abbrev pub unknown_note : Job → List ℕ
+unknown_note (Ledger connection) = codes "dme: without the order of the two recordings, early replies and tags used while in use are not found\n"
+unknown_note Judge = codes "dme: without the order of the two recordings, early replies are not found, nor all tags used while in use\n"
+
+abbrev pub order_note : Job → the.Order → List ℕ
+order_note job ordered.Whole = []
+order_note job ordered.Part = codes "dme: the order ends before the recordings do, and what follows is not read\n"
+order_note job ordered.Unknown = unknown_note job
+order_note job ordered.NotTheirs = codes "dme: the order is not that of these recordings\n"
 
 -- what is noted of two recordings
 pub record AreNotes (c : Called) (up down : List ℕ) (order : the.Order) (notes : List ℕ) : Type 0 where
   pub up_note : List ℕ
   pub down_note : List ℕ
-  pub up_is : IsNoteOf c.up up up_note
-  pub down_is : IsNoteOf c.down down down_note
-  pub notes_are : notes ≡ up_note ++ (down_note ++ order_note order)
+  pub up_is : IsNoteOf c.job c.up up up_note
+  pub down_is : IsNoteOf c.job c.down down down_note
+  pub notes_are : notes ≡ up_note ++ (down_note ++ order_note c.job order)
 
--- notes are to be said, and then a text to be printed
-pub record Notes (notes told : List ℕ) (t : State) : Type 0 where
+-- notes are to be said, and then a text to be printed, before it ends with this status
+pub record Notes (notes told : List ℕ) (n : ℕ) (t : State) : Type 0 where
   pub stage : t.stage ≡ Noting
   pub said : t.said ≡ notes
   pub text : t.text ≡ told
-  pub status : t.status ≡ 0
+  pub status : t.status ≡ n
 
-abbrev pub IsDue : the.Order → Called → List ℕ → List ℕ → State → Type 0
-IsDue ordered.NotTheirs c notes text t = Says (notes ++ cannot_read (name_of Order c)) 1 t
-IsDue ordered.Whole c notes text t = Notes notes text t
-IsDue ordered.Part c notes text t = Notes notes text t
-IsDue ordered.Unknown c notes text t = Notes notes text t
+abbrev pub IsDue : the.Order → Called → List ℕ → List ℕ → ℕ → State → Type 0
+IsDue ordered.NotTheirs c notes text n t = Says (notes ++ cannot_read (name_of Order c)) 1 t
+IsDue ordered.Whole c notes text n t = Notes notes text n t
+IsDue ordered.Part c notes text n t = Notes notes text n t
+IsDue ordered.Unknown c notes text n t = Notes notes text n t
 
 -- all was read: what is due follows from it
 pub record IsFinished (s t : State) : Type 0 where
   pub known : the.Order
   pub notes : List ℕ
   pub text : List ℕ
-  pub recorded : IsRecorded s.called.connection s.up s.down s.order text known
+  pub status : ℕ
+  pub answer : IsAnswer s.called.job s.up s.down s.order text known status
   pub notes_are : AreNotes s.called s.up s.down known notes
-  pub due : IsDue known s.called notes text t
+  pub due : IsDue known s.called notes text status t
 
 abbrev pub IsEnded : Slot → State → State → Type 0
 IsEnded Up s t = t ≡ record s { stage = Opening; slot = Down }

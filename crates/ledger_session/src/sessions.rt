@@ -4,23 +4,24 @@ ghost use Rattle.std.specs.Prelude.{◌≡◌, ◌++◌, ℕ, List, Option, opti
 ghost use Rattle.effects.specs.Effects.{the_ask, the_place, the_reply, Short};
 ghost use Rattle.ledger_session.specs.Sessions as spec;
 
-use crate::Stage;
+use crate::answering::answer;
 use crate::notes::notes;
+use crate::{Job, Stage};
 use effects::{Answer, Effect, Place, Slot};
 use std::alloc::{AllocError, Global};
 use std::marker::Model;
-use watched_ends::{Order, recorded_text};
+use watched_ends::Order;
 
 const OUT_OF_MEMORY: &str = "dme: out of memory\n";
 
-/// The command `ledger`: it reads two recordings, and the order of their bytes if it is next to them, says what is to be noted of them, and
-/// prints what they report.
+/// The command `ledger` or `judge`: it reads two recordings, and the order of their bytes if it is next to them, says what is to be noted of
+/// them, and prints what they report, or which line of either end first breaks a rule.
 #[derive(Drop)]
 pub struct Session {
     alloc: Global,
     stage: Stage,
     slot: Slot,
-    connection: u64,
+    job: Job,
     names: (String, String, Option<String>),
     up: Vec<u8>,
     down: Vec<u8>,
@@ -41,7 +42,7 @@ impl Model for Session {
       stage = s.stage;
       slot = s.slot;
       called = record {
-        connection = s.connection;
+        job = s.job;
         up = string_bytes s.names.0;
         down = string_bytes s.names.1;
         order = option_map string_bytes s.names.2;
@@ -71,17 +72,12 @@ fn beside(alloc: Global, up: &str, down: &str) -> Result<Option<String>, AllocEr
 }
 
 impl Session {
-    /// A session that reads recordings of these names as those of a connection. Fails only if out of memory.
-    pub fn new(
-        alloc: Global,
-        connection: u64,
-        up: String,
-        down: String,
-    ) -> Result<Session, AllocError>
+    /// A session that reads recordings of these names. Fails only if out of memory.
+    pub fn new(alloc: Global, job: Job, up: String, down: String) -> Result<Session, AllocError>
         ensures { IfOk result (λ session. (order : Option (List ℕ))
             × spec.IsBeside (string_bytes up) (string_bytes down) order
             × (session ≡ spec.start (record {
-              connection = connection;
+              job = job;
               up = string_bytes up;
               down = string_bytes down;
               order = order;
@@ -92,7 +88,7 @@ impl Session {
             alloc,
             stage: Stage::Opening,
             slot: Slot::Up,
-            connection,
+            job,
             names: (up, down, order),
             up: Vec::new(alloc),
             down: Vec::new(alloc),
@@ -261,16 +257,16 @@ impl Session {
     {
         let (up, down) = (self.up.as_slice(), self.down.as_slice());
         let order = self.order.as_slice();
-        let (text, known) = recorded_text(self.alloc, self.connection, up, down, order)?;
+        let (text, known, status) = answer(self.alloc, self.job, up, down, order)?;
         let (up_name, down_name) = (self.names.0.as_str(), self.names.1.as_str());
-        let notes = notes(self.alloc, up_name, up, down_name, down, known)?;
+        let notes = notes(self.alloc, self.job, up_name, up, down_name, down, known)?;
         match known {
             Order::NotTheirs => self.blame(notes.as_str()),
             Order::Whole | Order::Part | Order::Unknown => {
                 self.said = notes;
                 self.text = text;
                 self.stage = Stage::Noting;
-                self.status = 0;
+                self.status = status;
                 Ok(())
             }
         }

@@ -9,3 +9,4 @@ pub mod TagTables
 pub mod AboveLemmas
 pub mod Fronts
 pub mod Standings
+pub mod OrderLemmas

@@ -1,6 +1,6 @@
--- The rules for a line of the client (this profile). Two recordings have no order between their lines, so a line is blamed only for what no order
--- excuses. What a machine needs for a motion (homing, a tool) is the server's to refuse, and breaks no rule.
-use Rattle.std.specs.Prelude.{◌≡◌, ℕ, Bool, true, false, ◌&&◌, ◌||◌, not, nat_lt, nat_le, if◌then◌else◌, List, [], ◌∷◌, length, Option, Some, None, is_some}
+-- The rules for a line of the client (this profile). Where the order between the lines of both ends is not known, a line is blamed only for what no
+-- order excuses. What a machine needs for a motion (homing, a tool) is the server's to refuse, and breaks no rule.
+use Rattle.std.specs.Prelude.{◌≡◌, ℕ, ◌-◌, Bool, true, false, ◌&&◌, ◌||◌, not, nat_lt, nat_le, if◌then◌else◌, List, [], ◌∷◌, length, slice_get, Option, Some, None, is_some}
 use Rattle.std.specs.List.{list_any}
 use Rattle.dme_line.specs.Kinds.{is_event_kind}
 use Rattle.dme_line.specs.Tags.{is_event_tag}
@@ -79,20 +79,27 @@ reach (Some m) far = m.farthest
 abbrev pub was_passed : List Sent → List Heard → ℕ → Bool
 was_passed up all at = nat_lt at (reach (noted mark.Received mark.Received up all at) (farthest up all))
 
--- of the use before it is not known that it has ended; or the server refused a line without its tag while that use was open, and passed over this one.
--- If it was another line, that is above this one, and breaks a rule. Of a tag whose uses have all ended in the end it cannot be said whether they had
--- when it was used again
-abbrev pub is_kept : Option Moment → ℕ → Bool → Bool
-is_kept None refused passed = true
-is_kept (Some m) refused passed = nat_lt refused m.refusals && passed
+-- the line at a place was whole before one of the server, if it is known how many lines of the client were; the last argument: what is said if not
+abbrev pub was_before : Option ℕ → ℕ → Bool → Bool
+was_before None at unknown = unknown
+was_before (Some count) at unknown = nat_lt at count
 
--- the use before, and the one before that
-abbrev pub is_used : List Sent → List Heard → ℕ → Option ℕ → Option ℕ → Bool
-is_used up all at None two = false
-is_used up all at (Some one) two = is_kept (came mark.Complete up all one) (refused_before up all two) (was_passed up all at)
+-- the use before has no end, or its end came after the line at a place. If their order is not known: the server refused a line without its tag while
+-- that use was open, and passed over this one. If it was another line, that is above this one, and breaks a rule. Of a tag whose uses have all ended
+-- in the end it cannot be said whether they had when it was used again
+abbrev pub is_kept : List ℕ → ℕ → Option Moment → ℕ → Bool → Bool
+is_kept seen at None refused passed = true
+is_kept seen at (Some m) refused passed = was_before (slice_get seen (m.number - 1)) at (nat_lt refused m.refusals && passed)
 
-abbrev pub is_in_use : List Sent → List Heard → List Sent → Tag → Bool
-is_in_use up all above t = is_used up all (length above) (previous t above) (before_previous t above)
+-- the use before, and the one before that; the first argument: how many lines of the client were whole when each line of the server was, if their order
+-- is known
+abbrev pub is_used : List ℕ → List Sent → List Heard → ℕ → Option ℕ → Option ℕ → Bool
+is_used seen up all at None two = false
+is_used seen up all at (Some one) two =
+    is_kept seen at (came mark.Complete up all one) (refused_before up all two) (was_passed up all at)
+
+abbrev pub is_in_use : List ℕ → List Sent → List Heard → List Sent → Tag → Bool
+is_in_use seen up all above t = is_used seen up all (length above) (previous t above) (before_previous t above)
 
 -- these commands are possible without a session
 abbrev pub needs_session : Kind → Bool
@@ -135,8 +142,8 @@ tagged_rule true crowded own = Some rule.TagInUse
 tagged_rule false crowded (Some r) = Some r
 tagged_rule false crowded None = queue_rule crowded
 
-abbrev pub rule_under : List Sent → List Heard → List Sent → Tag → Option Rule → Option Rule
-rule_under up all above t own = tagged_rule (is_in_use up all above t) (is_crowded up all above t) own
+abbrev pub rule_under : List ℕ → List Sent → List Heard → List Sent → Tag → Option Rule → Option Rule
+rule_under seen up all above t own = tagged_rule (is_in_use seen up all above t) (is_crowded up all above t) own
 
 -- the rule that a line with a tag breaks by itself; the second argument: a session may be open, the third: it is open for certain
 abbrev pub own_rule : Sent → Bool → Bool → Option Rule
@@ -146,13 +153,13 @@ own_rule (sent.Standard t) may must = None
 own_rule (sent.Unknown t) may must = Some rule.UnknownCommand
 own_rule (sent.Unread t k) may must = unread_rule (is_event_tag t) (is_event_kind k)
 
-abbrev pub rule_by : Option Tag → List Sent → List Heard → List Sent → Option Rule → Option Rule
-rule_by None up all above own = Some rule.NoTag
-rule_by (Some t) up all above own = rule_under up all above t own
+abbrev pub rule_by : Option Tag → List ℕ → List Sent → List Heard → List Sent → Option Rule → Option Rule
+rule_by None seen up all above own = Some rule.NoTag
+rule_by (Some t) seen up all above own = rule_under seen up all above t own
 
 -- the first of the rules, in this order, that a line of the client breaks under the lines above it
-abbrev pub client_rule : List Sent → List Heard → List Sent → Sent → Option Rule
-client_rule up all above s = rule_by (tag_of s) up all above (own_rule s (may_be_open up all above) (must_be_open up all above))
+abbrev pub client_rule : List ℕ → List Sent → List Heard → List Sent → Sent → Option Rule
+client_rule seen up all above s = rule_by (tag_of s) seen up all above (own_rule s (may_be_open up all above) (must_be_open up all above))
 
 -- ---- what is kept of the lines above
 

@@ -59,10 +59,10 @@ abort_complete = Response (Event 9) reply.Complete
 
 -- what is found in the lines of the client, and in those of the server
 abbrev pub client_breaks : List Sent → List Heard → Option Found
-client_breaks up down = client_found up None down
+client_breaks up down = client_found [] up None down
 
 abbrev pub server_breaks : List Sent → List Heard → Option Found
-server_breaks up down = server_found up down None
+server_breaks up down = server_found [] up down None
 
 -- a touch, and two moves
 abbrev pub touch : List Sent

@@ -8,6 +8,7 @@ use Rattle.witness_judge.specs.Lines.{sent_of, heard_of}
 use Rattle.witness_judge.specs.ClientRules.{client_rule}
 use Rattle.witness_judge.specs.ServerRules.{server_rule}
 use Rattle.witness_judge.specs.Counts.{client_counts, server_counts}
+use Rattle.witness_judge.specs.Orders.{Pieces, seen_lines}
 use Rattle.witness_judge.specs.declared.judgement.Break.{Break}
 use Rattle.witness_judge.specs.declared.lines.Heard.{Heard}
 use Rattle.witness_judge.specs.declared.lines.Sent.{Sent}
@@ -47,11 +48,11 @@ end_break (Some found) count fault = Some found
 end_break None count fault = fault_found count fault
 
 -- what is found in the lines of the client, and in those of the server
-abbrev pub client_found : List Sent → Option FramingFault → List Heard → Option Found
-client_found up fault down = end_break (first_break (client_rule up (reverse down)) [] up) (length up) fault
+abbrev pub client_found : List ℕ → List Sent → Option FramingFault → List Heard → Option Found
+client_found seen up fault down = end_break (first_break (client_rule seen up (reverse down)) [] up) (length up) fault
 
-abbrev pub server_found : List Sent → List Heard → Option FramingFault → Option Found
-server_found up down fault = end_break (first_break (server_rule up) [] down) (length down) fault
+abbrev pub server_found : List ℕ → List Sent → List Heard → Option FramingFault → Option Found
+server_found seen up down fault = end_break (first_break (server_rule seen up) [] down) (length down) fault
 
 -- a break with its line, which bytes that are not lines lack
 abbrev pub shown : List (List ℕ) → Found → Break
@@ -64,8 +65,8 @@ pub record Judged : Type 0 where
   pub commands : List ℕ
   pub marks : List ℕ
 
--- it is what their whole lines say, and their bytes that are not lines
-pub record IsJudged (up down : List ℕ) (j : Judged) : Type 0 where
+-- it is what their whole lines say, and their bytes that are not lines, with the order in which pieces of them came; without a piece, it is not known
+pub record IsJudged (up down : List ℕ) (pieces : Pieces) (j : Judged) : Type 0 where
   pub up_lines : List (List ℕ)
   pub up_rest : List ℕ
   pub up_fault : Option FramingFault
@@ -74,7 +75,9 @@ pub record IsJudged (up down : List ℕ) (j : Judged) : Type 0 where
   pub down_rest : List ℕ
   pub down_fault : Option FramingFault
   pub down_stream : IsStream down down_lines down_rest down_fault
-  pub client : j.client ≡ option_map (shown up_lines) (client_found (map sent_of up_lines) up_fault (map heard_of down_lines))
-  pub server : j.server ≡ option_map (shown down_lines) (server_found (map sent_of up_lines) (map heard_of down_lines) down_fault)
+  pub client : j.client ≡ option_map (shown up_lines)
+      (client_found (seen_lines pieces up_lines down_lines) (map sent_of up_lines) up_fault (map heard_of down_lines))
+  pub server : j.server ≡ option_map (shown down_lines)
+      (server_found (seen_lines pieces up_lines down_lines) (map sent_of up_lines) (map heard_of down_lines) down_fault)
   pub commands : j.commands ≡ client_counts (map sent_of up_lines)
   pub marks : j.marks ≡ server_counts (map heard_of down_lines)

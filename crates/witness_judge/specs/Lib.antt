@@ -3,6 +3,7 @@ pub mod Uses
 pub mod ClientRules
 pub mod ServerRules
 pub mod Counts
+pub mod Orders
 pub mod Judging
 pub mod Texts
 pub mod Examples

@@ -1,5 +1,5 @@
 -- The rules for a line of the server (this profile), judged by all lines of the client and the lines of the server above it, the nearest first.
-use Rattle.std.specs.Prelude.{◌≡◌, ◌<◌, ℕ, ◌+◌, ◌==◌, Bool, true, false, ◌&&◌, ◌||◌, not, nat_lt, nat_le, if◌then◌else◌, List, [], ◌∷◌, Option, Some, None, slice_get}
+use Rattle.std.specs.Prelude.{◌≡◌, ◌<◌, ℕ, ◌+◌, ◌==◌, Bool, true, false, ◌&&◌, ◌||◌, not, nat_lt, nat_le, if◌then◌else◌, List, [], ◌∷◌, length, Option, Some, None, slice_get}
 use Rattle.dme_line.specs.declared.tags.Tag.{Tag}
 use Rattle.dme_line.specs.declared.tags.Tag.TheVariants.{Std, Event}
 use Rattle.dme_line.specs.declared.commands.Kind.{Kind}
@@ -201,15 +201,26 @@ abbrev pub line_rule : Option Sent → List Sent → List Heard → Tag → Repl
 line_rule None up above t r at = None
 line_rule (Some line) up above t r at = command_rule up above t r at line
 
+-- the line of the client at a place was not whole when the server's was, if it is known how many were
+abbrev pub was_later : Option ℕ → ℕ → Bool
+was_later None at = false
+was_later (Some count) at = nat_le count at
+
+-- likewise of the line of the server that follows these; the first argument: how many lines of the client were whole when each line of the server was, if
+-- their order is known
+abbrev pub is_early : List ℕ → List Heard → ℕ → Bool
+is_early seen above at = was_later (slice_get seen (length above)) at
+
 -- the first argument: the place of the command that a response answers
-abbrev pub place_rule : Option ℕ → List Sent → List Heard → Tag → Reply → Option Rule
-place_rule None up above t r = unasked_rule t
-place_rule (Some at) up above t r = line_rule (slice_get up at) up above t r at
+abbrev pub place_rule : Option ℕ → List ℕ → List Sent → List Heard → Tag → Reply → Option Rule
+place_rule None seen up above t r = unasked_rule t
+place_rule (Some at) seen up above t r =
+    if is_early seen above at then Some rule.NotSent else line_rule (slice_get up at) up above t r at
 
 -- the first of the rules that a line of the server breaks
-abbrev pub server_rule : List Sent → List Heard → Heard → Option Rule
-server_rule up above heard.Other = Some rule.NotResponse
-server_rule up above (heard.Response t r) = place_rule (use_after mark.Complete up above t) up above t r
+abbrev pub server_rule : List ℕ → List Sent → List Heard → Heard → Option Rule
+server_rule seen up above heard.Other = Some rule.NotResponse
+server_rule seen up above (heard.Response t r) = place_rule (use_after mark.Complete up above t) seen up above t r
 
 -- ---- what is kept of the lines above
 

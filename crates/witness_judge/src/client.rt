@@ -115,12 +115,25 @@ fn is_full(moment: Option<Moment>) -> bool
     }
 }
 
-/// Whether a use is not known to have ended.
-fn is_kept(moment: Option<Moment>, refused: usize, passed: bool) -> bool
-    ensures { result ≡ spec.is_kept moment refused passed }
+/// Whether the line at a place was whole before one of the server, by how many lines of the client were.
+fn was_before(count: Option<usize>, at: usize, unknown: bool) -> bool
+    ensures { result ≡ spec.was_before count at unknown }
+{
+    match count {
+        Some(count) => at < count,
+        None => unknown,
+    }
+}
+
+/// Whether a use is not known to have ended when the line at a place came.
+fn is_kept(seen: &[usize], at: usize, moment: Option<Moment>, refused: usize, passed: bool) -> bool
+    ensures { result ≡ spec.is_kept seen.now at moment refused passed }
 {
     match moment {
-        Some(moment) => refused < moment.refusals && passed,
+        Some(moment) => {
+            let count = seen.get(moment.number.saturating_sub(1)).copied();
+            was_before(count, at, refused < moment.refusals && passed)
+        }
         None => true,
     }
 }
@@ -148,6 +161,7 @@ fn uses_above(above: &Above, tag: Tag) -> (Option<usize>, Option<usize>)
 
 /// Whether a line is under a tag that is in use. The uses of the tag above it are given.
 fn is_used(
+    seen: &[usize],
     up: &[Sent],
     down: &[Heard],
     course: &Course,
@@ -158,7 +172,7 @@ fn is_used(
     requires within { at < length up.now }
     requires one { IfSome above.0 (λ n. n < length up.now) }
     requires two { IfSome above.1 (λ n. n < length up.now) }
-    ensures { result ≡ spec.is_used up.now (reverse down.now) at above.0 above.1 }
+    ensures { result ≡ spec.is_used seen.now up.now (reverse down.now) at above.0 above.1 }
 {
     let Some(one) = above.0 else {
         return false;
@@ -168,7 +182,7 @@ fn is_used(
         None => 0,
     };
     let passed = at < reach(course.notes.counted[at], course.moment.farthest);
-    is_kept(course.notes.complete[one], refused, passed)
+    is_kept(seen, at, course.notes.complete[one], refused, passed)
 }
 
 /// Whether the command at a place may have failed; the last argument: its tag was used before.
@@ -194,6 +208,7 @@ fn own_rule(sent: Sent, session: Session) -> Option<Rule>
 
 /// The rule that a line under a tag breaks, with its own rule. The uses of the tag above it are given.
 fn tagged_rule(
+    seen: &[usize],
     up: &[Sent],
     down: &[Heard],
     course: &Course,
@@ -206,11 +221,12 @@ fn tagged_rule(
     requires within { at < length up.now }
     requires one { IfSome above.0 (λ n. n < length up.now) }
     requires two { IfSome above.1 (λ n. n < length up.now) }
-    ensures { result ≡ spec.tagged_rule (spec.is_used up.now (reverse down.now) at above.0 above.1)
+    ensures { result ≡ spec.tagged_rule
+        (spec.is_used seen.now up.now (reverse down.now) at above.0 above.1)
         (not (is_event_tag tag)
         && spec.is_full (said.came mark.Received up.now (reverse down.now) at)) own }
 {
-    if is_used(up, down, course, at, above) {
+    if is_used(seen, up, down, course, at, above) {
         return Some(Rule::TagInUse);
     }
     if own.is_none() && matches!(tag, Tag::Std(_)) && is_full(course.notes.received[at]) {
@@ -222,6 +238,7 @@ fn tagged_rule(
 /// The rule that a line breaks under the lines above it.
 #[tactic(auto, using(crate::proofs::AboveLemmas::previous_among, crate::proofs::AboveLemmas::before_among, crate::proofs::Lists::above_count))]
 fn rule_of(
+    seen: &[usize],
     up: &[Sent],
     down: &[Heard],
     course: &Course,
@@ -232,14 +249,15 @@ fn rule_of(
     requires course { said.IsCourse up.now (reverse down.now) course.now }
     requires above { spec.AreAbove up.now (reverse down.now) (reverse lines.now) above.now }
     requires within { length lines.now < length up.now }
-    ensures { result ≡ spec.client_rule up.now (reverse down.now) (reverse lines.now) sent }
+    ensures { result ≡ spec.client_rule seen.now up.now (reverse down.now)
+        (reverse lines.now) sent }
 {
     let Some(tag) = tag_of(sent) else {
         return Some(Rule::NoTag);
     };
     let own = own_rule(sent, above.session);
     let uses = uses_above(above, tag);
-    tagged_rule(up, down, course, lines.len(), uses, tag, own)
+    tagged_rule(seen, up, down, course, lines.len(), uses, tag, own)
 }
 
 /// What is known of the session after a line more, whose tag was used before or not.
@@ -301,13 +319,14 @@ fn add_above(
 /// The first line of the client that breaks a rule. Fails only if out of memory.
 pub(crate) fn client_break(
     alloc: Global,
+    seen: &[usize],
     up: &[Sent],
     down: &[Heard],
     course: &Course,
 ) -> Result<Option<Found>, AllocError>
     requires { said.IsCourse up.now (reverse down.now) course.now }
     ensures { IfOk result (λ found. found
-        ≡ first_break (spec.client_rule up.now (reverse down.now)) [] up.now) }
+        ≡ first_break (spec.client_rule seen.now up.now (reverse down.now)) [] up.now) }
 {
     let mut above = Above {
         previous: Vec::new(alloc),
@@ -320,7 +339,7 @@ pub(crate) fn client_break(
     for at in 0..up.len() {
         let (lines, _) = up.split_at(at);
         let sent = up[at];
-        if let Some(rule) = rule_of(up, down, course, lines, &above, sent) {
+        if let Some(rule) = rule_of(seen, up, down, course, lines, &above, sent) {
             return Ok(Some(Found {
                 number: at + 1,
                 rule,

@@ -3,9 +3,10 @@
 ghost use Rattle.std.specs.Prelude.{◌≡◌, [], ◌∷◌, ◌++◌, Some, None};
 ghost use Rattle.dme_line.specs.declared.commands.Kind.TheVariants as kind;
 ghost use Rattle.dme_line.specs.declared.tags.Tag.TheVariants.{Std, Event};
-ghost use Rattle.line_framing.specs.declared.faults.FramingFault.TheVariants as framing;
 ghost use Rattle.witness_judge.specs.Examples.{breaks, asks, begun, received, given, complete, error, refused, warning, abort, abort_received, abort_complete, cleared_end, again, crowd, all_received, client_breaks, server_breaks, touch, moves};
+ghost use Rattle.witness.specs.declared.lines.Side.TheVariants.{Client, Server};
 ghost use Rattle.witness_judge.specs.Judging.{client_found, server_found};
+ghost use Rattle.witness_judge.specs.Orders.{seen_lines};
 ghost use Rattle.witness_judge.specs.declared.lines.Data.TheVariants as data_is;
 ghost use Rattle.witness_judge.specs.declared.lines.Heard.TheVariants as heard;
 ghost use Rattle.witness_judge.specs.declared.lines.Reply.TheVariants as reply;
@@ -13,30 +14,9 @@ ghost use Rattle.witness_judge.specs.declared.lines.Sent.TheVariants as sent;
 ghost use Rattle.witness_judge.specs.declared.lines.Severity.TheVariants as severity;
 ghost use Rattle.witness_judge.specs.declared.rules.Rule.TheVariants as rule;
 
-/// A line of the client is judged by what it is.
-pub fn lines_of_the_client_are_commands()
-    ensures no_tag { client_breaks (sent.Untagged ∷ []) [] ≡ breaks 1 rule.NoTag }
-    ensures unknown { client_breaks (begun ++ sent.Unknown (Std 2) ∷ []) []
-        ≡ breaks 2 rule.UnknownCommand }
-    ensures standard { client_breaks (begun ++ sent.Standard (Std 2) ∷ []) [] ≡ None }
-    ensures bad { client_breaks (begun ++ sent.Unread (Std 2) kind.GoTo ∷ []) []
-        ≡ breaks 2 rule.BadArguments }
-    ensures event_tag { client_breaks (begun ++ sent.Unread (Event 2) kind.GoTo ∷ []) []
-        ≡ breaks 2 rule.WrongTag }
-    ensures standard_tag { client_breaks (begun ++ sent.Unread (Std 2) kind.AbortE ∷ []) []
-        ≡ breaks 2 rule.WrongTag }
-    ensures first { client_breaks (begun ++ sent.Untagged ∷ sent.Unknown (Std 2) ∷ []) []
-        ≡ breaks 2 rule.NoTag }
-    ensures bytes { client_found begun (Some framing.BadByte) [] ≡ breaks 2 rule.BadByte }
-{}
-
 /// A tag is in use as long as the server's recording has fewer ends of it than the lines above have uses.
 pub fn tags_end_before_they_are_used_again()
-    ensures open { client_breaks (begun ++ asks 1 kind.Home ∷ []) [] ≡ breaks 2 rule.TagInUse }
-    ensures ended { client_breaks (begun ++ asks 1 kind.Home ∷ []) (complete 1 ∷ []) ≡ None }
     ensures other { client_breaks (begun ++ asks 1 kind.Home ∷ []) (complete 2 ∷ [])
-        ≡ breaks 2 rule.TagInUse }
-    ensures refused { client_breaks again (received 1 ∷ refused ∷ received 2 ∷ complete 1 ∷ [])
         ≡ breaks 2 rule.TagInUse }
     ensures first_use { client_breaks (begun ++ asks 2 kind.Home ∷ []) (refused ∷ received 2 ∷ [])
         ≡ None }
@@ -55,7 +35,6 @@ pub fn tags_end_before_they_are_used_again()
 
 /// One command runs, and at most 64 wait.
 pub fn commands_wait_in_a_queue()
-    ensures full { client_breaks (crowd 66) (all_received 66) ≡ breaks 67 rule.QueueFull }
     ensures not_full { client_breaks (crowd 65) (all_received 65) ≡ None }
     ensures not_received { client_breaks (crowd 66) (all_received 65) ≡ None }
     ensures ended { client_breaks (crowd 66) (all_received 65 ++ complete 2 ∷ received 67 ∷ [])
@@ -72,51 +51,22 @@ pub fn commands_wait_in_a_queue()
 
 /// Commands come in a session. One that failed neither begins nor ends it.
 pub fn commands_are_in_a_session()
-    ensures before { client_breaks (asks 1 kind.Home ∷ []) [] ≡ breaks 1 rule.NoSession }
-    ensures clearing { client_breaks (asks 1 kind.ClearAllErrors ∷ []) [] ≡ None }
-    ensures after { client_breaks (begun ++ asks 2 kind.EndSession ∷ asks 3 kind.Home ∷ []) []
-        ≡ breaks 3 rule.NoSession }
-    ensures not_ended { client_breaks (begun ++ asks 2 kind.EndSession ∷ asks 3 kind.Home ∷ [])
-        (error 2 ∷ []) ≡ None }
-    ensures twice { client_breaks (begun ++ asks 2 kind.StartSession ∷ []) []
-        ≡ breaks 2 rule.SessionOpen }
-    ensures not_begun { client_breaks (begun ++ asks 2 kind.StartSession ∷ []) (error 1 ∷ [])
-        ≡ None }
     ensures again { client_breaks (begun ++ asks 2 kind.EndSession ∷ asks 3 kind.StartSession ∷ [])
         [] ≡ None }
 {}
 
 /// A line of the server answers a command.
 pub fn lines_of_the_server_are_responses()
-    ensures mumbled { server_breaks touch (heard.Other ∷ []) ≡ breaks 1 rule.NotResponse }
-    ensures nobody { server_breaks touch (received 9 ∷ []) ≡ breaks 1 rule.UnknownTag }
     ensures unasked { server_breaks touch (refused ∷ []) ≡ None }
     ensures event { server_breaks touch (heard.Response (Event 1) (reply.Error severity.Three) ∷ [])
         ≡ breaks 1 rule.UnknownTag }
-    ensures bytes { server_found touch (received 1 ∷ []) (Some framing.LineTooLong)
-        ≡ breaks 2 rule.LineTooLong }
 {}
 
 /// Marks come in their order.
 pub fn marks_have_an_order()
-    ensures whole { server_breaks touch (received 1 ∷ given 1 data_is.Point ∷ complete 1 ∷ [])
-        ≡ None }
-    ensures not_received { server_breaks touch (complete 1 ∷ []) ≡ breaks 1 rule.OutOfOrder }
-    ensures received_twice { server_breaks touch (received 1 ∷ received 1 ∷ [])
-        ≡ breaks 2 rule.OutOfOrder }
-    ensures no_data { server_breaks touch (received 1 ∷ complete 1 ∷ []) ≡ breaks 2 rule.NoData }
-    ensures again { server_breaks touch
-        (received 1 ∷ given 1 data_is.Point ∷ given 1 data_is.Point ∷ [])
-        ≡ breaks 3 rule.SecondData }
-    ensures other { server_breaks touch (received 1 ∷ given 1 data_is.Homed ∷ [])
-        ≡ breaks 2 rule.OtherData }
-    ensures nothing_asked { server_breaks moves (received 1 ∷ given 1 data_is.Point ∷ [])
-        ≡ breaks 2 rule.OtherData }
     ensures failed { server_breaks touch (received 1 ∷ error 1 ∷ complete 1 ∷ []) ≡ None }
     ensures after_an_error { server_breaks touch (received 1 ∷ error 1 ∷ given 1 data_is.Point ∷ [])
         ≡ breaks 3 rule.OutOfOrder }
-    ensures ended_twice { server_breaks moves (received 1 ∷ complete 1 ∷ complete 1 ∷ [])
-        ≡ breaks 3 rule.UnknownTag }
 {}
 
 /// Commands end one after another, and the n-th end of a tag is that of its n-th use. Once a line was refused without its tag, it is not known which
@@ -124,8 +74,6 @@ pub fn marks_have_an_order()
 pub fn ends_come_in_turn()
     ensures in_turn { server_breaks moves (received 1 ∷ received 2 ∷ complete 1 ∷ complete 2 ∷ [])
         ≡ None }
-    ensures not_in_turn { server_breaks moves (received 1 ∷ received 2 ∷ complete 2 ∷ [])
-        ≡ breaks 3 rule.NotInTurn }
     ensures failed { server_breaks moves (received 1 ∷ received 2 ∷ warning 1 ∷ complete 2 ∷ [])
         ≡ None }
     ensures second_use { server_breaks (asks 1 kind.GoTo ∷ asks 1 kind.PtMeas ∷ [])
@@ -138,8 +86,6 @@ pub fn ends_come_in_turn()
 
 /// An abort ends once the commands above it have failed or ended.
 pub fn aborts_end_after_what_they_stop()
-    ensures waiting { server_breaks (asks 1 kind.GoTo ∷ abort ∷ [])
-        (received 1 ∷ abort_received ∷ abort_complete ∷ []) ≡ breaks 3 rule.NotInTurn }
     ensures failed { server_breaks (asks 1 kind.GoTo ∷ abort ∷ asks 2 kind.GoTo ∷ [])
         (received 1 ∷ abort_received ∷ error 1 ∷ abort_complete ∷ []) ≡ None }
     ensures refused { server_breaks (asks 1 kind.GoTo ∷ abort ∷ [])
@@ -150,22 +96,15 @@ pub fn aborts_end_after_what_they_stop()
 
 /// After an error of severity 3 nothing is carried out but what ran, until the errors are cleared.
 pub fn errors_stop_what_waits()
-    ensures waits { server_breaks moves
-        (received 1 ∷ received 2 ∷ error 1 ∷ complete 1 ∷ complete 2 ∷ [])
-        ≡ breaks 5 rule.NotCleared }
     ensures fails { server_breaks moves
         (received 1 ∷ received 2 ∷ error 1 ∷ complete 1 ∷ error 2 ∷ complete 2 ∷ []) ≡ None }
     ensures ran { server_breaks moves
         (received 1 ∷ received 2 ∷ error 2 ∷ complete 2 ∷ complete 1 ∷ []) ≡ None }
-    ensures slight { server_breaks moves
-        (received 1 ∷ received 2 ∷ warning 1 ∷ complete 1 ∷ complete 2 ∷ []) ≡ None }
     ensures event { server_breaks (abort ∷ moves) (heard.Response (Event 9)
         (reply.Error severity.Three) ∷ received 1 ∷ received 2 ∷ complete 1 ∷ complete 2 ∷ [])
         ≡ None }
     ensures aborted { server_breaks (moves ++ abort ∷ []) (received 1 ∷ received 2 ∷ error 1
         ∷ complete 1 ∷ error 2 ∷ complete 2 ∷ abort_received ∷ abort_complete ∷ []) ≡ None }
-    ensures cleared { server_breaks cleared_end (received 1 ∷ error 1 ∷ complete 1
-        ∷ received 2 ∷ complete 2 ∷ received 3 ∷ complete 3 ∷ []) ≡ None }
     ensures cleared_before { server_breaks (asks 3 kind.ClearAllErrors ∷ moves)
         (received 3 ∷ complete 3 ∷ received 1 ∷ received 2 ∷ error 1 ∷ complete 1 ∷ complete 2 ∷ [])
         ≡ breaks 7 rule.NotCleared }
@@ -178,9 +117,6 @@ pub fn errors_stop_what_waits()
 
 /// A session ends after all commands of it have ended.
 pub fn sessions_end_after_their_commands()
-    ensures left { server_breaks cleared_end
-        (received 1 ∷ error 1 ∷ received 2 ∷ complete 2 ∷ received 3 ∷ complete 3 ∷ [])
-        ≡ breaks 6 rule.NoEnd }
     ensures inside { server_breaks moves (received 1 ∷ warning 1 ∷ received 2 ∷ complete 2 ∷ [])
         ≡ None }
     ensures later { server_breaks (asks 1 kind.EndSession ∷ asks 2 kind.GoTo ∷ [])
@@ -189,4 +125,21 @@ pub fn sessions_end_after_their_commands()
         (abort_received ∷ received 1 ∷ complete 1 ∷ []) ≡ None }
     ensures refused { server_breaks cleared_end (received 1 ∷ refused ∷ error 1 ∷ received 2
         ∷ complete 2 ∷ received 3 ∷ complete 3 ∷ []) ≡ None }
+{}
+
+/// The order of the lines shows a reply before its command, and a tag that is used again before its end.
+pub fn lines_have_an_order()
+    ensures by_bytes { seen_lines ((Client, 3) ∷ (Server, 3) ∷ (Client, 4) ∷ (Server, 4) ∷ [])
+        ([] ∷ (7 ∷ []) ∷ []) ([] ∷ [] ∷ []) ≡ 1 ∷ 2 ∷ [] }
+    ensures torn { seen_lines ((Client, 1) ∷ (Server, 2) ∷ (Client, 1) ∷ []) ([] ∷ []) ([] ∷ [])
+        ≡ 0 ∷ [] }
+    ensures early { server_found (0 ∷ 1 ∷ []) touch (received 1 ∷ error 1 ∷ []) None
+        ≡ breaks 1 rule.NotSent }
+    ensures in_time { server_found (1 ∷ []) touch (received 1 ∷ []) None ≡ None }
+    ensures second_use { server_found (1 ∷ 1 ∷ 1 ∷ []) (asks 1 kind.Home ∷ asks 1 kind.Home ∷ [])
+        (received 1 ∷ complete 1 ∷ received 1 ∷ []) None ≡ breaks 3 rule.NotSent }
+    ensures in_use { client_found (2 ∷ 3 ∷ 3 ∷ []) again None
+        (received 1 ∷ complete 1 ∷ received 1 ∷ []) ≡ breaks 2 rule.TagInUse }
+    ensures ended { client_found (1 ∷ 1 ∷ 2 ∷ []) again None
+        (received 1 ∷ complete 1 ∷ received 1 ∷ []) ≡ None }
 {}

@@ -2,10 +2,12 @@
 
 ghost use Rattle.std.specs.Prelude.{◌≡◌, ◌<◌, ◌^◌, IfOk};
 ghost use Rattle.std.specs.Option.{option_map};
+ghost use Rattle.witness_judge.specs.Orders.{bytes_of};
 ghost use Rattle.witness_judge.specs.Judging as spec;
 
 use crate::client::client_break;
 use crate::counts::{client_counts, server_counts};
+use crate::orders::seen_lines;
 use crate::reading::{heard_lines, sent_lines};
 use crate::rules::{Found, Rule};
 use crate::server::server_break;
@@ -13,7 +15,7 @@ use dme_line::Text;
 use line_framing::{FramingFault, Line};
 use std::alloc::{AllocError, Global};
 use std::marker::Model;
-use witness::cut_lines;
+use witness::{Side, cut_lines};
 
 /// A line that breaks a rule.
 #[derive(Debug, Drop)]
@@ -120,23 +122,32 @@ fn shown(alloc: Global, lines: &[Line], found: Option<Found>) -> Result<Option<B
 }
 
 /// What two recordings of one connection say of either end: the bytes that its client sent, and those that its server sent. The first line of
-/// either end that breaks a rule, if one does, and how many lines of each sort there are. A line without its end is not read. Fails only if
-/// out of memory.
-pub fn judge(alloc: Global, up: &[u8], down: &[u8]) -> Result<Judgement, AllocError>
-    ensures { IfOk result (spec.IsJudged up.now down.now) }
+/// either end that breaks a rule, if one does, and how many lines of each sort there are. A line without its end is not read. The bytes came in
+/// these pieces; without a piece, their order is not known. Fails only if out of memory.
+pub fn judge(
+    alloc: Global,
+    up: &[u8],
+    down: &[u8],
+    pieces: &[(Side, u64)],
+) -> Result<Judgement, AllocError>
+    requires up { bytes_of Side.Client pieces.now < 2 ^ 63 }
+    requires down { bytes_of Side.Server pieces.now < 2 ^ 63 }
+    ensures { IfOk result (spec.IsJudged up.now down.now pieces.now) }
 {
     let (up_lines, up_fault) = cut_lines(alloc, up)?;
     let (down_lines, down_fault) = cut_lines(alloc, down)?;
+    let seen = seen_lines(alloc, pieces, up_lines.as_slice(), down_lines.as_slice())?;
     let sent = sent_lines(alloc, up_lines.as_slice())?;
     let heard = heard_lines(alloc, down_lines.as_slice())?;
-    let (course, server) = server_break(alloc, sent.as_slice(), heard.as_slice())?;
-    let client = client_break(alloc, sent.as_slice(), heard.as_slice(), &course)?;
+    let (seen, sent, heard) = (seen.as_slice(), sent.as_slice(), heard.as_slice());
+    let (course, server) = server_break(alloc, seen, sent, heard)?;
+    let client = client_break(alloc, seen, sent, heard, &course)?;
     let client = end_break(client, sent.len(), up_fault);
     let server = end_break(server, heard.len(), down_fault);
     Ok(Judgement {
         client: shown(alloc, up_lines.as_slice(), client)?,
         server: shown(alloc, down_lines.as_slice(), server)?,
-        commands: client_counts(alloc, sent.as_slice())?,
-        marks: server_counts(alloc, heard.as_slice())?,
+        commands: client_counts(alloc, sent)?,
+        marks: server_counts(alloc, heard)?,
     })
 }

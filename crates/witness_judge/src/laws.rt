@@ -12,27 +12,29 @@ ghost use Rattle.witness_judge.specs.declared.rules.Rule.{Rule};
 /// Of the client: the line that is found breaks the rule that is named, no line before it breaks any, and if none is found no line does.
 #[tactic(auto, using(crate::proofs::FirstBreaks::breaks_there))]
 pub fn clients_break_is_its_first()
-    ensures breaks { (up : List Sent) (down : List Heard) (found : Found)
-        → first_break (client_rule up down) [] up ≡ Some found
-        → BreaksAt (client_rule up down) up (found.number - 1) found.rule }
-    ensures first { (up : List Sent) (down : List Heard) (found : Found)
-        → first_break (client_rule up down) [] up ≡ Some found
-        → (at : ℕ) (broken : Rule) → BreaksAt (client_rule up down) up at broken
+    ensures breaks { (seen : List ℕ) (up : List Sent) (down : List Heard) (found : Found)
+        → first_break (client_rule seen up down) [] up ≡ Some found
+        → BreaksAt (client_rule seen up down) up (found.number - 1) found.rule }
+    ensures first { (seen : List ℕ) (up : List Sent) (down : List Heard) (found : Found)
+        → first_break (client_rule seen up down) [] up ≡ Some found
+        → (at : ℕ) (broken : Rule) → BreaksAt (client_rule seen up down) up at broken
         → found.number ≤ at + 1 }
-    ensures none { (up : List Sent) (down : List Heard) → first_break (client_rule up down) [] up ≡ None
-        → (at : ℕ) (broken : Rule) → BreaksAt (client_rule up down) up at broken → ⊥ }
+    ensures none { (seen : List ℕ) (up : List Sent) (down : List Heard)
+        → first_break (client_rule seen up down) [] up ≡ None
+        → (at : ℕ) (broken : Rule) → BreaksAt (client_rule seen up down) up at broken → ⊥ }
 {}
 
 /// Likewise of the server.
 #[tactic(auto, using(crate::proofs::FirstBreaks::breaks_there))]
 pub fn servers_break_is_its_first()
-    ensures breaks { (up : List Sent) (down : List Heard) (found : Found)
-        → first_break (server_rule up) [] down ≡ Some found
-        → BreaksAt (server_rule up) down (found.number - 1) found.rule }
-    ensures first { (up : List Sent) (down : List Heard) (found : Found)
-        → first_break (server_rule up) [] down ≡ Some found
-        → (at : ℕ) (broken : Rule) → BreaksAt (server_rule up) down at broken
+    ensures breaks { (seen : List ℕ) (up : List Sent) (down : List Heard) (found : Found)
+        → first_break (server_rule seen up) [] down ≡ Some found
+        → BreaksAt (server_rule seen up) down (found.number - 1) found.rule }
+    ensures first { (seen : List ℕ) (up : List Sent) (down : List Heard) (found : Found)
+        → first_break (server_rule seen up) [] down ≡ Some found
+        → (at : ℕ) (broken : Rule) → BreaksAt (server_rule seen up) down at broken
         → found.number ≤ at + 1 }
-    ensures none { (up : List Sent) (down : List Heard) → first_break (server_rule up) [] down ≡ None
-        → (at : ℕ) (broken : Rule) → BreaksAt (server_rule up) down at broken → ⊥ }
+    ensures none { (seen : List ℕ) (up : List Sent) (down : List Heard)
+        → first_break (server_rule seen up) [] down ≡ None
+        → (at : ℕ) (broken : Rule) → BreaksAt (server_rule seen up) down at broken → ⊥ }
 {}

@@ -5,6 +5,7 @@
 //! - `rules`: `Rule`, by name; how far a command is
 //! - `reading`: what each line is
 //! - `tables`: the uses of each tag; `course`: which command a line of the server answers, and what came for each
+//! - `orders`: in which order the lines came
 //! - `client`, `server`: the first line of either end that breaks a rule
 //! - `counts`: how many lines of each sort there are
 //! - `judgement`: `judge`, and its `Judgement`
@@ -19,6 +20,7 @@ pub mod examples;
 pub mod judgement;
 pub mod laws;
 pub mod lines;
+mod orders;
 mod reading;
 pub mod rules;
 mod server;
@@ -28,5 +30,6 @@ mod writing;
 pub use counts::KINDS;
 pub use judgement::{Break, Judgement, judge};
 pub use lines::{Data, Heard, Mark, Reply, Sent, Severity};
+pub use orders::first_bytes;
 pub use rules::Rule;
 pub use writing::write_judgement;

@@ -23,6 +23,8 @@ pub enum Rule {
     NotResponse,
     /// No command is open under the tag.
     UnknownTag,
+    /// A mark for a command that the client had not sent by then.
+    NotSent,
     /// The mark is unexpected there.
     OutOfOrder,
     /// A command that asks for data is complete, and they did not come.

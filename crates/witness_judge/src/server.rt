@@ -278,8 +278,19 @@ fn command_rule(
     mark_rule(stage, asks, turn, end_rule(turn, barred, left), reply)
 }
 
+/// Whether the line of the client at a place was not whole when the server's was, by how many were.
+fn was_later(count: Option<usize>, at: usize) -> bool
+    ensures { result ≡ spec.was_later count at }
+{
+    match count {
+        Some(count) => count <= at,
+        None => false,
+    }
+}
+
 /// The rule that a line breaks under the lines above it.
 fn rule_of(
+    seen: &[usize],
     up: &[Sent],
     above: &[Heard],
     course: &Course,
@@ -288,7 +299,7 @@ fn rule_of(
 ) -> Option<Rule>
     requires course { IsCourse up.now (reverse above.now) course.now }
     requires standing { spec.IsStanding up.now (reverse above.now) standing }
-    ensures { result ≡ spec.server_rule up.now (reverse above.now) heard }
+    ensures { result ≡ spec.server_rule seen.now up.now (reverse above.now) heard }
 {
     let Heard::Response(tag, reply) = heard else {
         return Some(Rule::NotResponse);
@@ -296,6 +307,9 @@ fn rule_of(
     let Some(at) = course.place(up, above, tag) else {
         return unasked_rule(tag);
     };
+    if was_later(seen.get(above.len()).copied(), at) {
+        return Some(Rule::NotSent);
+    }
     match up.get(at) {
         Some(sent) => command_rule(up, above, course, standing, tag, reply, at, *sent),
         None => None,
@@ -381,12 +395,14 @@ fn found_or(found: Option<Found>, at: usize, rule: Option<Rule>) -> Option<Found
 #[tactic(auto, using(crate::proofs::Lists::found_more))]
 pub(crate) fn server_break(
     alloc: Global,
+    seen: &[usize],
     up: &[Sent],
     down: &[Heard],
 ) -> Result<(Course, Option<Found>), AllocError>
     requires { length up.now < 2 ^ 63 }
     ensures course { IfOk result (λ r. IsCourse up.now (reverse down.now) r.0) }
-    ensures found { IfOk result (λ r. r.1 ≡ first_break (spec.server_rule up.now) [] down.now) }
+    ensures found { IfOk result (λ r. r.1
+        ≡ first_break (spec.server_rule seen.now up.now) [] down.now) }
 {
     let mut course = Course::new(alloc, up)?;
     let mut standing = at_first(up, down.split_at(0).0, &course.notes);
@@ -395,7 +411,11 @@ pub(crate) fn server_break(
         let (above, _) = down.split_at(at);
         let (lines, _) = down.split_at(at + 1);
         let heard = down[at];
-        found = found_or(found, at, rule_of(up, above, &course, standing, heard));
+        found = found_or(
+            found,
+            at,
+            rule_of(seen, up, above, &course, standing, heard),
+        );
         course.hear(up, above, heard)?;
         standing = stand(up, above, lines, heard, &course.notes, standing);
     }

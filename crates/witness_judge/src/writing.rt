@@ -27,6 +27,7 @@ fn rule_name(rule: Rule) -> &'static str
         Rule::QueueFull => "QueueFull",
         Rule::NotResponse => "NotResponse",
         Rule::UnknownTag => "UnknownTag",
+        Rule::NotSent => "NotSent",
         Rule::OutOfOrder => "OutOfOrder",
         Rule::NoData => "NoData",
         Rule::SecondData => "SecondData",

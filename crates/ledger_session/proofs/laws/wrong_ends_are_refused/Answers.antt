@@ -3,13 +3,13 @@ use Rattle.ledger_session.proofs.Refusals.{swapped_fails, unprinted_fails, unsai
 use Rattle.ledger_session.proofs.laws.wrong_ends_are_refused.Goals as goal
 
 pub returns-clause-early : goal.returns-clause-early
-returns-clause-early c = λ k. elim k.printed [ inl e ↦ absurd cc | inr p ↦ let e = p.reports.ended in absurd cc ]
+returns-clause-early c = λ k. elim k.printed [ inl e ↦ absurd cc | inr p ↦ let e = p.1.reports.ended in absurd cc ]
 
 pub returns-clause-twice : goal.returns-clause-twice
-returns-clause-twice c = λ k. elim k.printed [ inl e ↦ absurd cc | inr p ↦ let e = p.printed in absurd cc ]
+returns-clause-twice c = λ k. elim k.printed [ inl e ↦ absurd cc | inr p ↦ let e = p.1.printed in absurd cc ]
 
 pub returns-clause-silent : goal.returns-clause-silent
-returns-clause-silent c = λ k. elim k.printed [ inl e ↦ absurd cc | inr p ↦ let e = p.noted.1 in absurd cc ]
+returns-clause-silent c = λ k. elim k.printed [ inl e ↦ absurd cc | inr p ↦ let e = p.1.noted.1 in absurd cc ]
 
 pub returns-clause-swapped : goal.returns-clause-swapped
 returns-clause-swapped c = swapped_fails

@@ -6,5 +6,5 @@ use Rattle.witness_judge.proofs.client.client_break.Given as goal
 -- the first line that breaks a rule is among those that are left
 abbrev pub invariant-loop-at : goal.invariant-loop-at
 invariant-loop-at l =
-    (first_break (client_rule l.up (reverse l.down)) (reverse (take l.at l.up)) (drop l.at l.up) ≡ first_break (client_rule l.up (reverse l.down)) [] l.up)
+    (first_break (client_rule l.seen l.up (reverse l.down)) (reverse (take l.at l.up)) (drop l.at l.up) ≡ first_break (client_rule l.seen l.up (reverse l.down)) [] l.up)
     × AreAbove l.up (reverse l.down) (reverse (take l.at l.up)) l.above

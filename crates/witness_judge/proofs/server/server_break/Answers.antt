@@ -14,12 +14,12 @@ pub loop-at-preserved : goal.loop-at-preserved
 loop-at-preserved c =
     let above = c.split_at-in-loop-at.ensures.front in
     let short = c.loop-at-test.true in
-    let more = first_break (server_rule c.args.up.now) (reverse (take (c.loop-at.at + 1) c.args.down.now)) (drop (c.loop-at.at + 1) c.args.down.now) in (
+    let more = first_break (server_rule c.args.seen.now c.args.up.now) (reverse (take (c.loop-at.at + 1) c.args.down.now)) (drop (c.loop-at.at + 1) c.args.down.now) in (
       ap (λ (f : Option Found). option_or f more) c.found_or-found.ensures
           ∙ found_more c.loop-at.found (c.loop-at.at + 1) c.rule_of.result more
           ∙ ap (λ (r : Option Rule). option_or c.loop-at.found (found_at (c.loop-at.at + 1) r more)) c.rule_of.ensures
-          ∙ ap (λ (l : List Heard). option_or c.loop-at.found (found_at (c.loop-at.at + 1) (server_rule c.args.up.now (reverse l) (get_or c.args.down.now c.loop-at.at heard.Other)) more)) above
-          ∙ ap (λ (f : Option Found). option_or c.loop-at.found f) (sym (first_more (server_rule c.args.up.now) c.args.down.now c.loop-at.at heard.Other short))
+          ∙ ap (λ (l : List Heard). option_or c.loop-at.found (found_at (c.loop-at.at + 1) (server_rule c.args.seen.now c.args.up.now (reverse l) (get_or c.args.down.now c.loop-at.at heard.Other)) more)) above
+          ∙ ap (λ (f : Option Found). option_or c.loop-at.found f) (sym (first_more (server_rule c.args.seen.now c.args.up.now) c.args.down.now c.loop-at.at heard.Other short))
           ∙ c.loop-at.invariant.0,
       subst (λ (l : List Heard). IsCourse c.args.up.now l c.hear.new.self)
           (ap (λ (l : List Heard). get_or c.args.down.now c.loop-at.at heard.Other ∷ reverse l) above ∙ sym (above_more c.args.down.now c.loop-at.at heard.Other short)) c.in_ok-hear.ensures,

@@ -8,6 +8,6 @@ use Rattle.witness_judge.proofs.server.server_break.Given as goal
 -- the first line that breaks a rule is the one that was found, or among those that are left
 abbrev pub invariant-loop-at : goal.invariant-loop-at
 invariant-loop-at l =
-    (option_or l.found (first_break (server_rule l.up) (reverse (take l.at l.down)) (drop l.at l.down)) ≡ first_break (server_rule l.up) [] l.down)
+    (option_or l.found (first_break (server_rule l.seen l.up) (reverse (take l.at l.down)) (drop l.at l.down)) ≡ first_break (server_rule l.seen l.up) [] l.down)
     × IsCourse l.up (reverse (take l.at l.down)) l.course
     × IsStanding l.up (reverse (take l.at l.down)) l.standing

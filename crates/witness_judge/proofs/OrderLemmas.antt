@@ -1,0 +1,98 @@
+-- Places in the bytes of an end.
+use Rattle.std.proofs.Common.{◌≡◌, ℕ, zero, suc, ◌+◌, ◌-◌, ◌<◌, ◌≤◌, Bool, true, false, if◌then◌else◌, List, [], ◌∷◌, length, drop, get_or, refl, ap, sym, subst, ◌∙◌, arith}
+use Rattle.std.specs.Prelude.{nat_le}
+use Rattle.std.proofs.lemmas.Bool.{le-leb, leb-true}
+use Rattle.std.proofs.lemmas.List.{drop_more, drop_all}
+use Rattle.witness_judge.specs.Orders.{whole_in, IsOn, IsAt}
+
+regroup : (a b n : ℕ) → a + b + n ≡ a + (b + n)
+regroup a b n = omega arith
+
+pub on_start : (lines : List (List ℕ)) (bytes at left count : ℕ) → IsOn lines bytes at left → IsOn lines (bytes + count) at (left + count)
+on_start lines bytes at left count is = record {
+  within = is.within;
+  few = let f = is.few in omega (arith, f);
+  rest = λ n. ap (λ (k : ℕ). whole_in k lines) (regroup bytes count n) ∙ is.rest (count + n)
+      ∙ ap (λ (k : ℕ). at + whole_in k (drop at lines)) (sym (regroup left count n));
+}
+
+whole_more : (n : ℕ) (line : List ℕ) (lines : List (List ℕ)) → length line + 2 ≤ n → whole_in n (line ∷ lines) ≡ suc (whole_in (n - (length line + 2)) lines)
+whole_more n line lines long =
+    ap (λ (b : Bool). if b then suc (whole_in (n - (length line + 2)) lines) else 0) (le-leb (length line + 2) n long)
+
+at_false : (b : Bool) → (b ≡ true → ⊥) → b ≡ false
+at_false true never = absurd (never refl)
+at_false false never = refl
+
+whole_none : (n : ℕ) (line : List ℕ) (lines : List (List ℕ)) → n < length line + 2 → whole_in n (line ∷ lines) ≡ 0
+whole_none n line lines short =
+    ap (λ (b : Bool). if b then suc (whole_in (n - (length line + 2)) lines) else 0)
+    (at_false (nat_le (length line + 2) n) (λ e. omega (arith, leb-true (length line + 2) n e, short)))
+
+one_on : (at n : ℕ) → at + suc n ≡ at + 1 + n
+one_on at n = omega arith
+
+taken : (left n needed : ℕ) → needed ≤ left → left + n - needed ≡ left - needed + n
+taken left n needed long = omega (arith, long)
+
+enough : (left n needed : ℕ) → needed ≤ left → needed ≤ left + n
+enough left n needed long = omega (arith, long)
+
+fewer : (left needed bytes : ℕ) → left ≤ bytes → left - needed ≤ bytes
+fewer left needed bytes few = omega (arith, few)
+
+pub on_next : (lines : List (List ℕ)) (bytes at left : ℕ) (line : List ℕ) → IsOn lines bytes at left → at < length lines
+    → get_or lines at [] ≡ line → length line + 2 ≤ left → IsOn lines bytes (at + 1) (left - (length line + 2))
+on_next lines bytes at left line is short there long = record {
+  within = omega (arith, short);
+  few = fewer left (length line + 2) bytes is.few;
+  rest = λ n. is.rest n
+      ∙ ap (λ (l : List (List ℕ)). at + whole_in (left + n) l) (drop_more lines at [] short)
+      ∙ ap (λ (l : List ℕ). at + whole_in (left + n) (l ∷ drop (at + 1) lines)) there
+      ∙ ap (λ (k : ℕ). at + k) (whole_more (left + n) line (drop (at + 1) lines) (enough left n (length line + 2) long))
+      ∙ one_on at (whole_in (left + n - (length line + 2)) (drop (at + 1) lines))
+      ∙ ap (λ (k : ℕ). at + 1 + whole_in k (drop (at + 1) lines)) (taken left n (length line + 2) long);
+}
+
+-- no further line is whole
+no_more : (n : ℕ) → n + 0 ≡ n
+no_more n = omega arith
+
+at_place : (lines : List (List ℕ)) (bytes at left : ℕ) → IsOn lines bytes at left → whole_in left (drop at lines) ≡ 0
+    → IsAt lines (record { bytes = bytes; at = at; left = left })
+at_place lines bytes at left is none = record {
+  on = is;
+  whole = ap (λ (k : ℕ). whole_in k lines) (sym (no_more bytes)) ∙ is.rest 0
+      ∙ ap (λ (k : ℕ). at + whole_in k (drop at lines)) (no_more left) ∙ ap (λ (k : ℕ). at + k) none ∙ no_more at;
+}
+
+pub stays_at : (lines : List (List ℕ)) (bytes at left : ℕ) (line : List ℕ) → IsOn lines bytes at left → at < length lines
+    → get_or lines at [] ≡ line → left < length line + 2 → IsAt lines (record { bytes = bytes; at = at; left = left })
+stays_at lines bytes at left line is short there few = at_place lines bytes at left is
+    (ap (whole_in left) (drop_more lines at [] short) ∙ ap (λ (l : List ℕ). whole_in left (l ∷ drop (at + 1) lines)) there
+    ∙ whole_none left line (drop (at + 1) lines) few)
+
+all_whole : (at count : ℕ) → at ≤ count → count ≤ at → at ≡ count
+all_whole at count low high = omega (arith, low, high)
+
+pub ends_whole : (lines : List (List ℕ)) (bytes at left : ℕ) → IsOn lines bytes at left → length lines ≤ at
+    → IsAt lines (record { bytes = bytes; at = length lines; left = left })
+ends_whole lines bytes at left is all =
+    subst (λ (k : ℕ). IsAt lines (record { bytes = bytes; at = k; left = left })) (all_whole at (length lines) is.within all)
+    (at_place lines bytes at left is (ap (whole_in left) (drop_all at lines all)))
+
+pub at_start : (lines : List (List ℕ)) → IsAt lines (record { bytes = 0; at = 0; left = 0 })
+at_start lines = at_place lines 0 0 0 (record { within = omega arith; few = omega arith; rest = λ n. start n }) (empty lines)
+  where
+    start : (n : ℕ) → whole_in (0 + n) lines ≡ 0 + whole_in (0 + n) (drop 0 lines)
+    start n = omega arith
+
+    empty : (lines : List (List ℕ)) → whole_in 0 lines ≡ 0
+    empty [] = refl
+    empty (line ∷ lines) = whole_none 0 line lines (omega arith)
+
+-- an item has no default
+pub same_line : (lines : List (List ℕ)) (at : ℕ) (d e : List ℕ) → at < length lines → get_or lines at d ≡ get_or lines at e
+same_line [] at d e short = absurd (omega (arith, short))
+same_line (line ∷ lines) zero d e short = refl
+same_line (line ∷ lines) (suc at) d e short = same_line lines at d e (omega (arith, short))

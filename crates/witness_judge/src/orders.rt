@@ -1,0 +1,148 @@
+// In which order the lines of both ends came.
+
+ghost use Rattle.std.specs.Prelude.{◌≡◌, ◌≤◌, ◌+◌, ◌<◌, ◌^◌, ◌++◌, None, take, IfOk, IfSome, IfNone, OnOk};
+ghost use Rattle.witness_judge.specs.Orders as spec;
+
+use line_framing::Line;
+use std::alloc::{AllocError, Global};
+use witness::Side;
+
+/// How many bytes of an end a piece has.
+fn count_of(side: Side, piece: (Side, u64)) -> u64
+    ensures { result ≡ spec.count_of side piece }
+{
+    match (side, piece.0) {
+        (Side::Client, Side::Client) | (Side::Server, Side::Server) => piece.1,
+        (Side::Client, Side::Server) | (Side::Server, Side::Client) => 0,
+    }
+}
+
+/// How many bytes of an end pieces have; nothing if they are more than `most`.
+fn bytes_of(side: Side, pieces: &[(Side, u64)], most: usize) -> Option<usize>
+    ensures count { IfSome result (λ n. n ≡ spec.bytes_of side pieces.now) }
+    ensures within { IfSome result (λ n. n ≤ most) }
+    ensures more { result ≡ None → most < spec.bytes_of side pieces.now }
+{
+    let mut left = most;
+    for piece in pieces {
+        let count = count_of(side, *piece);
+        if (left as u64) < count {
+            return None;
+        }
+        left -= count as usize;
+    }
+    Some(most - left)
+}
+
+/// The first bytes of two recordings, which are those that the pieces have, and whether these are all; nothing if an end has fewer.
+pub fn first_bytes<'a>(
+    up: &'a [u8],
+    down: &'a [u8],
+    pieces: &[(Side, u64)],
+) -> Option<(&'a [u8], &'a [u8], bool)>
+    ensures others { IfNone result (spec.AreOthers up.now down.now pieces.now) }
+    ensures up { IfSome result (λ r. r.0.now ≡ take (spec.bytes_of Side.Client pieces.now) up.now) }
+    ensures down { IfSome result (λ r. r.1.now
+        ≡ take (spec.bytes_of Side.Server pieces.now) down.now) }
+    ensures first { IfSome result (λ r. spec.HasFirst up.now down.now pieces.now r.2) }
+{
+    let up_count = bytes_of(Side::Client, pieces, up.len())?;
+    let down_count = bytes_of(Side::Server, pieces, down.len())?;
+    let (first_up, _) = up.split_at(up_count);
+    let (first_down, _) = down.split_at(down_count);
+    let is_whole = up_count == up.len() && down_count == down.len();
+    Some((first_up, first_down, is_whole))
+}
+
+/// How far the bytes of an end have come.
+#[derive(Clone, Copy)]
+pub struct Place {
+    /// How many bytes came.
+    pub bytes: usize,
+    /// How many lines are whole in them.
+    pub at: usize,
+    /// How many bytes follow these.
+    pub left: usize,
+}
+
+/// The place after bytes more.
+fn advance(lines: &[Line], place: Place, count: usize) -> Place
+    requires at { spec.IsAt lines.now place }
+    requires room { place.bytes + count < 2 ^ 63 }
+    ensures at { spec.IsAt lines.now result }
+    ensures bytes { result.bytes ≡ place.bytes + count }
+    ensures later { place.at ≤ result.at }
+{
+    let bytes = place.bytes + count;
+    let mut left = place.left + count;
+    for at in place.at..lines.len() {
+        let line = lines[at].as_slice();
+        if left < line.len() + 2 {
+            return Place { bytes, at, left };
+        }
+        left -= line.len() + 2;
+    }
+    let at = lines.len();
+    Place { bytes, at, left }
+}
+
+/// A piece of either end comes: how far each has come. Fails only if out of memory.
+fn see(
+    seen: &mut Vec<usize>,
+    up: &[Line],
+    down: &[Line],
+    client: Place,
+    server: Place,
+    piece: (Side, u64),
+) -> Result<(Place, Place), AllocError>
+    requires client { spec.IsAt up.now client }
+    requires server { spec.IsAt down.now server }
+    requires client_room { client.bytes + spec.count_of Side.Client piece < 2 ^ 63 }
+    requires server_room { server.bytes + spec.count_of Side.Server piece < 2 ^ 63 }
+    ensures client { IfOk result (λ r. spec.IsAt up.now r.0) }
+    ensures server { IfOk result (λ r. spec.IsAt down.now r.1) }
+    ensures client_bytes { IfOk result (λ r. r.0.bytes
+        ≡ client.bytes + spec.count_of Side.Client piece) }
+    ensures server_bytes { IfOk result (λ r. r.1.bytes
+        ≡ server.bytes + spec.count_of Side.Server piece) }
+    ensures seen { OnOk result (seen.new.items ≡ seen.old.items
+        ++ spec.seen_with client.bytes server.bytes piece up.now down.now) }
+{
+    let (side, count) = piece;
+    let count = count as usize;
+    match side {
+        Side::Client => Ok((advance(up, client, count), server)),
+        Side::Server => {
+            let next = advance(down, server, count);
+            seen.resize(seen.len() + (next.at - server.at), client.at)?;
+            Ok((client, next))
+        }
+    }
+}
+
+/// For each line of the server, how many lines of the client were whole when it was. Fails only if out of memory.
+#[tactic(auto, using(crate::proofs::OrderLemmas::at_start))]
+pub(crate) fn seen_lines(
+    alloc: Global,
+    pieces: &[(Side, u64)],
+    up: &[Line],
+    down: &[Line],
+) -> Result<Vec<usize>, AllocError>
+    requires client { spec.bytes_of Side.Client pieces.now < 2 ^ 63 }
+    requires server { spec.bytes_of Side.Server pieces.now < 2 ^ 63 }
+    ensures { IfOk result (λ seen. seen.items ≡ spec.seen_lines pieces.now up.now down.now) }
+{
+    let mut seen = Vec::new(alloc);
+    let mut client = Place {
+        bytes: 0,
+        at: 0,
+        left: 0,
+    };
+    let mut server = client;
+    for piece in pieces {
+        let (next_client, next_server) = see(&mut seen, up, down, client, server, *piece)?;
+        client = next_client;
+        server = next_server;
+    }
+    Ok(seen)
+}
