@@ -1,7 +1,7 @@
 -- What is printed of two recordings (this profile).
-use Rattle.std.specs.Prelude.{◌≡◌, ℕ, Bool, true, false, List, [], take}
+use Rattle.std.specs.Prelude.{◌≡◌, ◌≢◌, ℕ, Bool, true, false, List, [], take}
 use Rattle.witness.specs.declared.lines.Side.TheVariants.{Client, Server}
-use Rattle.watched_ends.specs.Pieces.{IsOrder}
+use Rattle.watched_ends.specs.Pieces.{IsOrder, IsUnfit}
 use Rattle.watched_ends.specs.Recorded.{IsRecorded}
 use Rattle.watched_ends.specs.declared.recorded.Order as the
 use Rattle.watched_ends.specs.declared.recorded.Order.TheVariants as ordered
@@ -36,7 +36,7 @@ abbrev pub IsJudgement : (up down bytes text : List ℕ) → the.Order → ℕ �
 IsJudgement up down bytes text ordered.Whole status = IsOrderedJudgement up down bytes text status true
 IsJudgement up down bytes text ordered.Part status = IsOrderedJudgement up down bytes text status false
 IsJudgement up down bytes text ordered.Unknown status = IsPlainJudgement up down bytes text status
-IsJudgement up down bytes text ordered.NotTheirs status = text ≡ []
+IsJudgement up down bytes text ordered.NotTheirs status = (text ≡ []) × (bytes ≢ []) × IsUnfit up down bytes
 
 -- the text that is printed, and the exit status
 abbrev pub IsAnswer : Job → (up down bytes text : List ℕ) → the.Order → ℕ → Type 0

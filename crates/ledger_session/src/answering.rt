@@ -1,6 +1,6 @@
 // What is printed of two recordings.
 
-ghost use Rattle.std.specs.Prelude.{◌≡◌, IfOk};
+ghost use Rattle.std.specs.Prelude.{◌≡◌, ◌≢◌, [], IfOk};
 ghost use Rattle.witness_judge.specs.Texts.{judgement_text, judgement_status};
 ghost use Rattle.ledger_session.specs.Jobs as spec;
 
@@ -26,6 +26,7 @@ fn ordered_judgement(
     down: &[u8],
     order: &[u8],
 ) -> Result<(Vec<u8>, Order, u8), AllocError>
+    requires { order.now ≢ [] }
     ensures { IfOk result (λ r. spec.IsJudgement up.now down.now order.now r.0.items r.1 r.2) }
 {
     let Some(pieces) = read_order(alloc, order)? else {

@@ -1,8 +1,12 @@
 -- Bytes that come in an order.
-use Rattle.std.proofs.Common.{◌≡◌, ℕ, ◌+◌, List, [], ◌++◌, length, take, drop, Option, Some, None, Result, Ok, Err, IfOk, IfSome, ap, sym, subst, ◌∙◌}
+use Rattle.std.proofs.Common.{◌≡◌, ℕ, ◌+◌, List, [], ◌∷◌, ◌++◌, length, take, drop, map, ap, sym, subst, ◌∙◌}
+use Rattle.std.specs.List.{AllByRecursion}
+use Rattle.contact_ledger.specs.Lines.{whole_lines}
 use Rattle.std.proofs.Math.Seq.{take-add}
 use Rattle.watched_ends.specs.Limits.{Limited, client_came, server_came, IsRead}
-use Rattle.watched_ends.specs.Pieces.{Pieces, with_up, with_down, Relayed, begun, client, server}
+use Rattle.witness.specs.declared.lines.Side.{Side}
+use Rattle.witness_judge.specs.Orders.{Pieces}
+use Rattle.watched_ends.specs.Pieces.{header, piece_line, IsPiece, IsOrder, IsNoOrder, with_up, with_down, Relayed, begun, client, server}
 
 pub none_came : (first : Limited) → Relayed first [] [] [] first
 none_came first = begun
@@ -27,9 +31,22 @@ came_down first pieces up down bytes from count r new before is long read =
     (ap (λ (t : List ℕ). take from down ++ t) is ∙ sym (take-add from count down))
     (server pieces up (take from down) bytes r new before read))
 
--- what holds of a value that was found
-pub if_found : {A E : Type 0} {P Q : A → Type 0} (r : Result (Option A) E) → ((a : A) → P a → Q a)
-    → IfOk r (λ found. IfSome found P) → IfOk r (λ found. IfSome found Q)
-if_found (Ok (Some a)) more is = more a is
-if_found (Ok None) more is = tt
-if_found (Err e) more is = tt
+abbrev head : List ℕ → List (List ℕ) → List ℕ
+head d [] = d
+head d (line ∷ lines) = line
+
+abbrev rest : List (List ℕ) → List (List ℕ)
+rest [] = []
+rest (line ∷ lines) = lines
+
+-- a line that is not that of a piece is not among the lines of pieces
+no_piece : (line : List ℕ) (after : List (List ℕ)) (first pieces : Pieces) → ((p : Side × ℕ) → IsPiece p × (line ≡ piece_line p) → ⊥)
+    → AllByRecursion IsPiece pieces → map piece_line first ++ line ∷ after ≡ map piece_line pieces → ⊥
+no_piece line after [] [] none all e = absurd cc
+no_piece line after [] (p ∷ pieces) none all e = none p (all.0, ap (head line) e)
+no_piece line after (q ∷ first) [] none all e = absurd cc
+no_piece line after (q ∷ first) (p ∷ pieces) none all e = no_piece line after first pieces none all.1 (ap rest e)
+
+pub no_order : (text line : List ℕ) (after : List (List ℕ)) (first : Pieces) → header ∷ (map piece_line first ++ line ∷ after) ≡ whole_lines text
+    → ((p : Side × ℕ) → IsPiece p × (line ≡ piece_line p) → ⊥) → IsNoOrder text
+no_order text line after first is none pieces all order = no_piece line after first pieces none all (ap rest (is ∙ order))

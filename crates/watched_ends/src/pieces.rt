@@ -1,6 +1,6 @@
 // The order in which the bytes of both ends of a connection came, as a text.
 
-ghost use Rattle.std.specs.Prelude.{◌≡◌, ◌≤◌, ◌++◌, ◌∷◌, [], IfOk, IfSome, OnOk};
+ghost use Rattle.std.specs.Prelude.{◌≡◌, ◌≤◌, ◌++◌, ◌∷◌, [], IfOk, MatchOption, OnOk};
 ghost use Rattle.fixed_um.specs.Calls.{Finds};
 ghost use Rattle.witness.specs.Texts.{side_field};
 ghost use Rattle.watched_ends.specs.Pieces as spec;
@@ -40,8 +40,7 @@ pub fn add_piece(text: &mut Vec<u8>, side: Side, count: u64) -> Result<(), Alloc
 
 /// The end and the count of a line.
 fn read_piece(line: &[u8]) -> Option<(Side, u64)>
-    ensures { Finds result (λ p. (1 ≤ p.1) × (p.1 ≤ 18446744073709551615)
-        × (line.now ≡ spec.piece_line p)) }
+    ensures { Finds result (λ p. spec.IsPiece p × (line.now ≡ spec.piece_line p)) }
 {
     let (side, count) = match line {
         [b'>', b' ', count @ ..] => (Side::Client, count),
@@ -53,7 +52,7 @@ fn read_piece(line: &[u8]) -> Option<(Side, u64)>
 
 /// The pieces of a text, in order; nothing if it is no such text. What follows the last LF is not examined. Fails only if out of memory.
 pub fn read_order(alloc: Global, bytes: &[u8]) -> Result<Option<Vec<(Side, u64)>>, AllocError>
-    ensures { IfOk result (λ found. IfSome found
+    ensures { IfOk result (λ found. MatchOption found (spec.IsNoOrder bytes.now)
         (λ pieces. spec.IsOrder bytes.now pieces.items)) }
 {
     let Some((header, after)) = cut_line(bytes) else {
