@@ -6,7 +6,7 @@ use Rattle.std.proofs.Math.Seq.{take-add}
 use Rattle.watched_ends.specs.Limits.{Limited, client_came, server_came, IsRead}
 use Rattle.witness.specs.declared.lines.Side.{Side}
 use Rattle.witness_judge.specs.Orders.{Pieces}
-use Rattle.watched_ends.specs.Pieces.{header, piece_line, IsPiece, IsOrder, IsNoOrder, with_up, with_down, Relayed, begun, client, server}
+use Rattle.watched_ends.specs.Pieces.{header, piece_line, IsPiece, IsNoOrder, with_up, with_down, Relayed, begun, client, server}
 
 pub none_came : (first : Limited) → Relayed first [] [] [] first
 none_came first = begun
