@@ -78,19 +78,6 @@ fn write_value<W: fmt::Write>(
     write!(f, "{why}\n\nFor more information, try '--help'.\n")
 }
 
-/// Likewise, for a number of seconds.
-fn write_seconds<W: fmt::Write>(
-    f: &mut fmt::Formatter<W>,
-    option: &str,
-    value: &str,
-) -> fmt::Result {
-    write!(
-        f,
-        "error: invalid value '{value}' for '--{option} <SECONDS>'"
-    )?;
-    f.write_str(": a number from 1 to 86400\n\nFor more information, try '--help'.\n")
-}
-
 impl fmt::Display for WordsFault {
     fn fmt<W: fmt::Write>(&self, f: &mut fmt::Formatter<W>) -> fmt::Result {
         match self {
@@ -100,24 +87,16 @@ impl fmt::Display for WordsFault {
             }
             WordsFault::NoForm(word) => write_value(f, word, "--as <FORM>", FORMS),
             WordsFault::NoFindingForm(word) => write_value(f, word, "--as <FORM>", FINDING_FORMS),
-            WordsFault::NoSeconds(option, text) => write_seconds(f, option, text),
+            WordsFault::NoSeconds(option, text) => write!(
+                f,
+                "error: invalid value '{text}' for '--{option} <SECONDS>': a number from 1 to 86400\n\nFor more information, try '--help'.\n"
+            ),
             WordsFault::NoPart(part) => {
                 write_value(f, part, "--part <TEXT>", ": 1 to 64 printable bytes")
             }
             WordsFault::Misfits(why) => write!(f, "{why}"),
             WordsFault::Memory => f.write_str("dme: out of memory\n"),
         }
-    }
-}
-
-/// A copy of a value, if there is one.
-fn copied(alloc: Global, value: Option<&str>) -> Result<Option<String>, AllocError>
-    ensures { IfOk result (λ copy. option_map string_bytes copy
-        ≡ option_map (λ v. v.now) value.entry) }
-{
-    match value {
-        Some(text) => Ok(Some(String::from_str(alloc, text)?)),
-        None => Ok(None),
     }
 }
 
@@ -154,7 +133,10 @@ fn copied_maybe(alloc: Global, values: &ArgMatches, id: &str) -> Result<Option<S
     ensures { IfOk result (λ copy. IsMaybeOf id.now (rows_of (found_of values.now))
         (option_map string_bytes copy)) }
 {
-    copied(alloc, value_of(values, id))
+    match value_of(values, id) {
+        Some(text) => Ok(Some(String::from_str(alloc, text)?)),
+        None => Ok(None),
+    }
 }
 
 /// The value of an option that has a number, which `clap` has found in its range.
