@@ -1,5 +1,5 @@
 -- What `clap` is given of the rows of the program's table.
-use Rattle.std.specs.Prelude.{List, ◌∷◌, [], codes, fold, true, Some}
+use Rattle.std.specs.Prelude.{◌∷◌, [], fold, true}
 use Rattle.clap.specs.Words.{App, Rule, new_app, new_rule, with_rule, with_subcommand}
 use Rattle.dme_words.specs.CommandLine.{text_rule, needed_rule, number_rule, flag_rule}
 use Rattle.dme_words.specs.declared.line.Argument.{Argument}

@@ -1,18 +1,22 @@
 -- What the words of a command line ask for.
-use Rattle.std.specs.Prelude.{◌≡◌, ◌≢◌, ◌⊎◌, ◌≤◌, ◌||◌, not, ℕ, Bool, List, [], Option, Some, None, IsSomeAnd, codes, is_some, pos, true, false, unwrap_or}
+use Rattle.std.specs.Prelude.{◌≡◌, ◌≢◌, ◌⊎◌, ◌≤◌, ◌||◌, not, ℕ, ℤ, Bool, List, [], ◌∷◌, Option, Some, None, IsSomeAnd, codes, is_some, pos, true, false, unwrap_or}
 use Rattle.std.specs.Prelude.{string_bytes}
 use Rattle.std.specs.Option.{option_map}
 use Rattle.std.specs.Str.Parse.{signed_digits_value}
 use Rattle.clap.specs.declared.error.Error.{Error}
 use Rattle.clap.specs.declared.error.kind.ErrorKind.TheVariants.{OutOfMemory}
 use Rattle.clap.specs.Values.{bool_text}
+use Rattle.clap.specs.Walk.{Rule}
+use Rattle.clap.specs.Simple.{App, Shape, built_leaf, inherited, marked_built, on_top, with_leaf_noted}
+use Rattle.clap.specs.declared.builder.value_parser.ValueParser.{ValueParser}
+use Rattle.clap.specs.declared.builder.value_parser.ValueParser.TheVariants.{Bool as OfBool, Signed}
 use Rattle.clap.specs.Words.{IsAmong, IsSignedIn, Row, Text, fault_of, first_of, kind_of, one_of, subcommand_of, without_minus}
 use Rattle.client_core.specs.Clients.{is_window}
 use Rattle.refusal_guide.specs.Codes.{is_code_of}
 use Rattle.run_record.specs.Heads.{IsPart, IsPartGiven}
 use Rattle.refusal_guide.specs.declared.topics.Topic.{Topic}
 use Rattle.deviations.specs.declared.forms.Form.TheVariants.{Csv, Json, Svg}
-use Rattle.dme_words.specs.CommandLine.{whole_line}
+use Rattle.dme_words.specs.CommandLine.{audit_line, check_line, explain_line, export_line, judge_line, ledger_line, loop_line, run_line, serve_line, simulate_line, watch_line, whole_line}
 use Rattle.dme_words.specs.declared.orders.Audit.{Audit}
 use Rattle.dme_words.specs.declared.orders.Check.{Check}
 use Rattle.dme_words.specs.declared.orders.Export.{Export}
@@ -254,20 +258,16 @@ IsOrderOf found asked = IsSomeAnd found (λ p. IsNamedOrderOf p asked)
 abbrev pub HasValue : Text → List Row → Type 0
 HasValue id rows = is_some (first_of id rows) ≡ true
 
--- the option with this id has a number from 1 to `most`, which is read as it is written, but for a minus
-pub record HasNumber (id : Text) (most : ℕ) (rows : List Row) : Type 0 where
+-- the option with this id has a number within these bounds, which is read as it is written, but for a minus
+pub record HasSigned (id : Text) (low high : ℤ) (rows : List Row) : Type 0 where
   pub text : Text
   pub written : first_of id rows ≡ Some text
   pub read : one_of id rows ≡ Some (without_minus text)
-  pub ranged : IsSignedIn (pos 1) (pos most) text
+  pub ranged : IsSignedIn low high text
 
--- the window has a number in its range
-abbrev pub HasWindow : List Row → Type 0
-HasWindow = HasNumber (codes "window") 16
-
--- the count of connections has a number in its range
-abbrev pub HasConnections : List Row → Type 0
-HasConnections = HasNumber (codes "connections") 4000000000
+-- the option with this id has a number from 1 to `most`
+abbrev pub HasNumber : Text → ℕ → List Row → Type 0
+HasNumber id most rows = HasSigned id (pos 1) (pos most) rows
 
 -- the flag with this id has a value, which is read as it is written
 pub record HasFlag (id : Text) (rows : List Row) : Type 0 where
@@ -275,84 +275,44 @@ pub record HasFlag (id : Text) (rows : List Row) : Type 0 where
   pub written : first_of id rows ≡ Some (bool_text is_set)
   pub read : one_of id rows ≡ Some (bool_text is_set)
 
--- the flag `--explain` has a value
-abbrev pub HasExplained : List Row → Type 0
-HasExplained = HasFlag (codes "explain")
+-- what an argument that is needed or has a default is found to have: a flag, a number within its bounds, or a text
+abbrev pub HasRead : Option ValueParser → Text → List Row → Type 0
+HasRead (Some OfBool) id rows = HasFlag id rows
+HasRead (Some (Signed (pos low) high)) id rows = HasSigned id (pos low) high rows
+HasRead _ id rows = HasValue id rows
 
--- the values that a simulation cannot do without are there
-pub record HasSimulation (rows : List Row) : Type 0 where
-  pub setup : HasValue (codes "setup") rows
-  pub schedule : HasValue (codes "schedule") rows
-  pub window : HasWindow rows
-  pub trace : HasFlag (codes "trace") rows
-  pub explain : HasExplained rows
+abbrev pub has_default : List Text → Bool
+has_default [] = false
+has_default (value ∷ values) = true
 
--- the values that a run over a connection to itself cannot do without are there
-pub record HasLoop (rows : List Row) : Type 0 where
-  pub setup : HasValue (codes "setup") rows
-  pub window : HasWindow rows
-  pub progress : HasFlag (codes "progress") rows
-  pub trace : HasFlag (codes "trace") rows
-  pub explain : HasExplained rows
+abbrev pub HasIf : Bool → Type 0 → Type 0
+HasIf true has = has
+HasIf false has = Unit {0}
 
--- the values that a server cannot do without are there
-pub record HasService (rows : List Row) : Type 0 where
-  pub setup : HasValue (codes "setup") rows
-  pub port : HasNumber (codes "port") 65535 rows
-  pub connections : HasConnections rows
-  pub endless : HasFlag (codes "endless") rows
-  pub progress : HasFlag (codes "progress") rows
-  pub trace : HasFlag (codes "trace") rows
-  pub explain : HasExplained rows
+-- the arguments that are needed or have a default have their values
+abbrev pub HasAll : List Rule → List Row → Type 0
+HasAll [] rows = Unit {0}
+HasAll (a ∷ rest) rows = HasIf (a.required || has_default a.defaults) (HasRead a.parser a.id rows) × HasAll rest rows
 
--- the values that a run against a server cannot do without are there
-pub record HasRun (rows : List Row) : Type 0 where
-  pub setup : HasValue (codes "setup") rows
-  pub host : HasValue (codes "host") rows
-  pub port : HasNumber (codes "port") 65535 rows
-  pub window : HasWindow rows
-  pub progress : HasFlag (codes "progress") rows
-  pub trace : HasFlag (codes "trace") rows
-  pub confirm : HasFlag (codes "confirm") rows
-  pub explain : HasExplained rows
+-- a subcommand of `dme`, as `clap` completes it
+abbrev pub leaf : App → Shape
+leaf line = built_leaf (inherited (on_top with_leaf_noted (on_top marked_built whole_line)).top line.top)
 
--- the values that an export cannot do without are there
-pub record HasExport (rows : List Row) : Type 0 where
-  pub form : HasValue (codes "as") rows
-  pub explain : HasExplained rows
-
--- the values that a ledger cannot do without are there
-pub record HasLedger (rows : List Row) : Type 0 where
-  pub up : HasValue (codes "up") rows
-  pub down : HasValue (codes "down") rows
-  pub connection : HasNumber (codes "connection") 4000000000 rows
-
--- the values that a judgement cannot do without are there
-pub record HasJudge (rows : List Row) : Type 0 where
-  pub up : HasValue (codes "up") rows
-  pub down : HasValue (codes "down") rows
-
--- the values that a relay cannot do without are there
-pub record HasWatch (rows : List Row) : Type 0 where
-  pub listen : HasNumber (codes "listen") 65535 rows
-  pub host : HasValue (codes "host") rows
-  pub port : HasNumber (codes "port") 65535 rows
-  pub told : HasValue (codes "told") rows
-  pub connections : HasConnections rows
-  pub endless : HasFlag (codes "endless") rows
-  pub trace : HasFlag (codes "trace") rows
+-- likewise of this subcommand
+abbrev pub Has : App → List Row → Type 0
+Has line rows = HasAll (leaf line).rules rows
 
 -- the name of one of the last eight subcommands, with the values that it cannot do without
 abbrev pub IsLaterAskable : Text × List Row → Type 0
-IsLaterAskable p = ((p.0 ≡ codes "serve") × HasService p.1) ⊎ ((p.0 ≡ codes "run") × HasRun p.1)
-    ⊎ ((p.0 ≡ codes "explain") × HasValue (codes "CODE") p.1) ⊎ ((p.0 ≡ codes "export") × HasExport p.1)
-    ⊎ (p.0 ≡ codes "review") ⊎ ((p.0 ≡ codes "ledger") × HasLedger p.1) ⊎ ((p.0 ≡ codes "judge") × HasJudge p.1)
-    ⊎ ((p.0 ≡ codes "watch") × HasWatch p.1)
+IsLaterAskable p = ((p.0 ≡ codes "serve") × Has serve_line p.1) ⊎ ((p.0 ≡ codes "run") × Has run_line p.1)
+    ⊎ ((p.0 ≡ codes "explain") × Has explain_line p.1) ⊎ ((p.0 ≡ codes "export") × Has export_line p.1)
+    ⊎ (p.0 ≡ codes "review") ⊎ ((p.0 ≡ codes "ledger") × Has ledger_line p.1) ⊎ ((p.0 ≡ codes "judge") × Has judge_line p.1)
+    ⊎ ((p.0 ≡ codes "watch") × Has watch_line p.1)
 
 -- the name of a subcommand of `dme`, with the values that it cannot do without
 abbrev pub IsAskable : Text × List Row → Type 0
-IsAskable p = ((p.0 ≡ codes "check") × HasExplained p.1) ⊎ ((p.0 ≡ codes "simulate") × HasSimulation p.1) ⊎ ((p.0 ≡ codes "audit") × HasExplained p.1)
-    ⊎ ((p.0 ≡ codes "loop") × HasLoop p.1) ⊎ IsLaterAskable p
+IsAskable p = ((p.0 ≡ codes "check") × Has check_line p.1) ⊎ ((p.0 ≡ codes "simulate") × Has simulate_line p.1)
+    ⊎ ((p.0 ≡ codes "audit") × Has audit_line p.1) ⊎ ((p.0 ≡ codes "loop") × Has loop_line p.1) ⊎ IsLaterAskable p
 
 -- the window is one that a client takes, the port is one that can be listened on, the count is one of a server's connections, and the number is
 -- one of a connection

@@ -4,15 +4,15 @@ ghost use Rattle.std.specs.Prelude.{◌≡◌, ◌≤◌, IfOk, IfErr, OnOk, IsE
 ghost use Rattle.std.specs.Option.{option_map};
 ghost use Rattle.clap.specs.Words.{first_of, found_of, rows_of, subcommand_rows_of};
 ghost use Rattle.client_core.specs.Clients.{is_window};
-ghost use Rattle.dme_words.specs.Ordered.{IsValueOf, IsMaybeOf, IsProgramOf, IsWindowOf, IsNumber, IsNumberOf, IsConnectionsOf, IsFlagOf};
-ghost use Rattle.dme_words.specs.Ordered.{IsCheckOf, IsSimulateOf, IsAnyAuditOf, IsLoopOf, IsServeOf, IsRunOf, IsOrderOf};
-ghost use Rattle.dme_words.specs.Ordered.{IsExplainOf, IsLedgerOf, IsAnyExportOf, HasExport, IsNoCode, IsNoForm, IsCodeOf, form_word, HasNoTopic};
-ghost use Rattle.dme_words.specs.Ordered.{HasLedger, HasValue, HasNumber, HasWindow, HasConnections, HasFlag, HasExplained};
-ghost use Rattle.dme_words.specs.Ordered.{HasSimulation, HasLoop, HasService, HasRun, IsWatchOf, HasWatch, IsJudgeOf, HasJudge};
-ghost use Rattle.dme_words.specs.Ordered.{HasNone, is_lacking, AreLacking, HasNoAudit, HasNoExport, ExportMisfits};
-ghost use Rattle.dme_words.specs.Ordered.{IsLaterAskable, IsReviewOf, IsFindingFormOf, HasNoReview, NamesItsPart, HasNoRun, HasNoRunValue};
-ghost use Rattle.dme_words.specs.Ordered.{IsSecondsOf, IsNoSeconds, HasNoSeconds, IsPartOf, HasNoPart, IsRefusedOf, AsksForNothing};
-ghost use Rattle.dme_words.specs.Ordered.{IsAskable, IsReady, Asks, IsRefusal, IsCalled};
+ghost use Rattle.dme_words.specs.CommandLine.{audit_line, check_line, explain_line, export_line, judge_line, ledger_line};
+ghost use Rattle.dme_words.specs.CommandLine.{loop_line, run_line, serve_line, simulate_line, watch_line};
+ghost use Rattle.dme_words.specs.Ordered.{Asks, AsksForNothing, ExportMisfits, Has, HasFlag, HasNoAudit, HasNoExport, HasNoPart, HasNoReview};
+ghost use Rattle.dme_words.specs.Ordered.{HasNoRun, HasNoRunValue, HasNoSeconds, HasNoTopic, HasNone, HasNumber, HasValue, IsAnyAuditOf};
+ghost use Rattle.dme_words.specs.Ordered.{IsAnyExportOf, IsAskable, IsCalled, IsCheckOf, IsCodeOf, IsConnectionsOf, IsExplainOf, IsFindingFormOf};
+ghost use Rattle.dme_words.specs.Ordered.{IsFlagOf, IsJudgeOf, IsLaterAskable, IsLedgerOf, IsLoopOf, IsMaybeOf, IsNoCode, IsNoForm, IsNoSeconds};
+ghost use Rattle.dme_words.specs.Ordered.{IsNumber, IsNumberOf, IsOrderOf, IsPartOf, IsProgramOf, IsReady, IsRefusal, IsRefusedOf, IsReviewOf};
+ghost use Rattle.dme_words.specs.Ordered.{IsRunOf, IsSecondsOf, IsServeOf, IsSimulateOf, IsValueOf, IsWatchOf, IsWindowOf, NamesItsPart, form_word};
+ghost use Rattle.dme_words.specs.Ordered.{is_lacking};
 
 use crate::line::whole_command;
 use crate::misfits::{Lacks, Misfit};
@@ -154,7 +154,7 @@ fn number_of(values: &ArgMatches, id: &str, most: u32) -> u32
 
 /// The value of `--window`.
 fn window_of(values: &ArgMatches) -> u8
-    requires { HasWindow (rows_of (found_of values.now)) }
+    requires { HasNumber (codes "window") 16 (rows_of (found_of values.now)) }
     ensures named { IsWindowOf (rows_of (found_of values.now)) result }
     ensures ready { is_window result ≡ true }
 {
@@ -172,7 +172,7 @@ fn port_of(values: &ArgMatches, id: &str) -> u16
 
 /// How many connections are taken: with `--endless` as many as can be numbered.
 fn connections_of(values: &ArgMatches) -> u32
-    requires count { HasConnections (rows_of (found_of values.now)) }
+    requires count { HasNumber (codes "connections") 4000000000 (rows_of (found_of values.now)) }
     requires endless { HasFlag (codes "endless") (rows_of (found_of values.now)) }
     ensures named { IsConnectionsOf (rows_of (found_of values.now)) result }
     ensures ready { (1 ≤ result) × (result ≤ 4000000000) }
@@ -229,7 +229,7 @@ fn flag_of(values: &ArgMatches, id: &str) -> bool
 
 /// The values of `check`. Fails only if out of memory.
 fn check_order(alloc: Global, values: &ArgMatches) -> Result<Check, AllocError>
-    requires { HasExplained (rows_of (found_of values.now)) }
+    requires { Has check_line (rows_of (found_of values.now)) }
     ensures { IfOk result (IsCheckOf (rows_of (found_of values.now))) }
 {
     Ok(Check {
@@ -241,7 +241,7 @@ fn check_order(alloc: Global, values: &ArgMatches) -> Result<Check, AllocError>
 
 /// The values of `simulate`. Fails only if out of memory.
 fn simulate_order(alloc: Global, values: &ArgMatches) -> Result<Simulation, AllocError>
-    requires { HasSimulation (rows_of (found_of values.now)) }
+    requires { Has simulate_line (rows_of (found_of values.now)) }
     ensures named { IfOk result (IsSimulateOf (rows_of (found_of values.now))) }
     ensures ready { IfOk result (λ order. is_window order.window ≡ true) }
 {
@@ -272,7 +272,7 @@ fn names_program(values: &ArgMatches) -> bool {
 
 /// The values of `audit` for the record that is named.
 fn record_audit(alloc: Global, values: &ArgMatches, file: String) -> Result<Order, WordsFault>
-    requires explain { HasExplained (rows_of (found_of values.now)) }
+    requires explain { HasFlag (codes "explain") (rows_of (found_of values.now)) }
     requires recorded { IsValueOf (codes "record") (rows_of (found_of values.now))
         (string_bytes file) }
     ensures named { IfOk result (IsAnyAuditOf (rows_of (found_of values.now))) }
@@ -294,7 +294,7 @@ fn record_audit(alloc: Global, values: &ArgMatches, file: String) -> Result<Orde
 
 /// The values of `audit` without a record.
 fn files_audit(alloc: Global, values: &ArgMatches) -> Result<Order, WordsFault>
-    requires explain { HasExplained (rows_of (found_of values.now)) }
+    requires explain { HasFlag (codes "explain") (rows_of (found_of values.now)) }
     requires recorded { HasNone (codes "record") (rows_of (found_of values.now)) }
     ensures named { IfOk result (IsAnyAuditOf (rows_of (found_of values.now))) }
     ensures none { IfErr result (HasNoAudit (rows_of (found_of values.now))) }
@@ -319,7 +319,7 @@ fn files_audit(alloc: Global, values: &ArgMatches) -> Result<Order, WordsFault>
 
 /// The values of `audit`: of a record, if one is named.
 fn audit_order(alloc: Global, values: &ArgMatches) -> Result<Order, WordsFault>
-    requires { HasExplained (rows_of (found_of values.now)) }
+    requires { Has audit_line (rows_of (found_of values.now)) }
     ensures named { IfOk result (IsAnyAuditOf (rows_of (found_of values.now))) }
     ensures none { IfErr result (HasNoAudit (rows_of (found_of values.now))) }
 {
@@ -331,7 +331,7 @@ fn audit_order(alloc: Global, values: &ArgMatches) -> Result<Order, WordsFault>
 
 /// The values of `loop`. Fails only if out of memory.
 fn loop_order(alloc: Global, values: &ArgMatches) -> Result<Loop, AllocError>
-    requires { HasLoop (rows_of (found_of values.now)) }
+    requires { Has loop_line (rows_of (found_of values.now)) }
     ensures named { IfOk result (IsLoopOf (rows_of (found_of values.now))) }
     ensures ready { IfOk result (λ order. is_window order.window ≡ true) }
 {
@@ -347,7 +347,7 @@ fn loop_order(alloc: Global, values: &ArgMatches) -> Result<Loop, AllocError>
 
 /// The values of `serve`.
 fn serve_order(alloc: Global, values: &ArgMatches) -> Result<Service, WordsFault>
-    requires { HasService (rows_of (found_of values.now)) }
+    requires { Has serve_line (rows_of (found_of values.now)) }
     ensures named { IfOk result (IsServeOf (rows_of (found_of values.now))) }
     ensures none { IfErr result (HasNoSeconds (codes "timeout") (rows_of (found_of values.now))) }
     ensures ready { IfOk result (λ order. (1 ≤ order.port)
@@ -388,7 +388,7 @@ fn part_of(alloc: Global, values: &ArgMatches) -> Result<Option<String>, WordsFa
 
 /// The values of `run`, but for its record.
 fn run_values(alloc: Global, values: &ArgMatches) -> Result<Run, WordsFault>
-    requires { HasRun (rows_of (found_of values.now)) }
+    requires { Has run_line (rows_of (found_of values.now)) }
     ensures named { IfOk result (IsRunOf (rows_of (found_of values.now))) }
     ensures ready { IfOk result (λ order. (1 ≤ order.port)
         × (is_window order.window ≡ true)) }
@@ -419,7 +419,7 @@ fn run_values(alloc: Global, values: &ArgMatches) -> Result<Run, WordsFault>
 
 /// The values of `run`. A record is of a part, so that its points are not taken for those of another, and a part is that of a record.
 fn run_order(alloc: Global, values: &ArgMatches) -> Result<Run, WordsFault>
-    requires { HasRun (rows_of (found_of values.now)) }
+    requires { Has run_line (rows_of (found_of values.now)) }
     ensures named { IfOk result (IsRunOf (rows_of (found_of values.now))) }
     ensures part { OnOk result (NamesItsPart (rows_of (found_of values.now))) }
     ensures ready { IfOk result (λ order. (1 ≤ order.port)
@@ -448,7 +448,7 @@ fn topic_of(code: String) -> Result<Topic, WordsFault>
 
 /// The refusal that `explain` names.
 fn explain_order(alloc: Global, values: &ArgMatches) -> Result<Topic, WordsFault>
-    requires { HasValue (codes "CODE") (rows_of (found_of values.now)) }
+    requires { Has explain_line (rows_of (found_of values.now)) }
     ensures named { IfOk result (IsExplainOf (rows_of (found_of values.now))) }
     ensures none { IfErr result (HasNoTopic (rows_of (found_of values.now))) }
 {
@@ -479,7 +479,7 @@ fn record_export(
     form: RecordForm,
     file: String,
 ) -> Result<Order, WordsFault>
-    requires explain { HasExplained (rows_of (found_of values.now)) }
+    requires explain { HasFlag (codes "explain") (rows_of (found_of values.now)) }
     requires form { IsValueOf (codes "as") (rows_of (found_of values.now)) (form_word form) }
     requires recorded { IsValueOf (codes "record") (rows_of (found_of values.now))
         (string_bytes file) }
@@ -503,7 +503,7 @@ fn features_export(
     form: RecordForm,
     features: String,
 ) -> Result<Order, WordsFault>
-    requires explain { HasExplained (rows_of (found_of values.now)) }
+    requires explain { HasFlag (codes "explain") (rows_of (found_of values.now)) }
     requires form { IsValueOf (codes "as") (rows_of (found_of values.now)) (form_word form) }
     requires features { IsValueOf (codes "features") (rows_of (found_of values.now))
         (string_bytes features) }
@@ -545,7 +545,7 @@ fn export_lacks(values: &ArgMatches, word: &str) -> Misfit
 
 /// The values of `export`: of a record, if one is named.
 fn export_order(alloc: Global, values: &ArgMatches) -> Result<Order, WordsFault>
-    requires { HasExport (rows_of (found_of values.now)) }
+    requires { Has export_line (rows_of (found_of values.now)) }
     ensures named { IfOk result (IsAnyExportOf (rows_of (found_of values.now))) }
     ensures none { IfErr result (HasNoExport (rows_of (found_of values.now))) }
 {
@@ -586,7 +586,7 @@ fn review_order(alloc: Global, values: &ArgMatches) -> Result<Review, WordsFault
 
 /// The values of `ledger`. Fails only if out of memory.
 fn ledger_order(alloc: Global, values: &ArgMatches) -> Result<Ledger, AllocError>
-    requires { HasLedger (rows_of (found_of values.now)) }
+    requires { Has ledger_line (rows_of (found_of values.now)) }
     ensures named { IfOk result (IsLedgerOf (rows_of (found_of values.now))) }
     ensures ready { IfOk result (λ order. (1 ≤ order.connection)
         × (order.connection ≤ 4000000000)) }
@@ -600,7 +600,7 @@ fn ledger_order(alloc: Global, values: &ArgMatches) -> Result<Ledger, AllocError
 
 /// The values of `judge`. Fails only if out of memory.
 fn judge_order(alloc: Global, values: &ArgMatches) -> Result<Judge, AllocError>
-    requires { HasJudge (rows_of (found_of values.now)) }
+    requires { Has judge_line (rows_of (found_of values.now)) }
     ensures { IfOk result (IsJudgeOf (rows_of (found_of values.now))) }
 {
     Ok(Judge {
@@ -611,7 +611,7 @@ fn judge_order(alloc: Global, values: &ArgMatches) -> Result<Judge, AllocError>
 
 /// The values of `watch`.
 fn watch_order(alloc: Global, values: &ArgMatches) -> Result<Watch, WordsFault>
-    requires { HasWatch (rows_of (found_of values.now)) }
+    requires { Has watch_line (rows_of (found_of values.now)) }
     ensures named { IfOk result (IsWatchOf (rows_of (found_of values.now))) }
     ensures none { IfErr result (HasNoSeconds (codes "timeout") (rows_of (found_of values.now))) }
     ensures ready { IfOk result (λ order. (1 ≤ order.listen) × (1 ≤ order.port)
