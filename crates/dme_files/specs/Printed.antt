@@ -15,11 +15,8 @@ short = fault.Order order.Memory
 
 -- what is shown for words that ask for nothing
 abbrev pub words_shown : WordsFault → Fault
-words_shown (words.Line error) = fault.Words error
-words_shown (words.NoCode code) = fault.NoCode code
-words_shown (words.NoForm word) = fault.NoForm word
-words_shown (words.Misfits why) = fault.Misfits why
 words_shown words.Memory = short
+words_shown refusal = fault.Words refusal
 
 -- what is shown for a record that a run may not continue
 abbrev pub record_shown : RecordRefusal → Fault
@@ -28,16 +25,9 @@ record_shown refusal = fault.Record refusal
 
 -- 2 for the command line, 1 for a record and for a run that is not confirmed, else the status of the order's fault
 abbrev pub exit_status : Fault → ℕ
-exit_status (fault.Words error) = 2
+exit_status (fault.Words refusal) = 2
 exit_status fault.NotUtf8 = 2
-exit_status (fault.NoCode code) = 2
-exit_status (fault.NoForm word) = 2
-exit_status (fault.NoFindingForm word) = 2
-exit_status (fault.Misfits why) = 2
-exit_status (fault.NoPart part) = 2
-exit_status fault.PartAlone = 2
 exit_status (fault.OneFile first second name) = 2
-exit_status (fault.NoSeconds option text) = 2
 exit_status fault.NotConfirmed = 1
 exit_status (fault.Record refusal) = 1
 exit_status (fault.ExplainedRecord refusal note) = 1

@@ -3,43 +3,22 @@
 ghost use Rattle.std.specs.Prelude.{◌≡◌, ◌≢◌, ◌↔◌};
 ghost use Rattle.dme_files.specs.Printed.{exit_status, short};
 
-use clap::Error as WordsError;
 use dme_orders::OrderFault;
-use dme_words::{Misfit, WordsFault};
+use dme_words::WordsFault;
 use record_keeping::RecordRefusal;
 use std::alloc::AllocError;
 use std::fmt;
 use std::io::ErrorKind;
 
-/// The forms of what was measured, as `clap` would list them.
-const FORMS: &str = "\n  [possible values: csv, json, svg, features, contacts]";
-
-/// Likewise, of a review's findings.
-const FINDING_FORMS: &str = "\n  [possible values: json]";
-
 /// Why the program ends with another status than 0.
 #[derive(Drop)]
 pub enum Fault {
-    /// A bad command line or a call for help: `clap`'s own text.
-    Words(WordsError),
+    /// Words that ask for nothing; never because memory ran out.
+    Words(WordsFault),
     /// A word that is not UTF-8.
     NotUtf8,
-    /// A code that no refusal has.
-    NoCode(String),
-    /// A word that names no form.
-    NoForm(String),
-    /// Likewise, of a review.
-    NoFindingForm(String),
-    /// Options that do not go together.
-    Misfits(Misfit),
-    /// A text that may not be a part.
-    NoPart(String),
-    /// A part without a record.
-    PartAlone,
     /// One file for these two options, of which one is written.
     OneFile(&'static str, &'static str, String),
-    /// A number of seconds that an option does not take.
-    NoSeconds(&'static str, String),
     /// A run that is not confirmed.
     NotConfirmed,
     /// A record that the run may not continue; never because memory ran out.
@@ -80,92 +59,24 @@ pub fn cannot_write(name: String, kind: ErrorKind) -> OrderFault {
     OrderFault::CannotWrite(unwritten(name, why(kind)))
 }
 
-/// Writes why a command line is refused, as `clap` writes it.
-fn write_refusal<W: fmt::Write>(f: &mut fmt::Formatter<W>, why: &str) -> fmt::Result {
-    write!(f, "error: {why}\n\nFor more information, try '--help'.\n")
-}
-
-/// Likewise, for a value that an option does not take.
-fn write_value<W: fmt::Write>(
-    f: &mut fmt::Formatter<W>,
-    value: &str,
-    option: &str,
-    why: &str,
-) -> fmt::Result {
-    write!(f, "error: invalid value '{value}' for '{option}'")?;
-    write!(f, "{why}\n\nFor more information, try '--help'.\n")
-}
-
-/// Likewise, for a number of seconds.
-fn write_seconds<W: fmt::Write>(
-    f: &mut fmt::Formatter<W>,
-    option: &str,
-    value: &str,
-) -> fmt::Result {
-    write!(
-        f,
-        "error: invalid value '{value}' for '--{option} <SECONDS>'"
-    )?;
-    write!(
-        f,
-        ": a number from 1 to 86400\n\nFor more information, try '--help'.\n"
-    )
-}
-
-/// Likewise, for two options that name one file.
-fn write_one_file<W: fmt::Write>(
-    f: &mut fmt::Formatter<W>,
-    first: &str,
-    second: &str,
-    name: &str,
-) -> fmt::Result {
-    write!(f, "error: '{first}' and '{second}' name one file, '{name}'")?;
-    write!(f, "\n\nFor more information, try '--help'.\n")
-}
-
-/// Writes what is shown for a record.
-fn write_record<W: fmt::Write>(
-    f: &mut fmt::Formatter<W>,
-    refusal: &RecordRefusal,
-    note: &str,
-) -> fmt::Result {
-    write!(f, "dme: {refusal} in record\n{note}")
-}
-
-/// Writes what is shown for an order, and then a text.
-fn write_order<W: fmt::Write>(
-    f: &mut fmt::Formatter<W>,
-    cause: &OrderFault,
-    place: &str,
-) -> fmt::Result {
-    write!(f, "{cause}{place}")
-}
-
 impl fmt::Display for Fault {
     fn fmt<W: fmt::Write>(&self, f: &mut fmt::Formatter<W>) -> fmt::Result {
         match self {
-            Fault::Words(error) => write!(f, "{error}"),
-            Fault::NotUtf8 => {
-                write_refusal(f, "invalid UTF-8 was detected in one or more arguments")
-            }
-            Fault::NoCode(code) => write_value(f, code, "<CODE>", ": no refusal has this code"),
-            Fault::NoForm(word) => write_value(f, word, "--as <FORM>", FORMS),
-            Fault::NoFindingForm(word) => write_value(f, word, "--as <FORM>", FINDING_FORMS),
-            Fault::Misfits(why) => write!(f, "{why}"),
-            Fault::NoPart(part) => {
-                write_value(f, part, "--part <TEXT>", ": 1 to 64 printable bytes")
-            }
-            Fault::PartAlone => write_refusal(
-                f,
-                "the argument '--part <TEXT>' requires '--record <FILE>'",
+            Fault::Words(fault) => write!(f, "{fault}"),
+            Fault::NotUtf8 => f.write_str(
+                "error: invalid UTF-8 was detected in one or more arguments\n\nFor more information, try '--help'.\n",
             ),
-            Fault::OneFile(first, second, name) => write_one_file(f, first, second, name),
-            Fault::NoSeconds(option, text) => write_seconds(f, option, text),
+            Fault::OneFile(first, second, name) => write!(
+                f,
+                "error: '{first}' and '{second}' name one file, '{name}'\n\nFor more information, try '--help'.\n"
+            ),
             Fault::NotConfirmed => write!(f, "dme: not confirmed, nothing has moved\n"),
-            Fault::Record(refusal) => write_record(f, refusal, ""),
-            Fault::ExplainedRecord(refusal, note) => write_record(f, refusal, note),
-            Fault::Order(cause) => write_order(f, cause, ""),
-            Fault::Explained(cause, place) => write_order(f, cause, place),
+            Fault::Record(refusal) => write!(f, "dme: {refusal} in record\n"),
+            Fault::ExplainedRecord(refusal, note) => {
+                write!(f, "dme: {refusal} in record\n{note}")
+            }
+            Fault::Order(cause) => write!(f, "{cause}"),
+            Fault::Explained(cause, place) => write!(f, "{cause}{place}"),
         }
     }
 }
@@ -178,11 +89,8 @@ impl From<WordsFault> for Fault {
 
     fn from(fault: WordsFault) -> Fault {
         match fault {
-            WordsFault::Line(error) => Fault::Words(error),
-            WordsFault::NoCode(code) => Fault::NoCode(code),
-            WordsFault::NoForm(word) => Fault::NoForm(word),
-            WordsFault::Misfits(why) => Fault::Misfits(why),
             WordsFault::Memory => Fault::Order(OrderFault::Memory),
+            fault => Fault::Words(fault),
         }
     }
 }
@@ -240,9 +148,7 @@ impl Fault {
         ensures { result ≡ exit_status self.now }
     {
         match self {
-            Fault::Words(_) | Fault::NotUtf8 | Fault::NoCode(_) | Fault::NoForm(_) => 2,
-            Fault::Misfits(_) | Fault::NoPart(_) | Fault::PartAlone => 2,
-            Fault::OneFile(_, _, _) | Fault::NoSeconds(_, _) | Fault::NoFindingForm(_) => 2,
+            Fault::Words(_) | Fault::NotUtf8 | Fault::OneFile(_, _, _) => 2,
             Fault::NotConfirmed | Fault::Record(_) | Fault::ExplainedRecord(_, _) => 1,
             Fault::Order(cause) | Fault::Explained(cause, _) => cause.status(),
         }

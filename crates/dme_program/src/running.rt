@@ -102,17 +102,6 @@ fn check<R: Files + Input + Print + AllocGlobal>(rt: &R, order: Check) -> Result
     Err(refused_program(rt.alloc(), fault, setup, program, order.explain))
 }
 
-/// The form of findings that a word names; lines if there is none.
-fn finding_form(word: Option<String>) -> Result<FindingForm, Fault> {
-    let Some(word) = word else {
-        return Ok(FindingForm::Lines);
-    };
-    match word.as_str() {
-        "json" => Ok(FindingForm::Json),
-        _ => Err(Fault::NoFindingForm(word)),
-    }
-}
-
 /// A copy of the name of a file, if one is named; else the empty text.
 fn name_of(alloc: Global, file: &Option<String>) -> Result<String, AllocError> {
     match file {
@@ -124,7 +113,11 @@ fn name_of(alloc: Global, file: &Option<String>) -> Result<String, AllocError> {
 /// The order `review`: its exit status.
 #[inline(never)]
 fn review<R: Files + Input + Print + AllocGlobal>(rt: &R, order: Review) -> Result<u8, Fault> {
-    let form = finding_form(order.form)?;
+    let form = if order.is_json {
+        FindingForm::Json
+    } else {
+        FindingForm::Lines
+    };
     let mut sources = Sources::new(rt, false);
     let name = String::from_str(rt.alloc(), order.program.as_str())?;
     let setup_name = name_of(rt.alloc(), &order.setup)?;

@@ -22,7 +22,7 @@ use dme_orders::{
 };
 use dme_sockets::{
     Called, HeardPort, Log, Patience, PatientSink, PatientSource, Refusals, SaidPort, Side,
-    StopFile, Talk, call_server, leave, seconds_of,
+    StopFile, Talk, call_server, leave,
 };
 use dme_words::Run;
 use dmis_program::Program;
@@ -809,11 +809,10 @@ fn run_order<
 >(rt: &R, order: &mut Run, last: &mut Option<LastLine>) -> Result<u8, Fault>
     requires { is_window order.old.window ≡ true }
 {
-    let timeout = seconds_of("timeout", order.timeout.take())?;
-    let wait = seconds_of("wait", order.wait.take())?;
     refuse_meeting(rt, order)?;
-    let record = record_words(order.record.take(), order.part.take(), order.explain)?;
-    let patience = Patience::new(rt, timeout, order.stop.take());
+    let wait = order.wait;
+    let record = record_words(order.record.take(), order.part.take(), order.explain);
+    let patience = Patience::new(rt, order.timeout, order.stop.take());
     let mut held = HeldFiles::none();
     let done = run_limited(
         rt,

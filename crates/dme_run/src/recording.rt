@@ -17,7 +17,7 @@ use link_world::Watcher;
 use record_keeping::{Beginning, RecordRefusal, Recorder, begin_record};
 use recorded_runs::Reports;
 use refusal_guide::{Refused, write_other_part, write_other_program, write_place};
-use run_record::{RecordFault, is_part, read_record};
+use run_record::{RecordFault, read_record};
 use std::alloc::{AllocError, Global};
 use std::cell::RefCell;
 use std::fs::File;
@@ -34,27 +34,17 @@ pub struct RecordWords {
     pub explain: bool,
 }
 
-/// Which record the words of a command line name. A part needs a record, and has from 1 to 64 printable bytes.
+/// Which record the words of a command line name.
 pub fn record_words(
     record: Option<String>,
     part: Option<String>,
     explain: bool,
-) -> Result<Option<RecordWords>, Fault> {
-    let part = match part {
-        Some(part) if !is_part(part.as_bytes()) => return Err(Fault::NoPart(part)),
-        part => part,
-    };
-    let Some(name) = record else {
-        return match part {
-            Some(_) => Err(Fault::PartAlone),
-            None => Ok(None),
-        };
-    };
-    Ok(Some(RecordWords {
-        name,
+) -> Option<RecordWords> {
+    Some(RecordWords {
+        name: record?,
         part,
         explain,
-    }))
+    })
 }
 
 /// The whole text of a record's file; none if there is no such file.

@@ -11,7 +11,7 @@ use dme_orders::{
 };
 use dme_sockets::{
     HeardPort, Log, Patience, PatientSink, PatientSource, SaidPort, Side, Talk, next_connection,
-    no_connection, seconds_of,
+    no_connection,
 };
 use dme_words::Service;
 use link_world::{LoopFault, PumpFault, ServerWatcher, Simulated};
@@ -344,7 +344,7 @@ fn serve_order<
         + Net<Listener = TcpListener, Stream = TcpStream>
         + AllocGlobal,
 >(rt: &R, order: &mut Service) -> Result<u8, Fault> {
-    let timeout = seconds_of("timeout", order.timeout.take())?;
+    let timeout = order.timeout;
     let setup = setup_of(rt, order)?;
     let log = Log::named(rt, order.log.take());
     let talk = RefCell::new(Talk::new(rt, order.trace, log));

@@ -17,4 +17,4 @@ pub use calling::{Called, call_server, leave, no_connection};
 pub use refusals::{Refusals, touches_of};
 pub use taking::next_connection;
 pub use talking::{HeardPort, Log, SaidPort, Side, Talk};
-pub use waiting::{LOOK_MS, Lapse, Patience, PatientSink, PatientSource, StopFile, seconds_of};
+pub use waiting::{LOOK_MS, Lapse, Patience, PatientSink, PatientSource, StopFile};

@@ -18,9 +18,6 @@ use std::time::{Duration, Instant};
 /// How long it waits before it looks at the stop file and at the time again, in milliseconds.
 pub const LOOK_MS: u64 = 100;
 
-/// The most seconds that an option takes: a day.
-const SECONDS_MAX: u32 = 86_400;
-
 /// The exit status of a run that its stop file has kept from beginning: that of a run that is Halted.
 const NOT_BEGUN: u8 = 3;
 
@@ -44,15 +41,6 @@ enum Waited {
     Stopped,
     /// The time is over.
     Lapsed,
-}
-
-/// The number of seconds that the option of this name is given, from 1 to 86,400.
-pub fn seconds_of(option: &'static str, text: Option<String>) -> Result<Option<u32>, Fault> {
-    let Some(text) = text else { return Ok(None) };
-    match text.parse::<u32>() {
-        Ok(seconds) if seconds >= 1 && seconds <= SECONDS_MAX => Ok(Some(seconds)),
-        _ => Err(Fault::NoSeconds(option, text)),
-    }
 }
 
 /// The time limit and the stop file of an order, and how long it has been waiting.

@@ -7,7 +7,6 @@ use dme_files::{Fault, Journal, NextJournal};
 use dme_orders::OrderFault;
 use dme_sockets::{
     Called, LOOK_MS, Log, Patience, Side, Talk, call_server, next_connection, no_connection,
-    seconds_of,
 };
 use dme_words::Watch;
 use mio::net::TcpStream as Socket;
@@ -630,7 +629,6 @@ fn watch_order<
         + Clone
         + Drop,
 >(rt: &R, order: &mut Watch) -> Result<u8, Fault> {
-    let timeout = seconds_of("timeout", order.timeout.take())?;
     let (listener, recording, told) = listen(rt, order)?;
     let log = Log::named(rt, order.log.take());
     let mut keeper = Keeper {
@@ -642,7 +640,7 @@ fn watch_order<
         has_failed: false,
         is_bare: false,
     };
-    let patience = Patience::new(rt, timeout, None);
+    let patience = Patience::new(rt, order.timeout, None);
     let status = relay_all(&mut keeper, &listener, order, &patience);
     drop(patience);
     drop(keeper);

@@ -7,13 +7,13 @@ use Rattle.std.proofs.lemmas.Option.{none-some}
 use Rattle.std.proofs.lemmas.Slice.Eq.{bytes_eq-Decides}
 use Rattle.std.specs.Str.{bytes_eq}
 use Rattle.clap.specs.Walk.{Text, answers_to, nothing_held, rows_after, walk, walk_from}
-use Rattle.clap.specs.Simple.{App, Shape, argument_words, built, built_leaf, entered, inherited, label_of, marked_built, names_of}
-use Rattle.clap.specs.Simple.{on_top, rows_at, subcommand_of, with_leaf_noted}
+use Rattle.clap.specs.Simple.{App, Shape, argument_words, built, entered, label_of, names_of}
+use Rattle.clap.specs.Simple.{rows_at, subcommand_of}
 use Rattle.clap.specs.Faults.{entered_fault, fault_of, level_fault, walk_fault}
 use Rattle.dme_words.specs.CommandLine.{audit_line, check_line, explain_line, export_line, judge_line, ledger_line, loop_line, run_line, serve_line, simulate_line, watch_line, whole_line}
-use Rattle.dme_words.specs.Ordered.{HasExplained, HasExport, HasJudge, HasLedger, HasLoop, HasRun, HasService, HasSimulation, HasValue, HasWatch, IsAskable}
+use Rattle.dme_words.specs.Ordered.{Has, IsAskable, leaf}
 use Rattle.dme_words.proofs.HelpLemmas.{NotAtHelp, entered_there, first_none, second_none, walk_stops}
-use Rattle.dme_words.proofs.FoundLemmas.{has_flag, has_number, has_value, level_found}
+use Rattle.dme_words.proofs.FoundLemmas.{level_has}
 
 -- each of these subcommands may be asked for where it answers to the word and has no fault
 abbrev Serve : Text → List Text → List Shape → Type 0
@@ -46,149 +46,60 @@ no_help word words free answers = go (bytes_eq (codes "help") word) refl answers
     go true is answers = free words (ap (λ (name : Text). Some (name, words)) (sym ((bytes_eq-Decides (codes "help") word).0 is)))
     go false is answers = true≢false (sym answers)
 
--- a subcommand of `dme` as it is built
-abbrev leaf : App → Shape
-leaf a = built_leaf (inherited (on_top with_leaf_noted (on_top marked_built whole_line)).top a.top)
+checked : (words : List Text) → level_fault (leaf check_line) [] nothing_held words false [] ≡ [] → Has check_line (rows_after (leaf check_line).rules [] words)
+checked words none = level_has (leaf check_line) words refl
+    ((refl, inl (refl, refl)), ((refl, inr (inl (refl, omega arith))), ((refl, inl (refl, refl)), ((refl, inr (inr refl)), tt))))
+    none
 
-checked : (words : List Text) → level_fault (leaf check_line) [] nothing_held words false [] ≡ []
-    → HasExplained (rows_after (leaf check_line).rules [] words)
-checked words none =
-    let found = level_found (leaf check_line) words refl
-    ((refl, inl (refl, refl)), ((refl, inr (inl (refl, omega arith))), ((refl, inl (refl, refl)), ((refl, inr (inr refl)), tt)))) none in
-    has_flag (leaf check_line).rules _ (codes "explain") _ refl refl found.fit (found.defaulted.1.0 (omega arith))
-
-simulation : (words : List Text) → level_fault (leaf simulate_line) [] nothing_held words false [] ≡ []
-    → HasSimulation (rows_after (leaf simulate_line).rules [] words)
-simulation words none =
-    let c = (leaf simulate_line).rules in
-    let found = level_found (leaf simulate_line) words refl
+simulation : (words : List Text) → level_fault (leaf simulate_line) [] nothing_held words false [] ≡ [] → Has simulate_line (rows_after (leaf simulate_line).rules [] words)
+simulation words none = level_has (leaf simulate_line) words refl
     ((refl, inl (refl, refl)), ((refl, inl (refl, refl)), ((refl, inl (refl, refl)), ((refl, inr (inl (refl, omega arith))), ((refl, inr (inl (refl, omega arith))), ((refl, inl (refl, refl)), ((refl, inr (inr refl)), tt)))))))
-    none in
-    record {
-      setup = has_value c (codes "setup") _ refl found.fit (found.needed.0 refl);
-      schedule = has_value c (codes "schedule") _ refl found.fit (found.needed.1.0 refl);
-      window = has_number c _ (codes "window") 16 _ refl refl found.fit (found.defaulted.1.1.0 (omega arith));
-      trace = has_flag c _ (codes "trace") _ refl refl found.fit (found.defaulted.1.1.1.0 (omega arith));
-      explain = has_flag c _ (codes "explain") _ refl refl found.fit (found.defaulted.1.1.1.1.0 (omega arith));
-    }
+    none
 
-audit : (words : List Text) → level_fault (leaf audit_line) [] nothing_held words false [] ≡ []
-    → HasExplained (rows_after (leaf audit_line).rules [] words)
-audit words none =
-    let found = level_found (leaf audit_line) words refl
+audit : (words : List Text) → level_fault (leaf audit_line) [] nothing_held words false [] ≡ [] → Has audit_line (rows_after (leaf audit_line).rules [] words)
+audit words none = level_has (leaf audit_line) words refl
     ((refl, inl (refl, refl)), ((refl, inl (refl, refl)), ((refl, inl (refl, refl)), ((refl, inl (refl, refl)), ((refl, inr (inl (refl, omega arith))), ((refl, inl (refl, refl)), ((refl, inr (inr refl)), tt)))))))
-    none in
-    has_flag (leaf audit_line).rules _ (codes "explain") _ refl refl found.fit (found.defaulted.1.1.1.1.0 (omega arith))
+    none
 
-loop : (words : List Text) → level_fault (leaf loop_line) [] nothing_held words false [] ≡ []
-    → HasLoop (rows_after (leaf loop_line).rules [] words)
-loop words none =
-    let c = (leaf loop_line).rules in
-    let found = level_found (leaf loop_line) words refl
+loop : (words : List Text) → level_fault (leaf loop_line) [] nothing_held words false [] ≡ [] → Has loop_line (rows_after (leaf loop_line).rules [] words)
+loop words none = level_has (leaf loop_line) words refl
     ((refl, inl (refl, refl)), ((refl, inl (refl, refl)), ((refl, inr (inl (refl, omega arith))), ((refl, inr (inl (refl, omega arith))), ((refl, inr (inl (refl, omega arith))), ((refl, inl (refl, refl)), ((refl, inr (inr refl)), tt)))))))
-    none in
-    record {
-      setup = has_value c (codes "setup") _ refl found.fit (found.needed.0 refl);
-      window = has_number c _ (codes "window") 16 _ refl refl found.fit (found.defaulted.1.0 (omega arith));
-      progress = has_flag c _ (codes "progress") _ refl refl found.fit (found.defaulted.1.1.0 (omega arith));
-      trace = has_flag c _ (codes "trace") _ refl refl found.fit (found.defaulted.1.1.1.0 (omega arith));
-      explain = has_flag c _ (codes "explain") _ refl refl found.fit (found.defaulted.1.1.1.1.0 (omega arith));
-    }
+    none
 
-service : (words : List Text) → level_fault (leaf serve_line) [] nothing_held words false [] ≡ []
-    → HasService (rows_after (leaf serve_line).rules [] words)
-service words none =
-    let c = (leaf serve_line).rules in
-    let found = level_found (leaf serve_line) words refl
+service : (words : List Text) → level_fault (leaf serve_line) [] nothing_held words false [] ≡ [] → Has serve_line (rows_after (leaf serve_line).rules [] words)
+service words none = level_has (leaf serve_line) words refl
     ((refl, inl (refl, refl)), ((refl, inl (refl, refl)), ((refl, inl (refl, refl)), ((refl, inl (refl, refl)), ((refl, inr (inl (refl, omega arith))), ((refl, inl (refl, refl)), ((refl, inr (inl (refl, omega arith))), ((refl, inr (inl (refl, omega arith))), ((refl, inl (refl, refl)), ((refl, inl (refl, refl)), ((refl, inl (refl, refl)), ((refl, inr (inl (refl, omega arith))), ((refl, inr (inr refl)), tt)))))))))))))
-    none in
-    record {
-      setup = has_value c (codes "setup") _ refl found.fit (found.needed.0 refl);
-      port = has_number c _ (codes "port") 65535 _ refl refl found.fit (found.needed.1.1.0 refl);
-      connections = has_number c _ (codes "connections") 4000000000 _ refl refl found.fit (found.defaulted.1.1.1.0 (omega arith));
-      endless = has_flag c _ (codes "endless") _ refl refl found.fit (found.defaulted.1.1.1.1.0 (omega arith));
-      progress = has_flag c _ (codes "progress") _ refl refl found.fit (found.defaulted.1.1.1.1.1.1.0 (omega arith));
-      trace = has_flag c _ (codes "trace") _ refl refl found.fit (found.defaulted.1.1.1.1.1.1.1.0 (omega arith));
-      explain = has_flag c _ (codes "explain") _ refl refl found.fit (found.defaulted.1.1.1.1.1.1.1.1.1.1.1.0 (omega arith));
-    }
+    none
 
-driven : (words : List Text) → level_fault (leaf run_line) [] nothing_held words false [] ≡ []
-    → HasRun (rows_after (leaf run_line).rules [] words)
-driven words none =
-    let c = (leaf run_line).rules in
-    let found = level_found (leaf run_line) words refl
+driven : (words : List Text) → level_fault (leaf run_line) [] nothing_held words false [] ≡ [] → Has run_line (rows_after (leaf run_line).rules [] words)
+driven words none = level_has (leaf run_line) words refl
     ((refl, inl (refl, refl)), ((refl, inl (refl, refl)), ((refl, inl (refl, refl)), ((refl, inl (refl, refl)), ((refl, inl (refl, refl)), ((refl, inl (refl, refl)), ((refl, inl (refl, refl)), ((refl, inl (refl, refl)), ((refl, inr (inl (refl, omega arith))), ((refl, inr (inl (refl, omega arith))), ((refl, inl (refl, refl)), ((refl, inl (refl, refl)), ((refl, inl (refl, refl)), ((refl, inl (refl, refl)), ((refl, inr (inl (refl, omega arith))), ((refl, inr (inl (refl, omega arith))), ((refl, inl (refl, refl)), ((refl, inr (inr refl)), tt))))))))))))))))))
-    none in
-    record {
-      setup = has_value c (codes "setup") _ refl found.fit (found.needed.0 refl);
-      host = has_value c (codes "host") _ refl found.fit (found.needed.1.0 refl);
-      port = has_number c _ (codes "port") 65535 _ refl refl found.fit (found.needed.1.1.0 refl);
-      window = has_number c _ (codes "window") 16 _ refl refl found.fit (found.defaulted.1.1.1.0 (omega arith));
-      progress = has_flag c _ (codes "progress") _ refl refl found.fit (found.defaulted.1.1.1.1.1.1.1.1.0 (omega arith));
-      trace = has_flag c _ (codes "trace") _ refl refl found.fit (found.defaulted.1.1.1.1.1.1.1.1.1.0 (omega arith));
-      confirm = has_flag c _ (codes "confirm") _ refl refl found.fit (found.defaulted.1.1.1.1.1.1.1.1.1.1.1.1.1.1.0 (omega arith));
-      explain = has_flag c _ (codes "explain") _ refl refl found.fit (found.defaulted.1.1.1.1.1.1.1.1.1.1.1.1.1.1.1.0 (omega arith));
-    }
+    none
 
-explained : (words : List Text) → level_fault (leaf explain_line) [] nothing_held words false [] ≡ []
-    → HasValue (codes "CODE") (rows_after (leaf explain_line).rules [] words)
-explained words none =
-    let found = level_found (leaf explain_line) words refl ((refl, inl (refl, refl)), ((refl, inr (inr refl)), tt)) none in
-    has_value (leaf explain_line).rules (codes "CODE") _ refl found.fit (found.needed.0 refl)
+explained : (words : List Text) → level_fault (leaf explain_line) [] nothing_held words false [] ≡ [] → Has explain_line (rows_after (leaf explain_line).rules [] words)
+explained words none = level_has (leaf explain_line) words refl
+    ((refl, inl (refl, refl)), ((refl, inr (inr refl)), tt))
+    none
 
-export : (words : List Text) → level_fault (leaf export_line) [] nothing_held words false [] ≡ []
-    → HasExport (rows_after (leaf export_line).rules [] words)
-export words none =
-    let c = (leaf export_line).rules in
-    let found = level_found (leaf export_line) words refl
+export : (words : List Text) → level_fault (leaf export_line) [] nothing_held words false [] ≡ [] → Has export_line (rows_after (leaf export_line).rules [] words)
+export words none = level_has (leaf export_line) words refl
     ((refl, inl (refl, refl)), ((refl, inl (refl, refl)), ((refl, inl (refl, refl)), ((refl, inl (refl, refl)), ((refl, inr (inl (refl, omega arith))), ((refl, inl (refl, refl)), ((refl, inr (inr refl)), tt)))))))
-    none in
-    record {
-      form = has_value c (codes "as") _ refl found.fit (found.needed.0 refl);
-      explain = has_flag c _ (codes "explain") _ refl refl found.fit (found.defaulted.1.1.1.1.0 (omega arith));
-    }
+    none
 
-witnessed : (words : List Text) → level_fault (leaf ledger_line) [] nothing_held words false [] ≡ []
-    → HasLedger (rows_after (leaf ledger_line).rules [] words)
-witnessed words none =
-    let c = (leaf ledger_line).rules in
-    let found = level_found (leaf ledger_line) words refl
+witnessed : (words : List Text) → level_fault (leaf ledger_line) [] nothing_held words false [] ≡ [] → Has ledger_line (rows_after (leaf ledger_line).rules [] words)
+witnessed words none = level_has (leaf ledger_line) words refl
     ((refl, inl (refl, refl)), ((refl, inl (refl, refl)), ((refl, inl (refl, refl)), ((refl, inr (inr refl)), tt))))
-    none in
-    record {
-      up = has_value c (codes "up") _ refl found.fit (found.needed.0 refl);
-      down = has_value c (codes "down") _ refl found.fit (found.needed.1.0 refl);
-      connection = has_number c _ (codes "connection") 4000000000 _ refl refl found.fit (found.defaulted.1.1.0 (omega arith));
-    }
+    none
 
-judged : (words : List Text) → level_fault (leaf judge_line) [] nothing_held words false [] ≡ []
-    → HasJudge (rows_after (leaf judge_line).rules [] words)
-judged words none =
-    let c = (leaf judge_line).rules in
-    let found = level_found (leaf judge_line) words refl
+judged : (words : List Text) → level_fault (leaf judge_line) [] nothing_held words false [] ≡ [] → Has judge_line (rows_after (leaf judge_line).rules [] words)
+judged words none = level_has (leaf judge_line) words refl
     ((refl, inl (refl, refl)), ((refl, inl (refl, refl)), ((refl, inr (inr refl)), tt)))
-    none in
-    record {
-      up = has_value c (codes "up") _ refl found.fit (found.needed.0 refl);
-      down = has_value c (codes "down") _ refl found.fit (found.needed.1.0 refl);
-    }
+    none
 
-relayed : (words : List Text) → level_fault (leaf watch_line) [] nothing_held words false [] ≡ []
-    → HasWatch (rows_after (leaf watch_line).rules [] words)
-relayed words none =
-    let c = (leaf watch_line).rules in
-    let found = level_found (leaf watch_line) words refl
+relayed : (words : List Text) → level_fault (leaf watch_line) [] nothing_held words false [] ≡ [] → Has watch_line (rows_after (leaf watch_line).rules [] words)
+relayed words none = level_has (leaf watch_line) words refl
     ((refl, inl (refl, refl)), ((refl, inl (refl, refl)), ((refl, inl (refl, refl)), ((refl, inl (refl, refl)), ((refl, inl (refl, refl)), ((refl, inl (refl, refl)), ((refl, inr (inl (refl, omega arith))), ((refl, inr (inl (refl, omega arith))), ((refl, inl (refl, refl)), ((refl, inl (refl, refl)), ((refl, inr (inr refl)), tt)))))))))))
-    none in
-    record {
-      listen = has_number c _ (codes "listen") 65535 _ refl refl found.fit (found.needed.0 refl);
-      host = has_value c (codes "host") _ refl found.fit (found.needed.1.0 refl);
-      port = has_number c _ (codes "port") 65535 _ refl refl found.fit (found.needed.1.1.0 refl);
-      told = has_value c (codes "told") _ refl found.fit (found.needed.1.1.1.0 refl);
-      connections = has_number c _ (codes "connections") 4000000000 _ refl refl found.fit (found.defaulted.1.1.1.1.1.0 (omega arith));
-      endless = has_flag c _ (codes "endless") _ refl refl found.fit (found.defaulted.1.1.1.1.1.1.0 (omega arith));
-      trace = has_flag c _ (codes "trace") _ refl refl found.fit (found.defaulted.1.1.1.1.1.1.1.0 (omega arith));
-    }
+    none
 
 -- each subcommand of `dme` may be asked for, and `help` was not met
 serves : (p : Text × List Text) → NotAtHelp (Some p) → Serve p.0 p.1 (built whole_line).subs

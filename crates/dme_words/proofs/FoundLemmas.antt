@@ -1,7 +1,7 @@
 -- What a subcommand without a fault has found: the values that it cannot do without, each passed by the parser of its argument.
 use Rattle.std.proofs.Common.{◌≡◌, ◌<◌, ◌&&◌, ◌||◌, not, Bool, true, false, List, [], ◌∷◌, ◌++◌, fold, find, length}
 use Rattle.std.proofs.Common.{Option, Some, None, is_some, cond, refl, arith, ap, sym, subst, true≢false, ◌∙◌}
-use Rattle.std.specs.Prelude.{ℕ, codes, pos}
+use Rattle.std.specs.Prelude.{ℕ, ℤ, codes, negsuc, pos}
 use Rattle.std.specs.List.{list_any}
 use Rattle.std.specs.Option.{option_map_or}
 use Rattle.std.specs.Str.{bytes_eq}
@@ -22,9 +22,9 @@ use Rattle.clap.specs.declared.error.kind.ErrorKind.{ErrorKind}
 use Rattle.clap.specs.declared.parser.matches.ValueSource.TheVariants.{DefaultValue}
 use Rattle.clap.specs.declared.builder.value_parser.Reading.{Reading}
 use Rattle.clap.specs.declared.builder.value_parser.ValueParser.{ValueParser}
-use Rattle.clap.specs.declared.builder.value_parser.ValueParser.TheVariants.{Bool as OfBool, Signed}
+use Rattle.clap.specs.declared.builder.value_parser.ValueParser.TheVariants.{Bool as OfBool, Boolish, Char, Falsey, Float, Names, NonEmptyString, Signed, String, Unsigned, Values}
 use Rattle.clap.proofs.ValueTestLemmas.{accepts-Accepts}
-use Rattle.dme_words.specs.Ordered.{HasFlag, HasNumber, HasValue}
+use Rattle.dme_words.specs.Ordered.{HasAll, HasFlag, HasIf, HasRead, HasSigned, HasValue, has_default}
 use Rattle.dme_words.proofs.HelpLemmas.{first_none, second_none, not_empty}
 use Rattle.dme_words.proofs.LevelLemmas.{AllFit, Fits, Known, Knows, fit_with, settle_fits, walk_fits}
 
@@ -156,12 +156,12 @@ wants_none false false false none = refl
 -- ---- a level
 
 -- what a subcommand without a fault has found
-pub record Found (c : List Rule) (rows : List Row) : Type 0 where
+record Found (c : List Rule) (rows : List Row) : Type 0 where
   pub fit : AllFit c rows
   pub defaulted : HasDefaulted rows c
   pub needed : HasNeeded rows c
 
-pub level_found : (s : Shape) (words : List Text) → s.subcommand_negates_reqs ≡ false → Knows s.rules s.rules
+level_found : (s : Shape) (words : List Text) → s.subcommand_negates_reqs ≡ false → Knows s.rules s.rules
     → level_fault s [] nothing_held words false [] ≡ [] → Found s.rules (rows_after s.rules [] words)
 level_found s words strict all none =
     let end : Held = (walk s.rules [] nothing_held words).held in
@@ -234,7 +234,7 @@ accepted true k none = refl
 accepted false k none = absurd (not_empty _ _ none)
 
 -- an option with a row has a value
-pub has_value : (c : List Rule) (id : Text) (rows : List Row) → is_some (arg_by_id c id) ≡ true → AllFit c rows → has_row id rows ≡ true
+has_value : (c : List Rule) (id : Text) (rows : List Row) → is_some (arg_by_id c id) ≡ true → AllFit c rows → has_row id rows ≡ true
     → HasValue id rows
 has_value c id rows known fit has = go (arg_by_id c id) refl known
   where
@@ -243,18 +243,18 @@ has_value c id rows known fit has = go (arg_by_id c id) refl known
     go (Some a) is known = ap is_some (value_passed c a id rows is fit has).first
 
 -- a number with a row is in range
-pub has_number : (c : List Rule) (a : Rule) (id : Text) (most : ℕ) (rows : List Row) → arg_by_id c id ≡ Some a
-    → a.parser ≡ Some (Signed (pos 1) (pos most)) → AllFit c rows → has_row id rows ≡ true → HasNumber id most rows
-has_number c a id most rows is parser fit has =
+has_number : (c : List Rule) (a : Rule) (id : Text) (low : ℕ) (high : ℤ) (rows : List Row) → arg_by_id c id ≡ Some a
+    → a.parser ≡ Some (Signed (pos low) high) → AllFit c rows → has_row id rows ≡ true → HasSigned id (pos low) high rows
+has_number c a id low high rows is parser fit has =
     let value = value_passed c a id rows is fit has in
-    let ranged : value_kinds a.ignore_case (Signed (pos 1) (pos most)) value.text ≡ [] =
+    let ranged : value_kinds a.ignore_case (Signed (pos low) high) value.text ≡ [] =
     subst (λ (o : Option ValueParser). value_kinds a.ignore_case (parser_of_value o) value.text ≡ []) parser value.passed in
     record {
       text = value.text;
       written = value.first;
       read = subst (λ (o : Option ValueParser). one_of id rows ≡ Some (read_as (reading_of (parser_of_value o)) value.text)) parser
           value.read;
-      ranged = accepts-Accepts a.ignore_case (Signed (pos 1) (pos most)) value.text (accepted _ _ ranged);
+      ranged = accepts-Accepts a.ignore_case (Signed (pos low) high) value.text (accepted _ _ ranged);
     }
 
 -- a text that is `true` or `false` writes one of the two
@@ -272,7 +272,7 @@ written_bool id text rows is first read = go (bytes_eq text (codes "true")) refl
     go false raised false lowered is = absurd (true≢false (sym is))
 
 -- the flag with a row is set, or it is not
-pub has_flag : (c : List Rule) (a : Rule) (id : Text) (rows : List Row) → arg_by_id c id ≡ Some a → a.parser ≡ Some OfBool
+has_flag : (c : List Rule) (a : Rule) (id : Text) (rows : List Row) → arg_by_id c id ≡ Some a → a.parser ≡ Some OfBool
     → AllFit c rows → has_row id rows ≡ true → HasFlag id rows
 has_flag c a id rows is parser fit has =
     let value = value_passed c a id rows is fit has in
@@ -281,3 +281,46 @@ has_flag c a id rows is parser fit has =
     written_bool id value.text rows (accepted _ _ passed) value.first
     (subst (λ (o : Option ValueParser). one_of id rows ≡ Some (read_as (reading_of (parser_of_value o)) value.text)) parser
     value.read)
+
+-- an argument with a row has what its parser asks for
+has_read : (c : List Rule) (a : Rule) (p : Option ValueParser) (rows : List Row) → arg_by_id c a.id ≡ Some a → a.parser ≡ p
+    → AllFit c rows → has_row a.id rows ≡ true → HasRead p a.id rows
+has_read c a (Some OfBool) rows is parser fit has = has_flag c a a.id rows is parser fit has
+has_read c a (Some (Signed (pos low) high)) rows is parser fit has = has_number c a a.id low high rows is parser fit has
+has_read c a (Some (Signed (negsuc low) high)) rows is parser fit has = has_value c a.id rows (ap is_some is) fit has
+has_read c a None rows is parser fit has = has_value c a.id rows (ap is_some is) fit has
+has_read c a (Some String) rows is parser fit has = has_value c a.id rows (ap is_some is) fit has
+has_read c a (Some NonEmptyString) rows is parser fit has = has_value c a.id rows (ap is_some is) fit has
+has_read c a (Some Boolish) rows is parser fit has = has_value c a.id rows (ap is_some is) fit has
+has_read c a (Some Falsey) rows is parser fit has = has_value c a.id rows (ap is_some is) fit has
+has_read c a (Some (Unsigned low high)) rows is parser fit has = has_value c a.id rows (ap is_some is) fit has
+has_read c a (Some Float) rows is parser fit has = has_value c a.id rows (ap is_some is) fit has
+has_read c a (Some Char) rows is parser fit has = has_value c a.id rows (ap is_some is) fit has
+has_read c a (Some (Names names)) rows is parser fit has = has_value c a.id rows (ap is_some is) fit has
+has_read c a (Some (Values values)) rows is parser fit has = has_value c a.id rows (ap is_some is) fit has
+
+-- an argument that is needed or has a default has a row
+has_one : (c : List Rule) (a : Rule) (rows : List Row) → arg_by_id c a.id ≡ Some a → AllFit c rows
+    → (0 < length a.defaults → has_row a.id rows ≡ true) → (a.required ≡ true → has_row a.id rows ≡ true)
+    → HasIf (a.required || has_default a.defaults) (HasRead a.parser a.id rows)
+has_one c a rows is fit defaulted needed = go a.required refl a.defaults refl
+  where
+    go : (r : Bool) → a.required ≡ r → (values : List Text) → a.defaults ≡ values
+        → HasIf (r || has_default values) (HasRead a.parser a.id rows)
+    go true wanted values same = has_read c a a.parser rows is refl fit (needed wanted)
+    go false wanted [] same = tt
+    go false wanted (v ∷ vs) same =
+        has_read c a a.parser rows is refl fit (defaulted (subst (λ (xs : List Text). 0 < length xs) (sym same) (omega arith)))
+
+has_all : (c rules : List Rule) (rows : List Row) → Knows c rules → AllFit c rows → HasDefaulted rows rules → HasNeeded rows rules
+    → HasAll rules rows
+has_all c [] rows all fit defaulted needed = tt
+has_all c (a ∷ rest) rows all fit defaulted needed =
+    (has_one c a rows all.0.0 fit defaulted.0 needed.0, has_all c rest rows all.1 fit defaulted.1 needed.1)
+
+-- a subcommand without a fault has all its values
+pub level_has : (s : Shape) (words : List Text) → s.subcommand_negates_reqs ≡ false → Knows s.rules s.rules
+    → level_fault s [] nothing_held words false [] ≡ [] → HasAll s.rules (rows_after s.rules [] words)
+level_has s words strict all none =
+    let found = level_found s words strict all none in
+    has_all s.rules s.rules (rows_after s.rules [] words) all found.fit found.defaulted found.needed

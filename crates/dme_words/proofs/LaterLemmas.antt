@@ -2,9 +2,10 @@
 use Rattle.std.proofs.Common.{◌≡◌, ◌∙◌, List, codes, sym, inl, inr, true≢false}
 use Rattle.std.proofs.lemmas.Slice.Eq.{bytes_eq-Decides}
 use Rattle.clap.specs.Walk.{Row, Text}
-use Rattle.dme_words.specs.Ordered.{HasRun, HasService, HasWatch, IsLaterAskable}
+use Rattle.dme_words.specs.CommandLine.{run_line, serve_line, watch_line}
+use Rattle.dme_words.specs.Ordered.{Has, IsLaterAskable}
 
-pub has_service : (p : Text × List Row) → IsLaterAskable p → p.0 ≡ codes "serve" → HasService p.1
+pub has_service : (p : Text × List Row) → IsLaterAskable p → p.0 ≡ codes "serve" → Has serve_line p.1
 has_service p (inl (is, has)) serve = has
 has_service p (inr (inl (is, has))) serve = absurd (true≢false (sym ((bytes_eq-Decides (codes "run") (codes "serve")).1 (sym is ∙ serve))))
 has_service p (inr (inr (inl (is, has)))) serve = absurd (true≢false (sym ((bytes_eq-Decides (codes "explain") (codes "serve")).1 (sym is ∙ serve))))
@@ -14,7 +15,7 @@ has_service p (inr (inr (inr (inr (inr (inl (is, has))))))) serve = absurd (true
 has_service p (inr (inr (inr (inr (inr (inr (inl (is, has)))))))) serve = absurd (true≢false (sym ((bytes_eq-Decides (codes "judge") (codes "serve")).1 (sym is ∙ serve))))
 has_service p (inr (inr (inr (inr (inr (inr (inr (is, has)))))))) serve = absurd (true≢false (sym ((bytes_eq-Decides (codes "watch") (codes "serve")).1 (sym is ∙ serve))))
 
-pub has_run : (p : Text × List Row) → IsLaterAskable p → p.0 ≡ codes "run" → HasRun p.1
+pub has_run : (p : Text × List Row) → IsLaterAskable p → p.0 ≡ codes "run" → Has run_line p.1
 has_run p (inl (is, has)) run = absurd (true≢false (sym ((bytes_eq-Decides (codes "serve") (codes "run")).1 (sym is ∙ run))))
 has_run p (inr (inl (is, has))) run = has
 has_run p (inr (inr (inl (is, has)))) run = absurd (true≢false (sym ((bytes_eq-Decides (codes "explain") (codes "run")).1 (sym is ∙ run))))
@@ -24,7 +25,7 @@ has_run p (inr (inr (inr (inr (inr (inl (is, has))))))) run = absurd (true≢fal
 has_run p (inr (inr (inr (inr (inr (inr (inl (is, has)))))))) run = absurd (true≢false (sym ((bytes_eq-Decides (codes "judge") (codes "run")).1 (sym is ∙ run))))
 has_run p (inr (inr (inr (inr (inr (inr (inr (is, has)))))))) run = absurd (true≢false (sym ((bytes_eq-Decides (codes "watch") (codes "run")).1 (sym is ∙ run))))
 
-pub has_watch : (p : Text × List Row) → IsLaterAskable p → p.0 ≡ codes "watch" → HasWatch p.1
+pub has_watch : (p : Text × List Row) → IsLaterAskable p → p.0 ≡ codes "watch" → Has watch_line p.1
 has_watch p (inl (is, has)) watch = absurd (true≢false (sym ((bytes_eq-Decides (codes "serve") (codes "watch")).1 (sym is ∙ watch))))
 has_watch p (inr (inl (is, has))) watch = absurd (true≢false (sym ((bytes_eq-Decides (codes "run") (codes "watch")).1 (sym is ∙ watch))))
 has_watch p (inr (inr (inl (is, has)))) watch = absurd (true≢false (sym ((bytes_eq-Decides (codes "explain") (codes "watch")).1 (sym is ∙ watch))))

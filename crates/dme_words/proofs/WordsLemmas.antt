@@ -1,5 +1,5 @@
 -- The order of a subcommand, from its name and its values.
-use Rattle.std.proofs.Common.{◌≡◌, Result, Ok, Err, IfOk, IfErr, inl, inr, List, [], subst, Option}
+use Rattle.std.proofs.Common.{◌≡◌, Result, Ok, Err, IfOk, IfErr, inl, inr, List, [], subst, Option, Some, None}
 use Rattle.std.proofs.Common.{refl, ap, sym, ◌∙◌}
 use Rattle.std.specs.Prelude.{IsErrAnd, IsSomeAnd, ◌≢◌}
 use Rattle.clap.specs.Words.{App, FailsBy, IsAmong, is_simple, subcommand_of, HasKind, kind_of, HasMatchesOf, Row, Text, fault_of}
@@ -7,9 +7,9 @@ use Rattle.clap.specs.Words.{subcommand_rows_of}
 use Rattle.clap.specs.declared.parser.matches.ArgMatches.{ArgMatches}
 use Rattle.dme_words.specs.declared.orders.Order.{Order}
 use Rattle.dme_words.specs.CommandLine.{whole_line}
-use Rattle.dme_words.specs.Ordered.{Asks, AsksForNothing, HasFault, HasNoValue, IsAskable, IsCalled, IsOrderOf, IsRefusal}
+use Rattle.dme_words.specs.Ordered.{Asks, AsksForNothing, HasFault, HasNoValue, IsAskable, IsCalled, IsOrderOf, IsRefusal, IsRefusedOf}
 use Rattle.dme_words.specs.declared.words.WordsFault.{WordsFault}
-use Rattle.dme_words.specs.declared.words.WordsFault.TheVariants.{Line, Memory, Misfits, NoCode, NoForm}
+use Rattle.dme_words.specs.declared.words.WordsFault.TheVariants.{Line, Memory, Misfits, NoCode, NoFindingForm, NoForm, NoPart, NoSeconds}
 use Rattle.clap.specs.declared.error.Error.{Error}
 use Rattle.clap.specs.declared.error.kind.ErrorKind.TheVariants.{OutOfMemory}
 use Rattle.dme_words.proofs.AskedLemmas.{asked}
@@ -43,12 +43,33 @@ has_no_value a words m fault is none has asks = record {
       ∙ ap (λ (x : App). subcommand_of x words) is) asks;
 }
 
+-- no subcommand is refused for a bad line
+no_line : (p : Text × List Row) (told : Error) → IsRefusedOf p (Line told) → ⊥
+no_line p told (inl none) = none
+no_line p told (inr (inl (is, none))) = none
+no_line p told (inr (inr (inl (is, none)))) = none
+no_line p told (inr (inr (inr (inl (is, inl (inl none)))))) = none
+no_line p told (inr (inr (inr (inl (is, inl (inr (inl none))))))) = none
+no_line p told (inr (inr (inr (inl (is, inl (inr (inr none))))))) = none
+no_line p told (inr (inr (inr (inl (is, inr none))))) = none
+no_line p told (inr (inr (inr (inr (inl (is, none)))))) = none
+no_line p told (inr (inr (inr (inr (inr (inl (is, none))))))) = none
+no_line p told (inr (inr (inr (inr (inr (inr (inl (is, none)))))))) = none
+no_line p told (inr (inr (inr (inr (inr (inr (inr (is, none)))))))) = none
+
+none_called : (found : Option (Text × List Row)) (told : Error) → AsksForNothing found (Line told) → ⊥
+none_called None told asks = asks
+none_called (Some p) told asks = no_line p told asks
+
 refused_value : (a : App) (words : List Text) (m : ArgMatches) (fault : WordsFault) → a ≡ whole_line → fault_of a words ≡ []
     → HasMatchesOf a words m → AsksForNothing (subcommand_rows_of m) fault → IsRefusal words fault
-refused_value a words m (Line told) is none has asks = absurd asks
+refused_value a words m (Line told) is none has asks = absurd (none_called (subcommand_rows_of m) told asks)
 refused_value a words m Memory is none has asks = tt
 refused_value a words m (NoCode code) is none has asks = has_no_value a words m (NoCode code) is none has asks
 refused_value a words m (NoForm word) is none has asks = has_no_value a words m (NoForm word) is none has asks
+refused_value a words m (NoFindingForm word) is none has asks = has_no_value a words m (NoFindingForm word) is none has asks
+refused_value a words m (NoSeconds option text) is none has asks = has_no_value a words m (NoSeconds option text) is none has asks
+refused_value a words m (NoPart part) is none has asks = has_no_value a words m (NoPart part) is none has asks
 refused_value a words m (Misfits why) is none has asks = has_no_value a words m (Misfits why) is none has asks
 
 -- what is asked or refused, by the answer of a parse
@@ -73,4 +94,7 @@ asked_or_refused a words (Err error) (Err (Line told)) is kinds has order_is tak
 asked_or_refused a words (Err error) (Err Memory) is kinds has order_is taken called = (tt, tt)
 asked_or_refused a words (Err error) (Err (NoCode code)) is kinds has order_is taken called = absurd called
 asked_or_refused a words (Err error) (Err (NoForm word)) is kinds has order_is taken called = absurd called
+asked_or_refused a words (Err error) (Err (NoFindingForm word)) is kinds has order_is taken called = absurd called
+asked_or_refused a words (Err error) (Err (NoSeconds option text)) is kinds has order_is taken called = absurd called
+asked_or_refused a words (Err error) (Err (NoPart part)) is kinds has order_is taken called = absurd called
 asked_or_refused a words (Err error) (Err (Misfits why)) is kinds has order_is taken called = absurd called

@@ -1,4 +1,3 @@
 pub mod CommandLine
 pub mod Ordered
 pub mod Arguments
-pub mod Misfits

@@ -1,17 +1,22 @@
 -- What the words of a command line ask for.
-use Rattle.std.specs.Prelude.{◌≡◌, ◌≢◌, ◌⊎◌, ◌≤◌, ◌||◌, not, ℕ, Bool, List, [], Option, Some, None, IsSomeAnd, codes, is_some, pos, true, false, unwrap_or}
+use Rattle.std.specs.Prelude.{◌≡◌, ◌≢◌, ◌⊎◌, ◌≤◌, ◌||◌, not, ℕ, ℤ, Bool, List, [], ◌∷◌, Option, Some, None, IsSomeAnd, codes, is_some, pos, true, false, unwrap_or}
 use Rattle.std.specs.Prelude.{string_bytes}
 use Rattle.std.specs.Option.{option_map}
 use Rattle.std.specs.Str.Parse.{signed_digits_value}
 use Rattle.clap.specs.declared.error.Error.{Error}
 use Rattle.clap.specs.declared.error.kind.ErrorKind.TheVariants.{OutOfMemory}
 use Rattle.clap.specs.Values.{bool_text}
+use Rattle.clap.specs.Walk.{Rule}
+use Rattle.clap.specs.Simple.{App, Shape, built_leaf, inherited, marked_built, on_top, with_leaf_noted}
+use Rattle.clap.specs.declared.builder.value_parser.ValueParser.{ValueParser}
+use Rattle.clap.specs.declared.builder.value_parser.ValueParser.TheVariants.{Bool as OfBool, Signed}
 use Rattle.clap.specs.Words.{IsAmong, IsSignedIn, Row, Text, fault_of, first_of, kind_of, one_of, subcommand_of, without_minus}
 use Rattle.client_core.specs.Clients.{is_window}
 use Rattle.refusal_guide.specs.Codes.{is_code_of}
+use Rattle.run_record.specs.Heads.{IsPart, IsPartGiven}
 use Rattle.refusal_guide.specs.declared.topics.Topic.{Topic}
 use Rattle.deviations.specs.declared.forms.Form.TheVariants.{Csv, Json, Svg}
-use Rattle.dme_words.specs.CommandLine.{whole_line}
+use Rattle.dme_words.specs.CommandLine.{audit_line, check_line, explain_line, export_line, judge_line, ledger_line, loop_line, run_line, serve_line, simulate_line, watch_line, whole_line}
 use Rattle.dme_words.specs.declared.orders.Audit.{Audit}
 use Rattle.dme_words.specs.declared.orders.Check.{Check}
 use Rattle.dme_words.specs.declared.orders.Export.{Export}
@@ -30,7 +35,7 @@ use Rattle.dme_words.specs.declared.orders.Service.{Service}
 use Rattle.dme_words.specs.declared.orders.Simulation.{Simulation}
 use Rattle.dme_words.specs.declared.orders.Watch.{Watch}
 use Rattle.dme_words.specs.declared.words.WordsFault.{WordsFault}
-use Rattle.dme_words.specs.declared.words.WordsFault.TheVariants.{Line, Memory, Misfits, NoCode, NoForm}
+use Rattle.dme_words.specs.declared.words.WordsFault.TheVariants.{Line, Memory, Misfits, NoCode, NoFindingForm, NoForm, NoPart, NoSeconds}
 use Rattle.dme_words.specs.declared.misfits.Misfit.{Misfit}
 use Rattle.dme_words.specs.declared.misfits.Misfit.TheVariants as misfit
 use Rattle.dme_words.specs.declared.misfits.Lacks.{Lacks}
@@ -63,21 +68,14 @@ IsNumberOf id most rows number = IsSomeAnd (first_of id rows) (IsNumber most num
 abbrev pub IsWindowOf : List Row → ℕ → Type 0
 IsWindowOf = IsNumberOf (codes "window") 16
 
--- the number is the value of `--port`
-abbrev pub IsPortOf : List Row → ℕ → Type 0
-IsPortOf = IsNumberOf (codes "port") 65535
+-- the number of seconds is the value of the option with this id, from 1 to 86,400; none if none is named
+abbrev pub IsSecondsOf : Text → List Row → Option ℕ → Type 0
+IsSecondsOf id rows (Some seconds) = IsNumberOf id 86400 rows seconds
+IsSecondsOf id rows None = HasNone id rows
 
--- the number is the value of `--connections`
-abbrev pub IsCountOf : List Row → ℕ → Type 0
-IsCountOf = IsNumberOf (codes "connections") 4000000000
-
--- the number is the value of `--connection`
-abbrev pub IsConnectionOf : List Row → ℕ → Type 0
-IsConnectionOf = IsNumberOf (codes "connection") 4000000000
-
--- the number is the value of `--listen` of a relay
-abbrev pub IsListenedOf : List Row → ℕ → Type 0
-IsListenedOf = IsNumberOf (codes "listen") 65535
+-- the text writes no such number
+abbrev pub IsNoSeconds : Text → Type 0
+IsNoSeconds text = IsSignedIn (pos 1) (pos 86400) text → ⊥
 
 -- the flag with this id is set, or it is not, as `clap` writes it
 abbrev pub IsFlagOf : Text → List Row → Bool → Type 0
@@ -86,7 +84,7 @@ IsFlagOf id rows is_set = first_of id rows ≡ Some (bool_text is_set)
 -- how many connections are taken: the value of `--connections`, or with `--endless` as many as can be numbered
 abbrev pub IsConnectionsOf : List Row → ℕ → Type 0
 IsConnectionsOf rows number = (IsFlagOf (codes "endless") rows true × (number ≡ 4000000000))
-    ⊎ (IsFlagOf (codes "endless") rows false × IsCountOf rows number)
+    ⊎ (IsFlagOf (codes "endless") rows false × IsNumberOf (codes "connections") 4000000000 rows number)
 
 -- the flag `--explain` is set, or it is not
 abbrev pub IsExplainedOf : List Row → Bool → Type 0
@@ -136,34 +134,37 @@ IsLoopOf rows o =
 abbrev pub IsServeOf : List Row → Service → Type 0
 IsServeOf rows o =
     IsValueOf (codes "setup") rows (string_bytes o.setup) × IsMaybeOf (codes "listen") rows (option_map string_bytes o.listen)
-    × IsPortOf rows o.port × IsConnectionsOf rows o.connections
+    × IsNumberOf (codes "port") 65535 rows o.port × IsConnectionsOf rows o.connections
     × IsMaybeOf (codes "contacts") rows (option_map string_bytes o.contacts) × IsFlagOf (codes "progress") rows o.progress
     × IsFlagOf (codes "trace") rows o.trace × IsMaybeOf (codes "log") rows (option_map string_bytes o.log)
-    × IsMaybeOf (codes "timeout") rows (option_map string_bytes o.timeout) × IsMaybeOf (codes "stop") rows (option_map string_bytes o.stop)
+    × IsSecondsOf (codes "timeout") rows o.timeout × IsMaybeOf (codes "stop") rows (option_map string_bytes o.stop)
     × IsExplainedOf rows o.explain
 
 -- whether the option with this id has no value
 abbrev pub is_lacking : Text → List Row → Bool
 is_lacking id rows = not (is_some (first_of id rows))
 
--- a part is named if a record is
-abbrev pub names_its_part : List Row → Bool
-names_its_part rows = is_lacking (codes "record") rows || not (is_lacking (codes "part") rows)
+-- a part is named if a record is, and only then
+abbrev pub NamesItsPart : List Row → Type 0
+NamesItsPart rows = is_lacking (codes "record") rows ≡ is_lacking (codes "part") rows
+
+-- the part is the value of `--part`, if one is named, and may be one
+abbrev pub IsPartOf : List Row → Option Text → Type 0
+IsPartOf rows part = IsMaybeOf (codes "part") rows part × IsPartGiven part
 
 -- a run of the program against the server at the named host and port, with the named setup and window, and the named file of features,
 -- record with its part, file for the reported contacts, log, time limits and stop file, if any
 abbrev pub IsRunOf : List Row → Run → Type 0
 IsRunOf rows o =
-    IsValueOf (codes "setup") rows (string_bytes o.setup) × IsValueOf (codes "host") rows (string_bytes o.host) × IsPortOf rows o.port
+    IsValueOf (codes "setup") rows (string_bytes o.setup) × IsValueOf (codes "host") rows (string_bytes o.host) × IsNumberOf (codes "port") 65535 rows o.port
     × IsWindowOf rows o.window × IsMaybeOf (codes "features") rows (option_map string_bytes o.features)
-    × IsMaybeOf (codes "record") rows (option_map string_bytes o.record) × IsMaybeOf (codes "part") rows (option_map string_bytes o.part)
+    × IsMaybeOf (codes "record") rows (option_map string_bytes o.record) × IsPartOf rows (option_map string_bytes o.part)
     × IsMaybeOf (codes "contacts") rows (option_map string_bytes o.contacts)
     × IsFlagOf (codes "progress") rows o.progress × IsFlagOf (codes "trace") rows o.trace
     × IsMaybeOf (codes "log") rows (option_map string_bytes o.log)
-    × IsMaybeOf (codes "timeout") rows (option_map string_bytes o.timeout) × IsMaybeOf (codes "wait") rows (option_map string_bytes o.wait)
+    × IsSecondsOf (codes "timeout") rows o.timeout × IsSecondsOf (codes "wait") rows o.wait
     × IsMaybeOf (codes "stop") rows (option_map string_bytes o.stop) × IsFlagOf (codes "confirm") rows o.confirm
     × IsExplainedOf rows o.explain × IsProgramOf rows (string_bytes o.program)
-    × (names_its_part rows ≡ true)
 
 -- a code that names a refusal, its letters in any case, or a server's own errors
 abbrev pub IsCodeOf : Topic → Text → Type 0
@@ -202,17 +203,22 @@ IsAnyExportOf rows (order.Export o) = IsExportOf rows o
 IsAnyExportOf rows (order.ExportRecord o) = IsRecordExportOf rows o
 IsAnyExportOf rows _ = ⊥
 
--- a review of the program with the named setup and in the named form, or without them if none are named
+-- findings are printed as JSON if that is the named form, as lines if none is named
+abbrev pub IsFindingFormOf : List Row → Bool → Type 0
+IsFindingFormOf rows true = IsValueOf (codes "as") rows (codes "json")
+IsFindingFormOf rows false = HasNone (codes "as") rows
+
+-- a review of the program with the named setup or with none if none is named, and in the named form
 abbrev pub IsReviewOf : List Row → Review → Type 0
 IsReviewOf rows o =
-    IsMaybeOf (codes "as") rows (option_map string_bytes o.form) × IsMaybeOf (codes "setup") rows (option_map string_bytes o.setup)
+    IsFindingFormOf rows o.is_json × IsMaybeOf (codes "setup") rows (option_map string_bytes o.setup)
     × IsProgramOf rows (string_bytes o.program)
 
 -- what a server told by the named bytes of both ends, on the connection of the named number
 abbrev pub IsLedgerOf : List Row → Ledger → Type 0
 IsLedgerOf rows o =
     IsValueOf (codes "up") rows (string_bytes o.up) × IsValueOf (codes "down") rows (string_bytes o.down)
-    × IsConnectionOf rows o.connection
+    × IsNumberOf (codes "connection") 4000000000 rows o.connection
 
 -- a judgement on the named bytes of both ends
 abbrev pub IsJudgeOf : List Row → Judge → Type 0
@@ -222,10 +228,10 @@ IsJudgeOf rows o = IsValueOf (codes "up") rows (string_bytes o.up) × IsValueOf 
 -- the named folder for bytes, log and time limit, if any
 abbrev pub IsWatchOf : List Row → Watch → Type 0
 IsWatchOf rows o =
-    IsListenedOf rows o.listen × IsValueOf (codes "host") rows (string_bytes o.host) × IsPortOf rows o.port
+    IsNumberOf (codes "listen") 65535 rows o.listen × IsValueOf (codes "host") rows (string_bytes o.host) × IsNumberOf (codes "port") 65535 rows o.port
     × IsValueOf (codes "told") rows (string_bytes o.told) × IsMaybeOf (codes "record-bytes") rows (option_map string_bytes o.record_bytes)
     × IsConnectionsOf rows o.connections × IsFlagOf (codes "trace") rows o.trace
-    × IsMaybeOf (codes "log") rows (option_map string_bytes o.log) × IsMaybeOf (codes "timeout") rows (option_map string_bytes o.timeout)
+    × IsMaybeOf (codes "log") rows (option_map string_bytes o.log) × IsSecondsOf (codes "timeout") rows o.timeout
 
 -- the order of a subcommand with its values, by its name
 abbrev pub IsNamedOrderOf : Text × List Row → Order → Type 0
@@ -235,7 +241,7 @@ IsNamedOrderOf p (order.Audit o) = (p.0 ≡ codes "audit") × IsAuditOf p.1 o
 IsNamedOrderOf p (order.AuditRecord o) = (p.0 ≡ codes "audit") × IsRecordAuditOf p.1 o
 IsNamedOrderOf p (order.Loop o) = (p.0 ≡ codes "loop") × IsLoopOf p.1 o
 IsNamedOrderOf p (order.Serve o) = (p.0 ≡ codes "serve") × IsServeOf p.1 o
-IsNamedOrderOf p (order.Run o) = (p.0 ≡ codes "run") × IsRunOf p.1 o
+IsNamedOrderOf p (order.Run o) = (p.0 ≡ codes "run") × IsRunOf p.1 o × NamesItsPart p.1
 IsNamedOrderOf p (order.Explain topic) = (p.0 ≡ codes "explain") × IsExplainOf p.1 topic
 IsNamedOrderOf p (order.Export o) = (p.0 ≡ codes "export") × IsExportOf p.1 o
 IsNamedOrderOf p (order.ExportRecord o) = (p.0 ≡ codes "export") × IsRecordExportOf p.1 o
@@ -252,32 +258,16 @@ IsOrderOf found asked = IsSomeAnd found (λ p. IsNamedOrderOf p asked)
 abbrev pub HasValue : Text → List Row → Type 0
 HasValue id rows = is_some (first_of id rows) ≡ true
 
--- the option with this id has a number from 1 to `most`, which is read as it is written, but for a minus
-pub record HasNumber (id : Text) (most : ℕ) (rows : List Row) : Type 0 where
+-- the option with this id has a number within these bounds, which is read as it is written, but for a minus
+pub record HasSigned (id : Text) (low high : ℤ) (rows : List Row) : Type 0 where
   pub text : Text
   pub written : first_of id rows ≡ Some text
   pub read : one_of id rows ≡ Some (without_minus text)
-  pub ranged : IsSignedIn (pos 1) (pos most) text
+  pub ranged : IsSignedIn low high text
 
--- the window has a number in its range
-abbrev pub HasWindow : List Row → Type 0
-HasWindow = HasNumber (codes "window") 16
-
--- the port has a number in its range
-abbrev pub HasPort : List Row → Type 0
-HasPort = HasNumber (codes "port") 65535
-
--- the count of connections has a number in its range
-abbrev pub HasConnections : List Row → Type 0
-HasConnections = HasNumber (codes "connections") 4000000000
-
--- the connection has a number in its range
-abbrev pub HasConnection : List Row → Type 0
-HasConnection = HasNumber (codes "connection") 4000000000
-
--- the port that a relay listens on has a number in its range
-abbrev pub HasListened : List Row → Type 0
-HasListened = HasNumber (codes "listen") 65535
+-- the option with this id has a number from 1 to `most`
+abbrev pub HasNumber : Text → ℕ → List Row → Type 0
+HasNumber id most rows = HasSigned id (pos 1) (pos most) rows
 
 -- the flag with this id has a value, which is read as it is written
 pub record HasFlag (id : Text) (rows : List Row) : Type 0 where
@@ -285,84 +275,44 @@ pub record HasFlag (id : Text) (rows : List Row) : Type 0 where
   pub written : first_of id rows ≡ Some (bool_text is_set)
   pub read : one_of id rows ≡ Some (bool_text is_set)
 
--- the flag `--explain` has a value
-abbrev pub HasExplained : List Row → Type 0
-HasExplained = HasFlag (codes "explain")
+-- what an argument that is needed or has a default is found to have: a flag, a number within its bounds, or a text
+abbrev pub HasRead : Option ValueParser → Text → List Row → Type 0
+HasRead (Some OfBool) id rows = HasFlag id rows
+HasRead (Some (Signed (pos low) high)) id rows = HasSigned id (pos low) high rows
+HasRead _ id rows = HasValue id rows
 
--- the values that a simulation cannot do without are there
-pub record HasSimulation (rows : List Row) : Type 0 where
-  pub setup : HasValue (codes "setup") rows
-  pub schedule : HasValue (codes "schedule") rows
-  pub window : HasWindow rows
-  pub trace : HasFlag (codes "trace") rows
-  pub explain : HasExplained rows
+abbrev pub has_default : List Text → Bool
+has_default [] = false
+has_default (value ∷ values) = true
 
--- the values that a run over a connection to itself cannot do without are there
-pub record HasLoop (rows : List Row) : Type 0 where
-  pub setup : HasValue (codes "setup") rows
-  pub window : HasWindow rows
-  pub progress : HasFlag (codes "progress") rows
-  pub trace : HasFlag (codes "trace") rows
-  pub explain : HasExplained rows
+abbrev pub HasIf : Bool → Type 0 → Type 0
+HasIf true has = has
+HasIf false has = Unit {0}
 
--- the values that a server cannot do without are there
-pub record HasService (rows : List Row) : Type 0 where
-  pub setup : HasValue (codes "setup") rows
-  pub port : HasPort rows
-  pub connections : HasConnections rows
-  pub endless : HasFlag (codes "endless") rows
-  pub progress : HasFlag (codes "progress") rows
-  pub trace : HasFlag (codes "trace") rows
-  pub explain : HasExplained rows
+-- the arguments that are needed or have a default have their values
+abbrev pub HasAll : List Rule → List Row → Type 0
+HasAll [] rows = Unit {0}
+HasAll (a ∷ rest) rows = HasIf (a.required || has_default a.defaults) (HasRead a.parser a.id rows) × HasAll rest rows
 
--- the values that a run against a server cannot do without are there
-pub record HasRun (rows : List Row) : Type 0 where
-  pub setup : HasValue (codes "setup") rows
-  pub host : HasValue (codes "host") rows
-  pub port : HasPort rows
-  pub window : HasWindow rows
-  pub progress : HasFlag (codes "progress") rows
-  pub trace : HasFlag (codes "trace") rows
-  pub confirm : HasFlag (codes "confirm") rows
-  pub explain : HasExplained rows
+-- a subcommand of `dme`, as `clap` completes it
+abbrev pub leaf : App → Shape
+leaf line = built_leaf (inherited (on_top with_leaf_noted (on_top marked_built whole_line)).top line.top)
 
--- the values that an export cannot do without are there
-pub record HasExport (rows : List Row) : Type 0 where
-  pub form : HasValue (codes "as") rows
-  pub explain : HasExplained rows
-
--- the values that a ledger cannot do without are there
-pub record HasLedger (rows : List Row) : Type 0 where
-  pub up : HasValue (codes "up") rows
-  pub down : HasValue (codes "down") rows
-  pub connection : HasConnection rows
-
--- the values that a judgement cannot do without are there
-pub record HasJudge (rows : List Row) : Type 0 where
-  pub up : HasValue (codes "up") rows
-  pub down : HasValue (codes "down") rows
-
--- the values that a relay cannot do without are there
-pub record HasWatch (rows : List Row) : Type 0 where
-  pub listen : HasListened rows
-  pub host : HasValue (codes "host") rows
-  pub port : HasPort rows
-  pub told : HasValue (codes "told") rows
-  pub connections : HasConnections rows
-  pub endless : HasFlag (codes "endless") rows
-  pub trace : HasFlag (codes "trace") rows
+-- likewise of this subcommand
+abbrev pub Has : App → List Row → Type 0
+Has line rows = HasAll (leaf line).rules rows
 
 -- the name of one of the last eight subcommands, with the values that it cannot do without
 abbrev pub IsLaterAskable : Text × List Row → Type 0
-IsLaterAskable p = ((p.0 ≡ codes "serve") × HasService p.1) ⊎ ((p.0 ≡ codes "run") × HasRun p.1)
-    ⊎ ((p.0 ≡ codes "explain") × HasValue (codes "CODE") p.1) ⊎ ((p.0 ≡ codes "export") × HasExport p.1)
-    ⊎ (p.0 ≡ codes "review") ⊎ ((p.0 ≡ codes "ledger") × HasLedger p.1) ⊎ ((p.0 ≡ codes "judge") × HasJudge p.1)
-    ⊎ ((p.0 ≡ codes "watch") × HasWatch p.1)
+IsLaterAskable p = ((p.0 ≡ codes "serve") × Has serve_line p.1) ⊎ ((p.0 ≡ codes "run") × Has run_line p.1)
+    ⊎ ((p.0 ≡ codes "explain") × Has explain_line p.1) ⊎ ((p.0 ≡ codes "export") × Has export_line p.1)
+    ⊎ (p.0 ≡ codes "review") ⊎ ((p.0 ≡ codes "ledger") × Has ledger_line p.1) ⊎ ((p.0 ≡ codes "judge") × Has judge_line p.1)
+    ⊎ ((p.0 ≡ codes "watch") × Has watch_line p.1)
 
 -- the name of a subcommand of `dme`, with the values that it cannot do without
 abbrev pub IsAskable : Text × List Row → Type 0
-IsAskable p = ((p.0 ≡ codes "check") × HasExplained p.1) ⊎ ((p.0 ≡ codes "simulate") × HasSimulation p.1) ⊎ ((p.0 ≡ codes "audit") × HasExplained p.1)
-    ⊎ ((p.0 ≡ codes "loop") × HasLoop p.1) ⊎ IsLaterAskable p
+IsAskable p = ((p.0 ≡ codes "check") × Has check_line p.1) ⊎ ((p.0 ≡ codes "simulate") × Has simulate_line p.1)
+    ⊎ ((p.0 ≡ codes "audit") × Has audit_line p.1) ⊎ ((p.0 ≡ codes "loop") × Has loop_line p.1) ⊎ IsLaterAskable p
 
 -- the window is one that a client takes, the port is one that can be listened on, the count is one of a server's connections, and the number is
 -- one of a connection
@@ -441,44 +391,75 @@ HasNoExport rows (Misfits why) = ExportMisfits rows why
 HasNoExport rows Memory = Unit {0}
 HasNoExport rows _ = ⊥
 
--- the options of a run do not go together
+-- the options do not go together in this way
+abbrev pub IsMisfitOf : (Misfit → Type 0) → WordsFault → Type 0
+IsMisfitOf fits (Misfits why) = fits why
+IsMisfitOf fits _ = ⊥
+
+-- the options of a run that do not go together
 abbrev pub RunMisfits : List Row → Misfit → Type 0
 RunMisfits rows misfit.RecordWithoutPart = HasValue (codes "record") rows × HasNone (codes "part") rows
+RunMisfits rows misfit.PartWithoutRecord = HasValue (codes "part") rows × HasNone (codes "record") rows
 RunMisfits rows _ = ⊥
 
--- likewise; or memory ran out
+-- the value of the option with this id is no number of seconds; or memory ran out
+abbrev pub HasNoSeconds : Text → List Row → WordsFault → Type 0
+HasNoSeconds id rows (NoSeconds option text) =
+    (option.now ≡ id) × IsValueOf id rows (string_bytes text) × IsNoSeconds (string_bytes text)
+HasNoSeconds id rows Memory = Unit {0}
+HasNoSeconds id rows _ = ⊥
+
+-- the named text may not be a part; or memory ran out
+abbrev pub HasNoPart : List Row → WordsFault → Type 0
+HasNoPart rows (NoPart part) = IsValueOf (codes "part") rows (string_bytes part) × (IsPart (string_bytes part) → ⊥)
+HasNoPart rows Memory = Unit {0}
+HasNoPart rows _ = ⊥
+
+-- a value of a run is bad
+abbrev pub HasNoRunValue : List Row → WordsFault → Type 0
+HasNoRunValue rows fault =
+    HasNoSeconds (codes "timeout") rows fault ⊎ HasNoSeconds (codes "wait") rows fault ⊎ HasNoPart rows fault
+
+-- likewise, or the options of a run do not go together
 abbrev pub HasNoRun : List Row → WordsFault → Type 0
-HasNoRun rows (Misfits why) = RunMisfits rows why
-HasNoRun rows Memory = Unit {0}
-HasNoRun rows _ = ⊥
+HasNoRun rows fault = HasNoRunValue rows fault ⊎ IsMisfitOf (RunMisfits rows) fault
 
--- the options of an audit, of an export or of a run do not go together
-abbrev pub OptionsMisfit : Misfit → Text × List Row → Type 0
-OptionsMisfit why p = ((p.0 ≡ codes "audit") × AuditMisfits p.1 why) ⊎ ((p.0 ≡ codes "export") × ExportMisfits p.1 why)
-    ⊎ ((p.0 ≡ codes "run") × RunMisfits p.1 why)
+-- the named word is no form of findings; or memory ran out
+abbrev pub HasNoReview : List Row → WordsFault → Type 0
+HasNoReview rows (NoFindingForm word) = IsValueOf (codes "as") rows (string_bytes word) × (string_bytes word ≢ codes "json")
+HasNoReview rows Memory = Unit {0}
+HasNoReview rows _ = ⊥
 
--- why a subcommand asks for nothing: no refusal has its code, its word is not a form, or its options do not go together; or memory ran out
+-- memory ran out
+abbrev pub IsShort : WordsFault → Type 0
+IsShort Memory = Unit {0}
+IsShort _ = ⊥
+
+-- why a subcommand asks for nothing: a value is bad, or its options do not go together; or memory ran out
+abbrev pub IsRefusedOf : Text × List Row → WordsFault → Type 0
+IsRefusedOf p fault = IsShort fault
+    ⊎ ((p.0 ≡ codes "audit") × HasNoAudit p.1 fault)
+    ⊎ ((p.0 ≡ codes "serve") × HasNoSeconds (codes "timeout") p.1 fault)
+    ⊎ ((p.0 ≡ codes "run") × HasNoRun p.1 fault)
+    ⊎ ((p.0 ≡ codes "explain") × HasNoTopic p.1 fault)
+    ⊎ ((p.0 ≡ codes "export") × HasNoExport p.1 fault)
+    ⊎ ((p.0 ≡ codes "review") × HasNoReview p.1 fault)
+    ⊎ ((p.0 ≡ codes "watch") × HasNoSeconds (codes "timeout") p.1 fault)
+
+-- likewise of the subcommand that was found
 abbrev pub AsksForNothing : Option (Text × List Row) → WordsFault → Type 0
-AsksForNothing found (Line error) = ⊥
-AsksForNothing found Memory = Unit {0}
-AsksForNothing found (NoCode code) =
-    IsSomeAnd found (λ p. (p.0 ≡ codes "explain") × HasNoTopic p.1 (NoCode code))
-AsksForNothing found (NoForm word) =
-    IsSomeAnd found (λ p. (p.0 ≡ codes "export") × HasNoExport p.1 (NoForm word))
-AsksForNothing found (Misfits why) = IsSomeAnd found (OptionsMisfit why)
+AsksForNothing found fault = IsSomeAnd found (λ p. IsRefusedOf p fault)
 
 -- the words are a command line without a fault, and this is why the subcommand that they name asks for nothing
 pub record HasNoValue (words : List Text) (fault : WordsFault) : Type 0 where
   pub faultless : fault_of whole_line words ≡ []
   pub named : AsksForNothing (subcommand_of whole_line words) fault
 
--- only a fault of the words is called a bad line, and only an unknown code or form, or options that do not go together, a bad value
+-- only a fault of the words is called a bad line; else a value is bad, or options do not go together
 abbrev pub IsRefusal : List Text → WordsFault → Type 0
 IsRefusal words (Line error) = HasFault words error
 IsRefusal words Memory = Unit {0}
-IsRefusal words (NoCode code) = HasNoValue words (NoCode code)
-IsRefusal words (NoForm word) = HasNoValue words (NoForm word)
-IsRefusal words (Misfits why) = HasNoValue words (Misfits why)
+IsRefusal words fault = HasNoValue words fault
 
 -- what an error of `clap` is called: running out of memory exactly if it is that, and a bad line, with its text, if it is any other
 abbrev pub IsCalled : Error → WordsFault → Type 0

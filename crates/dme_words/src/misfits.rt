@@ -1,8 +1,5 @@
 // Options that do not go together.
 
-ghost use Rattle.std.specs.Prelude.{◌≡◌};
-ghost use Rattle.dme_words.specs.Misfits.{lacking_line, program_word};
-
 use std::fmt;
 
 /// Which of the options that an audit without a record needs are not named, and whether its program is named.
@@ -27,6 +24,8 @@ pub enum Misfit {
     RecordAndContacts,
     /// A run with `--record` and without `--part`.
     RecordWithoutPart,
+    /// A run with `--part` and without `--record`.
+    PartWithoutRecord,
     /// `--as features` without `--record`.
     FeaturesWithoutRecord,
     /// `--as contacts` without `--record`.
@@ -37,66 +36,71 @@ pub enum Misfit {
     ExportLacks(bool),
 }
 
-/// The line of an option, if it is lacking.
-fn lacking_line(is_lacking: bool, line: &'static str) -> &'static str
-    ensures { result.now ≡ lacking_line is_lacking line.now }
-{
-    if is_lacking { line } else { "" }
+/// Writes a refusal as `clap` does.
+fn write_refusal<W: fmt::Write>(f: &mut fmt::Formatter<W>, why: &str) -> fmt::Result {
+    write!(f, "error: {why}\n\nFor more information, try '--help'.\n")
 }
 
-/// The program in a usage, named or not.
-fn program_word(is_named: bool) -> &'static str
-    ensures { result.now ≡ program_word is_named }
-{
-    if is_named { "<PROGRAM>" } else { "[PROGRAM]" }
+/// Writes which options are lacking, and a usage that has them.
+fn write_lacking<W: fmt::Write>(
+    f: &mut fmt::Formatter<W>,
+    lines: &str,
+    usage: &str,
+    is_named: bool,
+) -> fmt::Result {
+    let program = if is_named { "<PROGRAM>" } else { "[PROGRAM]" };
+    write!(
+        f,
+        "error: the following required arguments were not provided:\n{lines}\nUsage: dme {usage} {program}\n\nFor more information, try '--help'.\n"
+    )
+}
+
+/// The options of an audit that are lacking next to the others of its files.
+fn file_lines(lacks: Lacks) -> &'static str {
+    match (lacks.setup, lacks.features, lacks.contacts) {
+        (true, true, _) => "  --setup <FILE>\n  --features <FILE>\n",
+        (true, false, true) => "  --setup <FILE>\n  --contacts <FILE>\n",
+        (true, false, false) => "  --setup <FILE>\n",
+        (false, true, _) => "  --features <FILE>\n",
+        (false, false, _) => "  --contacts <FILE>\n",
+    }
 }
 
 impl fmt::Display for Misfit {
-    ghost use Rattle.std.specs.Prelude.{Some};
-    ghost use Rattle.dme_words.specs.Misfits.{misfit_text};
-
-    ghost output = { λ misfit. Some (misfit_text misfit) };
-
     fn fmt<W: fmt::Write>(&self, f: &mut fmt::Formatter<W>) -> fmt::Result {
-        match self {
-            Misfit::RecordAndFeatures => f.write_str(
-                "error: the argument '--record <FILE>' cannot be used with '--features <FILE>'\n\nFor more information, try '--help'.\n",
-            ),
-            Misfit::RecordAndContacts => f.write_str(
-                "error: the argument '--record <FILE>' cannot be used with '--contacts <FILE>'\n\nFor more information, try '--help'.\n",
-            ),
-            Misfit::RecordWithoutPart => f.write_str(
-                "error: the argument '--record <FILE>' requires '--part <TEXT>'\n\nFor more information, try '--help'.\n",
-            ),
-            Misfit::FeaturesWithoutRecord => f.write_str(
-                "error: the argument '--as features' requires '--record <FILE>'\n\nFor more information, try '--help'.\n",
-            ),
-            Misfit::ContactsWithoutRecord => f.write_str(
-                "error: the argument '--as contacts' requires '--record <FILE>'\n\nFor more information, try '--help'.\n",
-            ),
+        let why = match self {
+            Misfit::RecordAndFeatures => {
+                "the argument '--record <FILE>' cannot be used with '--features <FILE>'"
+            }
+            Misfit::RecordAndContacts => {
+                "the argument '--record <FILE>' cannot be used with '--contacts <FILE>'"
+            }
+            Misfit::RecordWithoutPart => {
+                "the argument '--record <FILE>' requires '--part <TEXT>'"
+            }
+            Misfit::PartWithoutRecord => {
+                "the argument '--part <TEXT>' requires '--record <FILE>'"
+            }
+            Misfit::FeaturesWithoutRecord => {
+                "the argument '--as features' requires '--record <FILE>'"
+            }
+            Misfit::ContactsWithoutRecord => {
+                "the argument '--as contacts' requires '--record <FILE>'"
+            }
+            Misfit::AuditLacks(lacks) if lacks.features && lacks.contacts => {
+                let lines =
+                    "  --record <FILE>, or --setup <FILE>, --features <FILE> and --contacts <FILE>\n";
+                return write_lacking(f, lines, "audit --record <FILE>", lacks.is_named);
+            }
             Misfit::AuditLacks(lacks) => {
-                let program = program_word(lacks.is_named);
-                if lacks.features && lacks.contacts {
-                    return write!(
-                        f,
-                        "error: the following required arguments were not provided:\n  --record <FILE>, or --setup <FILE>, --features <FILE> and --contacts <FILE>\n\nUsage: dme audit --record <FILE> {program}\n\nFor more information, try '--help'.\n"
-                    );
-                }
-                let setup = lacking_line(lacks.setup, "  --setup <FILE>\n");
-                let features = lacking_line(lacks.features, "  --features <FILE>\n");
-                let contacts = lacking_line(lacks.contacts, "  --contacts <FILE>\n");
-                write!(
-                    f,
-                    "error: the following required arguments were not provided:\n{setup}{features}{contacts}\nUsage: dme audit --setup <FILE> --features <FILE> --contacts <FILE> {program}\n\nFor more information, try '--help'.\n"
-                )
+                let usage = "audit --setup <FILE> --features <FILE> --contacts <FILE>";
+                return write_lacking(f, file_lines(*lacks), usage, lacks.is_named);
             }
             Misfit::ExportLacks(is_named) => {
-                let program = program_word(*is_named);
-                write!(
-                    f,
-                    "error: the following required arguments were not provided:\n  --record <FILE>, or --features <FILE>\n\nUsage: dme export --as <FORM> --record <FILE> {program}\n\nFor more information, try '--help'.\n"
-                )
+                let lines = "  --record <FILE>, or --features <FILE>\n";
+                return write_lacking(f, lines, "export --as <FORM> --record <FILE>", *is_named);
             }
-        }
+        };
+        write_refusal(f, why)
     }
 }

@@ -128,8 +128,8 @@ pub struct Service {
     pub trace: bool,
     /// The file that these lines are added to, with their times; `-` is a file of that name.
     pub log: Option<String>,
-    /// How many seconds the other end may be silent if something is due from it, as they are written; no limit if none are named.
-    pub timeout: Option<String>,
+    /// How many seconds the other end may be silent if something is due from it, from 1 to 86,400; no limit if none are named.
+    pub timeout: Option<u32>,
     /// The file that ends it when it appears.
     pub stop: Option<String>,
     /// Whether a line that is refused is shown, with what is wrong with it.
@@ -151,7 +151,7 @@ pub struct Run {
     pub features: Option<String>,
     /// The file of the run's record; `-` is a file of that name.
     pub record: Option<String>,
-    /// Which part is measured, as the record has it.
+    /// Which part is measured, as the record has it: 1 to 64 printable bytes.
     pub part: Option<String>,
     /// The file that the contacts which the server reports are written to; `-` is a file of that name.
     pub contacts: Option<String>,
@@ -161,10 +161,10 @@ pub struct Run {
     pub trace: bool,
     /// The file that these lines are added to, with their times; `-` is a file of that name.
     pub log: Option<String>,
-    /// How many seconds the other end may be silent if something is due from it, as they are written; no limit if none are named.
-    pub timeout: Option<String>,
-    /// How many seconds it tries to connect, as they are written; once if none are named.
-    pub wait: Option<String>,
+    /// How many seconds the other end may be silent if something is due from it, from 1 to 86,400; no limit if none are named.
+    pub timeout: Option<u32>,
+    /// How many seconds it tries to connect, from 1 to 86,400; once if none are named.
+    pub wait: Option<u32>,
     /// The file that ends it when it appears.
     pub stop: Option<String>,
     /// Whether it shows what comes first, and waits for an empty line before anything moves.
@@ -219,8 +219,8 @@ pub struct RecordExport {
 /// The values of `review`.
 #[derive(Debug, Drop)]
 pub struct Review {
-    /// The form that is printed, as it is written; lines if none is named.
-    pub form: Option<String>,
+    /// Whether findings are printed as JSON, for other programs, or as lines.
+    pub is_json: bool,
     /// The file of the machine's setup, whose frames the program may recall; `-` is standard input.
     pub setup: Option<String>,
     /// The file of the program; `-` is standard input.
@@ -266,6 +266,6 @@ pub struct Watch {
     pub trace: bool,
     /// The file that these lines are added to, with their times; `-` is a file of that name.
     pub log: Option<String>,
-    /// How many seconds both ends may be silent, as they are written; no limit if none are named.
-    pub timeout: Option<String>,
+    /// How many seconds both ends may be silent, from 1 to 86,400; no limit if none are named.
+    pub timeout: Option<u32>,
 }

@@ -1,18 +1,18 @@
 // The command line.
 
-ghost use Rattle.std.specs.Prelude.{◌≡◌, ◌≤◌, IfOk, IfErr, IsErrAnd, IsSomeAnd, MatchOption, Some, map, true, codes, string_bytes};
+ghost use Rattle.std.specs.Prelude.{◌≡◌, ◌≤◌, IfOk, IfErr, OnOk, IsErrAnd, IsSomeAnd, MatchOption, Some, map, true, codes, string_bytes};
 ghost use Rattle.std.specs.Option.{option_map};
 ghost use Rattle.clap.specs.Words.{first_of, found_of, rows_of, subcommand_rows_of};
 ghost use Rattle.client_core.specs.Clients.{is_window};
-ghost use Rattle.dme_words.specs.Ordered.{IsValueOf, IsMaybeOf, IsProgramOf, IsWindowOf, IsPortOf, IsCountOf, IsConnectionsOf, IsFlagOf};
-ghost use Rattle.dme_words.specs.Ordered.{IsCheckOf, IsSimulateOf, IsAnyAuditOf, IsLoopOf, IsServeOf, IsRunOf, IsOrderOf};
-ghost use Rattle.dme_words.specs.Ordered.{IsExplainOf, IsLedgerOf, IsAnyExportOf, HasExport, AsksForNothing, IsNoCode, IsNoForm, IsCodeOf, form_word, HasNoTopic};
-ghost use Rattle.dme_words.specs.Ordered.{IsConnectionOf, HasConnection, HasLedger, HasValue, HasWindow, HasPort, HasConnections, HasFlag, HasExplained};
-ghost use Rattle.dme_words.specs.Ordered.{HasSimulation, HasLoop, HasService, HasRun};
-ghost use Rattle.dme_words.specs.Ordered.{IsListenedOf, HasListened, IsWatchOf, HasWatch, IsJudgeOf, HasJudge};
-ghost use Rattle.dme_words.specs.Ordered.{HasNone, is_lacking, AreLacking, HasNoAudit, HasNoExport, ExportMisfits};
-ghost use Rattle.dme_words.specs.Ordered.{IsLaterAskable, IsReviewOf, names_its_part, HasNoRun};
-ghost use Rattle.dme_words.specs.Ordered.{IsAskable, IsReady, Asks, IsRefusal, IsCalled};
+ghost use Rattle.dme_words.specs.CommandLine.{audit_line, check_line, explain_line, export_line, judge_line, ledger_line};
+ghost use Rattle.dme_words.specs.CommandLine.{loop_line, run_line, serve_line, simulate_line, watch_line};
+ghost use Rattle.dme_words.specs.Ordered.{Asks, AsksForNothing, ExportMisfits, Has, HasFlag, HasNoAudit, HasNoExport, HasNoPart, HasNoReview};
+ghost use Rattle.dme_words.specs.Ordered.{HasNoRun, HasNoRunValue, HasNoSeconds, HasNoTopic, HasNone, HasNumber, HasValue, IsAnyAuditOf};
+ghost use Rattle.dme_words.specs.Ordered.{IsAnyExportOf, IsAskable, IsCalled, IsCheckOf, IsCodeOf, IsConnectionsOf, IsExplainOf, IsFindingFormOf};
+ghost use Rattle.dme_words.specs.Ordered.{IsFlagOf, IsJudgeOf, IsLaterAskable, IsLedgerOf, IsLoopOf, IsMaybeOf, IsNoCode, IsNoForm, IsNoSeconds};
+ghost use Rattle.dme_words.specs.Ordered.{IsNumber, IsNumberOf, IsOrderOf, IsPartOf, IsProgramOf, IsReady, IsRefusal, IsRefusedOf, IsReviewOf};
+ghost use Rattle.dme_words.specs.Ordered.{IsRunOf, IsSecondsOf, IsServeOf, IsSimulateOf, IsValueOf, IsWatchOf, IsWindowOf, NamesItsPart, form_word};
+ghost use Rattle.dme_words.specs.Ordered.{is_lacking};
 
 use crate::line::whole_command;
 use crate::misfits::{Lacks, Misfit};
@@ -25,9 +25,17 @@ use clap::parser::ValueSource;
 use clap::{ArgMatches, Error};
 use deviations::Form;
 use refusal_guide::Topic;
+use run_record::is_part;
 use std::alloc::{AllocError, Global};
+use std::fmt;
 
-/// Why words ask for nothing.
+/// The forms of what was measured, as `clap` would list them.
+const FORMS: &str = "\n  [possible values: csv, json, svg, features, contacts]";
+
+/// Likewise, of a review's findings.
+const FINDING_FORMS: &str = "\n  [possible values: json]";
+
+/// Why words ask for nothing. Shown as `clap` shows its own faults.
 #[derive(Debug, Drop)]
 pub enum WordsFault {
     /// A bad command line, or a call for help, with `clap`'s text.
@@ -36,6 +44,12 @@ pub enum WordsFault {
     NoCode(String),
     /// A word that names no form.
     NoForm(String),
+    /// A word that names no form of a review's findings.
+    NoFindingForm(String),
+    /// A text that is no number of seconds, and the option that it was given to.
+    NoSeconds(&'static str, String),
+    /// A text that may not be a part.
+    NoPart(String),
     /// Options that do not go together.
     Misfits(Misfit),
     /// Out of memory.
@@ -53,14 +67,36 @@ impl From<AllocError> for WordsFault {
     }
 }
 
-/// A copy of a value, if there is one.
-fn copied(alloc: Global, value: Option<&str>) -> Result<Option<String>, AllocError>
-    ensures { IfOk result (λ copy. option_map string_bytes copy
-        ≡ option_map (λ v. v.now) value.entry) }
-{
-    match value {
-        Some(text) => Ok(Some(String::from_str(alloc, text)?)),
-        None => Ok(None),
+/// Writes why an option does not take a value.
+fn write_value<W: fmt::Write>(
+    f: &mut fmt::Formatter<W>,
+    value: &str,
+    option: &str,
+    why: &str,
+) -> fmt::Result {
+    write!(f, "error: invalid value '{value}' for '{option}'")?;
+    write!(f, "{why}\n\nFor more information, try '--help'.\n")
+}
+
+impl fmt::Display for WordsFault {
+    fn fmt<W: fmt::Write>(&self, f: &mut fmt::Formatter<W>) -> fmt::Result {
+        match self {
+            WordsFault::Line(error) => write!(f, "{error}"),
+            WordsFault::NoCode(code) => {
+                write_value(f, code, "<CODE>", ": no refusal has this code")
+            }
+            WordsFault::NoForm(word) => write_value(f, word, "--as <FORM>", FORMS),
+            WordsFault::NoFindingForm(word) => write_value(f, word, "--as <FORM>", FINDING_FORMS),
+            WordsFault::NoSeconds(option, text) => write!(
+                f,
+                "error: invalid value '{text}' for '--{option} <SECONDS>': a number from 1 to 86400\n\nFor more information, try '--help'.\n"
+            ),
+            WordsFault::NoPart(part) => {
+                write_value(f, part, "--part <TEXT>", ": 1 to 64 printable bytes")
+            }
+            WordsFault::Misfits(why) => write!(f, "{why}"),
+            WordsFault::Memory => f.write_str("dme: out of memory\n"),
+        }
     }
 }
 
@@ -97,48 +133,46 @@ fn copied_maybe(alloc: Global, values: &ArgMatches, id: &str) -> Result<Option<S
     ensures { IfOk result (λ copy. IsMaybeOf id.now (rows_of (found_of values.now))
         (option_map string_bytes copy)) }
 {
-    copied(alloc, value_of(values, id))
+    match value_of(values, id) {
+        Some(text) => Ok(Some(String::from_str(alloc, text)?)),
+        None => Ok(None),
+    }
 }
 
-/// The value of `--window`, which `clap` has found in range.
+/// The value of an option that has a number, which `clap` has found in its range.
+fn number_of(values: &ArgMatches, id: &str, most: u32) -> u32
+    requires number { HasNumber id.now most (rows_of (found_of values.now)) }
+    requires most { most ≤ 4000000000 }
+    ensures named { IsNumberOf id.now most (rows_of (found_of values.now)) result }
+    ensures ready { (1 ≤ result) × (result ≤ most) }
+{
+    match values.get_one::<u32>(id) {
+        Some(number) => number,
+        None => unreachable!(),
+    }
+}
+
+/// The value of `--window`.
 fn window_of(values: &ArgMatches) -> u8
-    requires { HasWindow (rows_of (found_of values.now)) }
+    requires { HasNumber (codes "window") 16 (rows_of (found_of values.now)) }
     ensures named { IsWindowOf (rows_of (found_of values.now)) result }
     ensures ready { is_window result ≡ true }
 {
-    match values.get_one::<u8>("window") {
-        Some(window) => window,
-        None => unreachable!(),
-    }
+    number_of(values, "window", 16) as u8
 }
 
-/// The value of `--port`, which `clap` has found in range.
-fn port_of(values: &ArgMatches) -> u16
-    requires { HasPort (rows_of (found_of values.now)) }
-    ensures named { IsPortOf (rows_of (found_of values.now)) result }
+/// The value of an option that has a port.
+fn port_of(values: &ArgMatches, id: &str) -> u16
+    requires { HasNumber id.now 65535 (rows_of (found_of values.now)) }
+    ensures named { IsNumberOf id.now 65535 (rows_of (found_of values.now)) result }
     ensures ready { 1 ≤ result }
 {
-    match values.get_one::<u16>("port") {
-        Some(port) => port,
-        None => unreachable!(),
-    }
-}
-
-/// The value of `--connections`, which `clap` has found in range.
-fn count_of(values: &ArgMatches) -> u32
-    requires { HasConnections (rows_of (found_of values.now)) }
-    ensures named { IsCountOf (rows_of (found_of values.now)) result }
-    ensures ready { (1 ≤ result) × (result ≤ 4000000000) }
-{
-    match values.get_one::<u32>("connections") {
-        Some(connections) => connections,
-        None => unreachable!(),
-    }
+    number_of(values, id, 65_535) as u16
 }
 
 /// How many connections are taken: with `--endless` as many as can be numbered.
 fn connections_of(values: &ArgMatches) -> u32
-    requires count { HasConnections (rows_of (found_of values.now)) }
+    requires count { HasNumber (codes "connections") 4000000000 (rows_of (found_of values.now)) }
     requires endless { HasFlag (codes "endless") (rows_of (found_of values.now)) }
     ensures named { IsConnectionsOf (rows_of (found_of values.now)) result }
     ensures ready { (1 ≤ result) × (result ≤ 4000000000) }
@@ -146,31 +180,42 @@ fn connections_of(values: &ArgMatches) -> u32
     if flag_of(values, "endless") {
         4_000_000_000
     } else {
-        count_of(values)
+        number_of(values, "connections", 4_000_000_000)
     }
 }
 
-/// The value of `--connection`, which `clap` has found in range.
-fn connection_of(values: &ArgMatches) -> u32
-    requires { HasConnection (rows_of (found_of values.now)) }
-    ensures named { IsConnectionOf (rows_of (found_of values.now)) result }
-    ensures ready { (1 ≤ result) × (result ≤ 4000000000) }
+/// The number of seconds that a text writes, from 1 to 86,400, which is a day.
+fn seconds_in(text: &str) -> Option<u32>
+    ensures { MatchOption result (IsNoSeconds text.now)
+        (λ seconds. IsNumber 86400 seconds text.now) }
 {
-    match values.get_one::<u32>("connection") {
-        Some(connection) => connection,
-        None => unreachable!(),
+    match text.parse::<i64>() {
+        Ok(seconds) => {
+            if 1 <= seconds && seconds <= 86_400 {
+                Some(seconds as u32)
+            } else {
+                None
+            }
+        }
+        Err(_) => None,
     }
 }
 
-/// The value of `--listen`, which `clap` has found in range.
-fn listened_of(values: &ArgMatches) -> u16
-    requires { HasListened (rows_of (found_of values.now)) }
-    ensures named { IsListenedOf (rows_of (found_of values.now)) result }
-    ensures ready { 1 ≤ result }
+/// The number of seconds that an option is given, if it is.
+fn seconds_of(
+    alloc: Global,
+    values: &ArgMatches,
+    id: &'static str,
+) -> Result<Option<u32>, WordsFault>
+    ensures named { IfOk result (IsSecondsOf id.now (rows_of (found_of values.now))) }
+    ensures none { IfErr result (HasNoSeconds id.now (rows_of (found_of values.now))) }
 {
-    match values.get_one::<u16>("listen") {
-        Some(port) => port,
-        None => unreachable!(),
+    let Some(text) = value_of(values, id) else {
+        return Ok(None);
+    };
+    match seconds_in(text) {
+        Some(seconds) => Ok(Some(seconds)),
+        None => Err(WordsFault::NoSeconds(id, String::from_str(alloc, text)?)),
     }
 }
 
@@ -184,38 +229,29 @@ fn flag_of(values: &ArgMatches, id: &str) -> bool
 
 /// The values of `check`. Fails only if out of memory.
 fn check_order(alloc: Global, values: &ArgMatches) -> Result<Check, AllocError>
-    requires { HasExplained (rows_of (found_of values.now)) }
+    requires { Has check_line (rows_of (found_of values.now)) }
     ensures { IfOk result (IsCheckOf (rows_of (found_of values.now))) }
 {
-    let setup = copied_maybe(alloc, values, "setup")?;
-    let explain = flag_of(values, "explain");
-    let program = copied_program(alloc, values)?;
     Ok(Check {
-        setup,
-        explain,
-        program,
+        setup: copied_maybe(alloc, values, "setup")?,
+        explain: flag_of(values, "explain"),
+        program: copied_program(alloc, values)?,
     })
 }
 
 /// The values of `simulate`. Fails only if out of memory.
 fn simulate_order(alloc: Global, values: &ArgMatches) -> Result<Simulation, AllocError>
-    requires { HasSimulation (rows_of (found_of values.now)) }
+    requires { Has simulate_line (rows_of (found_of values.now)) }
     ensures named { IfOk result (IsSimulateOf (rows_of (found_of values.now))) }
     ensures ready { IfOk result (λ order. is_window order.window ≡ true) }
 {
-    let setup = copied_value(alloc, values, "setup")?;
-    let schedule = copied_value(alloc, values, "schedule")?;
-    let window = window_of(values);
-    let trace = flag_of(values, "trace");
-    let explain = flag_of(values, "explain");
-    let program = copied_program(alloc, values)?;
     Ok(Simulation {
-        setup,
-        schedule,
-        window,
-        trace,
-        explain,
-        program,
+        setup: copied_value(alloc, values, "setup")?,
+        schedule: copied_value(alloc, values, "schedule")?,
+        window: window_of(values),
+        trace: flag_of(values, "trace"),
+        explain: flag_of(values, "explain"),
+        program: copied_program(alloc, values)?,
     })
 }
 
@@ -236,7 +272,7 @@ fn names_program(values: &ArgMatches) -> bool {
 
 /// The values of `audit` for the record that is named.
 fn record_audit(alloc: Global, values: &ArgMatches, file: String) -> Result<Order, WordsFault>
-    requires explain { HasExplained (rows_of (found_of values.now)) }
+    requires explain { HasFlag (codes "explain") (rows_of (found_of values.now)) }
     requires recorded { IsValueOf (codes "record") (rows_of (found_of values.now))
         (string_bytes file) }
     ensures named { IfOk result (IsAnyAuditOf (rows_of (found_of values.now))) }
@@ -248,20 +284,17 @@ fn record_audit(alloc: Global, values: &ArgMatches, file: String) -> Result<Orde
     if !is_lacking(values, "contacts") {
         return Err(WordsFault::Misfits(Misfit::RecordAndContacts));
     }
-    let setup = copied_maybe(alloc, values, "setup")?;
-    let explain = flag_of(values, "explain");
-    let program = copied_program(alloc, values)?;
     Ok(Order::AuditRecord(RecordAudit {
-        setup,
+        setup: copied_maybe(alloc, values, "setup")?,
         record: file,
-        explain,
-        program,
+        explain: flag_of(values, "explain"),
+        program: copied_program(alloc, values)?,
     }))
 }
 
 /// The values of `audit` without a record.
 fn files_audit(alloc: Global, values: &ArgMatches) -> Result<Order, WordsFault>
-    requires explain { HasExplained (rows_of (found_of values.now)) }
+    requires explain { HasFlag (codes "explain") (rows_of (found_of values.now)) }
     requires recorded { HasNone (codes "record") (rows_of (found_of values.now)) }
     ensures named { IfOk result (IsAnyAuditOf (rows_of (found_of values.now))) }
     ensures none { IfErr result (HasNoAudit (rows_of (found_of values.now))) }
@@ -275,23 +308,18 @@ fn files_audit(alloc: Global, values: &ArgMatches) -> Result<Order, WordsFault>
     if lacks.setup || lacks.features || lacks.contacts {
         return Err(WordsFault::Misfits(Misfit::AuditLacks(lacks)));
     }
-    let setup = copied_value(alloc, values, "setup")?;
-    let features = copied_value(alloc, values, "features")?;
-    let contacts = copied_value(alloc, values, "contacts")?;
-    let explain = flag_of(values, "explain");
-    let program = copied_program(alloc, values)?;
     Ok(Order::Audit(Audit {
-        setup,
-        features,
-        contacts,
-        explain,
-        program,
+        setup: copied_value(alloc, values, "setup")?,
+        features: copied_value(alloc, values, "features")?,
+        contacts: copied_value(alloc, values, "contacts")?,
+        explain: flag_of(values, "explain"),
+        program: copied_program(alloc, values)?,
     }))
 }
 
 /// The values of `audit`: of a record, if one is named.
 fn audit_order(alloc: Global, values: &ArgMatches) -> Result<Order, WordsFault>
-    requires { HasExplained (rows_of (found_of values.now)) }
+    requires { Has audit_line (rows_of (found_of values.now)) }
     ensures named { IfOk result (IsAnyAuditOf (rows_of (found_of values.now))) }
     ensures none { IfErr result (HasNoAudit (rows_of (found_of values.now))) }
 {
@@ -303,124 +331,107 @@ fn audit_order(alloc: Global, values: &ArgMatches) -> Result<Order, WordsFault>
 
 /// The values of `loop`. Fails only if out of memory.
 fn loop_order(alloc: Global, values: &ArgMatches) -> Result<Loop, AllocError>
-    requires { HasLoop (rows_of (found_of values.now)) }
+    requires { Has loop_line (rows_of (found_of values.now)) }
     ensures named { IfOk result (IsLoopOf (rows_of (found_of values.now))) }
     ensures ready { IfOk result (λ order. is_window order.window ≡ true) }
 {
-    let setup = copied_value(alloc, values, "setup")?;
-    let window = window_of(values);
-    let progress = flag_of(values, "progress");
-    let trace = flag_of(values, "trace");
-    let explain = flag_of(values, "explain");
-    let program = copied_program(alloc, values)?;
     Ok(Loop {
-        setup,
-        window,
-        progress,
-        trace,
-        explain,
-        program,
+        setup: copied_value(alloc, values, "setup")?,
+        window: window_of(values),
+        progress: flag_of(values, "progress"),
+        trace: flag_of(values, "trace"),
+        explain: flag_of(values, "explain"),
+        program: copied_program(alloc, values)?,
     })
 }
 
-/// The values of `serve`. Fails only if out of memory.
-fn serve_order(alloc: Global, values: &ArgMatches) -> Result<Service, AllocError>
-    requires { HasService (rows_of (found_of values.now)) }
+/// The values of `serve`.
+fn serve_order(alloc: Global, values: &ArgMatches) -> Result<Service, WordsFault>
+    requires { Has serve_line (rows_of (found_of values.now)) }
     ensures named { IfOk result (IsServeOf (rows_of (found_of values.now))) }
+    ensures none { IfErr result (HasNoSeconds (codes "timeout") (rows_of (found_of values.now))) }
     ensures ready { IfOk result (λ order. (1 ≤ order.port)
         × (1 ≤ order.connections) × (order.connections ≤ 4000000000)) }
 {
-    let setup = copied_value(alloc, values, "setup")?;
-    let listen = copied_maybe(alloc, values, "listen")?;
-    let port = port_of(values);
-    let connections = connections_of(values);
-    let contacts = copied_maybe(alloc, values, "contacts")?;
-    let progress = flag_of(values, "progress");
-    let trace = flag_of(values, "trace");
-    let log = copied_maybe(alloc, values, "log")?;
-    let timeout = copied_maybe(alloc, values, "timeout")?;
-    let stop = copied_maybe(alloc, values, "stop")?;
-    let explain = flag_of(values, "explain");
     Ok(Service {
-        setup,
-        listen,
-        port,
-        connections,
-        contacts,
-        progress,
-        trace,
-        log,
-        timeout,
-        stop,
-        explain,
+        setup: copied_value(alloc, values, "setup")?,
+        listen: copied_maybe(alloc, values, "listen")?,
+        port: port_of(values, "port"),
+        connections: connections_of(values),
+        contacts: copied_maybe(alloc, values, "contacts")?,
+        progress: flag_of(values, "progress"),
+        trace: flag_of(values, "trace"),
+        log: copied_maybe(alloc, values, "log")?,
+        timeout: seconds_of(alloc, values, "timeout")?,
+        stop: copied_maybe(alloc, values, "stop")?,
+        explain: flag_of(values, "explain"),
     })
 }
 
-/// Whether a part is named if a record is.
-fn names_its_part(values: &ArgMatches) -> bool
-    ensures { result ≡ names_its_part (rows_of (found_of values.now)) }
+/// What the part of a record is called, if it is named.
+fn part_of(alloc: Global, values: &ArgMatches) -> Result<Option<String>, WordsFault>
+    ensures named { IfOk result (λ part. IsPartOf (rows_of (found_of values.now))
+        (option_map string_bytes part)) }
+    ensures none { IfErr result (HasNoPart (rows_of (found_of values.now))) }
 {
-    is_lacking(values, "record") || !is_lacking(values, "part")
+    match copied_maybe(alloc, values, "part")? {
+        Some(part) => {
+            if is_part(part.as_bytes()) {
+                Ok(Some(part))
+            } else {
+                Err(WordsFault::NoPart(part))
+            }
+        }
+        None => Ok(None),
+    }
 }
 
-/// The values of `run`, whose record has a part. Fails only if out of memory.
-fn run_values(alloc: Global, values: &ArgMatches) -> Result<Run, AllocError>
-    requires needed { HasRun (rows_of (found_of values.now)) }
-    requires part { names_its_part (rows_of (found_of values.now)) ≡ true }
+/// The values of `run`, but for its record.
+fn run_values(alloc: Global, values: &ArgMatches) -> Result<Run, WordsFault>
+    requires { Has run_line (rows_of (found_of values.now)) }
     ensures named { IfOk result (IsRunOf (rows_of (found_of values.now))) }
     ensures ready { IfOk result (λ order. (1 ≤ order.port)
         × (is_window order.window ≡ true)) }
+    ensures none { IfErr result (HasNoRunValue (rows_of (found_of values.now))) }
 {
-    let setup = copied_value(alloc, values, "setup")?;
-    let host = copied_value(alloc, values, "host")?;
-    let port = port_of(values);
-    let window = window_of(values);
-    let features = copied_maybe(alloc, values, "features")?;
-    let record = copied_maybe(alloc, values, "record")?;
-    let part = copied_maybe(alloc, values, "part")?;
-    let contacts = copied_maybe(alloc, values, "contacts")?;
-    let progress = flag_of(values, "progress");
-    let trace = flag_of(values, "trace");
-    let log = copied_maybe(alloc, values, "log")?;
-    let timeout = copied_maybe(alloc, values, "timeout")?;
-    let wait = copied_maybe(alloc, values, "wait")?;
-    let stop = copied_maybe(alloc, values, "stop")?;
-    let confirm = flag_of(values, "confirm");
-    let explain = flag_of(values, "explain");
-    let program = copied_program(alloc, values)?;
+    let timeout = seconds_of(alloc, values, "timeout")?;
+    let wait = seconds_of(alloc, values, "wait")?;
     Ok(Run {
-        setup,
-        host,
-        port,
-        window,
-        features,
-        record,
-        part,
-        contacts,
-        progress,
-        trace,
-        log,
+        setup: copied_value(alloc, values, "setup")?,
+        host: copied_value(alloc, values, "host")?,
+        port: port_of(values, "port"),
+        window: window_of(values),
+        features: copied_maybe(alloc, values, "features")?,
+        record: copied_maybe(alloc, values, "record")?,
+        part: part_of(alloc, values)?,
+        contacts: copied_maybe(alloc, values, "contacts")?,
+        progress: flag_of(values, "progress"),
+        trace: flag_of(values, "trace"),
+        log: copied_maybe(alloc, values, "log")?,
         timeout,
         wait,
-        stop,
-        confirm,
-        explain,
-        program,
+        stop: copied_maybe(alloc, values, "stop")?,
+        confirm: flag_of(values, "confirm"),
+        explain: flag_of(values, "explain"),
+        program: copied_program(alloc, values)?,
     })
 }
 
-/// The values of `run`. A record is of a part, so that its points are not taken for those of another.
+/// The values of `run`. A record is of a part, so that its points are not taken for those of another, and a part is that of a record.
 fn run_order(alloc: Global, values: &ArgMatches) -> Result<Run, WordsFault>
-    requires { HasRun (rows_of (found_of values.now)) }
+    requires { Has run_line (rows_of (found_of values.now)) }
     ensures named { IfOk result (IsRunOf (rows_of (found_of values.now))) }
+    ensures part { OnOk result (NamesItsPart (rows_of (found_of values.now))) }
     ensures ready { IfOk result (λ order. (1 ≤ order.port)
         × (is_window order.window ≡ true)) }
     ensures none { IfErr result (HasNoRun (rows_of (found_of values.now))) }
 {
-    if !names_its_part(values) {
-        return Err(WordsFault::Misfits(Misfit::RecordWithoutPart));
+    match (is_lacking(values, "record"), is_lacking(values, "part")) {
+        (false, true) => Err(WordsFault::Misfits(Misfit::RecordWithoutPart)),
+        (true, false) => Err(WordsFault::Misfits(Misfit::PartWithoutRecord)),
+        (true, true) => run_values(alloc, values),
+        (false, false) => run_values(alloc, values),
     }
-    Ok(run_values(alloc, values)?)
 }
 
 /// The refusal that this code names, its letters in any case.
@@ -437,7 +448,7 @@ fn topic_of(code: String) -> Result<Topic, WordsFault>
 
 /// The refusal that `explain` names.
 fn explain_order(alloc: Global, values: &ArgMatches) -> Result<Topic, WordsFault>
-    requires { HasValue (codes "CODE") (rows_of (found_of values.now)) }
+    requires { Has explain_line (rows_of (found_of values.now)) }
     ensures named { IfOk result (IsExplainOf (rows_of (found_of values.now))) }
     ensures none { IfErr result (HasNoTopic (rows_of (found_of values.now))) }
 {
@@ -468,7 +479,7 @@ fn record_export(
     form: RecordForm,
     file: String,
 ) -> Result<Order, WordsFault>
-    requires explain { HasExplained (rows_of (found_of values.now)) }
+    requires explain { HasFlag (codes "explain") (rows_of (found_of values.now)) }
     requires form { IsValueOf (codes "as") (rows_of (found_of values.now)) (form_word form) }
     requires recorded { IsValueOf (codes "record") (rows_of (found_of values.now))
         (string_bytes file) }
@@ -492,7 +503,7 @@ fn features_export(
     form: RecordForm,
     features: String,
 ) -> Result<Order, WordsFault>
-    requires explain { HasExplained (rows_of (found_of values.now)) }
+    requires explain { HasFlag (codes "explain") (rows_of (found_of values.now)) }
     requires form { IsValueOf (codes "as") (rows_of (found_of values.now)) (form_word form) }
     requires features { IsValueOf (codes "features") (rows_of (found_of values.now))
         (string_bytes features) }
@@ -534,7 +545,7 @@ fn export_lacks(values: &ArgMatches, word: &str) -> Misfit
 
 /// The values of `export`: of a record, if one is named.
 fn export_order(alloc: Global, values: &ArgMatches) -> Result<Order, WordsFault>
-    requires { HasExport (rows_of (found_of values.now)) }
+    requires { Has export_line (rows_of (found_of values.now)) }
     ensures named { IfOk result (IsAnyExportOf (rows_of (found_of values.now))) }
     ensures none { IfErr result (HasNoExport (rows_of (found_of values.now))) }
 {
@@ -549,12 +560,25 @@ fn export_order(alloc: Global, values: &ArgMatches) -> Result<Order, WordsFault>
     }
 }
 
-/// The values of `review`. Fails only if out of memory.
-fn review_order(alloc: Global, values: &ArgMatches) -> Result<Review, AllocError>
-    ensures { IfOk result (IsReviewOf (rows_of (found_of values.now))) }
+/// Whether findings are printed as JSON; as lines if no form is named.
+fn is_json(alloc: Global, values: &ArgMatches) -> Result<bool, WordsFault>
+    ensures named { IfOk result (IsFindingFormOf (rows_of (found_of values.now))) }
+    ensures none { IfErr result (HasNoReview (rows_of (found_of values.now))) }
+{
+    match value_of(values, "as") {
+        Some("json") => Ok(true),
+        Some(word) => Err(WordsFault::NoFindingForm(String::from_str(alloc, word)?)),
+        None => Ok(false),
+    }
+}
+
+/// The values of `review`.
+fn review_order(alloc: Global, values: &ArgMatches) -> Result<Review, WordsFault>
+    ensures named { IfOk result (IsReviewOf (rows_of (found_of values.now))) }
+    ensures none { IfErr result (HasNoReview (rows_of (found_of values.now))) }
 {
     Ok(Review {
-        form: copied_maybe(alloc, values, "as")?,
+        is_json: is_json(alloc, values)?,
         setup: copied_maybe(alloc, values, "setup")?,
         program: copied_program(alloc, values)?,
     })
@@ -562,57 +586,47 @@ fn review_order(alloc: Global, values: &ArgMatches) -> Result<Review, AllocError
 
 /// The values of `ledger`. Fails only if out of memory.
 fn ledger_order(alloc: Global, values: &ArgMatches) -> Result<Ledger, AllocError>
-    requires { HasLedger (rows_of (found_of values.now)) }
+    requires { Has ledger_line (rows_of (found_of values.now)) }
     ensures named { IfOk result (IsLedgerOf (rows_of (found_of values.now))) }
     ensures ready { IfOk result (λ order. (1 ≤ order.connection)
         × (order.connection ≤ 4000000000)) }
 {
-    let up = copied_value(alloc, values, "up")?;
-    let down = copied_value(alloc, values, "down")?;
-    let connection = connection_of(values);
     Ok(Ledger {
-        up,
-        down,
-        connection,
+        up: copied_value(alloc, values, "up")?,
+        down: copied_value(alloc, values, "down")?,
+        connection: number_of(values, "connection", 4_000_000_000),
     })
 }
 
 /// The values of `judge`. Fails only if out of memory.
 fn judge_order(alloc: Global, values: &ArgMatches) -> Result<Judge, AllocError>
-    requires { HasJudge (rows_of (found_of values.now)) }
+    requires { Has judge_line (rows_of (found_of values.now)) }
     ensures { IfOk result (IsJudgeOf (rows_of (found_of values.now))) }
 {
-    let up = copied_value(alloc, values, "up")?;
-    let down = copied_value(alloc, values, "down")?;
-    Ok(Judge { up, down })
+    Ok(Judge {
+        up: copied_value(alloc, values, "up")?,
+        down: copied_value(alloc, values, "down")?,
+    })
 }
 
-/// The values of `watch`. Fails only if out of memory.
-fn watch_order(alloc: Global, values: &ArgMatches) -> Result<Watch, AllocError>
-    requires { HasWatch (rows_of (found_of values.now)) }
+/// The values of `watch`.
+fn watch_order(alloc: Global, values: &ArgMatches) -> Result<Watch, WordsFault>
+    requires { Has watch_line (rows_of (found_of values.now)) }
     ensures named { IfOk result (IsWatchOf (rows_of (found_of values.now))) }
+    ensures none { IfErr result (HasNoSeconds (codes "timeout") (rows_of (found_of values.now))) }
     ensures ready { IfOk result (λ order. (1 ≤ order.listen) × (1 ≤ order.port)
         × (1 ≤ order.connections) × (order.connections ≤ 4000000000)) }
 {
-    let listen = listened_of(values);
-    let host = copied_value(alloc, values, "host")?;
-    let port = port_of(values);
-    let told = copied_value(alloc, values, "told")?;
-    let record_bytes = copied_maybe(alloc, values, "record-bytes")?;
-    let connections = connections_of(values);
-    let trace = flag_of(values, "trace");
-    let log = copied_maybe(alloc, values, "log")?;
-    let timeout = copied_maybe(alloc, values, "timeout")?;
     Ok(Watch {
-        listen,
-        host,
-        port,
-        told,
-        record_bytes,
-        connections,
-        trace,
-        log,
-        timeout,
+        listen: port_of(values, "listen"),
+        host: copied_value(alloc, values, "host")?,
+        port: port_of(values, "port"),
+        told: copied_value(alloc, values, "told")?,
+        record_bytes: copied_maybe(alloc, values, "record-bytes")?,
+        connections: connections_of(values),
+        trace: flag_of(values, "trace"),
+        log: copied_maybe(alloc, values, "log")?,
+        timeout: seconds_of(alloc, values, "timeout")?,
     })
 }
 
@@ -621,8 +635,7 @@ fn later_order(alloc: Global, name: &str, values: &ArgMatches) -> Result<Order, 
     requires { IsLaterAskable (name.now, rows_of (found_of values.now)) }
     ensures named { IfOk result (IsOrderOf (Some (name.now, rows_of (found_of values.now)))) }
     ensures ready { IfOk result IsReady }
-    ensures none { IfErr result
-        (AsksForNothing (Some (name.now, rows_of (found_of values.now)))) }
+    ensures none { IfErr result (IsRefusedOf (name.now, rows_of (found_of values.now))) }
 {
     match name {
         "serve" => Ok(Order::Serve(serve_order(alloc, values)?)),
