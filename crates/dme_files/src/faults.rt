@@ -45,9 +45,6 @@ pub fn why(kind: ErrorKind) -> &'static str {
     }
 }
 
-/// Why a file that was removed, or has another in its place, does not keep what is written to it.
-pub const REMOVED: &str = ": removed or replaced";
-
 /// The name of a file that cannot be written, with the reason if there is memory for it.
 pub fn unwritten(mut name: String, why: &'static str) -> String {
     let _ = name.push_str(why);

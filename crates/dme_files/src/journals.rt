@@ -1,12 +1,8 @@
 // Journals: files that a command begins anew once it listens, and that grow from then on.
 
-use crate::faults::REMOVED;
 use crate::locked_files::{LockedFile, NextFile};
-use crate::text_files::{beside, may_be_replaced};
-use dme_orders::OrderFault;
-use record_keeping::GrowingFile;
-use std::alloc::AllocError;
 use std::fs::{self, File};
+use std::io::{self, ErrorKind};
 use std::rt::Files;
 
 /// A journal that can be written. Its file is as it was until it begins.
@@ -32,70 +28,47 @@ fn is_bare<R: Files + AllocGlobal>(rt: &R, name: &str, head: &[u8]) -> bool {
     }
 }
 
-/// The name under which what was in the file of this name stays.
-fn old_name<R: AllocGlobal>(rt: &R, name: &str) -> Result<String, AllocError> {
-    format!(in rt.alloc(); "{name}.old")
-}
-
 impl NextJournal {
-    /// Locks the file of this name, which may be no link, device or pipe. Its text will begin with this head.
-    pub fn make<R: Files<File = File> + AllocGlobal>(
+    /// Locks the file of this name, which may be no link, device or pipe, and makes the one next to it. Its text will begin with this head.
+    pub fn locked<R: Files<File = File> + AllocGlobal>(
         rt: &R,
-        name: String,
+        name: &str,
+        beside: &str,
         head: &[u8],
-    ) -> Result<NextJournal, OrderFault> {
-        let beside = beside(rt.alloc(), name.as_str())?;
-        if !may_be_replaced(rt, name.as_str()) {
-            return Err(OrderFault::CannotWrite(name));
-        }
-        match NextFile::make(rt, name.as_str(), beside.as_str(), head) {
-            Ok(next) => {
-                let is_bare = is_bare(rt, name.as_str(), head);
-                Ok(NextJournal {
-                    name,
-                    beside,
-                    next,
-                    is_bare,
-                })
-            }
-            Err(_) => Err(OrderFault::CannotWrite(name)),
-        }
+    ) -> io::Result<NextJournal> {
+        let names = (
+            String::from_str(rt.alloc(), name)?,
+            String::from_str(rt.alloc(), beside)?,
+        );
+        let next = NextFile::make(rt, name, beside, head)?;
+        Ok(NextJournal {
+            name: names.0,
+            beside: names.1,
+            next,
+            is_bare: is_bare(rt, name, head),
+        })
     }
 
-    /// What was in the file stays, in a file next to it whose name ends in `.old`, and that is reported.
-    fn keep_old<R: Files + Eprint + AllocGlobal>(&self, rt: &R) -> Result<(), OrderFault> {
-        let name = &self.name;
-        let old = old_name(rt, name.as_str())?;
-        match fs::rename(rt, name.as_str(), old.as_str()) {
-            Ok(()) => {
-                let _ = eprintln!(rt; "dme: what was in {name} stays as {old}");
-                Ok(())
-            }
-            Err(_) => Err(OrderFault::CannotWrite(old)),
-        }
+    /// Whether the file has nothing but a part of its head.
+    pub fn is_bare(&self) -> bool {
+        self.is_bare
     }
 
-    /// From now on the file has nothing but its head, and grows. If that is refused, it is as it was.
-    pub fn begin<R: Files<File = File> + Eprint + AllocGlobal>(
-        self,
-        rt: &R,
-    ) -> Result<Journal, OrderFault> {
-        if !self.is_bare
-            && let Err(fault) = self.keep_old(rt)
-        {
-            self.discard(rt);
-            return Err(fault);
-        }
+    /// What was in the file stays, under this name.
+    pub fn set_aside<R: Files>(&self, rt: &R, old: &str) -> io::Result<()> {
+        fs::rename(rt, self.name.as_str(), old)
+    }
+
+    /// The new file takes the name of the file, and grows from now on.
+    pub fn put<R: Files<File = File>>(self, rt: &R) -> io::Result<Journal> {
         let NextJournal {
             name,
             beside,
             next,
             ..
         } = self;
-        match next.put(rt, name.as_str(), beside.as_str()) {
-            Ok(file) => Ok(Journal { name, file }),
-            Err(_) => Err(OrderFault::CannotWrite(name)),
-        }
+        let file = next.put(rt, name.as_str(), beside.as_str())?;
+        Ok(Journal { name, file })
     }
 
     /// Leaves the file as it was.
@@ -118,19 +91,25 @@ pub struct Journal {
 }
 
 impl Journal {
-    /// Appends a text, and forces all to the device if asked. An error is why it is not kept, as it is shown after the file's name.
-    pub fn add<R: Files<File = File>>(
-        &mut self,
-        rt: &R,
-        text: &[u8],
-        is_forced: bool,
-    ) -> Result<(), &'static str> {
-        if self.file.append(text, is_forced).is_err() {
-            return Err(self.file.why());
+    /// Whether the file has its name, as a result: else it fails as `StaleNetworkFileHandle`.
+    fn named<R: Files<File = File>>(&self, rt: &R) -> io::Result<()> {
+        if self.file.is_named(rt, self.name.as_str()) {
+            Ok(())
+        } else {
+            Err(io::Error::from(ErrorKind::StaleNetworkFileHandle))
         }
-        if !self.file.is_named(rt, self.name.as_str()) {
-            return Err(REMOVED);
-        }
-        Ok(())
+    }
+
+    /// Appends a text to a file that has its name.
+    pub fn append<R: Files<File = File>>(&mut self, rt: &R, text: &[u8]) -> io::Result<()> {
+        self.file.add(text)?;
+        self.named(rt)
+    }
+
+    /// Likewise, and forces all to the device.
+    pub fn keep<R: Files<File = File>>(&mut self, rt: &R, text: &[u8]) -> io::Result<()> {
+        self.file.add(text)?;
+        self.file.force()?;
+        self.named(rt)
     }
 }

@@ -23,4 +23,4 @@ pub use files::{NamedSource, Sources};
 pub use journals::{Journal, NextJournal};
 pub use locked_files::{HeldFile, LockedFile, NextFile};
 pub use names::{CalledFiles, meet};
-pub use text_files::{NamedFile, beside, is_plain, is_whole, may_be_replaced};
+pub use text_files::{NamedFile, beside, is_plain, is_whole, may_be_replaced, replace_file};

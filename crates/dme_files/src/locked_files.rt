@@ -175,6 +175,16 @@ impl NextFile {
 }
 
 impl LockedFile {
+    /// Appends a text.
+    pub fn add(&mut self, text: &[u8]) -> io::Result<()> {
+        self.file.write_all(text)
+    }
+
+    /// Forces all to the device.
+    pub fn force(&mut self) -> io::Result<()> {
+        self.file.sync_data()
+    }
+
     /// Why the file has failed, as it is shown after its name.
     pub fn why(&self) -> &'static str {
         self.why

@@ -82,6 +82,38 @@ pub fn is_whole<R: Files>(rt: &R, name: &str, length: usize) -> bool {
     }
 }
 
+/// Writes all of a text to a new file, forces it to the device, and only then gives the file its name, which is forced there too.
+fn settle<R: Files>(
+    rt: &R,
+    file: &mut R::File,
+    text: &[u8],
+    (beside, name): (&str, &str),
+) -> io::Result<()> {
+    file.write_all(text)?;
+    file.sync_all()?;
+    fs::rename(rt, beside, name)?;
+    settle_name(rt, name)
+}
+
+/// Puts a new file in the place of the one of this name. What was begun and could not be put there is removed.
+fn put<R: Files>(rt: &R, text: &[u8], beside: &str, name: &str) -> io::Result<()> {
+    let mut file = make_beside(rt, name, beside)?;
+    let result = settle(rt, &mut file, text, (beside, name));
+    if result.is_err() {
+        let _ = fs::remove_file(rt, beside);
+    }
+    result
+}
+
+/// Writes a text to the file of this name, which is replaced if it may be.
+pub fn replace_file<R: Files>(rt: &R, text: &[u8], beside: &str, name: &str) -> io::Result<()> {
+    if may_be_replaced(rt, name) {
+        put(rt, text, beside, name)
+    } else {
+        fs::write(rt, name, text)
+    }
+}
+
 /// A file of this name, `-` too, or no file if none is named. A text is written to a file next to it, whose name ends in `.new`, forced to
 /// the device, and renamed, so that a crash leaves the old text or the new one. A link, a device or a pipe of this name is written itself.
 /// It does not report its text.
@@ -116,33 +148,6 @@ impl<'a, R: Files + AllocGlobal> NamedFile<'a, R> {
     pub fn why(&self) -> &'static str {
         self.why
     }
-
-    /// Writes all of a text to a new file, forces it to the device, and only then gives the file its name, which is forced there too.
-    fn settle(&self, file: &mut R::File, text: &[u8], beside: &str, name: &str) -> io::Result<()> {
-        file.write_all(text)?;
-        file.sync_all()?;
-        fs::rename(self.rt, beside, name)?;
-        settle_name(self.rt, name)
-    }
-
-    /// Puts a new file in the place of the one of this name. What was begun and could not be put there is removed.
-    fn put(&self, text: &[u8], beside: &str, name: &str) -> io::Result<()> {
-        let mut file = make_beside(self.rt, name, beside)?;
-        let result = self.settle(&mut file, text, beside, name);
-        if result.is_err() {
-            let _ = fs::remove_file(self.rt, beside);
-        }
-        result
-    }
-
-    /// Writes a text to the file of this name, which is replaced if it may be.
-    fn write(&self, text: &[u8], beside: &str, name: &str) -> io::Result<()> {
-        if may_be_replaced(self.rt, name) {
-            self.put(text, beside, name)
-        } else {
-            fs::write(self.rt, name, text)
-        }
-    }
 }
 
 impl<'a, R: Files + AllocGlobal> TextFile for NamedFile<'a, R> {
@@ -152,7 +157,7 @@ impl<'a, R: Files + AllocGlobal> TextFile for NamedFile<'a, R> {
 
     fn replace(&mut self, text: &[u8]) -> Result<(), Failed> {
         let result = match &self.names {
-            Some((name, beside)) => self.write(text, beside.as_str(), name.as_str()),
+            Some((name, beside)) => replace_file(self.rt, text, beside.as_str(), name.as_str()),
             None => Ok(()),
         };
         self.has_failed = result.is_err();

@@ -1,4 +1,3 @@
-pub mod Arriving
 pub mod Calls
 pub mod Confirming
 pub mod Plan
@@ -17,7 +16,6 @@ pub mod Ends
 pub mod Looping
 pub mod Driving
 pub mod Reviewing
-pub mod Serving
 pub mod Explaining
 pub mod Missing
 pub mod Kept

@@ -12,11 +12,10 @@
 //! - `preparing`: the files of an order over a connection are read before there is one
 //! - `looping`: a program is run over one connection between both ends
 //! - `driving`: a program is run on a server over a connection, and its features are kept; `confirming`: the answer that begins it
-//! - `serving`: connections are served, and what was done is kept and shown
 //! - `text_files`: files that are replaced as a whole, as the orders see them
 //! - `ends`, `ended`: the two ends of a connection and their reports; how it has ended, and what is shown of that; `run_beginnings`,
 //!   `run_endings`: what a run says before it connects, and last
-//! - `calls`: why a server that was called has not answered; `arriving`: which bytes of a peer were waited for
+//! - `calls`: why a server that was called has not answered
 //! - `check`: the command lines of a program, from any reader to any writer
 //! - `plan`: the commands of a program on a new connection, as text
 //! - `reviewing`: everything that stands between a program and its run is listed
@@ -24,7 +23,6 @@
 //! - `faults`: what is shown for an order that was not carried out, and its exit status
 #![tactic(auto)]
 
-mod arriving;
 mod auditing;
 mod calls;
 mod check;
@@ -47,12 +45,10 @@ mod reviewing;
 mod run_beginnings;
 mod run_endings;
 mod run_errors;
-mod serving;
 mod simulating;
 mod text_files;
 mod verdicts;
 
-pub use arriving::line_came;
 pub use auditing::{AuditFiles, audit_files};
 pub use calls::refused_call;
 pub use check::{CheckFault, check_plan};
@@ -74,7 +70,6 @@ pub use reading::{FilesFault, Role, read_setup};
 pub use reviewing::review_program;
 pub use run_beginnings::kept_text;
 pub use run_endings::{Counts, LastLine, RunEnding, StopCause, last_line};
-pub use serving::{close_service, serve_one, with_break};
 pub use simulating::{SimulationFiles, simulate};
 pub use text_files::TextFile;
 pub use verdicts::{status, write_verdict};

@@ -3,11 +3,11 @@
 //!
 //! What an order does is in `dme_orders`, over ports. This is the edge, where files, sockets and the standard streams are those ports.
 //!
-//! `dme_files` and `dme_sockets` have the ports of its commands. `dme_run`, `dme_serve` and `dme_watch` have those commands that need a
-//! connection to another process.
+//! `dme_files` and `dme_sockets` have the ports of its commands. `dme_run` has the command that drives a server.
 //!
 //! - `running`: an order is carried out on files and the standard streams
 //! - `connecting`: the order `loop`, over a connection of the process to itself; `tracing`: the lines of that connection
+//! - `serving`, `watching`: the orders `serve` and `watch`, by their sessions
 //! - `exporting`: what was measured is printed, and what a refusal means
 //! - `version`: which program this is
 #![tactic(auto)]
@@ -15,8 +15,10 @@
 mod connecting;
 mod exporting;
 mod running;
+mod serving;
 mod tracing;
 mod version;
+mod watching;
 
 use std::fs::{File, OpenOptions};
 use std::os::fd::{AsRawFd, IntoRawFd};

@@ -7,8 +7,10 @@ ghost use Rattle.dme_program.specs.Blamed.{OnSetup};
 
 use crate::connecting::loop_program;
 use crate::exporting::{explain_topic, export, export_of_record, record_files, tell_notes};
+use crate::serving::serve;
 use crate::tracing::ErrorOutput;
 use crate::version;
+use crate::watching::watch;
 use byte_ports::Writing;
 use dme_files::{Fault, NamedSource, Sources, refused, tell_audit};
 use dme_hands::RealHands;
@@ -17,8 +19,6 @@ use dme_orders::{
     check_under_setup, review_program, simulate, status,
 };
 use dme_run::run_program;
-use dme_serve::serve;
-use dme_watch::watch;
 use dme_words::{Audit, Check, Order, RecordAudit, Review, Simulation, read_words};
 use ledger_session::{Job, Session, run as run_session};
 use review_report::{FindingForm, FindingStyle};
@@ -242,12 +242,17 @@ fn audit_of_record<R: Files + Input + Print + Eprint + AllocGlobal>(
 
 /// The order `ledger` or `judge`: its exit status, or 70 once no more turns can be counted.
 #[inline(never)]
-fn read_recordings<R: Files + Input + Print + Eprint + AllocGlobal + Clone + Drop>(
-    rt: &R,
-    job: Job,
-    up: String,
-    down: String,
-) -> Result<u8, Fault> {
+fn read_recordings<
+    R: Files<File = File>
+        + Input
+        + Print
+        + Eprint
+        + Clock
+        + Net<Listener = TcpListener, Stream = TcpStream>
+        + AllocGlobal
+        + Clone
+        + Drop,
+>(rt: &R, job: Job, up: String, down: String) -> Result<u8, Fault> {
     let mut hands = RealHands::new(rt.clone()?);
     let mut session = Session::new(rt.alloc(), job, up, down)?;
     Ok(run_session(&mut session, &mut hands).unwrap_or(70))

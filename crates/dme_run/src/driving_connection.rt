@@ -187,7 +187,7 @@ fn drive_stream<R: Files + Eprint + Clock + AllocGlobal, N: Watcher, F: TextFile
     (talk, watcher): (&RefCell<Talk<'_, R>>, &mut N),
     outputs: &mut RunOutputs<F, O>,
 ) -> Result<RunEnd, FilesFault> {
-    let source = PatientSource::new(stream, patience, false);
+    let source = PatientSource::new(stream, patience);
     let mut ports = Ports {
         source: HeardPort::new(source, Side::Server, talk),
         sink: SaidPort::new(PatientSink::new(stream, patience), Side::Client, talk),

@@ -5,8 +5,9 @@ ghost use Rattle.std.specs.Prelude.{◌≤◌, length, IfOk};
 use byte_ports::{Failed, Sink, Source};
 use client_core::Client;
 use dme_files::Fault;
-use dme_orders::{OrderFault, line_came};
+use dme_orders::OrderFault;
 use link_world::{Course, Steering};
+use services::line_came;
 use std::alloc::{AllocError, Global};
 use std::cell::Cell;
 use std::fs;
@@ -79,21 +80,6 @@ impl<'a, R> Patience<'a, R> {
     /// How many seconds a peer may be silent, if that is limited.
     pub fn seconds(&self) -> Option<u32> {
         self.timeout
-    }
-
-    /// Whether a stop file is named.
-    pub fn has_stop(&self) -> bool {
-        self.stop.is_some()
-    }
-
-    /// What the peer has not done, if its time is over.
-    pub fn lapse(&self) -> Option<Lapse> {
-        self.lapse.get()
-    }
-
-    /// A peer of before is the one whose time is over, if one is.
-    pub fn keep(&self, lapse: Option<Lapse>) {
-        self.lapse.set(lapse);
     }
 
     /// A connection begins: its reads and writes come back in time.
@@ -249,43 +235,33 @@ impl<'a, 'b, R: Files + Clock> Steering for StopFile<'a, 'b, R> {
     }
 }
 
-/// A connection as a source. It has failed if nothing has come for too long.
-///
-/// That of a client gives one line at a time: so the line that ends a connection is the last that was given. That of a server gives all that
-/// has come, so that a command can wait for those before it; a stop file is its end.
+/// A connection as a source. It has failed if nothing has come for too long. It gives one line at a time: so the line that ends a connection
+/// is the last that was given.
 #[derive(Drop)]
 pub struct PatientSource<'a, 'b, R> {
     stream: &'a TcpStream,
     patience: &'a Patience<'b, R>,
-    is_server: bool,
     /// What has come of a line, as far as it matters to the peer's time.
     seen: u8,
     has_failed: bool,
 }
 
 impl<'a, 'b, R> PatientSource<'a, 'b, R> {
-    pub fn new(stream: &'a TcpStream, patience: &'a Patience<'b, R>, is_server: bool) -> Self {
+    pub fn new(stream: &'a TcpStream, patience: &'a Patience<'b, R>) -> Self {
         PatientSource {
             stream,
             patience,
-            is_server,
             seen: 0,
             has_failed: false,
         }
     }
 
-    /// Reads what has come: the first line of it, or all if this is a server's; again if that is interrupted.
+    /// Reads the first line of what has come; again if that is interrupted.
     fn read(&self, buf: &mut [u8]) -> io::Result<usize>
         ensures { IfOk result (λ n. n ≤ length buf.new) }
     {
         for _try in 0..u64::MAX {
-            let read = if self.is_server {
-                let mut stream = self.stream;
-                stream.read(buf)
-            } else {
-                read_line(self.stream, buf)
-            };
-            match read {
+            match read_line(self.stream, buf) {
                 Err(error) if error.kind() == ErrorKind::Interrupted => {}
                 read => return read,
             }
@@ -318,9 +294,8 @@ impl<'a, 'b, R: Files + Clock> Source for PatientSource<'a, 'b, R> {
         if self.has_failed {
             return Err(Failed);
         }
-        match self.patience.wait(self.stream, self.is_server) {
-            Waited::Ready => {}
-            Waited::Stopped => return Ok(0),
+        match self.patience.wait(self.stream, false) {
+            Waited::Ready | Waited::Stopped => {}
             Waited::Lapsed => {
                 self.patience.end();
                 self.has_failed = true;

@@ -3,9 +3,9 @@
 ghost use Rattle.std.specs.Prelude.{◌≡◌};
 ghost use Rattle.effects.specs.Effects.{the_reply, Done};
 
-use crate::Answer;
+use crate::{Answer, Cause};
 use std::alloc::Global;
-use std::io;
+use std::io::{self, ErrorKind};
 use std::marker::Model;
 
 /// What came of an effect, but for its bytes.
@@ -15,7 +15,11 @@ pub enum Kind {
     Bytes,
     End,
     Missing,
-    Failed,
+    Found,
+    Nothing,
+    At(u64),
+    Took(usize),
+    Failed(Cause),
     Short,
 }
 
@@ -53,16 +57,23 @@ impl Came {
             Kind::Bytes => Answer::Bytes(self.bytes.as_slice()),
             Kind::End => Answer::End,
             Kind::Missing => Answer::Missing,
-            Kind::Failed => Answer::Failed,
+            Kind::Found => Answer::Found,
+            Kind::Nothing => Answer::Nothing,
+            Kind::At(ms) => Answer::At(ms),
+            Kind::Took(count) => Answer::Took(count),
+            Kind::Failed(why) => Answer::Failed(why),
             Kind::Short => Answer::Short,
         }
     }
 
-    /// Bytes were read, or there are no more, or it failed.
+    /// Bytes were read, or there are no more, or none have come yet, or it failed.
     pub fn read(&mut self, room: &[u8], count: io::Result<usize>) {
-        let Ok(count) = count else {
-            self.kind = Kind::Failed;
-            return;
+        let count = match count {
+            Ok(count) => count,
+            Err(error) => {
+                self.kind = waited(error.kind());
+                return;
+            }
         };
         self.bytes.clear();
         let bytes = room.get(..count).unwrap_or(&[]);
@@ -80,7 +91,84 @@ impl Came {
         self.kind = match done {
             Ok(()) => Kind::Done,
             Err(error) if error.kind() == io::ErrorKind::NotFound => Kind::Missing,
-            Err(_) => Kind::Failed,
+            Err(error) => Kind::Failed(cause(error.kind())),
         };
+    }
+
+    /// It was carried out, or nothing has come yet, or it failed.
+    pub fn waited(&mut self, done: io::Result<()>) {
+        self.kind = match done {
+            Ok(()) => Kind::Done,
+            Err(error) => waited(error.kind()),
+        };
+    }
+
+    /// That many bytes were taken, or none were yet, or it failed.
+    pub fn took(&mut self, count: io::Result<usize>) {
+        self.kind = match count {
+            Ok(count) => Kind::Took(count),
+            Err(error) => waited(error.kind()),
+        };
+    }
+
+    /// A connection was not made.
+    pub fn unreached(&mut self, error: io::Error) {
+        self.kind = Kind::Failed(cause(error.kind()));
+    }
+
+    /// It failed for this cause.
+    pub fn failed(&mut self, why: Cause) {
+        self.kind = Kind::Failed(why);
+    }
+
+    /// A text is the answer.
+    pub fn text(&mut self, text: &[u8]) {
+        self.read(text, Ok(text.len()));
+    }
+
+    /// It was carried out, or there is more than was looked for, or it failed.
+    pub fn looked(&mut self, has_more: io::Result<bool>) {
+        self.kind = match has_more {
+            Ok(true) => Kind::Found,
+            Ok(false) => Kind::Done,
+            Err(error) => Kind::Failed(cause(error.kind())),
+        };
+    }
+
+    /// A time, if the clock can be read.
+    pub fn timed(&mut self, ms: Option<u64>) {
+        self.kind = match ms {
+            Some(ms) => Kind::At(ms),
+            None => Kind::Failed(Cause::Unknown),
+        };
+    }
+}
+
+/// What came of it if nothing has come, or if it failed.
+fn waited(kind: ErrorKind) -> Kind {
+    match kind {
+        ErrorKind::WouldBlock | ErrorKind::TimedOut => Kind::Nothing,
+        _ => Kind::Failed(cause(kind)),
+    }
+}
+
+/// Why an effect was not carried out.
+fn cause(kind: ErrorKind) -> Cause {
+    match kind {
+        ErrorKind::WouldBlock => Cause::Locked,
+        ErrorKind::FilesystemLoop => Cause::Link,
+        ErrorKind::IsADirectory => Cause::Folder,
+        ErrorKind::AlreadyExists => Cause::Taken,
+        ErrorKind::StaleNetworkFileHandle => Cause::Renamed,
+        ErrorKind::StorageFull | ErrorKind::QuotaExceeded => Cause::Full,
+        ErrorKind::PermissionDenied | ErrorKind::ReadOnlyFilesystem => Cause::Forbidden,
+        ErrorKind::OutOfMemory => Cause::Memory,
+        ErrorKind::AddrInUse => Cause::InUse,
+        ErrorKind::ConnectionReset => Cause::Reset,
+        ErrorKind::ConnectionRefused => Cause::Refused,
+        ErrorKind::TimedOut => Cause::TimedOut,
+        ErrorKind::Interrupted => Cause::Interrupted,
+        ErrorKind::HostUnreachable | ErrorKind::NetworkUnreachable => Cause::Unreachable,
+        _ => Cause::Unknown,
     }
 }

@@ -11,4 +11,4 @@ mod vocabulary;
 
 pub use came::Came;
 pub use hands::Hands;
-pub use vocabulary::{Answer, Effect, Place, Slot};
+pub use vocabulary::{Answer, Cause, Effect, Growth, Peer, Place, Slot};

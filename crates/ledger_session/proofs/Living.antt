@@ -2,7 +2,7 @@
 use Rattle.std.proofs.Common.{◌≡◌, ◌≢◌, ◌⊎◌, ℕ, List, [], ◌∷◌, ◌++◌, refl, ap, sym, ◌∙◌, subst, inl, inr, Bool, true, false, true≢false}
 use Rattle.effects.specs.declared.vocabulary.Slot.{Slot}
 use Rattle.effects.specs.declared.vocabulary.Slot.TheVariants.{Up, Down, Order}
-use Rattle.effects.specs.Effects.{Ask, Open, Read, Print, Say, Exit, Where, Reply, Done, Bytes, End, Missing, Failed, Short, Did}
+use Rattle.effects.specs.Effects.{Ask, Open, Read, Print, Say, Exit, Where, Reply, Done, Bytes, End, Missing, Found, Nothing, At as Timed, Took, Failed, Short, Did}
 use Rattle.watched_ends.specs.declared.recorded.Order.TheVariants as ordered
 use Rattle.watched_ends.specs.declared.recorded.Order as the
 use Rattle.ledger_session.specs.declared.stages.Stage.{Stage}
@@ -138,7 +138,11 @@ opens_either P o Down place Missing a b = b
 opens_either P o Order place Missing a b = a
 opens_either P o slot place (Bytes piece) a b = b
 opens_either P o slot place End a b = b
-opens_either P o slot place Failed a b = b
+opens_either P o slot place Found a b = b
+opens_either P o slot place Nothing a b = b
+opens_either P o slot place (Timed ms) a b = b
+opens_either P o slot place (Took count) a b = b
+opens_either P o slot place (Failed why) a b = b
 
 -- a file was opened, or not
 opening : (slot : Slot) (s t : State) (o : Outside) (r : Reply) → s.slot ≡ slot → At s.slot s.called s o → Kept s.called o → IsOpened slot s r t
@@ -150,7 +154,11 @@ opening Up s t o Missing e a k h = blames s.called t o (Open Up (place_of Up s.c
 opening Down s t o Missing e a k h = blames s.called t o (Open Down (place_of Down s.called)) h k a.7 a.8
 opening slot s t o (Bytes piece) e a k h = blames s.called t o (Open slot (place_of slot s.called)) h k a.7 a.8
 opening slot s t o End e a k h = blames s.called t o (Open slot (place_of slot s.called)) h k a.7 a.8
-opening slot s t o Failed e a k h = blames s.called t o (Open slot (place_of slot s.called)) h k a.7 a.8
+opening slot s t o Found e a k h = blames s.called t o (Open slot (place_of slot s.called)) h k a.7 a.8
+opening slot s t o Nothing e a k h = blames s.called t o (Open slot (place_of slot s.called)) h k a.7 a.8
+opening slot s t o (Timed ms) e a k h = blames s.called t o (Open slot (place_of slot s.called)) h k a.7 a.8
+opening slot s t o (Took count) e a k h = blames s.called t o (Open slot (place_of slot s.called)) h k a.7 a.8
+opening slot s t o (Failed why) e a k h = blames s.called t o (Open slot (place_of slot s.called)) h k a.7 a.8
 
 -- bytes were read
 keeping : (slot : Slot) (s t : State) (o : Outside) (piece : List ℕ) → s.stage ≡ Reading → s.slot ≡ slot → At slot s.called s o → t ≡ with_piece slot s piece
@@ -247,7 +255,11 @@ reading Order s t o End st e a k h = finished s t o a h
 reading slot s t o Short st e a k h = ends_short s.called t o h k (inl a.7)
 reading slot s t o Done st e a k h = blames s.called t o (Read slot) h k a.7 a.8
 reading slot s t o Missing st e a k h = blames s.called t o (Read slot) h k a.7 a.8
-reading slot s t o Failed st e a k h = blames s.called t o (Read slot) h k a.7 a.8
+reading slot s t o Found st e a k h = blames s.called t o (Read slot) h k a.7 a.8
+reading slot s t o Nothing st e a k h = blames s.called t o (Read slot) h k a.7 a.8
+reading slot s t o (Timed ms) st e a k h = blames s.called t o (Read slot) h k a.7 a.8
+reading slot s t o (Took count) st e a k h = blames s.called t o (Read slot) h k a.7 a.8
+reading slot s t o (Failed why) st e a k h = blames s.called t o (Read slot) h k a.7 a.8
 
 -- the notes were said: the text is to be printed
 noted : (c : Called) (s t : State) (o : Outside) → IsNoted c s o → t ≡ record s { stage = Printing } → Inv c t (asks o (asked t))
@@ -281,7 +293,11 @@ printing c s t o Short n h = ends_short c t o h (all_kept c o s.status n.prints)
 printing c s t o (Bytes piece) n h = unwritten c s t o n h
 printing c s t o End n h = unwritten c s t o n h
 printing c s t o Missing n h = unwritten c s t o n h
-printing c s t o Failed n h = unwritten c s t o n h
+printing c s t o Found n h = unwritten c s t o n h
+printing c s t o Nothing n h = unwritten c s t o n h
+printing c s t o (Timed ms) n h = unwritten c s t o n h
+printing c s t o (Took count) n h = unwritten c s t o n h
+printing c s t o (Failed why) n h = unwritten c s t o n h
 
 -- what is asked when memory runs out for an answer
 abbrev IsQuiet : Called → Outside → Type 0
@@ -298,7 +314,11 @@ reads_quiet slot c s o End a = (unprinted c (reads o slot End) slot a.4 a.6, inl
 reads_quiet slot c s o Short a = (unprinted c o slot a.4 a.6, inl a.7)
 reads_quiet slot c s o Done a = (unprinted c (fails o (Read slot)) slot a.4 a.6, inl a.7)
 reads_quiet slot c s o Missing a = (unprinted c (fails o (Read slot)) slot a.4 a.6, inl a.7)
-reads_quiet slot c s o Failed a = (unprinted c (fails o (Read slot)) slot a.4 a.6, inl a.7)
+reads_quiet slot c s o Found a = (unprinted c (fails o (Read slot)) slot a.4 a.6, inl a.7)
+reads_quiet slot c s o Nothing a = (unprinted c (fails o (Read slot)) slot a.4 a.6, inl a.7)
+reads_quiet slot c s o (Timed ms) a = (unprinted c (fails o (Read slot)) slot a.4 a.6, inl a.7)
+reads_quiet slot c s o (Took count) a = (unprinted c (fails o (Read slot)) slot a.4 a.6, inl a.7)
+reads_quiet slot c s o (Failed why) a = (unprinted c (fails o (Read slot)) slot a.4 a.6, inl a.7)
 
 prints_quiet : (c : Called) (s : State) (o : Outside) (r : Reply) → IsShown c s o → IsQuiet c (prints o s.text r)
 prints_quiet c s o Done n = (all_kept c o s.status n.prints, quiet c s o n)
@@ -306,7 +326,11 @@ prints_quiet c s o Short n = (all_kept c o s.status n.prints, quiet c s o n)
 prints_quiet c s o (Bytes piece) n = (kept_failed c o (Print s.text) (all_kept c o s.status n.prints), quiet c s o n)
 prints_quiet c s o End n = (kept_failed c o (Print s.text) (all_kept c o s.status n.prints), quiet c s o n)
 prints_quiet c s o Missing n = (kept_failed c o (Print s.text) (all_kept c o s.status n.prints), quiet c s o n)
-prints_quiet c s o Failed n = (kept_failed c o (Print s.text) (all_kept c o s.status n.prints), quiet c s o n)
+prints_quiet c s o Found n = (kept_failed c o (Print s.text) (all_kept c o s.status n.prints), quiet c s o n)
+prints_quiet c s o Nothing n = (kept_failed c o (Print s.text) (all_kept c o s.status n.prints), quiet c s o n)
+prints_quiet c s o (Timed ms) n = (kept_failed c o (Print s.text) (all_kept c o s.status n.prints), quiet c s o n)
+prints_quiet c s o (Took count) n = (kept_failed c o (Print s.text) (all_kept c o s.status n.prints), quiet c s o n)
+prints_quiet c s o (Failed why) n = (kept_failed c o (Print s.text) (all_kept c o s.status n.prints), quiet c s o n)
 
 over : (c : Called) (s t : State) (o : Outside) → Kept c o → Comes c o s.status → t ≡ record s { stage = Exiting } → Inv c t (asks o (asked t))
 over c s t o k l h = subst (λ (x : State). Inv c x (asks o (asked x))) (sym h) (record { kept = k; live = l })
@@ -352,10 +376,7 @@ always c _ _ (more past s t r l h) =
 
 abbrev is_exit : Ask → Bool
 is_exit (Exit n) = true
-is_exit (Open slot place) = false
-is_exit (Read slot) = false
-is_exit (Print text) = false
-is_exit (Say text) = false
+is_exit ask = false
 
 abbrev exit_status : Ask → ℕ
 exit_status (Exit n) = n

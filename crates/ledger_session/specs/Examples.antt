@@ -1,7 +1,7 @@
 -- Outsides that break one promise each (this profile).
 use Rattle.std.specs.Prelude.{ℕ, List, [], ◌∷◌, None, codes}
 use Rattle.effects.specs.declared.vocabulary.Slot.TheVariants.{Up, Down, Order}
-use Rattle.effects.specs.Effects.{Ask, Print, Named, Nothing}
+use Rattle.effects.specs.Effects.{Ask, Print, Named, Nowhere}
 use Rattle.ledger_session.specs.declared.jobs.Job.TheVariants.{Ledger}
 use Rattle.ledger_session.specs.Sessions.{Called}
 use Rattle.ledger_session.specs.Outside.{Outside, untouched}

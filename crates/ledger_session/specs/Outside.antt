@@ -2,7 +2,7 @@
 use Rattle.std.specs.Prelude.{ℕ, List, [], ◌∷◌, ◌++◌}
 use Rattle.effects.specs.declared.vocabulary.Slot.{Slot}
 use Rattle.effects.specs.declared.vocabulary.Slot.TheVariants.{Up, Down, Order}
-use Rattle.effects.specs.Effects.{Ask, Open, Read, Print, Say, Exit, Where, Reply, Done, Bytes, End, Missing, Failed, Short, Did}
+use Rattle.effects.specs.Effects.{Ask, Open, Read, Print, Say, Where, Reply, Done, Bytes, End, Missing, Failed, Short, Did}
 
 pub record Outside : Type 0 where
   pub opened : List (Slot × Where)  -- the files that were opened, in this order
@@ -20,10 +20,9 @@ untouched = record { opened = []; up = []; down = []; order = []; ended = []; pr
 -- an effect is asked for: from now on it may have happened, or a part of it
 abbrev pub asks : Outside → Ask → Outside
 asks o (Open slot place) = record o { opened = o.opened ++ (slot, place) ∷ [] }
-asks o (Read slot) = o
 asks o (Print text) = record o { printed = o.printed ++ text ∷ [] }
 asks o (Say text) = record o { said = o.said ++ text ∷ [] }
-asks o (Exit status) = o
+asks o ask = o
 
 abbrev pub fails : Outside → Ask → Outside
 fails o ask = record o { failed = o.failed ++ ask ∷ [] }
@@ -56,8 +55,7 @@ abbrev pub answers : Outside → Ask → Reply → Outside
 answers o (Open slot place) reply = opens o slot place reply
 answers o (Read slot) reply = reads o slot reply
 answers o (Print text) reply = prints o text reply
-answers o (Say text) reply = o
-answers o (Exit status) reply = o
+answers o ask reply = o
 
 -- the outside after all this was asked and answered, the last first
 abbrev pub outside : List Did → Outside

@@ -2,7 +2,7 @@
 use Rattle.std.specs.Prelude.{◌≡◌, ◌⊎◌, ℕ, suc, Bool, List, [], ◌∷◌, ◌++◌, length, codes, decimal, bytes_eq, if◌then◌else◌, Option, None, Some}
 use Rattle.effects.specs.declared.vocabulary.Slot.{Slot}
 use Rattle.effects.specs.declared.vocabulary.Slot.TheVariants.{Up, Down, Order}
-use Rattle.effects.specs.Effects.{Ask, Open, Read, Print, Say, Exit, Where, Named, Input, Nothing, Reply, Done, Bytes, End, Missing, Failed, Short, Did}
+use Rattle.effects.specs.Effects.{Ask, Open, Read, Print, Say, Exit, Where, Named, Input, Nowhere, Reply, Done, Bytes, End, Missing, Failed, Short, Did}
 use Rattle.line_framing.specs.Stream.{IsStream}
 use Rattle.line_framing.specs.declared.faults.FramingFault.{FramingFault}
 use Rattle.watched_ends.specs.declared.recorded.Order.TheVariants as ordered
@@ -30,12 +30,12 @@ is_input name = bytes_eq name (codes "-")
 
 abbrev pub named : Option (List ℕ) → Where
 named (Some name) = Named name
-named None = Nothing
+named None = Nowhere
 
 -- where the bytes of each file come from: `-` is standard input, which the second recording finds taken by the first
 abbrev pub place_of : Slot → Called → Where
 place_of Up c = if is_input c.up then Input else Named c.up
-place_of Down c = if is_input c.down then (if is_input c.up then Nothing else Input) else Named c.down
+place_of Down c = if is_input c.down then (if is_input c.up then Nowhere else Input) else Named c.down
 place_of Order c = named c.order
 
 abbrev pub shown : Option (List ℕ) → List ℕ

@@ -1,22 +1,32 @@
 // Each effect on real files and the standard streams.
 
 use dme_hands::RealHands;
-use effects::{Answer, Effect, Hands, Place, Slot};
-use std::fs;
-use std::rt::Files;
+use effects::{Answer, Cause, Effect, Growth, Hands, Peer, Place, Slot};
+use std::fs::{self, File};
+use std::io::{Read, Write};
+use std::net::{Net, TcpListener, TcpStream};
+use std::rt::{Clock, Files};
 
 const NAME: &str = "/tmp/dme_hands.test";
 
 /// What comes of an effect is as expected.
-fn gives<R: Files + Input + Print + Eprint + AllocGlobal + Drop>(
-    hands: &mut RealHands<R>,
-    effect: Effect<'_>,
-    expected: Answer<'_>,
-) -> bool {
+fn gives<
+    R: Files<File = File>
+        + Input
+        + Print
+        + Eprint
+        + Clock
+        + Net<Listener = TcpListener, Stream = TcpStream>
+        + AllocGlobal
+        + Clone
+        + Drop,
+>(hands: &mut RealHands<R>, effect: Effect<'_>, expected: Answer<'_>) -> bool {
     hands.carry_out(effect);
     match (hands.answer(), expected) {
         (Answer::Done, Answer::Done) | (Answer::End, Answer::End) => true,
-        (Answer::Missing, Answer::Missing) | (Answer::Failed, Answer::Failed) => true,
+        (Answer::Missing, Answer::Missing) | (Answer::Nothing, Answer::Nothing) => true,
+        (Answer::Found, Answer::Found) => true,
+        (Answer::Failed(cause), Answer::Failed(other)) => cause == other,
         (Answer::Bytes(bytes), Answer::Bytes(others)) => bytes == others,
         _ => false,
     }
@@ -64,7 +74,13 @@ fn a_folder_cannot_be_read(rt: HostRuntime) {
             Answer::Done
         )
     );
-    assert!(rt; gives(&mut hands, Effect::Read(Slot::Order), Answer::Failed));
+    assert!(rt;
+        gives(
+            &mut hands,
+            Effect::Read(Slot::Order),
+            Answer::Failed(Cause::Folder)
+        )
+    );
 }
 
 #[test]
@@ -82,3 +98,137 @@ fn the_standard_streams_are_read_and_written(rt: HostRuntime) {
     assert!(rt; gives(&mut hands, Effect::Say(""), Answer::Done));
     assert!(rt; gives(&mut hands, Effect::Exit(0), Answer::Done));
 }
+
+/// Whether the file of this name has this text.
+fn has<R: Files<File = File> + AllocGlobal>(rt: &R, name: &str, text: &[u8]) -> bool {
+    match fs::read(rt, name) {
+        Ok(found) => found.as_slice() == text,
+        Err(_) => false,
+    }
+}
+
+/// The names of a file that grows, and of those next to it.
+const GROWS: &str = "/tmp/dme_hands.grows";
+
+const BESIDE: &str = "/tmp/dme_hands.grows.new";
+
+const OLD: &str = "/tmp/dme_hands.grows.old";
+
+const HEAD: &[u8] = b"HEAD\n";
+
+const MAKE: Effect<'static> = Effect::Make(Growth::Contacts, GROWS, BESIDE, HEAD);
+
+#[test]
+fn a_file_begins_anew_and_grows(rt: HostRuntime) {
+    assert!(rt; fs::write(&rt, GROWS, b"HEAD\nmore\n".as_slice()).is_ok());
+    let mut hands = RealHands::new(rt);
+    assert!(rt; gives(&mut hands, Effect::Look(GROWS), Answer::Done));
+    assert!(rt; gives(&mut hands, MAKE, Answer::Found));
+    assert!(rt;
+        gives(
+            &mut hands,
+            Effect::SetAside(Growth::Contacts, OLD),
+            Answer::Done
+        )
+    );
+    assert!(rt; gives(&mut hands, Effect::Begin(Growth::Contacts), Answer::Done));
+    let keep = Effect::Keep(Growth::Contacts, b"act\n".as_slice());
+    assert!(rt; gives(&mut hands, keep, Answer::Done));
+    assert!(rt; has(&rt, GROWS, b"HEAD\nact\n".as_slice()));
+    assert!(rt; has(&rt, OLD, b"HEAD\nmore\n".as_slice()));
+    assert!(rt; fs::remove_file(&rt, GROWS).is_ok());
+    assert!(rt; gives(&mut hands, keep, Answer::Failed(Cause::Renamed)));
+    let whole = Effect::Replace(GROWS, BESIDE, b"whole".as_slice());
+    assert!(rt; gives(&mut hands, whole, Answer::Done));
+    assert!(rt; gives(&mut hands, keep, Answer::Failed(Cause::Renamed)));
+    assert!(rt; has(&rt, GROWS, b"whole".as_slice()));
+    assert!(rt; fs::remove_file(&rt, GROWS).is_ok());
+    assert!(rt; fs::remove_file(&rt, OLD).is_ok());
+}
+
+#[test]
+fn a_file_that_is_let_go_is_as_it_was(rt: HostRuntime) {
+    let mut hands = RealHands::new(rt);
+    let make = Effect::Make(Growth::Contacts, LET_GO, LET_GO_BESIDE, HEAD);
+    assert!(rt; gives(&mut hands, Effect::Exists(LET_GO), Answer::Done));
+    assert!(rt; gives(&mut hands, make, Answer::Done));
+    assert!(rt; gives(&mut hands, Effect::Exists(LET_GO_BESIDE), Answer::Found));
+    assert!(rt; gives(&mut hands, Effect::Discard(Growth::Contacts), Answer::Done));
+    assert!(rt; gives(&mut hands, Effect::Exists(LET_GO_BESIDE), Answer::Done));
+    assert!(rt; gives(&mut hands, Effect::Exists(LET_GO), Answer::Done));
+    assert!(rt;
+        gives(
+            &mut hands,
+            Effect::Look("/tmp"),
+            Answer::Failed(Cause::Folder)
+        )
+    );
+}
+
+const LET_GO: &str = "/tmp/dme_hands.let_go";
+
+const LET_GO_BESIDE: &str = "/tmp/dme_hands.let_go.new";
+
+#[test]
+fn a_log_is_added_to(rt: HostRuntime) {
+    let mut hands = RealHands::new(rt);
+    assert!(rt; gives(&mut hands, Effect::Extend(LOG), Answer::Done));
+    assert!(rt; gives(&mut hands, Effect::Add(b"line\n".as_slice()), Answer::Done));
+    assert!(rt; has(&rt, LOG, b"line\n".as_slice()));
+    assert!(rt; fs::remove_file(&rt, LOG).is_ok());
+    hands.carry_out(Effect::Stamp);
+    assert!(rt; matches!(hands.answer(), Answer::Bytes(time) if time.len() == 24));
+    hands.carry_out(Effect::Now);
+    assert!(rt; matches!(hands.answer(), Answer::At(0)));
+}
+
+const LOG: &str = "/tmp/dme_hands.log";
+
+#[test]
+fn a_connection_is_taken_and_left(rt: HostRuntime) {
+    let mut hands = RealHands::new(rt);
+    assert!(rt;
+        gives(
+            &mut hands,
+            Effect::Listen("127.0.0.1", PORT, true),
+            Answer::Done
+        )
+    );
+    let accept = Effect::Accept(Some(10), Some(1));
+    assert!(rt; gives(&mut hands, accept, Answer::Nothing));
+    let Ok(mut peer) = TcpStream::connect(&rt, ("127.0.0.1", PORT)) else {
+        assert!(rt; false);
+        return;
+    };
+    assert!(rt; gives(&mut hands, accept, Answer::Done));
+    assert!(rt; gives(&mut hands, Effect::Receive(Peer::Client), Answer::Nothing));
+    assert!(rt; peer.write_all(b"line".as_slice()).is_ok());
+    assert!(rt;
+        gives(
+            &mut hands,
+            Effect::Receive(Peer::Client),
+            Answer::Bytes(b"line".as_slice())
+        )
+    );
+    assert!(rt;
+        gives(
+            &mut hands,
+            Effect::Send(Peer::Client, b"back".as_slice()),
+            Answer::Done
+        )
+    );
+    let mut room = [0u8; 8];
+    assert!(rt; matches!(peer.read(&mut room), Ok(4)));
+    drop(peer);
+    assert!(rt; gives(&mut hands, Effect::Receive(Peer::Client), Answer::End));
+    assert!(rt; gives(&mut hands, Effect::Leave, Answer::Done));
+    assert!(rt;
+        gives(
+            &mut hands,
+            Effect::Receive(Peer::Client),
+            Answer::Failed(Cause::Unknown)
+        )
+    );
+}
+
+const PORT: u16 = 47_113;

@@ -1,0 +1,127 @@
+-- What the contacts file has stays all that the server has done.
+use Rattle.std.proofs.Common.{◌≡◌, ◌⊎◌, inl, inr, refl, sym, ap, subst, ◌∙◌, true≢false, ℕ, Bool, true, false, List, [], ◌∷◌, ◌++◌, ◌&&◌, not, length, drop, map, append-nil, codes}
+use Rattle.std.proofs.lemmas.List.{map-append}
+use Rattle.std.proofs.Math.Seq.{drop-append_seam}
+use Rattle.contact_ledger.specs.Lines.{text_of}
+use Rattle.contact_ledger.specs.ContactTexts.{act_line, contacts_text, contact_lines}
+use Rattle.contact_ledger.specs.declared.acts.Act.{Act}
+use Rattle.contact_ledger.proofs.WrittenTexts.{text_more}
+use Rattle.effects.specs.Effects.{Reply, Done}
+use Rattle.services.specs.declared.stages.Stage.{Stage}
+use Rattle.services.specs.declared.stages.Stage.TheVariants as stage
+use Rattle.services.specs.Sessions.{Core, Outside, State, GoesOn, due, due_at, outcome, is_serving, Ready, IsKept, IsBefore, HasAllBut, IsMore, kept, begun, followed}
+
+pub serving_ready : (s : Stage) (c : Core) (o : Outside) → is_serving s ≡ true → IsKept c o → Ready s c o
+serving_ready stage.Logged c o e k = absurd (true≢false (sym e))
+serving_ready stage.Looking c o e k = absurd (true≢false (sym e))
+serving_ready stage.Making c o e k = absurd (true≢false (sym e))
+serving_ready stage.Listening c o e k = absurd (true≢false (sym e))
+serving_ready stage.Discarding c o e k = absurd (true≢false (sym e))
+serving_ready stage.SettingAside c o e k = absurd (true≢false (sym e))
+serving_ready stage.Beginning c o e k = absurd (true≢false (sym e))
+serving_ready stage.Peeking c o e k = k
+serving_ready stage.Accepting c o e k = k
+serving_ready stage.Pausing c o e k = k
+serving_ready stage.Checking c o e k = k
+serving_ready stage.Timing c o e k = k
+serving_ready stage.Receiving c o e k = k
+serving_ready stage.Tracing c o e k = absurd (true≢false (sym e))
+serving_ready stage.Stamping c o e k = absurd (true≢false (sym e))
+serving_ready stage.Logging c o e k = absurd (true≢false (sym e))
+serving_ready stage.Keeping c o e k = absurd (true≢false (sym e))
+serving_ready stage.Sending c o e k = k
+serving_ready stage.Leaving c o e k = k
+serving_ready stage.Replacing c o e k = absurd (true≢false (sym e))
+serving_ready stage.Printing c o e k = absurd (true≢false (sym e))
+serving_ready stage.Saying c o e k = absurd (true≢false (sym e))
+serving_ready stage.Telling c o e k = absurd (true≢false (sym e))
+serving_ready stage.Exiting c o e k = absurd (true≢false (sym e))
+
+-- what was to be added is in the file
+pub kept_ready : (t : State) (c : Core) (o : Outside) → is_serving (due t) ≡ true → t.core ≡ record c { text = [] } → HasAllBut c.text c o
+    → Ready (due t) t.core (kept o c.text Done)
+kept_ready t c o e f a = serving_ready (due t) t.core (kept o c.text Done) e (subst (λ (d : Core). IsKept d (kept o c.text Done)) (sym f)
+    (record { all = λ g l. (append-nil (o.safe ++ c.text) ∙ (a g l).0, (a g l).1); text = λ g l. refl }))
+
+-- the file has begun
+pub begun_ready : (t : State) (c : Core) (o : Outside) → is_serving (due t) ≡ true → t.core ≡ record c { text = [] } → c.grows ≡ true → IsBefore c o
+    → Ready (due t) t.core (begun o Done)
+begun_ready t c o e f g b = serving_ready (due t) t.core (begun o Done) e (subst (λ (d : Core). IsKept d (begun o Done)) (sym f)
+    (record {
+      all = λ g l. (append-nil o.next ∙ ((b.made g).1 ∙ (b.text ∙ sym (ap contacts_text b.ledger))), b.held ∙ sym (ap length b.ledger));
+      text = λ g l. refl;
+    }))
+
+-- the text of more acts
+pub more_text : (front more : List (ℕ × Act)) → contacts_text (front ++ more) ≡ contacts_text front ++ text_of (map act_line more)
+more_text front more = ap (λ (lines : List (List ℕ)). text_of (codes "DME-CONTACTS 1" ∷ lines)) (map-append act_line front more)
+    ∙ text_more (contact_lines front) (map act_line more)
+
+-- the server has done more, and that is to be added
+pub worked_all : (c d e : Core) (o : Outside) → IsMore c.ledger d.ledger → d ≡ record c { ledger = d.ledger } → e ≡ followed d → IsKept c o
+    → HasAllBut e.text e o
+worked_all c d e o m h f k = subst (λ (x : Core). HasAllBut x.text x o) (sym (f ∙ ap followed (h ∙ ap (λ (l : List (ℕ × Act)). record c { ledger = l }) m.1)))
+    (λ g l. (
+      ap (λ (r : List (ℕ × Act)). o.safe ++ (c.text ++ text_of (map act_line r)))
+          (ap (λ (n : ℕ). drop n (c.ledger ++ m.0)) ((k.all g l).1) ∙ drop-append_seam c.ledger m.0)
+          ∙ (ap (λ (t : List ℕ). o.safe ++ (t ++ text_of (map act_line m.0))) (k.text g l)
+          ∙ (ap (λ (t : List ℕ). t ++ text_of (map act_line m.0)) (sym (append-nil o.safe) ∙ (k.all g l).0)
+          ∙ sym (more_text c.ledger m.0))),
+      refl,
+    ))
+
+-- likewise, if it has done nothing that is kept
+pub worked_nothing : (c d e : Core) (o : Outside) → IsMore c.ledger d.ledger → d ≡ record c { ledger = d.ledger } → e ≡ followed d → IsKept c o
+    → e.text ≡ [] → IsKept e o
+worked_nothing c d e o m h f k n = record {
+  all = λ g l. (subst (λ (t : List ℕ). o.safe ++ t ≡ contacts_text e.ledger) n (worked_all c d e o m h f k g l).0, (worked_all c d e o m h f k g l).1);
+  text = λ g l. n;
+}
+
+-- nothing is promised of a file that does not grow, or was lost
+pub unkept : (d : Core) (o : Outside) → (d.grows && not d.lost) ≡ false → IsKept d o
+unkept d o e = record {
+  all = λ g l. absurd (true≢false (sym (ap (λ (b : Bool). b && not d.lost) g ∙ ap not l) ∙ e));
+  text = λ g l. absurd (true≢false (sym (ap (λ (b : Bool). b && not d.lost) g ∙ ap not l) ∙ e));
+}
+
+pub unkept_ready : (d : Core) (t : State) (o : Outside) → (d.grows && not d.lost) ≡ false → t.core ≡ d → is_serving (due t) ≡ true
+    → Ready (due t) t.core o
+unkept_ready d t o e f s = serving_ready (due t) t.core o s (subst (λ (x : Core). IsKept x o) (sym f) (unkept d o e))
+
+pub nothing_ready : (c d e : Core) (t : State) (o : Outside) → IsMore c.ledger d.ledger → d ≡ record c { ledger = d.ledger } → e ≡ followed d
+    → IsKept c o → e.text ≡ [] → t.core ≡ e → is_serving (due t) ≡ true → Ready (due t) t.core o
+nothing_ready c d e t o m h f k n g s = serving_ready (due t) t.core o s (subst (λ (x : Core). IsKept x o) (sym g) (worked_nothing c d e o m h f k n))
+
+-- what was to be said was said
+due_same : (s : Stage) → due_at s s ≡ s
+due_same stage.Logged = refl
+due_same stage.Looking = refl
+due_same stage.Making = refl
+due_same stage.Listening = refl
+due_same stage.Discarding = refl
+due_same stage.SettingAside = refl
+due_same stage.Beginning = refl
+due_same stage.Peeking = refl
+due_same stage.Accepting = refl
+due_same stage.Pausing = refl
+due_same stage.Checking = refl
+due_same stage.Timing = refl
+due_same stage.Receiving = refl
+due_same stage.Tracing = refl
+due_same stage.Stamping = refl
+due_same stage.Logging = refl
+due_same stage.Keeping = refl
+due_same stage.Sending = refl
+due_same stage.Leaving = refl
+due_same stage.Replacing = refl
+due_same stage.Printing = refl
+due_same stage.Saying = refl
+due_same stage.Telling = refl
+due_same stage.Exiting = refl
+
+pub said_ready : (s t : State) (reply : Reply) → s.stage ≡ stage.Saying → t ≡ record s { stage = s.next } → GoesOn s reply t
+said_ready s t reply e f = λ o k. subst (λ (x : State). Ready (due x) x.core (outcome s.stage s.core reply o)) (sym f)
+    (subst (λ (st : Stage). Ready (due_at s.next s.next) s.core (outcome st s.core reply o)) (sym e)
+    (subst (λ (d : Stage). Ready d s.core o) (sym (due_same s.next))
+    (subst (λ (st : Stage). Ready (due_at st s.next) s.core o) e k)))

@@ -1,0 +1,5 @@
+pub mod Arriving
+pub mod Waiting
+pub mod Files
+pub mod Sessions
+pub mod Relays

@@ -1,0 +1,237 @@
+-- What the session of `serve` knows and may ask next, as far as its promises speak of it (this profile).
+use Rattle.std.specs.Prelude.{◌≡◌, ◌⊎◌, ⊤, ℕ, Bool, true, false, List, [], ◌∷◌, ◌++◌, length, drop, map}
+use Rattle.contact_ledger.specs.Lines.{text_of}
+use Rattle.contact_ledger.specs.ContactTexts.{act_line, contacts_text}
+use Rattle.contact_ledger.specs.declared.acts.Act.{Act}
+use Rattle.link_world.specs.Reports.{reported, contact_rows}
+use Rattle.effects.specs.declared.vocabulary.Growth.TheVariants.{Contacts}
+use Rattle.effects.specs.Effects.{Ask, Look, Make, Begin, Keep, Listen, Send, Replace, Print, Reply, Done, Found}
+use Rattle.services.specs.declared.stages.Stage.{Stage}
+use Rattle.services.specs.declared.stages.Stage.TheVariants as stage
+
+-- the contacts file, and what the server has done
+pub record Core : Type 0 where
+  pub named : Bool  -- whether there is one
+  pub grows : Bool  -- whether it was locked and has a next text
+  pub lost : Bool  -- whether it could not be kept
+  pub text : List ℕ  -- what is to be added to it
+  pub held : ℕ  -- how many acts it has with that
+  pub ledger : List (ℕ × Act)
+  pub rows : List ℕ  -- what is printed at the end
+
+pub record State : Type 0 where
+  pub stage : Stage
+  pub next : Stage  -- what comes after what is said, shown or logged
+  pub core : Core
+
+-- the stage whose effect is due, after what is to be said or shown
+abbrev pub due_at : Stage → Stage → Stage
+due_at stage.Saying next = next
+due_at stage.Tracing next = next
+due_at stage.Stamping next = next
+due_at stage.Logging next = next
+due_at s next = s
+
+abbrev pub due : State → Stage
+due s = due_at s.stage s.next
+
+-- what the outside has answered so far
+pub record Outside : Type 0 where
+  pub is_other : Bool  -- the contacts file is a link, a device or the like, which is written at the end alone
+  pub is_made : Bool  -- it is locked, and its next text was made
+  pub next : List ℕ  -- that text
+  pub safe : List ℕ  -- what is in it since it began, and no crash takes away
+
+abbrev pub untouched : Outside
+untouched = record { is_other = false; is_made = false; next = []; safe = [] }
+
+-- the outside after the effect of a stage was answered
+abbrev pub looked : Outside → Reply → Outside
+looked o Done = o
+looked o reply = record o { is_other = true }
+
+abbrev pub made : Outside → List ℕ → Reply → Outside
+made o text Done = record o { is_made = true; next = text }
+made o text Found = record o { is_made = true; next = text }
+made o text reply = o
+
+abbrev pub begun : Outside → Reply → Outside
+begun o Done = record o { safe = o.next }
+begun o reply = o
+
+abbrev pub kept : Outside → List ℕ → Reply → Outside
+kept o text Done = record o { safe = o.safe ++ text }
+kept o text reply = o
+
+abbrev pub outcome : Stage → Core → Reply → Outside → Outside
+outcome stage.Looking c reply o = looked o reply
+outcome stage.Making c reply o = made o c.text reply
+outcome stage.Beginning c reply o = begun o reply
+outcome stage.Keeping c reply o = kept o c.text reply
+outcome s c reply o = o
+
+-- before the first connection: nothing was done, and the next text of the contacts file says so
+pub record IsBefore (c : Core) (o : Outside) : Type 0 where
+  pub ledger : c.ledger ≡ []
+  pub held : c.held ≡ 0
+  pub lost : c.lost ≡ false
+  pub text : c.text ≡ contacts_text []
+  pub made : c.grows ≡ true → (o.is_made ≡ true) × (o.next ≡ c.text)
+
+-- the contacts file can be written, or need not be until the end
+abbrev pub IsPrepared : Core → Outside → Type 0
+IsPrepared c o = (c.named ≡ false) ⊎ ((o.is_made ≡ true) ⊎ (o.is_other ≡ true))
+
+-- the contacts file that grows has all that the server has done, but for this text, unless it could not be kept
+abbrev pub HasAllBut : List ℕ → Core → Outside → Type 0
+HasAllBut text c o = c.grows ≡ true → c.lost ≡ false → (o.safe ++ text ≡ contacts_text c.ledger) × (c.held ≡ length c.ledger)
+
+pub record IsKept (c : Core) (o : Outside) : Type 0 where
+  pub all : HasAllBut [] c o
+  pub text : c.grows ≡ true → c.lost ≡ false → c.text ≡ []
+
+-- what holds before the effect of a stage is asked for
+abbrev pub Ready : Stage → Core → Outside → Type 0
+Ready stage.Logged c o = IsBefore c o
+Ready stage.Looking c o = IsBefore c o
+Ready stage.Making c o = IsBefore c o
+Ready stage.Listening c o = IsBefore c o × IsPrepared c o
+Ready stage.SettingAside c o = IsBefore c o × (c.grows ≡ true)
+Ready stage.Beginning c o = IsBefore c o × (c.grows ≡ true)
+Ready stage.Keeping c o = HasAllBut c.text c o
+Ready stage.Discarding c o = ⊤
+Ready stage.Replacing c o = c.text ≡ contacts_text c.ledger
+Ready stage.Printing c o = c.rows ≡ contact_rows (reported c.ledger)
+Ready stage.Telling c o = ⊤
+Ready stage.Exiting c o = ⊤
+Ready s c o = IsKept c o
+
+-- a session that is ready is ready after an answer, too
+abbrev pub GoesOn : State → Reply → State → Type 0
+GoesOn s reply t = (o : Outside) → Ready (due s) s.core o → Ready (due t) t.core (outcome s.stage s.core reply o)
+
+-- the service ends, whatever else holds
+abbrev pub Ends : State → Type 0
+Ends t = (o : Outside) → Ready (due t) t.core o
+
+-- the stages of a connection, and between two, that keep nothing
+abbrev pub is_serving : Stage → Bool
+is_serving stage.Peeking = true
+is_serving stage.Accepting = true
+is_serving stage.Pausing = true
+is_serving stage.Checking = true
+is_serving stage.Timing = true
+is_serving stage.Receiving = true
+is_serving stage.Sending = true
+is_serving stage.Leaving = true
+is_serving s = false
+
+abbrev pub is_receiving : Stage → Bool
+is_receiving stage.Checking = true
+is_receiving stage.Timing = true
+is_receiving stage.Receiving = true
+is_receiving s = false
+
+abbrev pub is_showing : Stage → Bool
+is_showing stage.Tracing = true
+is_showing stage.Stamping = true
+is_showing stage.Logging = true
+is_showing s = false
+
+abbrev pub is_answering : Stage → Bool
+is_answering stage.Keeping = true
+is_answering stage.Sending = true
+is_answering stage.Leaving = true
+is_answering s = false
+
+abbrev pub is_taking : Stage → Bool
+is_taking stage.Peeking = true
+is_taking stage.Accepting = true
+is_taking stage.Pausing = true
+is_taking s = false
+
+-- the next effect is one that keeps nothing, or the service ends
+pub data Continues (s t : State) : Type 0 where
+  serves : is_serving (due t) ≡ true → t.core ≡ s.core → Continues s t
+  ends : Ends t → Continues s t
+
+-- the server has done more
+abbrev pub IsMore : (old new : List (ℕ × Act)) → Type 0
+IsMore old new = (more : List (ℕ × Act)) × (new ≡ old ++ more)
+
+abbrev pub is_preparing : Stage → Bool
+is_preparing stage.Logged = true
+is_preparing stage.Looking = true
+is_preparing stage.Making = true
+is_preparing stage.Listening = true
+is_preparing s = false
+
+abbrev pub is_beginning : Stage → Bool
+is_beginning stage.Discarding = true
+is_beginning stage.SettingAside = true
+is_beginning stage.Beginning = true
+is_beginning s = false
+
+-- what a stage asks for: of those effects that promises speak of, this one alone
+abbrev pub IsQuiet : Ask → Type 0
+IsQuiet (Look name) = ⊥
+IsQuiet (Make growth name beside text) = ⊥
+IsQuiet (Begin growth) = ⊥
+IsQuiet (Keep growth text) = ⊥
+IsQuiet (Listen address port is_polled) = ⊥
+IsQuiet (Send peer bytes) = ⊥
+IsQuiet (Replace name beside text) = ⊥
+IsQuiet (Print bytes) = ⊥
+IsQuiet ask = ⊤
+
+abbrev pub IsLook : Ask → Type 0
+IsLook (Look name) = ⊤
+IsLook ask = ⊥
+
+abbrev pub IsMake : List ℕ → Ask → Type 0
+IsMake text (Make growth name beside first) = first ≡ text
+IsMake text ask = ⊥
+
+abbrev pub IsListen : Ask → Type 0
+IsListen (Listen address port is_polled) = ⊤
+IsListen ask = ⊥
+
+abbrev pub IsSend : Ask → Type 0
+IsSend (Send peer bytes) = ⊤
+IsSend ask = ⊥
+
+abbrev pub IsReplace : List ℕ → Ask → Type 0
+IsReplace text (Replace name beside whole) = whole ≡ text
+IsReplace text ask = ⊥
+
+abbrev pub Asks : Stage → Core → Ask → Type 0
+Asks stage.Looking c ask = IsLook ask
+Asks stage.Making c ask = IsMake c.text ask
+Asks stage.Beginning c ask = ask ≡ Begin Contacts
+Asks stage.Keeping c ask = ask ≡ Keep Contacts c.text
+Asks stage.Listening c ask = IsListen ask
+Asks stage.Sending c ask = IsSend ask
+Asks stage.Replacing c ask = IsReplace c.text ask
+Asks stage.Printing c ask = ask ≡ Print c.rows
+Asks s c ask = IsQuiet ask
+
+abbrev pub is_asking_before : Stage → Bool
+is_asking_before stage.Logged = true
+is_asking_before stage.Looking = true
+is_asking_before stage.Making = true
+is_asking_before stage.Listening = true
+is_asking_before stage.Discarding = true
+is_asking_before stage.SettingAside = true
+is_asking_before stage.Beginning = true
+is_asking_before s = false
+
+abbrev pub is_asking_while : Stage → Bool
+is_asking_while stage.Tracing = true
+is_asking_while stage.Stamping = true
+is_asking_while stage.Logging = true
+is_asking_while stage.Keeping = true
+is_asking_while s = is_serving s
+
+-- what the contacts file lacks is to be added
+abbrev pub followed : Core → Core
+followed c = record c { text = c.text ++ text_of (map act_line (drop c.held c.ledger)); held = length c.ledger }

@@ -1,0 +1,124 @@
+// The end of a service: the contacts file gets its whole text, the contacts are printed, and what has failed is said.
+
+ghost use Rattle.std.specs.Prelude.{◌≡◌, OnOk};
+ghost use Rattle.services.specs.Sessions as spec;
+
+use crate::sessions::Break;
+use crate::waits::Lapse;
+use crate::{Session, Stage};
+use effects::Answer;
+use link_world::{PumpFault, write_contact_rows};
+use server_core::ServerFault;
+use std::alloc::{AllocError, Global};
+
+const UNPRINTED: &str = "dme: cannot write -\n";
+
+/// Why a connection was broken off, as a line.
+fn cause(fault: PumpFault<ServerFault>) -> &'static str {
+    match fault {
+        PumpFault::ReadFailed => "the connection could not be read\n",
+        PumpFault::WriteFailed => "the connection could not be written\n",
+        PumpFault::Ended => "the client has left the connection\n",
+        PumpFault::TurnsSpent => "too many steps were made\n",
+        PumpFault::Core(ServerFault::Framing(_)) => "the client sent bytes that are no lines\n",
+        PumpFault::Core(_) => "the server is on no connection\n",
+        PumpFault::Memory => "",
+    }
+}
+
+/// What a client has not done, as a line.
+fn lapse_line(alloc: Global, lapse: Lapse, seconds: u32) -> Result<String, AllocError> {
+    let unit = if seconds == 1 { "second" } else { "seconds" };
+    match lapse {
+        Lapse::Sent => format!(in alloc; "nothing came from the client for {seconds} {unit}\n"),
+        Lapse::SentOther => format!(in alloc;
+            "nothing that was due came from the client for {seconds} {unit}\n"
+        ),
+        Lapse::Taken => format!(in alloc; "the client took nothing for {seconds} {unit}\n"),
+    }
+}
+
+impl Session {
+    /// All connections were served.
+    pub(crate) fn close(&mut self) -> Result<(), AllocError>
+        ensures plain { OnOk result (spec.due self.new ≡ self.new.stage) }
+        ensures ends { OnOk result (spec.Ends self.new) }
+    {
+        if !self.contacts.is_named() {
+            return self.print();
+        }
+        self.contacts.whole(self.server.ledger())?;
+        self.stage = Stage::Replacing;
+        Ok(())
+    }
+
+    /// The contacts are to be printed.
+    fn print(&mut self) -> Result<(), AllocError>
+        ensures plain { OnOk result (spec.due self.new ≡ self.new.stage) }
+        ensures ends { OnOk result (spec.Ends self.new) }
+    {
+        self.rows.clear();
+        write_contact_rows(&mut self.rows, self.server.ledger())?;
+        self.stage = Stage::Printing;
+        Ok(())
+    }
+
+    pub(crate) fn close_on(&mut self, answer: Answer<'_>) -> Result<(), AllocError>
+        ensures { OnOk result (spec.Ends self.new) }
+    {
+        match (self.stage, answer) {
+            (Stage::Replacing, Answer::Done) => self.print(),
+            (Stage::Replacing, _) => {
+                let name = self.contacts.name();
+                self.unwritten = format!(in self.alloc; "dme: cannot write {name}\n")?;
+                self.print()
+            }
+            (_, Answer::Done) => self.verdict(),
+            _ => {
+                self.tell(UNPRINTED, 1);
+                Ok(())
+            }
+        }
+    }
+
+    /// What is said at the end of what broke connections off.
+    fn broken_text(&self, why: Break) -> Result<String, AllocError> {
+        match why {
+            Break::Fault(PumpFault::Memory) => String::from_str(self.alloc, "dme: out of memory\n"),
+            Break::Fault(fault) => {
+                let line = cause(fault);
+                format!(in self.alloc; "dme: connection failed\n{line}")
+            }
+            Break::Lapsed(lapse) => {
+                let seconds = self.service.timeout.unwrap_or(0);
+                let line = lapse_line(self.alloc, lapse, seconds)?;
+                format!(in self.alloc; "dme: connection failed\n{line}")
+            }
+        }
+    }
+
+    /// All was printed: what has failed is said, and the service ends.
+    fn verdict(&mut self) -> Result<(), AllocError>
+        ensures { OnOk result (spec.Ends self.new) }
+    {
+        let has_failed = self.contacts.has_failed || !self.unwritten.is_empty();
+        self.status = match self.broken {
+            Some(Break::Fault(PumpFault::Memory)) => 4,
+            Some(_) => 1,
+            None if has_failed => 1,
+            None => 0,
+        };
+        if let Some(why) = self.broken {
+            let text = self.broken_text(why)?;
+            self.unwritten.push_str(text.as_str())?;
+        }
+        std::mem::swap(&mut self.said, &mut self.unwritten);
+        self.next = Stage::Exiting;
+        self.stage = if self.said.is_empty() {
+            Stage::Exiting
+        } else {
+            Stage::Saying
+        };
+        Ok(())
+    }
+}

@@ -1,0 +1,123 @@
+// The contacts file of a service, and what it is to have next.
+
+ghost use Rattle.std.specs.Prelude.{◌≡◌, ◌++◌, ◌&&◌, not, false, [], OnOk, IfOk, length, drop, map, is_some};
+ghost use Rattle.services.specs.Files as spec;
+ghost use Rattle.contact_ledger.specs.Lines.{text_of};
+ghost use Rattle.contact_ledger.specs.ContactTexts.{act_line, contacts_text};
+
+use contact_ledger::{ServerLedger, add_entry, write_contacts};
+use std::alloc::{AllocError, Global};
+
+/// The contacts file, if one is named.
+#[derive(Drop)]
+pub struct Contacts {
+    alloc: Global,
+    /// Its name, and those of the files next to it for its next text and for what was in it before.
+    names: Option<(String, String, String)>,
+    /// Whether it grows.
+    pub grows: bool,
+    /// Whether there was more in it than the first bytes of its first text.
+    pub has_more: bool,
+    /// How many acts it has, with those in `text`.
+    held: usize,
+    /// What it is to have next.
+    pub text: Vec<u8>,
+    /// Whether it could not be kept.
+    pub has_failed: bool,
+}
+
+/// The name of a file, or nothing.
+fn or_none(name: Option<&String>) -> &str {
+    match name {
+        Some(name) => name.as_str(),
+        None => "",
+    }
+}
+
+impl Contacts {
+    pub fn new(alloc: Global, name: Option<&str>) -> Result<Contacts, AllocError>
+        ensures text { IfOk result (λ c. c.text.items ≡ contacts_text []) }
+        ensures held { IfOk result (λ c. c.held ≡ 0) }
+        ensures grows { IfOk result (λ c. c.grows ≡ false) }
+        ensures lost { IfOk result (λ c. c.has_failed ≡ false) }
+    {
+        let names = match name {
+            Some(name) => Some((
+                String::from_str(alloc, name)?,
+                format!(in alloc; "{name}.new")?,
+                format!(in alloc; "{name}.old")?,
+            )),
+            None => None,
+        };
+        let mut text = Vec::new(alloc);
+        write_contacts(&mut text, &ServerLedger::new(alloc))?;
+        Ok(Contacts {
+            alloc,
+            names,
+            grows: false,
+            has_more: false,
+            held: 0,
+            text,
+            has_failed: false,
+        })
+    }
+
+    /// Whether one is named.
+    pub fn is_named(&self) -> bool
+        ensures { result ≡ is_some self.now.names }
+    {
+        self.names.is_some()
+    }
+
+    pub fn name(&self) -> &str {
+        or_none(self.names.as_ref().map(|names| &names.0))
+    }
+
+    pub fn beside(&self) -> &str {
+        or_none(self.names.as_ref().map(|names| &names.1))
+    }
+
+    pub fn old(&self) -> &str {
+        or_none(self.names.as_ref().map(|names| &names.2))
+    }
+
+    /// What was to be written has been.
+    pub fn settle(&mut self)
+        ensures text { self.new.text.items ≡ [] }
+        ensures same { self.new ≡ record self.old { text = self.new.text } }
+    {
+        self.text.clear();
+    }
+
+    /// Whether it grows, and could be kept so far.
+    pub fn is_kept(&self) -> bool
+        ensures { result ≡ (self.now.grows && not self.now.has_failed) }
+    {
+        self.grows && !self.has_failed
+    }
+
+    /// What a server has done since is to be added. Fails only if out of memory.
+    pub fn follow(&mut self, ledger: &ServerLedger) -> Result<(), AllocError>
+        ensures text { OnOk result (self.new.text.items ≡ self.old.text.items
+            ++ text_of (map act_line (drop self.old.held ledger.now))) }
+        ensures held { OnOk result (self.new.held ≡ length ledger.now) }
+        ensures same { OnOk result (spec.AreSame self.old self.new) }
+    {
+        let acts = ledger.acts();
+        for (connection, act) in acts.get(self.held..).unwrap_or(&[]) {
+            add_entry(&mut self.text, *connection, act)?;
+        }
+        self.held = acts.len();
+        Ok(())
+    }
+
+    /// All that a server has done is to be written. Fails only if out of memory.
+    pub fn whole(&mut self, ledger: &ServerLedger) -> Result<(), AllocError>
+        ensures { OnOk result (self.new.text.items ≡ contacts_text ledger.now) }
+    {
+        let mut text = Vec::new(self.alloc);
+        write_contacts(&mut text, ledger)?;
+        self.text = text;
+        Ok(())
+    }
+}

@@ -1,0 +1,73 @@
+// The files that the bytes of a connection are kept in.
+
+use effects::Slot;
+use std::alloc::{AllocError, Global};
+
+/// The files of a recording: their names, and how many of them were made.
+#[derive(Drop)]
+pub struct Recording {
+    up: String,
+    down: String,
+    order: String,
+    /// How many of them were made, in this order.
+    pub made: u8,
+}
+
+/// The name of a file of the connection of this number in a folder.
+fn name_in(alloc: Global, folder: &str, number: u64, end: &str) -> Result<String, AllocError> {
+    format!(in alloc; "{folder}/{number}.{end}")
+}
+
+impl Recording {
+    /// That of the connection of this number in a folder, of which nothing was made. Fails only if out of memory.
+    pub fn new(alloc: Global, folder: &str, number: u64) -> Result<Recording, AllocError> {
+        Ok(Recording {
+            up: name_in(alloc, folder, number, "up")?,
+            down: name_in(alloc, folder, number, "down")?,
+            order: name_in(alloc, folder, number, "order")?,
+            made: 0,
+        })
+    }
+
+    /// The name of a file of it.
+    pub fn name(&self, slot: Slot) -> &str {
+        match slot {
+            Slot::Up => self.up.as_str(),
+            Slot::Down => self.down.as_str(),
+            Slot::Order => self.order.as_str(),
+        }
+    }
+}
+
+/// The file that is made after that many of a recording.
+pub fn slot_after(made: u8) -> Slot {
+    match made {
+        0 => Slot::Up,
+        1 => Slot::Down,
+        _ => Slot::Order,
+    }
+}
+
+/// Whether a name is that of a recording: a number, and `.up`, `.down` or `.order`.
+fn is_recording(name: &[u8]) -> bool {
+    let number = if let Some(number) = name.strip_suffix(b".up") {
+        number
+    } else if let Some(number) = name.strip_suffix(b".down") {
+        number
+    } else if let Some(number) = name.strip_suffix(b".order") {
+        number
+    } else {
+        return false;
+    };
+    !number.is_empty() && number.iter().all(|byte| byte.is_ascii_digit())
+}
+
+/// Whether a recording is among these names, each with a `/` after it.
+pub fn hold_recording(names: &[u8]) -> bool {
+    for name in names.split(|byte| *byte == b'/') {
+        if is_recording(name) {
+            return true;
+        }
+    }
+    false
+}

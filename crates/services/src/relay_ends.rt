@@ -1,0 +1,121 @@
+// The end of a relayed connection.
+
+use crate::causes::why_unconnected;
+use crate::recordings::slot_after;
+use crate::relay_stages::RelayStage as Stage;
+use crate::relaying::{Ended, RelaySession};
+use dme_orders::refused_call;
+use effects::{Answer, Cause};
+use refusal_guide::unknown_host;
+use std::alloc::AllocError;
+
+impl RelaySession {
+    /// The connection is no longer relayed: what is kept of it is forced to the device, and it is left.
+    pub(crate) fn finish(&mut self, ended: Ended) {
+        self.ended = ended;
+        self.stage = if self.is_told {
+            Stage::Forcing
+        } else {
+            self.after_forcing()
+        };
+    }
+
+    /// What comes after the told file was forced.
+    fn after_forcing(&mut self) -> Stage {
+        match &mut self.recording {
+            Some(recording) => {
+                recording.made = 0;
+                Stage::Settling
+            }
+            None => Stage::Leaving,
+        }
+    }
+
+    pub(crate) fn end_on(&mut self, answer: Answer<'_>) -> Result<(), AllocError> {
+        match (self.stage, answer) {
+            (Stage::Forcing, Answer::Done) => self.stage = self.after_forcing(),
+            (Stage::Forcing, _) => {
+                let next = self.after_forcing();
+                return self.lose_told(answer, next);
+            }
+            (Stage::Settling, Answer::Done) => self.settled(),
+            (Stage::Settling, _) => return self.lose_settling(),
+            _ => return self.left(),
+        }
+        Ok(())
+    }
+
+    /// A file of the recording is on the device.
+    fn settled(&mut self) {
+        if let Some(recording) = &mut self.recording {
+            recording.made = recording.made.saturating_add(1);
+            if recording.made < 3 {
+                return;
+            }
+        }
+        self.stage = Stage::Leaving;
+    }
+
+    /// A file of the recording could not be forced to the device.
+    fn lose_settling(&mut self) -> Result<(), AllocError> {
+        self.has_failed = true;
+        let made = match &self.recording {
+            Some(recording) => recording.made,
+            None => 0,
+        };
+        let message = self.unwritten(slot_after(made))?;
+        self.recording = None;
+        self.say(message, Stage::Leaving);
+        Ok(())
+    }
+
+    /// Why no server was reached, as a line.
+    fn unreached(&self, why: Cause) -> Result<String, AllocError> {
+        let host = self.order.host.as_str();
+        match why {
+            Cause::UnknownHost => unknown_host(self.alloc, host),
+            Cause::Refused => refused_call(self.alloc, host, self.order.port),
+            _ => String::from_str(self.alloc, why_unconnected(why)),
+        }
+    }
+
+    /// The message about a connection that did not end as it should.
+    fn fault(&self) -> Result<String, AllocError> {
+        let line = match self.ended {
+            Ended::Left => return Ok(String::new(self.alloc)),
+            Ended::Memory => return String::from_str(self.alloc, "dme: out of memory\n"),
+            Ended::Unreached(why) => self.unreached(why)?,
+            Ended::Broken(why) => String::from_str(self.alloc, why_unconnected(why))?,
+            Ended::Silent => {
+                let seconds = self.order.timeout.unwrap_or(0);
+                format!(in self.alloc; "nothing came for {seconds} s\n")?
+            }
+        };
+        format!(in self.alloc; "dme: connection failed\n{line}")
+    }
+
+    /// The connection was left: what broke it off is said, and whether it counts.
+    fn left(&mut self) -> Result<(), AllocError> {
+        let fault = self.fault()?;
+        let number = self.number;
+        self.has_failed = self.has_failed || !fault.is_empty();
+        let message = if self.is_bare {
+            format!(in self.alloc; "{fault}dme: connection {number} sent no whole line\n")?
+        } else {
+            self.left = self.left.saturating_sub(1);
+            fault
+        };
+        let next = if self.left == 0 {
+            self.status = if self.has_failed { 1 } else { 0 };
+            Stage::Exiting
+        } else {
+            Stage::Accepting
+        };
+        if message.is_empty() {
+            self.stage = next;
+        } else {
+            self.say(message, next);
+        }
+        Ok(())
+    }
+}

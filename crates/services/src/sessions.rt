@@ -1,0 +1,294 @@
+// A session: what it asks, and what it does with an answer.
+
+ghost use Rattle.std.specs.Prelude.{◌≡◌, true, OnOk, IfOk};
+ghost use Rattle.effects.specs.Effects.{the_ask, the_reply, Reply};
+ghost use Rattle.services.specs.Sessions as spec;
+
+use crate::contacts::Contacts;
+use crate::lines::Lines;
+use crate::waits::{Lapse, Wait};
+use crate::{Service, Stage};
+use effects::{Answer, Effect, Growth, Peer};
+use link_world::{PumpFault, Simulated};
+use server_core::{Server, ServerFault};
+use std::alloc::{AllocError, Global};
+use std::marker::Model;
+use tool_rack::Setup;
+
+/// How long it waits before it looks at the stop file and at the time again, in milliseconds.
+const LOOK_MS: u64 = 100;
+
+const OUT_OF_MEMORY: &str = "dme: out of memory\n";
+
+/// Why a connection was broken off.
+#[derive(Clone, Copy, Debug)]
+pub enum Break {
+    /// By the server, or by its connection.
+    Fault(PumpFault<ServerFault>),
+    /// By the time limit.
+    Lapsed(Lapse),
+}
+
+/// The command `serve`: a server with a simulated machine takes one connection after another, keeps what it does in its contacts file, and
+/// prints its contacts.
+#[derive(Drop)]
+pub struct Session {
+    pub(crate) alloc: Global,
+    pub(crate) service: Service,
+    pub(crate) server: Server,
+    pub(crate) machine: Simulated,
+    pub(crate) stage: Stage,
+    /// What comes after what is said, shown or logged.
+    pub(crate) next: Stage,
+    pub(crate) wait: Wait,
+    pub(crate) lines: Lines,
+    /// The lines that are shown and logged.
+    pub(crate) shown: String,
+    pub(crate) is_logged: bool,
+    pub(crate) contacts: Contacts,
+    /// The number of the last connection, and whether the server is on it.
+    pub(crate) number: u64,
+    pub(crate) is_on: bool,
+    /// Whether it was said that a connection cannot be taken.
+    pub(crate) is_told: bool,
+    /// What is added to the log, printed at the end, and sent.
+    pub(crate) text: Vec<u8>,
+    pub(crate) rows: Vec<u8>,
+    pub(crate) out: Vec<u8>,
+    pub(crate) said: String,
+    /// What is said at the end of the contacts file.
+    pub(crate) unwritten: String,
+    pub(crate) last: &'static str,
+    pub(crate) broken: Option<Break>,
+    pub(crate) status: u8,
+}
+
+impl Model for Session {
+    ghost use Rattle.std.specs.Prelude.{is_some};
+    ghost use Rattle.services.specs.Sessions.{State};
+
+    ghost Value = { State };
+
+    ghost view = { λ s. record {
+      stage = s.stage;
+      next = s.next;
+      core = record {
+        named = is_some s.contacts.names;
+        grows = s.contacts.grows;
+        lost = s.contacts.has_failed;
+        text = s.contacts.text.items;
+        held = s.contacts.held;
+        ledger = s.server.end.server.ledger;
+        rows = s.rows.items;
+      };
+    } };
+}
+
+impl Session {
+    /// A session of this service, whose machine has this setup. Fails only if out of memory.
+    pub fn new(alloc: Global, service: Service, setup: Setup) -> Result<Session, AllocError>
+        ensures { IfOk result (λ s. spec.Ready (spec.due s) s.core spec.untouched) }
+    {
+        let machine = Simulated::new(alloc, &setup)?;
+        let contacts = Contacts::new(alloc, service.contacts.as_deref())?;
+        let is_shown = service.trace || service.log.is_some();
+        let is_logged = service.log.is_some();
+        let wait = Wait::new(service.timeout);
+        let server = Server::new(alloc, setup)?;
+        Ok(Session {
+            alloc,
+            service,
+            server,
+            machine,
+            stage: Stage::Logged,
+            next: Stage::Looking,
+            wait,
+            lines: Lines::new(alloc, is_shown),
+            shown: String::new(alloc),
+            is_logged,
+            contacts,
+            number: 0,
+            is_on: false,
+            is_told: false,
+            text: Vec::new(alloc),
+            rows: Vec::new(alloc),
+            out: Vec::new(alloc),
+            said: String::new(alloc),
+            unwritten: String::new(alloc),
+            last: "",
+            broken: None,
+            status: 0,
+        })
+    }
+
+    /// Where reads and writes of a connection come back.
+    fn limits(&self) -> (Option<u64>, Option<u32>) {
+        let is_limited = self.service.timeout.is_some() || self.service.stop.is_some();
+        (is_limited.then_some(LOOK_MS), self.service.timeout)
+    }
+
+    /// What is to be done next before a connection.
+    fn asks_before(&self) -> Effect<'_>
+        requires { spec.is_asking_before self.now.stage ≡ true }
+        ensures { spec.Asks self.now.stage self.now.core (the_ask result) }
+    {
+        match self.stage {
+            Stage::Logged => match &self.service.log {
+                Some(name) => Effect::Extend(name.as_str()),
+                None => Effect::Say(""),
+            },
+            Stage::Looking => Effect::Look(self.contacts.name()),
+            Stage::Making => Effect::Make(
+                Growth::Contacts,
+                self.contacts.name(),
+                self.contacts.beside(),
+                self.contacts.text.as_slice(),
+            ),
+            Stage::Discarding => Effect::Discard(Growth::Contacts),
+            Stage::SettingAside => Effect::SetAside(Growth::Contacts, self.contacts.old()),
+            Stage::Beginning => Effect::Begin(Growth::Contacts),
+            _ => Effect::Listen(
+                self.service.address(),
+                self.service.port,
+                self.service.stop.is_some(),
+            ),
+        }
+    }
+
+    /// What is to be done next while it serves.
+    fn asks_while(&self) -> Effect<'_>
+        requires { spec.is_asking_while self.now.stage ≡ true }
+        ensures { spec.Asks self.now.stage self.now.core (the_ask result) }
+    {
+        match self.stage {
+            Stage::Peeking | Stage::Checking => Effect::Exists(self.service.stop_name()),
+            Stage::Accepting => {
+                let (ms, seconds) = self.limits();
+                Effect::Accept(ms, seconds)
+            }
+            Stage::Pausing => Effect::Sleep(LOOK_MS),
+            Stage::Timing => Effect::Now,
+            Stage::Tracing => Effect::Say(self.shown.as_str()),
+            Stage::Stamping => Effect::Stamp,
+            Stage::Logging => Effect::Add(self.text.as_slice()),
+            Stage::Keeping => Effect::Keep(Growth::Contacts, self.contacts.text.as_slice()),
+            Stage::Sending => Effect::Send(Peer::Client, self.out.as_slice()),
+            Stage::Leaving => Effect::Leave,
+            _ => Effect::Receive(Peer::Client),
+        }
+    }
+
+    /// What is to be done next.
+    pub fn asks(&self) -> Effect<'_>
+        ensures { spec.Asks self.now.stage self.now.core (the_ask result) }
+    {
+        match self.stage {
+            Stage::Logged | Stage::Looking | Stage::Making | Stage::Listening => self.asks_before(),
+            Stage::Discarding | Stage::SettingAside | Stage::Beginning => self.asks_before(),
+            Stage::Replacing => Effect::Replace(
+                self.contacts.name(),
+                self.contacts.beside(),
+                self.contacts.text.as_slice(),
+            ),
+            Stage::Printing => Effect::Print(self.rows.as_slice()),
+            Stage::Saying => Effect::Say(self.said.as_str()),
+            Stage::Telling => Effect::Say(self.last),
+            Stage::Exiting => Effect::Exit(self.status),
+            _ => self.asks_while(),
+        }
+    }
+
+    /// What came of it. If memory runs out meanwhile, the connection is left, and the service ends.
+    pub fn take(&mut self, answer: Answer<'_>)
+        ensures { spec.GoesOn self.old (the_reply answer.entry) self.new }
+    {
+        if self.step(answer).is_err() {
+            self.run_short();
+        }
+    }
+
+    /// The session after an answer.
+    fn step(&mut self, answer: Answer<'_>) -> Result<(), AllocError>
+        ensures { OnOk result (spec.GoesOn self.old (the_reply answer.entry) self.new) }
+    {
+        match self.stage {
+            Stage::Logged | Stage::Looking | Stage::Making | Stage::Listening => {
+                self.prepare(answer)
+            }
+            Stage::Discarding | Stage::SettingAside | Stage::Beginning => self.begin(answer),
+            Stage::Peeking | Stage::Accepting | Stage::Pausing => self.take_next(answer),
+            Stage::Checking | Stage::Timing | Stage::Receiving => self.receive(answer),
+            Stage::Tracing | Stage::Stamping | Stage::Logging => self.show_on(answer),
+            Stage::Keeping | Stage::Sending | Stage::Leaving => self.answer(answer),
+            Stage::Replacing | Stage::Printing => self.close_on(answer),
+            Stage::Saying => {
+                self.go_to_next();
+                Ok(())
+            }
+            Stage::Telling | Stage::Exiting => {
+                self.stage = Stage::Exiting;
+                Ok(())
+            }
+        }
+    }
+
+    /// What was to be said was said.
+    fn go_to_next(&mut self)
+        requires { self.old.stage ≡ Stage.Saying }
+        ensures { (reply : Reply) → spec.GoesOn self.old reply self.new }
+    {
+        self.stage = self.next;
+    }
+
+    /// A message is to be said, and then this is next.
+    pub(crate) fn say(&mut self, message: String, next: Stage)
+        ensures { self.new ≡ record self.old { stage = Stage.Saying; next = next } }
+    {
+        self.said = message;
+        self.stage = Stage::Saying;
+        self.next = next;
+    }
+
+    /// The last message is to be said, which needs no memory.
+    pub(crate) fn tell(&mut self, message: &'static str, status: u8)
+        ensures { self.new ≡ record self.old { stage = Stage.Telling; next = Stage.Exiting } }
+    {
+        self.last = message;
+        self.status = status;
+        self.stage = Stage::Telling;
+        self.next = Stage::Exiting;
+    }
+
+    /// Memory has run out before the first connection: the files are left as they were.
+    fn give_up(&mut self)
+        ensures { spec.Ends self.new }
+    {
+        self.tell(OUT_OF_MEMORY, 4);
+        if self.contacts.grows {
+            self.stage = Stage::Discarding;
+        }
+    }
+
+    /// Memory has run out while it serves: the connection is left, and the service ends.
+    fn give_in(&mut self)
+        ensures { spec.Ends self.new }
+    {
+        self.server.leave();
+        self.broken = Some(Break::Fault(PumpFault::Memory));
+        if self.close().is_err() {
+            self.tell(OUT_OF_MEMORY, 4);
+        }
+    }
+
+    /// Memory has run out. At the end of a service that is said at once.
+    fn run_short(&mut self)
+        ensures { spec.Ends self.new }
+    {
+        match self.stage {
+            Stage::Logged | Stage::Looking | Stage::Making | Stage::Listening => self.give_up(),
+            Stage::Discarding | Stage::SettingAside | Stage::Beginning => self.give_up(),
+            Stage::Replacing | Stage::Printing => self.tell(OUT_OF_MEMORY, 4),
+            _ => self.give_in(),
+        }
+    }
+}

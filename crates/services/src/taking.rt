@@ -1,0 +1,94 @@
+// Between connections: the next one is taken.
+
+ghost use Rattle.std.specs.Prelude.{◌≡◌, true, OnOk};
+ghost use Rattle.services.specs.Sessions as spec;
+
+use crate::sessions::Break;
+use crate::waits::Wait;
+use crate::{Session, Stage};
+use effects::{Answer, Cause};
+use link_world::PumpFault;
+use std::alloc::AllocError;
+
+const UNTAKEN: &str = "dme: a connection cannot be taken\n";
+
+impl Session {
+    /// What comes before a connection is taken.
+    pub(crate) fn await_next(&self) -> Stage
+        ensures { spec.is_serving result ≡ true }
+    {
+        if self.service.stop.is_some() {
+            Stage::Peeking
+        } else {
+            Stage::Accepting
+        }
+    }
+
+    /// The next connection is taken, if there is to be one more.
+    pub(crate) fn go_on(&mut self) -> Result<(), AllocError>
+        ensures plain { OnOk result (spec.due self.new ≡ self.new.stage) }
+        ensures goes { OnOk result (spec.Continues self.old self.new) }
+    {
+        self.is_told = false;
+        if self.number >= u64::from(self.service.connections) {
+            return self.close();
+        }
+        self.stage = self.await_next();
+        Ok(())
+    }
+
+    pub(crate) fn take_next(&mut self, answer: Answer<'_>) -> Result<(), AllocError>
+        requires { spec.is_taking self.old.stage ≡ true }
+        ensures { OnOk result (spec.Continues self.old self.new) }
+    {
+        match (self.stage, answer) {
+            (Stage::Peeking, Answer::Found) => return self.close(),
+            (Stage::Peeking, _) => self.stage = Stage::Accepting,
+            (Stage::Pausing, _) => self.stage = self.await_next(),
+            (_, Answer::Done) => return self.taken(),
+            (_, Answer::Nothing) => self.stage = Stage::Pausing,
+            (_, Answer::Short) => return Err(AllocError),
+            (_, Answer::Failed(Cause::Interrupted)) => self.stage = self.await_next(),
+            _ if self.is_told => self.stage = Stage::Pausing,
+            _ => {
+                self.is_told = true;
+                let message = String::from_str(self.alloc, UNTAKEN)?;
+                self.say(message, Stage::Pausing);
+            }
+        }
+        Ok(())
+    }
+
+    /// A connection is taken: the server comes to it.
+    fn taken(&mut self) -> Result<(), AllocError>
+        ensures { OnOk result (spec.Continues self.old self.new) }
+    {
+        self.number = self.number.saturating_add(1);
+        let number = self.number;
+        self.wait = Wait::new(self.wait.limit);
+        self.lines.begin(number);
+        if let Err(fault) = self.server.accept(number) {
+            self.break_off(Break::Fault(PumpFault::Core(fault)));
+            self.stage = Stage::Leaving;
+            return Ok(());
+        }
+        self.is_on = true;
+        let next = self.await_bytes();
+        if self.service.progress {
+            let message = format!(in self.alloc; "connection {number} taken\n")?;
+            self.say(message, next);
+        } else {
+            self.stage = next;
+        }
+        Ok(())
+    }
+
+    /// A connection was broken off. The first cause is kept.
+    pub(crate) fn break_off(&mut self, why: Break)
+        ensures { self.new ≡ self.old }
+    {
+        if self.broken.is_none() {
+            self.broken = Some(why);
+        }
+    }
+}
