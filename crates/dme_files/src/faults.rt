@@ -59,53 +59,24 @@ pub fn cannot_write(name: String, kind: ErrorKind) -> OrderFault {
     OrderFault::CannotWrite(unwritten(name, why(kind)))
 }
 
-/// Writes why a command line is refused, as `clap` writes it.
-fn write_refusal<W: fmt::Write>(f: &mut fmt::Formatter<W>, why: &str) -> fmt::Result {
-    write!(f, "error: {why}\n\nFor more information, try '--help'.\n")
-}
-
-/// Likewise, for two options that name one file.
-fn write_one_file<W: fmt::Write>(
-    f: &mut fmt::Formatter<W>,
-    first: &str,
-    second: &str,
-    name: &str,
-) -> fmt::Result {
-    write!(f, "error: '{first}' and '{second}' name one file, '{name}'")?;
-    write!(f, "\n\nFor more information, try '--help'.\n")
-}
-
-/// Writes what is shown for a record.
-fn write_record<W: fmt::Write>(
-    f: &mut fmt::Formatter<W>,
-    refusal: &RecordRefusal,
-    note: &str,
-) -> fmt::Result {
-    write!(f, "dme: {refusal} in record\n{note}")
-}
-
-/// Writes what is shown for an order, and then a text.
-fn write_order<W: fmt::Write>(
-    f: &mut fmt::Formatter<W>,
-    cause: &OrderFault,
-    place: &str,
-) -> fmt::Result {
-    write!(f, "{cause}{place}")
-}
-
 impl fmt::Display for Fault {
     fn fmt<W: fmt::Write>(&self, f: &mut fmt::Formatter<W>) -> fmt::Result {
         match self {
             Fault::Words(fault) => write!(f, "{fault}"),
-            Fault::NotUtf8 => {
-                write_refusal(f, "invalid UTF-8 was detected in one or more arguments")
-            }
-            Fault::OneFile(first, second, name) => write_one_file(f, first, second, name),
+            Fault::NotUtf8 => f.write_str(
+                "error: invalid UTF-8 was detected in one or more arguments\n\nFor more information, try '--help'.\n",
+            ),
+            Fault::OneFile(first, second, name) => write!(
+                f,
+                "error: '{first}' and '{second}' name one file, '{name}'\n\nFor more information, try '--help'.\n"
+            ),
             Fault::NotConfirmed => write!(f, "dme: not confirmed, nothing has moved\n"),
-            Fault::Record(refusal) => write_record(f, refusal, ""),
-            Fault::ExplainedRecord(refusal, note) => write_record(f, refusal, note),
-            Fault::Order(cause) => write_order(f, cause, ""),
-            Fault::Explained(cause, place) => write_order(f, cause, place),
+            Fault::Record(refusal) => write!(f, "dme: {refusal} in record\n"),
+            Fault::ExplainedRecord(refusal, note) => {
+                write!(f, "dme: {refusal} in record\n{note}")
+            }
+            Fault::Order(cause) => write!(f, "{cause}"),
+            Fault::Explained(cause, place) => write!(f, "{cause}{place}"),
         }
     }
 }
