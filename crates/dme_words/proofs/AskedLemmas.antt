@@ -7,10 +7,10 @@ use Rattle.std.proofs.lemmas.Option.{none-some}
 use Rattle.std.proofs.lemmas.Slice.Eq.{bytes_eq-Decides}
 use Rattle.std.specs.Str.{bytes_eq}
 use Rattle.clap.specs.Walk.{Text, answers_to, nothing_held, rows_after, walk, walk_from}
-use Rattle.clap.specs.Simple.{App, Shape, argument_words, built, entered, label_of, names_of}
-use Rattle.clap.specs.Simple.{rows_at, subcommand_of}
+use Rattle.clap.specs.Simple.{App, Shape, argument_words, built, built_leaf, entered, inherited, label_of, marked_built, names_of}
+use Rattle.clap.specs.Simple.{on_top, rows_at, subcommand_of, with_leaf_noted}
 use Rattle.clap.specs.Faults.{entered_fault, fault_of, level_fault, walk_fault}
-use Rattle.dme_words.specs.CommandLine.{audit_line, check_line, explain_line, export_line, judge_line, ledger_line, loop_line, run_line, serve_line, simulate_line, watch_line, whole_line}
+use Rattle.dme_words.specs.CommandLine.{audit_line, check_line, explain_line, export_line, judge_line, ledger_line, loop_line, review_line, run_line, serve_line, simulate_line, watch_line, whole_line}
 use Rattle.dme_words.specs.Ordered.{Has, IsAskable, leaf}
 use Rattle.dme_words.proofs.HelpLemmas.{NotAtHelp, entered_there, first_none, second_none, walk_stops}
 use Rattle.dme_words.proofs.FoundLemmas.{level_has}
@@ -46,88 +46,48 @@ no_help word words free answers = go (bytes_eq (codes "help") word) refl answers
     go true is answers = free words (ap (λ (name : Text). Some (name, words)) (sym ((bytes_eq-Decides (codes "help") word).0 is)))
     go false is answers = true≢false (sym answers)
 
-checked : (words : List Text) → level_fault (leaf check_line) [] nothing_held words false [] ≡ [] → Has check_line (rows_after (leaf check_line).rules [] words)
-checked words none = level_has (leaf check_line) words refl
-    ((refl, inl (refl, refl)), ((refl, inr (inl (refl, omega arith))), ((refl, inl (refl, refl)), ((refl, inr (inr refl)), tt))))
-    none
-
-simulation : (words : List Text) → level_fault (leaf simulate_line) [] nothing_held words false [] ≡ [] → Has simulate_line (rows_after (leaf simulate_line).rules [] words)
-simulation words none = level_has (leaf simulate_line) words refl
-    ((refl, inl (refl, refl)), ((refl, inl (refl, refl)), ((refl, inl (refl, refl)), ((refl, inr (inl (refl, omega arith))), ((refl, inr (inl (refl, omega arith))), ((refl, inl (refl, refl)), ((refl, inr (inr refl)), tt)))))))
-    none
-
-audit : (words : List Text) → level_fault (leaf audit_line) [] nothing_held words false [] ≡ [] → Has audit_line (rows_after (leaf audit_line).rules [] words)
-audit words none = level_has (leaf audit_line) words refl
-    ((refl, inl (refl, refl)), ((refl, inl (refl, refl)), ((refl, inl (refl, refl)), ((refl, inl (refl, refl)), ((refl, inr (inl (refl, omega arith))), ((refl, inl (refl, refl)), ((refl, inr (inr refl)), tt)))))))
-    none
-
-loop : (words : List Text) → level_fault (leaf loop_line) [] nothing_held words false [] ≡ [] → Has loop_line (rows_after (leaf loop_line).rules [] words)
-loop words none = level_has (leaf loop_line) words refl
-    ((refl, inl (refl, refl)), ((refl, inl (refl, refl)), ((refl, inr (inl (refl, omega arith))), ((refl, inr (inl (refl, omega arith))), ((refl, inr (inl (refl, omega arith))), ((refl, inl (refl, refl)), ((refl, inr (inr refl)), tt)))))))
-    none
-
-service : (words : List Text) → level_fault (leaf serve_line) [] nothing_held words false [] ≡ [] → Has serve_line (rows_after (leaf serve_line).rules [] words)
-service words none = level_has (leaf serve_line) words refl
-    ((refl, inl (refl, refl)), ((refl, inl (refl, refl)), ((refl, inl (refl, refl)), ((refl, inl (refl, refl)), ((refl, inr (inl (refl, omega arith))), ((refl, inl (refl, refl)), ((refl, inr (inl (refl, omega arith))), ((refl, inr (inl (refl, omega arith))), ((refl, inl (refl, refl)), ((refl, inl (refl, refl)), ((refl, inl (refl, refl)), ((refl, inr (inl (refl, omega arith))), ((refl, inr (inr refl)), tt)))))))))))))
-    none
-
-driven : (words : List Text) → level_fault (leaf run_line) [] nothing_held words false [] ≡ [] → Has run_line (rows_after (leaf run_line).rules [] words)
-driven words none = level_has (leaf run_line) words refl
-    ((refl, inl (refl, refl)), ((refl, inl (refl, refl)), ((refl, inl (refl, refl)), ((refl, inl (refl, refl)), ((refl, inl (refl, refl)), ((refl, inl (refl, refl)), ((refl, inl (refl, refl)), ((refl, inl (refl, refl)), ((refl, inr (inl (refl, omega arith))), ((refl, inr (inl (refl, omega arith))), ((refl, inl (refl, refl)), ((refl, inl (refl, refl)), ((refl, inl (refl, refl)), ((refl, inl (refl, refl)), ((refl, inr (inl (refl, omega arith))), ((refl, inr (inl (refl, omega arith))), ((refl, inl (refl, refl)), ((refl, inr (inr refl)), tt))))))))))))))))))
-    none
-
-explained : (words : List Text) → level_fault (leaf explain_line) [] nothing_held words false [] ≡ [] → Has explain_line (rows_after (leaf explain_line).rules [] words)
-explained words none = level_has (leaf explain_line) words refl
-    ((refl, inl (refl, refl)), ((refl, inr (inr refl)), tt))
-    none
-
-export : (words : List Text) → level_fault (leaf export_line) [] nothing_held words false [] ≡ [] → Has export_line (rows_after (leaf export_line).rules [] words)
-export words none = level_has (leaf export_line) words refl
-    ((refl, inl (refl, refl)), ((refl, inl (refl, refl)), ((refl, inl (refl, refl)), ((refl, inl (refl, refl)), ((refl, inr (inl (refl, omega arith))), ((refl, inl (refl, refl)), ((refl, inr (inr refl)), tt)))))))
-    none
-
-witnessed : (words : List Text) → level_fault (leaf ledger_line) [] nothing_held words false [] ≡ [] → Has ledger_line (rows_after (leaf ledger_line).rules [] words)
-witnessed words none = level_has (leaf ledger_line) words refl
-    ((refl, inl (refl, refl)), ((refl, inl (refl, refl)), ((refl, inl (refl, refl)), ((refl, inr (inr refl)), tt))))
-    none
-
-judged : (words : List Text) → level_fault (leaf judge_line) [] nothing_held words false [] ≡ [] → Has judge_line (rows_after (leaf judge_line).rules [] words)
-judged words none = level_has (leaf judge_line) words refl
-    ((refl, inl (refl, refl)), ((refl, inl (refl, refl)), ((refl, inr (inr refl)), tt)))
-    none
-
-relayed : (words : List Text) → level_fault (leaf watch_line) [] nothing_held words false [] ≡ [] → Has watch_line (rows_after (leaf watch_line).rules [] words)
-relayed words none = level_has (leaf watch_line) words refl
-    ((refl, inl (refl, refl)), ((refl, inl (refl, refl)), ((refl, inl (refl, refl)), ((refl, inl (refl, refl)), ((refl, inl (refl, refl)), ((refl, inl (refl, refl)), ((refl, inr (inl (refl, omega arith))), ((refl, inr (inl (refl, omega arith))), ((refl, inl (refl, refl)), ((refl, inl (refl, refl)), ((refl, inr (inr refl)), tt)))))))))))
-    none
-
 -- each subcommand of `dme` may be asked for, and `help` was not met
 serves : (p : Text × List Text) → NotAtHelp (Some p) → Serve p.0 p.1 (built whole_line).subs
 serves p free = (
-  λ answers none. inl (refl, checked p.1 none),
+  λ answers none. level_has (leaf check_line) p.1 refl
+      ((refl, inl (refl, refl)), ((refl, inr (inl (refl, omega arith))), ((refl, inl (refl, refl)), ((refl, inr (inr refl)), tt)))) none,
   (
-    λ answers none. inr (inl (refl, simulation p.1 none)),
+    λ answers none. level_has (leaf simulate_line) p.1 refl
+        ((refl, inl (refl, refl)), ((refl, inl (refl, refl)), ((refl, inl (refl, refl)), ((refl, inr (inl (refl, omega arith))), ((refl, inr (inl (refl, omega arith))), ((refl, inl (refl, refl)), ((refl, inr (inr refl)), tt))))))) none,
     (
-      λ answers none. inr (inr (inl (refl, audit p.1 none))),
+      λ answers none. level_has (leaf audit_line) p.1 refl
+          ((refl, inl (refl, refl)), ((refl, inl (refl, refl)), ((refl, inl (refl, refl)), ((refl, inl (refl, refl)), ((refl, inr (inl (refl, omega arith))), ((refl, inl (refl, refl)), ((refl, inr (inr refl)), tt))))))) none,
       (
-        λ answers none. inr (inr (inr (inl (refl, loop p.1 none)))),
+        λ answers none. level_has (leaf loop_line) p.1 refl
+            ((refl, inl (refl, refl)), ((refl, inl (refl, refl)), ((refl, inr (inl (refl, omega arith))), ((refl, inr (inl (refl, omega arith))), ((refl, inr (inl (refl, omega arith))), ((refl, inl (refl, refl)), ((refl, inr (inr refl)), tt))))))) none,
         (
-          λ answers none. inr (inr (inr (inr (inl (refl, service p.1 none))))),
+          λ answers none. level_has (leaf serve_line) p.1 refl
+              ((refl, inl (refl, refl)), ((refl, inl (refl, refl)), ((refl, inl (refl, refl)), ((refl, inl (refl, refl)), ((refl, inr (inl (refl, omega arith))), ((refl, inl (refl, refl)), ((refl, inr (inl (refl, omega arith))), ((refl, inr (inl (refl, omega arith))), ((refl, inl (refl, refl)), ((refl, inl (refl, refl)), ((refl, inl (refl, refl)), ((refl, inr (inl (refl, omega arith))), ((refl, inr (inr refl)), tt))))))))))))) none,
           (
-            λ answers none. inr (inr (inr (inr (inr (inl (refl, driven p.1 none)))))),
+            λ answers none. level_has (leaf run_line) p.1 refl
+                ((refl, inl (refl, refl)), ((refl, inl (refl, refl)), ((refl, inl (refl, refl)), ((refl, inl (refl, refl)), ((refl, inl (refl, refl)), ((refl, inl (refl, refl)), ((refl, inl (refl, refl)), ((refl, inl (refl, refl)), ((refl, inr (inl (refl, omega arith))), ((refl, inr (inl (refl, omega arith))), ((refl, inl (refl, refl)), ((refl, inl (refl, refl)), ((refl, inl (refl, refl)), ((refl, inl (refl, refl)), ((refl, inr (inl (refl, omega arith))), ((refl, inr (inl (refl, omega arith))), ((refl, inl (refl, refl)), ((refl, inr (inr refl)), tt)))))))))))))))))) none,
             (
-              λ answers none. inr (inr (inr (inr (inr (inr (inl (refl, explained p.1 none))))))),
+              λ answers none. level_has (leaf explain_line) p.1 refl
+                  ((refl, inl (refl, refl)), ((refl, inr (inr refl)), tt)) none,
               (
-                λ answers none. inr (inr (inr (inr (inr (inr (inr (inl (refl, export p.1 none)))))))),
+                λ answers none. level_has (leaf export_line) p.1 refl
+                    ((refl, inl (refl, refl)), ((refl, inl (refl, refl)), ((refl, inl (refl, refl)), ((refl, inl (refl, refl)), ((refl, inr (inl (refl, omega arith))), ((refl, inl (refl, refl)), ((refl, inr (inr refl)), tt))))))) none,
                 (
-                  λ answers none. inr (inr (inr (inr (inr (inr (inr (inr (inl refl)))))))),
+                  λ answers none. level_has (leaf review_line) p.1 refl
+                      ((refl, inl (refl, refl)), ((refl, inl (refl, refl)), ((refl, inl (refl, refl)), ((refl, inr (inr refl)), tt)))) none,
                   (
-                    λ answers none. inr (inr (inr (inr (inr (inr (inr (inr (inr (inl (refl, witnessed p.1 none)))))))))),
+                    λ answers none. level_has (leaf ledger_line) p.1 refl
+                        ((refl, inl (refl, refl)), ((refl, inl (refl, refl)), ((refl, inl (refl, refl)), ((refl, inr (inr refl)), tt)))) none,
                     (
-                      λ answers none. inr (inr (inr (inr (inr (inr (inr (inr (inr (inr (inl (refl, judged p.1 none))))))))))),
+                      λ answers none. level_has (leaf judge_line) p.1 refl
+                          ((refl, inl (refl, refl)), ((refl, inl (refl, refl)), ((refl, inr (inr refl)), tt))) none,
                       (
-                        λ answers none. inr (inr (inr (inr (inr (inr (inr (inr (inr (inr (inr (refl, relayed p.1 none))))))))))),
-                        (λ answers none. absurd (no_help p.0 p.1 free answers), tt),
+                        λ answers none. level_has (leaf watch_line) p.1 refl
+                            ((refl, inl (refl, refl)), ((refl, inl (refl, refl)), ((refl, inl (refl, refl)), ((refl, inl (refl, refl)), ((refl, inl (refl, refl)), ((refl, inl (refl, refl)), ((refl, inr (inl (refl, omega arith))), ((refl, inr (inl (refl, omega arith))), ((refl, inl (refl, refl)), ((refl, inl (refl, refl)), ((refl, inr (inr refl)), tt))))))))))) none,
+                        (
+                          λ answers none. absurd (no_help p.0 p.1 free answers),
+                          tt,
+                        ),
                       ),
                     ),
                   ),

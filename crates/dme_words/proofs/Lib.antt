@@ -5,4 +5,4 @@ pub mod HelpLemmas
 pub mod LevelLemmas
 pub mod FoundLemmas
 pub mod AskedLemmas
-pub mod LaterLemmas
+pub mod NamedLemmas

@@ -118,7 +118,11 @@ watch_line = line_of (codes "watch") (listened_rule ∷ needed_rule (codes "host
 abbrev pub bare_line : App
 bare_line = record (new_app (codes "dme")) { top = record (new_app (codes "dme")).top { subcommand_required = true } }
 
+-- its subcommands
+abbrev pub lines : List App
+lines = check_line ∷ simulate_line ∷ audit_line ∷ loop_line ∷ serve_line ∷ run_line ∷ explain_line ∷ export_line ∷ review_line
+    ∷ ledger_line ∷ judge_line ∷ watch_line ∷ []
+
 -- `dme COMMAND ..`
 abbrev pub whole_line : App
-whole_line = fold (λ line order. with_subcommand line order.top) bare_line (check_line ∷ simulate_line ∷ audit_line ∷ loop_line
-    ∷ serve_line ∷ run_line ∷ explain_line ∷ export_line ∷ review_line ∷ ledger_line ∷ judge_line ∷ watch_line ∷ [])
+whole_line = fold (λ line order. with_subcommand line order.top) bare_line lines

@@ -1,6 +1,7 @@
 -- What the words of a command line ask for.
 use Rattle.std.specs.Prelude.{◌≡◌, ◌≢◌, ◌⊎◌, ◌≤◌, ◌||◌, not, ℕ, ℤ, Bool, List, [], ◌∷◌, Option, Some, None, IsSomeAnd, codes, is_some, pos, true, false, unwrap_or}
-use Rattle.std.specs.Prelude.{string_bytes}
+use Rattle.std.specs.Prelude.{string_bytes, find}
+use Rattle.std.specs.Str.{bytes_eq}
 use Rattle.std.specs.Option.{option_map}
 use Rattle.std.specs.Str.Parse.{signed_digits_value}
 use Rattle.clap.specs.declared.error.Error.{Error}
@@ -16,7 +17,7 @@ use Rattle.refusal_guide.specs.Codes.{is_code_of}
 use Rattle.run_record.specs.Heads.{IsPart, IsPartGiven}
 use Rattle.refusal_guide.specs.declared.topics.Topic.{Topic}
 use Rattle.deviations.specs.declared.forms.Form.TheVariants.{Csv, Json, Svg}
-use Rattle.dme_words.specs.CommandLine.{audit_line, check_line, explain_line, export_line, judge_line, ledger_line, loop_line, run_line, serve_line, simulate_line, watch_line, whole_line}
+use Rattle.dme_words.specs.CommandLine.{lines, whole_line}
 use Rattle.dme_words.specs.declared.orders.Audit.{Audit}
 use Rattle.dme_words.specs.declared.orders.Check.{Check}
 use Rattle.dme_words.specs.declared.orders.Export.{Export}
@@ -302,17 +303,9 @@ leaf line = built_leaf (inherited (on_top with_leaf_noted (on_top marked_built w
 abbrev pub Has : App → List Row → Type 0
 Has line rows = HasAll (leaf line).rules rows
 
--- the name of one of the last eight subcommands, with the values that it cannot do without
-abbrev pub IsLaterAskable : Text × List Row → Type 0
-IsLaterAskable p = ((p.0 ≡ codes "serve") × Has serve_line p.1) ⊎ ((p.0 ≡ codes "run") × Has run_line p.1)
-    ⊎ ((p.0 ≡ codes "explain") × Has explain_line p.1) ⊎ ((p.0 ≡ codes "export") × Has export_line p.1)
-    ⊎ (p.0 ≡ codes "review") ⊎ ((p.0 ≡ codes "ledger") × Has ledger_line p.1) ⊎ ((p.0 ≡ codes "judge") × Has judge_line p.1)
-    ⊎ ((p.0 ≡ codes "watch") × Has watch_line p.1)
-
 -- the name of a subcommand of `dme`, with the values that it cannot do without
 abbrev pub IsAskable : Text × List Row → Type 0
-IsAskable p = ((p.0 ≡ codes "check") × Has check_line p.1) ⊎ ((p.0 ≡ codes "simulate") × Has simulate_line p.1)
-    ⊎ ((p.0 ≡ codes "audit") × Has audit_line p.1) ⊎ ((p.0 ≡ codes "loop") × Has loop_line p.1) ⊎ IsLaterAskable p
+IsAskable p = IsSomeAnd (find (λ line. bytes_eq p.0 line.top.name) lines) (λ line. Has line p.1)
 
 -- the window is one that a client takes, the port is one that can be listened on, the count is one of a server's connections, and the number is
 -- one of a connection

@@ -9,8 +9,8 @@ ghost use Rattle.dme_words.specs.CommandLine.{loop_line, run_line, serve_line, s
 ghost use Rattle.dme_words.specs.Ordered.{Asks, AsksForNothing, ExportMisfits, Has, HasFlag, HasNoAudit, HasNoExport, HasNoPart, HasNoReview};
 ghost use Rattle.dme_words.specs.Ordered.{HasNoRun, HasNoRunValue, HasNoSeconds, HasNoTopic, HasNone, HasNumber, HasValue, IsAnyAuditOf};
 ghost use Rattle.dme_words.specs.Ordered.{IsAnyExportOf, IsAskable, IsCalled, IsCheckOf, IsCodeOf, IsConnectionsOf, IsExplainOf, IsFindingFormOf};
-ghost use Rattle.dme_words.specs.Ordered.{IsFlagOf, IsJudgeOf, IsLaterAskable, IsLedgerOf, IsLoopOf, IsMaybeOf, IsNoCode, IsNoForm, IsNoSeconds};
-ghost use Rattle.dme_words.specs.Ordered.{IsNumber, IsNumberOf, IsOrderOf, IsPartOf, IsProgramOf, IsReady, IsRefusal, IsRefusedOf, IsReviewOf};
+ghost use Rattle.dme_words.specs.Ordered.{IsFlagOf, IsJudgeOf, IsLedgerOf, IsLoopOf, IsMaybeOf, IsNoCode, IsNoForm, IsNoSeconds};
+ghost use Rattle.dme_words.specs.Ordered.{IsNamedOrderOf, IsNumber, IsNumberOf, IsOrderOf, IsPartOf, IsProgramOf, IsReady, IsRefusal, IsRefusedOf, IsReviewOf};
 ghost use Rattle.dme_words.specs.Ordered.{IsRunOf, IsSecondsOf, IsServeOf, IsSimulateOf, IsValueOf, IsWatchOf, IsWindowOf, NamesItsPart, form_word};
 ghost use Rattle.dme_words.specs.Ordered.{is_lacking};
 
@@ -630,14 +630,18 @@ fn watch_order(alloc: Global, values: &ArgMatches) -> Result<Watch, WordsFault>
     })
 }
 
-/// The order of one of the last eight subcommands, with its values.
-fn later_order(alloc: Global, name: &str, values: &ArgMatches) -> Result<Order, WordsFault>
-    requires { IsLaterAskable (name.now, rows_of (found_of values.now)) }
-    ensures named { IfOk result (IsOrderOf (Some (name.now, rows_of (found_of values.now)))) }
+/// The order of the subcommand of this name, with its values.
+fn named_order(alloc: Global, name: &str, values: &ArgMatches) -> Result<Order, WordsFault>
+    requires { IsAskable (name.now, rows_of (found_of values.now)) }
+    ensures named { IfOk result (IsNamedOrderOf (name.now, rows_of (found_of values.now))) }
     ensures ready { IfOk result IsReady }
     ensures none { IfErr result (IsRefusedOf (name.now, rows_of (found_of values.now))) }
 {
     match name {
+        "check" => Ok(Order::Check(check_order(alloc, values)?)),
+        "simulate" => Ok(Order::Simulate(simulate_order(alloc, values)?)),
+        "audit" => audit_order(alloc, values),
+        "loop" => Ok(Order::Loop(loop_order(alloc, values)?)),
         "serve" => Ok(Order::Serve(serve_order(alloc, values)?)),
         "run" => Ok(Order::Run(run_order(alloc, values)?)),
         "explain" => Ok(Order::Explain(explain_order(alloc, values)?)),
@@ -658,11 +662,7 @@ fn order_of(alloc: Global, matches: &ArgMatches) -> Result<Order, WordsFault>
     ensures none { IfErr result (AsksForNothing (subcommand_rows_of matches.now)) }
 {
     match matches.subcommand() {
-        Some(("check", values)) => Ok(Order::Check(check_order(alloc, values)?)),
-        Some(("simulate", values)) => Ok(Order::Simulate(simulate_order(alloc, values)?)),
-        Some(("audit", values)) => audit_order(alloc, values),
-        Some(("loop", values)) => Ok(Order::Loop(loop_order(alloc, values)?)),
-        Some((name, values)) => later_order(alloc, name, values),
+        Some((name, values)) => named_order(alloc, name, values),
         None => unreachable!(),
     }
 }
