@@ -1,0 +1,17 @@
+pub mod AboveLemmas
+pub mod Runs
+pub mod RunLemmas
+pub mod Solid
+pub mod SolidLemmas
+pub mod SolidParts
+pub mod LineLemmas
+pub mod SaidLemmas
+pub mod FlatLemmas
+pub mod ReadBackLemmas
+pub mod FlatSourceLemmas
+pub mod LawLemmas
+pub mod EndLemmas
+pub mod HeadLemmas
+pub mod LineCounts
+pub mod Takes
+pub mod ExampleLemmas
