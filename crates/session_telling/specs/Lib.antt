@@ -2,3 +2,4 @@ pub mod Sessions
 pub mod Places
 pub mod Visible
 pub mod Dialogues
+pub mod Names

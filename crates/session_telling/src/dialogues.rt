@@ -1,8 +1,6 @@
 // Both sides of a connection, as their bytes go by: what the server reports of the commands that were sent.
 
-ghost use Rattle.std.specs.Prelude.{◌≡◌, ◌∷◌, ◌++◌, ◌<◌, ◌==◌, [], length, OnOk, IfOk, IfSome, IfNone};
-ghost use Rattle.std.specs.List.{position};
-ghost use Rattle.session_telling.specs.Dialogues.{Hears, IsUnended, ReportsLine, ReportsLines, Sends, SendsLines, content};
+ghost use Rattle.session_telling.specs.Names.{◌≡◌, ◌∷◌, ◌++◌, ◌<◌, ◌==◌, [], length, OnOk, IfOk, IfSome, IfNone, position, Hears, IsUnended, ReportsLine, ReportsLines, Sends, SendsLines, content};
 
 use crate::sessions::{Sent, Session};
 use dme_line::Tag;
@@ -48,7 +46,6 @@ impl Report {
     }
 }
 
-/// A line without the CR at its end.
 fn content(line: &[u8]) -> &[u8]
     ensures { result.now ≡ content line.now }
 {
@@ -58,7 +55,6 @@ fn content(line: &[u8]) -> &[u8]
     line
 }
 
-/// Where the first LF is.
 fn end_of(bytes: &[u8]) -> Option<usize>
     ensures place { result ≡ position (λ b. b == 10) bytes.now }
     ensures within { IfSome result (λ at. at < length bytes.now) }

@@ -1,7 +1,6 @@
 // Which touch of which feature a touch of a connection is, and on which line of the program a command's statement is.
 
-ghost use Rattle.std.specs.Prelude.{◌≡◌, ◌<◌, MatchOption};
-ghost use Rattle.session_telling.specs.Places.{IsPlace, IsBeyond, line_of};
+ghost use Rattle.session_telling.specs.Names.{◌≡◌, ◌<◌, MatchOption, IsPlace, IsBeyond, line_of};
 
 use crate::sessions::{Sent, is_task};
 

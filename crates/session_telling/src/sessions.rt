@@ -1,8 +1,6 @@
 // The commands that were sent on a connection, and the errors that are about them.
 
-ghost use Rattle.std.specs.Prelude.{◌≡◌, ◌-◌, ◌^◌, ◌+◌, min, [], OnOk, OnErr, IfOk, MatchOption, option_copied};
-ghost use Rattle.session_telling.specs.Sessions.{is_task, touches_of, touches_with, tasks_of, tasks_with, with_command, last_under};
-ghost use Rattle.session_telling.specs.Sessions.{Adds, Reports, ReportsNothing};
+ghost use Rattle.session_telling.specs.Names.{◌≡◌, ◌-◌, ◌^◌, ◌+◌, min, [], OnOk, OnErr, IfOk, MatchOption, option_copied, is_task, touches_of, touches_with, tasks_of, tasks_with, with_command, last_under, Adds, Reports, ReportsNothing};
 
 use dme_line::{Kind, MarkSlice, Tag, cut_response, read_command};
 use std::alloc::{AllocError, Global};
@@ -59,7 +57,6 @@ pub fn is_task(kind: Kind) -> bool
     )
 }
 
-/// One more for a command that carries out a statement.
 fn tasks_with(count: u64, kind: Kind) -> u64
     ensures { result ≡ tasks_with count kind }
 {
@@ -69,7 +66,6 @@ fn tasks_with(count: u64, kind: Kind) -> u64
     count
 }
 
-/// One more for a touch.
 fn touches_with(count: u64, kind: Kind) -> u64
     ensures { result ≡ touches_with count kind }
 {
@@ -89,7 +85,6 @@ impl Session {
         }
     }
 
-    /// How many touches were sent.
     fn touches(&self) -> u64
         ensures { result ≡ touches_of self.now }
     {
@@ -99,7 +94,6 @@ impl Session {
         }
     }
 
-    /// How many commands that carry out statements were sent.
     fn tasks(&self) -> u64
         ensures { result ≡ tasks_of self.now }
     {
@@ -109,7 +103,6 @@ impl Session {
         }
     }
 
-    /// A command was sent.
     fn add(&mut self, tag: Tag, kind: Kind) -> Result<(), AllocError>
         ensures ok { OnOk result (self.new ≡ with_command self.old tag kind) }
         ensures err { OnErr result (self.new ≡ self.old) }
@@ -137,7 +130,6 @@ impl Session {
         }
     }
 
-    /// The last command that was sent under a tag.
     fn last_under(&self, tag: Tag) -> Option<Sent>
         ensures { result ≡ last_under tag self.now }
     {

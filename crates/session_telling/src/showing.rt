@@ -1,12 +1,9 @@
 // Bytes of a peer as people read them.
 
-ghost use Rattle.std.specs.Prelude.{◌≡◌, ◌<◌, ◌++◌, OnOk, IfOk, string_bytes};
-ghost use Rattle.std.specs.List.{flat_map};
-ghost use Rattle.session_telling.specs.Visible.{hex_digit, visible};
+ghost use Rattle.session_telling.specs.Names.{◌≡◌, ◌<◌, ◌++◌, OnOk, IfOk, string_bytes, flat_map, hex_digit, visible};
 
 use std::alloc::{AllocError, Global};
 
-/// A hexadecimal digit.
 fn hex_digit(value: u8) -> char
     requires { value < 16 }
     ensures digit { result ≡ hex_digit value }

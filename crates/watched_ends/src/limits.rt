@@ -1,7 +1,6 @@
 // A relay that keeps no more than it may.
 
-ghost use Rattle.std.specs.Prelude.{◌≡◌, ◌++◌, ◌≤◌, ◌↔◌, length, true, false, OnOk, OnErr, IfOk, IsTrue};
-ghost use Rattle.witness.specs.Relaying.{Reads, IsClientRead, IsServerRead};
+ghost use Rattle.watched_ends.specs.Names.{◌≡◌, ◌++◌, ◌≤◌, ◌↔◌, length, true, false, OnOk, OnErr, IfOk, IsTrue, Reads, IsClientRead, IsServerRead, KeepsFew};
 ghost use Rattle.watched_ends.specs.Limits as spec;
 
 use dme_line::Tag;
@@ -36,7 +35,6 @@ impl Model for LimitedRelay {
     ghost view = { λ l. limited l.relay l.up.waiting l.down.waiting l.due.items };
 }
 
-/// The tag of the last of these lines.
 fn last_tag(uses: &[Use]) -> Tag
     ensures { result ≡ spec.last_tag (Tag.Event 0) uses.now }
 {
@@ -47,7 +45,6 @@ fn last_tag(uses: &[Use]) -> Tag
     tag
 }
 
-/// How many bytes are kept of a line.
 fn kept(command: &SentCommand) -> usize
     ensures { result ≡ spec.kept command.now }
 {
@@ -57,7 +54,6 @@ fn kept(command: &SentCommand) -> usize
     }
 }
 
-/// Whether more bytes than they may are kept of these lines.
 fn keep_more(uses: &[Use]) -> bool
     ensures { result ≡ spec.keeps_more 16777216 uses.now }
 {
@@ -72,7 +68,6 @@ fn keep_more(uses: &[Use]) -> bool
     false
 }
 
-/// Whether too many lines are open, or too many bytes are kept of them.
 fn are_too_many(uses: &[Use]) -> bool
     ensures { result ≡ spec.are_too_many uses.now }
 {
@@ -92,11 +87,15 @@ fn ended_text(alloc: Global, relay: &Relay, tag: Tag) -> Result<Vec<u8>, AllocEr
 
 /// Reads the lines that wait, those of the client first, as long as not too many are open: whether too many are. Fails only if out of memory, and then
 /// has read some of them.
+#[tactic(auto, using(crate::proofs::LimitLemmas::stop_first, crate::proofs::LimitLemmas::stop_read))]
 fn read_most(relay: &mut Relay) -> Result<bool, AllocError>
     ensures reads { Reads relay.old.watching relay.new.watching }
     ensures others { relay.new ≡ record relay.old { watching = relay.new.watching } }
     ensures client { IfOk result (λ over. over ≡ false → IsClientRead relay.new.watching) }
     ensures server { IfOk result (λ over. over ≡ false → IsServerRead relay.new.watching) }
+    ensures few { IfOk result (λ over. over ≡ false → KeepsFew relay.new.watching) }
+    ensures stop { IfOk result (λ over. over ≡ true
+        → spec.IsStop relay.old.watching relay.new.watching) }
     ensures over { IfOk result (λ over. over
         ≡ spec.are_too_many relay.new.watching.dialogue.uses) }
 {

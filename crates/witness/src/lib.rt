@@ -6,7 +6,7 @@
 //! - `known`: what becomes of the changes of tool and frame that may hold
 //! - `effects`: what a mark reports of its command
 //! - `uses`: what a mark or a fault does to the lines that are open
-//! - `dialogue`: `Dialogue`, the lines of both ends, one at a time; `witness`: `Witness`, their bytes
+//! - `dialogue`: `Dialogue`, the lines of both ends, one at a time; `ends`, `witness`: `Witness`, their bytes
 //! - `writing`: the text of what was reported
 //! - `relay`: `Relay`, which sends on what comes, and has what is reported written first
 //! - `laws`: what follows for all lines, and for the whole course of a relay; `examples`: what is known after lines that are written out
@@ -16,6 +16,7 @@ mod asking;
 mod cutting;
 mod dialogue;
 mod effects;
+mod ends;
 pub mod examples;
 mod known;
 pub mod laws;

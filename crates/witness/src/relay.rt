@@ -2,6 +2,7 @@
 
 ghost use Rattle.std.specs.Prelude.{◌≡◌, ◌≤◌, ◌<◌, ◌↔◌, [], length, drop, true, false, IsTrue, OnOk, OnErr, IfOk};
 ghost use Rattle.witness.specs.Relaying as spec;
+ghost use Rattle.witness.specs.Watching.{IsFirstPast, KeepsFew};
 
 use crate::lines::Use;
 use crate::witness::Witness;
@@ -83,18 +84,22 @@ impl Relay {
         ensures others { self.new ≡ record self.old { watching = self.new.watching } }
         ensures client { OnOk result (spec.IsClientRead self.new.watching) }
         ensures server { OnOk result (spec.IsServerRead self.new.watching) }
+        ensures few { OnOk result (KeepsFew self.new.watching) }
     {
         self.witness.read_client_lines()?;
         self.witness.read_server_lines()
     }
 
-    /// Likewise, as long as at most `most` lines of the client are open: whether more are.
+    /// Likewise, up to the first line of the client after which more than `most` are open: whether one is.
     #[tactic(auto, using(crate::proofs::Courses::reading))]
     pub fn read_within(&mut self, most: usize) -> Result<bool, AllocError>
         ensures reads { spec.Reads self.old.watching self.new.watching }
         ensures others { self.new ≡ record self.old { watching = self.new.watching } }
         ensures client { IfOk result (λ over. over ≡ false → spec.IsClientRead self.new.watching) }
         ensures server { IfOk result (λ over. over ≡ false → spec.IsServerRead self.new.watching) }
+        ensures few { IfOk result (λ over. over ≡ false → KeepsFew self.new.watching) }
+        ensures first { IfOk result (λ over. over ≡ true
+            → IsFirstPast most self.old.watching self.new.watching) }
         ensures over { IfOk result (λ over. over ≡ true
             → most < length self.new.watching.dialogue.uses) }
     {

@@ -1,7 +1,6 @@
 // What a server has done, and for which commands.
 
-ghost use Rattle.std.specs.Prelude.{◌≡◌, ◌<◌, ◌^◌, ◌∷◌, [], ℕ, Some, None, if◌then◌else◌, length, reverse, get_or, IfOk, OnOk};
-ghost use Rattle.std.specs.Option.{option_or};
+ghost use Rattle.witness_judge.specs.Names.{◌≡◌, ◌<◌, ◌^◌, ◌∷◌, [], ℕ, Some, None, if◌then◌else◌, length, reverse, get_or, IfOk, OnOk, option_or};
 ghost use Rattle.witness_judge.specs.declared.lines.Heard.TheVariants as heard;
 ghost use Rattle.witness_judge.specs.declared.lines.Mark.TheVariants as mark;
 ghost use Rattle.witness_judge.specs.Uses as spec;
@@ -174,7 +173,6 @@ fn link_mark(
     }
 }
 
-/// Nothing came. Fails only if out of memory.
 #[tactic(auto, using(crate::proofs::Notes::none))]
 fn no_notes(alloc: Global, up: &[Sent]) -> Result<Notes, AllocError>
     ensures { IfOk result (spec.AreAllNoted up.now []) }
@@ -189,7 +187,6 @@ fn no_notes(alloc: Global, up: &[Sent]) -> Result<Notes, AllocError>
     })
 }
 
-/// The first use of each tag is next. Fails only if out of memory.
 #[tactic(auto, using(crate::proofs::Links::first_linked))]
 fn first_links(alloc: Global, up: &[Sent]) -> Result<Links, AllocError>
     ensures { IfOk result (spec.AreAllLinked up.now []) }
@@ -204,7 +201,6 @@ fn first_links(alloc: Global, up: &[Sent]) -> Result<Links, AllocError>
 }
 
 impl Course {
-    /// Nothing was heard. Fails only if out of memory.
     pub(crate) fn new(alloc: Global, up: &[Sent]) -> Result<Course, AllocError>
         ensures { IfOk result (spec.IsCourse up.now []) }
     {
@@ -229,7 +225,6 @@ impl Course {
         look(self.links.ends.as_slice(), tag)
     }
 
-    /// Whether a tag has an end.
     pub(crate) fn has_end(&self, up: &[Sent], above: &[Heard], tag: Tag) -> bool
         requires { spec.IsCourse up.now (reverse above.now) self.now }
         ensures { result ≡ spec.has_end tag (reverse above.now) }
@@ -237,7 +232,6 @@ impl Course {
         look(self.links.closed.as_slice(), tag).is_some()
     }
 
-    /// A line of the server comes. Fails only if out of memory.
     pub(crate) fn hear(
         &mut self,
         up: &[Sent],

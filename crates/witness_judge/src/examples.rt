@@ -1,12 +1,7 @@
 // Examples: the first break in lines that are written out as values.
 
-ghost use Rattle.std.specs.Prelude.{◌≡◌, [], ◌∷◌, ◌++◌, Some, None};
+ghost use Rattle.witness_judge.specs.Names.{◌≡◌, [], ◌∷◌, ◌++◌, Some, None, Std, Event, breaks, asks, begun, received, given, complete, error, refused, warning, abort, abort_received, abort_complete, cleared_end, again, crowd, all_received, client_breaks, server_breaks, touch, moves, Client, Server, client_found, server_found, seen_lines};
 ghost use Rattle.dme_line.specs.declared.commands.Kind.TheVariants as kind;
-ghost use Rattle.dme_line.specs.declared.tags.Tag.TheVariants.{Std, Event};
-ghost use Rattle.witness_judge.specs.Examples.{breaks, asks, begun, received, given, complete, error, refused, warning, abort, abort_received, abort_complete, cleared_end, again, crowd, all_received, client_breaks, server_breaks, touch, moves};
-ghost use Rattle.witness.specs.declared.lines.Side.TheVariants.{Client, Server};
-ghost use Rattle.witness_judge.specs.Judging.{client_found, server_found};
-ghost use Rattle.witness_judge.specs.Orders.{seen_lines};
 ghost use Rattle.witness_judge.specs.declared.lines.Data.TheVariants as data_is;
 ghost use Rattle.witness_judge.specs.declared.lines.Heard.TheVariants as heard;
 ghost use Rattle.witness_judge.specs.declared.lines.Reply.TheVariants as reply;

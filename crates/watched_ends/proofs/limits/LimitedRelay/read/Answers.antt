@@ -15,7 +15,7 @@ returns-then-is_over c =
     if_ok c.end.result c.end.ensures (λ new_is.
     over_read c.args.self.now c.end.new.self c.in-Some.relay c.read_most.new.relay
     (sym c.self.view_is ∙ ap (λ (o : Option Relaying). limited o c.self.inside.up.waiting c.self.inside.down.waiting c.self.inside.due.items) c.in-Some.is)
-    c.read_most.ensures.reads c.read_most.ensures.others (sym c.in_ok-is_over.ensures.over ∙ c.if-is_over.true) new_is)
+    c.read_most.ensures.reads c.read_most.ensures.others (c.in_ok-is_over.ensures.stop c.if-is_over.true) (sym c.in_ok-is_over.ensures.over ∙ c.if-is_over.true) new_is)
 
 pub returns : goal.returns
 returns c =
@@ -23,5 +23,5 @@ returns c =
     all_read c.args.self.now c.in-Some.relay c.read_most.new.relay c.make_due.new.self
     (sym c.self.view_is ∙ ap (λ (o : Option Relaying). limited o c.self.inside.up.waiting c.self.inside.down.waiting c.self.inside.due.items) c.in-Some.is)
     c.read_most.ensures.reads c.read_most.ensures.others (c.in_ok-is_over.ensures.client c.if-is_over.false)
-    (c.in_ok-is_over.ensures.server c.if-is_over.false)
+    (c.in_ok-is_over.ensures.server c.if-is_over.false) (c.in_ok-is_over.ensures.few c.if-is_over.false)
     (sym c.in_ok-is_over.ensures.over ∙ c.if-is_over.false) new_is)

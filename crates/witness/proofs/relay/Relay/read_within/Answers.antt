@@ -1,7 +1,7 @@
 use Rattle.std.proofs.Common.{ap, subst}
 use Rattle.witness.specs.Relaying.{Relaying, Reads}
 use Rattle.witness.specs.Watching.{Watching}
-use Rattle.witness.proofs.Courses.{both_parts, client_stays}
+use Rattle.witness.proofs.Courses.{both_parts, client_stays, few_stays}
 use Rattle.witness.proofs.relay.Relay.read_within.Goals as goal
 
 pub returns-in_err-read_server_lines-clause-reads : goal.returns-in_err-read_server_lines-clause-reads
@@ -20,3 +20,10 @@ pub returns-clause-client : goal.returns-clause-client
 returns-clause-client c = λ within.
     client_stays c.read_client_within.new.self c.read_server_lines.new.self c.read_server_lines.ensures.reads
     (c.in_ok-read_client_within.ensures.all c.if-branch.false)
+
+pub returns-clause-few : goal.returns-clause-few
+returns-clause-few c = λ within. (
+  few_stays c.read_client_within.new.self c.read_server_lines.new.self c.read_server_lines.ensures.reads
+      (c.in_ok-read_client_within.ensures.few c.if-branch.false),
+  c.in_ok-read_server_lines.ensures.few,
+)
