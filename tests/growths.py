@@ -25,7 +25,7 @@ PROGRAM = ROOT / "crates" / "dme_program" / "out" / "dme_program"
 CALLS = ROOT / "crates" / "test_calls" / "out" / "test_calls"
 WANT = (4, "dme: out of memory\n")
 # The last line of a run, after that.
-STOPPED = "dme: stopped: 0 of 1 feature complete. Remove the cause, then make the same call.\n"
+STOPPED = "dme: stopped: {} of 1 feature complete. Remove the cause, then make the same call.\n"
 SECONDS = 20
 
 # A call of pumps or of a whole connection, on what follows `replies ONE` or `commands ONE`, and what it answers if there is memory.
@@ -201,7 +201,7 @@ class Pair:
             wait_for_listener(port, lambda: server.poll() is not None, SECONDS)
             client = self.started("run", port, number, counts, folder)
             status, output, errors = ended(client)
-            given = {"run": (status, output, errors.removesuffix(STOPPED) if status else errors)}
+            given = {"run": (status, output, errors.removesuffix(STOPPED.format(0)).removesuffix(STOPPED.format(1)) if status else errors)}
             if self.looked_at == "run" and given["run"][0] != 0:
                 # A server whose client never comes would wait forever.
                 server.kill()
@@ -220,29 +220,19 @@ def must_be_front_of_file(text, whole, ends):
 def run_row(refusing):
     (whole, file), runs = refusing.all_of(Pair(refusing, "run").run)
     must(whole[0] == 0 and "FEATURE C" in whole[1] and file.endswith("END\n"), "with all memory", whole, file)
-    # Without memory for a line that is looked at for errors the run is as with all memory, and says so.
-    noted = (whole[0], whole[1], "dme: out of memory for the lines of the connection\n")
     for end, text in runs:
         must_be_front_of_file(text, file, "END")
-        must(end not in (whole, noted) or text == file, "done, and its file is not whole", text)
-    must(any(end == noted for end, _ in runs), "memory for the lines was never wanting")
-    runs = [it for it in runs if it[0] != noted]
-    # Without memory for the text of a completed feature the run continues, and its file has that feature at the end: eight growths at most.
-    return must_want_memory(whole, [it for it, _ in runs], lambda run: must_be_front_of_report(run[1], whole[1]), 8)
+        must(end != whole or text == file, "done, and its file is not whole", text)
+    return must_want_memory(whole, [it for it, _ in runs], lambda run: must_be_front_of_report(run[1], whole[1]))
 
 
 def recorded_row(refusing):
-    """A run that had no memory for its record says so at once. It is whole if memory came back, and else ends out of memory."""
+    """A run that has no memory for its record ends so, and its record is a prefix of the whole one."""
     (whole, file), runs = refusing.all_of(Pair(refusing, "run", "--part 0042/7 --record").run)
     must(whole[0] == 0 and file.endswith("1 COMPLETED C\n"), "with all memory", whole, file)
-    told = "dme: cannot write features: out of memory\n"
-    for (status, output, errors), text in runs:
+    for _, text in runs:
         must(file.startswith(text or ""), "is not a prefix of its record", text)
-        left = errors.replace(told, "", 1).replace("dme: out of memory for the lines of the connection\n", "")
-        must((status, output, left, text) == (*whole, file) or (status, left) == WANT, "another end", status, output, errors, text)
-    count = sum(told in errors for (_, _, errors), _ in runs)
-    must(count, "memory for the record was never wanting")
-    return count
+    return must_want_memory(whole, [it for it, _ in runs], lambda run: must_be_front_of_report(run[1], whole[1]))
 
 
 def serve_row(refusing):

@@ -3,7 +3,6 @@
 //! - `files`: the files that a command reads, as sources
 //! - `text_files`: files that are replaced as a whole
 //! - `locked_files`: files that are locked before they are read, appended to or replaced, and that no other run may share
-//! - `journals`: those of them that a server or a relay begins anew
 //! - `names`: the files that one call names, which may not meet
 //! - `explaining`: what is shown for an order whose files are refused
 //! - `faults`: what is printed on standard error, and the exit status
@@ -12,7 +11,6 @@
 mod explaining;
 mod faults;
 mod files;
-mod journals;
 mod locked_files;
 mod names;
 mod text_files;
@@ -20,7 +18,6 @@ mod text_files;
 pub use explaining::{of_output, refused, tell_audit, text_of};
 pub use faults::{Fault, cannot_write, unwritten};
 pub use files::{NamedSource, Sources};
-pub use journals::{Journal, NextJournal};
-pub use locked_files::{HeldFile, LockedFile, NextFile};
+pub use locked_files::{HeldFile, NextFile, has_name, is_bare};
 pub use names::{CalledFiles, meet};
-pub use text_files::{NamedFile, beside, is_plain, is_whole, may_be_replaced, replace_file};
+pub use text_files::{beside, is_plain, is_whole, replace_file};

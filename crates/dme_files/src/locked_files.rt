@@ -1,9 +1,6 @@
 // Files that are open for appending, and locked.
 
-use crate::faults::why;
 use crate::text_files::{is_plain, make_beside, settle_name};
-use byte_ports::Failed;
-use record_keeping::GrowingFile;
 use std::fs::{self, File, OpenOptions};
 use std::io::{self, ErrorKind, Write};
 use std::os::unix::fs::MetadataExt;
@@ -17,8 +14,21 @@ pub struct HeldFile {
     is_first: bool,
 }
 
+/// Whether the file of this name has nothing but a part of this head, or is not there.
+pub fn is_bare<R: Files + AllocGlobal>(rt: &R, name: &str, head: &[u8]) -> bool {
+    match fs::metadata(rt, name) {
+        Ok(found) if found.len() == 0 => true,
+        Ok(found) if found.len() <= head.len() as u64 => match fs::read(rt, name) {
+            Ok(text) => head.starts_with(text.as_slice()),
+            Err(_) => false,
+        },
+        Ok(_) => false,
+        Err(_) => true,
+    }
+}
+
 /// Whether this open file still has its name: another run may have put a new one in its place since.
-fn has_name<R: Files<File = File>>(rt: &R, file: &File, name: &str) -> io::Result<bool> {
+pub fn has_name<R: Files<File = File>>(rt: &R, file: &File, name: &str) -> io::Result<bool> {
     let (found, named) = (file.metadata()?, fs::symlink_metadata(rt, name)?);
     Ok(found.dev() == named.dev() && found.ino() == named.ino())
 }
@@ -67,26 +77,10 @@ impl HeldFile {
         settle_name(rt, name)
     }
 
-    /// This file, which grows from now on.
-    pub fn growing(self) -> LockedFile {
-        LockedFile {
-            file: self.file,
-            has_failed: false,
-            why: "",
-            is_settled: false,
-        }
+    /// This file, which grows from now on, and is still locked.
+    pub fn into_file(self) -> File {
+        self.file
     }
-}
-
-/// A file that is open for appending, and that no other run may append to meanwhile.
-#[derive(Drop)]
-pub struct LockedFile {
-    file: File,
-    has_failed: bool,
-    /// Why it has failed, as it is shown.
-    why: &'static str,
-    /// Whether all that was appended is known to be on the device.
-    is_settled: bool,
 }
 
 /// A new file next to the one whose place it is to take. Both are locked, so that two runs cannot share the file.
@@ -122,17 +116,7 @@ fn new_file<R: Files<File = File>>(
 }
 
 impl NextFile {
-    /// Locks the file of this name, makes the new one, gives it this text, and forces it to the device.
-    pub fn make<R: Files<File = File>>(
-        rt: &R,
-        name: &str,
-        beside: &str,
-        text: &[u8],
-    ) -> io::Result<NextFile> {
-        NextFile::of(rt, HeldFile::open(rt, name)?, (name, beside), text)
-    }
-
-    /// Likewise, for a file that is held.
+    /// Makes the new file next to one that is held, gives it this text, and forces it to the device.
     pub fn of<R: Files<File = File>>(
         rt: &R,
         old: HeldFile,
@@ -149,13 +133,13 @@ impl NextFile {
         }
     }
 
-    /// Gives the new file its name, and forces that to the device.
-    pub fn put<R: Files<File = File>>(
+    /// Gives the new file its name, and forces that to the device. It is still locked.
+    pub fn place<R: Files<File = File>>(
         self,
         rt: &R,
         name: &str,
         beside: &str,
-    ) -> io::Result<LockedFile> {
+    ) -> io::Result<File> {
         let NextFile { old, new } = self;
         if let Err(error) = fs::rename(rt, beside, name) {
             new.release(rt, beside);
@@ -164,61 +148,12 @@ impl NextFile {
         }
         drop(old);
         settle_name(rt, name)?;
-        Ok(new.growing())
+        Ok(new.file)
     }
 
     /// Removes the new file, and the old one if there was none before.
     pub fn discard<R: Files<File = File>>(self, rt: &R, name: &str, beside: &str) {
         self.new.release(rt, beside);
         self.old.release(rt, name);
-    }
-}
-
-impl LockedFile {
-    /// Appends a text.
-    pub fn add(&mut self, text: &[u8]) -> io::Result<()> {
-        self.file.write_all(text)
-    }
-
-    /// Forces all to the device.
-    pub fn force(&mut self) -> io::Result<()> {
-        self.file.sync_data()
-    }
-
-    /// Why the file has failed, as it is shown after its name.
-    pub fn why(&self) -> &'static str {
-        self.why
-    }
-
-    /// Whether the file still has this name.
-    pub fn is_named<R: Files<File = File>>(&self, rt: &R, name: &str) -> bool {
-        matches!(has_name(rt, &self.file, name), Ok(true))
-    }
-}
-
-impl GrowingFile for LockedFile {
-    ghost use Rattle.std.specs.Prelude.{None};
-
-    ghost kept = { λ _. None };
-
-    ghost has_failed = { λ f. f.has_failed };
-
-    ghost is_settled = { λ f. f.is_settled };
-
-    fn append(&mut self, bytes: &[u8], settled: bool) -> Result<(), Failed> {
-        self.is_settled = false;
-        let mut result = self.file.write_all(bytes);
-        if settled && result.is_ok() {
-            result = self.file.sync_data();
-            self.is_settled = result.is_ok();
-        }
-        match result {
-            Ok(()) => Ok(()),
-            Err(error) => {
-                self.has_failed = true;
-                self.why = why(error.kind());
-                Err(Failed)
-            }
-        }
     }
 }

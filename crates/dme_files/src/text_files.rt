@@ -1,10 +1,5 @@
 // Files of the file system that are replaced as a whole.
 
-ghost use Rattle.std.specs.Prelude.{None};
-
-use crate::faults::why;
-use byte_ports::Failed;
-use dme_orders::TextFile;
 use std::alloc::{AllocError, Global};
 use std::fs::{self, OpenFile, OpenOptions};
 use std::io::{self, ErrorKind, Write};
@@ -37,7 +32,7 @@ pub fn settle_name<R: Files>(rt: &R, name: &str) -> io::Result<()> {
 }
 
 /// Whether a new file may take this name: nothing has it, or a plain file, which is no link, no device and no pipe.
-pub fn may_be_replaced<R: Files>(rt: &R, name: &str) -> bool {
+fn may_be_replaced<R: Files>(rt: &R, name: &str) -> bool {
     match fs::symlink_metadata(rt, name) {
         Ok(found) => found.is_file(),
         Err(_) => true,
@@ -111,60 +106,5 @@ pub fn replace_file<R: Files>(rt: &R, text: &[u8], beside: &str, name: &str) -> 
         put(rt, text, beside, name)
     } else {
         fs::write(rt, name, text)
-    }
-}
-
-/// A file of this name, `-` too, or no file if none is named. A text is written to a file next to it, whose name ends in `.new`, forced to
-/// the device, and renamed, so that a crash leaves the old text or the new one. A link, a device or a pipe of this name is written itself.
-/// It does not report its text.
-#[derive(Drop)]
-pub struct NamedFile<'a, R> {
-    rt: &'a R,
-    names: Option<(String, String)>,
-    has_failed: bool,
-    /// Why it has failed, as it is shown.
-    why: &'static str,
-}
-
-impl<'a, R: Files + AllocGlobal> NamedFile<'a, R> {
-    /// The file of this name, if one is named. The name of the one next to it is made here, so that nothing need be allocated at the end.
-    pub fn new(rt: &'a R, name: Option<&str>) -> Result<Self, AllocError> {
-        let names = match name {
-            Some(name) => Some((
-                String::from_str(rt.alloc(), name)?,
-                beside(rt.alloc(), name)?,
-            )),
-            None => None,
-        };
-        Ok(NamedFile {
-            rt,
-            names,
-            has_failed: false,
-            why: "",
-        })
-    }
-
-    /// Why the file could not be written, as it is shown after its name.
-    pub fn why(&self) -> &'static str {
-        self.why
-    }
-}
-
-impl<'a, R: Files + AllocGlobal> TextFile for NamedFile<'a, R> {
-    ghost kept = { λ _. None };
-
-    ghost has_failed = { λ f. f.has_failed };
-
-    fn replace(&mut self, text: &[u8]) -> Result<(), Failed> {
-        let result = match &self.names {
-            Some((name, beside)) => replace_file(self.rt, text, beside.as_str(), name.as_str()),
-            None => Ok(()),
-        };
-        self.has_failed = result.is_err();
-        if let Err(error) = result {
-            self.why = why(error.kind());
-            return Err(Failed);
-        }
-        Ok(())
     }
 }

@@ -58,6 +58,12 @@ fn read_all(stream: &TcpStream, room: &mut [u8]) -> io::Result<usize> {
     Ok(0)
 }
 
+/// Limits how long reads wait, in milliseconds, and writes, in seconds.
+fn limit(stream: &TcpStream, ms: Option<u64>, seconds: Option<u32>) -> io::Result<()> {
+    stream.set_read_timeout(ms.map(Duration::from_millis))?;
+    stream.set_write_timeout(seconds.map(|seconds| Duration::from_secs(u64::from(seconds))))
+}
+
 impl Connections {
     pub fn new(alloc: Global) -> Connections {
         Connections {
@@ -96,14 +102,17 @@ impl Connections {
             return Err(none());
         };
         let (stream, _) = listener.accept()?;
-        if let Some(ms) = ms {
-            stream.set_read_timeout(Some(Duration::from_millis(ms)))?;
-        }
-        if let Some(seconds) = seconds {
-            stream.set_write_timeout(Some(Duration::from_secs(u64::from(seconds))))?;
-        }
+        limit(&stream, ms, seconds)?;
         self.client = Link::Plain(stream);
         Ok(())
+    }
+
+    /// Limits how long the reads and the writes of a peer wait. One that is waited for together with another does not wait alone.
+    pub fn limit(&mut self, peer: Peer, ms: Option<u64>, seconds: Option<u32>) -> io::Result<()> {
+        match self.link(peer) {
+            Link::Plain(stream) => limit(stream, ms, seconds),
+            _ => Ok(()),
+        }
     }
 
     /// Calls a server at each address of a host in turn.
@@ -112,7 +121,7 @@ impl Connections {
         rt: &R,
         host: &str,
         port: u16,
-        seconds: Option<u32>,
+        ms: Option<u64>,
         came: &mut Came,
     ) {
         let found = match (host, port).to_socket_addrs(rt) {
@@ -122,11 +131,8 @@ impl Connections {
         };
         came.failed(Cause::UnknownHost);
         for one in found {
-            let made = match seconds {
-                Some(seconds) => {
-                    let most = Duration::from_secs(u64::from(seconds));
-                    TcpStream::connect_timeout(rt, &one, most)
-                }
+            let made = match ms {
+                Some(ms) => TcpStream::connect_timeout(rt, &one, Duration::from_millis(ms)),
                 None => TcpStream::connect(rt, one),
             };
             match made {
@@ -162,11 +168,7 @@ impl Connections {
         let Some((poll, events)) = &mut self.polled else {
             return Ok(());
         };
-        let most = match ms {
-            Some(ms) => Some(Duration::from_millis(ms)),
-            None => None,
-        };
-        poll.poll(events, most)
+        poll.poll(events, ms.map(Duration::from_millis))
     }
 
     /// Reads what has come from a peer.

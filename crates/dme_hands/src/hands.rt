@@ -2,10 +2,10 @@
 
 use crate::connections::Connections;
 use crate::files::Reader;
-use crate::growing::Growing;
+use crate::growing::{Growing, GrowingFiles};
 use crate::written::{Written, names_in};
-use dme_files::{is_plain, replace_file};
-use effects::{Answer, Came, Effect, Hands, Peer, Place, Slot};
+use dme_files::{HeldFile, is_plain, replace_file};
+use effects::{Answer, Came, Effect, Growth, Hands, Peer, Place, Slot};
 use jiff::Timestamp;
 use std::fs::{self, File};
 use std::io::{self, ErrorKind, Write};
@@ -21,7 +21,7 @@ pub struct RealHands<R: Files + Input + Drop> {
     up: Reader<R>,
     down: Reader<R>,
     order: Reader<R>,
-    growing: Growing,
+    files: GrowingFiles,
     written: Written,
     log: Option<File>,
     connections: Connections,
@@ -51,7 +51,7 @@ impl<
             up: Reader::nothing(),
             down: Reader::nothing(),
             order: Reader::nothing(),
-            growing: Growing::None,
+            files: GrowingFiles::new(),
             written: Written::new(),
             log: None,
             connections,
@@ -59,6 +59,16 @@ impl<
             came,
             is_short: false,
         }
+    }
+
+    /// This file, which is locked, is the one of this name that grows once it begins.
+    pub fn hold(&mut self, growth: Growth, file: HeldFile, name: String) {
+        *self.files.growing(growth) = Growing::Held(file, name);
+    }
+
+    /// Likewise, one that has begun, and grows from now on.
+    pub fn grow(&mut self, growth: Growth, file: HeldFile, name: String) {
+        *self.files.growing(growth) = Growing::Grows(file.into_file(), name);
     }
 
     /// The file of a slot that is read.
@@ -131,8 +141,8 @@ impl<
     }
 
     /// A file is locked, and its next text is made.
-    fn make(&mut self, name: &str, beside: &str, text: &[u8]) {
-        match self.growing.make(&self.rt, name, beside, text) {
+    fn make(&mut self, growth: Growth, names: (&str, &str), text: &[u8]) {
+        match self.files.growing(growth).make(&self.rt, names, text) {
             Err(error) if error.kind() == ErrorKind::OutOfMemory => self.is_short = true,
             made => self.came.looked(made),
         }
@@ -151,9 +161,7 @@ impl<
                 came.ended(connections.listen(rt, address, port, is_polled));
             }
             Effect::Accept(ms, seconds) => came.waited(connections.accept(ms, seconds)),
-            Effect::Connect(host, port, seconds) => {
-                connections.connect(rt, host, port, seconds, came);
-            }
+            Effect::Connect(host, port, ms) => connections.connect(rt, host, port, ms, came),
             _ => came.ended(connections.join(rt)),
         }
     }
@@ -171,6 +179,7 @@ impl<
             Effect::Send(peer, bytes) => came.waited(connections.send(peer, bytes)),
             Effect::Pass(peer, bytes) => came.took(connections.pass(peer, bytes)),
             Effect::Close(peer) => came.ended(connections.close(peer)),
+            Effect::Limit(peer, ms, seconds) => came.ended(connections.limit(peer, ms, seconds)),
             _ => {
                 connections.leave();
                 came.ended(Ok(()));
@@ -178,14 +187,22 @@ impl<
         }
     }
 
-    /// Effects on files whose answer is only whether they were carried out.
+    /// Effects on files that grow, and then on others, whose answer is only whether they were carried out.
     fn on_files(&mut self, effect: Effect<'_>) -> io::Result<()> {
+        let RealHands { rt, files, .. } = self;
         match effect {
-            Effect::Discard(_) => self.growing.discard(&self.rt),
-            Effect::SetAside(_, old) => self.growing.set_aside(&self.rt, old),
-            Effect::Begin(_) => self.growing.begin(&self.rt),
-            Effect::Append(_, text) => self.growing.append(&self.rt, text),
-            Effect::Keep(_, text) => self.growing.keep(&self.rt, text),
+            Effect::Discard(growth) => files.growing(growth).discard(rt),
+            Effect::SetAside(growth, old) => files.growing(growth).set_aside(rt, old),
+            Effect::Begin(growth) => files.growing(growth).begin(rt),
+            Effect::Append(growth, text) => files.growing(growth).append(rt, text),
+            Effect::Keep(growth, text) => files.growing(growth).keep(rt, text),
+            Effect::Stands(growth, length) => files.growing(growth).stands(rt, length),
+            _ => self.on_others(effect),
+        }
+    }
+
+    fn on_others(&mut self, effect: Effect<'_>) -> io::Result<()> {
+        match effect {
             Effect::Replace(name, beside, text) => replace_file(&self.rt, text, beside, name),
             Effect::Create(slot, name) => self.written.create(&self.rt, slot, name),
             Effect::Save(slot, bytes) => self.written.save(slot, bytes),
@@ -226,7 +243,7 @@ impl<
             Effect::Names(folder) => self.names(folder),
             Effect::Exists(name) => self.came.looked(fs::exists(&self.rt, name)),
             Effect::Look(name) => self.came.ended(is_plain(&self.rt, name).map(|_| ())),
-            Effect::Make(_, name, beside, text) => self.make(name, beside, text),
+            Effect::Make(growth, name, beside, text) => self.make(growth, (name, beside), text),
             Effect::Stamp => self.stamp(),
             Effect::Now => {
                 let now = self.now();
@@ -242,7 +259,7 @@ impl<
             Effect::Wait(..) | Effect::Receive(..) | Effect::Send(..) | Effect::Pass(..) => {
                 self.on_peers(effect);
             }
-            Effect::Close(..) | Effect::Leave => self.on_peers(effect),
+            Effect::Close(..) | Effect::Limit(..) | Effect::Leave => self.on_peers(effect),
             _ => {
                 let done = self.on_files(effect);
                 self.came.ended(done);

@@ -12,7 +12,7 @@ use Rattle.contact_ledger.specs.declared.acts.Act.{Act}
 use Rattle.contact_ledger.specs.declared.features.Feature.{Feature}
 use Rattle.dmis_program.specs.Meaning.{Meaning}
 use Rattle.dmis_program.specs.Programs.{IsProgram}
-use Rattle.dme_orders.specs.Driving.{IsFeaturesText}
+use Rattle.dme_orders.specs.OfRecords.{IsFeaturesText}
 use Rattle.dme_orders.proofs.PlanLemmas.{some_after}
 
 -- features of a program can be written

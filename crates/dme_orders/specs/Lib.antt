@@ -14,7 +14,6 @@ pub mod Auditing
 pub mod Broken
 pub mod Ends
 pub mod Looping
-pub mod Driving
 pub mod Reviewing
 pub mod Explaining
 pub mod Missing

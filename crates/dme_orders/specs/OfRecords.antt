@@ -1,14 +1,14 @@
 -- What auditing and exporting the record of a run leaves (this profile).
-use Rattle.std.specs.Prelude.{◌≡◌, ◌⊎◌, ℕ, List, Option, true, false, Result, string_bytes}
+use Rattle.std.specs.Prelude.{◌≡◌, ◌⊎◌, ℕ, List, codes, Option, true, false, Result, string_bytes}
 use Rattle.std.specs.List.{flat_map}
 use Rattle.client_core.specs.Clients.{are_ours}
 use Rattle.contact_ledger.specs.ContactTexts.{contacts_text}
+use Rattle.contact_ledger.specs.FeatureTexts.{features_text, header}
 use Rattle.contact_ledger.specs.declared.acts.Act.{Act}
 use Rattle.contact_ledger.specs.declared.features.Feature.{Feature}
 use Rattle.dmis_program.specs.Meaning.{Meaning}
 use Rattle.run_record.specs.Records.{Recorded}
 use Rattle.dme_orders.specs.Auditing.{LeavesVerdict}
-use Rattle.dme_orders.specs.Driving.{IsFeaturesText}
 use Rattle.dme_orders.specs.Exporting.{LeavesTable}
 use Rattle.dme_orders.specs.Input.{Named, RecordInput, ReadsHeld, WhyNoneHeld}
 use Rattle.dme_orders.specs.Missing.{IsMissing}
@@ -22,6 +22,10 @@ use Rattle.dme_orders.specs.declared.of_records.RecordText.{RecordText}
 use Rattle.dme_orders.specs.declared.of_records.RecordText.TheVariants.{Table, Features, Contacts}
 use Rattle.dme_orders.specs.declared.reading.FilesFault.{FilesFault}
 use Rattle.dme_orders.specs.declared.reading.FilesFault.TheVariants as files
+
+-- the written form of these features, in the present version
+abbrev pub IsFeaturesText : List Feature → List ℕ → Type 0
+IsFeaturesText features text = (version : _) × (header version ≡ codes "DME-FEATURES 2") × (text ≡ features_text version features)
 
 -- a record is not of a program: this feature differs; or memory ran out
 abbrev pub RefusesRecord : Option Recorded → Meaning → FilesFault → Type 0

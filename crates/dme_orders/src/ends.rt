@@ -86,7 +86,7 @@ pub(crate) fn ends_report(
 }
 
 /// The report of a client without a ledger. Fails only if out of memory.
-pub(crate) fn end_report(alloc: Global, client: &Client) -> Result<Vec<u8>, AllocError>
+pub fn end_report(alloc: Global, client: &Client) -> Result<Vec<u8>, AllocError>
     ensures text { IfOk result (λ text. text.items ≡ report_text (end_shown client.now)) }
     ensures some { IfOk result (λ text. 0 < length text.items) }
 {

@@ -11,8 +11,7 @@
 //! - `notes`: what an audit found, and in what a record differs from a program, besides what an order prints
 //! - `preparing`: the files of an order over a connection are read before there is one
 //! - `looping`: a program is run over one connection between both ends
-//! - `driving`: a program is run on a server over a connection, and its features are kept; `confirming`: the answer that begins it
-//! - `text_files`: files that are replaced as a whole, as the orders see them
+//! - `confirming`: the answer that begins a run
 //! - `ends`, `ended`: the two ends of a connection and their reports; how it has ended, and what is shown of that; `run_beginnings`,
 //!   `run_endings`: what a run says before it connects, and last
 //! - `calls`: why a server that was called has not answered
@@ -27,7 +26,6 @@ mod auditing;
 mod calls;
 mod check;
 mod confirming;
-mod driving;
 mod ended;
 mod ends;
 mod explaining;
@@ -46,16 +44,14 @@ mod run_beginnings;
 mod run_endings;
 mod run_errors;
 mod simulating;
-mod text_files;
 mod verdicts;
 
 pub use auditing::{AuditFiles, audit_files};
 pub use calls::refused_call;
 pub use check::{CheckFault, check_plan};
 pub use confirming::is_confirmed;
-pub use driving::{RunEnd, RunOutputs, drive};
 pub use ended::{ConnectionEnd, shown_break};
-pub use ends::kept_client;
+pub use ends::{end_report, kept_client};
 pub use explaining::explain;
 pub use exporting::{ExportFiles, export_files};
 pub use faults::{InputFile, InputFiles, OrderFault, place_of, shown_fault};
@@ -71,5 +67,4 @@ pub use reviewing::review_program;
 pub use run_beginnings::kept_text;
 pub use run_endings::{Counts, LastLine, RunEnding, StopCause, last_line};
 pub use simulating::{SimulationFiles, simulate};
-pub use text_files::TextFile;
 pub use verdicts::{status, write_verdict};

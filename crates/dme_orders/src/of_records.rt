@@ -6,7 +6,7 @@ ghost use Rattle.contact_ledger.specs.ContactTexts.{contacts_text};
 ghost use Rattle.contact_ledger.specs.Ledgers.{HaveOrigins};
 ghost use Rattle.tool_rack.specs.Setups.{SetupValue};
 ghost use Rattle.dme_orders.specs.Auditing.{LeavesVerdict};
-ghost use Rattle.dme_orders.specs.Driving.{IsFeaturesText};
+ghost use Rattle.dme_orders.specs.OfRecords.{IsFeaturesText};
 ghost use Rattle.dme_orders.specs.Exporting.{RefusesFeatures};
 ghost use Rattle.dme_orders.specs.Input.{named, ReadsHeld, WhyNoneHeld};
 ghost use Rattle.dme_orders.specs.Missing.{IsMissing};

@@ -10,10 +10,11 @@ use dme_orders::{
     ConnectionEnd, FilesFault, InputFiles, LoopTask, OrderFault, loop_over, setup_and_program,
 };
 use dme_run::{Progress, warn};
-use dme_sockets::no_connection;
 use dme_words::Loop;
+use effects::Cause;
 use link_world::LoopPorts;
-use std::io;
+use session_parts::why_unconnected;
+use std::io::{self, ErrorKind};
 use std::net::{Net, TcpListener, TcpStream};
 use std::rt::Files;
 
@@ -26,6 +27,16 @@ fn own_connection<R: Net<Listener = TcpListener, Stream = TcpStream>>(
     let near = TcpStream::connect(rt, ("127.0.0.1", port))?;
     let (far, _) = listener.accept()?;
     Ok((near, far))
+}
+
+/// What is shown for a connection that is not made, with its cause if more is asked for.
+fn no_connection(error: &io::Error, is_told: bool) -> OrderFault {
+    let cause = match error.kind() {
+        ErrorKind::AddrInUse => Cause::InUse,
+        ErrorKind::PermissionDenied => Cause::Forbidden,
+        _ => Cause::Unknown,
+    };
+    OrderFault::ConnectionFailed(if is_told { why_unconnected(cause) } else { "" })
 }
 
 /// What is run over one connection, and what is shown of it.

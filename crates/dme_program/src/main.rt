@@ -3,7 +3,7 @@
 //!
 //! What an order does is in `dme_orders`, over ports. This is the edge, where files, sockets and the standard streams are those ports.
 //!
-//! `dme_files` and `dme_sockets` have the ports of its commands. `dme_run` has the command that drives a server.
+//! `dme_files` has the files of its commands. `dme_run` has what `run` does before it calls its server.
 //!
 //! - `running`: an order is carried out on files and the standard streams
 //! - `connecting`: the order `loop`, over a connection of the process to itself; `tracing`: the lines of that connection

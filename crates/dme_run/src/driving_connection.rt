@@ -1,152 +1,158 @@
-// The order `run`, on files, a socket and the standard streams.
+// The order `run`, on files, a socket and the standard streams: what it reads and says before its server is called, and then its session.
 
 ghost use Rattle.std.specs.Prelude.{◌≡◌, true};
 ghost use Rattle.client_core.specs.Clients.{is_window, may_connect};
 
-use crate::growing_files::{FeaturesFile, ReportedContacts};
-use crate::holding::{HeldFiles, refuse_meeting};
-use crate::keeping::{is_confirmed, tell_kept, tell_next};
-use crate::progress::Progress;
-use crate::recording::{
-    Follower, Lent, OpenRecord, RecordWords, kept_in, open_record, record_words,
-};
-use crate::stopping::Watched;
+use crate::holding::{HeldFiles, NamedHeld, refuse_meeting};
+use crate::keeping::{is_confirmed, tell_kept, tell_next, touches_of};
+use crate::recording::{OpenRecord, RecordWords, kept_in, open_record, record_words};
 use crate::warning::warn;
-use byte_ports::{Ports, Sink, Writing};
-use client_core::{Client, State};
+use client_core::Client;
 use contact_ledger::{CONNECTION_MAX, FeatureLedger, ServerLedger};
-use dme_files::{Fault, LockedFile, NamedFile, Sources, of_output, refused, unwritten};
+use dme_files::{Fault, Sources, beside, refused};
+use dme_hands::RealHands;
 use dme_orders::{
-    Counts, FilesFault, InputFiles, LastLine, OrderFault, RunEnd, RunEnding, RunOutputs, TextFile,
-    drive, features_and_program, kept_client, last_line,
-};
-use dme_sockets::{
-    Called, HeardPort, Log, Patience, PatientSink, PatientSource, Refusals, SaidPort, Side,
-    StopFile, Talk, call_server, leave,
+    Counts, FilesFault, InputFiles, LastLine, OrderFault, RunEnding, features_and_program,
+    kept_client, last_line,
 };
 use dme_words::Run;
 use dmis_program::Program;
-use link_world::Watcher;
-use program_review::{TaskLine, task_lines};
-use record_keeping::{Beginning, Recorder};
-use recorded_runs::RecordedRun;
+use effects::Growth;
+use program_review::{TaskLine, command_lines, task_lines};
+use record_keeping::Beginning;
+use run_session::{Begun, Errors, Output, Session};
 use std::alloc::{AllocError, Global};
-use std::cell::{Cell, RefCell};
-use std::fs::File;
-use std::io;
+use std::fs::{self, File};
 use std::net::{Net, TcpListener, TcpStream};
 use std::rt::{Clock, Files};
 
-/// What is shown if a file could not be written: that, and then why the order was not carried out, if it was not.
-fn with_unwritten<R: Eprint>(
-    rt: &R,
-    verdict: Result<u8, Fault>,
-    name: Option<String>,
-) -> Result<u8, Fault> {
-    let Some(name) = name else { return verdict };
-    let unwritten = OrderFault::CannotWrite(name);
-    if verdict.is_err() {
-        let _ = eprint!(rt; "{unwritten}");
-        return verdict;
-    }
-    Err(Fault::Order(unwritten))
-}
+/// The exit status of a run that its stop file has kept from beginning: that of a run that is Halted.
+const NOT_BEGUN: u8 = 3;
 
-/// Likewise for two files.
-fn with_both_unwritten<R: Eprint>(
-    rt: &R,
-    verdict: Result<u8, Fault>,
-    names: (Option<String>, Option<String>),
-) -> Result<u8, Fault> {
-    let (first, second) = names;
-    let verdict = with_unwritten(rt, verdict, second);
-    with_unwritten(rt, verdict, first)
-}
-
-/// What is shown for a connection that the server's last line has broken off, with that line.
-fn with_line<R: AllocGlobal>(
-    alloc: Global,
-    fault: OrderFault,
-    talk: &RefCell<Talk<'_, R>>,
-) -> Fault {
-    let Ok(talk) = talk.try_borrow() else {
-        return Fault::Order(fault);
-    };
-    let Ok(line) = talk.last_line() else {
-        return Fault::Order(OrderFault::Memory);
-    };
-    match format!(in alloc; "its last line: {line}\n") {
-        Ok(shown) => Fault::Explained(fault, shown),
-        Err(_) => Fault::Order(OrderFault::Memory),
-    }
-}
-
-/// What is shown of the end of a run.
-fn client_verdict<R: AllocGlobal>(
-    alloc: Global,
-    driven: RunEnd,
-    (patience, talk): (&Patience<'_, R>, &RefCell<Talk<'_, R>>),
-) -> Result<u8, Fault> {
-    let is_for_a_line = driven.ended.is_for_a_line();
-    match driven.ended.verdict(true) {
-        Ok(status) => Ok(status),
-        Err(fault) if is_for_a_line => Err(with_line(alloc, fault, talk)),
-        Err(fault) => Err(patience.shown(alloc, fault, "server")),
-    }
-}
-
-/// What is shown of the end of a run whose features were to be written to the file that a call names, if any; `why` they were not.
-fn shown_end<R: Eprint + AllocGlobal>(
-    rt: &R,
-    driven: RunEnd,
-    call: &mut Call<'_>,
-    why: &'static str,
-    known: (&Patience<'_, R>, &RefCell<Talk<'_, R>>),
-) -> Result<u8, Fault> {
-    let verdict = client_verdict(rt.alloc(), driven, known);
-    if driven.is_kept {
-        return verdict;
-    }
-    let name = call.features.take().map(|name| unwritten(name, why));
-    with_unwritten(rt, verdict, name)
-}
-
-/// How a run calls its server, and what it keeps and shows.
+/// What a run calls its server by, and what it keeps and shows.
 #[derive(Drop)]
 struct Call<'a> {
-    order: &'a Run,
-    window: u8,
+    order: &'a mut Run,
     /// The file that the features are written to.
     features: Option<String>,
-    /// The file that the lines of the connection are added to, if one is named.
-    log: Option<String>,
-    /// How many seconds it may take to make the connection, if it is tried again and again.
-    wait: Option<u32>,
     /// What the program asks for, with the lines.
     tasks: &'a [TaskLine],
     /// The files that grow once the connection is made.
     held: &'a mut HeldFiles,
-    /// In which state the client was when the stop file was seen.
-    seen: Cell<Option<State>>,
-    /// How the run has ended before its connection, if it has.
-    early: Option<RunEnding>,
-    /// What the run says last.
+    /// What the run says last, if its session does not say it.
     last: &'a mut Option<LastLine>,
 }
 
-/// What is shown of the lines of a client's connection of this number, and of its server's errors.
-fn talk_of<'a, R: Files<File = File> + Eprint + AllocGlobal>(
-    rt: &'a R,
-    client: &Client,
-    number: u64,
+/// A file of a run, if it is named.
+fn output(alloc: Global, name: Option<String>, grows: bool) -> Result<Option<Output>, AllocError> {
+    let Some(name) = name else { return Ok(None) };
+    let beside = beside(alloc, name.as_str())?;
+    Ok(Some(Output {
+        name,
+        beside,
+        grows,
+    }))
+}
+
+/// What the session of a run is to do.
+fn run_of(
+    alloc: Global,
     call: &mut Call<'_>,
-) -> Result<RefCell<Talk<'a, R>>, AllocError> {
-    let wanted = Refusals::new(rt.alloc(), client, call.tasks)?;
-    let log = Log::named(rt, call.log.take());
-    let mut talk = Talk::new(rt, call.order.trace, log);
-    talk.begin(number);
-    talk.tell_errors(wanted);
-    Ok(RefCell::new(talk))
+    record: Option<String>,
+) -> Result<run_session::Run, AllocError> {
+    let features = output(alloc, call.features.take(), call.held.features.is_some())?;
+    let contacts = output(
+        alloc,
+        call.order.contacts.take(),
+        call.held.contacts.is_some(),
+    )?;
+    let record = output(alloc, record, true)?;
+    Ok(run_session::Run {
+        host: std::mem::replace(&mut call.order.host, String::new(alloc)),
+        port: call.order.port,
+        wait: call.order.wait,
+        timeout: call.order.timeout,
+        stop: call.order.stop.take(),
+        trace: call.order.trace,
+        log: call.order.log.take(),
+        progress: call.order.progress,
+        features,
+        contacts,
+        record,
+    })
+}
+
+/// What is known of the commands of a connection, to show the server's errors by.
+fn errors_of(alloc: Global, client: &Client, tasks: &[TaskLine]) -> Result<Errors, AllocError> {
+    let all = client.program().features();
+    let (kept, wanted) = all.split_at(client.features().len().min(all.len()));
+    Errors::new(
+        alloc,
+        wanted,
+        command_lines(alloc, tasks, touches_of(kept))?,
+    )
+}
+
+/// What the session of a run begins with.
+fn begun_of(
+    alloc: Global,
+    client: &mut Client,
+    before: (u64, &ServerLedger),
+    record: (Option<String>, Vec<u8>),
+    call: &mut Call<'_>,
+) -> Result<Begun, AllocError>
+    requires { may_connect before.0 client.old.client ≡ true }
+{
+    let (number, told) = before;
+    let (name, text) = record;
+    let run = run_of(alloc, call, name)?;
+    let errors = errors_of(alloc, client, call.tasks)?;
+    Begun::new(alloc, run, client, number, text, told, errors)
+}
+
+/// Hands that have the files of a run.
+fn hands_of<
+    R: Files<File = File>
+        + Input
+        + Print
+        + Eprint
+        + Clock
+        + Net<Listener = TcpListener, Stream = TcpStream>
+        + AllocGlobal
+        + Clone
+        + Drop,
+>(rt: R, held: &mut HeldFiles, record: Option<NamedHeld>) -> RealHands<R> {
+    let mut hands = RealHands::new(rt);
+    if let Some((name, file)) = held.features.take() {
+        hands.hold(Growth::Features, file, name);
+    }
+    if let Some((name, file)) = held.contacts.take() {
+        hands.hold(Growth::Contacts, file, name);
+    }
+    if let Some((name, file)) = record {
+        hands.grow(Growth::Record, file, name);
+    }
+    hands
+}
+
+/// A client runs its program on a server that is called: the exit status.
+fn run_begun<
+    R: Files<File = File>
+        + Input
+        + Print
+        + Eprint
+        + Clock
+        + Net<Listener = TcpListener, Stream = TcpStream>
+        + AllocGlobal
+        + Clone
+        + Drop,
+>(rt: R, client: Client, begun: Begun, held: &mut HeldFiles, record: Option<NamedHeld>) -> u8 {
+    let mut hands = hands_of(rt, held, record);
+    let mut session = Session::new(client, begun);
+    let status = run_session::run(&mut session, &mut hands);
+    drop(session);
+    drop(hands);
+    status.unwrap_or(70)
 }
 
 /// Reports what comes next, if a run continues or is to be confirmed, and waits for the confirmation, if it is asked for.
@@ -161,317 +167,89 @@ fn confirm<R: Input + Eprint + AllocGlobal>(
     }
     tell_next(rt, client, call.tasks)?;
     if must_wait && !is_confirmed(rt) {
-        call.early = Some(RunEnding::NotConfirmed);
+        let kept = client.features().len();
+        let counts = Counts {
+            kept,
+            complete: kept,
+            asked: client.program().features().len(),
+        };
+        *call.last = last_line(RunEnding::NotConfirmed, counts);
         return Err(Fault::NotConfirmed);
     }
     Ok(())
 }
 
-/// What a client needs before it connects: the confirmation, if it is asked for, and what is shown of the lines of its connection.
-fn prepare<'a, R: Files<File = File> + Input + Eprint + AllocGlobal>(
-    rt: &'a R,
+/// Reports how many features the features file gives back, if one is named.
+fn tell_features<R: Eprint + AllocGlobal>(
+    rt: &R,
     client: &Client,
-    number: u64,
+    features: Option<&str>,
+) -> Result<(), AllocError> {
+    match features {
+        Some(name) => tell_kept(rt, name, client.features(), client.program().features()),
+        None => Ok(()),
+    }
+}
+
+/// The name of a record, if there is one.
+fn name_of(alloc: Global, record: &Option<NamedHeld>) -> Result<Option<String>, AllocError> {
+    match record {
+        Some((name, _)) => Ok(Some(String::from_str(alloc, name.as_str())?)),
+        None => Ok(None),
+    }
+}
+
+/// What a run needs besides its client, which comes to its connection, once it is confirmed. `before` is the number of the connection, and what
+/// servers reported before it; `record` is the record's file, and its text.
+fn prepared<R: Input + Eprint + AllocGlobal + Clone + Drop>(
+    rt: &R,
+    client: &mut Client,
+    before: (u64, &ServerLedger),
+    record: (&Option<NamedHeld>, Vec<u8>),
     call: &mut Call<'_>,
-) -> Result<RefCell<Talk<'a, R>>, Fault> {
+) -> Result<(R, Begun), Fault>
+    requires { may_connect before.0 client.old.client ≡ true }
+{
+    let (file, text) = record;
+    if file.is_none() {
+        tell_features(rt, client, call.features.as_deref())?;
+    }
     confirm(rt, client, call)?;
-    Ok(talk_of(rt, client, number, call)?)
+    let name = name_of(rt.alloc(), file)?;
+    let begun = begun_of(rt.alloc(), client, before, (name, text), call)?;
+    Ok((rt.clone()?, begun))
 }
 
-/// A client that has come to its connection takes its turns over a stream, whose lines go by. Where the stop file is seen, the client's state
-/// is noted.
-fn drive_stream<R: Files + Eprint + Clock + AllocGlobal, N: Watcher, F: TextFile, O: Sink>(
+/// A client that is made runs its program on a server, if it is confirmed.
+fn drive<
+    R: Files<File = File>
+        + Input
+        + Print
+        + Eprint
+        + Clock
+        + Net<Listener = TcpListener, Stream = TcpStream>
+        + AllocGlobal
+        + Clone
+        + Drop,
+>(
     rt: &R,
-    client: &mut Client,
-    (stream, patience, seen): (&TcpStream, &Patience<'_, R>, &Cell<Option<State>>),
-    (talk, watcher): (&RefCell<Talk<'_, R>>, &mut N),
-    outputs: &mut RunOutputs<F, O>,
-) -> Result<RunEnd, FilesFault> {
-    let source = PatientSource::new(stream, patience);
-    let mut ports = Ports {
-        source: HeardPort::new(source, Side::Server, talk),
-        sink: SaidPort::new(PatientSink::new(stream, patience), Side::Client, talk),
-    };
-    let mut steering = Watched::new(StopFile::new(patience, stream), seen);
-    drive(
-        rt.alloc(),
-        client,
-        &mut ports,
-        watcher,
-        &mut steering,
-        outputs,
-    )
-}
-
-/// Likewise, with the record of the run, if there is one.
-fn drive_watched<R: Files + Eprint + Clock + AllocGlobal, F: TextFile, O: Sink>(
-    rt: &R,
-    client: &mut Client,
-    limited: (&TcpStream, &Patience<'_, R>, &Cell<Option<State>>),
-    follower: &mut Follower<'_, '_, R>,
-    outputs: &mut RunOutputs<F, O>,
-) -> Result<RunEnd, FilesFault> {
-    let talk = follower.talk;
-    let Some(recorder) = follower.take_recorder() else {
-        return drive_stream(rt, client, limited, (talk, follower), outputs);
-    };
-    let mut run = RecordedRun::new(recorder, Lent::new(follower));
-    let result = drive_stream(rt, client, limited, (talk, &mut run), outputs);
-    let (recorder, _) = run.into_parts();
-    follower.give_back(recorder);
-    result
-}
-
-/// A client comes to a connection, and its files grow from then on. `before` is the number of the connection, and what servers reported
-/// before it.
-fn begin_connection<R: Files<File = File> + Eprint + AllocGlobal>(
-    rt: &R,
-    client: &mut Client,
+    client: Client,
     before: (u64, &ServerLedger),
+    record: (Option<NamedHeld>, Vec<u8>),
     call: &mut Call<'_>,
-    follower: &mut Follower<'_, '_, R>,
-) -> Result<(), Fault>
-    requires { may_connect before.0 client.old.client ≡ true }
-{
-    let (number, told) = before;
-    if let Some(held) = call.held.features.take() {
-        follower.features = Some(FeaturesFile::begin(rt, held, client)?);
-    }
-    if let Some(name) = call.order.contacts.as_deref() {
-        let held = call.held.contacts.take();
-        follower.contacts = Some(ReportedContacts::begin(rt, name, held, told)?);
-    }
-    match client.connected(number) {
-        Ok(()) => Ok(()),
-        Err(_) => Err(Fault::Order(OrderFault::Memory)),
-    }
-}
-
-/// A client takes its turns over a connection that is made. `before` is the number of the connection, and what servers reported before it.
-fn drive_connection<R: Files<File = File> + Eprint + Clock + AllocGlobal, F: TextFile, O: Sink>(
-    rt: &R,
-    client: &mut Client,
-    before: (u64, &ServerLedger),
-    limited: (&TcpStream, &mut Call<'_>, &Patience<'_, R>),
-    follower: &mut Follower<'_, '_, R>,
-    outputs: &mut RunOutputs<F, O>,
-) -> Result<RunEnd, Fault>
-    requires { may_connect before.0 client.old.client ≡ true }
-{
-    let (stream, call, patience) = limited;
-    begin_connection(rt, client, before, call, follower)?;
-    let limited = (stream, patience, &call.seen);
-    match drive_watched(rt, client, limited, follower, outputs) {
-        Ok(driven) => Ok(driven),
-        Err(fault) => Err(Fault::Order(of_output(rt, fault))),
-    }
-}
-
-/// A client takes its turns over a connection to the server that is called; nothing if the stop file has kept it from beginning. `before` is
-/// the number of the connection, and what servers reported before it.
-fn drive_called<
-    R: Files<File = File>
-        + Eprint
-        + Clock
-        + Net<Listener = TcpListener, Stream = TcpStream>
-        + AllocGlobal,
-    F: TextFile,
-    O: Sink,
->(
-    rt: &R,
-    client: &mut Client,
-    before: (u64, &ServerLedger),
-    limited: (&mut Call<'_>, &Patience<'_, R>),
-    follower: &mut Follower<'_, '_, R>,
-    outputs: &mut RunOutputs<F, O>,
-) -> Result<Option<RunEnd>, Fault>
-    requires { may_connect before.0 client.old.client ≡ true }
-{
-    let (call, patience) = limited;
-    let address = (call.order.host.as_str(), call.order.port);
-    let stream = match call_server(rt, address, call.wait, patience)? {
-        Called::Connected(stream) => stream,
-        Called::Stopped => return Ok(None),
-    };
-    let driven = drive_connection(
-        rt,
-        client,
-        before,
-        (&stream, call, patience),
-        follower,
-        outputs,
-    );
-    if let Ok(driven) = &driven
-        && driven.ended.is_open()
-    {
-        leave(&stream);
-    }
-    drop(stream);
-    match driven {
-        Ok(driven) => Ok(Some(driven)),
-        Err(fault) => Err(fault),
-    }
-}
-
-/// A client runs its program on the server that is called, and leaves what it has measured; what is shown of that. `before` is the number of
-/// the connection, and what servers reported before it.
-fn drive_client<
-    R: Files<File = File>
-        + Print
-        + Eprint
-        + Clock
-        + Net<Listener = TcpListener, Stream = TcpStream>
-        + AllocGlobal,
->(
-    rt: &R,
-    client: &mut Client,
-    before: (u64, &ServerLedger),
-    limited: (&mut Call<'_>, &Patience<'_, R>),
-    follower: &mut Follower<'_, '_, R>,
 ) -> Result<u8, Fault>
-    requires { may_connect before.0 client.old.client ≡ true }
+    requires { may_connect before.0 client.client ≡ true }
 {
-    let (call, patience) = limited;
-    let features = NamedFile::new(rt, call.features.as_deref())?;
-    let mut outputs = RunOutputs {
-        features,
-        report: Writing::new(io::writer(rt)),
-    };
-    let driven = drive_called(
-        rt,
-        client,
-        before,
-        (&mut *call, patience),
-        follower,
-        &mut outputs,
-    );
-    let why = outputs.features.why();
-    drop(outputs);
-    match driven {
-        Ok(Some(driven)) => shown_end(rt, driven, call, why, (patience, follower.talk)),
-        Ok(None) => {
-            call.early = Some(RunEnding::NotBegun);
-            Ok(patience.not_begun())
+    let mut client = client;
+    let (file, text) = record;
+    match prepared(rt, &mut client, before, (&file, text), call) {
+        Ok((copy, begun)) => Ok(run_begun(copy, client, begun, call.held, file)),
+        Err(fault) => {
+            drop(client);
+            drop(file);
+            Err(fault)
         }
-        Err(fault) => Err(fault),
     }
-}
-
-/// A client runs its program on a server, followed by its record, if there is one, and the lines of its connection. `before` is the number of
-/// the connection, and what servers reported before it.
-fn drive_followed<
-    'b,
-    R: Files<File = File>
-        + Print
-        + Eprint
-        + Clock
-        + Net<Listener = TcpListener, Stream = TcpStream>
-        + AllocGlobal,
->(
-    rt: &'b R,
-    client: &mut Client,
-    before: (u64, &ServerLedger),
-    record: Option<(String, Recorder<LockedFile>)>,
-    limited: (&mut Call<'_>, &Patience<'_, R>),
-    talk: &RefCell<Talk<'b, R>>,
-) -> Result<u8, Fault>
-    requires { may_connect before.0 client.old.client ≡ true }
-{
-    let (call, patience) = limited;
-    let (number, _) = before;
-    let progress = Progress::new(rt, call.order.progress, client.program().features().len());
-    let counts = (number, client.features().len());
-    let mut follower = Follower::new(rt, progress, talk, counts, record);
-    let verdict = drive_client(rt, client, before, (call, patience), &mut follower);
-    let ended = follower.end();
-    drop(follower);
-    match ended {
-        Ok(unwritten) => with_both_unwritten(rt, verdict, unwritten),
-        Err(fault) => Err(Fault::Order(fault)),
-    }
-}
-
-/// A client that is made runs its program on a server once it is confirmed, followed by its record, if there is one; its report is written on
-/// standard output. `before` is the number of its connection, and what servers reported before it.
-fn drive_prepared<
-    R: Files<File = File>
-        + Input
-        + Print
-        + Eprint
-        + Clock
-        + Net<Listener = TcpListener, Stream = TcpStream>
-        + AllocGlobal,
->(
-    rt: &R,
-    client: &mut Client,
-    before: (u64, &ServerLedger),
-    record: Option<(String, Recorder<LockedFile>)>,
-    limited: (&mut Call<'_>, &Patience<'_, R>),
-) -> Result<u8, Fault>
-    requires { may_connect before.0 client.old.client ≡ true }
-{
-    let (call, patience) = limited;
-    let (number, _) = before;
-    let talk = prepare(rt, client, number, call)?;
-    let done = drive_followed(rt, client, before, record, (call, patience), &talk);
-    drop(talk);
-    done
-}
-
-/// Likewise; what the run says last is noted.
-fn drive_made<
-    R: Files<File = File>
-        + Input
-        + Print
-        + Eprint
-        + Clock
-        + Net<Listener = TcpListener, Stream = TcpStream>
-        + AllocGlobal,
->(
-    rt: &R,
-    client: &mut Client,
-    before: (u64, &ServerLedger),
-    record: Option<(String, Recorder<LockedFile>)>,
-    limited: (&mut Call<'_>, &Patience<'_, R>),
-) -> Result<u8, Fault>
-    requires { may_connect before.0 client.old.client ≡ true }
-{
-    let (call, patience) = limited;
-    let kept = client.features().len();
-    let done = drive_prepared(rt, client, before, record, (&mut *call, patience));
-    let how = match call.early.take() {
-        Some(how) => how,
-        None => RunEnding::Left(client.state(), call.seen.get()),
-    };
-    let counts = Counts {
-        kept,
-        complete: client.features().len(),
-        asked: client.program().features().len(),
-    };
-    *call.last = last_line(how, counts);
-    done
-}
-
-/// A client that is made reports what it has kept, and runs its program on a server, without a record.
-fn drive_kept<
-    R: Files<File = File>
-        + Input
-        + Print
-        + Eprint
-        + Clock
-        + Net<Listener = TcpListener, Stream = TcpStream>
-        + AllocGlobal,
->(rt: &R, client: &mut Client, call: &mut Call<'_>, patience: &Patience<'_, R>) -> Result<u8, Fault>
-    requires { may_connect 1 client.old.client ≡ true }
-{
-    if let Some(name) = &call.features {
-        let (kept, asked) = (client.features(), client.program().features());
-        tell_kept(rt, name.as_str(), kept, asked)?;
-    }
-    let told = ServerLedger::new(rt.alloc());
-    let done = drive_made(rt, client, (1, &told), None, (call, patience));
-    drop(told);
-    done
 }
 
 /// A program on a server, without a record.
@@ -482,20 +260,17 @@ fn drive_program<
         + Eprint
         + Clock
         + Net<Listener = TcpListener, Stream = TcpStream>
-        + AllocGlobal,
->(
-    rt: &R,
-    read: (FeatureLedger, Program),
-    call: &mut Call<'_>,
-    patience: &Patience<'_, R>,
-) -> Result<u8, Fault>
-    requires { is_window call.old.window ≡ true }
+        + AllocGlobal
+        + Clone
+        + Drop,
+>(rt: &R, read: (FeatureLedger, Program), window: u8, call: &mut Call<'_>) -> Result<u8, Fault>
+    requires { is_window window ≡ true }
 {
     let (kept, program) = read;
-    let mut client = kept_client(rt.alloc(), program, kept, call.window)?;
-    let done = drive_kept(rt, &mut client, call, patience);
-    drop(client);
-    done
+    let client = kept_client(rt.alloc(), program, kept, window)?;
+    let told = ServerLedger::new(rt.alloc());
+    let record = (None, Vec::new(rt.alloc()));
+    drive(rt, client, (1, &told), record, call)
 }
 
 /// Likewise, with a record of it. A record in which the last connection has the greatest possible number cannot be written.
@@ -506,44 +281,30 @@ fn drive_recorded<
         + Eprint
         + Clock
         + Net<Listener = TcpListener, Stream = TcpStream>
-        + AllocGlobal,
->(
-    rt: &R,
-    open: OpenRecord,
-    program: Program,
-    call: &mut Call<'_>,
-    patience: &Patience<'_, R>,
-) -> Result<u8, Fault>
-    requires { is_window call.old.window ≡ true }
+        + AllocGlobal
+        + Clone
+        + Drop,
+>(rt: &R, open: OpenRecord, program: Program, window: u8, call: &mut Call<'_>) -> Result<u8, Fault>
+    requires { is_window window ≡ true }
 {
-    let connection = open.beginning.connection;
-    if connection < 1 || connection > CONNECTION_MAX {
-        return Err(Fault::Order(OrderFault::CannotWrite(open.name)));
-    }
     let OpenRecord {
         name,
         beginning,
         file,
     } = open;
+    let connection = beginning.connection;
+    if connection < 1 || connection > CONNECTION_MAX {
+        return Err(Fault::Order(OrderFault::CannotWrite(name)));
+    }
     let Beginning {
         features,
         told,
         text,
         ..
     } = beginning;
-    let recorder = Recorder::new(connection, features.list().len(), text, file);
-    let record = Some((name, recorder));
-    let mut client = kept_client(rt.alloc(), program, features, call.window)?;
-    let done = drive_made(
-        rt,
-        &mut client,
-        (connection, &told),
-        record,
-        (call, patience),
-    );
-    drop(client);
-    drop(told);
-    done
+    let client = kept_client(rt.alloc(), program, features, window)?;
+    let record = (Some((name, file)), text);
+    drive(rt, client, (connection, &told), record, call)
 }
 
 /// What a run has read.
@@ -645,25 +406,27 @@ fn drive_read<
         + Eprint
         + Clock
         + Net<Listener = TcpListener, Stream = TcpStream>
-        + AllocGlobal,
+        + AllocGlobal
+        + Clone
+        + Drop,
 >(
     rt: &R,
     sources: &mut Sources<'_, R>,
     read: (FeatureLedger, Program),
     record: Option<RecordWords>,
+    window: u8,
     call: &mut Call<'_>,
-    patience: &Patience<'_, R>,
 ) -> Result<u8, Fault>
-    requires { is_window call.old.window ≡ true }
+    requires { is_window window ≡ true }
 {
     let (Some(words), Some(held)) = (record, call.held.record.take()) else {
-        return drive_program(rt, read, call, patience);
+        return drive_program(rt, read, window, call);
     };
     let (kept, program) = read;
     let opened = open_record(rt, sources, (words, held), &program, &kept);
     drop(kept);
     match opened {
-        Ok(open) => drive_recorded(rt, open, program, call, patience),
+        Ok(open) => drive_recorded(rt, open, program, window, call),
         Err(fault) => Err(fault),
     }
 }
@@ -687,6 +450,17 @@ fn last_of_none<R: Files + Input + AllocGlobal>(
     last_line(RunEnding::NotBegun, counts)
 }
 
+/// Whether the stop file is there: then nothing is begun, and that is reported.
+fn is_stopped<R: Files + Eprint>(rt: &R, stop: Option<&String>) -> bool {
+    match stop {
+        Some(name) if matches!(fs::exists(rt, name.as_str()), Ok(true)) => {
+            let _ = eprintln!(rt; "dme: {name} exists: nothing was begun");
+            true
+        }
+        _ => false,
+    }
+}
+
 /// A run that has read what it needs, on a server, unless the stop file is there.
 fn drive_input<
     R: Files<File = File>
@@ -695,63 +469,58 @@ fn drive_input<
         + Eprint
         + Clock
         + Net<Listener = TcpListener, Stream = TcpStream>
-        + AllocGlobal,
+        + AllocGlobal
+        + Clone
+        + Drop,
 >(
     rt: &R,
     sources: &mut Sources<'_, R>,
     order: &mut Run,
     given: (RunInput, Option<RecordWords>),
-    limited: (Option<u32>, &Patience<'_, R>),
     kept: (&mut HeldFiles, &mut Option<LastLine>),
 ) -> Result<u8, Fault>
     requires { is_window order.old.window ≡ true }
 {
     let (input, record) = given;
-    let (wait, patience) = limited;
     let (held, last) = kept;
     let RunInput {
         read,
         features,
         tasks,
     } = input;
-    if patience.is_stopped() {
-        *last = last_of_none(rt, sources, (&read.0, &read.1), record.as_ref());
-        return Ok(patience.not_begun());
-    }
-    let log = order.log.take();
     let window = order.window;
+    if is_stopped(rt, order.stop.as_ref()) {
+        *last = last_of_none(rt, sources, (&read.0, &read.1), record.as_ref());
+        return Ok(NOT_BEGUN);
+    }
     let mut call = Call {
-        order: &*order,
-        window,
+        order: &mut *order,
         features,
-        log,
-        wait,
         tasks: tasks.as_slice(),
         held: &mut *held,
-        seen: Cell::new(None),
-        early: None,
         last: &mut *last,
     };
-    let done = drive_read(rt, sources, read, record, &mut call, patience);
+    let done = drive_read(rt, sources, read, record, window, &mut call);
     drop(call);
     drop(tasks);
     done
 }
 
-/// A run within limits of time, with its record, if one is named.
-fn run_limited<
+/// A run whose files are locked, with its record, if one is named.
+fn run_held<
     R: Files<File = File>
         + Input
         + Print
         + Eprint
         + Clock
         + Net<Listener = TcpListener, Stream = TcpStream>
-        + AllocGlobal,
+        + AllocGlobal
+        + Clone
+        + Drop,
 >(
     rt: &R,
     order: &mut Run,
     record: Option<RecordWords>,
-    limits: (Option<u32>, &Patience<'_, R>),
     kept: (&mut HeldFiles, &mut Option<LastLine>),
 ) -> Result<u8, Fault>
     requires { is_window order.old.window ≡ true }
@@ -772,7 +541,6 @@ fn run_limited<
             &mut sources,
             order,
             (input, record),
-            limits,
             (&mut *held, &mut *last),
         ),
         Err(fault) => Err(fault),
@@ -805,24 +573,17 @@ fn run_order<
         + Eprint
         + Clock
         + Net<Listener = TcpListener, Stream = TcpStream>
-        + AllocGlobal,
+        + AllocGlobal
+        + Clone
+        + Drop,
 >(rt: &R, order: &mut Run, last: &mut Option<LastLine>) -> Result<u8, Fault>
     requires { is_window order.old.window ≡ true }
 {
     refuse_meeting(rt, order)?;
-    let wait = order.wait;
     let record = record_words(order.record.take(), order.part.take(), order.explain);
-    let patience = Patience::new(rt, order.timeout, order.stop.take());
     let mut held = HeldFiles::none();
-    let done = run_limited(
-        rt,
-        order,
-        record,
-        (wait, &patience),
-        (&mut held, &mut *last),
-    );
+    let done = run_held(rt, order, record, (&mut held, &mut *last));
     held.release(rt);
-    drop(patience);
     done
 }
 
@@ -835,7 +596,9 @@ pub fn run_program<
         + Eprint
         + Clock
         + Net<Listener = TcpListener, Stream = TcpStream>
-        + AllocGlobal,
+        + AllocGlobal
+        + Clone
+        + Drop,
 >(rt: &R, mut order: Run) -> Result<u8, Fault>
     requires { is_window order.window ≡ true }
 {

@@ -4,7 +4,6 @@ use byte_ports::Reading;
 use client_core::Client;
 use contact_ledger::Feature;
 use dme_orders::{OrderFault, first_lines, kept_text};
-use dme_sockets::touches_of;
 use dmis_program::{Touch, Wanted};
 use fixed_um::Frame;
 use program_review::{Task, TaskLine};
@@ -64,6 +63,15 @@ pub fn tell_kept<R: Eprint + AllocGlobal>(
         let _ = tell_other_frame(rt, &features[at], &wanted[at]);
     }
     Ok(())
+}
+
+/// How many touches these features have.
+pub fn touches_of(wanted: &[Wanted]) -> usize {
+    let mut count: usize = 0;
+    for feature in wanted {
+        count = count.saturating_add(feature.touches.as_slice().len());
+    }
+    count
 }
 
 /// The line of the touch of a program with this number, from 0.

@@ -1,25 +1,16 @@
-// The record of a run, as a file that grows during the run.
+// The record of a run, which is read and begins before its server is called.
 
-ghost use Rattle.std.specs.Prelude.{None};
-
-use crate::growing_files::{FeaturesFile, ReportedContacts, replace_whole};
 use crate::holding::NamedHeld;
 use crate::keeping::tell_kept;
-use crate::progress::Progress;
 use byte_ports::{PullFault, pull_all};
-use client_core::Client;
 use contact_ledger::{Feature, FeatureLedger};
-use dme_files::{Fault, HeldFile, LockedFile, Sources, cannot_write, is_whole, text_of};
+use dme_files::{Fault, HeldFile, Sources, cannot_write, text_of};
 use dme_orders::OrderFault;
-use dme_sockets::Talk;
 use dmis_program::Program;
-use link_world::Watcher;
-use record_keeping::{Beginning, RecordRefusal, Recorder, begin_record};
-use recorded_runs::Reports;
+use record_keeping::{Beginning, RecordRefusal, begin_record};
 use refusal_guide::{Refused, write_other_part, write_other_program, write_place};
 use run_record::{RecordFault, read_record};
 use std::alloc::{AllocError, Global};
-use std::cell::RefCell;
 use std::fs::File;
 use std::rt::Files;
 
@@ -84,7 +75,7 @@ fn are_first(features: &[Feature], recorded: &[Feature]) -> bool {
 pub struct OpenRecord {
     pub name: String,
     pub beginning: Beginning,
-    pub file: LockedFile,
+    pub file: HeldFile,
 }
 
 /// What is wrong with a record that is refused: at which line and what, which parts, or which feature and in what. Fails only if out of
@@ -202,206 +193,11 @@ pub fn open_record<R: Files<File = File> + Input + Eprint + AllocGlobal>(
         Ok(beginning) => Ok(OpenRecord {
             name,
             beginning,
-            file: file.growing(),
+            file,
         }),
         Err(fault) => {
             file.release(rt, name.as_str());
             Err(fault)
         }
-    }
-}
-
-/// Who follows a run: reports its progress, and keeps its features file and the contacts that its server reports. It has the recorder of
-/// the run's record, if there is one, before the run and after it; during the run `RecordedRun` has it.
-#[derive(Drop)]
-pub struct Follower<'a, 'b, R: Eprint> {
-    rt: &'b R,
-    progress: Progress<'b, R>,
-    /// The lines of the connection, with the errors of its server.
-    pub talk: &'a RefCell<Talk<'b, R>>,
-    /// The number of the connection.
-    number: u64,
-    /// How many features were kept, or are on the device and were reported.
-    shown: usize,
-    /// The name of the record, if there is one.
-    name: Option<String>,
-    recorder: Option<Recorder<LockedFile>>,
-    /// The features file that grows, from the connection on.
-    pub features: Option<FeaturesFile>,
-    /// Likewise the file of contacts.
-    pub contacts: Option<ReportedContacts>,
-    /// Whether it was reported that the record cannot be written.
-    is_told: bool,
-    /// Likewise, for lack of memory.
-    is_short: bool,
-}
-
-impl<'a, 'b, R: Eprint> Follower<'a, 'b, R> {
-    pub fn new(
-        rt: &'b R,
-        progress: Progress<'b, R>,
-        talk: &'a RefCell<Talk<'b, R>>,
-        (number, shown): (u64, usize),
-        record: Option<(String, Recorder<LockedFile>)>,
-    ) -> Self {
-        let (name, recorder) = match record {
-            Some((name, recorder)) => (Some(name), Some(recorder)),
-            None => (None, None),
-        };
-        Follower {
-            rt,
-            progress,
-            talk,
-            number,
-            shown,
-            name,
-            recorder,
-            features: None,
-            contacts: None,
-            is_told: false,
-            is_short: false,
-        }
-    }
-
-    /// The recorder goes to the run that it records.
-    pub fn take_recorder(&mut self) -> Option<Recorder<LockedFile>> {
-        self.recorder.take()
-    }
-
-    /// It comes back from there.
-    pub fn give_back(&mut self, recorder: Recorder<LockedFile>) {
-        self.recorder = Some(recorder);
-    }
-}
-
-impl<'a, 'b, R: Eprint + AllocGlobal> Follower<'a, 'b, R> {
-    /// The errors that the server has reported since this was called last.
-    fn errors(&mut self) -> Vec<Vec<u8>> {
-        match self.talk.try_borrow_mut() {
-            Ok(mut talk) => talk.take_errors(),
-            Err(_) => Vec::new(self.rt.alloc()),
-        }
-    }
-
-    /// Reports that the record could not be written.
-    fn tell_unwritten(&self, why: &'static str) {
-        if let Some(name) = &self.name {
-            let _ = eprintln!(self.rt; "dme: cannot write {name}{why}");
-        }
-    }
-
-    /// Appends to the file of contacts what a client has counted. One that could not be written is reported once.
-    fn add_contacts(&mut self, client: &Client) {
-        let Some(contacts) = &mut self.contacts else {
-            return;
-        };
-        if let Some(why) = contacts.follow(self.number, client) {
-            let name = &contacts.name;
-            let _ = eprintln!(self.rt; "dme: cannot write {name}{why}");
-        }
-    }
-
-    /// Likewise, to the features file what it has completed. How many features the file has then, or could have, had it not failed.
-    fn add_features(&mut self, client: &Client) -> usize {
-        let Some(file) = &mut self.features else {
-            return client.features().len();
-        };
-        if let Some(why) = file.follow(self.rt.alloc(), client) {
-            let name = &file.name;
-            let _ = eprintln!(self.rt; "dme: cannot write {name}{why}");
-        }
-        file.known(client)
-    }
-
-    /// Reports the completed features up to this number, if asked.
-    fn show_features(&mut self, features: &[Feature], count: usize) {
-        for at in self.shown..count.min(features.len()) {
-            self.progress.completed(at + 1, &features[at]);
-            self.shown = at + 1;
-        }
-    }
-}
-
-/// Ends a record: its name if its file has failed, or is gone or cut, and cannot be replaced by the whole text. Fails only if out of memory.
-fn end_record<R: Files + AllocGlobal>(
-    rt: &R,
-    name: &mut String,
-    recorder: &Recorder<LockedFile>,
-) -> Result<Option<String>, OrderFault> {
-    if !recorder.is_whole() {
-        return Err(OrderFault::Memory);
-    }
-    if !recorder.has_failed() && is_whole(rt, name.as_str(), recorder.text().len()) {
-        return Ok(None);
-    }
-    Ok(replace_whole(rt, name, recorder.text())?)
-}
-
-impl<'a, 'b, R: Files + Eprint + AllocGlobal> Follower<'a, 'b, R> {
-    /// Ends the record and the file of contacts, once the run has ended. A file that has failed is replaced by the whole text; the names of
-    /// those for which that is not possible either. Fails only if out of memory: what was counted is not all written then.
-    pub fn end(&mut self) -> Result<(Option<String>, Option<String>), OrderFault> {
-        let record = match (&mut self.name, &self.recorder) {
-            (Some(name), Some(recorder)) => end_record(self.rt, name, recorder)?,
-            _ => None,
-        };
-        let contacts = match &mut self.contacts {
-            Some(contacts) => contacts.end(self.rt)?,
-            None => None,
-        };
-        Ok((record, contacts))
-    }
-}
-
-impl<'a, 'b, R: Eprint + AllocGlobal> Watcher for Follower<'a, 'b, R> {
-    ghost told = { λ _. None };
-
-    /// Nothing yet: the feature is reported once it is on the device.
-    fn completed(&mut self, _number: usize, _feature: &Feature) {}
-
-    fn turned(&mut self, client: &Client) {
-        self.errors();
-        self.add_contacts(client);
-        let count = self.add_features(client);
-        self.show_features(client.features(), count);
-    }
-}
-
-/// Who follows a run, lent to the run that is recorded.
-#[derive(Drop)]
-pub struct Lent<'c, 'a, 'b, R: Eprint> {
-    follower: &'c mut Follower<'a, 'b, R>,
-}
-
-impl<'c, 'a, 'b, R: Eprint> Lent<'c, 'a, 'b, R> {
-    pub fn new(follower: &'c mut Follower<'a, 'b, R>) -> Self {
-        Lent { follower }
-    }
-}
-
-impl<'c, 'a, 'b, R: Eprint + AllocGlobal> Reports for Lent<'c, 'a, 'b, R> {
-    fn take_errors(&mut self) -> Vec<Vec<u8>> {
-        self.follower.errors()
-    }
-
-    fn followed(&mut self, has_failed: bool, is_whole: bool) {
-        if has_failed && !self.follower.is_told {
-            self.follower.tell_unwritten("");
-            self.follower.is_told = true;
-        }
-        if !is_whole && !self.follower.is_short {
-            self.follower.tell_unwritten(": out of memory");
-            self.follower.is_short = true;
-        }
-    }
-}
-
-impl<'c, 'a, 'b, R: Eprint + AllocGlobal> Watcher for Lent<'c, 'a, 'b, R> {
-    ghost told = { λ _. None };
-
-    fn completed(&mut self, _number: usize, _feature: &Feature) {}
-
-    fn turned(&mut self, client: &Client) {
-        self.follower.turned(client);
     }
 }

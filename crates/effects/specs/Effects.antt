@@ -31,6 +31,7 @@ pub data Ask : Type 0 where
   Begin : Growth → Ask
   Append : Growth → List ℕ → Ask
   Keep : Growth → List ℕ → Ask
+  Stands : Growth → ℕ → Ask
   Replace : (name beside text : List ℕ) → Ask
   Names : List ℕ → Ask
   Create : Slot → List ℕ → Ask
@@ -45,6 +46,7 @@ pub data Ask : Type 0 where
   Listen : List ℕ → ℕ → Bool → Ask
   Accept : Option ℕ → Option ℕ → Ask
   Connect : List ℕ → ℕ → Option ℕ → Ask
+  Limit : Peer → Option ℕ → Option ℕ → Ask
   Join : Ask
   Wait : Option ℕ → Ask
   Receive : Peer → Ask
@@ -85,6 +87,7 @@ the_ask (effect.SetAside growth old) = SetAside growth old.now
 the_ask (effect.Begin growth) = Begin growth
 the_ask (effect.Append growth text) = Append growth text.now
 the_ask (effect.Keep growth text) = Keep growth text.now
+the_ask (effect.Stands growth length) = Stands growth length
 the_ask (effect.Replace name beside text) = Replace name.now beside.now text.now
 the_ask (effect.Names folder) = Names folder.now
 the_ask (effect.Create slot name) = Create slot name.now
@@ -99,6 +102,7 @@ the_ask (effect.Sleep ms) = Sleep ms
 the_ask (effect.Listen address port is_polled) = Listen address.now port is_polled
 the_ask (effect.Accept ms seconds) = Accept ms seconds
 the_ask (effect.Connect host port seconds) = Connect host.now port seconds
+the_ask (effect.Limit peer ms seconds) = Limit peer ms seconds
 the_ask effect.Join = Join
 the_ask (effect.Wait ms) = Wait ms
 the_ask (effect.Receive peer) = Receive peer

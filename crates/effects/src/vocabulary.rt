@@ -18,6 +18,10 @@ pub enum Growth {
     Contacts,
     /// What a server has told.
     Told,
+    /// The record of a run.
+    Record,
+    /// The features that a run has completed.
+    Features,
 }
 
 /// The other end of a connection.
@@ -62,6 +66,8 @@ pub enum Effect<'a> {
     Append(Growth, &'a [u8]),
     /// Likewise, and all of the file is forced to the device.
     Keep(Growth, &'a [u8]),
+    /// Whether the file that grows still has its name, and that many bytes.
+    Stands(Growth, usize),
     /// The file of the first name has this text from now on, through one of the second name if it is a plain file.
     Replace(&'a str, &'a str, &'a [u8]),
     /// The names of what is in a folder, each with a `/` after it.
@@ -89,8 +95,10 @@ pub enum Effect<'a> {
     /// The next connection is taken, whose reads wait for that many milliseconds, and whose writes for that many seconds. `Nothing` if none
     /// has come.
     Accept(Option<u64>, Option<u32>),
-    /// A server of this host is called at this port, for at most that many seconds.
-    Connect(&'a str, u16, Option<u32>),
+    /// A server of this host is called at this port, for at most that many milliseconds.
+    Connect(&'a str, u16, Option<u64>),
+    /// The reads of a peer wait for that many milliseconds, and its writes for that many seconds.
+    Limit(Peer, Option<u64>, Option<u32>),
     /// From now on the connections of both peers are waited for together.
     Join,
     /// Until something may have come from either peer, or may be taken by it, or that many milliseconds are over.

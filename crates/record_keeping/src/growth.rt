@@ -10,7 +10,7 @@ use std::marker::Model;
 
 /// The record of a run as it grows: its text, what is counted, and how many of the acts of its connection are in the text.
 #[derive(Drop)]
-pub(crate) struct Growth {
+pub struct Growth {
     telling: Telling,
     told: usize,
     text: Vec<u8>,
@@ -26,7 +26,7 @@ impl Model for Growth {
 
 impl Growth {
     /// The record of a run on the connection of this number, which begins with this many features complete and this text.
-    pub(crate) fn new(connection: u64, features: usize, text: Vec<u8>) -> Growth
+    pub fn new(connection: u64, features: usize, text: Vec<u8>) -> Growth
         ensures { result ≡ begun connection 0 features text.items }
     {
         Growth {
@@ -37,21 +37,21 @@ impl Growth {
     }
 
     /// The whole record.
-    pub(crate) fn text(&self) -> &[u8]
+    pub fn text(&self) -> &[u8]
         ensures { result.now ≡ self.now.text }
     {
         self.text.as_slice()
     }
 
     /// How many features of it are complete.
-    pub(crate) fn features(&self) -> usize
+    pub fn features(&self) -> usize
         ensures { result ≡ self.now.telling.counted.features }
     {
         self.telling.features()
     }
 
     /// Adds the lines of the acts that the client has counted since. Fails only if out of memory, and then nothing is added.
-    pub(crate) fn tell(&mut self, client: &Client) -> Result<(), AllocError>
+    pub fn tell(&mut self, client: &Client) -> Result<(), AllocError>
         ensures ok { OnOk result (self.new ≡ with_acts client.now.client.program.features
             client.now.client.table.tally.counted self.old) }
         ensures err { OnErr result (self.new ≡ self.old) }
@@ -66,7 +66,7 @@ impl Growth {
     }
 
     /// Adds the lines of errors that the server reported. Fails only if out of memory, and then the first of them are added.
-    pub(crate) fn tell_errors(&mut self, errors: &[Vec<u8>]) -> Result<(), AllocError>
+    pub fn tell_errors(&mut self, errors: &[Vec<u8>]) -> Result<(), AllocError>
         ensures ok { OnOk result (self.new ≡ with_errors (map (λ e. e.items) errors.now) self.old) }
         ensures err { OnErr result ((n : ℕ) × AddsErrors (map (λ e. e.items) errors.now) self.old
             self.new n) }

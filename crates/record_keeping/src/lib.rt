@@ -2,16 +2,11 @@
 //! appended as the client counts it.
 //!
 //! - `opening`: what a record's text gives a run to continue from, or why the run may not continue it
-//! - `growing`: files that grow
 //! - `growth`: the text of a record that grows
-//! - `recorder`: appends what a client has counted
 #![tactic(auto)]
 
-mod growing;
 mod growth;
 mod opening;
-mod recorder;
 
-pub use growing::GrowingFile;
+pub use growth::Growth;
 pub use opening::{Beginning, RecordRefusal, begin_record};
-pub use recorder::Recorder;

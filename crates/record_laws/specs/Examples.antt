@@ -1,5 +1,5 @@
 -- Examples of recordings: clients that are written out, and their records (this profile). No law cites these definitions.
-use Rattle.std.specs.Prelude.{ℕ, pos, Bool, true, false, List, [], ◌∷◌, codes, Option, None, Some}
+use Rattle.std.specs.Prelude.{ℕ, pos, true, false, List, [], ◌∷◌, codes, Option, None, Some}
 use Rattle.fixed_um.specs.declared.frames.Frame.TheVariants.{Machine}
 use Rattle.contact_ledger.specs.declared.acts.Act.{Act}
 use Rattle.contact_ledger.specs.declared.acts.Act.TheVariants as act
@@ -9,8 +9,7 @@ use Rattle.dmis_program.specs.declared.features.Touch.{Touch}
 use Rattle.protocol_model.specs.Client.{new_client, no_tally}
 use Rattle.protocol_model.specs.Ends.{ClientEnd, new_client_end}
 use Rattle.protocol_model.specs.declared.states.State.{State}
-use Rattle.record_keeping.specs.Growths.{Growth, Recording, begun, with_errors}
-use Rattle.record_laws.specs.Recordings.{told_now}
+use Rattle.record_keeping.specs.Growths.{Growth, begun}
 
 -- a touch on the x axis, without a direction
 abbrev pub touch : Touch
@@ -49,23 +48,4 @@ feature = record {
   label = codes "C";
   points = record { x = pos 1002; y = pos 0; z = pos 0 } ∷ record { x = pos 1002; y = pos 0; z = pos 0 } ∷ [];
   origin = None;
-}
-
--- the record in which the first contact has its line
-abbrev pub one_line : Growth
-one_line = with_errors [] (told_now (halted (contact ∷ []) []) empty)
-
--- a file whose bytes are known
-abbrev pub bytes_of : List ℕ → Option (List ℕ)
-bytes_of bytes = Some bytes
-
--- that record in a file with these bytes, which has failed or not
-abbrev pub filed : List ℕ → ℕ → Bool → Recording (List ℕ)
-filed bytes count failed = record {
-  growth = one_line;
-  file = bytes;
-  filed = count;
-  has_failed = failed;
-  lacks_acts = false;
-  lacks_errors = false;
 }

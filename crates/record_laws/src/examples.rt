@@ -1,16 +1,15 @@
 // Examples: what is written for clients that are written out.
 
-ghost use Rattle.std.specs.Prelude.{◌≡◌, [], ◌∷◌, codes, length, map, take, true, false};
+ghost use Rattle.std.specs.Prelude.{◌≡◌, [], ◌∷◌, codes, map, true, false};
 ghost use Rattle.contact_ledger.specs.Lines.{text_of};
 ghost use Rattle.protocol_model.specs.World.{start};
 ghost use Rattle.protocol_model.specs.declared.events.Event.TheVariants.{ClientReads};
 ghost use Rattle.client_core.specs.Calls.{Connected, Resume, Leave, Restart};
 ghost use Rattle.run_record.specs.Entries.{entry_line};
 ghost use Rattle.run_record.specs.declared.entries.Entry.TheVariants.{Told, Refused, Completed};
-ghost use Rattle.record_keeping.specs.Growths.{begun_in, with_errors};
-ghost use Rattle.record_laws.specs.Files.{Makes, Follows, EndFollowed, AreWithin, AreTaken};
+ghost use Rattle.record_keeping.specs.Growths.{with_errors};
 ghost use Rattle.record_laws.specs.Recordings.{Calls, Tell, AreFit, behind_moments, told_now};
-ghost use Rattle.record_laws.specs.Examples.{bytes_of, contact, empty, feature, filed, halted, one_line, program};
+ghost use Rattle.record_laws.specs.Examples.{contact, empty, feature, halted, program};
 ghost use Rattle.record_laws.specs.Worlds.{told_in};
 
 /// The second contact completes the feature of two touches. Lines that are added in two pieces are those that are added at once. Before a
@@ -54,17 +53,4 @@ pub fn fit_rows()
     ensures number { AreFit 4 (Calls (Connected 3) ∷ []) (halted [] []) → ⊥ }
     ensures restart { AreFit 4 (Calls (Restart 0) ∷ []) (halted [] (feature ∷ [])) → ⊥ }
     ensures event { told_in (ClientReads ∷ []) (start program [] 1) ≡ [] }
-{}
-
-/// A file gets the line that its record got; or it fails and has the first bytes of it. It never loses what it had. What a run does on its
-/// connection does not begin it again; a record says all only once its client is followed.
-pub fn file_rows()
-    ensures taken { AreTaken bytes_of (Follows [] ∷ []) (halted (contact ∷ []) [])
-        (begun_in [] empty) (filed one_line.text (length one_line.text) false) }
-    ensures torn { AreTaken bytes_of (Follows [] ∷ []) (halted (contact ∷ []) [])
-        (begun_in [] empty) (filed (take 9 one_line.text) 0 true) }
-    ensures lost { AreTaken bytes_of (Follows [] ∷ []) (halted (contact ∷ []) [])
-        (filed one_line.text (length one_line.text) false) (filed [] 0 true) → ⊥ }
-    ensures again { AreWithin (Makes (Connected 4) ∷ []) (halted [] []) → ⊥ }
-    ensures later { EndFollowed (Follows [] ∷ Makes Leave ∷ []) → ⊥ }
 {}

@@ -3,16 +3,12 @@
 //!
 //! - `specs/Recordings.antt`: a record that is written while it follows a client
 //! - `specs/Runs.antt`: runs over one file, each killed at any moment
-//! - `specs/Files.antt`: a recorder that keeps it in a file
 //! - `specs/Worlds.antt`: what is reported to the client of a world by events
 //! - `laws`: what holds after every list of calls, after any number of runs, and in a world
-//! - `filing`: what the file holds
 //! - `examples`: what is written for clients that are written out
 #![tactic(auto)]
 
 pub mod examples;
-mod filing;
 mod laws;
 
-pub use filing::files_hold_their_records;
 pub use laws::{killed_runs_lose_nothing, records_say_what_was_told, reported_acts_were_done};

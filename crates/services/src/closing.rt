@@ -4,12 +4,12 @@ ghost use Rattle.std.specs.Prelude.{◌≡◌, OnOk};
 ghost use Rattle.services.specs.Sessions as spec;
 
 use crate::sessions::Break;
-use crate::waits::Lapse;
 use crate::{Session, Stage};
 use effects::Answer;
 use link_world::{PumpFault, write_contact_rows};
 use server_core::ServerFault;
-use std::alloc::{AllocError, Global};
+use session_parts::lapse_line;
+use std::alloc::AllocError;
 
 const UNPRINTED: &str = "dme: cannot write -\n";
 
@@ -23,18 +23,6 @@ fn cause(fault: PumpFault<ServerFault>) -> &'static str {
         PumpFault::Core(ServerFault::Framing(_)) => "the client sent bytes that are no lines\n",
         PumpFault::Core(_) => "the server is on no connection\n",
         PumpFault::Memory => "",
-    }
-}
-
-/// What a client has not done, as a line.
-fn lapse_line(alloc: Global, lapse: Lapse, seconds: u32) -> Result<String, AllocError> {
-    let unit = if seconds == 1 { "second" } else { "seconds" };
-    match lapse {
-        Lapse::Sent => format!(in alloc; "nothing came from the client for {seconds} {unit}\n"),
-        Lapse::SentOther => format!(in alloc;
-            "nothing that was due came from the client for {seconds} {unit}\n"
-        ),
-        Lapse::Taken => format!(in alloc; "the client took nothing for {seconds} {unit}\n"),
     }
 }
 
@@ -91,7 +79,7 @@ impl Session {
             }
             Break::Lapsed(lapse) => {
                 let seconds = self.service.timeout.unwrap_or(0);
-                let line = lapse_line(self.alloc, lapse, seconds)?;
+                let line = lapse_line(self.alloc, lapse, "client", seconds)?;
                 format!(in self.alloc; "dme: connection failed\n{line}")
             }
         }

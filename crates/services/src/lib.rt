@@ -3,18 +3,14 @@
 //!
 //! - `stages`: where it is; `services`: what it is to do; `sessions`: what it asks, and what it does with an answer
 //! - `preparing`: before the first connection; `taking`: between two; `serving`: on one; `closing`: after the last
-//! - `contacts`: its contacts file; `lines`: the lines that are shown; `waits`, `arriving`: how long a client may be silent
-//! - `causes`: why an effect was not carried out
+//! - `contacts`: its contacts file
 //! - `relaying`: the session of `watch`; `relay_stages`: where it is; `relays`: what it is to do; `relay_files`: its files; `relay_turns`: its
 //!   turns; `relay_ends`: the end of a connection; `recordings`: the files of its bytes
 //! - `running`: the session with hands that carry its effects out
 #![tactic(auto)]
 
-mod arriving;
-mod causes;
 mod closing;
 mod contacts;
-mod lines;
 mod preparing;
 mod recordings;
 mod relay_ends;
@@ -29,9 +25,7 @@ mod serving;
 mod sessions;
 mod stages;
 mod taking;
-mod waits;
 
-pub use arriving::line_came;
 pub use relay_stages::RelayStage;
 pub use relaying::RelaySession;
 pub use relays::Relay;

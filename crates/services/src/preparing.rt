@@ -4,18 +4,10 @@ ghost use Rattle.std.specs.Prelude.{◌≡◌, ◌≢◌, if◌then◌else◌, t
 ghost use Rattle.effects.specs.Effects.{the_reply};
 ghost use Rattle.services.specs.Sessions as spec;
 
-use crate::causes::{why_unconnected, why_unwritten};
 use crate::{Session, Stage};
-use effects::{Answer, Cause};
+use effects::Answer;
+use session_parts::{cause_of, why_unconnected, why_unwritten};
 use std::alloc::AllocError;
-
-/// Why an effect failed, as far as the answer says it.
-pub(crate) fn cause_of(answer: Answer<'_>) -> Cause {
-    match answer {
-        Answer::Failed(why) => why,
-        _ => Cause::Unknown,
-    }
-}
 
 impl Session {
     /// What comes after the log.

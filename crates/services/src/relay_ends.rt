@@ -1,12 +1,12 @@
 // The end of a relayed connection.
 
-use crate::causes::why_unconnected;
 use crate::recordings::slot_after;
 use crate::relay_stages::RelayStage as Stage;
 use crate::relaying::{Ended, RelaySession};
 use dme_orders::refused_call;
 use effects::{Answer, Cause};
 use refusal_guide::unknown_host;
+use session_parts::why_unconnected;
 use std::alloc::AllocError;
 
 impl RelaySession {

@@ -1,12 +1,10 @@
 // The files of a relay.
 
-use crate::causes::{why_unconnected, why_unwritten};
-use crate::lines::stamped;
-use crate::preparing::cause_of;
 use crate::recordings::{Recording, hold_recording, slot_after};
 use crate::relay_stages::RelayStage as Stage;
 use crate::relaying::RelaySession;
 use effects::{Answer, Peer, Slot};
+use session_parts::{cause_of, stamped, why_unconnected, why_unwritten};
 use std::alloc::AllocError;
 use watched_ends::add_piece;
 use witness::Side;

@@ -4,12 +4,10 @@ ghost use Rattle.std.specs.Prelude.{◌≡◌, min, length, OnOk};
 ghost use Rattle.watched_ends.specs.Limits.{up_of, up_sent};
 ghost use Rattle.services.specs.Relays as spec;
 
-use crate::lines::Side;
-use crate::preparing::cause_of;
 use crate::relay_stages::RelayStage as Stage;
 use crate::relaying::{Ended, Ends, RelaySession};
-use crate::waits::Wait;
 use effects::{Answer, Cause, Peer};
+use session_parts::{Side, Wait, cause_of};
 use std::alloc::AllocError;
 use watched_ends::LimitedRelay;
 

@@ -5,12 +5,11 @@ ghost use Rattle.effects.specs.Effects.{the_ask};
 ghost use Rattle.watched_ends.specs.Limits.{IsTold, down_of};
 ghost use Rattle.services.specs.Relays as spec;
 
-use crate::lines::Lines;
 use crate::recordings::{Recording, slot_after};
 use crate::relay_stages::RelayStage as Stage;
 use crate::relays::Relay;
-use crate::waits::Wait;
 use effects::{Answer, Cause, Effect, Growth, Peer, Slot};
+use session_parts::{Lines, Wait};
 use std::alloc::{AllocError, Global};
 use std::marker::Model;
 use watched_ends::{LimitedRelay, ORDER_HEADER};
@@ -222,7 +221,7 @@ impl RelaySession {
             Stage::Connecting => Effect::Connect(
                 self.order.host.as_str(),
                 self.order.port,
-                self.order.timeout,
+                self.order.timeout.map(|seconds| u64::from(seconds) * 1000),
             ),
             Stage::Joining => Effect::Join,
             Stage::HearingClient => Effect::Receive(Peer::Client),

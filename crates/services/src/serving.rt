@@ -4,14 +4,13 @@ ghost use Rattle.std.specs.Prelude.{◌≡◌, true, [], OnOk};
 ghost use Rattle.effects.specs.Effects.{the_reply};
 ghost use Rattle.services.specs.Sessions as spec;
 
-use crate::lines::{Side, stamped};
 use crate::sessions::Break;
-use crate::waits::Lapse;
 use crate::{Session, Stage};
 use byte_ports::{Pieces, Ports, Takes};
 use effects::Answer;
 use link_world::{PumpFault, serve_turns};
 use server_core::ServerFault;
+use session_parts::{Lapse, Side, stamped};
 use std::alloc::AllocError;
 
 impl Session {

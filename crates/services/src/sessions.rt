@@ -5,12 +5,11 @@ ghost use Rattle.effects.specs.Effects.{the_ask, the_reply, Reply};
 ghost use Rattle.services.specs.Sessions as spec;
 
 use crate::contacts::Contacts;
-use crate::lines::Lines;
-use crate::waits::{Lapse, Wait};
 use crate::{Service, Stage};
 use effects::{Answer, Effect, Growth, Peer};
 use link_world::{PumpFault, Simulated};
 use server_core::{Server, ServerFault};
+use session_parts::{Lapse, Lines, Wait};
 use std::alloc::{AllocError, Global};
 use std::marker::Model;
 use tool_rack::Setup;

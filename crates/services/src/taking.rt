@@ -4,10 +4,10 @@ ghost use Rattle.std.specs.Prelude.{◌≡◌, true, OnOk};
 ghost use Rattle.services.specs.Sessions as spec;
 
 use crate::sessions::Break;
-use crate::waits::Wait;
 use crate::{Session, Stage};
 use effects::{Answer, Cause};
 use link_world::PumpFault;
+use session_parts::Wait;
 use std::alloc::AllocError;
 
 const UNTAKEN: &str = "dme: a connection cannot be taken\n";

@@ -10,7 +10,7 @@ use std::rt::{Clock, Files};
 const NAME: &str = "/tmp/dme_hands.test";
 
 /// What comes of an effect is as expected.
-fn gives<
+pub fn gives<
     R: Files<File = File>
         + Input
         + Print
@@ -100,7 +100,7 @@ fn the_standard_streams_are_read_and_written(rt: HostRuntime) {
 }
 
 /// Whether the file of this name has this text.
-fn has<R: Files<File = File> + AllocGlobal>(rt: &R, name: &str, text: &[u8]) -> bool {
+pub fn has<R: Files<File = File> + AllocGlobal>(rt: &R, name: &str, text: &[u8]) -> bool {
     match fs::read(rt, name) {
         Ok(found) => found.as_slice() == text,
         Err(_) => false,
@@ -225,6 +225,13 @@ fn a_connection_is_taken_and_left(rt: HostRuntime) {
     assert!(rt;
         gives(
             &mut hands,
+            Effect::Limit(Peer::Client, Some(10), None),
+            Answer::Done
+        )
+    );
+    assert!(rt;
+        gives(
+            &mut hands,
             Effect::Receive(Peer::Client),
             Answer::Failed(Cause::Unknown)
         )
@@ -232,3 +239,48 @@ fn a_connection_is_taken_and_left(rt: HostRuntime) {
 }
 
 const PORT: u16 = 47_113;
+
+#[test]
+fn a_connection_is_limited_later(rt: HostRuntime) {
+    let Ok(listener) = TcpListener::bind(&rt, ("127.0.0.1", 0u16)) else {
+        assert!(rt; false);
+        return;
+    };
+    let Ok(address) = listener.local_addr() else {
+        assert!(rt; false);
+        return;
+    };
+    let mut hands = RealHands::new(rt);
+    let connect = Effect::Connect("127.0.0.1", address.port(), Some(1_000));
+    assert!(rt; gives(&mut hands, connect, Answer::Done));
+    let Ok((mut peer, _)) = listener.accept() else {
+        assert!(rt; false);
+        return;
+    };
+    let limit = Effect::Limit(Peer::Server, Some(10), Some(1));
+    assert!(rt; gives(&mut hands, limit, Answer::Done));
+    assert!(rt; gives(&mut hands, Effect::Receive(Peer::Server), Answer::Nothing));
+    let unlimited = Effect::Limit(Peer::Server, None, None);
+    assert!(rt; gives(&mut hands, unlimited, Answer::Done));
+    assert!(rt; peer.write_all(b"line".as_slice()).is_ok());
+    let line = Answer::Bytes(b"line".as_slice());
+    assert!(rt; gives(&mut hands, Effect::Receive(Peer::Server), line));
+}
+
+#[test]
+fn connections_that_are_joined_do_not_wait_alone(rt: HostRuntime) {
+    let mut hands = RealHands::new(rt);
+    let listen = Effect::Listen("127.0.0.1", JOINED, true);
+    assert!(rt; gives(&mut hands, listen, Answer::Done));
+    let connect = Effect::Connect("127.0.0.1", JOINED, None);
+    assert!(rt; gives(&mut hands, connect, Answer::Done));
+    assert!(rt; gives(&mut hands, Effect::Accept(None, None), Answer::Done));
+    assert!(rt; gives(&mut hands, Effect::Join, Answer::Done));
+    for peer in [Peer::Client, Peer::Server] {
+        let limit = Effect::Limit(peer, Some(60_000), None);
+        assert!(rt; gives(&mut hands, limit, Answer::Done));
+        assert!(rt; gives(&mut hands, Effect::Receive(peer), Answer::Nothing));
+    }
+}
+
+const JOINED: u16 = 29_113;

@@ -6,10 +6,13 @@
 //! - `framing`: lines byte by byte
 //! - `programs`: 10,000 statements and one more
 //! - `hands`: each effect on real files and the standard streams
+//! - `growing`: files that grow
 #![tactic(auto)]
 
 #[cfg(test)]
 mod framing;
+#[cfg(test)]
+mod growing;
 #[cfg(test)]
 mod hands;
 #[cfg(test)]

@@ -1,4 +1,0 @@
-pub mod Errors
-pub mod Kept
-pub mod Holding
-pub mod Rows

@@ -1,0 +1,86 @@
+-- What the calls of a run keep of a client, and what they report.
+use Rattle.std.proofs.Common.{◌≡◌, ℕ, Bool, true, false, cond, List, [], ◌∷◌, ◌++◌, refl, sym, ◌∙◌, ap, append-nil, append_assoc}
+use Rattle.dme_line.specs.declared.tags.Tag.TheVariants as tag
+use Rattle.line_framing.specs.Next.{next_of}
+use Rattle.contact_ledger.specs.declared.acts.Act.{Act}
+use Rattle.protocol_model.specs.Client.{Client, Tally, next_number}
+use Rattle.protocol_model.specs.Ends.{ClientEnd}
+use Rattle.client_core.specs.Calls.{Call, Connected, Send, Feed, ReadOne, Abort, Resume, Leave, Restart, Sent, possible, done_by, behind_call}
+use Rattle.client_core.specs.Calls.{behind_calls}
+use Rattle.told_acts.specs.Told.{numbered, told_behind}
+use Rattle.told_acts.proofs.Counts.{Grows, grows_told, heard_grows}
+use Rattle.told_acts.proofs.Views.{View, view, sends_view, aborts_view, read_all}
+use Rattle.link_world.specs.Showing.{IsRunCall}
+
+-- acts are counted after those that were, on the same connection
+pub record Stays (c d : Client) : Type 0 where
+  pub grows : Grows c.table.tally d.table.tally
+  pub last : d.last ≡ c.last
+
+none_more : (y z : Tally) → z.counted ≡ y.counted → z.connection ≡ y.connection → Grows y z
+none_more y z same number = record { more = []; acts = same ∙ sym (append-nil y.counted); number = number }
+
+keeps_same : (c d : Client) → view d ≡ view c → Stays c d
+keeps_same c d is = record {
+  grows = none_more c.table.tally d.table.tally (ap (λ (v : View). v.counted) is) (ap (λ (v : View). v.connection) is);
+  last = ap (λ (v : View). v.last) is;
+}
+
+done_keeps : (call : Call) (e : ClientEnd) → IsRunCall call → Stays e.client (done_by call e).client
+done_keeps (Connected n) e h = absurd h
+done_keeps Resume e h = absurd h
+done_keeps (Restart k) e h = absurd h
+done_keeps Send e h = keeps_same e.client (done_by Send e).client
+    (sends_view e.client e.client.table.tally.unsent (next_number tag.Std e.client.table.standard e.client.drawn))
+done_keeps (Feed bytes) e h = keeps_same e.client e.client refl
+done_keeps ReadOne e h = read_all e.client (λ (d : Client). Stays e.client d) (record {
+  same = keeps_same e.client e.client refl;
+  fault = λ cause. record { grows = none_more e.client.table.tally e.client.table.tally refl refl; last = refl };
+  reply = λ t m b s is. record { grows = heard_grows e.client.program.features e.client.table b t m is; last = refl };
+}) (next_of e.input.rest)
+done_keeps Abort e h = keeps_same e.client (done_by Abort e).client
+    (aborts_view e.client (next_number tag.Event e.client.table.event e.client.event_drawn))
+done_keeps Leave e h = record { grows = none_more e.client.table.tally (done_by Leave e).client.table.tally refl refl; last = refl }
+done_keeps (Sent k) e h = keeps_same e.client e.client refl
+
+pub call_keeps : (call : Call) (e : ClientEnd) → IsRunCall call → Stays e.client (behind_call call e).client
+call_keeps call e h = go (possible call e)
+  where
+    go : (b : Bool) → Stays e.client (cond b (done_by call e) e).client
+    go true = done_keeps call e h
+    go false = keeps_same e.client e.client refl
+
+-- ---- what calls report
+
+pub numbered_more : (n : ℕ) (xs ys : List Act) → numbered n (xs ++ ys) ≡ numbered n xs ++ numbered n ys
+numbered_more n [] ys = refl
+numbered_more n (x ∷ xs) ys = ap (λ (l : List (ℕ × Act)). (n, x) ∷ l) (numbered_more n xs ys)
+
+-- they report what is counted by them
+pub record Reports (e : ClientEnd) (calls : List Call) : Type 0 where
+  pub more : List Act
+  pub acts : (behind_calls calls e).client.table.tally.counted ≡ e.client.table.tally.counted ++ more
+  pub told : told_behind calls e ≡ numbered e.client.table.tally.connection more
+
+pub call_reports : (call : Call) (calls : List Call) (e : ClientEnd) → IsRunCall call → Reports (behind_call call e) calls
+    → Reports e (call ∷ calls)
+call_reports call calls e is rest = record {
+  more = first.more ++ rest.more;
+  acts = rest.acts ∙ (ap (λ (l : List Act). l ++ rest.more) first.acts ∙ append_assoc y.counted first.more rest.more);
+  told = ap (λ (l : List (ℕ × Act)). l ++ told_behind calls f) (grows_told y z first)
+      ∙ (ap (λ (l : List (ℕ × Act)). numbered y.connection first.more ++ l)
+      (rest.told ∙ ap (λ (n : ℕ). numbered n rest.more) first.number)
+      ∙ sym (numbered_more y.connection first.more rest.more));
+}
+  where
+    f : ClientEnd
+    f = behind_call call e
+
+    y : Tally
+    y = e.client.table.tally
+
+    z : Tally
+    z = f.client.table.tally
+
+    first : Grows y z
+    first = (call_keeps call e is).grows

@@ -1,0 +1,6 @@
+pub mod ErrorLines
+pub mod Growing
+pub mod ClientCalls
+pub mod Filing
+pub mod Kept
+pub mod Moments

@@ -1,0 +1,232 @@
+-- A run is a list of moments, whose record's file is what a killed run leaves.
+use Rattle.std.proofs.Common.{◌≡◌, inl, inr, ◌≤◌, ℕ, ◌+◌, Bool, true, false, cond, List, [], ◌∷◌, ◌++◌, length, take, drop, map, refl, sym, ap, ◌∙◌, subst}
+use Rattle.std.proofs.Common.{append_assoc, append-nil, length-append, Option, arith}
+use Rattle.std.proofs.lemmas.Bool.{false≢true}
+use Rattle.std.proofs.Math.Seq.{drop-length, take-append_seam}
+use Rattle.client_core.specs.Calls.{Call, Connected, Send, Feed, ReadOne, Abort, Resume, Leave, Restart, Sent, possible, done_by, behind_call, behind_calls}
+use Rattle.contact_ledger.specs.declared.acts.Act.{Act}
+use Rattle.contact_ledger.specs.Lines.{text_of}
+use Rattle.dmis_program.specs.Meaning.{Meaning}
+use Rattle.dmis_program.specs.Programs.{IsProgram}
+use Rattle.dmis_program.specs.declared.features.Wanted.{Wanted}
+use Rattle.link_world.specs.Showing.{IsRunCall}
+use Rattle.protocol_model.specs.Ends.{ClientEnd, new_client_end, end_connected}
+use Rattle.record_keeping.specs.Beginnings.{BeginsWith}
+use Rattle.record_keeping.specs.Growths.{Growth}
+use Rattle.record_keeping.specs.declared.opening.Beginning.{Beginning}
+use Rattle.record_laws.proofs.Killed.{says_what_was_told}
+use Rattle.record_laws.specs.Recordings.{Pair, Moment, Calls, Tell, told_now, behind_moments, calls_in, recorded_by, Fits, AreErrors, AreFit, AreWritten}
+use Rattle.record_laws.specs.Runs.{run_begun, IsRecordOf, IsKilledRun}
+use Rattle.run_record.specs.Entries.{entry_line}
+use Rattle.run_record.specs.Heads.{IsPartGiven, AreAsked}
+use Rattle.run_record.specs.Tellings.{entries_of}
+use Rattle.told_acts.specs.Told.{numbered, told_by, told_behind}
+use Rattle.run_session.specs.Records.{Ran, begins, calls, tells, HaveLines, State, Outside, IsKept}
+use Rattle.run_session.specs.Killed.{IsBegun, IsLeft}
+use Rattle.run_session.proofs.Filing.{grows}
+use Rattle.run_session.proofs.Kept.{call_keeps, Stays, Reports, call_reports}
+
+same_cond : (b : Bool) (g : Growth) → cond b g g ≡ g
+same_cond true g = refl
+same_cond false g = refl
+
+-- a call that begins no plan changes nothing of the record
+same_growth : (call : Call) (e : ClientEnd) (g : Growth) → IsRunCall call → cond (possible call e) (recorded_by call e g) g ≡ g
+same_growth (Connected n) e g h = absurd h
+same_growth Resume e g h = absurd h
+same_growth (Restart k) e g h = absurd h
+same_growth Send e g h = same_cond (possible Send e) g
+same_growth (Feed bytes) e g h = same_cond (possible (Feed bytes) e) g
+same_growth ReadOne e g h = same_cond (possible ReadOne e) g
+same_growth Abort e g h = same_cond (possible Abort e) g
+same_growth Leave e g h = same_cond (possible Leave e) g
+same_growth (Sent k) e g h = same_cond (possible (Sent k) e) g
+
+run_fits : (first : ℕ) (call : Call) (e : ClientEnd) → IsRunCall call → Fits first call e
+run_fits first (Connected n) e h = absurd h
+run_fits first Resume e h = tt
+run_fits first (Restart k) e h = absurd h
+run_fits first Send e h = tt
+run_fits first (Feed bytes) e h = tt
+run_fits first ReadOne e h = tt
+run_fits first Abort e h = tt
+run_fits first Leave e h = tt
+run_fits first (Sent k) e h = tt
+
+are_errors : (errors : List (List ℕ)) (last : ℕ) → HaveLines errors → 1 ≤ last → AreErrors errors last
+are_errors [] last h some = tt
+are_errors (e ∷ errors) last h some = (h.0, some, are_errors errors last h.1 some)
+
+-- a run keeps the number of its connection
+ran_last : (first p : Pair) → Ran first p → p.end.client.last ≡ first.end.client.last
+ran_last first _ begins = refl
+ran_last first _ (calls p call r is) = Stays.last (call_keeps call p.end is) ∙ ran_last first p r
+ran_last first _ (tells p lacks errors r lines) = ran_last first p r
+
+-- the moments from one pair to another
+record Moments (n : ℕ) (p q : Pair) : Type 0 where
+  moments : List Moment
+  leads : behind_moments moments p ≡ q
+  fit : AreFit n moments p.end
+  reports : Reports p.end (calls_in moments)
+
+before : (n : ℕ) (first p q : Pair) → 1 ≤ first.end.client.last → Ran first p → Moments n p q → Moments n first q
+before n first _ q some begins s = s
+before n first _ q some (calls p call r is) s = before n first p q some r (record {
+  moments = Calls call ∷ s.moments;
+  leads = ap (λ (g : Growth). behind_moments s.moments (record { end = behind_call call p.end; recording = g }))
+      (same_growth call p.end p.recording is) ∙ s.leads;
+  fit = (run_fits n call p.end is, s.fit);
+  reports = call_reports call (calls_in s.moments) p.end is s.reports;
+})
+before n first _ q some (tells p lacks errors r lines) s = before n first p q some r (record {
+  moments = Tell lacks errors ∷ s.moments;
+  leads = s.leads;
+  fit = (are_errors errors p.end.client.last lines (subst (λ (k : ℕ). 1 ≤ k) (sym (ran_last first p r)) some), s.fit);
+  reports = s.reports;
+})
+
+moments_of : (n : ℕ) (first p : Pair) → 1 ≤ first.end.client.last → Ran first p → Moments n first p
+moments_of n first p some r = before n first p p some r (record {
+  moments = [];
+  leads = refl;
+  fit = tt;
+  reports = record { more = []; acts = sym (append-nil p.end.client.table.tally.counted); told = refl };
+})
+
+has_number : (part : Option (List ℕ)) (ws : List Wanted) (bytes : List ℕ) (b : Beginning) → BeginsWith part ws bytes b → 1 ≤ b.connection
+has_number part ws bytes b (inl h) = let is = h.1.connection in omega (arith, is)
+has_number part ws bytes b (inr h) = let is = h.3.connection in omega (arith, is)
+
+has_held : (part : Option (List ℕ)) (ws : List Wanted) (bytes : List ℕ) (b : Beginning) → BeginsWith part ws bytes b
+    → b.held ≤ length b.text.items
+has_held part ws bytes b (inl h) = let is = h.1.held in omega (arith, is)
+has_held part ws bytes b (inr h) = let is = h.3.held in omega (arith, is)
+
+now : (call : Call) (e : ClientEnd) (b : Bool) → b ≡ true → cond b (done_by call e) e ≡ done_by call e
+now call e true may = refl
+now call e false may = absurd (false≢true may)
+
+-- before the connection is made nothing is due
+begun_same : (p : Meaning) (window : ℕ) (b : Beginning) (x : Bool)
+    → cond x (recorded_by (Connected b.connection) (run_begun p window b).end (run_begun p window b).recording)
+    (run_begun p window b).recording ≡ (run_begun p window b).recording
+begun_same p window b true = ap (λ (t : List ℕ). record (run_begun p window b).recording { text = t }) (append-nil b.text.items)
+begun_same p window b false = refl
+
+-- what is left has at least what the record began with
+held_most : (held first moment safe left a b c : ℕ) → held ≤ first → moment ≡ first + a → safe ≡ moment + b → left ≡ safe + c → held ≤ left
+held_most held first moment safe left a b c h f m s = omega (arith, h, f, m, s)
+
+-- a run as its moments, the first of which is that the client comes to the connection
+record Led (p : Meaning) (b : Beginning) (window : ℕ) (q : Pair) : Type 0 where
+  moments : List Moment
+  fit : AreFit b.connection moments (new_client_end p b.features window)
+  leads : behind_moments moments (run_begun p window b) ≡ q
+  told : told_behind (calls_in moments) (new_client_end p b.features window) ≡ numbered b.connection q.end.client.table.tally.counted
+
+ends : (ms : List Moment) (q : Pair) → (behind_moments ms q).end ≡ behind_calls (calls_in ms) q.end
+ends [] q = refl
+ends (Calls call ∷ ms) q = ends ms _
+ends (Tell lacks errors ∷ ms) q = ends ms _
+
+led : (p : Meaning) (part : Option (List ℕ)) (bytes : List ℕ) (b : Beginning) (window : ℕ) (first q : Pair)
+    → IsBegun p part bytes b window first → Ran first q → Led p b window q
+led p part bytes b window first q h ran = record {
+  moments = Calls (Connected b.connection) ∷ m.moments;
+  fit = (least b.connection, subst (λ (e : ClientEnd). AreFit b.connection m.moments e) joined m.fit);
+  leads = ap (λ (x : Pair). behind_moments m.moments x) begun_is ∙ m.leads;
+  told = ap (λ (l : List (ℕ × Act)). l ++ told_behind (calls_in m.moments) (behind_call (Connected b.connection) start)) none
+      ∙ (ap (told_behind (calls_in m.moments)) (sym joined) ∙ counts);
+}
+  where
+    start : ClientEnd
+    start = new_client_end p b.features window
+
+    is_now : behind_call (Connected b.connection) start ≡ end_connected b.connection start
+    is_now = now (Connected b.connection) start (possible (Connected b.connection) start) h.can
+
+    joined : first.end ≡ behind_call (Connected b.connection) start
+    joined = ap (λ (x : Pair). x.end) h.start ∙ sym is_now
+
+    least : (n : ℕ) → n ≤ n
+    least n = omega arith
+
+    some : 1 ≤ first.end.client.last
+    some = subst (λ (x : Pair). 1 ≤ x.end.client.last) (sym h.start) (has_number part p.features bytes b h.begins)
+
+    m : Moments b.connection first q
+    m = moments_of b.connection first q some ran
+
+    begun_is : behind_moments (Calls (Connected b.connection) ∷ []) (run_begun p window b) ≡ first
+    begun_is = ap (λ (g : Growth). record { end = behind_call (Connected b.connection) start; recording = g })
+        (begun_same p window b (possible (Connected b.connection) start))
+        ∙ (ap (λ (e : ClientEnd). record { end = e; recording = (run_begun p window b).recording }) is_now ∙ sym h.start)
+
+    none : told_by (Connected b.connection) start ≡ []
+    none = ap (λ (e : ClientEnd). numbered e.client.table.tally.connection e.client.table.tally.counted) is_now
+
+    more_is : m.reports.more ≡ q.end.client.table.tally.counted
+    more_is = sym (ap (λ (l : List Act). l ++ m.reports.more) (ap (λ (x : Pair). x.end.client.table.tally.counted) h.start))
+        ∙ (sym m.reports.acts
+        ∙ ap (λ (e : ClientEnd). e.client.table.tally.counted) (sym (ends m.moments first) ∙ ap (λ (x : Pair). x.end) m.leads))
+
+    counts : told_behind (calls_in m.moments) first.end ≡ numbered b.connection q.end.client.table.tally.counted
+    counts = m.reports.told
+        ∙ (ap (λ (n : ℕ). numbered n m.reports.more) (ap (λ (x : Pair). x.end.client.table.tally.connection) h.start)
+        ∙ ap (numbered b.connection) more_is)
+
+pub killed : (p : Meaning) (part : Option (List ℕ)) (bytes : List ℕ) (b : Beginning) (window : ℕ) (first : Pair) (s : State) (o : Outside)
+    (left : List ℕ) → IsBegun p part bytes b window first → IsKept first s o
+    → AreWritten (numbered b.connection s.pair.end.client.table.tally.counted) → IsLeft o left → IsKilledRun p part bytes left
+killed p part bytes b window first s o left h k written is =
+    let l : Led p b window s.pair = led p part bytes b window first s.pair h k.ran in
+    let at = grows first k.safe.moment k.safe.ran in
+    record {
+      begun = b;
+      begins = h.begins;
+      window = window;
+      moments = l.moments;
+      fit = l.fit;
+      written = subst AreWritten (sym l.told) written;
+      count = length left;
+      held = held_most b.held (length b.text.items) (length k.safe.moment.recording.text) (length o.safe) (length left)
+          (length at.0) (length k.safe.rest) (length is.more)
+          (has_held part p.features bytes b h.begins)
+          (ap length (at.1 ∙ ap (λ (t : List ℕ). t ++ at.0) (ap (λ (x : Pair). x.recording.text) h.start)) ∙ length-append b.text.items at.0)
+          (sym (ap length k.safe.text) ∙ length-append k.safe.moment.recording.text k.safe.rest)
+          (sym (ap length is.safe) ∙ length-append o.safe is.more);
+      left = sym (ap (λ (x : Pair). take (length left) x.recording.text) l.leads
+          ∙ (ap (take (length left)) (sym k.front.1 ∙ (ap (λ (t : List ℕ). t ++ k.front.0) (sym is.file) ∙ append_assoc left is.rest k.front.0))
+          ∙ take-append_seam left (is.rest ++ k.front.0)));
+    }
+
+-- then nothing is due
+nothing_due : (e : ClientEnd) (g : Growth) → g.told ≡ length e.client.table.tally.counted → (told_now e g).text ≡ g.text
+nothing_due e g all =
+    ap (λ (l : List Act). g.text
+    ++ text_of (map entry_line (entries_of e.client.program.features g.telling.connection g.telling.counted l)))
+    (ap (λ (k : ℕ). drop k e.client.table.tally.counted) all ∙ drop-length e.client.table.tally.counted)
+    ∙ append-nil g.text
+
+pub whole : (p : Meaning) (part : Option (List ℕ)) (bytes : List ℕ) (b : Beginning) (window : ℕ) (first : Pair) (s : State) (o : Outside)
+    → IsProgram p → IsPartGiven part → AreAsked p.features → IsBegun p part bytes b window first → IsKept first s o
+    → AreWritten (numbered b.connection s.pair.end.client.table.tally.counted)
+    → s.pair.recording.told ≡ length s.pair.end.client.table.tally.counted → o.file ≡ s.pair.recording.text
+    → IsRecordOf part p.features s.pair.end.client.table.tally.features
+    (b.told ++ numbered b.connection s.pair.end.client.table.tally.counted) o.file
+whole p part bytes b window first s o program given asked h k written all file =
+    let l : Led p b window s.pair = led p part bytes b window first s.pair h k.ran in
+    let start : ClientEnd = new_client_end p b.features window in
+    let says = says_what_was_told p part bytes b window l.moments program given asked h.begins l.fit (subst AreWritten (sym l.told) written) in
+    let end : behind_calls (calls_in l.moments) start ≡ s.pair.end =
+    sym (ends l.moments (run_begun p window b)) ∙ ap (λ (x : Pair). x.end) l.leads in
+    subst (λ (t : List ℕ). IsRecordOf part p.features s.pair.end.client.table.tally.features
+    (b.told ++ numbered b.connection s.pair.end.client.table.tally.counted) t)
+    (ap (λ (x : Pair). (told_now x.end x.recording).text) l.leads ∙ (nothing_due s.pair.end s.pair.recording all ∙ sym file))
+    (subst (λ (e : ClientEnd). IsRecordOf part p.features e.client.table.tally.features
+    (b.told ++ numbered b.connection s.pair.end.client.table.tally.counted)
+    (told_now (behind_moments l.moments (run_begun p window b)).end (behind_moments l.moments (run_begun p window b)).recording).text) end
+    (subst (λ (told : List (ℕ × Act)). IsRecordOf part p.features (behind_calls (calls_in l.moments) start).client.table.tally.features
+    (b.told ++ told)
+    (told_now (behind_moments l.moments (run_begun p window b)).end (behind_moments l.moments (run_begun p window b)).recording).text) l.told says))

@@ -1,0 +1,12 @@
+use Rattle.run_session.proofs.Filing.{new_kept}
+use Rattle.run_session.proofs.Moments.{killed, whole}
+use Rattle.run_session.proofs.laws.runs_keep_their_records.Goals as goal
+
+pub returns-clause-begins : goal.returns-clause-begins
+returns-clause-begins c = new_kept
+
+pub returns-clause-whole : goal.returns-clause-whole
+returns-clause-whole c = whole
+
+pub returns-clause-killed : goal.returns-clause-killed
+returns-clause-killed c = killed

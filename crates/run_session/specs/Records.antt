@@ -1,0 +1,204 @@
+-- What a run's client and its record are after any answers, and what the record's file has (this profile).
+use Rattle.std.specs.Prelude.{◌≡◌, ◌≤◌, ⊤, ℕ, Bool, true, false, if◌then◌else◌, Option, None, Some, List, [], ◌++◌, length, take, drop}
+use Rattle.std.specs.List.{AllByRecursion}
+use Rattle.client_core.specs.Calls.{Call, behind_call}
+use Rattle.link_world.specs.Reports.{report_text}
+use Rattle.link_world.specs.Showing.{IsRunCall}
+use Rattle.run_record.specs.Entries.{IsRefusal, kept_error}
+use Rattle.record_keeping.specs.Growths.{with_errors}
+use Rattle.record_laws.specs.Recordings.{Pair, told_unless}
+use Rattle.effects.specs.declared.vocabulary.Growth.TheVariants as growth
+use Rattle.effects.specs.declared.vocabulary.Peer.TheVariants.{Server}
+use Rattle.effects.specs.Effects.{Ask, Append, Keep, Send, Replace, Print, Reply, Done}
+use Rattle.dme_orders.specs.Ends.{end_shown}
+use Rattle.dme_orders.specs.OfRecords.{IsFeaturesText}
+use Rattle.run_session.specs.declared.stages.Stage.{Stage}
+use Rattle.run_session.specs.declared.stages.Stage.TheVariants as stage
+
+-- each of these errors of a server has a line in a record
+abbrev pub HaveLines : List (List ℕ) → Type 0
+HaveLines errors = AllByRecursion (λ error. IsRefusal (kept_error error)) errors
+
+-- a client on its connection and its record, from what both were at first: the client makes calls of its own; and the record gets the lines
+-- of what the client has counted, unless memory runs out for them, and those of errors of its server
+pub data Ran (first : Pair) : Pair → Type 0 where
+  begins : Ran first first
+  calls : (p : Pair) (call : Call) → Ran first p → IsRunCall call
+      → Ran first (record { end = behind_call call p.end; recording = p.recording })
+  tells : (p : Pair) (lacks : Bool) (errors : List (List ℕ)) → Ran first p → HaveLines errors
+      → Ran first (record { end = p.end; recording = with_errors errors (told_unless lacks p.end p.recording) })
+
+-- both are later so
+abbrev pub Keeps : Pair → Pair → Type 0
+Keeps old new = (first : Pair) → Ran first old → Ran first new
+
+-- what is known of the record's file
+pub record Book : Type 0 where
+  pub lost : Bool  -- whether it could not be kept
+  pub filed : ℕ  -- how many bytes of the record's text it has
+  pub settled : ℕ  -- how many features are complete in what no crash takes away
+
+pub record State : Type 0 where
+  pub stage : Stage
+  pub pair : Pair
+  pub book : Book
+  pub text : List ℕ  -- what is printed at the end
+  pub list : List ℕ  -- what the features file is to have
+
+-- what the record's file has: with what may not be on the device, and what no crash takes away
+pub record Outside : Type 0 where
+  pub file : List ℕ
+  pub safe : List ℕ
+
+-- what the file lacks of the record's text, if it could be kept so far
+abbrev pub lacking : State → List ℕ
+lacking s = if s.book.lost then [] else drop s.book.filed s.pair.recording.text
+
+-- whether a stage writes to the record's file, and forces it to the device
+abbrev pub writes : Stage → Option Bool
+writes stage.Recording = Some false
+writes stage.Settling = Some true
+writes s = None
+
+-- the file after an answer; one that was not written has the first bytes of what was to be added, n of them
+abbrev pub appended : ℕ → List ℕ → Reply → Outside → Outside
+appended n text Done o = record o { file = o.file ++ text }
+appended n text reply o = record o { file = o.file ++ take n text }
+
+abbrev pub kept : ℕ → List ℕ → Reply → Outside → Outside
+kept n text Done o = record { file = o.file ++ text; safe = o.file ++ text }
+kept n text reply o = record o { file = o.file ++ take n text }
+
+abbrev pub outcome_by : ℕ → Option Bool → List ℕ → Reply → Outside → Outside
+outcome_by n None text reply o = o
+outcome_by n (Some false) text reply o = appended n text reply o
+outcome_by n (Some true) text reply o = kept n text reply o
+
+abbrev pub outcome : ℕ → State → Reply → Outside → Outside
+outcome n s reply o = outcome_by n (writes s.stage) (lacking s) reply o
+
+-- what no crash takes away has all that the record had at some moment of the run, when that many features were complete
+pub record IsSafe (first : Pair) (count : ℕ) (safe : List ℕ) : Type 0 where
+  pub moment : Pair
+  pub ran : Ran first moment
+  pub rest : List ℕ
+  pub text : moment.recording.text ++ rest ≡ safe
+  pub features : count ≤ moment.recording.telling.counted.features
+
+-- what holds before each effect: the client and the record are those of a run that has begun; the file has the first bytes of the record's
+-- text, as many as are known unless it could not be kept; and the features that count as settled are safe
+pub record IsKept (first : Pair) (s : State) (o : Outside) : Type 0 where
+  pub ran : Ran first s.pair
+  pub front : (rest : List ℕ) × (o.file ++ rest ≡ s.pair.recording.text)
+  pub filed : s.book.lost ≡ false → length o.file ≡ s.book.filed
+  pub within : (rest : List ℕ) × (o.safe ++ rest ≡ o.file)
+  pub safe : IsSafe first s.book.settled o.safe
+
+-- it holds after an answer, too, however much of a text that was not written the file has
+abbrev pub GoesOn : State → Reply → State → Type 0
+GoesOn s reply t = (first : Pair) (o : Outside) (n : ℕ) → IsKept first s o → IsKept first t (outcome n s reply o)
+
+-- what is known of the file once it has all of the record's text, and that is forced or not
+abbrev pub filed_by : Option Bool → State → Book
+filed_by (Some true) s = record {
+  lost = s.book.lost;
+  filed = length s.pair.recording.text;
+  settled = s.pair.recording.telling.counted.features;
+}
+filed_by forced s = record (s.book) { filed = length s.pair.recording.text }
+
+abbrev pub filed : State → Book
+filed s = filed_by (writes s.stage) s
+
+-- the stages before the client sends
+abbrev pub is_before : Stage → Bool
+is_before stage.Logged = true
+is_before stage.Connecting = true
+is_before stage.Pausing = true
+is_before stage.Limiting = true
+is_before stage.MakingFeatures = true
+is_before stage.BeginningFeatures = true
+is_before stage.MakingContacts = true
+is_before stage.BeginningContacts = true
+is_before s = false
+
+-- those on the connection
+abbrev pub is_while : Stage → Bool
+is_while stage.Receiving = true
+is_while stage.Draining = true
+is_while stage.Sending = true
+is_while stage.Tracing = true
+is_while stage.Stamping = true
+is_while stage.Logging = true
+is_while stage.Recording = true
+is_while stage.Settling = true
+is_while stage.Reporting = true
+is_while stage.Warning = true
+is_while stage.Listing = true
+is_while stage.Showing = true
+is_while s = false
+
+-- those at the end
+abbrev pub is_at_end : Stage → Bool
+is_at_end stage.ReplacingFeatures = true
+is_at_end stage.Printing = true
+is_at_end stage.Parting = true
+is_at_end stage.Closing = true
+is_at_end stage.Leaving = true
+is_at_end stage.DiscardingFeatures = true
+is_at_end stage.DiscardingContacts = true
+is_at_end stage.Standing = true
+is_at_end stage.ReplacingRecord = true
+is_at_end stage.ReplacingContacts = true
+is_at_end stage.Ending = true
+is_at_end stage.Telling = true
+is_at_end stage.Exiting = true
+is_at_end s = false
+
+abbrev pub IsReplace : List ℕ → Ask → Type 0
+IsReplace text (Replace name beside whole) = whole ≡ text
+IsReplace text ask = ⊥
+
+-- what is asked: of the effects on the record's file, only what its stage says
+abbrev pub IsQuietAsk : Ask → Type 0
+IsQuietAsk (Append growth.Record text) = ⊥
+IsQuietAsk (Keep growth.Record text) = ⊥
+IsQuietAsk ask = ⊤
+
+abbrev pub AsksAt : Stage → State → Ask → Type 0
+AsksAt stage.Recording s ask = ask ≡ Append growth.Record (lacking s)
+AsksAt stage.Settling s ask = ask ≡ Keep growth.Record (lacking s)
+AsksAt stage.Sending s ask = ask ≡ Send Server s.pair.end.out
+AsksAt stage.ReplacingRecord s ask = IsReplace s.pair.recording.text ask
+AsksAt stage.ReplacingFeatures s ask = IsReplace s.list ask
+AsksAt stage.Printing s ask = ask ≡ Print s.text
+AsksAt st s ask = IsQuietAsk ask
+
+abbrev pub Asks : State → Ask → Type 0
+Asks s ask = AsksAt s.stage s ask
+
+-- what holds besides before an effect is asked for: what is printed is the client's report; what replaces the features file are the features
+-- that the client holds; and what is added to the record without being forced completes no feature
+pub data Want : Type 0 where
+  Report : Want
+  Features : Want
+  Unforced : Want
+
+abbrev pub wants : Stage → Option Want
+wants stage.Printing = Some Report
+wants stage.ReplacingFeatures = Some Features
+wants stage.Recording = Some Unforced
+wants s = None
+
+abbrev pub IsDueBy : Option Want → State → Type 0
+IsDueBy None s = ⊤
+IsDueBy (Some Report) s = s.text ≡ report_text (end_shown s.pair.end)
+IsDueBy (Some Features) s = IsFeaturesText s.pair.end.client.table.tally.features s.list
+IsDueBy (Some Unforced) s = s.pair.recording.telling.counted.features ≤ s.book.settled
+
+abbrev pub IsDue : State → Type 0
+IsDue s = IsDueBy (wants s.stage) s
+
+-- what is neither the client's nor the record's changes
+abbrev pub IsQuiet : State → State → Type 0
+IsQuiet s t = t ≡ record s { stage = t.stage; text = t.text; list = t.list }

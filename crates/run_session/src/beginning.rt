@@ -1,0 +1,92 @@
+// The connection is made: the files that are replaced begin to grow.
+
+ghost use Rattle.std.specs.Prelude.{◌≡◌, OnOk};
+ghost use Rattle.run_session.specs.Records as spec;
+
+use crate::runs::Kept;
+use crate::{Session, Stage};
+use effects::Answer;
+use session_parts::{cause_of, why_unwritten};
+use std::alloc::AllocError;
+
+impl Session {
+    /// The features file gets the features that the client holds, if it grows.
+    pub(crate) fn begin_features(&mut self) -> Result<(), AllocError>
+        ensures ran { spec.Keeps self.old.pair self.new.pair }
+        ensures book { self.new.book ≡ self.old.book }
+        ensures due { OnOk result (spec.IsDue self.new) }
+    {
+        if !self.run.grows(Kept::Features) {
+            return self.begin_contacts();
+        }
+        self.listed.whole(self.alloc, &self.client)?;
+        self.stage = Stage::MakingFeatures;
+        Ok(())
+    }
+
+    /// The file of contacts gets the acts that were reported before, if it grows.
+    fn begin_contacts(&mut self) -> Result<(), AllocError>
+        ensures ran { spec.Keeps self.old.pair self.new.pair }
+        ensures book { self.new.book ≡ self.old.book }
+        ensures due { OnOk result (spec.IsDue self.new) }
+    {
+        if self.run.grows(Kept::Contacts) {
+            self.stage = Stage::MakingContacts;
+            Ok(())
+        } else {
+            self.join()
+        }
+    }
+
+    /// Commands are sent from now on.
+    fn join(&mut self) -> Result<(), AllocError>
+        ensures ran { spec.Keeps self.old.pair self.new.pair }
+        ensures book { self.new.book ≡ self.old.book }
+        ensures due { OnOk result (spec.IsDue self.new) }
+    {
+        self.is_on = true;
+        self.has_begun = true;
+        self.go_on()
+    }
+
+    /// A file cannot be written: the run ends before it has sent anything.
+    fn refuse(&mut self, kept: Kept, answer: Answer<'_>) -> Result<(), AllocError>
+        ensures quiet { spec.IsQuiet self.old self.new }
+        ensures due { OnOk result (spec.IsDue self.new) }
+    {
+        let why = why_unwritten(cause_of(answer));
+        let name = self.run.name(kept);
+        self.verdict = format!(in self.alloc; "dme: cannot write {name}{why}\n")?;
+        self.status = 1;
+        self.stage = Stage::Leaving;
+        Ok(())
+    }
+
+    /// The features file begins, and then that of contacts.
+    pub(crate) fn begin(&mut self, answer: Answer<'_>) -> Result<(), AllocError>
+        ensures ran { spec.Keeps self.old.pair self.new.pair }
+        ensures book { self.new.book ≡ self.old.book }
+        ensures due { OnOk result (spec.IsDue self.new) }
+    {
+        match (self.stage, answer) {
+            (_, Answer::Short) => Err(AllocError),
+            (Stage::MakingFeatures, Answer::Done | Answer::Found) => {
+                self.stage = Stage::BeginningFeatures;
+                Ok(())
+            }
+            (Stage::BeginningFeatures, Answer::Done) => {
+                self.listed.settle();
+                self.begin_contacts()
+            }
+            (Stage::MakingContacts, Answer::Done | Answer::Found) => {
+                self.stage = Stage::BeginningContacts;
+                Ok(())
+            }
+            (Stage::BeginningContacts, Answer::Done) => self.join(),
+            (Stage::MakingFeatures | Stage::BeginningFeatures, _) => {
+                self.refuse(Kept::Features, answer)
+            }
+            _ => self.refuse(Kept::Contacts, answer),
+        }
+    }
+}

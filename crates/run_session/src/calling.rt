@@ -1,0 +1,163 @@
+// Before the connection: the log is opened, and the server is called.
+
+ghost use Rattle.std.specs.Prelude.{◌≡◌, OnOk, None};
+ghost use Rattle.run_session.specs.Records as spec;
+
+use crate::sessions::LOOK_MS;
+use crate::{Session, Stage};
+use dme_orders::{RunEnding, refused_call};
+use effects::{Answer, Cause};
+use refusal_guide::unknown_host;
+use session_parts::{cause_of, why_unconnected};
+use std::alloc::AllocError;
+
+/// The exit status of a run that its stop file has kept from beginning: that of a run that is Halted.
+const NOT_BEGUN: u8 = 3;
+
+impl Session {
+    /// What comes after the log.
+    pub(crate) fn after_log(&self) -> Stage
+        ensures { spec.wants result ≡ None }
+    {
+        if self.run.wait.is_some() {
+            Stage::Beginning
+        } else {
+            self.before_call()
+        }
+    }
+
+    /// What comes before the server is called.
+    fn before_call(&self) -> Stage
+        ensures { spec.wants result ≡ None }
+    {
+        if self.run.stop.is_some() {
+            Stage::Peeking
+        } else {
+            Stage::Connecting
+        }
+    }
+
+    /// The log cannot be written, and is left alone: that is to be shown.
+    pub(crate) fn lose_log(&mut self) -> Result<(), AllocError>
+        ensures { self.new ≡ self.old }
+    {
+        self.is_logged = false;
+        if !self.run.trace {
+            self.lines.stop();
+        }
+        let name = self.run.log.as_deref().unwrap_or("");
+        let message = format!(in self.alloc; "dme: cannot write {name}\n")?;
+        self.shown.push_str(message.as_str())
+    }
+
+    /// The stop file is there: nothing was begun.
+    fn not_begun(&mut self) -> Result<(), AllocError>
+        ensures quiet { spec.IsQuiet self.old self.new }
+        ensures due { OnOk result (spec.IsDue self.new) }
+    {
+        let name = self.run.stop_name();
+        let line = format!(in self.alloc; "dme: {name} exists: nothing was begun\n")?;
+        self.unwritten.push_str(line.as_str())?;
+        self.early = Some(RunEnding::NotBegun);
+        self.status = NOT_BEGUN;
+        self.stage = Stage::Leaving;
+        Ok(())
+    }
+
+    /// The server was not reached, for the cause that is known last.
+    fn uncalled(&mut self) -> Result<(), AllocError>
+        ensures quiet { spec.IsQuiet self.old self.new }
+        ensures due { OnOk result (spec.IsDue self.new) }
+    {
+        let host = self.run.host.as_str();
+        let line = match self.missed {
+            Cause::UnknownHost => unknown_host(self.alloc, host)?,
+            Cause::Refused => refused_call(self.alloc, host, self.run.port)?,
+            cause => String::from_str(self.alloc, why_unconnected(cause))?,
+        };
+        self.verdict = format!(in self.alloc; "dme: connection failed\n{line}")?;
+        self.status = 1;
+        self.stage = Stage::Leaving;
+        Ok(())
+    }
+
+    /// An attempt has failed.
+    fn miss(&mut self, cause: Cause) -> Result<(), AllocError>
+        ensures quiet { spec.IsQuiet self.old self.new }
+        ensures due { OnOk result (spec.IsDue self.new) }
+    {
+        self.missed = cause;
+        if self.run.wait.is_some() {
+            self.stage = Stage::Elapsing;
+            Ok(())
+        } else {
+            self.uncalled()
+        }
+    }
+
+    /// Another attempt is made, if there is time for one at this moment.
+    fn try_again(&mut self, now: u64) -> Result<(), AllocError>
+        ensures quiet { spec.IsQuiet self.old self.new }
+        ensures due { OnOk result (spec.IsDue self.new) }
+    {
+        let most = u64::from(self.run.wait.unwrap_or(0)) * 1000;
+        self.left = most.saturating_sub(now.saturating_sub(self.began));
+        if self.left > LOOK_MS {
+            self.stage = Stage::Pausing;
+            Ok(())
+        } else {
+            self.uncalled()
+        }
+    }
+
+    /// The connection is made.
+    fn connected(&mut self) -> Result<(), AllocError>
+        ensures ran { spec.Keeps self.old.pair self.new.pair }
+        ensures book { self.new.book ≡ self.old.book }
+        ensures due { OnOk result (spec.IsDue self.new) }
+    {
+        if self.run.timeout.is_some() || self.run.stop.is_some() {
+            self.stage = Stage::Limiting;
+            Ok(())
+        } else {
+            self.begin_features()
+        }
+    }
+
+    /// What comes before the client is on its connection.
+    pub(crate) fn call(&mut self, answer: Answer<'_>) -> Result<(), AllocError>
+        ensures ran { spec.Keeps self.old.pair self.new.pair }
+        ensures book { self.new.book ≡ self.old.book }
+        ensures due { OnOk result (spec.IsDue self.new) }
+    {
+        match (self.stage, answer) {
+            (Stage::Logged, Answer::Done) => self.stage = self.after_log(),
+            (Stage::Logged, _) => {
+                self.lose_log()?;
+                self.stage = Stage::Warning;
+            }
+            (Stage::Warning, _) => {
+                self.shown.clear();
+                self.stage = self.after_log();
+            }
+            (Stage::Beginning, Answer::At(now)) => {
+                self.began = now;
+                self.stage = self.before_call();
+            }
+            (Stage::Peeking, Answer::Found) => return self.not_begun(),
+            (Stage::Peeking, _) => self.stage = Stage::Connecting,
+            (Stage::Connecting, Answer::Done) => return self.connected(),
+            (Stage::Elapsing, Answer::At(now)) => return self.try_again(now),
+            (Stage::Pausing, _) => self.stage = self.before_call(),
+            (Stage::Limiting, Answer::Done) => return self.begin_features(),
+            (_, Answer::Short) => return Err(AllocError),
+            (Stage::Connecting, _) => return self.miss(cause_of(answer)),
+            (Stage::Elapsing, _) => return self.uncalled(),
+            _ => {
+                self.missed = cause_of(answer);
+                return self.uncalled();
+            }
+        }
+        Ok(())
+    }
+}

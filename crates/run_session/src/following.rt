@@ -1,0 +1,321 @@
+// What the client has counted goes to the files, and the features that are complete are shown.
+
+ghost use Rattle.std.specs.Prelude.{◌≡◌, ◌<◌, map, length, true, IsNone, IfSome, is_some, OnOk};
+ghost use Rattle.effects.specs.Effects.{the_reply};
+ghost use Rattle.run_record.specs.Entries.{IsRefusal, kept_error};
+ghost use Rattle.run_session.specs.Records as spec;
+
+use crate::runs::Kept;
+use crate::{Session, Stage};
+use effects::{Answer, Cause};
+use session_parts::{cause_of, stamped, why_unwritten};
+use std::alloc::AllocError;
+
+/// Whether an error has a line: it is not empty.
+fn has_line(error: &[u8]) -> bool
+    ensures { result ≡ true → IsRefusal (kept_error error.now) }
+{
+    !error.is_empty()
+}
+
+/// The place of the first error that has no line.
+fn first_without(errors: &[Vec<u8>]) -> Option<usize>
+    ensures within { IfSome result (λ at. at < length errors.now) }
+    ensures all { IsNone result → spec.HaveLines (map (λ e. e.items) errors.now) }
+{
+    for at in 0..errors.len() {
+        if !has_line(errors[at].as_slice()) {
+            return Some(at);
+        }
+    }
+    None
+}
+
+/// The errors that have lines.
+fn with_lines(mut errors: Vec<Vec<u8>>) -> Vec<Vec<u8>>
+    ensures { spec.HaveLines (map (λ e. e.items) result.items) }
+{
+    while let Some(at) = first_without(errors.as_slice()) {
+        errors.remove(at);
+    }
+    errors
+}
+
+impl Session {
+    /// The record gets the lines of what the client has counted since. Fails only if out of memory.
+    fn tell_acts(&mut self) -> Result<(), AllocError>
+        ensures ran { spec.Keeps self.old.pair self.new.pair }
+        ensures book { self.new.book ≡ self.old.book }
+    {
+        self.growth.tell(&self.client)
+    }
+
+    /// The record gets the lines of the errors that were shown since. Fails only if out of memory.
+    fn tell_errors(&mut self) -> Result<(), AllocError>
+        ensures ran { spec.Keeps self.old.pair self.new.pair }
+        ensures book { self.new.book ≡ self.old.book }
+    {
+        let errors = with_lines(self.errors.take());
+        self.growth.tell_errors(errors.as_slice())
+    }
+
+    /// What the client has counted since, and the errors of its server, are to be in the files.
+    pub(crate) fn follow(&mut self) -> Result<(), AllocError>
+        ensures ran { spec.Keeps self.old.pair self.new.pair }
+        ensures book { self.new.book ≡ self.old.book }
+        ensures due { OnOk result (spec.IsDue self.new) }
+    {
+        if self.run.record.is_some() {
+            self.tell_acts()?;
+            self.tell_errors()?;
+        }
+        if self.run.contacts.is_some() {
+            self.reported.follow(self.number, &self.client)?;
+        }
+        if self.run.grows(Kept::Features) {
+            self.listed.follow(self.alloc, &self.client)?;
+        }
+        self.show()
+    }
+
+    /// Errors, and lines that have ended, are shown and logged.
+    pub(crate) fn show(&mut self) -> Result<(), AllocError>
+        ensures ran { spec.Keeps self.old.pair self.new.pair }
+        ensures book { self.new.book ≡ self.old.book }
+        ensures due { OnOk result (spec.IsDue self.new) }
+    {
+        if self.shown.is_empty() {
+            return self.log();
+        }
+        self.stage = Stage::Tracing;
+        Ok(())
+    }
+
+    fn log(&mut self) -> Result<(), AllocError>
+        ensures ran { spec.Keeps self.old.pair self.new.pair }
+        ensures book { self.new.book ≡ self.old.book }
+        ensures due { OnOk result (spec.IsDue self.new) }
+    {
+        if self.logged.is_empty() {
+            return self.record();
+        }
+        self.stage = Stage::Stamping;
+        Ok(())
+    }
+
+    /// They were shown, or logged.
+    pub(crate) fn show_on(&mut self, answer: Answer<'_>) -> Result<(), AllocError>
+        ensures ran { spec.Keeps self.old.pair self.new.pair }
+        ensures book { self.new.book ≡ self.old.book }
+        ensures due { OnOk result (spec.IsDue self.new) }
+    {
+        match (self.stage, answer) {
+            (Stage::Tracing, _) => {
+                self.shown.clear();
+                self.log()
+            }
+            (Stage::Stamping, Answer::Bytes(time)) => {
+                self.text = stamped(self.alloc, time, self.logged.as_str())?;
+                self.stage = Stage::Logging;
+                Ok(())
+            }
+            (Stage::Logging, Answer::Done) => {
+                self.logged.clear();
+                self.record()
+            }
+            _ => {
+                self.logged.clear();
+                self.lose_log()?;
+                self.record()
+            }
+        }
+    }
+
+    /// The record gets what it lacks; forced, if that completes a feature.
+    fn record(&mut self) -> Result<(), AllocError>
+        ensures ran { spec.Keeps self.old.pair self.new.pair }
+        ensures book { self.new.book ≡ self.old.book }
+        ensures due { OnOk result (spec.IsDue self.new) }
+    {
+        if self.is_lost {
+            return self.report();
+        }
+        if self.growth.features() > self.settled {
+            self.stage = Stage::Settling;
+        } else if self.filed < self.growth.text().len() {
+            self.stage = Stage::Recording;
+        } else {
+            return self.report();
+        }
+        Ok(())
+    }
+
+    /// A file could not be kept: that is to be shown, unless it has lost its name, and is written anew at the end.
+    fn lose(&mut self, kept: Kept, cause: Cause, why: &str) -> Result<(), AllocError>
+        ensures { self.new ≡ self.old }
+    {
+        if let Cause::Renamed = cause {
+            return Ok(());
+        }
+        let name = self.run.name(kept);
+        let message = format!(in self.alloc; "dme: cannot write {name}{why}\n")?;
+        self.shown.push_str(message.as_str())
+    }
+
+    /// The record's file has all of its text.
+    fn file(&mut self)
+        ensures pair { self.new.pair ≡ self.old.pair }
+        ensures book { self.new.book ≡ spec.filed self.old }
+    {
+        self.filed = self.growth.text().len();
+        if let Stage::Settling = self.stage {
+            self.settled = self.growth.features();
+        }
+    }
+
+    /// The record's file could not be kept.
+    fn lose_record(&mut self)
+        ensures pair { self.new.pair ≡ self.old.pair }
+        ensures book { self.new.book ≡ record (self.old.book) { lost = true } }
+    {
+        self.is_lost = true;
+    }
+
+    /// The record has what it lacked, or cannot be kept.
+    pub(crate) fn recorded(&mut self, answer: Answer<'_>) -> Result<(), AllocError>
+        requires { is_some (spec.writes self.old.stage) ≡ true }
+        ensures goes { spec.GoesOn self.old (the_reply answer.entry) self.new }
+        ensures due { OnOk result (spec.IsDue self.new) }
+    {
+        match answer {
+            Answer::Done if !self.is_lost => {
+                self.file();
+                return self.report();
+            }
+            _ => {}
+        }
+        self.lose_record();
+        self.lose(Kept::Record, cause_of(answer), "")?;
+        self.report()
+    }
+
+    /// The file of contacts gets what it lacks.
+    fn report(&mut self) -> Result<(), AllocError>
+        ensures ran { spec.Keeps self.old.pair self.new.pair }
+        ensures book { self.new.book ≡ self.old.book }
+        ensures due { OnOk result (spec.IsDue self.new) }
+    {
+        let is_kept = self.run.grows(Kept::Contacts) && !self.reported.has_failed;
+        if !is_kept || self.reported.lacking().is_empty() {
+            return self.list();
+        }
+        self.stage = Stage::Reporting;
+        Ok(())
+    }
+
+    /// The file of contacts has it, or cannot be kept.
+    pub(crate) fn has_reported(&mut self, answer: Answer<'_>) -> Result<(), AllocError>
+        ensures ran { spec.Keeps self.old.pair self.new.pair }
+        ensures book { self.new.book ≡ self.old.book }
+        ensures due { OnOk result (spec.IsDue self.new) }
+    {
+        if let Answer::Done = answer {
+            self.reported.settle();
+            return self.list();
+        }
+        self.reported.has_failed = true;
+        let cause = cause_of(answer);
+        self.lose(Kept::Contacts, cause, why_unwritten(cause))?;
+        self.list()
+    }
+
+    /// The features file gets what is complete.
+    fn list(&mut self) -> Result<(), AllocError>
+        ensures ran { spec.Keeps self.old.pair self.new.pair }
+        ensures book { self.new.book ≡ self.old.book }
+        ensures due { OnOk result (spec.IsDue self.new) }
+    {
+        if self.listed.has_failed || self.listed.text.is_empty() {
+            return self.show_features();
+        }
+        self.stage = Stage::Listing;
+        Ok(())
+    }
+
+    /// The features file has it, or cannot be kept.
+    pub(crate) fn has_listed(&mut self, answer: Answer<'_>) -> Result<(), AllocError>
+        ensures ran { spec.Keeps self.old.pair self.new.pair }
+        ensures book { self.new.book ≡ self.old.book }
+        ensures due { OnOk result (spec.IsDue self.new) }
+    {
+        self.listed.settle();
+        if let Answer::Done = answer {
+            return self.show_features();
+        }
+        self.listed.has_failed = true;
+        let cause = cause_of(answer);
+        self.lose(Kept::Features, cause, why_unwritten(cause))?;
+        self.show_features()
+    }
+
+    /// The line of a feature, by its number among those of the program.
+    fn feature_line(&self, at: usize) -> Result<String, AllocError> {
+        let total = self.client.program().features().len();
+        let number = at.saturating_add(1);
+        match self.client.features().get(at) {
+            Some(feature) => {
+                let label = &feature.label;
+                format!(in self.alloc; "feature {number} of {total}: {label}\n")
+            }
+            None => Ok(String::new(self.alloc)),
+        }
+    }
+
+    /// The lines of the features up to this one that were not shown.
+    fn feature_lines(&self, count: usize) -> Result<String, AllocError> {
+        let mut lines = String::new(self.alloc);
+        for at in self.told..count {
+            let line = self.feature_line(at)?;
+            lines.push_str(line.as_str())?;
+        }
+        Ok(lines)
+    }
+
+    /// How many features may be shown: those that are in the record for good, if it could be kept so far.
+    fn complete(&self) -> usize {
+        if self.run.record.is_none() || self.is_lost {
+            self.client.features().len()
+        } else {
+            self.settled
+        }
+    }
+
+    /// The features that are complete since are shown, if asked.
+    fn show_features(&mut self) -> Result<(), AllocError>
+        ensures ran { spec.Keeps self.old.pair self.new.pair }
+        ensures book { self.new.book ≡ self.old.book }
+        ensures due { OnOk result (spec.IsDue self.new) }
+    {
+        let count = self.complete();
+        if self.run.progress {
+            let lines = self.feature_lines(count)?;
+            self.shown.push_str(lines.as_str())?;
+        }
+        self.told = count;
+        if self.shown.is_empty() {
+            return self.go_on();
+        }
+        self.stage = Stage::Showing;
+        Ok(())
+    }
+
+    /// They were shown.
+    pub(crate) fn has_shown(&mut self) -> Result<(), AllocError>
+        ensures ran { spec.Keeps self.old.pair self.new.pair }
+        ensures book { self.new.book ≡ self.old.book }
+        ensures due { OnOk result (spec.IsDue self.new) }
+    {
+        self.shown.clear();
+        self.go_on()
+    }
+}

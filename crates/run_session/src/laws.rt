@@ -1,0 +1,48 @@
+// What follows from the definitions. Each function has laws for its contract and does nothing.
+
+ghost use Rattle.std.specs.Prelude.{◌≡◌, ◌++◌, ℕ, List, Option, length, false};
+ghost use Rattle.dmis_program.specs.Meaning.{Meaning};
+ghost use Rattle.dmis_program.specs.Programs.{IsProgram};
+ghost use Rattle.run_record.specs.Heads.{IsPartGiven, AreAsked};
+ghost use Rattle.told_acts.specs.Told.{numbered};
+ghost use Rattle.record_keeping.specs.declared.opening.Beginning.{Beginning};
+ghost use Rattle.record_laws.specs.Recordings.{Pair, AreWritten};
+ghost use Rattle.record_laws.specs.Runs.{IsRecordOf, IsKilledRun};
+ghost use Rattle.run_session.specs.Records.{State, Outside, IsKept};
+ghost use Rattle.run_session.specs.Killed.{IsBegun, IsLeft};
+
+/// A run that begins as `begin_record` gives it (`IsBegun`):
+///
+/// - `begins`: a new session of it, whose record is on the device, `IsKept`; and so it stays, whatever is answered (`Session::take`);
+/// - `whole`: once the record has all that the client has counted, and the file has all of its text, the file holds a record of the part and
+/// the program, in which the completed features are exactly those that the client holds, and the acts exactly those that were found and then
+/// those that it has counted on its connection;
+/// - `killed`: while it is so, its record's file is what a killed run leaves, also if the program is killed and any of what is not on the device
+/// is lost: so `killed_runs_lose_nothing` speaks of it.
+///
+/// What is assumed: that each act that was counted can be written.
+pub fn runs_keep_their_records()
+    ensures begins { (s : State) → s.book ≡ record {
+      lost = false;
+      filed = length s.pair.recording.text;
+      settled = s.pair.recording.telling.counted.features;
+    }
+        → IsKept s.pair s (record {
+          file = s.pair.recording.text;
+          safe = s.pair.recording.text;
+        }) }
+    ensures whole { (program : Meaning) (part : Option (List ℕ)) (bytes : List ℕ)
+        (b : Beginning) (window : ℕ) (first : Pair) (s : State) (o : Outside)
+        → IsProgram program → IsPartGiven part → AreAsked program.features
+        → IsBegun program part bytes b window first → IsKept first s o
+        → AreWritten (numbered b.connection s.pair.end.client.table.tally.counted)
+        → s.pair.recording.told ≡ length s.pair.end.client.table.tally.counted
+        → o.file ≡ s.pair.recording.text
+        → IsRecordOf part program.features s.pair.end.client.table.tally.features
+        (b.told ++ numbered b.connection s.pair.end.client.table.tally.counted) o.file }
+    ensures killed { (program : Meaning) (part : Option (List ℕ)) (bytes : List ℕ)
+        (b : Beginning) (window : ℕ) (first : Pair) (s : State) (o : Outside) (left : List ℕ)
+        → IsBegun program part bytes b window first → IsKept first s o
+        → AreWritten (numbered b.connection s.pair.end.client.table.tally.counted)
+        → IsLeft o left → IsKilledRun program part bytes left }
+{}

@@ -1,0 +1,95 @@
+// What a run is to do.
+
+/// A file that is replaced: its name, and whether it grows during the run.
+#[derive(Drop)]
+pub struct Output {
+    pub name: String,
+    /// The name of the file next to it, in which its next text is made.
+    pub beside: String,
+    pub grows: bool,
+}
+
+/// The values of a run on its connection.
+#[derive(Drop)]
+pub struct Run {
+    pub host: String,
+    pub port: u16,
+    /// For how many seconds the server is called again and again, if it is.
+    pub wait: Option<u32>,
+    /// How many seconds the server may be silent.
+    pub timeout: Option<u32>,
+    /// The file that stops the run when it appears.
+    pub stop: Option<String>,
+    /// Whether each line is shown.
+    pub trace: bool,
+    /// The log.
+    pub log: Option<String>,
+    /// Whether each completed feature is shown.
+    pub progress: bool,
+    /// The features file.
+    pub features: Option<Output>,
+    /// The file of reported contacts.
+    pub contacts: Option<Output>,
+    /// The record, which grows already.
+    pub record: Option<Output>,
+}
+
+/// The name of a file, or nothing.
+fn name_of(file: &Option<Output>) -> &str {
+    match file {
+        Some(file) => file.name.as_str(),
+        None => "",
+    }
+}
+
+/// The name of the file next to it, or nothing.
+fn beside_of(file: &Option<Output>) -> &str {
+    match file {
+        Some(file) => file.beside.as_str(),
+        None => "",
+    }
+}
+
+/// Whether a file grows.
+fn grows(file: &Option<Output>) -> bool {
+    match file {
+        Some(file) => file.grows,
+        None => false,
+    }
+}
+
+/// The files of a run.
+#[derive(Clone, Copy, Debug, PartialEq, Eq)]
+pub(crate) enum Kept {
+    Features,
+    Contacts,
+    Record,
+}
+
+impl Run {
+    /// A file, if it is named.
+    pub(crate) fn file(&self, kept: Kept) -> &Option<Output> {
+        match kept {
+            Kept::Features => &self.features,
+            Kept::Contacts => &self.contacts,
+            Kept::Record => &self.record,
+        }
+    }
+
+    pub(crate) fn name(&self, kept: Kept) -> &str {
+        name_of(self.file(kept))
+    }
+
+    pub(crate) fn beside(&self, kept: Kept) -> &str {
+        beside_of(self.file(kept))
+    }
+
+    pub(crate) fn grows(&self, kept: Kept) -> bool {
+        grows(self.file(kept))
+    }
+
+    /// The stop file.
+    pub(crate) fn stop_name(&self) -> &str {
+        self.stop.as_deref().unwrap_or("")
+    }
+}

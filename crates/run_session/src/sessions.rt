@@ -1,0 +1,440 @@
+// A session: what it asks, and what it does with an answer.
+
+ghost use Rattle.std.specs.Prelude.{◌≡◌, true, false, length, None, OnOk, IfOk};
+ghost use Rattle.effects.specs.Effects.{the_ask, the_reply};
+ghost use Rattle.protocol_model.specs.Ends.{end_connected};
+ghost use Rattle.record_keeping.specs.Growths.{begun};
+ghost use Rattle.client_core.specs.Clients.{may_connect};
+ghost use Rattle.run_session.specs.Records as spec;
+
+use crate::errors::Errors;
+use crate::listed::Listed;
+use crate::reported::Reported;
+use crate::runs::Kept;
+use crate::{Run, Stage};
+use client_core::{Client, ClientFault, State};
+use contact_ledger::ServerLedger;
+use dme_orders::RunEnding;
+use effects::{Answer, Cause, Effect, Growth as File, Peer};
+use link_world::PumpFault;
+use record_keeping::Growth;
+use session_parts::{Lapse, Lines, Wait};
+use std::alloc::{AllocError, Global};
+use std::marker::Model;
+
+/// How long it waits before it looks at the stop file and at the time again, in milliseconds.
+pub(crate) const LOOK_MS: u64 = 100;
+
+const OUT_OF_MEMORY: &str = "dme: out of memory\n";
+
+/// What a run begins with, besides its client.
+#[derive(Drop)]
+pub struct Begun {
+    alloc: Global,
+    run: Run,
+    number: u64,
+    growth: Growth,
+    reported: Reported,
+    errors: Errors,
+    wait: Wait,
+    lines: Lines,
+}
+
+impl Model for Begun {
+    ghost use Rattle.record_keeping.specs.Growths.{Growth as OneGrowth};
+
+    ghost Value = { OneGrowth };
+
+    ghost view = { λ b. b.growth };
+}
+
+impl Begun {
+    /// A run of a client, which comes to the connection of this number; its record has this text, before it these acts were reported, and its
+    /// server's errors are shown so. Fails only if out of memory.
+    pub fn new(
+        alloc: Global,
+        run: Run,
+        client: &mut Client,
+        number: u64,
+        text: Vec<u8>,
+        told: &ServerLedger,
+        errors: Errors,
+    ) -> Result<Begun, AllocError>
+        requires { may_connect number client.old.client ≡ true }
+        ensures client { OnOk result (client.new ≡ end_connected number client.old) }
+        ensures text { IfOk result (λ b. b
+            ≡ begun number 0 (length client.old.client.table.tally.features) text.items) }
+    {
+        let reported = Reported::new(alloc, told)?;
+        let kept = client.features().len();
+        let growth = Growth::new(number, kept, text);
+        if client.connected(number).is_err() {
+            return Err(AllocError);
+        }
+        let wait = Wait::new(run.timeout);
+        let mut lines = Lines::new(alloc, run.trace || run.log.is_some());
+        lines.begin(number);
+        Ok(Begun {
+            alloc,
+            run,
+            number,
+            growth,
+            reported,
+            errors,
+            wait,
+            lines,
+        })
+    }
+}
+
+/// The command `run`, from the call of its server on: a client measures its program, and what it counts is kept in files.
+#[derive(Drop)]
+pub struct Session {
+    pub(crate) alloc: Global,
+    pub(crate) run: Run,
+    pub(crate) client: Client,
+    /// The record's text, and how much of it the file has.
+    pub(crate) growth: Growth,
+    pub(crate) filed: usize,
+    /// Whether the record could not be kept.
+    pub(crate) is_lost: bool,
+    pub(crate) reported: Reported,
+    pub(crate) listed: Listed,
+    pub(crate) errors: Errors,
+    pub(crate) stage: Stage,
+    /// The number of its connection.
+    pub(crate) number: u64,
+    /// How many features it had before, how many it has shown with those, and how many are complete on the record's device.
+    pub(crate) kept: usize,
+    pub(crate) told: usize,
+    pub(crate) settled: usize,
+    pub(crate) wait: Wait,
+    pub(crate) lines: Lines,
+    /// The errors, and the lines that are shown and logged.
+    pub(crate) shown: String,
+    pub(crate) logged: String,
+    pub(crate) is_logged: bool,
+    /// When it began to call its server, for how long it may still, and why it was not reached.
+    pub(crate) began: u64,
+    pub(crate) left: u64,
+    pub(crate) missed: Cause,
+    /// Whether its client has come to the connection, and is there.
+    pub(crate) has_begun: bool,
+    pub(crate) is_on: bool,
+    /// Whether the stop file was seen, and in which state the client was then.
+    pub(crate) is_stopped: bool,
+    pub(crate) seen: Option<State>,
+    /// The last line of the server, as far as it is shown, and whether it has ended.
+    pub(crate) last: Vec<u8>,
+    pub(crate) has_ended: bool,
+    /// How often it has looked whether a server that is left leaves, too.
+    pub(crate) looks: u32,
+    /// What is added to the log, or printed.
+    pub(crate) text: Vec<u8>,
+    /// What is said last, and the verdict in it.
+    pub(crate) said: String,
+    pub(crate) verdict: String,
+    /// What is said before the verdict.
+    pub(crate) unwritten: String,
+    pub(crate) message: &'static str,
+    pub(crate) broken: Option<PumpFault<ClientFault>>,
+    pub(crate) lapse: Option<Lapse>,
+    pub(crate) early: Option<RunEnding>,
+    pub(crate) status: u8,
+}
+
+impl Model for Session {
+    ghost use Rattle.run_session.specs.Records.{State as OneState};
+
+    ghost Value = { OneState };
+
+    ghost view = { λ s. record {
+      stage = s.stage;
+      pair = record { end = s.client; recording = s.growth };
+      book = record { lost = s.is_lost; filed = s.filed; settled = s.settled };
+      text = s.text.items;
+      list = s.listed.text.items;
+    } };
+}
+
+impl Session {
+    /// A session of this client, with what it begins with.
+    pub fn new(client: Client, begun: Begun) -> Session
+        ensures pair { result.pair ≡ record { end = client; recording = begun } }
+        ensures book { result.book ≡ record {
+          lost = false;
+          filed = length begun.text;
+          settled = begun.telling.counted.features;
+        } }
+        ensures due { spec.IsDue result }
+    {
+        let Begun {
+            alloc,
+            run,
+            number,
+            growth,
+            reported,
+            errors,
+            wait,
+            lines,
+        } = begun;
+        let kept = client.features().len();
+        let filed = growth.text().len();
+        let settled = growth.features();
+        let left = u64::from(run.wait.unwrap_or(0)) * 1000;
+        let is_logged = run.log.is_some();
+        let mut session = Session {
+            alloc,
+            run,
+            client,
+            growth,
+            filed,
+            is_lost: false,
+            reported,
+            listed: Listed::new(alloc),
+            errors,
+            stage: Stage::Logged,
+            number,
+            kept,
+            told: kept,
+            settled,
+            wait,
+            lines,
+            shown: String::new(alloc),
+            logged: String::new(alloc),
+            is_logged,
+            began: 0,
+            left,
+            missed: Cause::Unknown,
+            has_begun: false,
+            is_on: false,
+            is_stopped: false,
+            seen: None,
+            last: Vec::new(alloc),
+            has_ended: false,
+            looks: 0,
+            text: Vec::new(alloc),
+            said: String::new(alloc),
+            verdict: String::new(alloc),
+            unwritten: String::new(alloc),
+            message: "",
+            broken: None,
+            lapse: None,
+            early: None,
+            status: 0,
+        };
+        if !session.is_logged {
+            session.stage = session.after_log();
+        }
+        session
+    }
+
+    /// How long an attempt at a connection may take, in milliseconds.
+    fn attempt(&self) -> Option<u64> {
+        match (self.run.wait, self.run.timeout) {
+            (Some(_), _) => Some(self.left.min(1_000)),
+            (None, Some(seconds)) => Some(u64::from(seconds) * 1000),
+            (None, None) => None,
+        }
+    }
+
+    /// What is to be done next before the client is on its connection.
+    fn asks_before(&self) -> Effect<'_>
+        requires { spec.is_before self.now.stage ≡ true }
+        ensures { spec.Asks self.now (the_ask result) }
+    {
+        match self.stage {
+            Stage::Logged => Effect::Extend(self.run.log.as_deref().unwrap_or("")),
+            Stage::Connecting => {
+                Effect::Connect(self.run.host.as_str(), self.run.port, self.attempt())
+            }
+            Stage::Pausing => Effect::Sleep(LOOK_MS),
+            Stage::Limiting => Effect::Limit(Peer::Server, Some(LOOK_MS), self.run.timeout),
+            Stage::MakingFeatures => Effect::Make(
+                File::Features,
+                self.run.name(Kept::Features),
+                self.run.beside(Kept::Features),
+                self.listed.text.as_slice(),
+            ),
+            Stage::BeginningFeatures => Effect::Begin(File::Features),
+            Stage::MakingContacts => Effect::Make(
+                File::Contacts,
+                self.run.name(Kept::Contacts),
+                self.run.beside(Kept::Contacts),
+                self.reported.text.as_slice(),
+            ),
+            _ => Effect::Begin(File::Contacts),
+        }
+    }
+
+    /// What the record's file lacks, if it could be kept so far.
+    fn lacking(&self) -> &[u8]
+        ensures { result.now ≡ spec.lacking self.now }
+    {
+        if self.is_lost {
+            return &[];
+        }
+        match self.growth.text().split_at_checked(self.filed) {
+            Some((_, lacking)) => lacking,
+            None => &[],
+        }
+    }
+
+    /// What is to be done next on the connection.
+    fn asks_while(&self) -> Effect<'_>
+        requires { spec.is_while self.now.stage ≡ true }
+        ensures { spec.Asks self.now (the_ask result) }
+    {
+        match self.stage {
+            Stage::Receiving | Stage::Draining => Effect::Receive(Peer::Server),
+            Stage::Sending => Effect::Send(Peer::Server, self.client.out()),
+
+            Stage::Stamping => Effect::Stamp,
+            Stage::Logging => Effect::Add(self.text.as_slice()),
+            Stage::Recording => Effect::Append(File::Record, self.lacking()),
+            Stage::Settling => Effect::Keep(File::Record, self.lacking()),
+            Stage::Reporting => Effect::Append(File::Contacts, self.reported.lacking()),
+            Stage::Listing => Effect::Keep(File::Features, self.listed.text.as_slice()),
+            _ => Effect::Say(self.shown.as_str()),
+        }
+    }
+
+    /// What is to be done next at the end.
+    fn asks_at_end(&self) -> Effect<'_>
+        requires { spec.is_at_end self.now.stage ≡ true }
+        ensures { spec.Asks self.now (the_ask result) }
+    {
+        match self.stage {
+            Stage::ReplacingFeatures => Effect::Replace(
+                self.run.name(Kept::Features),
+                self.run.beside(Kept::Features),
+                self.listed.text.as_slice(),
+            ),
+            Stage::Printing => Effect::Print(self.text.as_slice()),
+            Stage::Parting => Effect::Limit(Peer::Server, Some(LOOK_MS), self.run.timeout),
+            Stage::Closing => Effect::Close(Peer::Server),
+            Stage::Leaving => Effect::Leave,
+            Stage::DiscardingFeatures => Effect::Discard(File::Features),
+            Stage::DiscardingContacts => Effect::Discard(File::Contacts),
+            Stage::Standing => Effect::Stands(File::Record, self.growth.text().len()),
+            Stage::ReplacingRecord => Effect::Replace(
+                self.run.name(Kept::Record),
+                self.run.beside(Kept::Record),
+                self.growth.text(),
+            ),
+            Stage::ReplacingContacts => Effect::Replace(
+                self.run.name(Kept::Contacts),
+                self.run.beside(Kept::Contacts),
+                self.reported.text.as_slice(),
+            ),
+            Stage::Ending => Effect::Say(self.said.as_str()),
+            Stage::Telling => Effect::Say(self.message),
+            _ => Effect::Exit(self.status),
+        }
+    }
+
+    /// What is to be done next.
+    pub fn asks(&self) -> Effect<'_>
+        ensures { spec.Asks self.now (the_ask result) }
+    {
+        match self.stage {
+            Stage::Logged | Stage::Connecting | Stage::Pausing | Stage::Limiting => {
+                self.asks_before()
+            }
+            Stage::MakingFeatures | Stage::BeginningFeatures => self.asks_before(),
+            Stage::MakingContacts | Stage::BeginningContacts => self.asks_before(),
+            Stage::Beginning | Stage::Elapsing | Stage::Timing => Effect::Now,
+            Stage::Peeking | Stage::Checking => Effect::Exists(self.run.stop_name()),
+            Stage::Receiving | Stage::Draining | Stage::Sending => self.asks_while(),
+            Stage::Tracing | Stage::Stamping | Stage::Logging => self.asks_while(),
+            Stage::Recording | Stage::Settling | Stage::Reporting => self.asks_while(),
+            Stage::Warning | Stage::Listing | Stage::Showing => self.asks_while(),
+            Stage::ReplacingFeatures | Stage::Printing | Stage::Parting => self.asks_at_end(),
+            Stage::Closing | Stage::Leaving | Stage::Standing => self.asks_at_end(),
+            Stage::DiscardingFeatures | Stage::DiscardingContacts => self.asks_at_end(),
+            Stage::ReplacingRecord | Stage::ReplacingContacts => self.asks_at_end(),
+            Stage::Ending | Stage::Telling | Stage::Exiting => self.asks_at_end(),
+        }
+    }
+
+    /// What came of it. If memory runs out meanwhile, the connection is left, and the run ends.
+    pub fn take(&mut self, answer: Answer<'_>)
+        ensures goes { spec.GoesOn self.old (the_reply answer.entry) self.new }
+        ensures due { spec.IsDue self.new }
+    {
+        if self.step(answer).is_err() {
+            self.run_short();
+        }
+    }
+
+    /// The session after an answer.
+    fn step(&mut self, answer: Answer<'_>) -> Result<(), AllocError>
+        ensures goes { spec.GoesOn self.old (the_reply answer.entry) self.new }
+        ensures due { OnOk result (spec.IsDue self.new) }
+    {
+        match self.stage {
+            Stage::Logged | Stage::Beginning | Stage::Peeking | Stage::Connecting => {
+                self.call(answer)
+            }
+            Stage::Warning | Stage::Elapsing | Stage::Pausing | Stage::Limiting => {
+                self.call(answer)
+            }
+            Stage::MakingFeatures | Stage::BeginningFeatures => self.begin(answer),
+            Stage::MakingContacts | Stage::BeginningContacts => self.begin(answer),
+            Stage::Checking | Stage::Timing | Stage::Receiving => self.receive(answer),
+            Stage::Sending => self.sent(answer),
+            Stage::Tracing | Stage::Stamping | Stage::Logging => self.show_on(answer),
+            Stage::Recording | Stage::Settling => self.recorded(answer),
+            Stage::Reporting => self.has_reported(answer),
+            Stage::Listing => self.has_listed(answer),
+            Stage::Showing => self.has_shown(),
+            Stage::ReplacingFeatures | Stage::Printing => self.end_on(answer),
+            Stage::Parting | Stage::Closing | Stage::Draining | Stage::Leaving => {
+                self.leave_on(answer)
+            }
+            Stage::DiscardingFeatures | Stage::DiscardingContacts => self.leave_on(answer),
+            Stage::Standing | Stage::ReplacingRecord => self.close_on(answer),
+            Stage::ReplacingContacts => self.close_on(answer),
+            Stage::Ending | Stage::Telling | Stage::Exiting => {
+                self.stage = Stage::Exiting;
+                Ok(())
+            }
+        }
+    }
+
+    /// The last message is to be said, which needs no memory.
+    fn tell(&mut self)
+        ensures quiet { spec.IsQuiet self.old self.new }
+        ensures due { spec.IsDue self.new }
+    {
+        self.message = OUT_OF_MEMORY;
+        self.status = 4;
+        self.stage = Stage::Telling;
+    }
+
+    /// Memory has run out on the connection: it is left, and what was counted is kept.
+    fn give_in(&mut self)
+        ensures ran { spec.Keeps self.old.pair self.new.pair }
+        ensures book { self.new.book ≡ self.old.book }
+        ensures due { spec.IsDue self.new }
+    {
+        self.break_off(PumpFault::Memory);
+        if self.follow().is_err() {
+            self.tell();
+        }
+    }
+
+    /// Memory has run out. Before the connection, and at the end, that is said at once.
+    fn run_short(&mut self)
+        ensures ran { spec.Keeps self.old.pair self.new.pair }
+        ensures book { self.new.book ≡ self.old.book }
+        ensures due { spec.IsDue self.new }
+    {
+        if self.is_on {
+            self.is_on = false;
+            self.give_in();
+        } else {
+            self.tell();
+        }
+    }
+}

@@ -1,0 +1,307 @@
+// On the connection: commands are sent, and lines are heard.
+
+ghost use Rattle.std.specs.Prelude.{◌≡◌, OnOk, None};
+ghost use Rattle.run_session.specs.Records as spec;
+
+use crate::{Session, Stage};
+use client_core::{ClientFault, State};
+use effects::Answer;
+use link_world::PumpFault;
+use session_parts::{Lapse, Side, Wait};
+use std::alloc::AllocError;
+
+/// The most bytes of a line that are shown as the last one.
+const MOST_SHOWN: usize = 200;
+
+/// Adds the bytes of a line, without its end, as far as they are shown.
+fn add_shown(shown: &mut Vec<u8>, line: &[u8]) -> Result<(), AllocError> {
+    for byte in line {
+        if *byte != b'\n' && *byte != b'\r' && shown.len() < MOST_SHOWN {
+            shown.push(*byte)?;
+        }
+    }
+    Ok(())
+}
+
+impl Session {
+    /// Whether the run is over: its plan is counted, or nothing is open after a failure or an abort; or its connection was broken off.
+    fn is_over(&self) -> bool {
+        self.broken.is_some() || matches!(self.client.state(), State::Done | State::Halted)
+    }
+
+    /// The client leaves its connection.
+    fn leave(&mut self)
+        ensures ran { spec.Keeps self.old.pair self.new.pair }
+        ensures book { self.new.book ≡ self.old.book }
+    {
+        self.client.leave();
+    }
+
+    /// The client writes the command that is due.
+    fn send(&mut self) -> Result<(), ClientFault>
+        ensures ran { spec.Keeps self.old.pair self.new.pair }
+        ensures book { self.new.book ≡ self.old.book }
+    {
+        self.client.send()
+    }
+
+    /// The client writes an abort.
+    fn abort(&mut self) -> Result<(), ClientFault>
+        ensures ran { spec.Keeps self.old.pair self.new.pair }
+        ensures book { self.new.book ≡ self.old.book }
+    {
+        self.client.abort()
+    }
+
+    /// The client takes bytes.
+    fn feed(&mut self, bytes: &[u8]) -> Result<(), ClientFault>
+        ensures ran { spec.Keeps self.old.pair self.new.pair }
+        ensures book { self.new.book ≡ self.old.book }
+    {
+        self.client.feed(bytes)
+    }
+
+    /// The client reads a line, if one is there.
+    fn read(&mut self) -> Result<bool, ClientFault>
+        ensures ran { spec.Keeps self.old.pair self.new.pair }
+        ensures book { self.new.book ≡ self.old.book }
+    {
+        self.client.read_one()
+    }
+
+    /// All that the client had written was sent.
+    fn clear(&mut self)
+        ensures ran { spec.Keeps self.old.pair self.new.pair }
+        ensures book { self.new.book ≡ self.old.book }
+    {
+        let count = self.client.out().len();
+        self.client.sent(count);
+    }
+
+    /// The connection is broken off: the client leaves it.
+    pub(crate) fn break_off(&mut self, why: PumpFault<ClientFault>)
+        ensures ran { spec.Keeps self.old.pair self.new.pair }
+        ensures book { self.new.book ≡ self.old.book }
+    {
+        self.leave();
+        self.broken = Some(why);
+    }
+
+    /// The client has refused.
+    fn refuse_core(&mut self, fault: ClientFault) -> Result<(), AllocError>
+        ensures ran { spec.Keeps self.old.pair self.new.pair }
+        ensures book { self.new.book ≡ self.old.book }
+    {
+        if let ClientFault::Memory = fault {
+            return Err(AllocError);
+        }
+        self.break_off(PumpFault::Core(fault));
+        Ok(())
+    }
+
+    /// The client sends each command that is due.
+    fn send_due(&mut self) -> Result<(), AllocError>
+        ensures ran { spec.Keeps self.old.pair self.new.pair }
+        ensures book { self.new.book ≡ self.old.book }
+    {
+        for _command in 0..u64::MAX {
+            if self.client.due().is_none() {
+                break;
+            }
+            if let Err(fault) = self.send() {
+                return self.refuse_core(fault);
+            }
+        }
+        Ok(())
+    }
+
+    /// All that was counted is kept and shown: commands that are due are sent, or bytes are awaited; or the run is over.
+    pub(crate) fn go_on(&mut self) -> Result<(), AllocError>
+        ensures ran { spec.Keeps self.old.pair self.new.pair }
+        ensures book { self.new.book ≡ self.old.book }
+        ensures due { OnOk result (spec.IsDue self.new) }
+    {
+        if !self.is_over() {
+            self.send_due()?;
+        }
+        if self.is_over() {
+            return self.end();
+        }
+        self.stage = if self.client.out().is_empty() {
+            self.await_bytes()
+        } else {
+            Stage::Sending
+        };
+        Ok(())
+    }
+
+    /// What comes before bytes are received.
+    fn await_bytes(&self) -> Stage
+        ensures { spec.wants result ≡ None }
+    {
+        if self.run.stop.is_some() && !self.is_stopped {
+            Stage::Checking
+        } else {
+            self.await_unstopped()
+        }
+    }
+
+    /// Likewise, once the stop file was looked for.
+    fn await_unstopped(&self) -> Stage
+        ensures { spec.wants result ≡ None }
+    {
+        if self.wait.limit.is_some() {
+            Stage::Timing
+        } else {
+            Stage::Receiving
+        }
+    }
+
+    /// The stop file is there: the client aborts, if it can.
+    fn stop(&mut self) -> Result<(), AllocError>
+        ensures ran { spec.Keeps self.old.pair self.new.pair }
+        ensures book { self.new.book ≡ self.old.book }
+        ensures due { OnOk result (spec.IsDue self.new) }
+    {
+        self.is_stopped = true;
+        self.seen = Some(self.client.state());
+        self.wait = Wait::new(self.wait.limit);
+        if !matches!(self.client.state(), State::Running | State::Failing) {
+            return self.go_on();
+        }
+        match self.abort() {
+            Ok(()) => self.go_on(),
+            Err(fault) => {
+                self.refuse_core(fault)?;
+                self.go_on()
+            }
+        }
+    }
+
+    /// The server has not done what was due for too long.
+    fn lapsed(&mut self, lapse: Lapse, why: PumpFault<ClientFault>) -> Result<(), AllocError>
+        ensures ran { spec.Keeps self.old.pair self.new.pair }
+        ensures book { self.new.book ≡ self.old.book }
+        ensures due { OnOk result (spec.IsDue self.new) }
+    {
+        self.lapse = Some(lapse);
+        self.fail(why)
+    }
+
+    /// The connection is broken off, and what was counted is kept.
+    fn fail(&mut self, why: PumpFault<ClientFault>) -> Result<(), AllocError>
+        ensures ran { spec.Keeps self.old.pair self.new.pair }
+        ensures book { self.new.book ≡ self.old.book }
+        ensures due { OnOk result (spec.IsDue self.new) }
+    {
+        self.break_off(why);
+        self.follow()
+    }
+
+    pub(crate) fn receive(&mut self, answer: Answer<'_>) -> Result<(), AllocError>
+        ensures ran { spec.Keeps self.old.pair self.new.pair }
+        ensures book { self.new.book ≡ self.old.book }
+        ensures due { OnOk result (spec.IsDue self.new) }
+    {
+        match (self.stage, answer) {
+            (Stage::Checking, Answer::Found) => return self.stop(),
+            (Stage::Checking, _) => self.stage = self.await_unstopped(),
+            (Stage::Timing, Answer::At(now)) => match self.wait.lapse(now) {
+                Some(lapse) => return self.lapsed(lapse, PumpFault::ReadFailed),
+                None => self.stage = Stage::Receiving,
+            },
+            (Stage::Timing, _) => self.stage = Stage::Receiving,
+            (_, Answer::Bytes(piece)) => return self.came(piece),
+            (_, Answer::Nothing) => self.stage = self.await_bytes(),
+            (_, Answer::End) => return self.fail(PumpFault::Ended),
+            (_, Answer::Short) => return Err(AllocError),
+            _ => return self.fail(PumpFault::ReadFailed),
+        }
+        Ok(())
+    }
+
+    /// Remembers bytes of one line of the server, as far as they are shown.
+    fn remember(&mut self, line: &[u8]) -> Result<(), AllocError>
+        ensures { self.new ≡ self.old }
+    {
+        if self.has_ended {
+            self.last.clear();
+        }
+        self.has_ended = line.last() == Some(&b'\n');
+        add_shown(&mut self.last, line)
+    }
+
+    /// The lines of a side that have ended are to be shown and logged.
+    fn go_by(&mut self, side: Side, bytes: &[u8]) -> Result<(), AllocError>
+        ensures { self.new ≡ self.old }
+    {
+        self.lines.went(side, bytes)?;
+        let ended = self.lines.take();
+        if self.run.trace {
+            self.shown.push_str(ended.as_str())?;
+        }
+        if self.is_logged {
+            self.logged.push_str(ended.as_str())?;
+        }
+        Ok(())
+    }
+
+    /// Bytes of one line of the server, perhaps its last: its error is to be shown, and the client reads it.
+    fn hear(&mut self, line: &[u8]) -> Result<(), AllocError>
+        ensures ran { spec.Keeps self.old.pair self.new.pair }
+        ensures book { self.new.book ≡ self.old.book }
+    {
+        self.remember(line)?;
+        self.errors.hear(line, &mut self.shown)?;
+        self.go_by(Side::Server, line)?;
+        if let Err(fault) = self.feed(line) {
+            return self.refuse_core(fault);
+        }
+        match self.read() {
+            Ok(_) => Ok(()),
+            Err(fault) => self.refuse_core(fault),
+        }
+    }
+
+    /// Bytes have come: the client reads each line, until its run is over.
+    fn came(&mut self, piece: &[u8]) -> Result<(), AllocError>
+        ensures ran { spec.Keeps self.old.pair self.new.pair }
+        ensures book { self.new.book ≡ self.old.book }
+        ensures due { OnOk result (spec.IsDue self.new) }
+    {
+        self.wait.came(piece);
+        for line in piece.split_inclusive(|byte| *byte == b'\n') {
+            if !self.is_over() {
+                self.hear(line)?;
+            }
+        }
+        self.follow()
+    }
+
+    /// Commands were sent, or not.
+    pub(crate) fn sent(&mut self, answer: Answer<'_>) -> Result<(), AllocError>
+        ensures ran { spec.Keeps self.old.pair self.new.pair }
+        ensures book { self.new.book ≡ self.old.book }
+        ensures due { OnOk result (spec.IsDue self.new) }
+    {
+        match answer {
+            Answer::Done => self.has_sent(),
+            Answer::Nothing => self.lapsed(Lapse::Taken, PumpFault::WriteFailed),
+            Answer::Short => Err(AllocError),
+            _ => self.fail(PumpFault::WriteFailed),
+        }
+    }
+
+    /// All that the client had written was sent.
+    fn has_sent(&mut self) -> Result<(), AllocError>
+        ensures ran { spec.Keeps self.old.pair self.new.pair }
+        ensures book { self.new.book ≡ self.old.book }
+        ensures due { OnOk result (spec.IsDue self.new) }
+    {
+        let sent = Vec::from_slice(self.alloc, self.client.out())?;
+        self.errors.send(sent.as_slice())?;
+        self.go_by(Side::Client, sent.as_slice())?;
+        self.clear();
+        self.show()
+    }
+}

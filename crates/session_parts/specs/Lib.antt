@@ -1,0 +1,2 @@
+pub mod Arriving
+pub mod Waiting

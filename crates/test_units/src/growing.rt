@@ -1,0 +1,177 @@
+// Files that grow: those that were locked before, and whether they still stand.
+
+use crate::hands::{gives, has};
+use dme_files::HeldFile;
+use dme_hands::RealHands;
+use effects::{Answer, Cause, Effect, Growth};
+use std::fs::{self, File};
+use std::net::{Net, TcpListener, TcpStream};
+use std::rt::{Clock, Files};
+
+/// Lends hands a file of this name that is locked, to begin or as one that has begun; whether it could be locked.
+fn lends<
+    R: Files<File = File>
+        + Input
+        + Print
+        + Eprint
+        + Clock
+        + Net<Listener = TcpListener, Stream = TcpStream>
+        + AllocGlobal
+        + Clone
+        + Drop,
+>(rt: &R, hands: &mut RealHands<R>, (growth, name): (Growth, &str), has_begun: bool) -> bool {
+    let (Ok(file), Ok(name)) = (HeldFile::open(rt, name), String::from_str(rt.alloc(), name)) else {
+        return false;
+    };
+    if has_begun {
+        hands.grow(growth, file, name);
+    } else {
+        hands.hold(growth, file, name);
+    }
+    true
+}
+
+/// Whether the file of this name is locked.
+fn is_locked<R: Files<File = File>>(rt: &R, name: &str) -> bool {
+    HeldFile::open(rt, name).is_err()
+}
+
+const HELD: &str = "/tmp/dme_hands.held";
+
+const HELD_BESIDE: &str = "/tmp/dme_hands.held.new";
+
+#[test]
+fn a_file_is_locked_from_when_it_is_held_until_the_hands_are_gone(rt: HostRuntime) {
+    assert!(rt; fs::write(&rt, HELD, b"old\n".as_slice()).is_ok());
+    let mut hands = RealHands::new(rt);
+    assert!(rt; lends(&rt, &mut hands, (Growth::Features, HELD), false));
+    assert!(rt; is_locked(&rt, HELD));
+    let make = Effect::Make(Growth::Features, HELD, HELD_BESIDE, b"HEAD\n".as_slice());
+    assert!(rt; gives(&mut hands, make, Answer::Found));
+    assert!(rt; is_locked(&rt, HELD));
+    assert!(rt; has(&rt, HELD, b"old\n".as_slice()));
+    assert!(rt; has(&rt, HELD_BESIDE, b"HEAD\n".as_slice()));
+    assert!(rt; gives(&mut hands, Effect::Begin(Growth::Features), Answer::Done));
+    assert!(rt; is_locked(&rt, HELD));
+    let append = Effect::Append(Growth::Features, b"one\n".as_slice());
+    assert!(rt; gives(&mut hands, append, Answer::Done));
+    assert!(rt; has(&rt, HELD, b"HEAD\none\n".as_slice()));
+    drop(hands);
+    assert!(rt; !is_locked(&rt, HELD));
+    assert!(rt; fs::remove_file(&rt, HELD).is_ok());
+}
+
+const LEFT: &str = "/tmp/dme_hands.left";
+
+const FIRST: &str = "/tmp/dme_hands.first";
+
+#[test]
+fn a_held_file_that_is_let_go_is_as_it_was(rt: HostRuntime) {
+    assert!(rt; fs::write(&rt, LEFT, b"old\n".as_slice()).is_ok());
+    let mut hands = RealHands::new(rt);
+    assert!(rt; lends(&rt, &mut hands, (Growth::Contacts, LEFT), false));
+    assert!(rt; lends(&rt, &mut hands, (Growth::Record, FIRST), false));
+    assert!(rt; gives(&mut hands, Effect::Exists(FIRST), Answer::Found));
+    assert!(rt; gives(&mut hands, Effect::Discard(Growth::Contacts), Answer::Done));
+    assert!(rt; gives(&mut hands, Effect::Discard(Growth::Record), Answer::Done));
+    assert!(rt; has(&rt, LEFT, b"old\n".as_slice()));
+    assert!(rt; !is_locked(&rt, LEFT));
+    assert!(rt; gives(&mut hands, Effect::Exists(FIRST), Answer::Done));
+    assert!(rt; fs::remove_file(&rt, LEFT).is_ok());
+}
+
+const NO_NEXT: &str = "/tmp/dme_hands.no_next";
+
+#[test]
+fn a_held_file_whose_next_text_cannot_be_made_is_let_go(rt: HostRuntime) {
+    let mut hands = RealHands::new(rt);
+    assert!(rt; lends(&rt, &mut hands, (Growth::Features, NO_NEXT), false));
+    let make = Effect::Make(Growth::Features, NO_NEXT, "/tmp", b"HEAD\n".as_slice());
+    assert!(rt; gives(&mut hands, make, Answer::Failed(Cause::Taken)));
+    assert!(rt; gives(&mut hands, Effect::Exists(NO_NEXT), Answer::Done));
+    assert!(rt; gives(&mut hands, Effect::Begin(Growth::Features), Answer::Done));
+    assert!(rt; gives(&mut hands, Effect::Exists(NO_NEXT), Answer::Done));
+}
+
+const BEGUN: &str = "/tmp/dme_hands.begun";
+
+const BEGUN_BESIDE: &str = "/tmp/dme_hands.begun.new";
+
+#[test]
+fn a_record_that_has_begun_grows_and_stands_as_long_as_it_is_whole(rt: HostRuntime) {
+    assert!(rt; fs::write(&rt, BEGUN, b"HEAD\n".as_slice()).is_ok());
+    let mut hands = RealHands::new(rt);
+    assert!(rt; lends(&rt, &mut hands, (Growth::Record, BEGUN), true));
+    let keep = Effect::Keep(Growth::Record, b"act\n".as_slice());
+    assert!(rt; gives(&mut hands, keep, Answer::Done));
+    assert!(rt; has(&rt, BEGUN, b"HEAD\nact\n".as_slice()));
+    assert!(rt; is_locked(&rt, BEGUN));
+    assert!(rt; gives(&mut hands, Effect::Stands(Growth::Record, 9), Answer::Done));
+    let gone = Answer::Failed(Cause::Renamed);
+    assert!(rt; gives(&mut hands, Effect::Stands(Growth::Record, 10), gone));
+    assert!(rt; gives(&mut hands, Effect::Stands(Growth::Record, 8), gone));
+    let other = Effect::Replace(BEGUN, BEGUN_BESIDE, b"HEAD\nact\n".as_slice());
+    assert!(rt; gives(&mut hands, other, Answer::Done));
+    assert!(rt; gives(&mut hands, Effect::Stands(Growth::Record, 9), gone));
+    assert!(rt; gives(&mut hands, keep, gone));
+    assert!(rt; fs::remove_file(&rt, BEGUN).is_ok());
+    assert!(rt; gives(&mut hands, Effect::Stands(Growth::Record, 9), gone));
+    assert!(rt;
+        gives(
+            &mut hands,
+            Effect::Stands(Growth::Features, 9),
+            Answer::Done
+        )
+    );
+}
+
+/// One file for each growth, with the one next to it.
+const EACH: [(Growth, &str, &str, &[u8]); 4] = [
+    (
+        Growth::Contacts,
+        "/tmp/dme_hands.1",
+        "/tmp/dme_hands.1.new",
+        b"contacts\n",
+    ),
+    (
+        Growth::Told,
+        "/tmp/dme_hands.2",
+        "/tmp/dme_hands.2.new",
+        b"told\n",
+    ),
+    (
+        Growth::Record,
+        "/tmp/dme_hands.3",
+        "/tmp/dme_hands.3.new",
+        b"record\n",
+    ),
+    (
+        Growth::Features,
+        "/tmp/dme_hands.4",
+        "/tmp/dme_hands.4.new",
+        b"features\n",
+    ),
+];
+
+#[test]
+fn each_growth_has_a_file_of_its_own(rt: HostRuntime) {
+    let mut hands = RealHands::new(rt);
+    for (growth, name, beside, head) in EACH {
+        let make = Effect::Make(growth, name, beside, head);
+        assert!(rt; gives(&mut hands, make, Answer::Done));
+    }
+    for (growth, _, _, head) in EACH {
+        assert!(rt; gives(&mut hands, Effect::Begin(growth), Answer::Done));
+        assert!(rt; gives(&mut hands, Effect::Append(growth, head), Answer::Done));
+    }
+    for (growth, name, _, head) in EACH {
+        assert!(rt;
+            gives(
+                &mut hands,
+                Effect::Stands(growth, 2 * head.len()),
+                Answer::Done
+            )
+        );
+        assert!(rt; fs::remove_file(&rt, name).is_ok());
+    }
+}
