@@ -54,16 +54,6 @@ fn named<R: Files<File = File>>(rt: &R, file: &File, name: &str, is_so: bool) ->
     }
 }
 
-/// A file that is held is as it was.
-fn release<R: Files<File = File>>(rt: &R, held: HeldFile, name: String) {
-    held.release(rt, name.as_str());
-}
-
-/// Likewise, if its next text is made.
-fn discard<R: Files<File = File>>(rt: &R, next: NextFile, name: String, beside: String) {
-    next.discard(rt, name.as_str(), beside.as_str());
-}
-
 impl Growing {
     /// The file, locked: it is so already, or is opened.
     fn held<R: Files<File = File>>(&mut self, rt: &R, name: &str) -> io::Result<HeldFile> {
@@ -102,9 +92,9 @@ impl Growing {
     /// The file is as it was.
     pub fn discard<R: Files<File = File>>(&mut self, rt: &R) -> io::Result<()> {
         match std::mem::replace(self, Growing::None) {
-            Growing::Held(held, name) => release(rt, held, name),
-            Growing::Next(next, name, beside) => discard(rt, next, name, beside),
-            other => drop(other),
+            Growing::Held(held, name) => held.release(rt, name.as_str()),
+            Growing::Next(next, name, beside) => next.discard(rt, name.as_str(), beside.as_str()),
+            _ => {}
         }
         Ok(())
     }

@@ -20,7 +20,7 @@ use dme_orders::{
 };
 use dme_run::run_program;
 use dme_words::{Audit, Check, Order, RecordAudit, Review, Simulation, read_words};
-use ledger_session::{Job, Session, run as run_reading};
+use ledger_session::{Job, Session, run as run_session};
 use review_report::{FindingForm, FindingStyle};
 use std::alloc::{AllocError, Global};
 use std::env::{self, Env};
@@ -255,7 +255,7 @@ fn read_recordings<
 >(rt: &R, job: Job, up: String, down: String) -> Result<u8, Fault> {
     let mut hands = RealHands::new(rt.clone()?);
     let mut session = Session::new(rt.alloc(), job, up, down)?;
-    Ok(run_reading(&mut session, &mut hands).unwrap_or(70))
+    Ok(run_session(&mut session, &mut hands).unwrap_or(70))
 }
 
 /// Carries out an order: its exit status. None is joined to this function, whose frame would have room for all of them.

@@ -19,7 +19,6 @@ use dme_words::Run;
 use dmis_program::Program;
 use effects::Growth;
 use program_review::{TaskLine, command_lines, task_lines};
-use record_keeping::Beginning;
 use run_session::{Begun, Errors, Output, Session};
 use std::alloc::{AllocError, Global};
 use std::fs::{self, File};
@@ -93,6 +92,9 @@ fn errors_of(alloc: Global, client: &Client, tasks: &[TaskLine]) -> Result<Error
     )
 }
 
+/// The record of a run: its file, and the text that it has.
+type Recorded = (NamedHeld, Vec<u8>);
+
 /// What the session of a run begins with.
 fn begun_of(
     alloc: Global,
@@ -121,8 +123,8 @@ fn hands_of<
         + AllocGlobal
         + Clone
         + Drop,
->(rt: R, held: &mut HeldFiles, record: Option<NamedHeld>) -> RealHands<R> {
-    let mut hands = RealHands::new(rt);
+>(rt: &R, held: &mut HeldFiles, record: Option<NamedHeld>) -> Result<RealHands<R>, AllocError> {
+    let mut hands = RealHands::new(rt.clone()?);
     if let Some((name, file)) = held.features.take() {
         hands.hold(Growth::Features, file, name);
     }
@@ -132,11 +134,12 @@ fn hands_of<
     if let Some((name, file)) = record {
         hands.grow(Growth::Record, file, name);
     }
-    hands
+    Ok(hands)
 }
 
-/// A client runs its program on a server that is called: the exit status.
-fn run_begun<
+/// A client runs its program on a server that is called: the exit status. `before` is the number of the connection, and what servers reported
+/// before it.
+fn drive<
     R: Files<File = File>
         + Input
         + Print
@@ -146,13 +149,28 @@ fn run_begun<
         + AllocGlobal
         + Clone
         + Drop,
->(rt: R, client: Client, begun: Begun, held: &mut HeldFiles, record: Option<NamedHeld>) -> u8 {
-    let mut hands = hands_of(rt, held, record);
+>(
+    rt: &R,
+    mut client: Client,
+    before: (u64, &ServerLedger),
+    record: Option<Recorded>,
+    call: &mut Call<'_>,
+) -> Result<u8, Fault>
+    requires { may_connect before.0 client.client ≡ true }
+{
+    let alloc = rt.alloc();
+    let (file, text) = match record {
+        Some((file, text)) => (Some(file), text),
+        None => (None, Vec::new(alloc)),
+    };
+    let name = match &file {
+        Some((name, _)) => Some(String::from_str(alloc, name.as_str())?),
+        None => None,
+    };
+    let begun = begun_of(alloc, &mut client, before, (name, text), call)?;
+    let mut hands = hands_of(rt, call.held, file)?;
     let mut session = Session::new(client, begun);
-    let status = run_session::run(&mut session, &mut hands);
-    drop(session);
-    drop(hands);
-    status.unwrap_or(70)
+    Ok(run_session::run(&mut session, &mut hands).unwrap_or(70))
 }
 
 /// Reports what comes next, if a run continues or is to be confirmed, and waits for the confirmation, if it is asked for.
@@ -179,49 +197,9 @@ fn confirm<R: Input + Eprint + AllocGlobal>(
     Ok(())
 }
 
-/// Reports how many features the features file gives back, if one is named.
-fn tell_features<R: Eprint + AllocGlobal>(
-    rt: &R,
-    client: &Client,
-    features: Option<&str>,
-) -> Result<(), AllocError> {
-    match features {
-        Some(name) => tell_kept(rt, name, client.features(), client.program().features()),
-        None => Ok(()),
-    }
-}
-
-/// The name of a record, if there is one.
-fn name_of(alloc: Global, record: &Option<NamedHeld>) -> Result<Option<String>, AllocError> {
-    match record {
-        Some((name, _)) => Ok(Some(String::from_str(alloc, name.as_str())?)),
-        None => Ok(None),
-    }
-}
-
-/// What a run needs besides its client, which comes to its connection, once it is confirmed. `before` is the number of the connection, and what
-/// servers reported before it; `record` is the record's file, and its text.
-fn prepared<R: Input + Eprint + AllocGlobal + Clone + Drop>(
-    rt: &R,
-    client: &mut Client,
-    before: (u64, &ServerLedger),
-    record: (&Option<NamedHeld>, Vec<u8>),
-    call: &mut Call<'_>,
-) -> Result<(R, Begun), Fault>
-    requires { may_connect before.0 client.old.client ≡ true }
-{
-    let (file, text) = record;
-    if file.is_none() {
-        tell_features(rt, client, call.features.as_deref())?;
-    }
-    confirm(rt, client, call)?;
-    let name = name_of(rt.alloc(), file)?;
-    let begun = begun_of(rt.alloc(), client, before, (name, text), call)?;
-    Ok((rt.clone()?, begun))
-}
-
-/// A client that is made runs its program on a server, if it is confirmed.
-fn drive<
+/// A client that is made runs its program on a server once it is confirmed. `before` is the number of its connection, and what servers
+/// reported before it.
+fn drive_confirmed<
     R: Files<File = File>
         + Input
         + Print
@@ -235,20 +213,14 @@ fn drive<
     rt: &R,
     client: Client,
     before: (u64, &ServerLedger),
-    record: (Option<NamedHeld>, Vec<u8>),
+    record: Option<Recorded>,
     call: &mut Call<'_>,
 ) -> Result<u8, Fault>
     requires { may_connect before.0 client.client ≡ true }
 {
-    let mut client = client;
-    let (file, text) = record;
-    match prepared(rt, &mut client, before, (&file, text), call) {
-        Ok((copy, begun)) => Ok(run_begun(copy, client, begun, call.held, file)),
-        Err(fault) => {
-            drop(client);
-            drop(file);
-            Err(fault)
-        }
+    match confirm(rt, &client, call) {
+        Ok(()) => drive(rt, client, before, record, call),
+        Err(fault) => Err(fault),
     }
 }
 
@@ -268,9 +240,12 @@ fn drive_program<
 {
     let (kept, program) = read;
     let client = kept_client(rt.alloc(), program, kept, window)?;
+    if let Some(name) = &call.features {
+        let (kept, asked) = (client.features(), client.program().features());
+        tell_kept(rt, name.as_str(), kept, asked)?;
+    }
     let told = ServerLedger::new(rt.alloc());
-    let record = (None, Vec::new(rt.alloc()));
-    drive(rt, client, (1, &told), record, call)
+    drive_confirmed(rt, client, (1, &told), None, call)
 }
 
 /// Likewise, with a record of it. A record in which the last connection has the greatest possible number cannot be written.
@@ -296,15 +271,9 @@ fn drive_recorded<
     if connection < 1 || connection > CONNECTION_MAX {
         return Err(Fault::Order(OrderFault::CannotWrite(name)));
     }
-    let Beginning {
-        features,
-        told,
-        text,
-        ..
-    } = beginning;
-    let client = kept_client(rt.alloc(), program, features, window)?;
-    let record = (Some((name, file)), text);
-    drive(rt, client, (connection, &told), record, call)
+    let client = kept_client(rt.alloc(), program, beginning.features, window)?;
+    let record = Some(((name, file), beginning.text));
+    drive_confirmed(rt, client, (connection, &beginning.told), record, call)
 }
 
 /// What a run has read.

@@ -7,8 +7,11 @@
 //! - `programs`: 10,000 statements and one more
 //! - `hands`: each effect on real files and the standard streams
 //! - `growing`: files that grow
+//! - `faults`: a run each effect of which fails in each way
 #![tactic(auto)]
 
+#[cfg(test)]
+mod faults;
 #[cfg(test)]
 mod framing;
 #[cfg(test)]
