@@ -1,4 +1,0 @@
-pub mod Roots
-pub mod Tables
-pub mod Digits
-pub mod Numbers

@@ -1,4 +1,0 @@
-pub mod Along
-pub mod Rows
-pub mod Records
-pub mod Json

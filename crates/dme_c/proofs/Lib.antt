@@ -1,6 +1,0 @@
--- What is proved of handles and calls.
-mod Beginning
-mod Calls
-mod Making
-mod Ours
-mod Option

@@ -1,7 +1,0 @@
-pub mod LinesShown
-pub mod LoopingLemmas
-pub mod OrderLemmas
-pub mod PlanLemmas
-pub mod ReadingLemmas
-pub mod RecordLemmas
-pub mod TextReads

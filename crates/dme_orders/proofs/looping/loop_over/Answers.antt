@@ -1,6 +1,0 @@
-use Rattle.std.proofs.Common.{rules, refl}
-use Rattle.dme_orders.proofs.OrderLemmas.{no_text}
-use Rattle.dme_orders.proofs.looping.loop_over.Goals as goal
-
-pub returns-in_err-ended-clause-prints : goal.returns-in_err-ended-clause-prints
-returns-in_err-ended-clause-prints g c = no_text _ _ c.from_residual.result (search rules) refl

@@ -1,6 +1,0 @@
-use Rattle.std.proofs.Common.{◌≡◌, true, take}
-use Rattle.dme_tags.specs.Places.{all_failed}
-use Rattle.dme_tags.proofs.marks.all_failed_before.Given as goal
-
-abbrev pub invariant-loop-earlier : goal.invariant-loop-earlier
-invariant-loop-earlier l = all_failed (take l.earlier l.commands) ≡ true

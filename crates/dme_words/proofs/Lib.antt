@@ -1,8 +1,0 @@
-pub mod WordsLemmas
-pub mod LineLemmas
-pub mod NumberLemmas
-pub mod HelpLemmas
-pub mod LevelLemmas
-pub mod FoundLemmas
-pub mod AskedLemmas
-pub mod LaterLemmas

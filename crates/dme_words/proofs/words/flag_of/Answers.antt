@@ -1,8 +1,0 @@
-use Rattle.clap.specs.Words.{found_of, rows_of}
-use Rattle.clap.proofs.WalkLemmas.{one_text-rows}
-use Rattle.dme_words.proofs.NumberLemmas.{flag_reads}
-use Rattle.dme_words.proofs.words.flag_of.Goals as goal
-
-pub returns : goal.returns
-returns c = flag_reads c.args.id.now (rows_of (found_of c.args.values.now)) _ c.get_flag.result
-    (one_text-rows (found_of c.args.values.now) c.args.id.now) c.requires c.get_flag.ensures.value c.get_flag.ensures.other

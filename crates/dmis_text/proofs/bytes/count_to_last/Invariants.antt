@@ -1,9 +1,0 @@
-use Rattle.std.proofs.Common.{◌≡◌, ◌≤◌, length, drop, true}
-use Rattle.dmis_text.specs.Texts.{all_blank}
-use Rattle.dmis_text.proofs.bytes.count_to_last.Given as goal
-
-abbrev pub invariant-loop-count : goal.invariant-loop-count
-invariant-loop-count l = (l.count ≤ length l.bytes) × (all_blank (drop l.count l.bytes) ≡ true)
-
-abbrev pub decreases-loop-count : goal.decreases-loop-count
-decreases-loop-count l = l.count

@@ -1,6 +1,0 @@
-use Rattle.std.proofs.Common.{◌≡◌, ◌++◌, drop, false}
-use Rattle.dmis_text.specs.Elements.{folded}
-use Rattle.dmis_text.proofs.elements.fold.Given as goal
-
-abbrev pub invariant-loop-byte : goal.invariant-loop-byte
-invariant-loop-byte l = l.made.items ++ folded l.inside (drop l.byte-index l.bytes) ≡ folded false l.bytes

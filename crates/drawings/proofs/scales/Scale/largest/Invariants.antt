@@ -1,6 +1,0 @@
-use Rattle.std.proofs.Common.{ℕ, ◌<◌}
-use Rattle.drawings.specs.Scales.{Fits}
-use Rattle.drawings.proofs.scales.Scale.largest.Given as goal
-
-abbrev pub invariant-loop-number : goal.invariant-loop-number
-invariant-loop-number l = (larger : ℕ) → larger < l.number → Fits larger l.lengths l.room → ⊥

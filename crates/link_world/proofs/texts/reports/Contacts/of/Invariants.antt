@@ -1,9 +1,0 @@
-use Rattle.std.proofs.Common.{◌≡◌, ◌++◌, length, drop}
-use Rattle.protocol_model.specs.Claims.{contacts}
-use Rattle.link_world.specs.Reports.{reported, numbered_from}
-use Rattle.link_world.proofs.texts.reports.Contacts.of.Given as goal
-
--- what is copied and what is left are all contacts
-abbrev pub invariant-loop-connection : goal.invariant-loop-connection
-invariant-loop-connection l =
-    l.items.items ++ numbered_from (length l.items.items) (contacts (drop l.connection-index l.ledger)) ≡ reported l.ledger

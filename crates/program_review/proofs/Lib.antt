@@ -1,5 +1,0 @@
-pub mod FirstLemmas
-pub mod StepLemmas
-pub mod TaskSteps
-pub mod TaskPlaces
-pub mod PlanLineLemmas

@@ -1,9 +1,0 @@
-use Rattle.std.proofs.Common.{◌≡◌, ◌++◌, drop}
-use Rattle.std.specs.List.{flat_map}
-use Rattle.program_review.specs.TaskLines.{command_lines_of, lines_of}
-use Rattle.program_review.proofs.tasks.command_lines.Given as goal
-
--- the lines so far, and those of the tasks that are left
-abbrev pub invariant-loop-task : goal.invariant-loop-task
-invariant-loop-task l =
-    l.lines.items ++ flat_map lines_of (drop l.task-index l.rest) ≡ command_lines_of l.touches l.tasks

@@ -1,3 +1,0 @@
--- Examples: contacts and ledgers that the claim allows and refuses.
-pub mod Refused
-pub mod LedgerRefused

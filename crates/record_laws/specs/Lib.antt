@@ -1,4 +1,0 @@
-pub mod Examples
-pub mod Recordings
-pub mod Runs
-pub mod Worlds

@@ -1,9 +1,0 @@
-use Rattle.std.proofs.Common.{◌≡◌, ◌++◌, string_bytes, drop}
-use Rattle.std.specs.List.{flat_map}
-use Rattle.refusal_guide.specs.Lines.{visible_in_line}
-use Rattle.refusal_guide.proofs.lines.push_line.Given as goal
-
--- what is written and what is left are all bytes
-abbrev pub invariant-loop-byte : goal.invariant-loop-byte
-invariant-loop-byte l = string_bytes l.text ++ flat_map visible_in_line (drop l.byte-index l.bytes)
-    ≡ string_bytes l.fn.text ++ flat_map visible_in_line l.bytes

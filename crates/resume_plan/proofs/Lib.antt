@@ -1,3 +1,0 @@
-pub mod PlacesBehind
-pub mod PlansMade
-pub mod SendableLemmas

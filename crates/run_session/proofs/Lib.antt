@@ -1,6 +1,0 @@
-pub mod ErrorLines
-pub mod Growing
-pub mod ClientCalls
-pub mod Filing
-pub mod Kept
-pub mod Moments

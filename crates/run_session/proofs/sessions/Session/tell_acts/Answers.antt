@@ -1,8 +1,0 @@
-use Rattle.std.proofs.Common.{sym, subst}
-use Rattle.run_session.specs.Records.{State, Ran}
-use Rattle.run_session.proofs.Filing.{told_acts_keep}
-use Rattle.run_session.proofs.sessions.Session.tell_acts.Goals as goal
-
-pub returns-clause-ran : goal.returns-clause-ran
-returns-clause-ran c = λ first ran. told_acts_keep c.tell.result c.self.inside.client c.self.inside.growth c.tell.new.self
-    c.tell.ensures.ok c.tell.ensures.err first (subst (λ (s : State). Ran first s.pair) (sym c.self.view_is) ran)

@@ -1,2 +1,0 @@
-pub mod Killed
-pub mod Records

@@ -1,3 +1,0 @@
-pub mod Files
-pub mod Sessions
-pub mod Relays

@@ -1,4 +1,0 @@
-pub mod Sessions
-pub mod Places
-pub mod Visible
-pub mod Dialogues

@@ -1,4 +1,0 @@
-pub mod Sounds
-pub mod Views
-pub mod Counts
-pub mod Tells

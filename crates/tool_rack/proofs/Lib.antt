@@ -1,6 +1,0 @@
-pub mod FieldCuts
-pub mod Growing
-pub mod Lengths
-pub mod LineLaws
-pub mod SetupRuns
-pub mod SpacingLaws

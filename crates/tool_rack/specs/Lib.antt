@@ -1,6 +1,0 @@
-pub mod Fields
-pub mod Entries
-pub mod Setups
-pub mod Carrying
-pub mod Spacing
-pub mod Messages

@@ -1,4 +1,0 @@
-pub mod PlaceLemmas
-pub mod TurnLemmas
-pub mod LimitLemmas
-pub mod PieceLemmas

@@ -1,7 +1,0 @@
-use Rattle.std.proofs.Common.{◌≡◌, drop}
-use Rattle.watched_ends.specs.Limits.{keeps_more}
-use Rattle.watched_ends.proofs.limits.keep_more.Given as goal
-
--- what may be kept of those that are left
-abbrev pub invariant-loop-used : goal.invariant-loop-used
-invariant-loop-used l = keeps_more l.left (drop l.used-index l.uses) ≡ keeps_more 16777216 l.uses

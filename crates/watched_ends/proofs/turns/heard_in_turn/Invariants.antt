@@ -1,7 +1,0 @@
-use Rattle.std.proofs.Common.{◌≤◌, length, take}
-use Rattle.watched_ends.specs.Turns.{AreTaken}
-use Rattle.watched_ends.proofs.turns.heard_in_turn.Given as goal
-
--- the lines of the server up to a place were read
-abbrev pub invariant-loop-line : goal.invariant-loop-line
-invariant-loop-line l = AreTaken l.up l.next (take l.line-index l.down) l.dialogue × (l.later.quiet ≤ l.next) × (l.next ≤ length l.up)

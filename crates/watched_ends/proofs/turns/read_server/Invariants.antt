@@ -1,7 +1,0 @@
-use Rattle.std.proofs.Common.{◌≡◌, drop}
-use Rattle.witness.specs.Watching.{server_lines}
-use Rattle.watched_ends.proofs.turns.read_server.Given as goal
-
--- what is left leads to the same
-abbrev pub invariant-loop-line : goal.invariant-loop-line
-invariant-loop-line l = server_lines l.dialogue (drop l.line-index l.down) ≡ server_lines l.fn.dialogue l.down

@@ -1,7 +1,0 @@
-use Rattle.std.proofs.Common.{ℕ, List}
-use Rattle.watched_ends.specs.Turns.{AreTaken}
-use Rattle.watched_ends.proofs.turns.read_to.Given as goal
-
--- the lines up to a place were read
-abbrev pub invariant-loop-at : goal.invariant-loop-at
-invariant-loop-at l = (down : List (List ℕ)) → AreTaken l.up l.next down l.fn.dialogue → AreTaken l.up l.at down l.dialogue

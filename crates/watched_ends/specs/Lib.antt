@@ -1,5 +1,0 @@
-pub mod Turns
-pub mod Ledgers
-pub mod Limits
-pub mod Pieces
-pub mod Recorded

@@ -1,7 +1,0 @@
-use Rattle.std.proofs.Common.{◌≡◌, ◌++◌, drop, map, take}
-use Rattle.witness.specs.Dialogues as spec
-use Rattle.witness.proofs.uses.forget.Given as goal
-
--- the lines that were changed, and those that are left
-abbrev pub invariant-loop-used : goal.invariant-loop-used
-invariant-loop-used l = l.uses ≡ map (spec.unknowing) (take l.used-index l.initial.uses) ++ drop l.used-index l.initial.uses

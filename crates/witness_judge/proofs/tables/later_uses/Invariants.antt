@@ -1,8 +1,0 @@
-use Rattle.std.proofs.Common.{◌-◌, length}
-use Rattle.witness_judge.specs.Uses.{AreFirst, AreNext}
-use Rattle.witness_judge.proofs.tables.later_uses.Given as goal
-
--- the lines from a place on were noted
-abbrev pub invariant-loop-passed : goal.invariant-loop-passed
-invariant-loop-passed l =
-    AreFirst l.up (length l.up - l.passed) l.later.first.items × AreNext l.up (length l.up - l.passed) l.later.next.items

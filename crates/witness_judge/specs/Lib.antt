@@ -1,9 +1,0 @@
-pub mod Lines
-pub mod Uses
-pub mod ClientRules
-pub mod ServerRules
-pub mod Counts
-pub mod Orders
-pub mod Judging
-pub mod Texts
-pub mod Examples

@@ -1,5 +1,0 @@
-pub mod Names
-pub mod orders
-pub mod server
-pub mod client
-pub mod machines
