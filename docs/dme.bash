@@ -28,7 +28,7 @@ _dme()
         audit) options="--setup --features --contacts --record --explain" ;;
         loop) options="--setup --window --progress --trace --explain" ;;
         serve) options="--setup --listen --port --connections --endless --contacts --progress --trace --log --timeout --stop --explain" ;;
-        run) options="--setup --host --port --window --features --record --part --contacts --progress --trace --log --timeout --wait --stop --confirm --explain" ;;
+        run) options="--setup --host --port --window --features --record --part --contacts --progress --trace --log --timeout --wait --stop --confirm --pause --explain" ;;
         export) options="--as --setup --features --record --explain" ;;
         review) options="--as --setup" ;;
         ledger) options="--up --down --connection" ;;

@@ -4,3 +4,4 @@ pub mod ClientCalls
 pub mod Filing
 pub mod Kept
 pub mod Moments
+pub mod Pauses
