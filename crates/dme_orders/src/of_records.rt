@@ -6,11 +6,10 @@ ghost use Rattle.contact_ledger.specs.ContactTexts.{contacts_text};
 ghost use Rattle.contact_ledger.specs.Ledgers.{HaveOrigins};
 ghost use Rattle.tool_rack.specs.Setups.{SetupValue};
 ghost use Rattle.dme_orders.specs.Auditing.{LeavesVerdict};
-ghost use Rattle.dme_orders.specs.OfRecords.{IsFeaturesText};
+ghost use Rattle.dme_orders.specs.OfRecords.{IsFeaturesText, RefusesRecord, IsRecordText, AuditsRecord, ExportsRecord};
 ghost use Rattle.dme_orders.specs.Exporting.{RefusesFeatures};
 ghost use Rattle.dme_orders.specs.Input.{named, ReadsHeld, WhyNoneHeld};
 ghost use Rattle.dme_orders.specs.Missing.{IsMissing};
-ghost use Rattle.dme_orders.specs.OfRecords.{RefusesRecord, IsRecordText, AuditsRecord, ExportsRecord};
 ghost use Rattle.dme_orders.specs.Orders.{went};
 ghost use Rattle.dme_orders.specs.Reading.{came};
 ghost use Rattle.dme_orders.specs.Recorded.{IsOfProgram, features_in, told_in};
@@ -169,7 +168,6 @@ fn features_text(
     Ok(text)
 }
 
-/// The text of a contacts file. Fails only if out of memory.
 #[tactic(auto, using(crate::proofs::RecordLemmas::contacts_have_text))]
 fn contacts_text(alloc: Global, ledger: &ServerLedger) -> Result<Vec<u8>, AllocError>
     ensures text { IfOk result (λ text. text.items ≡ contacts_text ledger.now) }

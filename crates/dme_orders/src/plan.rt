@@ -6,8 +6,7 @@ ghost use Rattle.dme_line.specs.Kinds.{kind_of, is_event_kind};
 ghost use Rattle.dme_line.specs.Written.{HasVolumeLengths};
 ghost use Rattle.dme_line.specs.declared.tags.Tag.TheVariants.{Std};
 ghost use Rattle.resume_plan.specs.Sendable.{IsSendable};
-ghost use Rattle.dme_orders.specs.Plan.{count_to_touch, first_commands, is_touch, plan_text};
-ghost use Rattle.dme_orders.specs.Plan.{homing_mark, shown_line, shown_behind};
+ghost use Rattle.dme_orders.specs.Plan.{count_to_touch, first_commands, is_touch, plan_text, homing_mark, shown_line, shown_behind};
 ghost use Rattle.dme_orders.specs.Numbered.{number_behind, number_behind_all, line_under, lines_from, shown_from};
 
 use dme_line::{Command, Tag, write_command};
@@ -25,7 +24,6 @@ fn homing_mark(command: &Command) -> &'static str
     }
 }
 
-/// The number after another.
 fn next_number(number: u32) -> u32
     requires { number ≤ 9999 }
     ensures { result ≡ number_behind number }
@@ -42,7 +40,6 @@ struct Lines {
 }
 
 impl Lines {
-    /// No lines.
     fn new(alloc: Global) -> Lines
         ensures text { result.text.items ≡ [] }
         ensures number { result.number ≡ 1 }
@@ -98,7 +95,6 @@ impl Lines {
         Ok(())
     }
 
-    /// Adds the lines of commands, as they are shown before a run.
     fn push_all_shown(&mut self, commands: &[Planned]) -> Result<(), AllocError>
         requires { All IsSendable commands.now }
         ensures { OnOk result (self.new.text.items ≡ self.old.text.items
@@ -125,7 +121,6 @@ impl Lines {
     }
 }
 
-/// Commands as lines that are shown before a run. Fails only if out of memory.
 fn shown_text(alloc: Global, commands: &[Planned]) -> Result<Vec<u8>, AllocError>
     requires { All IsSendable commands.now }
     ensures { IfOk result (λ text. text.items ≡ shown_behind 0 commands.now) }
@@ -135,14 +130,12 @@ fn shown_text(alloc: Global, commands: &[Planned]) -> Result<Vec<u8>, AllocError
     Ok(lines.text)
 }
 
-/// Whether a command touches.
 fn is_touch(command: &Command) -> bool
     ensures { result ≡ is_touch command.now }
 {
     matches!(command, Command::PtMeas(_, _))
 }
 
-/// Where the first touch is.
 fn first_touch(commands: &[Planned]) -> Option<usize>
     ensures place { result ≡ position (λ p. is_touch p.command) commands.now }
     ensures within { IfSome result (λ at. at < length commands.now) }

@@ -352,7 +352,6 @@ struct RunNames {
     program: String,
 }
 
-/// Takes the names of the files that a run reads.
 fn take_names(alloc: Global, order: &mut Run) -> RunNames
     ensures { order.new.window ≡ order.old.window }
 {

@@ -1,9 +1,8 @@
 // What `dme` refuses by a code.
 
 ghost use Rattle.std.specs.Prelude.{◌≡◌, ◌≤◌, true, find, length, MatchOption};
-ghost use Rattle.std.specs.List.{list_all};
+ghost use Rattle.std.specs.List.{list_all, prefix_len};
 ghost use Rattle.std.specs.Char.{is_ascii_digit};
-ghost use Rattle.std.specs.List.{prefix_len};
 ghost use Rattle.refusal_guide.specs.declared.topics.TheConstants.{TOPICS};
 ghost use Rattle.refusal_guide.specs.Titles.{title_of, is_of_code, code_in, is_called};
 ghost use Rattle.refusal_guide.specs.Codes.{is_error_number, is_code_of, topic_of};
@@ -155,7 +154,6 @@ fn code_len(title: &[u8]) -> usize
     title.iter().take_while(|byte| **byte != b' ').count()
 }
 
-/// The code with which a title begins.
 fn code_in(title: &[u8]) -> &[u8]
     ensures { result.now ≡ code_in title.now }
 {
@@ -179,7 +177,6 @@ fn find_topic(code: &[u8]) -> Option<Topic>
         .find(|topic| is_called(topic.title().as_bytes(), code))
 }
 
-/// Whether each byte is a digit.
 fn all_digits(code: &[u8]) -> bool
     ensures { result ≡ list_all is_ascii_digit code.now }
 {
@@ -193,7 +190,6 @@ fn is_error_number(code: &[u8]) -> bool
     code.len() == 4 && all_digits(code)
 }
 
-/// The topic of a code, by the table and by its form.
 fn topic_of(code: &[u8]) -> Option<Topic>
     ensures { result ≡ topic_of code.now }
 {

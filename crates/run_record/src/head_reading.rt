@@ -4,8 +4,7 @@ ghost use Rattle.std.specs.Prelude.{◌≡◌, ◌<◌, ◌∷◌, ℕ, length, 
 ghost use Rattle.fixed_um.specs.Calls.{Finds};
 ghost use Rattle.contact_ledger.specs.Lines.{whole_lines};
 ghost use Rattle.run_record.specs.Heads.{IsPart, part_line, header};
-ghost use Rattle.run_record.specs.Stages.{Stage, Next, stage_of, IsValid, IsOpen};
-ghost use Rattle.run_record.specs.Stages.{HasHead, HasTornHead, IsBadHead};
+ghost use Rattle.run_record.specs.Stages.{Stage, Next, stage_of, IsValid, IsOpen, HasHead, HasTornHead, IsBadHead};
 ghost use Rattle.run_record.specs.declared.faults.RecordFault.TheVariants.{Damaged};
 ghost use Rattle.run_record.specs.declared.heads.Place.TheVariants.{Between, Within};
 
@@ -17,7 +16,6 @@ use contact_ledger::forms::Forms;
 use contact_ledger::lines::cut_line;
 use std::alloc::{AllocError, Global};
 
-/// The part that a line names. Fails only if out of memory.
 fn read_part(alloc: Global, line: &[u8]) -> Result<Option<Part>, AllocError>
     ensures { IfOk result (λ found. Finds found (λ p. IsPart p × (line.now ≡ part_line p))) }
 {

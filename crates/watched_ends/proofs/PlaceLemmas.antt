@@ -1,18 +1,11 @@
 -- Where the client uses each tag last.
-use Rattle.std.proofs.Common.{◌≡◌, ℕ, zero, suc, ◌+◌, ◌<◌, ◌≤◌, ◌==◌, Bool, true, false, if◌then◌else◌, List, [], ◌∷◌, length, drop, get_or}
-use Rattle.std.proofs.Common.{Some, None, refl, ap, sym, ◌∙◌, subst, arith, length-drop}
-use Rattle.std.proofs.lemmas.Bool.{false≢true, eqb-true, eq-eqb}
-use Rattle.std.proofs.lemmas.List.{get_or-drop}
-use Rattle.std.specs.List.{list_any}
-use Rattle.dme_line.specs.declared.tags.Tag.{Tag}
-use Rattle.dme_line.specs.declared.tags.Tag.TheVariants.{Std, Event}
-use Rattle.protocol_model.specs.Readings.{command_of}
+use Rattle.watched_ends.proofs.Names.{[], ◌+◌, ◌<◌, ◌==◌, ◌∙◌, ◌∷◌, ◌≡◌, ◌≤◌, ap, AreLast, AreQuiet, arith, at_once_line, Bool, code_of, command_of}
+use Rattle.watched_ends.proofs.Names.{drop, eq-eqb, eqb-true, Event, false, get_or, get_or-drop, if◌then◌else◌, is_under, IsNoted, length}
+use Rattle.watched_ends.proofs.Names.{length-drop, List, list_any, None, refl, sends, sent, Some, some_sends, Std, subst, suc, sym, Tag, true, zero}
+use Rattle.watched_ends.proofs.Names.{ℕ}
+use Rattle.std.proofs.lemmas.Bool.{false≢true}
 use Rattle.protocol_model.specs.Replies.{tag_is}
-use Rattle.witness.specs.Asking.{sent}
 use Rattle.witness.specs.declared.lines.SentCommand.{SentCommand}
-use Rattle.witness_laws.specs.Orders.{is_under, sends, some_sends}
-use Rattle.witness_laws.specs.Orders.{at_once_line}
-use Rattle.watched_ends.specs.Turns.{code_of, AreLast, AreQuiet, IsNoted}
 
 -- one tag has one place
 one_code : (used tag : Tag) → tag_is used tag ≡ true → code_of tag ≡ code_of used

@@ -33,7 +33,6 @@ fn put(places: &mut Vec<usize>, code: usize, place: usize)
     }
 }
 
-/// Whether a command that was sent under a tag may be carried out at once.
 fn is_at_once(tag: Tag, command: &SentCommand) -> bool
     ensures { result ≡ foreign_event tag command.now }
 {
