@@ -26,7 +26,7 @@ use Rattle.dmis_program.specs.declared.sayings.StatementMeaning.{StatementMeanin
 use Rattle.dmis_program.specs.declared.sayings.StatementMeaning.TheVariants as said
 use Rattle.dmis_program.specs.declared.steps.Step.{Step}
 use Rattle.program_review.specs.declared.standing.Standing.{Standing}
-use Rattle.program_review.specs.declared.refusals.Found.{Found}
+use Rattle.program_review.specs.declared.remarks.Remark.{Remark}
 use Rattle.program_review.specs.Refusals.{at_start, number_at, some_tool, context_of, due, one_more, one_less, lacking_said, is_selection}
 use Rattle.program_review.specs.Variables.{names_by}
 use Rattle.program_review.specs.Refusals.{after_said, after, is_end, listed, refusals_from, refusals_of, first_of, fault_of}
@@ -244,14 +244,14 @@ front_keeps front (Ok steps) = refl
 front_keeps front (Err e) = refl
 
 -- one statement, by its judgement
-goes_on : (b : Bool) (steps : List Step) (behind : Result (List Step) (Refusal × ℕ)) (more : List Found)
+goes_on : (b : Bool) (steps : List Step) (behind : Result (List Step) (Refusal × ℕ)) (more : List Remark)
     → first_of more ≡ fault_of behind
     → first_of (cond b [] more) ≡ fault_of (cond b (Ok []) (with_front steps behind))
 goes_on true steps behind more h = refl
 goes_on false steps behind more h = h ∙ sym (front_keeps steps behind)
 
 by_judgement : (names : List (List ℕ)) (s : Statement) (st : Standing) (r : Result StatementMeaning Refusal) (steps : StatementMeaning → List Step)
-    (behind : Result (List Step) (Refusal × ℕ)) (rest : Standing → List Found)
+    (behind : Result (List Step) (Refusal × ℕ)) (rest : Standing → List Remark)
     → ((m : StatementMeaning) → r ≡ Ok m → is_end (keyword_of s.word) ≡ closes m)
     → ((m : StatementMeaning) → r ≡ Ok m → first_of (rest (after_said st (keyword_of s.word) m)) ≡ fault_of behind)
     → first_of (listed names s r ++ cond (is_end (keyword_of s.word)) [] (rest (after st (keyword_of s.word) r)))

@@ -2,13 +2,14 @@
 
 ghost use Rattle.std.specs.Prelude.{◌≡◌, ◌++◌, [], codes, IfOk, OnOk};
 ghost use Rattle.std.specs.Str.{bytes_eq};
-ghost use Rattle.dmis_text.specs.Reading.{text_reading};
 ghost use Rattle.dmis_program.specs.Sayings.{is_badly_formed};
 ghost use Rattle.dmis_program.specs.declared.keywords.Keyword.TheVariants as word;
 ghost use Rattle.program_review.specs.Notices.{begins_with, is_off, sensor_setting, passed_word, passed_over, with_passed, notices_of};
 
+use crate::groups::is_text;
+use crate::remarks::{Remark, What};
 use dmis_program::{Keyword, keyword_of_word};
-use dmis_text::{Statement, Statements, Text, TextFault};
+use dmis_text::{Statement, Text};
 use std::alloc::{AllocError, Global};
 
 /// What a statement changes that is passed over (ISO 22093).
@@ -71,23 +72,6 @@ impl Passed {
     }
 }
 
-/// A statement that is passed over, and the line on which it begins.
-#[derive(Clone, Copy, Debug, PartialEq, Eq)]
-pub struct Notice {
-    /// What the statement changes.
-    pub what: Passed,
-    /// The number of the line, from 1.
-    pub line: u64,
-}
-
-/// Whether two texts are the same.
-fn is_text(text: &[u8], other: &str) -> bool
-    ensures { result ≡ bytes_eq text.now other.now }
-{
-    text == other.as_bytes()
-}
-
-/// Whether the first parameter is this word.
 fn begins_with(other: &str, params: &[Text]) -> bool
     ensures { result ≡ begins_with other.now params.now }
 {
@@ -168,35 +152,36 @@ fn passed_over(statement: &Statement) -> Option<Passed>
     passed_word(&statement.word, &statement.params)
 }
 
-/// Adds a notice, if there is one.
-fn push_passed(notices: &mut Vec<Notice>, what: Option<Passed>, line: u64) -> Result<(), AllocError>
-    ensures { OnOk result (notices.new.items ≡ notices.old.items ++ with_passed what line []) }
+fn push_passed(
+    remarks: &mut Vec<Remark>,
+    passed: Option<Passed>,
+    line: u64,
+) -> Result<(), AllocError>
+    ensures { OnOk result (remarks.new.items ≡ remarks.old.items ++ with_passed passed line []) }
 {
-    if let Some(what) = what {
-        notices.push(Notice { what, line })?;
+    if let Some(passed) = passed {
+        let what = What::Passed(passed);
+        remarks.push(Remark { what, line })?;
     }
     Ok(())
 }
 
-/// Each statement of a program that is passed over though it changes how the machine moves, what nominal values mean or what an operator
-/// must do, in order. Nothing is read after `ENDFIL`, nor after a line that cannot be read. Fails only if out of memory.
-pub fn passed_statements(alloc: Global, bytes: &[u8]) -> Result<Vec<Notice>, AllocError>
-    ensures { IfOk result (λ notices.
-        notices.items ≡ notices_of (text_reading bytes.now).statements) }
+/// Each statement of these that is passed over though it changes how the machine moves, what nominal values mean or what an operator
+/// must do, up to `ENDFIL`. Fails only if out of memory.
+pub(crate) fn passed_statements(
+    alloc: Global,
+    statements: &[Statement],
+) -> Result<Vec<Remark>, AllocError>
+    ensures { IfOk result (λ remarks. remarks.items ≡ notices_of statements.now) }
 {
-    let mut statements = Statements::new(alloc, bytes);
-    let mut notices = Vec::new(alloc);
-    loop {
-        let statement = match statements.next() {
-            Ok(Some(statement)) => statement,
-            Ok(None) => return Ok(notices),
-            Err(TextFault::Memory) => return Err(AllocError),
-            Err(TextFault::LineTooLong(_) | TextFault::BadByte(_)) => return Ok(notices),
-        };
+    let mut remarks = Vec::new(alloc);
+    let mut left = statements;
+    while let [statement, rest @ ..] = left {
         if keyword_of_word(&statement.word) == Keyword::Endfil {
-            return Ok(notices);
+            return Ok(remarks);
         }
-        push_passed(&mut notices, passed_over(&statement), statement.line)?;
-        statements.take_back(statement);
+        push_passed(&mut remarks, passed_over(statement), statement.line)?;
+        left = rest;
     }
+    Ok(remarks)
 }

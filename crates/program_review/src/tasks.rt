@@ -44,7 +44,6 @@ fn task_of(meaning: &Option<StatementMeaning>) -> Option<Task>
     }
 }
 
-/// Adds what the statement of a line asks for, if it asks for something.
 fn push_task(tasks: &mut Vec<TaskLine>, task: Option<Task>, line: u64) -> Result<(), AllocError>
     ensures { OnOk result (tasks.new.items ≡ tasks.old.items ++ task_on line task) }
 {
@@ -117,7 +116,6 @@ fn left_after(tasks: &[TaskLine], touches: usize) -> Left<'_>
     }
 }
 
-/// Adds the lines of the commands that a task takes.
 fn push_lines(lines: &mut Vec<Option<u64>>, task: TaskLine) -> Result<(), AllocError>
     ensures { OnOk result (lines.new.items ≡ lines.old.items ++ lines_of task) }
 {

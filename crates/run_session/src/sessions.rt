@@ -121,6 +121,8 @@ pub struct Session {
     /// Whether its client has come to the connection, and is there.
     pub(crate) has_begun: bool,
     pub(crate) is_on: bool,
+    /// Whether memory has run out before.
+    pub(crate) is_short: bool,
     /// Whether the stop file was seen, and in which state the client was then.
     pub(crate) is_stopped: bool,
     pub(crate) seen: Option<State>,
@@ -208,6 +210,7 @@ impl Session {
             missed: Cause::Unknown,
             has_begun: false,
             is_on: false,
+            is_short: false,
             is_stopped: false,
             seen: None,
             last: Vec::new(alloc),
@@ -403,7 +406,7 @@ impl Session {
     }
 
     /// The last message is to be said, which needs no memory.
-    fn tell(&mut self)
+    pub(crate) fn tell(&mut self)
         ensures quiet { spec.IsQuiet self.old self.new }
         ensures due { spec.IsDue self.new }
     {
@@ -424,7 +427,16 @@ impl Session {
         }
     }
 
-    /// Memory has run out. Before the connection, and at the end, that is said at once.
+    /// Memory has run out before the connection: files that did not begin are left as they were.
+    fn give_up(&mut self)
+        ensures quiet { spec.IsQuiet self.old self.new }
+        ensures due { spec.IsDue self.new }
+    {
+        self.is_short = true;
+        self.stage = Stage::Leaving;
+    }
+
+    /// Memory has run out. At the end that is said at once.
     fn run_short(&mut self)
         ensures ran { spec.Keeps self.old.pair self.new.pair }
         ensures book { self.new.book ≡ self.old.book }
@@ -433,8 +445,10 @@ impl Session {
         if self.is_on {
             self.is_on = false;
             self.give_in();
-        } else {
+        } else if self.has_begun || self.is_short {
             self.tell();
+        } else {
+            self.give_up();
         }
     }
 }
