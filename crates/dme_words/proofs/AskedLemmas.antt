@@ -10,7 +10,7 @@ use Rattle.clap.specs.Walk.{Text, answers_to, nothing_held, rows_after, walk, wa
 use Rattle.clap.specs.Simple.{App, Shape, argument_words, built, entered, label_of, names_of}
 use Rattle.clap.specs.Simple.{rows_at, subcommand_of}
 use Rattle.clap.specs.Faults.{entered_fault, fault_of, level_fault, walk_fault}
-use Rattle.dme_words.specs.CommandLine.{audit_line, check_line, explain_line, export_line, judge_line, ledger_line, loop_line, run_line, serve_line, simulate_line, watch_line, whole_line}
+use Rattle.dme_words.specs.CommandLine.{audit_line, check_line, explain_line, export_line, judge_line, ledger_line, loop_line, lower_line, run_line, serve_line, simulate_line, watch_line, whole_line}
 use Rattle.dme_words.specs.Ordered.{Has, IsAskable, leaf}
 use Rattle.dme_words.proofs.HelpLemmas.{NotAtHelp, entered_there, first_none, second_none, walk_stops}
 use Rattle.dme_words.proofs.FoundLemmas.{level_has}
@@ -101,6 +101,11 @@ relayed words none = level_has (leaf watch_line) words refl
     ((refl, inl (refl, refl)), ((refl, inl (refl, refl)), ((refl, inl (refl, refl)), ((refl, inl (refl, refl)), ((refl, inl (refl, refl)), ((refl, inl (refl, refl)), ((refl, inr (inl (refl, omega arith))), ((refl, inr (inl (refl, omega arith))), ((refl, inl (refl, refl)), ((refl, inl (refl, refl)), ((refl, inr (inr refl)), tt)))))))))))
     none
 
+lowered : (words : List Text) → level_fault (leaf lower_line) [] nothing_held words false [] ≡ [] → Has lower_line (rows_after (leaf lower_line).rules [] words)
+lowered words none = level_has (leaf lower_line) words refl
+    ((refl, inl (refl, refl)), ((refl, inr (inl (refl, omega arith))), ((refl, inr (inl (refl, omega arith))), ((refl, inr (inl (refl, omega arith))), ((refl, inl (refl, refl)), ((refl, inr (inr refl)), tt))))))
+    none
+
 -- each subcommand of `dme` may be asked for, and `help` was not met
 serves : (p : Text × List Text) → NotAtHelp (Some p) → Serve p.0 p.1 (built whole_line).subs
 serves p free = (
@@ -126,8 +131,11 @@ serves p free = (
                     (
                       λ answers none. inr (inr (inr (inr (inr (inr (inr (inr (inr (inr (inl (refl, judged p.1 none))))))))))),
                       (
-                        λ answers none. inr (inr (inr (inr (inr (inr (inr (inr (inr (inr (inr (refl, relayed p.1 none))))))))))),
-                        (λ answers none. absurd (no_help p.0 p.1 free answers), tt),
+                        λ answers none. inr (inr (inr (inr (inr (inr (inr (inr (inr (inr (inr (inl (refl, relayed p.1 none)))))))))))),
+                        (
+                          λ answers none. inr (inr (inr (inr (inr (inr (inr (inr (inr (inr (inr (inr (refl, lowered p.1 none)))))))))))),
+                          (λ answers none. absurd (no_help p.0 p.1 free answers), tt),
+                        ),
                       ),
                     ),
                   ),
