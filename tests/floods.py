@@ -1,7 +1,7 @@
 """What a witness keeps of ends that send too much, and how long it takes over long recordings.
 
 - Bytes that follow one that no line can hold, 10,000 lines and more that are never answered, and a line without an end that is shown or logged:
-  `dme watch` sends on each byte, its memory stays as it is, and the next connection is witnessed as any other.
+  `dme watch` sends on each byte, its memory is at the end what it was after a quarter of them, and the next connection is witnessed as any other.
 - `dme ledger` and `dme judge` over four times the lines take about four times as long.
 
 `run` calls this; by itself: tests/floods.py [MEGABYTES], which sends that many in each flood (48 by default).
@@ -14,12 +14,15 @@ import subprocess
 import sys
 import tempfile
 import threading
+import time
 
 from growths import PROGRAM, Wrong, must
 from watched import SECONDS, ended, watch
 
 MEGABYTES = 48
 MOST_KEPT = 32 << 20
+# How much more memory the relay may have had after a whole flood than after the first quarter of it.
+MOST_GROWN = 1 << 20
 PIECE = 1 << 16
 
 
@@ -53,7 +56,6 @@ class Sink:
         self.listener = socket.create_server(("127.0.0.1", 0))
         self.port = self.listener.getsockname()[1]
         self.count = count
-        self.read_all = threading.Event()
         self.may_close = threading.Event()
         self.bytes = 0
         self.thread = threading.Thread(target=self.take, daemon=True)
@@ -63,7 +65,6 @@ class Sink:
         with self.listener.accept()[0] as end:
             while self.bytes < self.count and (piece := end.recv(PIECE)):
                 self.bytes += len(piece)
-            self.read_all.set()
             self.may_close.wait(SECONDS)
         with self.listener.accept()[0] as end:
             line = b""
@@ -71,6 +72,16 @@ class Sink:
                 line += end.recv(PIECE)
             end.sendall(b"00001 &\r\n00001 %\r\n")
             end.recv(PIECE)
+
+
+def send(client, text, sink):
+    """Sends a text, and waits until the server has it."""
+    until, late = sink.bytes + len(text), time.monotonic() + SECONDS
+    for at in range(0, len(text), PIECE):
+        client.sendall(text[at : at + PIECE])
+    while sink.bytes < until:
+        must(time.monotonic() < late, "not sent on", sink.bytes, until)
+        time.sleep(0.01)
 
 
 def flood(folder, name, count):
@@ -81,9 +92,9 @@ def flood(folder, name, count):
     relay, port = watch(folder, sink.port, "--connections", "2" if b"\n" in text else "1", *words)
     # What the relay shows is read by none while it runs, so that it must fit into a pipe.
     with socket.create_connection(("127.0.0.1", port)) as client:
-        for at in range(0, len(text), PIECE):
-            client.sendall(text[at : at + PIECE])
-        must(sink.read_all.wait(SECONDS), name, "was not sent on", sink.bytes)
+        send(client, text[: len(text) // 4], sink)
+        first = peak(relay)
+        send(client, text[len(text) // 4 :], sink)
         kept = peak(relay)
         sink.may_close.set()
     with socket.create_connection(("127.0.0.1", port)) as client:
@@ -96,6 +107,7 @@ def flood(folder, name, count):
     must((status, out) == (0, ""), name, status, out, error[:200])
     must((folder / "told").read_text() == "DME-TOLD 1\n" + reported + "2 HOMED\n", name, (folder / "told").read_text()[:200])
     must(kept < MOST_KEPT, name, kept >> 10, "KiB")
+    must(kept < first + MOST_GROWN, name, "has grown from", first >> 10, "to", kept >> 10, "KiB")
     return kept >> 10
 
 

@@ -35,7 +35,7 @@ PHRASES = {
     r"takes? no memory": "does not allocate",
     r"(?<!in )(?<!the )fronts? of": "a prefix of",
     r"st(?:ands?|ood|anding) (?:in|at)": "is in, is defined in",
-    r"so many": "that many, n",
+    r"so many(?! are left)": "that many, n",
     r"the same of": "likewise for",
     r"(?:is|are|was|were|be|been|being) told|tells": "is reported, reports",
     r"owes?|owed": "must ensure, requires",

@@ -308,7 +308,7 @@ SENTENCES = {  # what is found: its lines, with a label of its own, and for each
     "acceleration": lambda it: (["ACLRAT/1"], [(0, "passed over: ACLRAT/1 would set an acceleration: the machine's own is used.")]),
     "operator": lambda it: (
         ["TEXT/OPER,'TURN'"],
-        [(0, "passed over: TEXT/OPER,'TURN' is a text for the operator: the machine does not wait for him.")],
+        [(0, "passed over: TEXT/OPER,'TURN' is a text for the operator: a run waits for him only with --pause.")],
     ),
 }
 SETUP = "TOOL P1\nFRAME HERE 0 0 0\nFRAME SPARE 0 0 0\nFRAME FAR 999999 0 0\n"

@@ -1,10 +1,10 @@
 -- A feature joins the others as the next that the program wants.
 use Rattle.std.proofs.Common.{◌≡◌, ◌≤◌, ◌<◌, ◌++◌, ◌∷◌, [], ℕ, List, length, refl, sym, ap, suc, Option, Some, None, take, arith}
-use Rattle.std.proofs.Common.{slice_index_or, nat_le, drop, zero, ◌∙◌, Bool, true, false, ◌&&◌}
+use Rattle.std.proofs.Common.{slice_index_or, nat_le, drop, ◌-◌, zero, ◌∙◌, Bool, true, false, ◌&&◌}
 use Rattle.std.proofs.Math.Seq.{take-append_seam}
 use Rattle.std.proofs.Math.Dec.{leb-suc-zero, leb-suc-suc}
 use Rattle.std.proofs.lemmas.Bool.{le-leb}
-use Rattle.std.proofs.lemmas.List.{length-append}
+use Rattle.std.proofs.lemmas.List.{length-append, length-drop}
 use Rattle.fixed_um.specs.declared.lengths.Point.{Point}
 use Rattle.contact_ledger.specs.declared.features.Origin.{Origin}
 use Rattle.contact_ledger.specs.declared.features.Feature.{Feature}
@@ -60,6 +60,10 @@ nothing_behind zero [] = refl
 nothing_behind zero (x ∷ xs) = leb-suc-zero (length xs)
 nothing_behind (suc n) [] = le-leb 0 (suc n) (omega arith)
 nothing_behind (suc n) (x ∷ xs) = leb-suc-suc (length xs) n ∙ nothing_behind n xs
+
+-- so many are left after the first n
+pub left_behind : {A : Type 0} (n : ℕ) (xs : List A) → length xs - n ≡ length (drop n xs)
+left_behind n xs = sym (length-drop n xs)
 
 second : (a b : Bool) → (a && b) ≡ true → b ≡ true
 second true b is = is

@@ -364,6 +364,20 @@ impl Client {
         self.executor.completed()
     }
 
+    /// How many commands of the present plan are still to be sent; a `Home()` that is skipped is not.
+    pub fn unsent(&self) -> usize
+        ensures { result ≡ length self.now.client.table.tally.unsent }
+    {
+        self.executor.unsent()
+    }
+
+    /// How many commands of the present plan are still to be counted; likewise.
+    pub fn uncounted(&self) -> usize
+        ensures { result ≡ length self.now.client.table.tally.todo }
+    {
+        self.executor.uncounted()
+    }
+
     /// How many standard commands are open: neither their `!` nor their `%` was read.
     pub fn open(&self) -> usize
         ensures { result ≡ count_open self.now.client.table.standard }

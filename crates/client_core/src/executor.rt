@@ -1,6 +1,6 @@
 // What a client keeps other than the bytes of its connection.
 
-ghost use Rattle.std.specs.Prelude.{◌≡◌, ◌≤◌, ◌&&◌, length, None, Some, OnOk, OnErr, IfOk, MatchOption, is_some, true, false};
+ghost use Rattle.std.specs.Prelude.{◌≡◌, ◌≤◌, ◌&&◌, length, drop, None, Some, OnOk, OnErr, IfOk, MatchOption, is_some, true, false};
 ghost use Rattle.fixed_um.specs.Calls.{Shows};
 ghost use Rattle.contact_ledger.specs.Ledgers.{HaveOrigins};
 ghost use Rattle.protocol_model.specs.Client.{new_client, client_left, client_restarted, due, faulted, is_whole, first_state, last_state, state_behind};
@@ -16,7 +16,7 @@ use contact_ledger::{Act, CONNECTION_MAX, Feature, FeatureLedger, Points};
 use dme_line::{Command, Tag};
 use dme_tags::Open;
 use dmis_program::Program;
-use protocol_model::{Cause, State};
+use protocol_model::{Cause, Planned, State};
 use std::alloc::Global;
 use std::marker::Model;
 
@@ -67,6 +67,14 @@ fn last_state(state: State, whole: bool, count: usize) -> State
         State::Failing if count == 0 => State::Halted,
         _ => state,
     }
+}
+
+/// How many commands of a plan are left after that many.
+#[tactic(auto, using(crate::proofs::Joining::left_behind))]
+fn left_after(plan: &[Planned], count: usize) -> usize
+    ensures { result ≡ length (drop count plan.now) }
+{
+    plan.len().saturating_sub(count)
 }
 
 impl Executor {
@@ -270,5 +278,17 @@ impl Executor {
         ensures { result ≡ count_open self.now.table.standard }
     {
         self.commands.count()
+    }
+
+    pub(crate) fn unsent(&self) -> usize
+        ensures { result ≡ length self.now.table.tally.unsent }
+    {
+        left_after(self.progress.plan.as_slice(), self.progress.unsent)
+    }
+
+    pub(crate) fn uncounted(&self) -> usize
+        ensures { result ≡ length self.now.table.tally.todo }
+    {
+        left_after(self.progress.plan.as_slice(), self.progress.todo)
     }
 }

@@ -8,7 +8,7 @@ use dme_files::{HeldFile, is_plain, replace_file};
 use effects::{Answer, Came, Effect, Growth, Hands, Peer, Place, Slot};
 use jiff::Timestamp;
 use std::fs::{self, File};
-use std::io::{self, ErrorKind, Write};
+use std::io::{self, ErrorKind, Read, Write};
 use std::net::{Net, TcpListener, TcpStream};
 use std::rt::{Clock, Files};
 use std::thread;
@@ -95,6 +95,13 @@ impl<
     fn read(&mut self, slot: Slot) {
         let mut room = [0u8; 16384];
         let count = self.file(slot).read(&mut room);
+        self.came.read(&room, count);
+    }
+
+    /// The next byte of standard input.
+    fn byte(&mut self) {
+        let mut room = [0u8; 1];
+        let count = self.rt.reader().read(&mut room);
         self.came.read(&room, count);
     }
 
@@ -240,6 +247,7 @@ impl<
         match effect {
             Effect::Open(slot, place) => self.open(slot, place),
             Effect::Read(slot) => self.read(slot),
+            Effect::Byte => self.byte(),
             Effect::Names(folder) => self.names(folder),
             Effect::Exists(name) => self.came.looked(fs::exists(&self.rt, name)),
             Effect::Look(name) => self.came.ended(is_plain(&self.rt, name).map(|_| ())),

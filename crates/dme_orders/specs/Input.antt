@@ -6,7 +6,7 @@ use Rattle.dmis_program.specs.Meaning.{Meaning}
 use Rattle.link_world.specs.declared.texts.schedules.Instruction.{Instruction}
 use Rattle.run_record.specs.Records.{Recorded}
 use Rattle.tool_rack.specs.Setups.{SetupValue}
-use Rattle.review_report.specs.Reviews.{frames_under}
+use Rattle.program_review.specs.Reviews.{frames_under}
 use Rattle.dme_orders.specs.declared.reading.FilesFault.{FilesFault}
 use Rattle.dme_orders.specs.Reading.{Came, came, IsUntouched, ReadsSetup, WhyNoSetup, ReadsSchedule, WhyNoSchedule, ReadsFeatures}
 use Rattle.dme_orders.specs.Reading.{WhyNoFeatures, ReadsContacts, WhyNoContacts, ReadsRecord, WhyNoRecord, ReadsProgram, WhyNoProgram}

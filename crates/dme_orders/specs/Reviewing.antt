@@ -2,9 +2,9 @@
 use Rattle.std.specs.Prelude.{◌≡◌, ℕ, List, [], Bool, true, false, Option, Some, None, Result, Ok, is_err}
 use Rattle.tool_rack.specs.Setups.{SetupValue, setup_of}
 use Rattle.dmis_program.specs.Meaning.{program_of}
-use Rattle.review_report.specs.Printed.{Names}
-use Rattle.review_report.specs.Reviews.{ReviewTexts, IsReport, frames_under}
-use Rattle.review_report.specs.declared.printing.FindingForm.{FindingForm}
+use Rattle.program_review.specs.Printed.{Names}
+use Rattle.program_review.specs.Reviews.{ReviewTexts, IsReport, frames_under}
+use Rattle.program_review.specs.declared.printing.FindingForm.{FindingForm}
 use Rattle.dme_orders.specs.Input.{Named, InTurn, WhyNoNamed}
 use Rattle.dme_orders.specs.Orders.{Went, Carries}
 use Rattle.dme_orders.specs.Reading.{Came, came, Reads, IsUntouched, WhyNoText}

@@ -3,7 +3,7 @@
 ghost use Rattle.std.specs.Prelude.{◌≡◌, Ok, IfOk, IfErr};
 ghost use Rattle.dme_orders.specs.Reading.{came, Reads, WhyNoText, ReadsSetup, WhyNoSetup, ReadsSchedule, WhyNoSchedule, ReadsProgram, WhyNoProgram};
 ghost use Rattle.dme_orders.specs.Reading.{ReadsFeatures, WhyNoFeatures, ReadsContacts, WhyNoContacts, ReadsRecord, WhyNoRecord};
-ghost use Rattle.review_report.specs.Reviews.{frames_under};
+ghost use Rattle.program_review.specs.Reviews.{frames_under};
 ghost use Rattle.dme_orders.specs.Input.{named, ReadsNamed, WhyNoNamed};
 
 use byte_ports::{PullFault, Source, pull_all};

@@ -1,7 +1,7 @@
 // Everything that stands between a program and its run is listed.
 
 ghost use Rattle.std.specs.Prelude.{◌≡◌, IfOk, IfErr};
-ghost use Rattle.review_report.specs.Printed.{names_of};
+ghost use Rattle.program_review.specs.Printed.{names_of};
 ghost use Rattle.dme_orders.specs.Input.{named, WhyNoNamed};
 ghost use Rattle.dme_orders.specs.Orders.{went};
 ghost use Rattle.dme_orders.specs.Reading.{came};
@@ -9,7 +9,7 @@ ghost use Rattle.dme_orders.specs.Reviewing.{ReadsStored, Reviews, review_status
 
 use crate::reading::{FilesFault, Role, read_text};
 use byte_ports::{Failed, Sink, Source, push_all};
-use review_report::{FindingStyle, ReviewTexts, review_report};
+use program_review::{FindingStyle, ReviewTexts, review_report};
 use std::alloc::Global;
 use tool_rack::{Setup, SetupFault};
 

@@ -1,7 +1,7 @@
 -- A setup is blamed only if one is named.
 use Rattle.std.proofs.Common.{◌≡◌, ℕ, List, Bool, true, Option, Some, None, is_some, Result, Ok, Err, IfErr, inl, inr, refl, sym, subst}
 use Rattle.tool_rack.specs.Setups.{SetupValue}
-use Rattle.review_report.specs.Reviews.{frames_under}
+use Rattle.program_review.specs.Reviews.{frames_under}
 use Rattle.dme_orders.specs.Input.{Named, IsBlamed, ReadsCheck, WhyNoCheck}
 use Rattle.dme_orders.specs.Orders.{Went, Stops, blamed, no_memory, torn}
 use Rattle.dme_orders.specs.Plan.{plan_text}

@@ -21,7 +21,7 @@ use dme_orders::{
 use dme_run::run_program;
 use dme_words::{Audit, Check, Order, RecordAudit, Review, Simulation, read_words};
 use ledger_session::{Job, Session, run as run_reading};
-use review_report::{FindingForm, FindingStyle};
+use program_review::{FindingForm, FindingStyle};
 use std::alloc::{AllocError, Global};
 use std::env::{self, Env};
 use std::fs::File;

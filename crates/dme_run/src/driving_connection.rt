@@ -4,7 +4,7 @@ ghost use Rattle.std.specs.Prelude.{◌≡◌, true};
 ghost use Rattle.client_core.specs.Clients.{is_window, may_connect};
 
 use crate::holding::{HeldFiles, NamedHeld, refuse_meeting};
-use crate::keeping::{is_confirmed, tell_kept, tell_next, touches_of};
+use crate::keeping::{is_confirmed, tell_kept, tell_next, tell_texts, touches_of};
 use crate::recording::{OpenRecord, RecordWords, kept_in, open_record, record_words};
 use crate::warning::warn;
 use client_core::Client;
@@ -18,7 +18,10 @@ use dme_orders::{
 use dme_words::Run;
 use dmis_program::Program;
 use effects::Growth;
-use program_review::{TaskLine, command_lines, task_lines};
+use program_review::{
+    OperatorText, TaskLine, TextPlace, Waits, command_lines, operator_texts, task_lines,
+    text_places,
+};
 use record_keeping::Beginning;
 use run_session::{Begun, Errors, Output, Session};
 use std::alloc::{AllocError, Global};
@@ -37,6 +40,8 @@ struct Call<'a> {
     features: Option<String>,
     /// What the program asks for, with the lines.
     tasks: &'a [TaskLine],
+    /// The texts for the operator.
+    texts: &'a [OperatorText],
     /// The files that grow once the connection is made.
     held: &'a mut HeldFiles,
     /// What the run says last, if its session does not say it.
@@ -99,6 +104,7 @@ fn begun_of(
     client: &mut Client,
     before: (u64, &ServerLedger),
     record: (Option<String>, Vec<u8>),
+    places: Vec<TextPlace>,
     call: &mut Call<'_>,
 ) -> Result<Begun, AllocError>
     requires { may_connect before.0 client.old.client ≡ true }
@@ -107,7 +113,22 @@ fn begun_of(
     let (name, text) = record;
     let run = run_of(alloc, call, name)?;
     let errors = errors_of(alloc, client, call.tasks)?;
-    Begun::new(alloc, run, client, number, text, told, errors)
+    Begun::new(alloc, run, client, number, text, told, errors, places)
+}
+
+/// What a run holds back at each text for the operator that is left.
+fn places_of(
+    alloc: Global,
+    client: &Client,
+    call: &Call<'_>,
+) -> Result<Vec<TextPlace>, AllocError> {
+    let waits = Waits {
+        at_texts: call.order.pause,
+        at_begin: call.order.confirm,
+    };
+    let all = client.program().features();
+    let (kept, _) = all.split_at(client.features().len().min(all.len()));
+    text_places(alloc, waits, touches_of(kept), call.tasks, call.texts)
 }
 
 /// Hands that have the files of a run.
@@ -159,6 +180,7 @@ fn run_begun<
 fn confirm<R: Input + Eprint + AllocGlobal>(
     rt: &R,
     client: &Client,
+    places: &[TextPlace],
     call: &mut Call<'_>,
 ) -> Result<(), Fault> {
     let must_wait = call.order.confirm;
@@ -166,6 +188,9 @@ fn confirm<R: Input + Eprint + AllocGlobal>(
         return Ok(());
     }
     tell_next(rt, client, call.tasks)?;
+    if must_wait {
+        tell_texts(rt, places);
+    }
     if must_wait && !is_confirmed(rt) {
         let kept = client.features().len();
         let counts = Counts {
@@ -214,9 +239,10 @@ fn prepared<R: Input + Eprint + AllocGlobal + Clone + Drop>(
     if file.is_none() {
         tell_features(rt, client, call.features.as_deref())?;
     }
-    confirm(rt, client, call)?;
+    let places = places_of(rt.alloc(), client, call)?;
+    confirm(rt, client, places.as_slice(), call)?;
     let name = name_of(rt.alloc(), file)?;
-    let begun = begun_of(rt.alloc(), client, before, (name, text), call)?;
+    let begun = begun_of(rt.alloc(), client, before, (name, text), places, call)?;
     Ok((rt.clone()?, begun))
 }
 
@@ -313,8 +339,9 @@ struct RunInput {
     read: (FeatureLedger, Program),
     /// The name of the features file, if one is named.
     features: Option<String>,
-    /// The lines of the program that commands carry out.
+    /// The lines of the program that commands carry out, and its texts for the operator.
     tasks: Vec<TaskLine>,
+    texts: Vec<OperatorText>,
 }
 
 /// The files that a run reads, by name.
@@ -353,14 +380,19 @@ fn read_sources<R: Files + Input + AllocGlobal>(
     read
 }
 
-/// Reports what the setup of a run lacks; the lines of its program that commands carry out. Fails only if out of memory.
+/// Reports what the setup of a run lacks; the lines of its program that commands carry out, and its texts for the operator. Fails only if out of
+/// memory.
 fn told_tasks<R: Eprint + AllocGlobal>(
     rt: &R,
     files: &InputFiles,
     program: &Program,
-) -> Result<Vec<TaskLine>, AllocError> {
+) -> Result<(Vec<TaskLine>, Vec<OperatorText>), AllocError> {
     warn(rt, &files.setup, &files.program, program)?;
-    task_lines(rt.alloc(), files.program.text.as_slice())
+    let text = files.program.text.as_slice();
+    Ok((
+        task_lines(rt.alloc(), text)?,
+        operator_texts(rt.alloc(), text)?,
+    ))
 }
 
 /// Takes the name of the features file, if it is one that is kept.
@@ -389,10 +421,11 @@ fn read_run<R: Files + Input + Eprint + AllocGlobal>(
     let features = features_name(rt.alloc(), &mut files, is_kept);
     drop(files);
     match told {
-        Ok(tasks) => Ok(RunInput {
+        Ok((tasks, texts)) => Ok(RunInput {
             read,
             features,
             tasks,
+            texts,
         }),
         Err(AllocError) => Err(Fault::Order(OrderFault::Memory)),
     }
@@ -487,6 +520,7 @@ fn drive_input<
         read,
         features,
         tasks,
+        texts,
     } = input;
     let window = order.window;
     if is_stopped(rt, order.stop.as_ref()) {
@@ -497,12 +531,14 @@ fn drive_input<
         order: &mut *order,
         features,
         tasks: tasks.as_slice(),
+        texts: texts.as_slice(),
         held: &mut *held,
         last: &mut *last,
     };
     let done = drive_read(rt, sources, read, record, window, &mut call);
     drop(call);
     drop(tasks);
+    drop(texts);
     done
 }
 

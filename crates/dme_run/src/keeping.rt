@@ -6,7 +6,7 @@ use contact_ledger::Feature;
 use dme_orders::{OrderFault, first_lines, kept_text};
 use dmis_program::{Touch, Wanted};
 use fixed_um::Frame;
-use program_review::{Task, TaskLine};
+use program_review::{Task, TaskLine, TextPlace};
 use std::alloc::AllocError;
 use std::io;
 
@@ -120,6 +120,16 @@ pub fn tell_next<R: Eprint + AllocGlobal>(
     let shown = str::from_utf8(text.as_slice()).unwrap_or("");
     let _ = eprint!(rt; "{shown}");
     Ok(())
+}
+
+/// Reports the texts for the operator that come before the first touch.
+pub fn tell_texts<R: Eprint>(rt: &R, places: &[TextPlace]) {
+    for place in places {
+        if place.is_first {
+            let (line, text) = (place.line, &place.shown);
+            let _ = eprintln!(rt; "dme: line {line}: {text}");
+        }
+    }
 }
 
 /// Waits for a line on standard input: whether it is empty. Anything else, and the end of the input, is no confirmation.

@@ -2,7 +2,7 @@
 
 use dme_orders::InputFile;
 use dmis_program::Program;
-use program_review::{Lack, lacking_for};
+use program_review::{Lack, What, lacking_for};
 use std::alloc::AllocError;
 use tool_rack::{Setup, SetupFault};
 
@@ -28,12 +28,13 @@ pub fn warn<R: Eprint + AllocGlobal>(
     for notice in lacking.iter() {
         let line = notice.line;
         match notice.what {
-            Lack::Tool => {
+            What::Lack(Lack::Tool) => {
                 let _ = eprintln!(rt; "dme: line {line}: the rack of {name} lacks this tool");
             }
-            Lack::Volume => {
+            What::Lack(Lack::Volume) => {
                 let _ = eprintln!(rt; "dme: line {line}: out of the machine's volume");
             }
+            _ => {}
         }
     }
     Ok(())

@@ -164,6 +164,7 @@ IsRunOf rows o =
     × IsMaybeOf (codes "log") rows (option_map string_bytes o.log)
     × IsSecondsOf (codes "timeout") rows o.timeout × IsSecondsOf (codes "wait") rows o.wait
     × IsMaybeOf (codes "stop") rows (option_map string_bytes o.stop) × IsFlagOf (codes "confirm") rows o.confirm
+    × IsFlagOf (codes "pause") rows o.pause
     × IsExplainedOf rows o.explain × IsProgramOf rows (string_bytes o.program)
 
 -- a code that names a refusal, its letters in any case, or a server's own errors

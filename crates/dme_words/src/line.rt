@@ -145,6 +145,9 @@ const STOP_HELP: &str = "The file that ends it when it appears";
 const CONFIRM_HELP: &str =
     "Shows what comes first, and waits for an empty line before anything moves";
 
+const PAUSE_HELP: &str =
+    "Waits at each text for the operator between features until an empty line is read";
+
 const EXPLAIN_HELP: &str = "Shows the line of a file that is refused, and what is wrong with it";
 
 const PROGRAM_HELP: &str = "The DMIS program; - is standard input";
@@ -254,6 +257,7 @@ const LINES: [Line; 12] = [
             Text("wait", "SECONDS", WAIT_HELP),
             STOP,
             Flag("confirm", CONFIRM_HELP),
+            Flag("pause", PAUSE_HELP),
             EXPLAIN,
             PROGRAM,
         ],

@@ -169,6 +169,8 @@ pub struct Run {
     pub stop: Option<String>,
     /// Whether it shows what comes first, and waits for an empty line before anything moves.
     pub confirm: bool,
+    /// Whether it waits at each text for the operator between features until an empty line is read.
+    pub pause: bool,
     /// Whether a line that is refused is shown, with what is wrong with it.
     pub explain: bool,
     /// The file of the program; `-` is standard input.

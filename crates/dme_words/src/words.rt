@@ -412,6 +412,7 @@ fn run_values(alloc: Global, values: &ArgMatches) -> Result<Run, WordsFault>
         wait,
         stop: copied_maybe(alloc, values, "stop")?,
         confirm: flag_of(values, "confirm"),
+        pause: flag_of(values, "pause"),
         explain: flag_of(values, "explain"),
         program: copied_program(alloc, values)?,
     })

@@ -23,6 +23,7 @@ pub data Where : Type 0 where
 pub data Ask : Type 0 where
   Open : Slot → Where → Ask
   Read : Slot → Ask
+  Byte : Ask
   Exists : List ℕ → Ask
   Look : List ℕ → Ask
   Make : Growth → (name beside text : List ℕ) → Ask
@@ -79,6 +80,7 @@ the_place place.Nothing = Nowhere
 abbrev pub the_ask : Effect → Ask
 the_ask (effect.Open slot p) = Open slot (the_place p)
 the_ask (effect.Read slot) = Read slot
+the_ask effect.Byte = Byte
 the_ask (effect.Exists name) = Exists name.now
 the_ask (effect.Look name) = Look name.now
 the_ask (effect.Make growth name beside text) = Make growth name.now beside.now text.now

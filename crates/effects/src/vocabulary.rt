@@ -49,6 +49,8 @@ pub enum Effect<'a> {
     Open(Slot, Place<'a>),
     /// The next bytes of a file. One that was not opened has none.
     Read(Slot),
+    /// The next byte of standard input.
+    Byte,
     /// Whether something has this name.
     Exists(&'a str),
     /// Whether a plain file has this name, or nothing.

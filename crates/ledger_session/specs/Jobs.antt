@@ -5,14 +5,15 @@ use Rattle.watched_ends.specs.Pieces.{IsOrder, IsUnfit}
 use Rattle.watched_ends.specs.Recorded.{IsRecorded}
 use Rattle.watched_ends.specs.declared.recorded.Order as the
 use Rattle.watched_ends.specs.declared.recorded.Order.TheVariants as ordered
-use Rattle.witness_judge.specs.Judging.{Judged, IsJudged}
+use Rattle.witness_judge.specs.Judging.{IsJudged}
+use Rattle.witness_judge.specs.declared.judgement.Judgement.{Judgement}
 use Rattle.witness_judge.specs.Orders.{Pieces, bytes_of, HasFirst}
 use Rattle.witness_judge.specs.Texts.{judgement_text, judgement_status}
 use Rattle.ledger_session.specs.declared.jobs.Job.{Job}
 use Rattle.ledger_session.specs.declared.jobs.Job.TheVariants.{Ledger, Judge}
 
 -- a text is that of a judgement, and a status the one that goes with it
-pub record Shows (j : Judged) (text : List ℕ) (status : ℕ) : Type 0 where
+pub record Shows (j : Judgement) (text : List ℕ) (status : ℕ) : Type 0 where
   pub text_is : text ≡ judgement_text j
   pub status_is : status ≡ judgement_status j
 
@@ -21,14 +22,14 @@ pub record IsOrderedJudgement (up down bytes text : List ℕ) (status : ℕ) (is
   pub pieces : Pieces
   pub order_is : IsOrder bytes pieces
   pub first : HasFirst up down pieces is_whole
-  pub judged : Judged
+  pub judged : Judgement
   pub holds : IsJudged (take (bytes_of Client pieces) up) (take (bytes_of Server pieces) down) pieces judged
   pub shows : Shows judged text status
 
 -- likewise without a text of the order
 pub record IsPlainJudgement (up down bytes text : List ℕ) (status : ℕ) : Type 0 where
   pub none : bytes ≡ []
-  pub judged : Judged
+  pub judged : Judgement
   pub holds : IsJudged up down [] judged
   pub shows : Shows judged text status
 

@@ -1,7 +1,7 @@
 -- The first refusal that is listed is the one that the program is refused for.
 use Rattle.std.proofs.Common.{◌≡◌, ℕ, ◌+◌, ◌-◌, ◌<◌, ◌≤◌, Bool, true, false, cond, List, [], ◌∷◌, ◌++◌, length, Option, Some, None}
 use Rattle.std.proofs.Common.{Result, Ok, Err, refl, ap, sym, ◌∙◌, subst, arith, is_none, nat_le, ◌||◌}
-use Rattle.std.specs.Prelude.{nat_lt}
+use Rattle.std.specs.Prelude.{nat_lt, is_err, is_some}
 use Rattle.std.proofs.Math.Bool.{or-false}
 use Rattle.std.proofs.lemmas.Bool.Decides.{nat_tests}
 use Rattle.std.specs.Str.Lines.{lines}
@@ -26,7 +26,7 @@ use Rattle.dmis_program.specs.declared.sayings.StatementMeaning.{StatementMeanin
 use Rattle.dmis_program.specs.declared.sayings.StatementMeaning.TheVariants as said
 use Rattle.dmis_program.specs.declared.steps.Step.{Step}
 use Rattle.program_review.specs.declared.standing.Standing.{Standing}
-use Rattle.program_review.specs.declared.refusals.Found.{Found}
+use Rattle.program_review.specs.declared.remarks.Remark.{Remark}
 use Rattle.program_review.specs.Refusals.{at_start, number_at, some_tool, context_of, due, one_more, one_less, lacking_said, is_selection}
 use Rattle.program_review.specs.Variables.{names_by}
 use Rattle.program_review.specs.Refusals.{after_said, after, is_end, listed, refusals_from, refusals_of, first_of, fault_of}
@@ -244,14 +244,14 @@ front_keeps front (Ok steps) = refl
 front_keeps front (Err e) = refl
 
 -- one statement, by its judgement
-goes_on : (b : Bool) (steps : List Step) (behind : Result (List Step) (Refusal × ℕ)) (more : List Found)
+goes_on : (b : Bool) (steps : List Step) (behind : Result (List Step) (Refusal × ℕ)) (more : List Remark)
     → first_of more ≡ fault_of behind
     → first_of (cond b [] more) ≡ fault_of (cond b (Ok []) (with_front steps behind))
 goes_on true steps behind more h = refl
 goes_on false steps behind more h = h ∙ sym (front_keeps steps behind)
 
 by_judgement : (names : List (List ℕ)) (s : Statement) (st : Standing) (r : Result StatementMeaning Refusal) (steps : StatementMeaning → List Step)
-    (behind : Result (List Step) (Refusal × ℕ)) (rest : Standing → List Found)
+    (behind : Result (List Step) (Refusal × ℕ)) (rest : Standing → List Remark)
     → ((m : StatementMeaning) → r ≡ Ok m → is_end (keyword_of s.word) ≡ closes m)
     → ((m : StatementMeaning) → r ≡ Ok m → first_of (rest (after_said st (keyword_of s.word) m)) ≡ fault_of behind)
     → first_of (listed names s r ++ cond (is_end (keyword_of s.word)) [] (rest (after st (keyword_of s.word) r)))
@@ -287,3 +287,8 @@ first_is frames text =
       lacking = refl;
     })
     ∙ sym (meant_keeps (steps_from frames (text_reading text).fault (length (lines text)) [] (text_reading text).statements))
+
+-- there is a reason exactly if the program is refused
+pub fault_is : {A : Type 0} (r : Result A (Refusal × ℕ)) (o : Option (Refusal × ℕ)) → o ≡ fault_of r → is_some o ≡ is_err r
+fault_is (Ok x) o is = ap is_some is
+fault_is (Err e) o is = ap is_some is

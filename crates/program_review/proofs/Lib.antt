@@ -3,3 +3,4 @@ pub mod StepLemmas
 pub mod TaskSteps
 pub mod TaskPlaces
 pub mod PlanLineLemmas
+pub mod TextPlaces

@@ -28,19 +28,19 @@ use Rattle.program_review.specs.declared.under_setup.Selected.{Selected}
 use Rattle.program_review.specs.declared.under_setup.Selected.TheVariants as selected
 use Rattle.program_review.specs.declared.under_setup.Lack.{Lack}
 use Rattle.program_review.specs.declared.under_setup.Lack.TheVariants as lack
-use Rattle.program_review.specs.declared.under_setup.SetupNotice.{SetupNotice}
+use Rattle.program_review.specs.declared.remarks.Remark.{Remark}
 use Rattle.program_review.proofs.FirstLemmas.{accepted_is, end_is, unless_badly}
 
 -- something is listed
-abbrev is_some_listed : List SetupNotice → Bool
+abbrev is_some_listed : List Remark → Bool
 is_some_listed [] = false
 is_some_listed (notice ∷ notices) = true
 
-none_listed : (notices : List SetupNotice) → is_some_listed notices ≡ false → notices ≡ []
+none_listed : (notices : List Remark) → is_some_listed notices ≡ false → notices ≡ []
 none_listed [] h = refl
 none_listed (notice ∷ notices) h = absurd cc
 
-listed_first : (line : ℕ) (what : Option Lack) (more : List SetupNotice)
+listed_first : (line : ℕ) (what : Option Lack) (more : List Remark)
     → is_some_listed (lack_on line what ++ more) ≡ (is_some what || is_some_listed more)
 listed_first line None more = refl
 listed_first line (Some what) more = refl
@@ -179,7 +179,7 @@ steps_lack tools frames c before keyword said.Passes more h = refl
 
 -- one statement, and those after it
 goes_on : (tools : List (List ℕ)) (before : Selected) (closed : Bool) (own : List Step) (behind : Result (List Step) (Refusal × ℕ))
-    (steps : List Step) (line : ℕ) (what : Option Lack) (more : List SetupNotice)
+    (steps : List Step) (line : ℕ) (what : Option Lack) (more : List Remark)
     → cond closed (Ok []) (with_front own behind) ≡ Ok steps
     → ((later : List Step) → behind ≡ Ok later → lacks_some tools before (own ++ later) ≡ (is_some what || is_some_listed more))
     → lacks_some tools before steps ≡ is_some_listed (cond closed [] (lack_on line what ++ more))

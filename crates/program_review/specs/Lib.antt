@@ -1,6 +1,7 @@
 pub mod TaskLines
+pub mod Texts
 pub mod PlanLines
-pub mod BlockLines
+pub mod Readings
 pub mod Refusals
 pub mod Notices
 pub mod UnderSetup
@@ -10,3 +11,8 @@ pub mod Strays
 pub mod Travels
 pub mod UnusedFrames
 pub mod Variables
+pub mod Remarks
+pub mod Findings
+pub mod Summary
+pub mod Printed
+pub mod Reviews

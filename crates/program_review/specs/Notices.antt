@@ -10,7 +10,8 @@ use Rattle.dmis_program.specs.declared.keywords.Keyword.{Keyword}
 use Rattle.dmis_program.specs.declared.keywords.Keyword.TheVariants as word
 use Rattle.program_review.specs.declared.notices.Passed.{Passed}
 use Rattle.program_review.specs.declared.notices.Passed.TheVariants as passed
-use Rattle.program_review.specs.declared.notices.Notice.{Notice}
+use Rattle.program_review.specs.declared.remarks.Remark.{Remark}
+use Rattle.program_review.specs.declared.remarks.What.TheVariants as what
 
 -- the first parameter is this word
 abbrev pub begins_with : List ℕ → List (List ℕ) → Bool
@@ -30,6 +31,12 @@ sensor_setting params =
     if begins_with (codes "APPRCH") params || (begins_with (codes "RETRCT") params || begins_with (codes "SEARCH") params) then passed.Probing else
     passed.Sensor
 
+-- what a text is that is for the operator
+abbrev pub text_meaning : List (List ℕ) → Option Passed
+text_meaning params =
+    if begins_with (codes "OPER") params || begins_with (codes "MAN") params then Some passed.Operator else
+    if begins_with (codes "QUERY") params then Some passed.Question else None
+
 -- what a word changes that is passed over; a text only if it is for the operator
 abbrev pub passed_word : List ℕ → List (List ℕ) → Option Passed
 passed_word text params =
@@ -39,23 +46,23 @@ passed_word text params =
     if bytes_eq text (codes "WKPLAN") then Some passed.Plane else
     if bytes_eq text (codes "FEDRAT") then Some passed.Speed else
     if bytes_eq text (codes "ACLRAT") then Some passed.Acceleration else
-    if bytes_eq text (codes "TEXT") && begins_with (codes "OPER") params then Some passed.Operator else None
+    if bytes_eq text (codes "TEXT") then text_meaning params else None
 
 -- what a statement changes that is passed over; none if it is refused for its form
 abbrev pub passed_over : Statement → Option Passed
 passed_over s = if is_badly_formed word.Passed s then None else passed_word s.word s.params
 
 -- before what the statements after it give
-abbrev pub with_passed : Option Passed → ℕ → List Notice → List Notice
+abbrev pub with_passed : Option Passed → ℕ → List Remark → List Remark
 with_passed None line behind = behind
-with_passed (Some what) line behind = record { what = what; line = line } ∷ behind
+with_passed (Some change) line behind = record { what = what.Passed change; line = line } ∷ behind
 
 -- nothing counts after `ENDFIL`
-abbrev pub noticed : Keyword → Option Passed → ℕ → List Notice → List Notice
+abbrev pub noticed : Keyword → Option Passed → ℕ → List Remark → List Remark
 noticed word.Endfil what line behind = []
 noticed _ what line behind = with_passed what line behind
 
 -- each statement that is passed over and changes something, with its line, in order
-abbrev pub notices_of : List Statement → List Notice
+abbrev pub notices_of : List Statement → List Remark
 notices_of [] = []
 notices_of (s ∷ statements) = noticed (keyword_of s.word) (passed_over s) s.line (notices_of statements)

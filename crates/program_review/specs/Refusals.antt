@@ -24,7 +24,9 @@ use Rattle.program_review.specs.Variables.{names_by, group_below}
 use Rattle.program_review.specs.declared.groups.Group.{Group}
 use Rattle.program_review.specs.declared.groups.Group.TheVariants as group
 use Rattle.program_review.specs.declared.standing.Standing.{Standing}
-use Rattle.program_review.specs.declared.refusals.Found.{Found}
+use Rattle.program_review.specs.declared.remarks.Remark.{Remark}
+use Rattle.program_review.specs.declared.remarks.What.{What}
+use Rattle.program_review.specs.declared.remarks.What.TheVariants as what
 
 -- before any statement
 abbrev pub at_start : Standing
@@ -125,11 +127,11 @@ is_end word.Endfil = true
 is_end _ = false
 
 -- a refusal on its line, of a statement of this group
-abbrev pub found_at : Group → Refusal × ℕ → Found
-found_at group p = record { refusal = p.0; line = p.1; group = group }
+abbrev pub found_at : Group → Refusal × ℕ → Remark
+found_at group p = record { what = what.Refused p.0 group; line = p.1 }
 
 -- the refusal of a statement below those that declare or assign these names
-abbrev pub listed : List (List ℕ) → Statement → Result StatementMeaning Refusal → List Found
+abbrev pub listed : List (List ℕ) → Statement → Result StatementMeaning Refusal → List Remark
 listed names s (Ok meaning) = []
 listed names s (Err refusal) = found_at (group_below names refusal s) (refusal, s.line) ∷ []
 
@@ -139,20 +141,24 @@ after standing keyword (Err refusal) = after_refused standing keyword refusal
 
 -- the refusals of the statements from here on, below those that declare or assign these names, and that of the text's end if no `ENDFIL`
 -- comes before it; that is a mistake
-abbrev pub refusals_from : List (List ℕ × Point) → Option TextFault → ℕ → List (List ℕ) → Standing → List Statement → List Found
+abbrev pub refusals_from : List (List ℕ × Point) → Option TextFault → ℕ → List (List ℕ) → Standing → List Statement → List Remark
 refusals_from frames fault lines names standing [] = found_at group.Mistake (ended fault standing.number lines) ∷ []
 refusals_from frames fault lines names standing (s ∷ statements) = listed names s (due frames standing s)
     ++ (if is_end (keyword_of s.word) then [] else refusals_from frames fault lines (names ++ names_by s)
     (after standing (keyword_of s.word) (due frames standing s)) statements)
 
 -- all refusals of a text, in the order of its statements
-abbrev pub refusals_of : List (List ℕ × Point) → List ℕ → List Found
+abbrev pub refusals_of : List (List ℕ × Point) → List ℕ → List Remark
 refusals_of frames text = refusals_from frames (text_reading text).fault (length (lines text)) [] at_start (text_reading text).statements
 
 -- the first of them, as a program is refused
-abbrev pub first_of : List Found → Option (Refusal × ℕ)
+abbrev pub refused_on : What → ℕ → Option (Refusal × ℕ)
+refused_on (what.Refused refusal group) line = Some (refusal, line)
+refused_on _ line = None
+
+abbrev pub first_of : List Remark → Option (Refusal × ℕ)
 first_of [] = None
-first_of (found ∷ more) = Some (found.refusal, found.line)
+first_of (found ∷ more) = refused_on found.what found.line
 
 -- why a program is refused; none if it is accepted
 abbrev pub fault_of : {A : Type 0} → Result A (Refusal × ℕ) → Option (Refusal × ℕ)

@@ -64,6 +64,11 @@ abbrev pub frame_line : Option ℕ → List TaskLine → Option ℕ
 frame_line before [] = before
 frame_line before (t ∷ tasks) = frame_line (frame_with before t.task t.line) tasks
 
+-- the line of the last of the tasks, or else the line before
+abbrev pub last_line : Option ℕ → List TaskLine → Option ℕ
+last_line before [] = before
+last_line before (t ∷ tasks) = last_line (Some t.line) tasks
+
 -- the lines of the commands that a task on a line takes: two for a frame
 abbrev pub commands_on : Task → ℕ → List (Option ℕ)
 commands_on task.Frame line = Some line ∷ (Some line ∷ [])

@@ -14,7 +14,9 @@ use Rattle.dmis_program.specs.declared.sayings.StatementMeaning.TheVariants as s
 use Rattle.program_review.specs.Groups.{coordinates}
 use Rattle.program_review.specs.PlanLines.{unlabelled}
 use Rattle.program_review.specs.UnderSetup.{meaning_with, is_end}
-use Rattle.program_review.specs.declared.notices.Notice.{Notice}
+use Rattle.program_review.specs.declared.remarks.Remark.{Remark}
+use Rattle.program_review.specs.declared.remarks.What.{What}
+use Rattle.program_review.specs.declared.remarks.What.TheVariants as what
 use Rattle.program_review.specs.declared.notices.Passed.{Passed}
 use Rattle.program_review.specs.declared.notices.Passed.TheVariants as passed
 use Rattle.program_review.specs.declared.travels.Leg.{Leg}
@@ -140,22 +142,22 @@ IsLength (Some square) (Some root) = IsWholeRoot square root
 -- ---- those that a statement on clearing would have replaced
 
 -- a statement says that the probe clears the part, or that it does so no longer
-abbrev pub is_clearing : Passed → Bool
-is_clearing passed.Clearing = true
-is_clearing passed.ClearingOff = true
+abbrev pub is_clearing : What → Bool
+is_clearing (what.Passed passed.Clearing) = true
+is_clearing (what.Passed passed.ClearingOff) = true
 is_clearing _ = false
 
 -- a line is above the first of these that does
-abbrev pub is_above : ℕ → List Notice → Bool
+abbrev pub is_above : ℕ → List Remark → Bool
 is_above line [] = true
 is_above line (notice ∷ notices) = if is_clearing notice.what then nat_lt line notice.line else is_above line notices
 
 -- a travel ends at a touch on a line after this one and above the next statement on clearing
-abbrev pub is_replaced : ℕ → List Notice → Travel → Bool
+abbrev pub is_replaced : ℕ → List Remark → Travel → Bool
 is_replaced line later t = nat_lt line t.first.line && is_above t.first.line later
 
 -- how many travels a statement on this line would have replaced, after which these are passed over
-abbrev pub replaced : List Travel → ℕ → List Notice → ℕ
+abbrev pub replaced : List Travel → ℕ → List Remark → ℕ
 replaced travels line later = count_by (is_replaced line later) travels
 
 -- ---- examples: statements on their lines, touches at x, 0, 0

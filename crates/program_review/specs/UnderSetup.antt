@@ -19,7 +19,8 @@ use Rattle.program_review.specs.declared.under_setup.Selected.{Selected}
 use Rattle.program_review.specs.declared.under_setup.Selected.TheVariants as selected
 use Rattle.program_review.specs.declared.under_setup.Lack.{Lack}
 use Rattle.program_review.specs.declared.under_setup.Lack.TheVariants as lack
-use Rattle.program_review.specs.declared.under_setup.SetupNotice.{SetupNotice}
+use Rattle.program_review.specs.declared.remarks.Remark.{Remark}
+use Rattle.program_review.specs.declared.remarks.What.TheVariants as what
 
 -- what a statement says by itself; none if it is refused for itself, its word is unknown, or it recalls what is not read, as a `DA(..)`
 abbrev pub accepted : Result StatementMeaning Refusal → Option StatementMeaning
@@ -66,21 +67,21 @@ lack_of tools before (Some (said.Goes target)) = when (is_outside before target)
 lack_of tools before (Some (said.Touches target direction)) = when (is_outside before target) lack.Volume
 lack_of tools before _ = None
 
-abbrev pub lack_on : ℕ → Option Lack → List SetupNotice
+abbrev pub lack_on : ℕ → Option Lack → List Remark
 lack_on line None = []
-lack_on line (Some what) = record { what = what; line = line } ∷ []
+lack_on line (Some lacking) = record { what = what.Lack lacking; line = line } ∷ []
 
 abbrev pub is_end : Keyword → Bool
 is_end word.Endfil = true
 is_end _ = false
 
 -- what the setup lacks for each statement from here on, where this frame is selected before them; nothing counts after `ENDFIL`
-abbrev pub lacks_from : List (List ℕ) → List (List ℕ × Point) → Selected → List Statement → List SetupNotice
+abbrev pub lacks_from : List (List ℕ) → List (List ℕ × Point) → Selected → List Statement → List Remark
 lacks_from tools frames before [] = []
 lacks_from tools frames before (s ∷ statements) = if is_end (keyword_of s.word) then [] else
     lack_on s.line (lack_of tools before (meaning_with (keyword_of s.word) s)) ++ lacks_from tools frames
     (selected_after frames before (meaning_with (keyword_of s.word) s) (keyword_of s.word)) statements
 
 -- what a setup with these tools and frames lacks for the statements of a program, at whose start machine coordinates are selected
-abbrev pub lacks_of : List (List ℕ) → List (List ℕ × Point) → List Statement → List SetupNotice
+abbrev pub lacks_of : List (List ℕ) → List (List ℕ × Point) → List Statement → List Remark
 lacks_of tools frames statements = lacks_from tools frames selected.Machine statements

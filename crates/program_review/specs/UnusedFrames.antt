@@ -8,6 +8,8 @@ use Rattle.dmis_program.specs.Keywords.{keyword_of}
 use Rattle.dmis_program.specs.declared.sayings.StatementMeaning.{StatementMeaning}
 use Rattle.dmis_program.specs.declared.sayings.StatementMeaning.TheVariants as said
 use Rattle.program_review.specs.UnderSetup.{meaning_with, is_end}
+use Rattle.program_review.specs.declared.remarks.Remark.{Remark}
+use Rattle.program_review.specs.declared.remarks.What.TheVariants as what
 
 -- the name that a statement recalls that says this
 abbrev pub name_recalled : Option StatementMeaning → List (List ℕ)
@@ -33,12 +35,12 @@ frame_in (word ∷ name ∷ values) = if is_word (codes "FRAME") word then name_
 abbrev pub stored_on : List ℕ → Option (List ℕ)
 stored_on line = if is_dropped line then None else frame_in (fields_of line)
 
--- the line of a frame whose name is not among these
-abbrev pub unused_on : List (List ℕ) → ℕ → Option (List ℕ) → List ℕ
+-- the remark on the line of a frame whose name is not among these
+abbrev pub unused_on : List (List ℕ) → ℕ → Option (List ℕ) → List Remark
 unused_on names line None = []
-unused_on names line (Some name) = if has_name names name then [] else line ∷ []
+unused_on names line (Some name) = if has_name names name then [] else record { what = what.Unused; line = line } ∷ []
 
 -- those of the lines from the one after this number on
-abbrev pub unused_from : List (List ℕ) → ℕ → List (List ℕ) → List ℕ
+abbrev pub unused_from : List (List ℕ) → ℕ → List (List ℕ) → List Remark
 unused_from names number [] = []
 unused_from names number (line ∷ lines) = unused_on names (number + 1) (stored_on line) ++ unused_from names (number + 1) lines

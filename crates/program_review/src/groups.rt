@@ -194,7 +194,6 @@ fn is_jump_label(word: &[u8]) -> bool
     }
 }
 
-/// The group of a word that this profile does not read.
 #[tactic(auto, unfolding(crate::specs::Groups::word_group))]
 fn word_group(word: &[u8]) -> Group
     ensures { result ≡ word_group word.now }
@@ -220,7 +219,6 @@ fn word_group(word: &[u8]) -> Group
     Group::Other
 }
 
-/// The group of a statement that this profile does not read.
 fn unsupported_group(keyword: Keyword, word: &[u8]) -> Group
     ensures { result ≡ unsupported_group keyword word.now }
 {
@@ -234,7 +232,6 @@ fn unsupported_group(keyword: Keyword, word: &[u8]) -> Group
     }
 }
 
-/// The group of a statement whose parameters are wrong.
 fn mistaken_group(keyword: Keyword) -> Group
     ensures { result ≡ mistaken_group keyword }
 {

@@ -6,7 +6,9 @@ ghost use Rattle.dmis_program.specs.Meaning.{program_of};
 ghost use Rattle.program_review.specs.UnderSetup.{lacks_of};
 ghost use Rattle.program_review.specs.StepLacks.{selected_behind, lacks_step, lacks_some};
 
-use crate::under_setup::{Selected, SetupNotice, lacking_setup};
+use crate::readings::read;
+use crate::remarks::Remark;
+use crate::under_setup::{Selected, lacking_setup};
 use dmis_program::{Frames, Program, Step};
 use std::alloc::{AllocError, Global};
 use tool_rack::Rack;
@@ -49,8 +51,8 @@ fn lacks_some(rack: &Rack, steps: &[Step]) -> bool
     false
 }
 
-/// What a setup with these tools and frames lacks for a program that was read from this text under the same frames, as `lacking_setup` lists
-/// it. Most programs lack nothing: the text is read again, and memory allocated, only if a step of the program lacks something. Fails only if
+/// What a setup with these tools and frames lacks for a program that was read from this text under the same frames, in the order of its lines: each
+/// selection of a tool that is not in the rack, and each move and touch out of the machine's volume, in machine axes. Most programs lack nothing: the text is read again, and memory allocated, only if a step of the program lacks something. Fails only if
 /// out of memory.
 pub fn lacking_for(
     alloc: Global,
@@ -58,12 +60,13 @@ pub fn lacking_for(
     bytes: &[u8],
     rack: &Rack,
     frames: &Frames,
-) -> Result<Vec<SetupNotice>, AllocError>
-    ensures { IfOk result (λ notices. program_of frames.now bytes.now ≡ Ok program.now
-        → notices.items ≡ lacks_of rack.now frames.now (text_reading bytes.now).statements) }
+) -> Result<Vec<Remark>, AllocError>
+    ensures { IfOk result (λ remarks. program_of frames.now bytes.now ≡ Ok program.now
+        → remarks.items ≡ lacks_of rack.now frames.now (text_reading bytes.now).statements) }
 {
     if lacks_some(rack, program.statements()) {
-        lacking_setup(alloc, bytes, rack, frames)
+        let reading = read(alloc, bytes)?;
+        lacking_setup(alloc, reading.statements.as_slice(), rack, frames)
     } else {
         Ok(Vec::new(alloc))
     }

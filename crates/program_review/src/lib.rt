@@ -1,5 +1,6 @@
-//! What stands between a DMIS program (ISO 22093) and its run, all at once.
+//! What stands between a DMIS program (ISO 22093) and its run, all at once, and the report on it.
 //!
+//! - `readings`: a program's text, read once
 //! - `refusals`: every refusal of a text; `standing`: what is carried from statement to statement
 //! - `notices`: statements that are passed over though they change something
 //! - `odd`: statements that are probably not meant as they are written; `labels`: those of features
@@ -8,34 +9,45 @@
 //! - `groups`: what refused statements are for; `strays`: the touches that would be measured elsewhere without them
 //! - `travels`: the straight travels from feature to feature, and those that a statement on clearing would have replaced
 //! - `variables`: the names that statements declare or assign, and the moves that are refused for one
-//! - `tasks`: the statements that a client carries out by commands, and their lines; `blocks`: the lines of a program's blocks
+//! - `remarks`: all of this, in the order of the program's lines
+//! - `walking`: the remarks with their sentences, as `findings`; `sentences`: those on statements; `summary`: those on groups
+//! - `printing`: findings as lines or as JSON; `reports`: the report of a program's text under a setup
+//! - `tasks`: the statements that a client carries out by commands, and their lines
+//! - `texts`: texts for the operator, and what a run holds back at them
 //! - `laws`: what follows from the definitions
 #![tactic(auto)]
 
-mod blocks;
+mod findings;
 mod groups;
 mod labels;
 mod lacking;
 pub mod laws;
 mod notices;
 mod odd;
+mod printing;
+mod readings;
 mod recalling;
 mod refusals;
+mod remarks;
+mod reports;
+mod sentences;
 mod standing;
 mod strays;
+mod summary;
 mod tasks;
+mod texts;
 mod travels;
 mod under_setup;
 mod variables;
+mod walking;
 
-pub use blocks::block_lines;
 pub use groups::Group;
 pub use lacking::lacking_for;
-pub use notices::{Notice, Passed, passed_statements};
-pub use odd::{Odd, OddNotice, near_word, odd_statements};
-pub use recalling::{stored_frame, unused_frames};
-pub use refusals::{Found, review};
-pub use strays::{Stray, stray_touches};
+pub use notices::Passed;
+pub use odd::Odd;
+pub use printing::{FindingForm, FindingStyle};
+pub use remarks::{Remark, What};
+pub use reports::{Report, ReviewTexts, review_report};
 pub use tasks::{Task, TaskLine, command_lines, task_lines};
-pub use travels::{Stop, Travel, replaced, straight_travels};
-pub use under_setup::{Lack, SetupNotice, lacking_setup};
+pub use texts::{OperatorText, TextPlace, Waits, operator_texts, pauses, text_places};
+pub use under_setup::Lack;

@@ -2,13 +2,14 @@
 
 ghost use Rattle.std.specs.Prelude.{◌≡◌, ◌++◌, [], codes, IfOk, OnOk};
 ghost use Rattle.std.specs.Str.{bytes_eq};
-ghost use Rattle.dmis_text.specs.Reading.{text_reading};
 ghost use Rattle.dmis_program.specs.Sayings.{is_badly_formed};
 ghost use Rattle.dmis_program.specs.declared.keywords.Keyword.TheVariants as word;
-ghost use Rattle.program_review.specs.Notices.{begins_with, is_off, sensor_setting, passed_word, passed_over, with_passed, notices_of};
+ghost use Rattle.program_review.specs.Notices.{begins_with, is_off, sensor_setting, text_meaning, passed_word, passed_over, with_passed, notices_of};
 
+use crate::groups::is_text;
+use crate::remarks::{Remark, What};
 use dmis_program::{Keyword, keyword_of_word};
-use dmis_text::{Statement, Statements, Text, TextFault};
+use dmis_text::{Statement, Text};
 use std::alloc::{AllocError, Global};
 
 /// What a statement changes that is passed over (ISO 22093).
@@ -34,8 +35,10 @@ pub enum Passed {
     Speed,
     /// `ACLRAT`: how fast the machine gains speed.
     Acceleration,
-    /// `TEXT/OPER`: a text on which the operator must act.
+    /// `TEXT/OPER` and `TEXT/MAN`: a text on which the operator must act.
     Operator,
+    /// `TEXT/QUERY`: a question to the operator.
+    Question,
 }
 
 impl Passed {
@@ -66,29 +69,15 @@ impl Passed {
             }
             Passed::Speed => { "would set a speed: the machine's own is used." }
             Passed::Acceleration => { "would set an acceleration: the machine's own is used." }
-            Passed::Operator => { "is a text for the operator: the machine does not wait for him." }
+            Passed::Operator => {
+                "is a text for the operator: a run waits for him only with --pause."
+            }
+            Passed::Question => { "is a question to the operator: nobody is asked." }
         }
     }
 }
 
-/// A statement that is passed over, and the line on which it begins.
-#[derive(Clone, Copy, Debug, PartialEq, Eq)]
-pub struct Notice {
-    /// What the statement changes.
-    pub what: Passed,
-    /// The number of the line, from 1.
-    pub line: u64,
-}
-
-/// Whether two texts are the same.
-fn is_text(text: &[u8], other: &str) -> bool
-    ensures { result ≡ bytes_eq text.now other.now }
-{
-    text == other.as_bytes()
-}
-
-/// Whether the first parameter is this word.
-fn begins_with(other: &str, params: &[Text]) -> bool
+pub(crate) fn begins_with(other: &str, params: &[Text]) -> bool
     ensures { result ≡ begins_with other.now params.now }
 {
     match params.split_first() {
@@ -130,6 +119,19 @@ fn sensor_setting(params: &[Text]) -> Passed
     Passed::Sensor
 }
 
+/// What a `TEXT` with these parameters is, if it is for the operator.
+fn text_meaning(params: &[Text]) -> Option<Passed>
+    ensures { result ≡ text_meaning params.now }
+{
+    if begins_with("OPER", params) || begins_with("MAN", params) {
+        return Some(Passed::Operator);
+    }
+    if begins_with("QUERY", params) {
+        return Some(Passed::Question);
+    }
+    None
+}
+
 /// What a word changes that is passed over.
 fn passed_word(word: &[u8], params: &[Text]) -> Option<Passed>
     ensures { result ≡ passed_word word.now params.now }
@@ -152,8 +154,8 @@ fn passed_word(word: &[u8], params: &[Text]) -> Option<Passed>
     if is_text(word, "ACLRAT") {
         return Some(Passed::Acceleration);
     }
-    if is_text(word, "TEXT") && begins_with("OPER", params) {
-        return Some(Passed::Operator);
+    if is_text(word, "TEXT") {
+        return text_meaning(params);
     }
     None
 }
@@ -168,35 +170,36 @@ fn passed_over(statement: &Statement) -> Option<Passed>
     passed_word(&statement.word, &statement.params)
 }
 
-/// Adds a notice, if there is one.
-fn push_passed(notices: &mut Vec<Notice>, what: Option<Passed>, line: u64) -> Result<(), AllocError>
-    ensures { OnOk result (notices.new.items ≡ notices.old.items ++ with_passed what line []) }
+fn push_passed(
+    remarks: &mut Vec<Remark>,
+    passed: Option<Passed>,
+    line: u64,
+) -> Result<(), AllocError>
+    ensures { OnOk result (remarks.new.items ≡ remarks.old.items ++ with_passed passed line []) }
 {
-    if let Some(what) = what {
-        notices.push(Notice { what, line })?;
+    if let Some(passed) = passed {
+        let what = What::Passed(passed);
+        remarks.push(Remark { what, line })?;
     }
     Ok(())
 }
 
-/// Each statement of a program that is passed over though it changes how the machine moves, what nominal values mean or what an operator
-/// must do, in order. Nothing is read after `ENDFIL`, nor after a line that cannot be read. Fails only if out of memory.
-pub fn passed_statements(alloc: Global, bytes: &[u8]) -> Result<Vec<Notice>, AllocError>
-    ensures { IfOk result (λ notices.
-        notices.items ≡ notices_of (text_reading bytes.now).statements) }
+/// Each statement of these that is passed over though it changes how the machine moves, what nominal values mean or what an operator
+/// must do, up to `ENDFIL`. Fails only if out of memory.
+pub(crate) fn passed_statements(
+    alloc: Global,
+    statements: &[Statement],
+) -> Result<Vec<Remark>, AllocError>
+    ensures { IfOk result (λ remarks. remarks.items ≡ notices_of statements.now) }
 {
-    let mut statements = Statements::new(alloc, bytes);
-    let mut notices = Vec::new(alloc);
-    loop {
-        let statement = match statements.next() {
-            Ok(Some(statement)) => statement,
-            Ok(None) => return Ok(notices),
-            Err(TextFault::Memory) => return Err(AllocError),
-            Err(TextFault::LineTooLong(_) | TextFault::BadByte(_)) => return Ok(notices),
-        };
+    let mut remarks = Vec::new(alloc);
+    let mut left = statements;
+    while let [statement, rest @ ..] = left {
         if keyword_of_word(&statement.word) == Keyword::Endfil {
-            return Ok(notices);
+            return Ok(remarks);
         }
-        push_passed(&mut notices, passed_over(&statement), statement.line)?;
-        statements.take_back(statement);
+        push_passed(&mut remarks, passed_over(statement), statement.line)?;
+        left = rest;
     }
+    Ok(remarks)
 }

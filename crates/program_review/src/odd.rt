@@ -1,11 +1,10 @@
 // Statements that are probably not meant as they are written. No clause says which they are.
 
-ghost use Rattle.std.specs.Prelude.{◌≡◌, IfOk, IfSome, ◌∷◌};
-
 use crate::labels::Labels;
+use crate::remarks::{Remark, What};
 use crate::under_setup::meaning_of;
 use dmis_program::{Keyword, StatementMeaning, keyword_of_word};
-use dmis_text::{Statement, Statements, TextFault};
+use dmis_text::Statement;
 use fixed_um::Dir;
 use std::alloc::{AllocError, Global};
 
@@ -30,15 +29,6 @@ pub enum Odd {
     MeasuredTwice,
     /// A `FEAT` above defines a feature of the same label.
     DefinedTwice,
-}
-
-/// An odd statement, and the line on which it begins.
-#[derive(Clone, Copy, Debug, PartialEq, Eq)]
-pub struct OddNotice {
-    /// Why it is odd.
-    pub what: Odd,
-    /// The number of the line, from 1.
-    pub line: u64,
 }
 
 /// The words that a program may have.
@@ -101,7 +91,7 @@ fn is_near(word: &[u8], other: &[u8]) -> bool {
 
 /// The first word of those that a program may have that is one letter away from this one; none if there is none, and for a word of less than
 /// four letters.
-pub fn near_word(word: &[u8]) -> Option<&'static str> {
+pub(crate) fn near_word(word: &[u8]) -> Option<&'static str> {
     if word.len() < 4 {
         return None;
     }
@@ -113,7 +103,6 @@ pub fn near_word(word: &[u8]) -> Option<&'static str> {
     None
 }
 
-/// The square of a component.
 fn square(component: i64) -> u64 {
     let size = component.unsigned_abs();
     size.saturating_mul(size)
@@ -137,7 +126,6 @@ struct Course {
 }
 
 impl Course {
-    /// Before any statement.
     fn start() -> Course {
         Course {
             has_tool: false,
@@ -209,61 +197,51 @@ fn odd_here(
     }
 }
 
-/// Adds why a statement is odd, if it is, and gives how far the program has come after it.
+/// Why a statement is odd, if it is, and how far the program has come after it.
 fn pass(
-    notices: &mut Vec<OddNotice>,
+    alloc: Global,
     course: Course,
     labels: &mut Labels,
     keyword: Keyword,
     statement: &Statement,
-) -> Result<Course, AllocError> {
-    let line = statement.line;
+) -> Result<(Option<Odd>, Course), AllocError> {
     if keyword == Keyword::Unknown {
-        if near_word(&statement.word).is_some() {
-            let what = Odd::NearWord;
-            notices.push(OddNotice { what, line })?;
-        }
-        return Ok(course);
+        let odd = near_word(&statement.word).map(|_| Odd::NearWord);
+        return Ok((odd, course));
     }
-    let Some(meaning) = meaning_of(*notices.allocator(), keyword, statement)? else {
-        return Ok(course.after_refused(keyword));
+    let Some(meaning) = meaning_of(alloc, keyword, statement)? else {
+        return Ok((None, course.after_refused(keyword)));
     };
-    if let Some(what) = odd_here(course, labels, keyword, statement, &meaning)? {
-        notices.push(OddNotice { what, line })?;
-    }
-    Ok(course.after(&meaning))
+    let odd = odd_here(course, labels, keyword, statement, &meaning)?;
+    Ok((odd, course.after(&meaning)))
 }
 
-/// The next statement; none at the end of the text, and before a line that cannot be read.
-fn next_statement<'a>(statements: &mut Statements<'a>) -> Result<Option<Statement<'a>>, AllocError>
-    ensures { IfOk result (λ given. IfSome given
-        (λ s. statements.old.left ≡ s ∷ statements.new.left)) }
-{
-    match statements.next() {
-        Ok(statement) => Ok(statement),
-        Err(TextFault::LineTooLong(_) | TextFault::BadByte(_)) => Ok(None),
-        Err(TextFault::Memory) => Err(AllocError),
-    }
-}
-
-/// Each statement of a program that is probably not meant as it is written, in order, one finding a statement. Statements that are
-/// refused for themselves are left out, but for words that are not known. Nothing is read after `ENDFIL`, nor after a line that cannot be read. Fails only if out of memory.
-pub fn odd_statements(alloc: Global, bytes: &[u8]) -> Result<Vec<OddNotice>, AllocError> {
-    let mut statements = Statements::new(alloc, bytes);
+/// Each of these statements of a text that is probably not meant as it is written, up to `ENDFIL`, one remark a statement. Statements that are
+/// refused for themselves are left out, but for words that are not known. Fails only if out of memory.
+pub(crate) fn odd_statements(
+    alloc: Global,
+    text: &[u8],
+    statements: &[Statement],
+) -> Result<Vec<Remark>, AllocError> {
     let mut course = Course::start();
     let mut labels = Labels::new(alloc);
-    let mut notices = Vec::new(alloc);
-    if bytes.starts_with(b"\xEF\xBB\xBF") {
-        let what = Odd::Mark;
-        notices.push(OddNotice { what, line: 1 })?;
+    let mut remarks = Vec::new(alloc);
+    if text.starts_with(b"\xEF\xBB\xBF") {
+        let what = What::Odd(Odd::Mark);
+        remarks.push(Remark { what, line: 1 })?;
     }
-    while let Some(statement) = next_statement(&mut statements)? {
+    for statement in statements {
+        let line = statement.line;
         let keyword = keyword_of_word(&statement.word);
         if keyword == Keyword::Endfil {
-            return Ok(notices);
+            return Ok(remarks);
         }
-        course = pass(&mut notices, course, &mut labels, keyword, &statement)?;
-        statements.take_back(statement);
+        let (odd, next) = pass(alloc, course, &mut labels, keyword, statement)?;
+        if let Some(odd) = odd {
+            let what = What::Odd(odd);
+            remarks.push(Remark { what, line })?;
+        }
+        course = next;
     }
-    Ok(notices)
+    Ok(remarks)
 }

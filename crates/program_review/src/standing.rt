@@ -28,14 +28,10 @@ pub(crate) struct Standing {
     pub(crate) lacking: Option<u64>,
 }
 
-/// Whether a word begins a program.
 fn is_start(keyword: Keyword) -> bool
     ensures { result ≡ is_start keyword }
 {
-    match keyword {
-        Keyword::Dmismn => true,
-        _ => false,
-    }
+    matches!(keyword, Keyword::Dmismn)
 }
 
 /// One more statement, where one too many is enough.
@@ -71,14 +67,10 @@ fn lacking_said(meaning: &StatementMeaning, lacking: Option<u64>) -> Option<u64>
     }
 }
 
-/// Whether a statement that says this selects a tool.
 fn is_selection(meaning: &StatementMeaning) -> bool
     ensures { result ≡ is_selection meaning.now }
 {
-    match meaning {
-        StatementMeaning::Selects(_) => true,
-        _ => false,
-    }
+    matches!(meaning, StatementMeaning::Selects(_))
 }
 
 /// What the open block lacks after a refused statement of this word.
@@ -93,34 +85,22 @@ fn lacking_passed(keyword: Keyword, lacking: Option<u64>) -> Option<u64>
     }
 }
 
-/// Whether a word selects a tool.
 fn is_tool_word(keyword: Keyword) -> bool
     ensures { result ≡ is_tool_word keyword }
 {
-    match keyword {
-        Keyword::Snslct => true,
-        _ => false,
-    }
+    matches!(keyword, Keyword::Snslct)
 }
 
-/// Whether a refusal says that the program has no start.
 fn is_not_dmis(refusal: Refusal) -> bool
     ensures { result ≡ is_not_dmis refusal }
 {
-    match refusal {
-        Refusal::NotDmis => true,
-        _ => false,
-    }
+    matches!(refusal, Refusal::NotDmis)
 }
 
-/// Whether a refusal says that no tool is selected.
 fn is_no_tool(refusal: Refusal) -> bool
     ensures { result ≡ is_no_tool refusal }
 {
-    match refusal {
-        Refusal::NoTool => true,
-        _ => false,
-    }
+    matches!(refusal, Refusal::NoTool)
 }
 
 /// How many statements count after a refused one.

@@ -1,7 +1,6 @@
 // The touches that would be measured in other coordinates, or by the machine itself, if refused statements were deleted.
 
 ghost use Rattle.std.specs.Prelude.{◌≡◌, ◌++◌, IfOk, OnOk};
-ghost use Rattle.dmis_text.specs.Reading.{text_reading};
 ghost use Rattle.dmis_program.specs.Keywords.{keyword_of};
 ghost use Rattle.dmis_program.specs.Offsets.{offset_of};
 ghost use Rattle.program_review.specs.UnderSetup.{meaning_with};
@@ -10,7 +9,7 @@ ghost use Rattle.program_review.specs.Strays.{at_first, astray, aim_recalled, by
 use crate::groups::is_of_coordinates;
 use crate::under_setup::meaning_of;
 use dmis_program::{Frames, Keyword, StatementMeaning, keyword_of_word};
-use dmis_text::{Statement, Statements, TextFault};
+use dmis_text::Statement;
 use fixed_um::Point;
 use std::alloc::{AllocError, Global};
 
@@ -37,7 +36,6 @@ pub(crate) struct Aim {
 }
 
 impl Aim {
-    /// Before any statement.
     fn start() -> Aim
         ensures { result ≡ at_first }
     {
@@ -158,29 +156,27 @@ fn pass(
     Ok(next)
 }
 
-/// The touches of a program that would be measured otherwise if the refused statements above them were deleted, in order: those after a refused
-/// statement that sets up, keeps or recalls a coordinate system, up to the next `RECALL` of a stored frame, and those after a refused `MODE`, up
-/// to the next that is accepted. Nothing is read
-/// after `ENDFIL`, nor after a line that cannot be read. Fails only if out of memory.
-pub fn stray_touches(alloc: Global, bytes: &[u8], frames: &Frames) -> Result<Vec<Stray>, AllocError>
-    ensures { IfOk result (λ strays. strays.items ≡ strays_from frames.now at_first
-        (text_reading bytes.now).statements) }
+/// The touches among these statements that would be measured otherwise if the refused statements above them were deleted, in order, up to
+/// `ENDFIL`: those after a refused statement that sets up, keeps or recalls a coordinate system, up to the next `RECALL` of a stored frame, and
+/// those after a refused `MODE`, up to the next that is accepted. Fails only if out of memory.
+pub(crate) fn stray_touches(
+    alloc: Global,
+    statements: &[Statement],
+    frames: &Frames,
+) -> Result<Vec<Stray>, AllocError>
+    ensures { IfOk result (λ strays. strays.items
+        ≡ strays_from frames.now at_first statements.now) }
 {
-    let mut statements = Statements::new(alloc, bytes);
     let mut aim = Aim::start();
     let mut strays = Vec::new(alloc);
-    loop {
-        let statement = match statements.next() {
-            Ok(Some(statement)) => statement,
-            Ok(None) => return Ok(strays),
-            Err(TextFault::Memory) => return Err(AllocError),
-            Err(TextFault::LineTooLong(_) | TextFault::BadByte(_)) => return Ok(strays),
-        };
+    let mut left = statements;
+    while let [statement, rest @ ..] = left {
         let keyword = keyword_of_word(&statement.word);
         if keyword == Keyword::Endfil {
             return Ok(strays);
         }
-        aim = pass(&mut strays, frames, aim, keyword, &statement)?;
-        statements.take_back(statement);
+        aim = pass(&mut strays, frames, aim, keyword, statement)?;
+        left = rest;
     }
+    Ok(strays)
 }

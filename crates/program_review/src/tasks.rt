@@ -44,7 +44,6 @@ fn task_of(meaning: &Option<StatementMeaning>) -> Option<Task>
     }
 }
 
-/// Adds what the statement of a line asks for, if it asks for something.
 fn push_task(tasks: &mut Vec<TaskLine>, task: Option<Task>, line: u64) -> Result<(), AllocError>
     ensures { OnOk result (tasks.new.items ≡ tasks.old.items ++ task_on line task) }
 {
@@ -82,14 +81,14 @@ pub fn task_lines(alloc: Global, bytes: &[u8]) -> Result<Vec<TaskLine>, AllocErr
 
 /// Tasks that are left, and the lines of the tool and of the frame that are selected before them.
 #[derive(Drop)]
-struct Left<'a> {
+pub(crate) struct Left<'a> {
     tool: Option<u64>,
     frame: Option<u64>,
-    tasks: &'a [TaskLine],
+    pub(crate) tasks: &'a [TaskLine],
 }
 
 /// What is left after the touch of this number. Does not allocate.
-fn left_after(tasks: &[TaskLine], touches: usize) -> Left<'_>
+pub(crate) fn left_after(tasks: &[TaskLine], touches: usize) -> Left<'_>
     ensures tool { result.tool ≡ tool_line None (up_to_touch touches tasks.now) }
     ensures frame { result.frame ≡ frame_line None (up_to_touch touches tasks.now) }
     ensures tasks { result.tasks.now ≡ after_touch touches tasks.now }
@@ -117,7 +116,6 @@ fn left_after(tasks: &[TaskLine], touches: usize) -> Left<'_>
     }
 }
 
-/// Adds the lines of the commands that a task takes.
 fn push_lines(lines: &mut Vec<Option<u64>>, task: TaskLine) -> Result<(), AllocError>
     ensures { OnOk result (lines.new.items ≡ lines.old.items ++ lines_of task) }
 {
@@ -162,6 +160,7 @@ pub fn command_lines(
         tool,
         frame,
         tasks: rest,
+        ..
     } = left_after(tasks, touches);
     let mut lines = Vec::new(alloc);
     push_again(&mut lines, tool, frame)?;

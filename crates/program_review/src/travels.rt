@@ -1,7 +1,6 @@
 // The straight travels of a program from feature to feature.
 
 ghost use Rattle.std.specs.Prelude.{◌≡◌, ◌≤◌, ◌++◌, ◌∷◌, [], ◌*◌, ◌^◌, ◌+ℤ◌, ◌-ℤ◌, unsigned_abs, IfOk, OnOk};
-ghost use Rattle.dmis_text.specs.Reading.{text_reading};
 ghost use Rattle.dmis_program.specs.Offsets.{offset_of};
 ghost use Rattle.fixed_um.specs.Points.{point_sum};
 ghost use Rattle.program_review.specs.Travels.{at_home, way_selected, way_recalled, way_begun, way_ended, way_touched, touched_at, way_after};
@@ -10,10 +9,11 @@ ghost use Rattle.program_review.specs.Travels.{travel_to, travels_in, travels_of
 ghost use Rattle.program_review.specs.Travels.{is_clearing, is_above, is_replaced, replaced};
 
 use crate::groups::is_of_coordinates;
-use crate::notices::{Notice, Passed};
+use crate::notices::Passed;
+use crate::remarks::{Remark, What};
 use crate::under_setup::meaning_of;
 use dmis_program::{Frames, Keyword, StatementMeaning, keyword_of_word};
-use dmis_text::{Statement, Statements, TextFault};
+use dmis_text::Statement;
 use fixed_um::{Point, Um};
 use std::alloc::{AllocError, Global};
 
@@ -64,7 +64,6 @@ pub(crate) struct Way {
 }
 
 impl Way {
-    /// Before any statement.
     fn start() -> Way
         ensures { result ≡ at_home }
     {
@@ -84,9 +83,7 @@ impl Way {
         Way {
             zero,
             set_on: line,
-            is_open: self.is_open,
-            is_clear: self.is_clear,
-            has_begun: self.has_begun,
+            ..*self
         }
     }
 
@@ -101,29 +98,22 @@ impl Way {
         }
     }
 
-    /// After a `MEAS`.
     fn begun(&self) -> Way
         ensures { result ≡ way_begun self.now }
     {
         Way {
-            zero: self.zero,
-            set_on: self.set_on,
             is_open: true,
-            is_clear: self.is_clear,
             has_begun: true,
+            ..*self
         }
     }
 
-    /// After an `ENDMES`.
     fn ended(&self) -> Way
         ensures { result ≡ way_ended self.now }
     {
         Way {
-            zero: self.zero,
-            set_on: self.set_on,
             is_open: false,
-            is_clear: self.is_clear,
-            has_begun: self.has_begun,
+            ..*self
         }
     }
 
@@ -132,11 +122,9 @@ impl Way {
         ensures { result ≡ way_touched self.now is_clear }
     {
         Way {
-            zero: self.zero,
-            set_on: self.set_on,
-            is_open: self.is_open,
             is_clear,
             has_begun: self.has_begun && !is_clear,
+            ..*self
         }
     }
 
@@ -150,7 +138,6 @@ impl Way {
         }
     }
 
-    /// After a statement that says this.
     fn after(
         &self,
         frames: &Frames,
@@ -214,7 +201,6 @@ impl Way {
     }
 }
 
-/// Adds the way to a touch.
 fn push_stop(legs: &mut Vec<Leg>, stop: Stop, is_straight: bool) -> Result<(), AllocError>
     ensures { OnOk result (legs.new.items
         ≡ legs.old.items ++ record { stop = stop; is_straight = is_straight } ∷ []) }
@@ -223,30 +209,24 @@ fn push_stop(legs: &mut Vec<Leg>, stop: Stop, is_straight: bool) -> Result<(), A
     Ok(())
 }
 
-/// The ways to the touches of a program, in order.
-fn legs_of(alloc: Global, bytes: &[u8], frames: &Frames) -> Result<Vec<Leg>, AllocError>
-    ensures { IfOk result (λ legs. legs.items ≡ legs_from frames.now at_home
-        (text_reading bytes.now).statements) }
+/// The ways to the touches among these statements, in order.
+fn legs_of(alloc: Global, statements: &[Statement], frames: &Frames) -> Result<Vec<Leg>, AllocError>
+    ensures { IfOk result (λ legs. legs.items ≡ legs_from frames.now at_home statements.now) }
 {
-    let mut statements = Statements::new(alloc, bytes);
     let mut way = Way::start();
     let mut legs = Vec::new(alloc);
-    loop {
-        let statement = match statements.next() {
-            Ok(Some(statement)) => statement,
-            Ok(None) => return Ok(legs),
-            Err(TextFault::Memory) => return Err(AllocError),
-            Err(TextFault::LineTooLong(_) | TextFault::BadByte(_)) => return Ok(legs),
-        };
+    let mut left = statements;
+    while let [statement, rest @ ..] = left {
         let keyword = keyword_of_word(&statement.word);
         if keyword == Keyword::Endfil {
             return Ok(legs);
         }
-        let meaning = meaning_of(alloc, keyword, &statement)?;
+        let meaning = meaning_of(alloc, keyword, statement)?;
         way.push_leg(&mut legs, keyword, statement.line, &meaning)?;
-        way = way.after(frames, keyword, &statement, &meaning);
-        statements.take_back(statement);
+        way = way.after(frames, keyword, statement, &meaning);
+        left = rest;
     }
+    Ok(legs)
 }
 
 /// The next touch, if the way to it is straight and to another feature.
@@ -259,7 +239,6 @@ fn next_stop(legs: &[Leg]) -> Option<Stop>
     }
 }
 
-/// Adds the travel between two touches, if there is a second one.
 fn push_travel(travels: &mut Vec<Travel>, last: Stop, first: Option<Stop>) -> Result<(), AllocError>
     ensures { OnOk result (travels.new.items ≡ travels.old.items ++ travel_to last first) }
 {
@@ -269,7 +248,6 @@ fn push_travel(travels: &mut Vec<Travel>, last: Stop, first: Option<Stop>) -> Re
     Ok(())
 }
 
-/// The straight travels on these ways.
 fn travels_in(alloc: Global, legs: &[Leg]) -> Result<Vec<Travel>, AllocError>
     ensures { IfOk result (λ travels. travels.items ≡ travels_in legs.now) }
 {
@@ -282,23 +260,21 @@ fn travels_in(alloc: Global, legs: &[Leg]) -> Result<Vec<Travel>, AllocError>
     Ok(travels)
 }
 
-/// Each travel of a program from the last touch of a feature straight to the first touch of the next, with no `GOTO` between, in order;
-/// `frames` are those that it may recall. A touch that is refused for itself or outside a block ends a way and begins none, since its place is
-/// not known. Nothing is read after `ENDFIL`, nor after a line that cannot be read. Fails only if out of memory.
-pub fn straight_travels(
+/// Each travel from the last touch of a feature straight to the first touch of the next, with no `GOTO` between, among these statements, in
+/// order, up to `ENDFIL`; `frames` are those that they may recall. A touch that is refused for itself or outside a block ends a way and begins
+/// none, since its place is not known. Fails only if out of memory.
+pub(crate) fn straight_travels(
     alloc: Global,
-    bytes: &[u8],
+    statements: &[Statement],
     frames: &Frames,
 ) -> Result<Vec<Travel>, AllocError>
-    ensures { IfOk result (λ travels. travels.items
-        ≡ travels_of frames.now (text_reading bytes.now).statements) }
+    ensures { IfOk result (λ travels. travels.items ≡ travels_of frames.now statements.now) }
 {
-    let legs = legs_of(alloc, bytes, frames)?;
+    let legs = legs_of(alloc, statements, frames)?;
     let travels = travels_in(alloc, legs.as_slice())?;
     Ok(travels)
 }
 
-/// The square of a length.
 #[tactic(auto, unfolding(crate::specs::Travels::squared))]
 fn squared(length: i64) -> u128
     requires { unsigned_abs length ≤ 16000000000 }
@@ -360,7 +336,7 @@ fn zeros(last: Option<Point>, first: Option<Point>, is_same: bool) -> Option<(Po
 impl Travel {
     /// Its length in whole micrometres, rounded down; none if other coordinates are selected on the way, and are not both known. Does not
     /// allocate.
-    pub fn length(&self) -> Option<u128>
+    pub(crate) fn length(&self) -> Option<u128>
         ensures { IsLength (squared_length self.now) result }
     {
         let is_same = self.last.set_on == self.first.set_on;
@@ -371,17 +347,17 @@ impl Travel {
 }
 
 /// Whether a statement says that the probe clears the part, or that it does so no longer.
-fn is_clearing(what: Passed) -> bool
+fn is_clearing(what: What) -> bool
     ensures { result ≡ is_clearing what }
 {
     match what {
-        Passed::Clearing | Passed::ClearingOff => true,
+        What::Passed(Passed::Clearing | Passed::ClearingOff) => true,
         _ => false,
     }
 }
 
 /// Whether a line is above the first of these statements that speaks of clearing.
-fn is_above(line: u64, notices: &[Notice]) -> bool
+fn is_above(line: u64, notices: &[Remark]) -> bool
     ensures { result ≡ is_above line notices.now }
 {
     let mut left = notices;
@@ -395,7 +371,7 @@ fn is_above(line: u64, notices: &[Notice]) -> bool
 }
 
 /// Whether a statement on clearing on this line, after which these are passed over, would have replaced a travel.
-fn is_replaced(line: u64, later: &[Notice], travel: &Travel) -> bool
+fn is_replaced(line: u64, later: &[Remark], travel: &Travel) -> bool
     ensures { result ≡ is_replaced line later.now travel.now }
 {
     line < travel.first.line && is_above(travel.first.line, later)
@@ -403,7 +379,7 @@ fn is_replaced(line: u64, later: &[Notice], travel: &Travel) -> bool
 
 /// How many of a program's straight travels a statement on clearing would have replaced: those to a touch after its line, up to the next such
 /// statement; `later` are the statements after it that are passed over. Does not allocate.
-pub fn replaced(travels: &[Travel], line: u64, later: &[Notice]) -> usize
+pub(crate) fn replaced(travels: &[Travel], line: u64, later: &[Remark]) -> usize
     ensures { result ≡ replaced travels.now line later.now }
 {
     travels

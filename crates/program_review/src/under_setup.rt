@@ -1,15 +1,15 @@
 // What a setup lacks for a program.
 
 ghost use Rattle.std.specs.Prelude.{◌≡◌, ◌++◌, IfOk, IfSome, OnOk};
-ghost use Rattle.dmis_text.specs.Reading.{text_reading};
 ghost use Rattle.dmis_program.specs.Keywords.{keyword_of};
 ghost use Rattle.dmis_program.specs.Offsets.{offset_of};
 ghost use Rattle.program_review.specs.UnderSetup.{recalls_other, meaning_with, recalled, selected_after, is_within, is_outside, when, lack_of, lack_on, is_end, lacks_of};
 
+use crate::remarks::{Remark, What};
 use dmis_program::{
     Frames, Keyword, StatementFault, StatementMeaning, keyword_of_word, said_of, word_refusal,
 };
-use dmis_text::{Statement, Statements, Text, TextFault};
+use dmis_text::{Statement, Text};
 use fixed_um::Point;
 use std::alloc::{AllocError, Global};
 use tool_rack::Rack;
@@ -21,15 +21,6 @@ pub enum Lack {
     Tool,
     /// The position is out of the machine's volume, in machine axes.
     Volume,
-}
-
-/// What the setup lacks for the statement that begins on a line.
-#[derive(Clone, Copy, Debug, PartialEq, Eq)]
-pub struct SetupNotice {
-    /// What it lacks.
-    pub what: Lack,
-    /// The number of the line, from 1.
-    pub line: u64,
 }
 
 /// The frame that is selected.
@@ -68,7 +59,6 @@ pub(crate) fn meaning_of(
     }
 }
 
-/// The frame of a name that is recalled.
 fn recalled(offset: Option<Point>) -> Selected
     ensures { result ≡ recalled offset }
 {
@@ -78,7 +68,6 @@ fn recalled(offset: Option<Point>) -> Selected
     }
 }
 
-/// Whether a position is within the machine's volume.
 fn is_within(position: Point) -> bool
     ensures { result ≡ is_within position }
 {
@@ -117,7 +106,6 @@ impl Selected {
     }
 }
 
-/// This, if it is so.
 fn when(is_so: bool, what: Lack) -> Option<Lack>
     ensures { result ≡ when is_so what }
 {
@@ -138,69 +126,60 @@ fn lack_of(rack: &Rack, selected: &Selected, meaning: &Option<StatementMeaning>)
     }
 }
 
-/// Adds what the setup lacks for the statement of a line, if it lacks something.
-fn push_lack(
-    notices: &mut Vec<SetupNotice>,
-    what: Option<Lack>,
-    line: u64,
-) -> Result<(), AllocError>
-    ensures { OnOk result (notices.new.items ≡ notices.old.items ++ lack_on line what) }
+fn push_lack(remarks: &mut Vec<Remark>, lack: Option<Lack>, line: u64) -> Result<(), AllocError>
+    ensures { OnOk result (remarks.new.items ≡ remarks.old.items ++ lack_on line lack) }
 {
-    if let Some(what) = what {
-        notices.push(SetupNotice { what, line })?;
+    if let Some(lack) = lack {
+        let what = What::Lack(lack);
+        remarks.push(Remark { what, line })?;
     }
     Ok(())
 }
 
 /// Adds what the setup lacks for a statement, and gives the frame that is selected after it.
 fn pass(
-    notices: &mut Vec<SetupNotice>,
+    remarks: &mut Vec<Remark>,
     rack: &Rack,
     frames: &Frames,
     selected: &Selected,
     keyword: Keyword,
     statement: &Statement,
 ) -> Result<Selected, AllocError>
-    ensures notices { OnOk result (notices.new.items ≡ notices.old.items
+    ensures remarks { OnOk result (remarks.new.items ≡ remarks.old.items
         ++ lack_on statement.now.line
         (lack_of rack.now selected.now (meaning_with keyword statement.now))) }
     ensures selected { IfOk result (λ next. next
         ≡ selected_after frames.now selected.now (meaning_with keyword statement.now) keyword) }
 {
-    let meaning = meaning_of(*notices.allocator(), keyword, statement)?;
+    let meaning = meaning_of(*remarks.allocator(), keyword, statement)?;
     let what = lack_of(rack, selected, &meaning);
-    push_lack(notices, what, statement.line)?;
+    push_lack(remarks, what, statement.line)?;
     let next = selected.after(frames, keyword, &meaning);
     Ok(next)
 }
 
-/// What a setup with these tools and frames lacks for a program, in the order of the program's lines: each selection of a tool that is not in
+/// What a setup with these tools and frames lacks for these statements of a program, up to `ENDFIL`: each selection of a tool that is not in
 /// the rack, and each move and touch out of the machine's volume, in machine axes. Where the selected frame is unknown, positions are not
-/// judged. Nothing is read after `ENDFIL`, nor after a line that cannot be read. Fails only if out of memory.
-pub fn lacking_setup(
+/// judged. Fails only if out of memory.
+pub(crate) fn lacking_setup(
     alloc: Global,
-    bytes: &[u8],
+    statements: &[Statement],
     rack: &Rack,
     frames: &Frames,
-) -> Result<Vec<SetupNotice>, AllocError>
-    ensures { IfOk result (λ notices. notices.items
-        ≡ lacks_of rack.now frames.now (text_reading bytes.now).statements) }
+) -> Result<Vec<Remark>, AllocError>
+    ensures { IfOk result (λ remarks. remarks.items
+        ≡ lacks_of rack.now frames.now statements.now) }
 {
-    let mut statements = Statements::new(alloc, bytes);
     let mut selected = Selected::Machine;
-    let mut notices = Vec::new(alloc);
-    loop {
-        let statement = match statements.next() {
-            Ok(Some(statement)) => statement,
-            Ok(None) => return Ok(notices),
-            Err(TextFault::Memory) => return Err(AllocError),
-            Err(TextFault::LineTooLong(_) | TextFault::BadByte(_)) => return Ok(notices),
-        };
+    let mut remarks = Vec::new(alloc);
+    let mut left = statements;
+    while let [statement, rest @ ..] = left {
         let keyword = keyword_of_word(&statement.word);
         if keyword == Keyword::Endfil {
-            return Ok(notices);
+            return Ok(remarks);
         }
-        selected = pass(&mut notices, rack, frames, &selected, keyword, &statement)?;
-        statements.take_back(statement);
+        selected = pass(&mut remarks, rack, frames, &selected, keyword, statement)?;
+        left = rest;
     }
+    Ok(remarks)
 }

@@ -30,7 +30,6 @@ fn is_assigning(word: &[u8]) -> bool
         || is_text(word, "VALUE")
 }
 
-/// Adds a text that is a name.
 fn push_name(names: &mut Vec<Name>, text: &[u8]) -> Result<(), AllocError>
     ensures { OnOk result (names.new.items ≡ names.old.items ++ as_list (name_of text.now)) }
 {
@@ -40,7 +39,6 @@ fn push_name(names: &mut Vec<Name>, text: &[u8]) -> Result<(), AllocError>
     Ok(())
 }
 
-/// Adds those of some texts that are names.
 fn push_names(names: &mut Vec<Name>, texts: &[Text]) -> Result<(), AllocError>
     ensures { OnOk result (names.new.items ≡ names.old.items ++ names_in texts.now) }
 {
@@ -67,7 +65,6 @@ pub(crate) fn push_declared(names: &mut Vec<Name>, statement: &Statement) -> Res
     Ok(())
 }
 
-/// Whether a text is not read as a length.
 fn is_no_length(text: &[u8]) -> bool
     ensures { result ≡ is_no_length text.now }
 {
@@ -87,8 +84,7 @@ fn without_cart<'p, 'a>(params: &'p [Text<'a>]) -> &'p [Text<'a>]
     }
 }
 
-/// Whether a text is one of these names.
-fn has_name(names: &[Name], text: &[u8]) -> bool
+pub(crate) fn has_name(names: &[Name], text: &[u8]) -> bool
     ensures { result ≡ has_name names.now text.now }
 {
     names.iter().any(|name| name.as_bytes() == text)
@@ -122,14 +118,10 @@ fn is_refused_for(names: &[Name], refusal: Refusal, params: &[Text]) -> bool
     }
 }
 
-/// Whether a word moves the machine to a point.
 fn is_move(keyword: Keyword) -> bool
     ensures { result ≡ is_move keyword }
 {
-    match keyword {
-        Keyword::Goto => true,
-        _ => false,
-    }
+    matches!(keyword, Keyword::Goto)
 }
 
 /// What a refused statement of this keyword is for, below those that declare or assign these names. Does not allocate.

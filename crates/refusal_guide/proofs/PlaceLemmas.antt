@@ -2,20 +2,21 @@
 use Rattle.std.proofs.Common.{◌≡◌, ℕ, List, ◌++◌, length, Result, Ok, Err, OnOk, is_ok, cond, ◌∙◌, ap}
 use Rattle.refusal_guide.specs.Lines.{lines_from, first_of, line_of, shown_from}
 use Rattle.refusal_guide.specs.Windows.{shown_start}
-use Rattle.refusal_guide.specs.Words.{Said}
+use Rattle.refusal_guide.specs.Words.{Caused}
 use Rattle.refusal_guide.specs.Places.{place_text, number_of, IsReason, shown_for, IsPlace, IsPlaceOf, Places}
 use Rattle.refusal_guide.specs.declared.places.Refused.{Refused}
 
 -- what is written of the first of the lines that begin with a number is the place of that number
-pub placed : (refused : Refused) (name bytes line shown written : List ℕ) (said : Said) (rest : List (List ℕ)) (number start : ℕ)
-    → rest ≡ lines_from number bytes → line ≡ first_of rest → IsReason refused bytes number said → start ≡ shown_start (length line) said.at said.len
-    → shown ≡ shown_from start line → written ≡ place_text name number shown said.text → IsPlace refused name bytes number written
-placed refused name bytes line shown written said rest number start e f r w g h =
+pub placed : (refused : Refused) (name bytes line shown written sentence : List ℕ) (why : Caused) (rest : List (List ℕ)) (number start : ℕ)
+    → rest ≡ lines_from number bytes → line ≡ first_of rest → IsReason refused bytes number why → start ≡ shown_start (length line) why.at why.len
+    → shown ≡ shown_from start line → written ≡ place_text name number shown sentence → IsPlace refused name bytes number written
+placed refused name bytes line shown written sentence why rest number start e f r w g h =
     let k : line ≡ line_of number bytes = f ∙ ap first_of e in
     record {
-      said = said;
+      why = why;
+      sentence = sentence;
       is_reason = r;
-      whole = h ∙ ap (λ s. place_text name number s said.text) (g ∙ (ap (λ (n : ℕ). shown_from n line) w ∙ ap (shown_for said) k));
+      whole = h ∙ ap (λ s. place_text name number s sentence) (g ∙ (ap (λ (n : ℕ). shown_from n line) w ∙ ap (shown_for why) k));
     }
 
 -- what is appended is the place, or nothing is

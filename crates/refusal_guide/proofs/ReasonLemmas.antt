@@ -1,4 +1,4 @@
--- The sentence of a place, from that of its statement or of its line.
+-- The cause of a place, from that of its statement or of its line.
 use Rattle.std.proofs.Common.{◌≡◌, Option, Some, None, IfSome, refl, ap, subst}
 use Rattle.std.specs.Prelude.{slice_get}
 use Rattle.std.specs.Option.{option_map}
@@ -8,24 +8,24 @@ use Rattle.dmis_program.specs.declared.faults.Refusal.{Refusal}
 use Rattle.refusal_guide.specs.declared.words.Reason.{Reason}
 use Rattle.refusal_guide.specs.declared.lines.Place.{Place}
 use Rattle.refusal_guide.specs.Lines.{bytes_from}
-use Rattle.refusal_guide.specs.Words.{Said, said_by}
+use Rattle.refusal_guide.specs.Words.{Caused, caused_by}
 use Rattle.refusal_guide.specs.Reasons.{Spot, spot_at, spot_of, IsOfStatement, IsOfLine, IsOfEither, IsOfPlace, IsProgramReason}
 
-shown_given : (r : Option Reason) (g : Reason) → IfSome r (λ w. g ≡ w) → IfSome (option_map said_by r) (λ s. said_by g ≡ s)
+shown_given : (r : Option Reason) (g : Reason) → IfSome r (λ w. g ≡ w) → IfSome (option_map caused_by r) (λ s. caused_by g ≡ s)
 shown_given None g h = tt
-shown_given (Some w) g h = ap said_by h
+shown_given (Some w) g h = ap caused_by h
 
-pub reasoned : (refusal : Refusal) (p : Spot) (r : Option Reason) (g : Reason) → IsOfPlace refusal p (option_map said_by r)
-    → IfSome r (λ w. g ≡ w) → IsProgramReason refusal p (said_by g)
-reasoned refusal p r g h e = record { given = option_map said_by r; on_place = h; is_shown = shown_given r g e }
+pub reasoned : (refusal : Refusal) (p : Spot) (r : Option Reason) (g : Reason) → IsOfPlace refusal p (option_map caused_by r)
+    → IfSome r (λ w. g ≡ w) → IsProgramReason refusal p (caused_by g)
+reasoned refusal p r g h e = record { given = option_map caused_by r; on_place = h; is_shown = shown_given r g e }
 
 -- a statement begins on the line
-pub on_statement : (refusal : Refusal) (p : Spot) (s : Statement) (o : Option Said) → Some s ≡ slice_get (text_reading p.rest).statements 0
+pub on_statement : (refusal : Refusal) (p : Spot) (s : Statement) (o : Option Caused) → Some s ≡ slice_get (text_reading p.rest).statements 0
     → IsOfStatement refusal p s o → IsOfPlace refusal p o
 on_statement refusal p s o e h = subst (λ (x : Option Statement). IsOfEither refusal p x o) e h
 
 -- none does
-pub on_line : (refusal : Refusal) (p : Spot) (o : Option Said) → None ≡ slice_get (text_reading p.rest).statements 0
+pub on_line : (refusal : Refusal) (p : Spot) (o : Option Caused) → None ≡ slice_get (text_reading p.rest).statements 0
     → IsOfLine refusal p o → IsOfPlace refusal p o
 on_line refusal p o e h = subst (λ (x : Option Statement). IsOfEither refusal p x o) e h
 

@@ -6,8 +6,8 @@ use Rattle.dmis_text.specs.declared.elements.Statement.{Statement}
 use Rattle.dmis_text.specs.declared.reading.TextFault.{TextFault}
 use Rattle.dmis_text.specs.declared.reading.TextFault.TheVariants.{LineTooLong, BadByte, Memory}
 use Rattle.refusal_guide.specs.Lines.{first_of, bytes_from}
-use Rattle.refusal_guide.specs.Words.{Said}
-use Rattle.refusal_guide.specs.Sentences.{column_said}
+use Rattle.refusal_guide.specs.declared.causes.Cause.TheVariants as cause
+use Rattle.refusal_guide.specs.Words.{Caused}
 
 -- a reading ends with a byte that is not allowed where it is
 abbrev pub is_bad_byte : Option TextFault → Bool
@@ -54,13 +54,12 @@ abbrev pub IsBadByteOf : List ℕ → List ℕ → Option (ℕ × ℕ) → Type 
 IsBadByteOf text rest None = 0 < length (line_bytes rest) → length (near text) < length rest
 IsBadByteOf text rest (Some p) = IsBadByte text rest p.0 p.1
 
--- the sentence names it, and its column
-pub record IsByteSaid (text rest : List ℕ) (said : Said) : Type 0 where
-  pub before : ℕ
+-- it is at fault
+pub record IsByteCause (text rest : List ℕ) (why : Caused) : Type 0 where
   pub byte : ℕ
-  pub is_bad : IsBadByte text rest before byte
-  pub sentence : said ≡ column_said before byte
+  pub is_bad : IsBadByte text rest why.at byte
+  pub is_cause : why ≡ record { cause = cause.BadByte byte; at = why.at; len = 1 }
 
-abbrev pub IsByteReason : List ℕ → List ℕ → Option Said → Type 0
+abbrev pub IsByteReason : List ℕ → List ℕ → Option Caused → Type 0
 IsByteReason text rest None = 0 < length (line_bytes rest) → length (near text) < length rest
-IsByteReason text rest (Some said) = IsByteSaid text rest said
+IsByteReason text rest (Some why) = IsByteCause text rest why

@@ -1,14 +1,12 @@
 -- Which measurement block is open before a line (ISO 22093, `MEAS`, `PTMEAS` and `ENDMES`).
 use Rattle.std.specs.Prelude.{ℕ, ◌+◌, ◌-◌, ◌^◌, List, fold, take_while, min, nat_lt, codes, Option, None, slice_get, if◌then◌else◌}
-use Rattle.std.specs.Prelude.{string_bytes}
 use Rattle.std.specs.Option.{option_map}
 use Rattle.std.specs.Str.{bytes_eq}
 use Rattle.dmis_text.specs.Reading.{text_reading}
 use Rattle.dmis_text.specs.declared.elements.Statement.{Statement}
 use Rattle.refusal_guide.specs.declared.blocks.Block.{Block}
-use Rattle.refusal_guide.specs.Words.{shown_word}
 
--- an open block: the line of its `MEAS`, the count that it names, as a sentence shows it, and how many touches it has
+-- an open block: the line of its `MEAS`, the count that it names, as it is written there, and how many touches it has
 pub record OpenBlock : Type 0 where
   pub line : ℕ
   pub wanted : List ℕ
@@ -16,7 +14,7 @@ pub record OpenBlock : Type 0 where
 
 -- how the code keeps it
 abbrev pub opened_by : Block → OpenBlock
-opened_by block = record { line = block.line; wanted = string_bytes block.wanted; touches = block.touches }
+opened_by block = record { line = block.line; wanted = block.wanted.items; touches = block.touches }
 
 -- the nearest number that 64 bits can hold
 abbrev pub in_64_bits : ℕ → ℕ
@@ -24,7 +22,7 @@ in_64_bits n = min n (2 ^ 64 - 1)
 
 -- a `MEAS` names its count in its third parameter
 abbrev pub begun : Statement → Option OpenBlock
-begun s = option_map (λ count. record { line = s.line; wanted = shown_word count; touches = 0 }) (slice_get s.params 2)
+begun s = option_map (λ count. record { line = s.line; wanted = count; touches = 0 }) (slice_get s.params 2)
 
 -- one touch more
 abbrev pub one_touch_more : OpenBlock → OpenBlock

@@ -1,7 +1,13 @@
 -- Examples of statements (ISO 22093). No contract cites these definitions.
 use Rattle.std.specs.Prelude.{ℕ, List, [], ◌∷◌, codes, Some, None}
 use Rattle.dmis_text.specs.declared.elements.Statement.{Statement}
+use Rattle.refusal_guide.specs.declared.causes.Cause.{Cause}
 use Rattle.refusal_guide.specs.Blocks.{OpenBlock}
+use Rattle.refusal_guide.specs.Words.{Caused}
+
+-- a word of this length at this place is at fault
+abbrev pub at_fault : Cause → ℕ → ℕ → Caused
+at_fault cause at len = record { cause = cause; at = at; len = len }
 
 -- `GOTO/1,1,1`
 abbrev pub going : Statement

@@ -7,7 +7,7 @@ pub mod Windows
 pub mod Words
 pub mod Spots
 pub mod Blocks
-pub mod Sentences
+pub mod Causes
 pub mod BadBytes
 pub mod BadNames
 pub mod Reasons

@@ -7,7 +7,7 @@ use Rattle.contact_ledger.specs.declared.faults.TextFault.TheVariants as text
 use Rattle.run_record.specs.declared.faults.RecordFault.TheVariants as recorded
 use Rattle.refusal_guide.specs.Lines.{line_of, shown_from}
 use Rattle.refusal_guide.specs.Windows.{shown_start}
-use Rattle.refusal_guide.specs.Words.{Said}
+use Rattle.refusal_guide.specs.Words.{Caused}
 use Rattle.refusal_guide.specs.Reasons.{spot_of, IsProgramReason}
 use Rattle.refusal_guide.specs.declared.places.Refused.{Refused}
 use Rattle.refusal_guide.specs.declared.places.Refused.TheVariants.{Program, Setup, Schedule, Features, Contacts, Record}
@@ -33,25 +33,26 @@ number_of (Record recorded.Memory) = None
 abbrev pub place_text : List ℕ → ℕ → List ℕ → List ℕ → List ℕ
 place_text name number line said = name ++ (codes ":" ++ (decimal number ++ (codes ": " ++ (line ++ (codes "\n" ++ (said ++ codes "\n"))))))
 
--- the sentence on a refusal of line n, and the word that it is about
-abbrev pub IsReason : Refused → List ℕ → ℕ → Said → Type 0
-IsReason (Program (program.Refused refusal line)) bytes n said = IsProgramReason refusal (spot_of bytes n 0) said
-IsReason (Program program.Memory) bytes n said = ⊤
-IsReason (Setup fault) bytes n said = ⊤
-IsReason (Schedule fault) bytes n said = ⊤
-IsReason (Features fault) bytes n said = ⊤
-IsReason (Contacts fault) bytes n said = ⊤
-IsReason (Record fault) bytes n said = ⊤
+-- the cause of a refusal of line n, and the word at fault
+abbrev pub IsReason : Refused → List ℕ → ℕ → Caused → Type 0
+IsReason (Program (program.Refused refusal line)) bytes n why = IsProgramReason refusal (spot_of bytes n 0) why
+IsReason (Program program.Memory) bytes n why = ⊤
+IsReason (Setup fault) bytes n why = ⊤
+IsReason (Schedule fault) bytes n why = ⊤
+IsReason (Features fault) bytes n why = ⊤
+IsReason (Contacts fault) bytes n why = ⊤
+IsReason (Record fault) bytes n why = ⊤
 
--- what is shown of a line, so that the word of the sentence is seen
-abbrev pub shown_for : Said → List ℕ → List ℕ
-shown_for said line = shown_from (shown_start (length line) said.at said.len) line
+-- what is shown of a line, so that the word at fault is seen
+abbrev pub shown_for : Caused → List ℕ → List ℕ
+shown_for why line = shown_from (shown_start (length line) why.at why.len) line
 
--- what is shown is the line of this number, with its file's name and the sentence
+-- what is shown is the line of this number, with its file's name and a sentence on the cause
 pub record IsPlace (refused : Refused) (name : List ℕ) (bytes : List ℕ) (number : ℕ) (shown : List ℕ) : Type 0 where
-  pub said : Said
-  pub is_reason : IsReason refused bytes number said
-  pub whole : shown ≡ place_text name number (shown_for said (line_of number bytes)) said.text
+  pub why : Caused
+  pub sentence : List ℕ
+  pub is_reason : IsReason refused bytes number why
+  pub whole : shown ≡ place_text name number (shown_for why (line_of number bytes)) sentence
 
 -- likewise for the line that is refused; nothing if out of memory
 abbrev pub IsPlaceOf : Option ℕ → Refused → List ℕ → List ℕ → List ℕ → Type 0

@@ -1,4 +1,4 @@
--- Which sentence belongs to which refusal of a program, and which word it is about (this profile): a table. `text` is the text, `rest` its bytes
+-- Which cause belongs to which refusal of a program, and which word is at fault (this profile): a table. `text` is the text, `rest` its bytes
 -- from the refused line on, `number` the number of that line, and `above` how many lines are above the text.
 use Rattle.std.specs.Prelude.{◌≡◌, ℕ, List, [], ◌∷◌, length, Option, Some, None, IfSome, slice_get}
 use Rattle.std.specs.Str.Lines.{lines}
@@ -7,14 +7,17 @@ use Rattle.dmis_text.specs.declared.elements.Statement.{Statement}
 use Rattle.dmis_program.specs.declared.faults.Refusal.{Refusal}
 use Rattle.dmis_program.specs.declared.faults.Refusal.TheVariants as refusal
 use Rattle.refusal_guide.specs.Lines.{first_of, bytes_from}
+use Rattle.refusal_guide.specs.declared.causes.Cause.{Cause}
+use Rattle.refusal_guide.specs.declared.causes.Cause.TheVariants as cause
 use Rattle.refusal_guide.specs.declared.lines.Place.{Place}
-use Rattle.refusal_guide.specs.Words.{Said}
+use Rattle.refusal_guide.specs.Words.{Caused, caused, of_line}
+use Rattle.refusal_guide.specs.Spots.{word_spot}
 use Rattle.refusal_guide.specs.BadBytes.{IsByteReason}
-use Rattle.refusal_guide.specs.Sentences as said
-use Rattle.refusal_guide.specs.Numerals.{bad_numeral_said}
-use Rattle.refusal_guide.specs.Arguments.{argument_said}
+use Rattle.refusal_guide.specs.Causes as why
+use Rattle.refusal_guide.specs.Numerals.{bad_numeral}
+use Rattle.refusal_guide.specs.Arguments.{argument_cause}
 
--- what the sentences on a program are made of
+-- what the causes on a program are made of
 pub record Spot : Type 0 where
   pub text : List ℕ
   pub rest : List ℕ
@@ -29,38 +32,42 @@ spot_at place = record { text = place.text.now; rest = place.rest.now; number = 
 abbrev pub spot_of : List ℕ → ℕ → ℕ → Spot
 spot_of text number above = record { text = text; rest = bytes_from number text; number = number; above = above }
 
--- a sentence on the line by itself
-abbrev pub long_line : Spot → Said
-long_line p = said.too_long_said (length (first_of (lines p.rest)))
+-- the line by itself is at fault
+abbrev pub long_line : Spot → Caused
+long_line p = why.long_line (length (first_of (lines p.rest)))
 
--- on the statement that begins on the line; none if no statement there is refused for this
-abbrev pub IsOfStatement : Refusal → Spot → Statement → Option Said → Type 0
-IsOfStatement refusal.NotDmis p s o = o ≡ Some (said.not_dmis_said p.rest s)
-IsOfStatement refusal.Truncated p s o = o ≡ said.truncated_said p.text
+-- the major word of a statement is
+abbrev pub word_at_fault : Cause → Spot → Statement → Option Caused
+word_at_fault c p s = Some (caused c (word_spot p.rest s))
+
+-- of the statement that begins on the line; none if no statement there is refused for this
+abbrev pub IsOfStatement : Refusal → Spot → Statement → Option Caused → Type 0
+IsOfStatement refusal.NotDmis p s o = o ≡ word_at_fault cause.NotFirst p s
+IsOfStatement refusal.Truncated p s o = o ≡ why.truncated p.text
 IsOfStatement refusal.LineTooLong p s o = o ≡ Some (long_line p)
 IsOfStatement refusal.BadByte p s o = IsByteReason p.text p.rest o
-IsOfStatement refusal.Unsupported p s o = o ≡ Some (said.unsupported_said p.rest s)
-IsOfStatement refusal.BadArguments p s o = o ≡ argument_said p.rest s
-IsOfStatement (refusal.BadNumeral cause) p s o = o ≡ bad_numeral_said p.rest s
-IsOfStatement refusal.OutsideBlock p s o = o ≡ Some (said.outside_said p.rest s)
-IsOfStatement refusal.InsideBlock p s o = o ≡ said.inside_block_said p.text p.rest p.number p.above s
-IsOfStatement refusal.TooFewPoints p s o = o ≡ said.too_few_points_said p.text p.rest p.number p.above s
-IsOfStatement refusal.UnknownFrame p s o = o ≡ said.frame_said_of p.rest s
-IsOfStatement refusal.NotMillimetres p s o = o ≡ said.millimetres_said p.rest s
-IsOfStatement refusal.NoProgMode p s o = o ≡ said.prog_mode_said p.rest s
-IsOfStatement refusal.ZeroVector p s o = o ≡ said.zero_vector_said p.rest s
-IsOfStatement refusal.NoTool p s o = o ≡ Some (said.no_tool_said p.rest s)
-IsOfStatement refusal.TooLarge p s o = o ≡ Some (said.too_large_said p.rest s)
+IsOfStatement refusal.Unsupported p s o = o ≡ why.unsupported_cause p.rest s
+IsOfStatement refusal.BadArguments p s o = o ≡ argument_cause p.rest s
+IsOfStatement (refusal.BadNumeral fault) p s o = o ≡ bad_numeral p.rest s
+IsOfStatement refusal.OutsideBlock p s o = o ≡ word_at_fault cause.OutsideBlock p s
+IsOfStatement refusal.InsideBlock p s o = o ≡ why.inside_block p.text p.rest p.number p.above s
+IsOfStatement refusal.TooFewPoints p s o = o ≡ why.too_few_points p.text p.rest p.number p.above s
+IsOfStatement refusal.UnknownFrame p s o = o ≡ why.unknown_frame p.rest s
+IsOfStatement refusal.NotMillimetres p s o = o ≡ why.first_at_fault p.rest s cause.OtherUnit
+IsOfStatement refusal.NoProgMode p s o = o ≡ why.first_at_fault p.rest s cause.OtherMode
+IsOfStatement refusal.ZeroVector p s o = o ≡ why.zero_direction p.rest s
+IsOfStatement refusal.NoTool p s o = o ≡ word_at_fault cause.NoTool p s
+IsOfStatement refusal.TooLarge p s o = o ≡ word_at_fault cause.TooLarge p s
 
--- on the line, if no statement that can be read begins there
-abbrev pub IsOfLine : Refusal → Spot → Option Said → Type 0
-IsOfLine refusal.NotDmis p o = o ≡ Some said.no_statement_said
-IsOfLine refusal.Truncated p o = o ≡ said.truncated_said p.text
+-- of the line, if no statement that can be read begins there
+abbrev pub IsOfLine : Refusal → Spot → Option Caused → Type 0
+IsOfLine refusal.NotDmis p o = o ≡ Some (of_line cause.NoStatement)
+IsOfLine refusal.Truncated p o = o ≡ why.truncated p.text
 IsOfLine refusal.LineTooLong p o = o ≡ Some (long_line p)
 IsOfLine refusal.BadByte p o = IsByteReason p.text p.rest o
 IsOfLine refusal.Unsupported p o = o ≡ None
 IsOfLine refusal.BadArguments p o = o ≡ None
-IsOfLine (refusal.BadNumeral cause) p o = o ≡ None
+IsOfLine (refusal.BadNumeral fault) p o = o ≡ None
 IsOfLine refusal.OutsideBlock p o = o ≡ None
 IsOfLine refusal.InsideBlock p o = o ≡ None
 IsOfLine refusal.TooFewPoints p o = o ≡ None
@@ -71,16 +78,16 @@ IsOfLine refusal.ZeroVector p o = o ≡ None
 IsOfLine refusal.NoTool p o = o ≡ None
 IsOfLine refusal.TooLarge p o = o ≡ None
 
-abbrev pub IsOfEither : Refusal → Spot → Option Statement → Option Said → Type 0
+abbrev pub IsOfEither : Refusal → Spot → Option Statement → Option Caused → Type 0
 IsOfEither refusal p None o = IsOfLine refusal p o
 IsOfEither refusal p (Some s) o = IsOfStatement refusal p s o
 
--- on the place: on the statement that begins there, if there is one
-abbrev pub IsOfPlace : Refusal → Spot → Option Said → Type 0
+-- of the place: of the statement that begins there, if there is one
+abbrev pub IsOfPlace : Refusal → Spot → Option Caused → Type 0
 IsOfPlace refusal p o = IsOfEither refusal p (slice_get (text_reading p.rest).statements 0) o
 
--- the sentence that is shown: that of the place, if it has one
-pub record IsProgramReason (refusal : Refusal) (p : Spot) (shown : Said) : Type 0 where
-  pub given : Option Said
+-- the cause that is shown: that of the place, if it has one
+pub record IsProgramReason (refusal : Refusal) (p : Spot) (shown : Caused) : Type 0 where
+  pub given : Option Caused
   pub on_place : IsOfPlace refusal p given
-  pub is_shown : IfSome given (λ s. shown ≡ s)
+  pub is_shown : IfSome given (λ c. shown ≡ c)

@@ -8,7 +8,6 @@ ghost use Rattle.dmis_text.specs.Reading.{text_reading};
 
 use crate::lines::Place;
 use crate::statements::next_statement;
-use crate::words::Word;
 use dmis_text::{Statement, Statements};
 use std::alloc::{AllocError, Global};
 
@@ -16,7 +15,7 @@ use std::alloc::{AllocError, Global};
 #[derive(Drop)]
 pub(crate) struct Block {
     pub(crate) line: u64,
-    pub(crate) wanted: String,
+    pub(crate) wanted: Vec<u8>,
     pub(crate) touches: u64,
 }
 
@@ -27,13 +26,9 @@ fn begun(alloc: Global, statement: &Statement) -> Result<Option<Block>, AllocErr
     let Some(count) = statement.params.get(2) else {
         return Ok(None);
     };
-    let count = Word {
-        bytes: count,
-        at: None,
-    };
     Ok(Some(Block {
         line: statement.line,
-        wanted: count.shown(alloc)?,
+        wanted: Vec::from_slice(alloc, count)?,
         touches: 0,
     }))
 }
@@ -101,17 +96,6 @@ pub(crate) fn open_block(alloc: Global, place: Place) -> Result<Option<Block>, A
         statements.take_back(statement);
     }
     Ok(block)
-}
-
-/// The line of the block that is open before a line.
-pub(crate) fn open_line(alloc: Global, place: Place) -> Result<Option<u64>, AllocError>
-    ensures { IfOk result (λ line. line
-        ≡ option_map (λ b. b.line) (open_block place.entry.text.now place.entry.number)) }
-{
-    match open_block(alloc, place)? {
-        Some(block) => Ok(Some(block.line)),
-        None => Ok(None),
-    }
 }
 
 /// The last of the statements that can be read.

@@ -1,19 +1,21 @@
-// Examples: where words are, how lines are shown, and what is said.
+// Examples: where words are, how lines are shown, and what is at fault.
 
 ghost use Rattle.std.specs.Prelude.{◌≡◌, [], ◌∷◌, ◌++◌, codes, decimal, replicate, Some, None, true, false};
 ghost use Rattle.refusal_guide.specs.Lines.{bytes_from, line_of, shown_from};
 ghost use Rattle.refusal_guide.specs.Windows.{shown_start};
-ghost use Rattle.refusal_guide.specs.Words.{first_place, word_in, shown_word, naming};
+ghost use Rattle.refusal_guide.specs.Words.{first_place, word_in, caused};
 ghost use Rattle.refusal_guide.specs.Spots.{word_spot, param_spot};
 ghost use Rattle.refusal_guide.specs.Blocks.{open_block};
 ghost use Rattle.refusal_guide.specs.BadBytes.{has_bad_byte, near, line_bytes};
-ghost use Rattle.refusal_guide.specs.Sentences as said;
+ghost use Rattle.refusal_guide.specs.Causes as why;
 ghost use Rattle.refusal_guide.specs.Places.{place_text};
-ghost use Rattle.refusal_guide.specs.BadNames.{not_name_text, name_said};
-ghost use Rattle.refusal_guide.specs.Numerals.{digits_before, digits_text, limit_text, not_numeral_text, leftmost, bad_numeral_said};
-ghost use Rattle.refusal_guide.specs.Arguments.{count_text, last_text, argument_said};
+ghost use Rattle.refusal_guide.specs.BadNames.{name_cause, name_reason};
+ghost use Rattle.refusal_guide.specs.Numerals.{digits_before, numeral_cause, leftmost, bad_numeral};
+ghost use Rattle.refusal_guide.specs.Arguments.{count_cause, last_text, argument_cause};
+ghost use Rattle.refusal_guide.specs.declared.causes.Cause.TheVariants as cause;
 ghost use Rattle.refusal_guide.specs.declared.numerals.Measure.TheVariants.{Length, Component};
-ghost use Rattle.refusal_guide.specs.Examples.{going, labelled, ending, one_of_two, unlabelled, moving, gap, measuring};
+ghost use Rattle.fixed_um.specs.declared.numerals.NumeralFault.TheVariants.{TooManyDigits, TooLarge};
+ghost use Rattle.refusal_guide.specs.Examples.{at_fault, going, labelled, ending, one_of_two, unlabelled, moving, gap, measuring};
 
 /// A text is shown from the line of a number on, from its last line on if it has fewer.
 pub fn lines_are_counted_from_one()
@@ -51,15 +53,12 @@ pub fn words_are_the_first_from_a_place_on()
         ≡ record { bytes = codes "GOTO"; at = None } }
 {}
 
-/// A sentence shows at most 100 bytes of a word, and is about its place.
-pub fn sentences_show_their_word()
-    ensures nothing { shown_word [] ≡ codes "(nothing)" }
-    ensures visible { shown_word (65 ∷ 7 ∷ []) ≡ codes "A\\x07" }
-    ensures cut { shown_word (replicate 101 65) ≡ replicate 100 65 ++ codes " .." }
-    ensures found { naming (codes "The ") (record { bytes = codes "ab"; at = Some 3 })
-        (codes ".") ≡ record { text = codes "The ab."; at = 3; len = 2 } }
-    ensures not_found { naming (codes "The ") (record { bytes = codes "ab"; at = None })
-        (codes ".") ≡ record { text = codes "The ab."; at = 0; len = 0 } }
+/// A cause is that of a word at its place, or of the line.
+pub fn causes_have_their_word()
+    ensures found { caused cause.NotCart (record { bytes = codes "ab"; at = Some 3 })
+        ≡ at_fault cause.NotCart 3 2 }
+    ensures not_found { caused cause.NotCart (record { bytes = codes "ab"; at = None })
+        ≡ at_fault cause.NotCart 0 0 }
 {}
 
 /// Each word of a statement is searched for after the one before it.
@@ -81,198 +80,84 @@ pub fn blocks_are_open_up_to_their_end()
     ensures none { open_block (codes "ENDMES") 1 ≡ None }
 {}
 
-/// Each refusal has its sentence.
-pub fn refusals_have_their_sentences()
-    ensures not_dmis { said.not_dmis_said (codes "ENDMES") ending ≡ record {
-      text = codes "The first statement is ENDMES, and a program begins with DMISMN.";
-      at = 0;
-      len = 6;
-    } }
-    ensures ended { said.ended_said ending ≡ record {
-      text = codes "The file ends after this line without ENDFIL: its last statement is ENDMES at line "
-          ++ (decimal 1 ++ codes ".");
-      at = 0;
-      len = 0;
-    } }
-    ensures control { said.column_said 4 7 ≡ record {
-      text = codes "The byte \\x07 in column " ++ (decimal 5
-          ++ codes " is a control character, and only tabs are allowed.");
-      at = 4;
-      len = 1;
-    } }
-    ensures beyond { said.column_said 0 252 ≡ record {
-      text = codes "The byte \\xFC in column " ++ (decimal 1
-          ++ codes " is allowed only in texts and in comments.");
-      at = 0;
-      len = 1;
-    } }
-    ensures unsupported { said.unsupported_said (codes "GOTO/1") going ≡ record {
-      text = codes "GOTO/1 is not carried out: only CART coordinates are.";
-      at = 5;
-      len = 1;
-    } }
-    ensures outside { said.outside_said (codes "ENDMES") ending ≡ record {
-      text = codes "ENDMES is outside a measurement block: no MEAS above it is open.";
-      at = 0;
-      len = 6;
-    } }
-    ensures inside { said.inside_said (codes "ENDMES") ending 7 ≡ record {
-      text = codes "ENDMES is inside the measurement block that begins at line "
-          ++ (decimal 7 ++ codes ": it has no ENDMES yet.");
-      at = 0;
-      len = 6;
-    } }
-    ensures few { said.touches_text 7 (codes "2") 1
-        ≡ codes "MEAS at line " ++ (decimal 7 ++ (codes " names 2 touches, and its block has "
-        ++ (decimal 1 ++ codes "."))) }
-    ensures automatic { said.touches_text 7 (codes "2") 0
-        ≡ codes "The program asks for automatic measuring: MEAS at line " ++ (decimal 7
-        ++ (codes " names 2 touches and its block has none, and only programmed touches are measured. Write a PTMEAS for each, or delete the MEAS at line "
-        ++ (decimal 7 ++ codes " and this ENDMES together."))) }
-    ensures automatic_one { said.touches_text 7 (codes "1") 0
-        ≡ codes "The program asks for automatic measuring: MEAS at line " ++ (decimal 7
-        ++ (codes " names 1 touch and its block has none, and only programmed touches are measured. Write a PTMEAS for each, or delete the MEAS at line "
-        ++ (decimal 7 ++ codes " and this ENDMES together."))) }
-    ensures millimetres { said.millimetres_said (codes "GOTO/1") going ≡ Some (record {
-      text = codes "The unit 1 is not read: lengths are in MM.";
-      at = 5;
-      len = 1;
-    }) }
-    ensures mode { said.prog_mode_said (codes "GOTO/1") going ≡ Some (record {
-      text = codes "The mode 1 is not carried out, and PROG is not among the words of MODE: without this line, or with PROG, the machine drives by itself to the touches below, which MAN leaves to the operator, since the place of the part is not known.";
-      at = 5;
-      len = 1;
-    }) }
-    ensures no_tool { said.no_tool_said (codes "ENDMES") ending ≡ record {
-      text = codes "This ENDMES is a touch before any SNSLCT: no tool is selected.";
-      at = 0;
-      len = 6;
-    } }
-    ensures too_large { said.too_large_said (codes "ENDMES") ending ≡ record {
-      text = codes "This ENDMES is statement 10001, and a program has at most 10000.";
-      at = 0;
-      len = 6;
-    } }
-    ensures frame { said.frame_said (record { bytes = codes "L"; at = Some 9 }) ≡ record {
-      text = codes "No frame L is stored: --setup is missing, or its file has no line FRAME L.";
-      at = 9;
-      len = 1;
-    } }
+/// Each refusal has its cause.
+#[tactic(auto, unfolding(crate::specs::Causes::within_ends, dmis_program::specs::Keywords::keyword_of))]
+pub fn refusals_have_their_causes()
+    ensures ended { why.ended ending ≡ at_fault (cause.Ended 1) 0 0 }
+    ensures coordinates { why.unsupported_cause (codes "GOTO/1") going
+        ≡ Some (at_fault cause.OtherCoordinates 5 1) }
+    ensures recall { why.unsupported_cause (codes "RECALL/1") (unlabelled (codes "RECALL") (codes "1" ∷ []))
+        ≡ Some (at_fault cause.OtherRecall 7 1) }
+    ensures start { why.unsupported_cause (codes "DMISMN") (unlabelled (codes "DMISMN") [])
+        ≡ Some (at_fault cause.SecondStart 0 6) }
+    ensures other { why.unsupported_cause (codes "SCAN/1") (unlabelled (codes "SCAN") (codes "1" ∷ []))
+        ≡ Some (at_fault cause.NotCarriedOut 0 4) }
+    ensures inside { why.inside (codes "ENDMES") ending 6 one_of_two
+        ≡ at_fault (cause.InsideBlock 7) 0 6 }
+    ensures few { why.few_touches (codes "ENDMES") ending 6 one_of_two
+        ≡ at_fault (cause.FewTouches 7 1) 0 6 }
+    ensures first { why.first_at_fault (codes "GOTO/1") going cause.OtherUnit
+        ≡ Some (at_fault cause.OtherUnit 5 1) }
+    ensures frame { why.unknown_frame (codes "RECALL/D(L)")
+        (unlabelled (codes "RECALL") (codes "D(L)" ∷ [])) ≡ Some (at_fault cause.NoFrame 9 1) }
 {}
 
 /// A name has 1 to 64 bytes, each of which can be in one.
 pub fn texts_that_are_not_names()
-    ensures name { name_said (codes "A") (record { bytes = codes "a"; at = Some 2 }) ≡ None }
-    ensures empty { name_said [] (record { bytes = []; at = Some 2 }) ≡ Some (record {
-      text = codes "There is no name between the parentheses.";
-      at = 2;
-      len = 0;
-    }) }
-    ensures long { not_name_text (record { bytes = replicate 65 65; at = None })
-        ≡ replicate 65 65 ++ (codes " is not a name: it has " ++ (decimal 65
-        ++ codes " bytes, and a name has at most 64.")) }
-    ensures longest { name_said (replicate 64 65) (record { bytes = []; at = None }) ≡ None }
-    ensures space { not_name_text (record { bytes = codes "A B"; at = None })
-        ≡ codes "A B is not a name: a space is not allowed in one." }
-    ensures leftmost { not_name_text (record { bytes = codes "A)("; at = None })
-        ≡ codes "A)( is not a name: ) is not allowed in one." }
+    ensures name { name_reason (codes "A") (record { bytes = codes "a"; at = Some 2 }) ≡ None }
+    ensures empty { name_reason [] (record { bytes = []; at = Some 2 })
+        ≡ Some (at_fault cause.NoName 2 0) }
+    ensures long { name_cause (replicate 65 65) ≡ cause.LongName 65 }
+    ensures longest { name_reason (replicate 64 65) (record { bytes = []; at = None }) ≡ None }
+    ensures space { name_cause (codes "A B") ≡ cause.NameByte 32 }
+    ensures leftmost { name_cause (codes "A)(") ≡ cause.NameByte 41 }
 {}
 
-/// Of the numerals of a statement the leftmost that does not read is named. The first three are lengths, the others components.
+/// Of the numerals of a statement the leftmost that does not read is at fault. The first three are lengths, the others components.
 pub fn numerals_that_do_not_read()
     ensures length { leftmost (codes "1" ∷ codes "1001" ∷ codes "x" ∷ codes "y" ∷ [])
         ≡ Some (2, Length) }
     ensures component { leftmost (codes "1" ∷ codes "2" ∷ codes "3" ∷ codes "1" ∷ codes "1001" ∷ [])
         ≡ Some (4, Component) }
     ensures none { leftmost (codes "1" ∷ codes "2" ∷ codes "3" ∷ []) ≡ None }
-    ensures after_cart { bad_numeral_said (codes "GOTO/CART,1,x,y") moving ≡ Some (record {
-      text = not_numeral_text (record { bytes = codes "x"; at = None });
-      at = 12;
-      len = 1;
-    }) }
-    ensures empty { bad_numeral_said (codes "GOTO/1,,3") gap ≡ Some (record {
-      text = (codes "Parameter " ++ (decimal 2 ++ codes " of "))
-          ++ codes "GOTO is empty, and a numeral is expected.";
-      at = 6;
-      len = 0;
-    }) }
-    ensures not_numeral { not_numeral_text (record { bytes = codes "x"; at = None })
-        ≡ codes "x is not a numeral: a numeral has digits with at most one point, and optionally a sign and an exponent of one to three digits." }
+    ensures after_cart { bad_numeral (codes "GOTO/CART,1,x,y") moving
+        ≡ Some (at_fault cause.NotNumeral 12 1) }
+    ensures empty { bad_numeral (codes "GOTO/1,,3") gap ≡ Some (at_fault (cause.NoNumeral 2) 6 0) }
     ensures digits { digits_before (codes "-12.5E34") ≡ 3 }
-    ensures many { digits_text (record { bytes = codes "1.5e7"; at = None })
-        ≡ codes "The numeral 1.5e7 has " ++ (decimal 2
-        ++ codes " digits before its exponent, and at most 30 are read.") }
-    ensures limit { limit_text Length (record { bytes = codes "1e9"; at = None })
-        ≡ codes "The numeral 1e9, rounded to micrometres, is beyond the limit of 1000000 millimetres." }
-    ensures limit_of_component { limit_text Component (record { bytes = codes "1e9"; at = None })
-        ≡ codes "The numeral 1e9, rounded to millionths, is beyond the limit of 1000 for a component of a direction." }
+    ensures many { numeral_cause TooManyDigits Length (codes "1.5e7") ≡ cause.ManyDigits 2 }
+    ensures limit { numeral_cause TooLarge Length (codes "1e9") ≡ cause.BeyondLimit Length }
 {}
 
 /// What does not fit in the parameters of a statement.
-#[tactic(auto, unfolding(crate::specs::Sentences::within_ends))]
+#[tactic(auto, unfolding(crate::specs::Causes::within_ends, dmis_program::specs::Keywords::keyword_of))]
 pub fn parameters_that_do_not_fit()
-    ensures one { count_text 0 1 (codes "3") ≡ codes " has " ++ (decimal 1
-        ++ codes " parameter, and takes 3.") }
-    ensures after_cart { count_text 1 2 (codes "3") ≡ codes " has " ++ (decimal 2
-        ++ codes " parameters after CART, and takes 3.") }
-    ensures counted { argument_said (codes "GOTO/1,1,1") going ≡ Some (record {
-      text = codes "GOTO" ++ count_text 0 3 (codes "3");
-      at = 0;
-      len = 4;
-    }) }
-    ensures feature { argument_said (codes "MEAS/POINT,F(A B),x") measuring ≡ Some (record {
-      text = codes "A B is not a name: a space is not allowed in one.";
-      at = 13;
-      len = 3;
-    }) }
-    ensures kind { argument_said (codes "MEAS/1,A,x") (unlabelled (codes "MEAS")
-        (codes "1" ∷ codes "A" ∷ codes "x" ∷ [])) ≡ Some (record {
-          text = codes "1 is not a kind: a kind is a word of letters.";
-          at = 5;
-          len = 1;
-        }) }
-    ensures touches { argument_said (codes "MEAS/P,F(A),x") (unlabelled (codes "MEAS")
-        (codes "P" ∷ codes "F(A)" ∷ codes "x" ∷ [])) ≡ Some (record {
-          text = codes "x is not a count of touches from 1 to 10000.";
-          at = 12;
-          len = 1;
-        }) }
-    ensures cart { argument_said (codes "PTMEAS/1") (unlabelled (codes "PTMEAS") (codes "1" ∷ []))
-        ≡ Some (record {
-          text = codes "1 is not CART, which comes first in PTMEAS.";
-          at = 7;
-          len = 1;
-        }) }
-    ensures tool { argument_said (codes "SNSLCT/A") (unlabelled (codes "SNSLCT") (codes "A" ∷ []))
-        ≡ Some (record {
-          text = codes "A is not S(name) or SA(name).";
-          at = 7;
-          len = 1;
-        }) }
-    ensures frame { argument_said (codes "RECALL/D(A") (unlabelled (codes "RECALL")
-        (codes "D(A" ∷ [])) ≡ Some (record {
-          text = codes "D(A is not D(name).";
-          at = 7;
-          len = 3;
-        }) }
-    ensures open { argument_said (codes "TEXT/B,'A") (unlabelled (codes "TEXT")
-        (codes "B" ∷ codes "'A" ∷ [])) ≡ Some (record {
-          text = codes "The text 'A is not closed by an apostrophe.";
-          at = 7;
-          len = 2;
-        }) }
+    ensures counted { argument_cause (codes "GOTO/1,1,1") going ≡ Some (at_fault (cause.Count 0 3) 0 4) }
+    ensures after_cart { count_cause (codes "GOTO/CART,1,x,y") moving
+        ≡ Some (at_fault (cause.Count 1 3) 0 4) }
+    ensures feature { argument_cause (codes "MEAS/POINT,F(A B),x") measuring
+        ≡ Some (at_fault (cause.NameByte 32) 13 3) }
+    ensures form { argument_cause (codes "MEAS/P,A,x") (unlabelled (codes "MEAS")
+        (codes "P" ∷ codes "A" ∷ codes "x" ∷ [])) ≡ Some (at_fault cause.NoParentheses 7 1) }
+    ensures kind { argument_cause (codes "MEAS/1,A,x") (unlabelled (codes "MEAS")
+        (codes "1" ∷ codes "A" ∷ codes "x" ∷ [])) ≡ Some (at_fault cause.NoKind 5 1) }
+    ensures touches { argument_cause (codes "MEAS/P,F(A),x") (unlabelled (codes "MEAS")
+        (codes "P" ∷ codes "F(A)" ∷ codes "x" ∷ [])) ≡ Some (at_fault cause.NoCount 12 1) }
+    ensures cart { argument_cause (codes "PTMEAS/1") (unlabelled (codes "PTMEAS") (codes "1" ∷ []))
+        ≡ Some (at_fault cause.NotCart 7 1) }
+    ensures tool { argument_cause (codes "SNSLCT/A") (unlabelled (codes "SNSLCT") (codes "A" ∷ []))
+        ≡ Some (at_fault cause.NoParentheses 7 1) }
+    ensures frame { argument_cause (codes "RECALL/D(A") (unlabelled (codes "RECALL")
+        (codes "D(A" ∷ [])) ≡ Some (at_fault cause.NoParentheses 7 3) }
+    ensures open { argument_cause (codes "TEXT/B,'A") (unlabelled (codes "TEXT")
+        (codes "B" ∷ codes "'A" ∷ [])) ≡ Some (at_fault cause.OpenText 7 2) }
     ensures last { last_text (codes "'a''b") ≡ codes "'b" }
-    ensures label { argument_said (codes "A=GOTO/1") (record {
+    ensures label { argument_cause (codes "A=GOTO/1") (record {
       line = 1;
       label = Some (codes "A");
       word = codes "GOTO";
       params = codes "1" ∷ [];
-    }) ≡ Some (record {
-      text = codes "The label A comes before GOTO: of the statements that are read, only FEAT, TOL and SNSDEF have labels.";
-      at = 0;
-      len = 1;
-    }) }
-    ensures any { argument_said (codes "FEAT=FEAT/1") labelled ≡ None }
+    }) ≡ Some (at_fault cause.Label 0 1) }
+    ensures any { argument_cause (codes "FEAT=FEAT/1") labelled ≡ None }
 {}
 
 /// A byte is not allowed if the text up to it is not read.

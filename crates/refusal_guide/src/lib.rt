@@ -3,10 +3,11 @@
 //!
 //! - `topics`: what is refused by a code, and the topic of a code
 //! - `pages`: what a topic means, what to do, and a line as it should be
-//! - `faults`: the topic of each fault
+//! - `faults`: the topic of a refusal
 //! - `written`: the page of a topic as text
 //! - `places`: the line of a text that is refused, with a sentence on it
 //! - `lines`, `words`: a line and a word as they are shown
+//! - `causes`: why a text is refused, and how it is said
 //! - `sentences`: the sentence on a refusal by itself
 //! - `programs`: the sentences of programs; `statements`, `blocks`, `bad_bytes`: what they are about; `arguments`, `numerals`, `names`: why
 //!   a parameter does not fit
@@ -15,13 +16,14 @@
 //! - `strangers`: why a record is of another part or program; `touches`: in what two touches differ
 //! - `audits`: what an audit found; `contacts`: the contacts of a ledger; `nearest`: the one
 //!   that is nearest to a touch without one
-//! - `examples`: places and sentences that are written out
+//! - `examples`: places and causes that are written out
 #![tactic(auto)]
 
 mod arguments;
 mod audits;
 mod bad_bytes;
 mod blocks;
+mod causes;
 mod contacts;
 pub mod examples;
 mod faults;

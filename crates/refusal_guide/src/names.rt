@@ -1,14 +1,14 @@
 // Why a text is not a name.
 
-ghost use Rattle.std.specs.Prelude.{◌≡◌, length, IfOk, string_bytes};
+ghost use Rattle.std.specs.Prelude.{◌≡◌, IfOk};
 ghost use Rattle.std.specs.Option.{option_map};
 ghost use Rattle.fixed_um.specs.Names.{is_name_text};
-ghost use Rattle.refusal_guide.specs.Words.{between, named_by, said_by};
-ghost use Rattle.refusal_guide.specs.BadNames.{leftmost_byte, length_cause, byte_cause, leftmost_cause, name_cause, not_name_text, name_said};
+ghost use Rattle.refusal_guide.specs.Words.{named_by, caused_by};
+ghost use Rattle.refusal_guide.specs.BadNames.{leftmost_byte, name_cause, name_reason};
 
+use crate::causes::Cause;
 use crate::words::{Reason, Word};
 use fixed_um::Name;
-use session_telling::visible;
 use std::alloc::{AllocError, Global};
 
 /// The most bytes that a name has (this profile).
@@ -33,53 +33,20 @@ fn leftmost_byte(alloc: Global, text: &[u8]) -> Result<Option<u8>, AllocError>
     Ok(None)
 }
 
-/// That a text has too many bytes for a name.
-fn length_cause(alloc: Global, count: usize) -> Result<String, AllocError>
-    ensures { IfOk result (λ text. string_bytes text ≡ length_cause count) }
-{
-    format!(in alloc; " is not a name: it has {count} bytes, and a name has at most 64.")
-}
-
-/// That a text has a byte that is not allowed in a name.
-fn byte_cause(alloc: Global, byte: u8) -> Result<String, AllocError>
-    ensures { IfOk result (λ text. string_bytes text ≡ byte_cause byte) }
-{
-    if byte == b' ' {
-        return String::from_str(alloc, " is not a name: a space is not allowed in one.");
-    }
-    let byte = visible(alloc, &[byte])?;
-    format!(in alloc; " is not a name: {byte} is not allowed in one.")
-}
-
-/// Likewise if it has one.
-fn leftmost_cause(alloc: Global, byte: Option<u8>) -> Result<String, AllocError>
-    ensures { IfOk result (λ text. string_bytes text ≡ leftmost_cause byte) }
-{
-    match byte {
-        Some(byte) => byte_cause(alloc, byte),
-        None => String::from_str(alloc, " is not a name."),
-    }
-}
-
 /// Why a text is not a name.
-fn name_cause(alloc: Global, text: &[u8]) -> Result<String, AllocError>
-    ensures { IfOk result (λ cause. string_bytes cause ≡ name_cause text.now) }
+fn name_cause(alloc: Global, text: &[u8]) -> Result<Cause, AllocError>
+    ensures { IfOk result (λ cause. cause ≡ name_cause text.now) }
 {
+    if text.is_empty() {
+        return Ok(Cause::NoName);
+    }
     if text.len() > LONGEST_NAME {
-        return length_cause(alloc, text.len());
+        return Ok(Cause::LongName(text.len()));
     }
-    leftmost_cause(alloc, leftmost_byte(alloc, text)?)
-}
-
-/// Why a text is not a name, in a sentence that names it.
-fn name_sentence(alloc: Global, name: Word) -> Result<String, AllocError>
-    ensures { IfOk result (λ text. string_bytes text ≡ not_name_text (named_by name.entry)) }
-{
-    if name.bytes.is_empty() {
-        return String::from_str(alloc, "There is no name between the parentheses.");
+    match leftmost_byte(alloc, text)? {
+        Some(byte) => Ok(Cause::NameByte(byte)),
+        None => Ok(Cause::NotName),
     }
-    let behind = name_cause(alloc, name.bytes)?;
-    name.between(alloc, "", &behind)
 }
 
 /// Why a text, which is this word, is not a name; none if it is one.
@@ -88,12 +55,12 @@ pub(crate) fn name_reason(
     text: &[u8],
     word: Word,
 ) -> Result<Option<Reason>, AllocError>
-    ensures { IfOk result (λ reason. option_map said_by reason
-        ≡ name_said text.now (named_by word.entry)) }
+    ensures { IfOk result (λ reason. option_map caused_by reason
+        ≡ name_reason text.now (named_by word.entry)) }
 {
     if is_name(alloc, text)? {
         return Ok(None);
     }
-    let said = name_sentence(alloc, word)?;
-    Ok(Some(Reason::of_word(said, word)))
+    let cause = name_cause(alloc, word.bytes)?;
+    Ok(Some(word.because(alloc, cause, "")?))
 }

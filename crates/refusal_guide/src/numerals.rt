@@ -1,13 +1,13 @@
 // Which numeral does not read, and why.
 
-ghost use Rattle.std.specs.Prelude.{◌≡◌, ◌<◌, ◌∷◌, [], length, IfOk, IfSome, string_bytes};
+ghost use Rattle.std.specs.Prelude.{◌≡◌, ◌<◌, ◌∷◌, [], length, IfOk, IfSome};
 ghost use Rattle.std.specs.List.{position, find};
 ghost use Rattle.std.specs.Option.{option_map};
-ghost use Rattle.refusal_guide.specs.Words.{between, named_by, said_by};
+ghost use Rattle.refusal_guide.specs.Words.{named_by, caused, caused_by};
 ghost use Rattle.refusal_guide.specs.Lengths.{length_fault, is_no_length};
-ghost use Rattle.refusal_guide.specs.Numerals.{component_fault, is_no_component, measure_fault, is_exponent, digits_before};
-ghost use Rattle.refusal_guide.specs.Numerals.{digits_text, limit_cause, limit_text, numeral_text, numeral_said};
+ghost use Rattle.refusal_guide.specs.Numerals.{component_fault, is_no_component, measure_fault, is_exponent, digits_before, numeral_cause};
 
+use crate::causes::Cause;
 use crate::words::{Reason, Word};
 use dmis_text::Text;
 use fixed_um::{NumeralFault, Um, read_dir, read_um};
@@ -115,62 +115,28 @@ fn count_digits(numeral: &[u8]) -> usize
         .count()
 }
 
-/// That a numeral has too many digits.
-fn digits_sentence(alloc: Global, numeral: Word) -> Result<String, AllocError>
-    ensures { IfOk result (λ text. string_bytes text ≡ digits_text (named_by numeral.entry)) }
-{
-    let count = count_digits(numeral.bytes);
-    let behind = format!(in alloc;
-        " has {count} digits before its exponent, and at most 30 are read."
-    )?;
-    numeral.between(alloc, "The numeral ", &behind)
-}
-
-/// Which limit a numeral is past.
-fn limit_cause(measure: Measure) -> &'static str
-    ensures { result.now ≡ limit_cause measure }
-{
-    match measure {
-        Measure::Length => ", rounded to micrometres, is beyond the limit of 1000000 millimetres.",
-        Measure::Component => {
-            ", rounded to millionths, is beyond the limit of 1000 for a component of a direction."
-        }
-    }
-}
-
-/// Why a numeral does not read, in a sentence that names it.
-fn numeral_sentence(
-    alloc: Global,
-    numeral: Word,
-    fault: NumeralFault,
-    measure: Measure,
-) -> Result<String, AllocError>
-    ensures { IfOk result (λ text. string_bytes text
-        ≡ numeral_text fault measure (named_by numeral.entry)) }
+/// Why this numeral does not read as what it is to be.
+fn numeral_cause(numeral: &[u8], fault: NumeralFault, measure: Measure) -> Cause
+    ensures { result ≡ numeral_cause fault measure numeral.now }
 {
     match fault {
-        NumeralFault::NotNumeral => numeral.between(
-            alloc,
-            "",
-            " is not a numeral: a numeral has digits with at most one point, and optionally a sign and an exponent of one to three digits.",
-        ),
-        NumeralFault::TooManyDigits => digits_sentence(alloc, numeral),
-        NumeralFault::TooLarge => numeral.between(alloc, "The numeral ", limit_cause(measure)),
+        NumeralFault::NotNumeral => Cause::NotNumeral,
+        NumeralFault::TooManyDigits => Cause::ManyDigits(count_digits(numeral)),
+        NumeralFault::TooLarge => Cause::BeyondLimit(measure),
     }
 }
 
-/// Why a numeral does not read.
+/// Likewise of this word.
 pub(crate) fn numeral_reason(
     alloc: Global,
     numeral: Word,
     fault: NumeralFault,
     measure: Measure,
 ) -> Result<Reason, AllocError>
-    ensures { IfOk result (λ reason. said_by reason
-        ≡ numeral_said fault measure (named_by numeral.entry)) }
+    ensures { IfOk result (λ reason. caused_by reason ≡ caused
+        (numeral_cause fault measure numeral.entry.bytes.now) (named_by numeral.entry)) }
 {
-    let said = numeral_sentence(alloc, numeral, fault, measure)?;
-    Ok(Reason::of_word(said, numeral))
+    numeral.because(alloc, numeral_cause(numeral.bytes, fault, measure), "")
 }
 
 /// Which of three fields of a line, after its first `from` bytes, is not read as a length, and why; none if all are.

@@ -2,7 +2,7 @@
 
 ghost use Rattle.std.specs.Prelude.{◌≡◌, OnOk, OnErr, IfOk, string_bytes};
 ghost use Rattle.refusal_guide.specs.Lines.{bytes_from};
-ghost use Rattle.refusal_guide.specs.Words.{said_by};
+ghost use Rattle.refusal_guide.specs.Words.{caused_by};
 ghost use Rattle.refusal_guide.specs.Places.{number_of, place_text, IsReason, IsPlace, IsPlaceOf, Places};
 
 use crate::ledgers::{Ledger, ledger_reason};
@@ -63,7 +63,7 @@ fn reason(alloc: Global, refused: Refused, place: Place) -> Result<Reason, Alloc
     requires rest { place.rest.now ≡ bytes_from place.number place.text.now }
     requires above { place.above ≡ 0 }
     ensures { IfOk result (λ reason. IsReason refused place.entry.text.now
-        place.entry.number (said_by reason)) }
+        place.entry.number (caused_by reason)) }
 {
     match refused {
         Refused::Program(ProgramFault::Refused(refusal, _)) => {

@@ -1,5 +1,6 @@
 // Why a line of a record is unexpected, in a sentence. The reader of records decides what may be there.
 
+use crate::causes::Cause;
 use crate::ledgers::{has_return, is_act_word};
 use crate::lines::{Place, first_line};
 use crate::topics::Topic;
@@ -178,7 +179,7 @@ impl<'a> Entry<'a> {
         }
         let told = self.record.told();
         if let Some(said) = contacts_sentence(alloc, wanted, connection, told)? {
-            return Ok(Reason::of_word(said, label));
+            return Ok(Reason::of_word(Cause::Other, said, label));
         }
         let last = self.record.last();
         let behind = format!(in alloc;
@@ -312,7 +313,7 @@ pub(crate) fn record_reason(alloc: Global, place: Place) -> Result<Reason, Alloc
         return Reason::of_text(alloc, "A record begins with the line DME-RECORD 1.");
     }
     if place.number == 1 || place.rest.len() > place.text.len() {
-        return Reason::of_topic(alloc, Topic::RecordDamaged);
+        return Reason::of_text(alloc, Topic::RecordDamaged.meaning());
     }
     let (above, _) = place.text.split_at(place.text.len() - place.rest.len());
     line_reason(alloc, above, line)

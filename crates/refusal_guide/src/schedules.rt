@@ -1,5 +1,6 @@
 // Why a line of a schedule is not an instruction, in a sentence. The reader of schedules decides what a word takes.
 
+use crate::causes::Cause;
 use crate::lines::{Place, first_line};
 use crate::numerals::field_reason as numeral_reason;
 use crate::setups::{count_fields, space_reason};
@@ -85,7 +86,7 @@ fn field_reason(
 /// That nothing follows a word that takes this.
 fn nothing_reason(alloc: Global, word: Word, taken: &str) -> Result<Reason, AllocError> {
     let said = which_takes(alloc, "Nothing follows ", word, taken)?;
-    Ok(Reason::of_word(said, word))
+    Ok(Reason::of_word(Cause::Other, said, word))
 }
 
 /// That a field follows those that are read, if one does.

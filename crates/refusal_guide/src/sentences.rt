@@ -1,11 +1,13 @@
 // The sentence on a refusal by itself, without its line.
 
-ghost use Rattle.std.specs.Prelude.{◌≡◌, OnOk, OnErr, IfOk, string_bytes};
-ghost use Rattle.refusal_guide.specs.Reasons.{spot_at};
-ghost use Rattle.refusal_guide.specs.Passages.{spot_in, IsSentence, Tells};
+ghost use Rattle.std.specs.Prelude.{◌≡◌, OnErr, IfOk};
+ghost use Rattle.refusal_guide.specs.Reasons.{spot_at, IsProgramReason};
+ghost use Rattle.refusal_guide.specs.Passages.{spot_in};
+ghost use Rattle.refusal_guide.specs.Words.{caused_by};
 
 use crate::lines::{Place, from_line};
 use crate::programs::program_reason;
+use crate::words::Reason;
 use dmis_program::Refusal;
 use std::alloc::{AllocError, Global};
 
@@ -35,12 +37,12 @@ fn place_of(passage: Passage) -> Place
     }
 }
 
-/// The sentence on a refusal.
-fn sentence(alloc: Global, refusal: Refusal, passage: Passage) -> Result<String, AllocError>
-    ensures { IfOk result (λ text. IsSentence refusal (spot_in passage.entry) (string_bytes text)) }
+/// Why a program is refused there.
+fn reason(alloc: Global, refusal: Refusal, passage: Passage) -> Result<Reason, AllocError>
+    ensures { IfOk result (λ reason.
+        IsProgramReason refusal (spot_in passage.entry) (caused_by reason)) }
 {
-    let reason = program_reason(alloc, refusal, place_of(passage))?;
-    Ok(reason.said)
+    program_reason(alloc, refusal, place_of(passage))
 }
 
 /// Appends the sentence on a refusal of a program that `write_place` has below the line. Fails only if out of memory, and then nothing is
@@ -50,9 +52,8 @@ pub fn write_sentence(
     refusal: Refusal,
     passage: Passage,
 ) -> Result<(), AllocError>
-    ensures ok { OnOk result (Tells refusal (spot_in passage.entry) out.old.items out.new.items) }
-    ensures err { OnErr result (out.new.items ≡ out.old.items) }
+    ensures { OnErr result (out.new.items ≡ out.old.items) }
 {
-    let said = sentence(*out.allocator(), refusal, passage)?;
-    out.extend_from_slice(said.as_bytes())
+    let reason = reason(*out.allocator(), refusal, passage)?;
+    out.extend_from_slice(reason.said.as_bytes())
 }

@@ -1,5 +1,6 @@
 // Why a setup is refused, in a sentence.
 
+use crate::causes::Cause;
 use crate::lines::{Place, first_line};
 use crate::names::name_reason;
 use crate::numerals::field_reason;
@@ -27,7 +28,12 @@ pub(crate) fn space_reason(alloc: Global, line: &[u8]) -> Result<Reason, AllocEr
         _ => ("end", line.len().saturating_sub(1)),
     };
     let said = format!(in alloc; "There is a space at the {place} of the line.")?;
-    Ok(Reason { said, at, len: 1 })
+    Ok(Reason {
+        cause: Cause::Other,
+        said,
+        at,
+        len: 1,
+    })
 }
 
 /// How many fields a line has after its word, and how many it takes.

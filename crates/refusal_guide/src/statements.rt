@@ -1,12 +1,15 @@
 // The statement that is refused, and where its words are.
 
 ghost use Rattle.std.specs.Prelude.{◌≡◌, ◌∷◌, [], IfOk, IfSome, IfNone, Some, slice_get};
-ghost use Rattle.std.specs.Str.{bytes_eq};
 ghost use Rattle.dmis_text.specs.Reading.{text_reading};
-ghost use Rattle.refusal_guide.specs.Words.{named_by};
+ghost use Rattle.std.specs.Option.{option_map};
+ghost use Rattle.dmis_program.specs.Keywords.{keyword_of};
+ghost use Rattle.refusal_guide.specs.Words.{named_by, caused, caused_by};
 ghost use Rattle.refusal_guide.specs.Spots.{after_word, after_label, after_params, word_from, label_spot, part_spot, word_spot, param_spot};
 
-use crate::words::{Word, place_from};
+use crate::causes::Cause;
+use crate::words::{Reason, Word, place_from};
+use dmis_program::{Keyword, keyword_of_word};
 use dmis_text::{Statement, Statements, Text, TextFault};
 use std::alloc::{AllocError, Global};
 
@@ -54,12 +57,11 @@ fn behind(text: &[u8], from: Option<usize>, wanted: &[u8]) -> Option<usize>
 }
 
 impl<'s, 'a> Found<'s, 'a> {
-    /// Whether this is the major word.
-    pub(crate) fn is(&self, word: &[u8]) -> bool
-        ensures { result ≡ bytes_eq self.now.statement.now.word word.now }
+    /// What its major word is.
+    pub(crate) fn keyword(&self) -> Keyword
+        ensures { result ≡ keyword_of self.now.statement.now.word }
     {
-        let major: &[u8] = &self.statement.word;
-        major == word
+        keyword_of_word(&self.statement.word)
     }
 
     /// The place after the label; the start if there is none.
@@ -125,5 +127,13 @@ impl<'s, 'a> Found<'s, 'a> {
             ≡ param_spot self.now.rest.now self.now.statement.now index part.now }
     {
         self.word_from(self.behind_params(index), part)
+    }
+
+    /// That the major word is at fault for this cause.
+    pub(crate) fn because(&self, alloc: Global, cause: Cause) -> Result<Option<Reason>, AllocError>
+        ensures { IfOk result (λ reason. option_map caused_by reason
+            ≡ Some (caused cause (word_spot self.now.rest.now self.now.statement.now))) }
+    {
+        Ok(Some(self.word().because(alloc, cause, "")?))
     }
 }

@@ -53,54 +53,6 @@ fn frame_text(alloc: Global, frame: Frame) -> Result<String, AllocError> {
     shown_fields(alloc, text.as_slice())
 }
 
-/// That two targets differ.
-fn points(alloc: Global, one: Point, other: Point) -> Result<Option<Difference>, AllocError> {
-    let one = point_text(alloc, one)?;
-    let other = point_text(alloc, other)?;
-    Ok(Some(Difference {
-        what: "target",
-        one,
-        other,
-    }))
-}
-
-/// That two directions differ.
-fn directions(
-    alloc: Global,
-    one: Option<Dir>,
-    other: Option<Dir>,
-) -> Result<Option<Difference>, AllocError> {
-    let one = direction_text(alloc, one)?;
-    let other = direction_text(alloc, other)?;
-    Ok(Some(Difference {
-        what: "direction",
-        one,
-        other,
-    }))
-}
-
-/// That two tools differ.
-fn tools(alloc: Global, one: &Name, other: &Name) -> Result<Option<Difference>, AllocError> {
-    let one = visible(alloc, one.as_bytes())?;
-    let other = visible(alloc, other.as_bytes())?;
-    Ok(Some(Difference {
-        what: "tool",
-        one,
-        other,
-    }))
-}
-
-/// That two frames differ.
-fn frames(alloc: Global, one: Frame, other: Frame) -> Result<Option<Difference>, AllocError> {
-    let one = frame_text(alloc, one)?;
-    let other = frame_text(alloc, other)?;
-    Ok(Some(Difference {
-        what: "frame",
-        one,
-        other,
-    }))
-}
-
 impl<'a> Request<'a> {
     /// A target, a direction, a tool and a frame that are asked for.
     pub(crate) fn new(
@@ -160,18 +112,33 @@ impl<'a> Request<'a> {
         alloc: Global,
         other: &Request,
     ) -> Result<Option<Difference>, AllocError> {
-        if self.target != other.target {
-            return points(alloc, self.target, other.target);
-        }
-        if self.dir != other.dir {
-            return directions(alloc, self.dir, other.dir);
-        }
-        if self.tool.as_bytes() != other.tool.as_bytes() {
-            return tools(alloc, self.tool, other.tool);
-        }
-        if self.frame != other.frame {
-            return frames(alloc, self.frame, other.frame);
-        }
-        Ok(None)
+        let (what, one, other) = if self.target != other.target {
+            (
+                "target",
+                point_text(alloc, self.target)?,
+                point_text(alloc, other.target)?,
+            )
+        } else if self.dir != other.dir {
+            (
+                "direction",
+                direction_text(alloc, self.dir)?,
+                direction_text(alloc, other.dir)?,
+            )
+        } else if self.tool.as_bytes() != other.tool.as_bytes() {
+            (
+                "tool",
+                visible(alloc, self.tool.as_bytes())?,
+                visible(alloc, other.tool.as_bytes())?,
+            )
+        } else if self.frame != other.frame {
+            (
+                "frame",
+                frame_text(alloc, self.frame)?,
+                frame_text(alloc, other.frame)?,
+            )
+        } else {
+            return Ok(None);
+        };
+        Ok(Some(Difference { what, one, other }))
     }
 }

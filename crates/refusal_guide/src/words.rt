@@ -1,8 +1,9 @@
 // The word of a line that a sentence names.
 
-ghost use Rattle.std.specs.Prelude.{◌≡◌, ◌≤◌, ◌+◌, ◌<◌, ℕ, false, true, length, IfOk, IfSome, string_bytes};
-ghost use Rattle.refusal_guide.specs.Words.{first_place, is_at, word_in, shown_word, between, naming, said_of, plain, named_by, said_by};
+ghost use Rattle.std.specs.Prelude.{◌≡◌, ◌≤◌, ◌+◌, ◌<◌, ℕ, false, true, length, None, IfOk, IfSome};
+ghost use Rattle.refusal_guide.specs.Words.{first_place, is_at, word_in, named_by, caused, caused_by};
 
+use crate::causes::{Cause, sentence_of};
 use crate::topics::Topic;
 use session_telling::visible;
 use std::alloc::{AllocError, Global};
@@ -39,10 +40,15 @@ impl<'a> Word<'a> {
         }
     }
 
-    /// The word as a sentence shows it: with at most 100 of its bytes.
-    pub(crate) fn shown(&self, alloc: Global) -> Result<String, AllocError>
-        ensures { IfOk result (λ text. string_bytes text ≡ shown_word self.now.bytes.now) }
+    /// Bytes that a sentence names, and that are at no place of the text.
+    pub(crate) fn of_bytes(bytes: &'a [u8]) -> Word<'a>
+        ensures { named_by result ≡ record { bytes = bytes.now; at = None } }
     {
+        Word { bytes, at: None }
+    }
+
+    /// The word as a sentence shows it: with at most 100 of its bytes.
+    pub(crate) fn shown(&self, alloc: Global) -> Result<String, AllocError> {
         if self.bytes.is_empty() {
             return String::from_str(alloc, "(nothing)");
         }
@@ -54,16 +60,27 @@ impl<'a> Word<'a> {
         format!(in alloc; "{front} ..")
     }
 
+    /// That the word is at fault for this cause; `other` is the other text that the sentence names.
+    pub(crate) fn because(
+        &self,
+        alloc: Global,
+        cause: Cause,
+        other: &str,
+    ) -> Result<Reason, AllocError>
+        ensures { IfOk result (λ reason. caused_by reason ≡ caused cause (named_by self.now)) }
+    {
+        let shown = self.shown(alloc)?;
+        let said = sentence_of(alloc, cause, &shown, other)?;
+        Ok(Reason::of_word(cause, said, *self))
+    }
+
     /// The word between these texts.
     pub(crate) fn between(
         &self,
         alloc: Global,
         before: &str,
         behind: &str,
-    ) -> Result<String, AllocError>
-        ensures { IfOk result (λ text. string_bytes text
-            ≡ between before.now (named_by self.now) behind.now) }
-    {
+    ) -> Result<String, AllocError> {
         let shown = self.shown(alloc)?;
         format!(in alloc; "{before}{shown}{behind}")
     }
@@ -74,12 +91,9 @@ impl<'a> Word<'a> {
         alloc: Global,
         before: &str,
         behind: &str,
-    ) -> Result<Reason, AllocError>
-        ensures { IfOk result (λ reason. said_by reason
-            ≡ naming before.now (named_by self.now) behind.now) }
-    {
+    ) -> Result<Reason, AllocError> {
         let said = self.between(alloc, before, behind)?;
-        Ok(Reason::of_word(said, *self))
+        Ok(Reason::of_word(Cause::Other, said, *self))
     }
 }
 
@@ -105,39 +119,45 @@ pub(crate) fn place_from(text: &[u8], from: usize, wanted: &[u8]) -> Option<usiz
     None
 }
 
-/// What is wrong with a line: a sentence, and the place and the length of the word that it names in the bytes from that line on.
+/// What is wrong with a line: why, a sentence, and the place and the length of the word at fault in the bytes from that line on.
 #[derive(Drop)]
 pub(crate) struct Reason {
+    pub(crate) cause: Cause,
     pub(crate) said: String,
     pub(crate) at: usize,
     pub(crate) len: usize,
 }
 
 impl Reason {
-    /// A sentence that names this word.
-    pub(crate) fn of_word(said: String, word: Word) -> Reason
-        ensures { said_by result ≡ said_of (string_bytes said) (named_by word.entry) }
+    /// A sentence on this word.
+    pub(crate) fn of_word(cause: Cause, said: String, word: Word) -> Reason
+        ensures { caused_by result ≡ caused cause (named_by word.entry) }
     {
-        match word.at {
-            Some(at) => Reason {
-                said,
-                at,
-                len: word.bytes.len(),
-            },
-            None => Reason::of_line(said),
+        let (at, len) = match word.at {
+            Some(at) => (at, word.bytes.len()),
+            None => (0, 0),
+        };
+        Reason {
+            cause,
+            said,
+            at,
+            len,
         }
     }
 
-    /// A sentence of these words, which names no word of its line.
-    pub(crate) fn of_text(alloc: Global, text: &str) -> Result<Reason, AllocError>
-        ensures { IfOk result (λ reason. said_by reason ≡ plain text.now) }
-    {
-        Ok(Reason::of_line(String::from_str(alloc, text)?))
+    /// A sentence that names no word of its line.
+    pub(crate) fn of_line(said: String) -> Reason {
+        Reason {
+            cause: Cause::Other,
+            said,
+            at: 0,
+            len: 0,
+        }
     }
 
-    /// What the refusal of a topic means.
-    pub(crate) fn of_topic(alloc: Global, topic: Topic) -> Result<Reason, AllocError> {
-        Reason::of_text(alloc, topic.meaning())
+    /// Likewise of these words.
+    pub(crate) fn of_text(alloc: Global, text: &str) -> Result<Reason, AllocError> {
+        Ok(Reason::of_line(String::from_str(alloc, text)?))
     }
 
     /// This reason, or what the refusal of a topic means if there is none.
@@ -150,18 +170,7 @@ impl Reason {
     {
         match reason {
             Some(reason) => Ok(reason),
-            None => Reason::of_topic(alloc, topic),
-        }
-    }
-
-    /// A sentence that names no word of its line.
-    pub(crate) fn of_line(said: String) -> Reason
-        ensures { said_by result ≡ plain (string_bytes said) }
-    {
-        Reason {
-            said,
-            at: 0,
-            len: 0,
+            None => Reason::of_text(alloc, topic.meaning()),
         }
     }
 }

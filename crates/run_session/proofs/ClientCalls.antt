@@ -1,5 +1,5 @@
 -- What the calls of a client leave of a run.
-use Rattle.std.proofs.Common.{◌≡◌, inl, inr, Bool, true, false, cond, refl, sym, ◌∙◌, subst}
+use Rattle.std.proofs.Common.{◌≡◌, ℕ, List, inl, inr, Bool, true, false, cond, refl, sym, ◌∙◌, subst}
 use Rattle.std.proofs.Common.{Result, Ok, Err, OnOk, OnErr, IfErr}
 use Rattle.std.proofs.lemmas.Bool.{false≢true}
 use Rattle.client_core.specs.Calls.{Call, ReadOne, possible, done_by}
@@ -11,55 +11,52 @@ use Rattle.link_world.specs.Showing.{IsRunCall}
 use Rattle.protocol_model.specs.Ends.{ClientEnd, end_read}
 use Rattle.record_keeping.specs.Growths.{Growth}
 use Rattle.record_laws.specs.Recordings.{Pair}
-use Rattle.run_session.specs.Records.{Ran, calls, Keeps}
+use Rattle.run_session.specs.Records.{Ran, calls, held, IsFree}
 
-pair : ClientEnd → Growth → Pair
-pair e g = record { end = e; recording = g }
+-- from one client to another, with these pauses that are to come
+pub Moves : List ℕ → ClientEnd → ClientEnd → Growth → Type 0
+Moves ps e f g = (first : Pair) → Ran first ps (record { end = e; recording = g }) → Ran first ps (record { end = f; recording = g })
 
-pub same_keeps : (e f : ClientEnd) (g : Growth) → f ≡ e → Keeps (record { end = e; recording = g }) (record { end = f; recording = g })
-same_keeps e f g is = λ first ran. subst (λ (x : ClientEnd). Ran first (record { end = x; recording = g })) (sym is) ran
+pub same_keeps : (ps : List ℕ) (e f : ClientEnd) (g : Growth) → f ≡ e → Moves ps e f g
+same_keeps ps e f g is = λ first ran. subst (λ (x : ClientEnd). Ran first ps (record { end = x; recording = g })) (sym is) ran
 
 done_now : (call : Call) (e : ClientEnd) (b : Bool) → possible call e ≡ b → b ≡ true → cond b (done_by call e) e ≡ done_by call e
 done_now call e true is may = refl
 done_now call e false is may = absurd (false≢true may)
 
 -- a call that is possible
-pub call_keeps : (call : Call) (e f : ClientEnd) (g : Growth) → IsRunCall call → possible call e ≡ true → f ≡ done_by call e
-    → Keeps (record { end = e; recording = g }) (record { end = f; recording = g })
-call_keeps call e f g run may is = λ first ran.
-    subst (λ (x : ClientEnd). Ran first (record { end = x; recording = g }))
+pub call_keeps : (ps : List ℕ) (call : Call) (e f : ClientEnd) (g : Growth) → IsRunCall call → IsFree (held ps) e call → possible call e ≡ true
+    → f ≡ done_by call e → Moves ps e f g
+call_keeps ps call e f g run free may is = λ first ran.
+    subst (λ (x : ClientEnd). Ran first ps (record { end = x; recording = g }))
     (done_now call e (possible call e) refl may ∙ sym is)
-    (calls (record { end = e; recording = g }) call ran run)
+    (calls ps (record { end = e; recording = g }) call ran run free)
 
 -- one that leads to what it does, or changes nothing
-pub leads_keeps : {A : Type 0} (r : Result A ClientFault) (call : Call) (e f : ClientEnd) (g : Growth) → IsRunCall call
-    → OnOk r (f ≡ done_by call e) → OnErr r (f ≡ e) → OnOk r (possible call e ≡ true)
-    → Keeps (record { end = e; recording = g }) (record { end = f; recording = g })
-leads_keeps (Ok a) call e f g run done same may = call_keeps call e f g run may done
-leads_keeps (Err why) call e f g run done same may = same_keeps e f g same
+pub leads_keeps : {A : Type 0} (r : Result A ClientFault) (ps : List ℕ) (call : Call) (e f : ClientEnd) (g : Growth) → IsRunCall call
+    → IsFree (held ps) e call → OnOk r (f ≡ done_by call e) → OnErr r (f ≡ e) → OnOk r (possible call e ≡ true) → Moves ps e f g
+leads_keeps (Ok a) ps call e f g run free done same may = call_keeps ps call e f g run free may done
+leads_keeps (Err why) ps call e f g run free done same may = same_keeps ps e f g same
 
-refused_keeps : (why : ClientFault) (call : Call) (e f : ClientEnd) (g : Growth) → IsRunCall call
-    → IsSendRefused (possible call e) e f (done_by call e) why
-    → Keeps (record { end = e; recording = g }) (record { end = f; recording = g })
-refused_keeps fault.NotNow call e f g run r = same_keeps e f g r.0
-refused_keeps (fault.Faulted cause) call e f g run (inl r) = same_keeps e f g r.1
-refused_keeps (fault.Faulted cause) call e f g run (inr r) = call_keeps call e f g run r.0 r.1
-refused_keeps fault.Memory call e f g run r = same_keeps e f g r
+refused_keeps : (why : ClientFault) (ps : List ℕ) (call : Call) (e f : ClientEnd) (g : Growth) → IsRunCall call → IsFree (held ps) e call
+    → IsSendRefused (possible call e) e f (done_by call e) why → Moves ps e f g
+refused_keeps fault.NotNow ps call e f g run free r = same_keeps ps e f g r.0
+refused_keeps (fault.Faulted cause) ps call e f g run free (inl r) = same_keeps ps e f g r.1
+refused_keeps (fault.Faulted cause) ps call e f g run free (inr r) = call_keeps ps call e f g run free r.0 r.1
+refused_keeps fault.Memory ps call e f g run free r = same_keeps ps e f g r
 
 -- one that writes a line
-pub sends_keeps : {A : Type 0} (r : Result A ClientFault) (call : Call) (e f : ClientEnd) (g : Growth) → IsRunCall call
-    → OnOk r (f ≡ done_by call e) → OnOk r (possible call e ≡ true)
-    → IfErr r (λ why. IsSendRefused (possible call e) e f (done_by call e) why)
-    → Keeps (record { end = e; recording = g }) (record { end = f; recording = g })
-sends_keeps (Ok a) call e f g run done may refused = call_keeps call e f g run may done
-sends_keeps (Err why) call e f g run done may refused = refused_keeps why call e f g run refused
+pub sends_keeps : {A : Type 0} (r : Result A ClientFault) (ps : List ℕ) (call : Call) (e f : ClientEnd) (g : Growth) → IsRunCall call
+    → IsFree (held ps) e call → OnOk r (f ≡ done_by call e) → OnOk r (possible call e ≡ true)
+    → IfErr r (λ why. IsSendRefused (possible call e) e f (done_by call e) why) → Moves ps e f g
+sends_keeps (Ok a) ps call e f g run free done may refused = call_keeps ps call e f g run free may done
+sends_keeps (Err why) ps call e f g run free done may refused = refused_keeps why ps call e f g run free refused
 
-unread_keeps : (why : ClientFault) (may : Bool) (e f : ClientEnd) (g : Growth) → may_read e.client ≡ may → IsReadRefused e f why
-    → ((why ≡ fault.Memory → ⊥) → may ≡ true → f ≡ end_read e) → (may ≡ false → f ≡ e)
-    → Keeps (record { end = e; recording = g }) (record { end = f; recording = g })
-unread_keeps why false e f g is refused met before = same_keeps e f g (before refl)
-unread_keeps fault.NotNow true e f g is refused met before = same_keeps e f g refused.0
-unread_keeps (fault.Faulted cause) true e f g is refused met before = call_keeps ReadOne e f g tt is (met (λ x. is_memory x) refl)
+unread_keeps : (why : ClientFault) (may : Bool) (ps : List ℕ) (e f : ClientEnd) (g : Growth) → may_read e.client ≡ may → IsReadRefused e f why
+    → ((why ≡ fault.Memory → ⊥) → may ≡ true → f ≡ end_read e) → (may ≡ false → f ≡ e) → Moves ps e f g
+unread_keeps why false ps e f g is refused met before = same_keeps ps e f g (before refl)
+unread_keeps fault.NotNow true ps e f g is refused met before = same_keeps ps e f g refused.0
+unread_keeps (fault.Faulted cause) true ps e f g is refused met before = call_keeps ps ReadOne e f g tt tt is (met (λ x. is_memory x) refl)
   where
     is_memory : (fault.Faulted cause ≡ fault.Memory) → ⊥
     is_memory x = subst at x tt
@@ -68,13 +65,12 @@ unread_keeps (fault.Faulted cause) true e f g is refused met before = call_keeps
         at (fault.Faulted c) = Unit {0}
         at fault.NotNow = Unit {0}
         at fault.Memory = ⊥
-unread_keeps fault.Memory true e f g is refused met before = same_keeps e f g refused
+unread_keeps fault.Memory true ps e f g is refused met before = same_keeps ps e f g refused
 
 -- a line is read
-pub reads_keeps : (r : Result Bool ClientFault) (e f : ClientEnd) (g : Growth) → OnOk r (f ≡ end_read e)
+pub reads_keeps : (r : Result Bool ClientFault) (ps : List ℕ) (e f : ClientEnd) (g : Growth) → OnOk r (f ≡ end_read e)
     → OnOk r (may_read e.client ≡ true) → IfErr r (λ why. IsReadRefused e f why)
     → IfErr r (λ why. (why ≡ fault.Memory → ⊥) → may_read e.client ≡ true → f ≡ end_read e)
-    → (may_read e.client ≡ false → f ≡ e)
-    → Keeps (record { end = e; recording = g }) (record { end = f; recording = g })
-reads_keeps (Ok line) e f g done may refused met before = call_keeps ReadOne e f g tt may done
-reads_keeps (Err why) e f g done may refused met before = unread_keeps why (may_read e.client) e f g refl refused met before
+    → (may_read e.client ≡ false → f ≡ e) → Moves ps e f g
+reads_keeps (Ok line) ps e f g done may refused met before = call_keeps ps ReadOne e f g tt tt may done
+reads_keeps (Err why) ps e f g done may refused met before = unread_keeps why (may_read e.client) ps e f g refl refused met before

@@ -8,8 +8,8 @@ use Rattle.record_keeping.specs.Growths.{Growth, AddsErrors, new_lines, error_li
 use Rattle.record_laws.specs.Recordings.{Pair, told_now, told_unless}
 use Rattle.effects.specs.Effects.{Reply, Done, Bytes, End, Missing, Found, Nothing, At, Took, Failed, Short}
 use Rattle.run_session.specs.declared.stages.Stage.{Stage}
-use Rattle.run_session.specs.Records.{Ran, begins, calls, tells, Keeps, Book, State, Outside, lacking, writes, outcome_by, outcome}
-use Rattle.run_session.specs.Records.{IsSafe, IsKept, GoesOn, HaveLines, filed_by, filed}
+use Rattle.run_session.specs.Records.{Ran, begins, calls, tells, confirms, Keeps, Book, State, Outside, lacking, writes, outcome_by, outcome}
+use Rattle.run_session.specs.Records.{IsSafe, IsKept, GoesOn, HaveLines, filed_by, filed, of_file}
 
 -- lines are added at the end
 grown_by : (lacks : Bool) (e : ClientEnd) (errors : List (List ℕ)) (g : Growth)
@@ -20,18 +20,19 @@ grown_by false e errors g =
     let lines : List ℕ = error_lines g.telling.connection errors in
     (acts ++ lines, append_assoc g.text acts lines)
 
-pub grows : (first p : Pair) → Ran first p → (more : List ℕ) × (p.recording.text ≡ first.recording.text ++ more)
-grows first _ begins = ([], sym (append-nil first.recording.text))
-grows first _ (calls p call r run) = grows first p r
-grows first _ (tells p lacks errors r lines) =
-    let before = grows first p r in
+pub grows : (ps : List ℕ) (first p : Pair) → Ran first ps p → (more : List ℕ) × (p.recording.text ≡ first.recording.text ++ more)
+grows _ first _ (begins ps) = ([], sym (append-nil first.recording.text))
+grows _ first _ (calls ps p call r run free) = grows ps first p r
+grows _ first _ (confirms n ps p r counted) = grows (n ∷ ps) first p r
+grows _ first _ (tells ps p lacks errors r lines) =
+    let before = grows ps first p r in
     let added = grown_by lacks p.end errors p.recording in
     (before.0 ++ added.0, added.1 ∙ (ap (λ (t : List ℕ). t ++ added.0) before.1 ∙ append_assoc first.recording.text before.0 added.0))
 
 -- the client and the record are later ones, and nothing is written
-pub moved : (first : Pair) (s t : State) (o : Outside) → Keeps s.pair t.pair → t.book ≡ s.book → IsKept first s o → IsKept first t o
+pub moved : (first : Pair) (s t : State) (o : Outside) → Keeps s t → of_file t.book ≡ of_file s.book → IsKept first s o → IsKept first t o
 moved first s t o keeps same k =
-    let more = grows s.pair t.pair (keeps s.pair begins) in
+    let more = grows t.book.pauses s.pair t.pair (keeps s.pair (begins s.book.pauses)) in
     record {
       ran = keeps first k.ran;
       front = (
@@ -44,13 +45,19 @@ moved first s t o keeps same k =
       safe = subst (λ (b : Book). IsSafe first b.settled o.safe) (sym same) k.safe;
     }
 
-pub moved_on : (s t : State) (reply : Reply) → writes s.stage ≡ None → Keeps s.pair t.pair → t.book ≡ s.book → GoesOn s reply t
+pub moved_on : (s t : State) (reply : Reply) → writes s.stage ≡ None → Keeps s t → of_file t.book ≡ of_file s.book → GoesOn s reply t
 moved_on s t reply quiet keeps same = λ first o n k.
     subst (λ (w : Option Bool). IsKept first t (outcome_by n w (lacking s) reply o)) (sym quiet) (moved first s t o keeps same k)
 
 -- later ones after an answer
-pub goes_further : (s m t : State) (reply : Reply) → GoesOn s reply m → Keeps m.pair t.pair → t.book ≡ m.book → GoesOn s reply t
-goes_further s m t reply goes keeps same = λ first o n k. moved first m t (outcome n s reply o) keeps same (goes first o n k)
+pub goes_further : (s m t : State) (reply : Reply) → GoesOn s reply m → Keeps m t → t.book ≡ m.book → GoesOn s reply t
+goes_further s m t reply goes keeps same = λ first o n k. moved first m t (outcome n s reply o) keeps (ap of_file same) (goes first o n k)
+
+-- one with the same client, record and pauses
+same_ran : (first : Pair) (s t : State) → t.pair ≡ s.pair → t.book.pauses ≡ s.book.pauses → Ran first s.book.pauses s.pair
+    → Ran first t.book.pauses t.pair
+same_ran first s t same pauses ran = subst (λ (ps : List ℕ). Ran first ps t.pair) (sym pauses)
+    (subst (λ (p : Pair). Ran first s.book.pauses p) (sym same) ran)
 
 -- ---- the record's file was written, or not
 
@@ -102,7 +109,7 @@ pub filed_on : (s t : State) (forced : Bool) → writes s.stage ≡ Some forced 
     → GoesOn s Done t
 filed_on s t false w sound same book = λ first o n k.
     subst (λ (x : Option Bool). IsKept first t (outcome_by n x (lacking s) Done o)) (sym w) (record {
-      ran = subst (λ (p : Pair). Ran first p) (sym same) k.ran;
+      ran = same_ran first s t same (ap (λ (b : Book). b.pauses) (book ∙ ap (λ (x : Option Bool). filed_by x s) w)) k.ran;
       front = ([], (filed_file first s t o sound same k).0);
       filed = λ l. (filed_file first s t o sound same k).1
           ∙ sym (ap (λ (b : Book). b.filed) (book ∙ ap (λ (x : Option Bool). filed_by x s) w));
@@ -111,7 +118,7 @@ filed_on s t false w sound same book = λ first o n k.
     })
 filed_on s t true w sound same book = λ first o n k.
     subst (λ (x : Option Bool). IsKept first t (outcome_by n x (lacking s) Done o)) (sym w) (record {
-      ran = subst (λ (p : Pair). Ran first p) (sym same) k.ran;
+      ran = same_ran first s t same (ap (λ (b : Book). b.pauses) (book ∙ ap (λ (x : Option Bool). filed_by x s) w)) k.ran;
       front = ([], (filed_file first s t o sound same k).0);
       filed = λ l. (filed_file first s t o sound same k).1
           ∙ sym (ap (λ (b : Book). b.filed) (book ∙ ap (λ (x : Option Bool). filed_by x s) w));
@@ -119,6 +126,7 @@ filed_on s t true w sound same book = λ first o n k.
       safe = subst (λ (b : Book). IsSafe first b.settled (o.file ++ lacking s))
           (sym (book ∙ ap (λ (x : Option Bool). filed_by x s) w)) (record {
             moment = s.pair;
+            pauses = s.book.pauses;
             ran = k.ran;
             rest = [];
             text = append-nil s.pair.recording.text ∙ sym (all_of first s o k sound);
@@ -141,17 +149,18 @@ some_of first s o n k =
 safe_more : (first : Pair) (count : ℕ) (safe more : List ℕ) → IsSafe first count safe → IsSafe first count (safe ++ more)
 safe_more first count safe more h = record {
   moment = h.moment;
+  pauses = h.pauses;
   ran = h.ran;
   rest = h.rest ++ more;
   text = sym (append_assoc h.moment.recording.text h.rest more) ∙ ap (λ (x : List ℕ). x ++ more) h.text;
   features = h.features;
 }
 
-lost_kept : (first : Pair) (s t : State) (o p : Outside) → Ran first s.pair → t.pair ≡ s.pair → t.book ≡ record (s.book) { lost = true }
+lost_kept : (first : Pair) (s t : State) (o p : Outside) → Ran first s.book.pauses s.pair → t.pair ≡ s.pair → t.book ≡ record (s.book) { lost = true }
     → (rest : List ℕ) × (p.file ++ rest ≡ s.pair.recording.text) → (rest : List ℕ) × (p.safe ++ rest ≡ p.file)
     → IsSafe first s.book.settled p.safe → IsKept first t p
 lost_kept first s t o p ran same book front within safe = record {
-  ran = subst (λ (x : Pair). Ran first x) (sym same) ran;
+  ran = same_ran first s t same (ap (λ (b : Book). b.pauses) book) ran;
   front = (front.0, front.1 ∙ ap (λ (x : Pair). x.recording.text) (sym same));
   filed = λ l. absurd (false≢true (sym l ∙ ap (λ (b : Book). b.lost) book));
   within = within;
@@ -213,17 +222,19 @@ lost_goes s t reply same book = λ first o n k. lost_on first s t o n (writes s.
 same_text : (g : Growth) → with_errors [] g ≡ g
 same_text g = ap (λ (t : List ℕ). record g { text = t }) (append-nil g.text)
 
-pub acts_keep : (e : ClientEnd) (g h : Growth) → h ≡ with_acts e.client.program.features e.client.table.tally.counted g
-    → Keeps (record { end = e; recording = g }) (record { end = e; recording = h })
-acts_keep e g h is = λ first ran.
-    subst (λ (x : Growth). Ran first (record { end = e; recording = x })) (same_text (told_now e g) ∙ sym is)
-    (tells (record { end = e; recording = g }) false [] ran tt)
+-- from one record to another, with these pauses that are to come
+Tells : List ℕ → ClientEnd → Growth → Growth → Type 0
+Tells ps e g h = (first : Pair) → Ran first ps (record { end = e; recording = g }) → Ran first ps (record { end = e; recording = h })
 
-pub errors_keep : (e : ClientEnd) (g h : Growth) (errors : List (List ℕ)) → HaveLines errors → h ≡ with_errors errors g
-    → Keeps (record { end = e; recording = g }) (record { end = e; recording = h })
-errors_keep e g h errors lines is = λ first ran.
-    subst (λ (x : Growth). Ran first (record { end = e; recording = x })) (sym is)
-    (tells (record { end = e; recording = g }) true errors ran lines)
+acts_keep : (ps : List ℕ) (e : ClientEnd) (g h : Growth) → h ≡ with_acts e.client.program.features e.client.table.tally.counted g → Tells ps e g h
+acts_keep ps e g h is = λ first ran.
+    subst (λ (x : Growth). Ran first ps (record { end = e; recording = x })) (same_text (told_now e g) ∙ sym is)
+    (tells ps (record { end = e; recording = g }) false [] ran tt)
+
+errors_keep : (ps : List ℕ) (e : ClientEnd) (g h : Growth) (errors : List (List ℕ)) → HaveLines errors → h ≡ with_errors errors g → Tells ps e g h
+errors_keep ps e g h errors lines is = λ first ran.
+    subst (λ (x : Growth). Ran first ps (record { end = e; recording = x })) (sym is)
+    (tells ps (record { end = e; recording = g }) true errors ran lines)
 
 pub first_lines : (n : ℕ) (errors : List (List ℕ)) → HaveLines errors → HaveLines (take n errors)
 first_lines zero [] h = tt
@@ -233,16 +244,22 @@ first_lines (suc n) (e ∷ errors) h = (h.0, first_lines n errors h.1)
 
 -- ---- a new session
 
-pub new_kept : (s : State) → s.book ≡ record { lost = false; filed = length s.pair.recording.text; settled = s.pair.recording.telling.counted.features }
+pub new_kept : (s : State) → s.book ≡ record {
+  lost = false;
+  filed = length s.pair.recording.text;
+  settled = s.pair.recording.telling.counted.features;
+  pauses = s.book.pauses;
+}
     → IsKept s.pair s (record { file = s.pair.recording.text; safe = s.pair.recording.text })
 new_kept s book = record {
-  ran = begins;
+  ran = begins s.book.pauses;
   front = ([], append-nil s.pair.recording.text);
   filed = λ l. sym (ap (λ (b : Book). b.filed) book);
   within = ([], append-nil s.pair.recording.text);
   safe = subst (λ (b : Book). IsSafe s.pair b.settled s.pair.recording.text) (sym book) (record {
     moment = s.pair;
-    ran = begins;
+    pauses = s.book.pauses;
+    ran = begins s.book.pauses;
     rest = [];
     text = append-nil s.pair.recording.text;
     features = least s.pair.recording.telling.counted.features;
@@ -250,20 +267,18 @@ new_kept s book = record {
 }
 
 -- acts get their lines, or memory runs out for them
-pub told_acts_keep : {A E : Type 0} (r : Result A E) (e : ClientEnd) (g h : Growth)
-    → OnOk r (h ≡ with_acts e.client.program.features e.client.table.tally.counted g) → OnErr r (h ≡ g)
-    → Keeps (record { end = e; recording = g }) (record { end = e; recording = h })
-told_acts_keep (Ok a) e g h done same = acts_keep e g h done
-told_acts_keep (Err why) e g h done same =
-    λ first ran. subst (λ (x : Growth). Ran first (record { end = e; recording = x })) (sym same) ran
+pub told_acts_keep : {A E : Type 0} (r : Result A E) (ps : List ℕ) (e : ClientEnd) (g h : Growth)
+    → OnOk r (h ≡ with_acts e.client.program.features e.client.table.tally.counted g) → OnErr r (h ≡ g) → Tells ps e g h
+told_acts_keep (Ok a) ps e g h done same = acts_keep ps e g h done
+told_acts_keep (Err why) ps e g h done same =
+    λ first ran. subst (λ (x : Growth). Ran first ps (record { end = e; recording = x })) (sym same) ran
 
 -- likewise errors, of which the first get theirs
-pub told_errors_keep : {A E : Type 0} (r : Result A E) (e : ClientEnd) (g h : Growth) (errors : List (List ℕ)) → HaveLines errors
-    → OnOk r (h ≡ with_errors errors g) → OnErr r ((n : ℕ) × AddsErrors errors g h n)
-    → Keeps (record { end = e; recording = g }) (record { end = e; recording = h })
-told_errors_keep (Ok a) e g h errors lines done some = errors_keep e g h errors lines done
-told_errors_keep (Err why) e g h errors lines done some =
-    errors_keep e g h (take some.0 errors) (first_lines some.0 errors lines) some.1.added
+pub told_errors_keep : {A E : Type 0} (r : Result A E) (ps : List ℕ) (e : ClientEnd) (g h : Growth) (errors : List (List ℕ)) → HaveLines errors
+    → OnOk r (h ≡ with_errors errors g) → OnErr r ((n : ℕ) × AddsErrors errors g h n) → Tells ps e g h
+told_errors_keep (Ok a) ps e g h errors lines done some = errors_keep ps e g h errors lines done
+told_errors_keep (Err why) ps e g h errors lines done some =
+    errors_keep ps e g h (take some.0 errors) (first_lines some.0 errors lines) some.1.added
 
 filed_by_any : (s t : State) (w : Option Bool) → writes s.stage ≡ w → is_some w ≡ true → s.book.lost ≡ false → t.pair ≡ s.pair → t.book ≡ filed s
     → GoesOn s Done t
@@ -282,5 +297,8 @@ pub or_quiet : {X : Type 0} (st a : Stage) → writes a ≡ None → (X → writ
 or_quiet st a h f (inl e) = ap writes e ∙ h
 or_quiet st a h f (inr x) = f x
 
-pub arm : (v s t : State) (reply : Reply) → v ≡ s → writes v.stage ≡ None → Keeps s.pair t.pair → t.book ≡ s.book → GoesOn s reply t
-arm v s t reply is quiet keeps same = moved_on s t reply (ap (λ (x : State). writes x.stage) (sym is) ∙ quiet) keeps same
+pub arm_on : (v s t : State) (reply : Reply) → v ≡ s → writes v.stage ≡ None → Keeps s t → of_file t.book ≡ of_file s.book → GoesOn s reply t
+arm_on v s t reply is quiet keeps same = moved_on s t reply (ap (λ (x : State). writes x.stage) (sym is) ∙ quiet) keeps same
+
+pub arm : (v s t : State) (reply : Reply) → v ≡ s → writes v.stage ≡ None → Keeps s t → t.book ≡ s.book → GoesOn s reply t
+arm v s t reply is quiet keeps same = arm_on v s t reply is quiet keeps (ap of_file same)

@@ -21,7 +21,7 @@ use Rattle.run_record.specs.Entries.{entry_line}
 use Rattle.run_record.specs.Heads.{IsPartGiven, AreAsked}
 use Rattle.run_record.specs.Tellings.{entries_of}
 use Rattle.told_acts.specs.Told.{numbered, told_by, told_behind}
-use Rattle.run_session.specs.Records.{Ran, begins, calls, tells, HaveLines, State, Outside, IsKept}
+use Rattle.run_session.specs.Records.{Ran, begins, calls, tells, confirms, HaveLines, State, Outside, IsKept}
 use Rattle.run_session.specs.Killed.{IsBegun, IsLeft}
 use Rattle.run_session.proofs.Filing.{grows}
 use Rattle.run_session.proofs.Kept.{call_keeps, Stays, Reports, call_reports}
@@ -58,10 +58,11 @@ are_errors [] last h some = tt
 are_errors (e ∷ errors) last h some = (h.0, some, are_errors errors last h.1 some)
 
 -- a run keeps the number of its connection
-ran_last : (first p : Pair) → Ran first p → p.end.client.last ≡ first.end.client.last
-ran_last first _ begins = refl
-ran_last first _ (calls p call r is) = Stays.last (call_keeps call p.end is) ∙ ran_last first p r
-ran_last first _ (tells p lacks errors r lines) = ran_last first p r
+ran_last : (ps : List ℕ) (first p : Pair) → Ran first ps p → p.end.client.last ≡ first.end.client.last
+ran_last _ first _ (begins ps) = refl
+ran_last _ first _ (calls ps p call r is free) = Stays.last (call_keeps call p.end is) ∙ ran_last ps first p r
+ran_last _ first _ (tells ps p lacks errors r lines) = ran_last ps first p r
+ran_last _ first _ (confirms n ps p r counted) = ran_last (n ∷ ps) first p r
 
 -- the moments from one pair to another
 record Moments (n : ℕ) (p q : Pair) : Type 0 where
@@ -70,24 +71,25 @@ record Moments (n : ℕ) (p q : Pair) : Type 0 where
   fit : AreFit n moments p.end
   reports : Reports p.end (calls_in moments)
 
-before : (n : ℕ) (first p q : Pair) → 1 ≤ first.end.client.last → Ran first p → Moments n p q → Moments n first q
-before n first _ q some begins s = s
-before n first _ q some (calls p call r is) s = before n first p q some r (record {
+before : (n : ℕ) (ps : List ℕ) (first p q : Pair) → 1 ≤ first.end.client.last → Ran first ps p → Moments n p q → Moments n first q
+before n _ first _ q some (begins ps) s = s
+before n _ first _ q some (confirms k ps p r counted) s = before n (k ∷ ps) first p q some r s
+before n _ first _ q some (calls ps p call r is free) s = before n ps first p q some r (record {
   moments = Calls call ∷ s.moments;
   leads = ap (λ (g : Growth). behind_moments s.moments (record { end = behind_call call p.end; recording = g }))
       (same_growth call p.end p.recording is) ∙ s.leads;
   fit = (run_fits n call p.end is, s.fit);
   reports = call_reports call (calls_in s.moments) p.end is s.reports;
 })
-before n first _ q some (tells p lacks errors r lines) s = before n first p q some r (record {
+before n _ first _ q some (tells ps p lacks errors r lines) s = before n ps first p q some r (record {
   moments = Tell lacks errors ∷ s.moments;
   leads = s.leads;
-  fit = (are_errors errors p.end.client.last lines (subst (λ (k : ℕ). 1 ≤ k) (sym (ran_last first p r)) some), s.fit);
+  fit = (are_errors errors p.end.client.last lines (subst (λ (k : ℕ). 1 ≤ k) (sym (ran_last ps first p r)) some), s.fit);
   reports = s.reports;
 })
 
-moments_of : (n : ℕ) (first p : Pair) → 1 ≤ first.end.client.last → Ran first p → Moments n first p
-moments_of n first p some r = before n first p p some r (record {
+moments_of : (n : ℕ) (ps : List ℕ) (first p : Pair) → 1 ≤ first.end.client.last → Ran first ps p → Moments n first p
+moments_of n ps first p some r = before n ps first p p some r (record {
   moments = [];
   leads = refl;
   fit = tt;
@@ -130,9 +132,9 @@ ends [] q = refl
 ends (Calls call ∷ ms) q = ends ms _
 ends (Tell lacks errors ∷ ms) q = ends ms _
 
-led : (p : Meaning) (part : Option (List ℕ)) (bytes : List ℕ) (b : Beginning) (window : ℕ) (first q : Pair)
-    → IsBegun p part bytes b window first → Ran first q → Led p b window q
-led p part bytes b window first q h ran = record {
+led : (p : Meaning) (part : Option (List ℕ)) (bytes : List ℕ) (b : Beginning) (window : ℕ) (ps : List ℕ) (first q : Pair)
+    → IsBegun p part bytes b window first → Ran first ps q → Led p b window q
+led p part bytes b window ps first q h ran = record {
   moments = Calls (Connected b.connection) ∷ m.moments;
   fit = (least b.connection, subst (λ (e : ClientEnd). AreFit b.connection m.moments e) joined m.fit);
   leads = ap (λ (x : Pair). behind_moments m.moments x) begun_is ∙ m.leads;
@@ -156,7 +158,7 @@ led p part bytes b window first q h ran = record {
     some = subst (λ (x : Pair). 1 ≤ x.end.client.last) (sym h.start) (has_number part p.features bytes b h.begins)
 
     m : Moments b.connection first q
-    m = moments_of b.connection first q some ran
+    m = moments_of b.connection ps first q some ran
 
     begun_is : behind_moments (Calls (Connected b.connection) ∷ []) (run_begun p window b) ≡ first
     begun_is = ap (λ (g : Growth). record { end = behind_call (Connected b.connection) start; recording = g })
@@ -180,8 +182,8 @@ pub killed : (p : Meaning) (part : Option (List ℕ)) (bytes : List ℕ) (b : Be
     (left : List ℕ) → IsBegun p part bytes b window first → IsKept first s o
     → AreWritten (numbered b.connection s.pair.end.client.table.tally.counted) → IsLeft o left → IsKilledRun p part bytes left
 killed p part bytes b window first s o left h k written is =
-    let l : Led p b window s.pair = led p part bytes b window first s.pair h k.ran in
-    let at = grows first k.safe.moment k.safe.ran in
+    let l : Led p b window s.pair = led p part bytes b window s.book.pauses first s.pair h k.ran in
+    let at = grows k.safe.pauses first k.safe.moment k.safe.ran in
     record {
       begun = b;
       begins = h.begins;
@@ -216,7 +218,7 @@ pub whole : (p : Meaning) (part : Option (List ℕ)) (bytes : List ℕ) (b : Beg
     → IsRecordOf part p.features s.pair.end.client.table.tally.features
     (b.told ++ numbered b.connection s.pair.end.client.table.tally.counted) o.file
 whole p part bytes b window first s o program given asked h k written all file =
-    let l : Led p b window s.pair = led p part bytes b window first s.pair h k.ran in
+    let l : Led p b window s.pair = led p part bytes b window s.book.pauses first s.pair h k.ran in
     let start : ClientEnd = new_client_end p b.features window in
     let says = says_what_was_told p part bytes b window l.moments program given asked h.begins l.fit (subst AreWritten (sym l.told) written) in
     let end : behind_calls (calls_in l.moments) start ≡ s.pair.end =

@@ -1,15 +1,16 @@
 -- What a run's client and its record are after any answers, and what the record's file has (this profile).
-use Rattle.std.specs.Prelude.{◌≡◌, ◌≤◌, ⊤, ℕ, Bool, true, false, if◌then◌else◌, Option, None, Some, List, [], ◌++◌, length, take, drop}
+use Rattle.std.specs.Prelude.{◌≡◌, ◌≤◌, ⊤, ℕ, Bool, true, false, if◌then◌else◌, Option, None, Some, List, [], ◌∷◌, ◌++◌, ◌<◌, length, take, drop}
 use Rattle.std.specs.List.{AllByRecursion}
-use Rattle.client_core.specs.Calls.{Call, behind_call}
+use Rattle.client_core.specs.Calls.{Call, Send as Sends, behind_call}
 use Rattle.link_world.specs.Reports.{report_text}
 use Rattle.link_world.specs.Showing.{IsRunCall}
+use Rattle.protocol_model.specs.Ends.{ClientEnd}
 use Rattle.run_record.specs.Entries.{IsRefusal, kept_error}
-use Rattle.record_keeping.specs.Growths.{with_errors}
+use Rattle.record_keeping.specs.Growths.{Growth, with_errors}
 use Rattle.record_laws.specs.Recordings.{Pair, told_unless}
 use Rattle.effects.specs.declared.vocabulary.Growth.TheVariants as growth
 use Rattle.effects.specs.declared.vocabulary.Peer.TheVariants.{Server}
-use Rattle.effects.specs.Effects.{Ask, Append, Keep, Send, Replace, Print, Reply, Done}
+use Rattle.effects.specs.Effects.{Ask, Append, Keep, Send, Replace, Print, Reply, Done, Bytes}
 use Rattle.dme_orders.specs.Ends.{end_shown}
 use Rattle.dme_orders.specs.OfRecords.{IsFeaturesText}
 use Rattle.run_session.specs.declared.stages.Stage.{Stage}
@@ -19,24 +20,34 @@ use Rattle.run_session.specs.declared.stages.Stage.TheVariants as stage
 abbrev pub HaveLines : List (List ℕ) → Type 0
 HaveLines errors = AllByRecursion (λ error. IsRefusal (kept_error error)) errors
 
--- a client on its connection and its record, from what both were at first: the client makes calls of its own; and the record gets the lines
--- of what the client has counted, unless memory runs out for them, and those of errors of its server
-pub data Ran (first : Pair) : Pair → Type 0 where
-  begins : Ran first first
-  calls : (p : Pair) (call : Call) → Ran first p → IsRunCall call
-      → Ran first (record { end = behind_call call p.end; recording = p.recording })
-  tells : (p : Pair) (lacks : Bool) (errors : List (List ℕ)) → Ran first p → HaveLines errors
-      → Ran first (record { end = p.end; recording = with_errors errors (told_unless lacks p.end p.recording) })
+-- how many of its plan's last commands a run holds back until its operator has confirmed the next of these pauses; none after the last
+abbrev pub held : List ℕ → ℕ
+held [] = 0
+held (count ∷ pauses) = count
 
--- both are later so
-abbrev pub Keeps : Pair → Pair → Type 0
-Keeps old new = (first : Pair) → Ran first old → Ran first new
+-- a command is sent only if it is not held back
+abbrev pub IsFree : ℕ → ClientEnd → Call → Type 0
+IsFree count e Sends = count < length e.client.table.tally.unsent
+IsFree count e call = ⊤
 
--- what is known of the record's file
+-- a client on its connection and its record, with the pauses that are to come, from what both were at first: the client makes calls of its own,
+-- and sends nothing that is held back; the record gets the lines of what the client has counted, unless memory runs out for them, and those of
+-- errors of its server; and a pause ends only once all that stands above it is counted
+pub data Ran (first : Pair) : List ℕ → Pair → Type 0 where
+  begins : (pauses : List ℕ) → Ran first pauses first
+  calls : (pauses : List ℕ) (p : Pair) (call : Call) → Ran first pauses p → IsRunCall call → IsFree (held pauses) p.end call
+      → Ran first pauses (record { end = behind_call call p.end; recording = p.recording })
+  tells : (pauses : List ℕ) (p : Pair) (lacks : Bool) (errors : List (List ℕ)) → Ran first pauses p → HaveLines errors
+      → Ran first pauses (record { end = p.end; recording = with_errors errors (told_unless lacks p.end p.recording) })
+  confirms : (count : ℕ) (pauses : List ℕ) (p : Pair) → Ran first (count ∷ pauses) p → length p.end.client.table.tally.todo ≤ count
+      → Ran first pauses p
+
+-- what is known of the record's file, and the pauses that are to come
 pub record Book : Type 0 where
   pub lost : Bool  -- whether it could not be kept
   pub filed : ℕ  -- how many bytes of the record's text it has
   pub settled : ℕ  -- how many features are complete in what no crash takes away
+  pub pauses : List ℕ  -- how many commands are held back at each pause that is to come
 
 pub record State : Type 0 where
   pub stage : Stage
@@ -44,6 +55,15 @@ pub record State : Type 0 where
   pub book : Book
   pub text : List ℕ  -- what is printed at the end
   pub list : List ℕ  -- what the features file is to have
+
+-- both are later so
+abbrev pub Keeps : State → State → Type 0
+Keeps s t = (first : Pair) → Ran first s.book.pauses s.pair → Ran first t.book.pauses t.pair
+
+-- what a run begins with, besides its client
+pub record Start : Type 0 where
+  pub growth : Growth
+  pub pauses : List ℕ
 
 -- what the record's file has: with what may not be on the device, and what no crash takes away
 pub record Outside : Type 0 where
@@ -80,7 +100,8 @@ outcome n s reply o = outcome_by n (writes s.stage) (lacking s) reply o
 -- what no crash takes away has all that the record had at some moment of the run, when that many features were complete
 pub record IsSafe (first : Pair) (count : ℕ) (safe : List ℕ) : Type 0 where
   pub moment : Pair
-  pub ran : Ran first moment
+  pub pauses : List ℕ
+  pub ran : Ran first pauses moment
   pub rest : List ℕ
   pub text : moment.recording.text ++ rest ≡ safe
   pub features : count ≤ moment.recording.telling.counted.features
@@ -88,7 +109,7 @@ pub record IsSafe (first : Pair) (count : ℕ) (safe : List ℕ) : Type 0 where
 -- what holds before each effect: the client and the record are those of a run that has begun; the file has the first bytes of the record's
 -- text, as many as are known unless it could not be kept; and the features that count as settled are safe
 pub record IsKept (first : Pair) (s : State) (o : Outside) : Type 0 where
-  pub ran : Ran first s.pair
+  pub ran : Ran first s.book.pauses s.pair
   pub front : (rest : List ℕ) × (o.file ++ rest ≡ s.pair.recording.text)
   pub filed : s.book.lost ≡ false → length o.file ≡ s.book.filed
   pub within : (rest : List ℕ) × (o.safe ++ rest ≡ o.file)
@@ -104,11 +125,22 @@ filed_by (Some true) s = record {
   lost = s.book.lost;
   filed = length s.pair.recording.text;
   settled = s.pair.recording.telling.counted.features;
+  pauses = s.book.pauses;
 }
 filed_by forced s = record (s.book) { filed = length s.pair.recording.text }
 
 abbrev pub filed : State → Book
 filed s = filed_by (writes s.stage) s
+
+-- what is known of the file alone
+abbrev pub of_file : Book → Book
+of_file b = record b { pauses = [] }
+
+-- an answer by which the operator confirms a pause: the end of an empty line
+abbrev pub confirms_pause : Stage → Reply → Bool
+confirms_pause stage.Awaiting (Bytes (10 ∷ [])) = true
+confirms_pause stage.Returning (Bytes (10 ∷ [])) = true
+confirms_pause st reply = false
 
 -- the stages before the client sends
 abbrev pub is_before : Stage → Bool
@@ -127,6 +159,8 @@ abbrev pub is_while : Stage → Bool
 is_while stage.Receiving = true
 is_while stage.Draining = true
 is_while stage.Sending = true
+is_while stage.Awaiting = true
+is_while stage.Returning = true
 is_while stage.Tracing = true
 is_while stage.Stamping = true
 is_while stage.Logging = true

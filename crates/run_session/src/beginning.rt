@@ -12,7 +12,7 @@ use std::alloc::AllocError;
 impl Session {
     /// The features file gets the features that the client holds, if it grows.
     pub(crate) fn begin_features(&mut self) -> Result<(), AllocError>
-        ensures ran { spec.Keeps self.old.pair self.new.pair }
+        ensures ran { spec.Keeps self.old self.new }
         ensures book { self.new.book ≡ self.old.book }
         ensures due { OnOk result (spec.IsDue self.new) }
     {
@@ -26,7 +26,7 @@ impl Session {
 
     /// The file of contacts gets the acts that were reported before, if it grows.
     fn begin_contacts(&mut self) -> Result<(), AllocError>
-        ensures ran { spec.Keeps self.old.pair self.new.pair }
+        ensures ran { spec.Keeps self.old self.new }
         ensures book { self.new.book ≡ self.old.book }
         ensures due { OnOk result (spec.IsDue self.new) }
     {
@@ -40,13 +40,13 @@ impl Session {
 
     /// Commands are sent from now on.
     fn join(&mut self) -> Result<(), AllocError>
-        ensures ran { spec.Keeps self.old.pair self.new.pair }
+        ensures ran { spec.Keeps self.old self.new }
         ensures book { self.new.book ≡ self.old.book }
         ensures due { OnOk result (spec.IsDue self.new) }
     {
         self.is_on = true;
         self.has_begun = true;
-        self.go_on()
+        self.show_features()
     }
 
     /// A file cannot be written: the run ends before it has sent anything.
@@ -64,7 +64,7 @@ impl Session {
 
     /// The features file begins, and then that of contacts.
     pub(crate) fn begin(&mut self, answer: Answer<'_>) -> Result<(), AllocError>
-        ensures ran { spec.Keeps self.old.pair self.new.pair }
+        ensures ran { spec.Keeps self.old self.new }
         ensures book { self.new.book ≡ self.old.book }
         ensures due { OnOk result (spec.IsDue self.new) }
     {

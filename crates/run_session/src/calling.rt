@@ -112,11 +112,12 @@ impl Session {
 
     /// The connection is made.
     fn connected(&mut self) -> Result<(), AllocError>
-        ensures ran { spec.Keeps self.old.pair self.new.pair }
+        ensures ran { spec.Keeps self.old self.new }
         ensures book { self.new.book ≡ self.old.book }
         ensures due { OnOk result (spec.IsDue self.new) }
     {
-        if self.run.timeout.is_some() || self.run.stop.is_some() {
+        let is_limited = self.run.timeout.is_some() || self.run.stop.is_some();
+        if is_limited || !self.pauses.is_empty() {
             self.stage = Stage::Limiting;
             Ok(())
         } else {
@@ -126,7 +127,7 @@ impl Session {
 
     /// What comes before the client is on its connection.
     pub(crate) fn call(&mut self, answer: Answer<'_>) -> Result<(), AllocError>
-        ensures ran { spec.Keeps self.old.pair self.new.pair }
+        ensures ran { spec.Keeps self.old self.new }
         ensures book { self.new.book ≡ self.old.book }
         ensures due { OnOk result (spec.IsDue self.new) }
     {

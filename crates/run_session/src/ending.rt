@@ -100,6 +100,10 @@ impl Session {
         ensures quiet { spec.IsQuiet self.old self.new }
         ensures due { OnOk result (spec.IsDue self.new) }
     {
+        if self.is_short {
+            self.tell();
+            return Ok(());
+        }
         if self.run.record.is_none() {
             return self.close_contacts();
         }

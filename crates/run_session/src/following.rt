@@ -44,7 +44,7 @@ fn with_lines(mut errors: Vec<Vec<u8>>) -> Vec<Vec<u8>>
 impl Session {
     /// The record gets the lines of what the client has counted since. Fails only if out of memory.
     fn tell_acts(&mut self) -> Result<(), AllocError>
-        ensures ran { spec.Keeps self.old.pair self.new.pair }
+        ensures ran { spec.Keeps self.old self.new }
         ensures book { self.new.book ≡ self.old.book }
     {
         self.growth.tell(&self.client)
@@ -52,7 +52,7 @@ impl Session {
 
     /// The record gets the lines of the errors that were shown since. Fails only if out of memory.
     fn tell_errors(&mut self) -> Result<(), AllocError>
-        ensures ran { spec.Keeps self.old.pair self.new.pair }
+        ensures ran { spec.Keeps self.old self.new }
         ensures book { self.new.book ≡ self.old.book }
     {
         let errors = with_lines(self.errors.take());
@@ -61,7 +61,7 @@ impl Session {
 
     /// What the client has counted since, and the errors of its server, are to be in the files.
     pub(crate) fn follow(&mut self) -> Result<(), AllocError>
-        ensures ran { spec.Keeps self.old.pair self.new.pair }
+        ensures ran { spec.Keeps self.old self.new }
         ensures book { self.new.book ≡ self.old.book }
         ensures due { OnOk result (spec.IsDue self.new) }
     {
@@ -80,7 +80,7 @@ impl Session {
 
     /// Errors, and lines that have ended, are shown and logged.
     pub(crate) fn show(&mut self) -> Result<(), AllocError>
-        ensures ran { spec.Keeps self.old.pair self.new.pair }
+        ensures ran { spec.Keeps self.old self.new }
         ensures book { self.new.book ≡ self.old.book }
         ensures due { OnOk result (spec.IsDue self.new) }
     {
@@ -92,7 +92,7 @@ impl Session {
     }
 
     fn log(&mut self) -> Result<(), AllocError>
-        ensures ran { spec.Keeps self.old.pair self.new.pair }
+        ensures ran { spec.Keeps self.old self.new }
         ensures book { self.new.book ≡ self.old.book }
         ensures due { OnOk result (spec.IsDue self.new) }
     {
@@ -105,7 +105,7 @@ impl Session {
 
     /// They were shown, or logged.
     pub(crate) fn show_on(&mut self, answer: Answer<'_>) -> Result<(), AllocError>
-        ensures ran { spec.Keeps self.old.pair self.new.pair }
+        ensures ran { spec.Keeps self.old self.new }
         ensures book { self.new.book ≡ self.old.book }
         ensures due { OnOk result (spec.IsDue self.new) }
     {
@@ -133,7 +133,7 @@ impl Session {
 
     /// The record gets what it lacks; forced, if that completes a feature.
     fn record(&mut self) -> Result<(), AllocError>
-        ensures ran { spec.Keeps self.old.pair self.new.pair }
+        ensures ran { spec.Keeps self.old self.new }
         ensures book { self.new.book ≡ self.old.book }
         ensures due { OnOk result (spec.IsDue self.new) }
     {
@@ -201,7 +201,7 @@ impl Session {
 
     /// The file of contacts gets what it lacks.
     fn report(&mut self) -> Result<(), AllocError>
-        ensures ran { spec.Keeps self.old.pair self.new.pair }
+        ensures ran { spec.Keeps self.old self.new }
         ensures book { self.new.book ≡ self.old.book }
         ensures due { OnOk result (spec.IsDue self.new) }
     {
@@ -215,7 +215,7 @@ impl Session {
 
     /// The file of contacts has it, or cannot be kept.
     pub(crate) fn has_reported(&mut self, answer: Answer<'_>) -> Result<(), AllocError>
-        ensures ran { spec.Keeps self.old.pair self.new.pair }
+        ensures ran { spec.Keeps self.old self.new }
         ensures book { self.new.book ≡ self.old.book }
         ensures due { OnOk result (spec.IsDue self.new) }
     {
@@ -231,7 +231,7 @@ impl Session {
 
     /// The features file gets what is complete.
     fn list(&mut self) -> Result<(), AllocError>
-        ensures ran { spec.Keeps self.old.pair self.new.pair }
+        ensures ran { spec.Keeps self.old self.new }
         ensures book { self.new.book ≡ self.old.book }
         ensures due { OnOk result (spec.IsDue self.new) }
     {
@@ -244,7 +244,7 @@ impl Session {
 
     /// The features file has it, or cannot be kept.
     pub(crate) fn has_listed(&mut self, answer: Answer<'_>) -> Result<(), AllocError>
-        ensures ran { spec.Keeps self.old.pair self.new.pair }
+        ensures ran { spec.Keeps self.old self.new }
         ensures book { self.new.book ≡ self.old.book }
         ensures due { OnOk result (spec.IsDue self.new) }
     {
@@ -291,8 +291,8 @@ impl Session {
     }
 
     /// The features that are complete since are shown, if asked.
-    fn show_features(&mut self) -> Result<(), AllocError>
-        ensures ran { spec.Keeps self.old.pair self.new.pair }
+    pub(crate) fn show_features(&mut self) -> Result<(), AllocError>
+        ensures ran { spec.Keeps self.old self.new }
         ensures book { self.new.book ≡ self.old.book }
         ensures due { OnOk result (spec.IsDue self.new) }
     {
@@ -302,6 +302,7 @@ impl Session {
             self.shown.push_str(lines.as_str())?;
         }
         self.told = count;
+        self.show_texts()?;
         if self.shown.is_empty() {
             return self.go_on();
         }
@@ -311,7 +312,7 @@ impl Session {
 
     /// They were shown.
     pub(crate) fn has_shown(&mut self) -> Result<(), AllocError>
-        ensures ran { spec.Keeps self.old.pair self.new.pair }
+        ensures ran { spec.Keeps self.old self.new }
         ensures book { self.new.book ≡ self.old.book }
         ensures due { OnOk result (spec.IsDue self.new) }
     {

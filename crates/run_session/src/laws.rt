@@ -26,6 +26,7 @@ pub fn runs_keep_their_records()
       lost = false;
       filed = length s.pair.recording.text;
       settled = s.pair.recording.telling.counted.features;
+      pauses = s.book.pauses;
     }
         → IsKept s.pair s (record {
           file = s.pair.recording.text;

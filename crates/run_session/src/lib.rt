@@ -5,6 +5,7 @@
 //! - `calling`: its server is called; `beginning`: its files begin to grow, and its client comes to the connection
 //! - `turns`: commands are sent, and lines are heard; `errors`: what is shown of the server's errors
 //! - `following`: what the client has counted goes to the files; `reported`, `listed`: those of contacts and of features
+//! - `pausing`: texts for the operator, at which the run waits if it is asked to
 //! - `ending`: the files get their whole texts, and the report is printed; `leaving`: the server is left; `verdicts`: what is said last
 //! - `running`: the session with hands that carry its effects out
 //! - `laws`: what a record's file holds, also once the program is killed; `examples`: what is asked, and what comes of it
@@ -19,6 +20,7 @@ mod following;
 mod laws;
 mod leaving;
 mod listed;
+mod pausing;
 mod reported;
 mod running;
 mod runs;

@@ -1,8 +1,9 @@
 // A session: what it asks, and what it does with an answer.
 
-ghost use Rattle.std.specs.Prelude.{◌≡◌, true, false, length, None, OnOk, IfOk};
+ghost use Rattle.std.specs.Prelude.{◌≡◌, true, false, length, map, None, OnOk, IfOk};
 ghost use Rattle.effects.specs.Effects.{the_ask, the_reply};
 ghost use Rattle.protocol_model.specs.Ends.{end_connected};
+ghost use Rattle.program_review.specs.Texts.{pauses_of, place_seen};
 ghost use Rattle.record_keeping.specs.Growths.{begun};
 ghost use Rattle.client_core.specs.Clients.{may_connect};
 ghost use Rattle.run_session.specs.Records as spec;
@@ -17,6 +18,7 @@ use contact_ledger::ServerLedger;
 use dme_orders::RunEnding;
 use effects::{Answer, Cause, Effect, Growth as File, Peer};
 use link_world::PumpFault;
+use program_review::{TextPlace, pauses};
 use record_keeping::Growth;
 use session_parts::{Lapse, Lines, Wait};
 use std::alloc::{AllocError, Global};
@@ -38,19 +40,21 @@ pub struct Begun {
     errors: Errors,
     wait: Wait,
     lines: Lines,
+    places: Vec<TextPlace>,
+    pauses: Vec<usize>,
 }
 
 impl Model for Begun {
-    ghost use Rattle.record_keeping.specs.Growths.{Growth as OneGrowth};
+    ghost use Rattle.run_session.specs.Records.{Start};
 
-    ghost Value = { OneGrowth };
+    ghost Value = { Start };
 
-    ghost view = { λ b. b.growth };
+    ghost view = { λ b. record { growth = b.growth; pauses = b.pauses.items } };
 }
 
 impl Begun {
-    /// A run of a client, which comes to the connection of this number; its record has this text, before it these acts were reported, and its
-    /// server's errors are shown so. Fails only if out of memory.
+    /// A run of a client, which comes to the connection of this number; its record has this text, before it these acts were reported, its
+    /// server's errors are shown so, and its program has these texts for the operator. Fails only if out of memory.
     pub fn new(
         alloc: Global,
         run: Run,
@@ -59,12 +63,16 @@ impl Begun {
         text: Vec<u8>,
         told: &ServerLedger,
         errors: Errors,
+        places: Vec<TextPlace>,
     ) -> Result<Begun, AllocError>
         requires { may_connect number client.old.client ≡ true }
         ensures client { OnOk result (client.new ≡ end_connected number client.old) }
-        ensures text { IfOk result (λ b. b
+        ensures growth { IfOk result (λ b. b.growth
             ≡ begun number 0 (length client.old.client.table.tally.features) text.items) }
+        ensures pauses { IfOk result (λ b. b.pauses
+            ≡ pauses_of (map place_seen places.items)) }
     {
+        let pauses = pauses(alloc, places.as_slice())?;
         let reported = Reported::new(alloc, told)?;
         let kept = client.features().len();
         let growth = Growth::new(number, kept, text);
@@ -83,6 +91,8 @@ impl Begun {
             errors,
             wait,
             lines,
+            places,
+            pauses,
         })
     }
 }
@@ -121,9 +131,17 @@ pub struct Session {
     /// Whether its client has come to the connection, and is there.
     pub(crate) has_begun: bool,
     pub(crate) is_on: bool,
-    /// Whether the stop file was seen, and in which state the client was then.
+    /// Whether memory has run out before.
+    pub(crate) is_short: bool,
+    /// Whether the stop file was seen, or the operator has not confirmed a pause; and in which state the client was then.
     pub(crate) is_stopped: bool,
+    pub(crate) is_declined: bool,
     pub(crate) seen: Option<State>,
+    /// The texts for the operator, how many of them were shown, the pauses that are to come, and whether the first of these is asked for.
+    pub(crate) places: Vec<TextPlace>,
+    pub(crate) passed: usize,
+    pub(crate) pauses: Vec<usize>,
+    pub(crate) is_asked: bool,
     /// The last line of the server, as far as it is shown, and whether it has ended.
     pub(crate) last: Vec<u8>,
     pub(crate) has_ended: bool,
@@ -151,7 +169,12 @@ impl Model for Session {
     ghost view = { λ s. record {
       stage = s.stage;
       pair = record { end = s.client; recording = s.growth };
-      book = record { lost = s.is_lost; filed = s.filed; settled = s.settled };
+      book = record {
+        lost = s.is_lost;
+        filed = s.filed;
+        settled = s.settled;
+        pauses = s.pauses.items;
+      };
       text = s.text.items;
       list = s.listed.text.items;
     } };
@@ -160,11 +183,12 @@ impl Model for Session {
 impl Session {
     /// A session of this client, with what it begins with.
     pub fn new(client: Client, begun: Begun) -> Session
-        ensures pair { result.pair ≡ record { end = client; recording = begun } }
+        ensures pair { result.pair ≡ record { end = client; recording = begun.growth } }
         ensures book { result.book ≡ record {
           lost = false;
-          filed = length begun.text;
-          settled = begun.telling.counted.features;
+          filed = length begun.growth.text;
+          settled = begun.growth.telling.counted.features;
+          pauses = begun.pauses;
         } }
         ensures due { spec.IsDue result }
     {
@@ -177,6 +201,8 @@ impl Session {
             errors,
             wait,
             lines,
+            places,
+            pauses,
         } = begun;
         let kept = client.features().len();
         let filed = growth.text().len();
@@ -208,8 +234,14 @@ impl Session {
             missed: Cause::Unknown,
             has_begun: false,
             is_on: false,
+            is_short: false,
             is_stopped: false,
+            is_declined: false,
             seen: None,
+            places,
+            passed: 0,
+            pauses,
+            is_asked: false,
             last: Vec::new(alloc),
             has_ended: false,
             looks: 0,
@@ -288,7 +320,7 @@ impl Session {
         match self.stage {
             Stage::Receiving | Stage::Draining => Effect::Receive(Peer::Server),
             Stage::Sending => Effect::Send(Peer::Server, self.client.out()),
-
+            Stage::Awaiting | Stage::Returning => Effect::Byte,
             Stage::Stamping => Effect::Stamp,
             Stage::Logging => Effect::Add(self.text.as_slice()),
             Stage::Recording => Effect::Append(File::Record, self.lacking()),
@@ -346,6 +378,7 @@ impl Session {
             Stage::Beginning | Stage::Elapsing | Stage::Timing => Effect::Now,
             Stage::Peeking | Stage::Checking => Effect::Exists(self.run.stop_name()),
             Stage::Receiving | Stage::Draining | Stage::Sending => self.asks_while(),
+            Stage::Awaiting | Stage::Returning => self.asks_while(),
             Stage::Tracing | Stage::Stamping | Stage::Logging => self.asks_while(),
             Stage::Recording | Stage::Settling | Stage::Reporting => self.asks_while(),
             Stage::Warning | Stage::Listing | Stage::Showing => self.asks_while(),
@@ -360,6 +393,8 @@ impl Session {
     /// What came of it. If memory runs out meanwhile, the connection is left, and the run ends.
     pub fn take(&mut self, answer: Answer<'_>)
         ensures goes { spec.GoesOn self.old (the_reply answer.entry) self.new }
+        ensures pauses { spec.confirms_pause self.old.stage (the_reply answer.entry) ≡ false
+            → self.new.book.pauses ≡ self.old.book.pauses }
         ensures due { spec.IsDue self.new }
     {
         if self.step(answer).is_err() {
@@ -370,6 +405,8 @@ impl Session {
     /// The session after an answer.
     fn step(&mut self, answer: Answer<'_>) -> Result<(), AllocError>
         ensures goes { spec.GoesOn self.old (the_reply answer.entry) self.new }
+        ensures pauses { spec.confirms_pause self.old.stage (the_reply answer.entry) ≡ false
+            → self.new.book.pauses ≡ self.old.book.pauses }
         ensures due { OnOk result (spec.IsDue self.new) }
     {
         match self.stage {
@@ -383,6 +420,7 @@ impl Session {
             Stage::MakingContacts | Stage::BeginningContacts => self.begin(answer),
             Stage::Checking | Stage::Timing | Stage::Receiving => self.receive(answer),
             Stage::Sending => self.sent(answer),
+            Stage::Awaiting | Stage::Returning => self.typed(answer),
             Stage::Tracing | Stage::Stamping | Stage::Logging => self.show_on(answer),
             Stage::Recording | Stage::Settling => self.recorded(answer),
             Stage::Reporting => self.has_reported(answer),
@@ -403,7 +441,7 @@ impl Session {
     }
 
     /// The last message is to be said, which needs no memory.
-    fn tell(&mut self)
+    pub(crate) fn tell(&mut self)
         ensures quiet { spec.IsQuiet self.old self.new }
         ensures due { spec.IsDue self.new }
     {
@@ -414,7 +452,7 @@ impl Session {
 
     /// Memory has run out on the connection: it is left, and what was counted is kept.
     fn give_in(&mut self)
-        ensures ran { spec.Keeps self.old.pair self.new.pair }
+        ensures ran { spec.Keeps self.old self.new }
         ensures book { self.new.book ≡ self.old.book }
         ensures due { spec.IsDue self.new }
     {
@@ -424,17 +462,28 @@ impl Session {
         }
     }
 
-    /// Memory has run out. Before the connection, and at the end, that is said at once.
+    /// Memory has run out before the connection: files that did not begin are left as they were.
+    fn give_up(&mut self)
+        ensures quiet { spec.IsQuiet self.old self.new }
+        ensures due { spec.IsDue self.new }
+    {
+        self.is_short = true;
+        self.stage = Stage::Leaving;
+    }
+
+    /// Memory has run out. At the end that is said at once.
     fn run_short(&mut self)
-        ensures ran { spec.Keeps self.old.pair self.new.pair }
+        ensures ran { spec.Keeps self.old self.new }
         ensures book { self.new.book ≡ self.old.book }
         ensures due { spec.IsDue self.new }
     {
         if self.is_on {
             self.is_on = false;
             self.give_in();
-        } else {
+        } else if self.has_begun || self.is_short {
             self.tell();
+        } else {
+            self.give_up();
         }
     }
 }

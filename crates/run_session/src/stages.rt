@@ -32,6 +32,9 @@ pub enum Stage {
     Receiving,
     /// Commands are sent.
     Sending,
+    /// The operator is to confirm a pause by an empty line: its first byte, and the one after a CR.
+    Awaiting,
+    Returning,
     /// The server's errors, and the lines that came or went, are shown.
     Tracing,
     /// The time at which the lines did.

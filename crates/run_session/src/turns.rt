@@ -1,6 +1,6 @@
 // On the connection: commands are sent, and lines are heard.
 
-ghost use Rattle.std.specs.Prelude.{◌≡◌, OnOk, None};
+ghost use Rattle.std.specs.Prelude.{◌≡◌, ◌<◌, length, OnOk, None};
 ghost use Rattle.run_session.specs.Records as spec;
 
 use crate::{Session, Stage};
@@ -31,15 +31,17 @@ impl Session {
 
     /// The client leaves its connection.
     fn leave(&mut self)
-        ensures ran { spec.Keeps self.old.pair self.new.pair }
+        ensures ran { spec.Keeps self.old self.new }
         ensures book { self.new.book ≡ self.old.book }
     {
         self.client.leave();
     }
 
-    /// The client writes the command that is due.
+    /// The client writes the command that is due, which is not held back.
     fn send(&mut self) -> Result<(), ClientFault>
-        ensures ran { spec.Keeps self.old.pair self.new.pair }
+        requires { spec.held self.old.book.pauses
+            < length self.old.pair.end.client.table.tally.unsent }
+        ensures ran { spec.Keeps self.old self.new }
         ensures book { self.new.book ≡ self.old.book }
     {
         self.client.send()
@@ -47,7 +49,7 @@ impl Session {
 
     /// The client writes an abort.
     fn abort(&mut self) -> Result<(), ClientFault>
-        ensures ran { spec.Keeps self.old.pair self.new.pair }
+        ensures ran { spec.Keeps self.old self.new }
         ensures book { self.new.book ≡ self.old.book }
     {
         self.client.abort()
@@ -55,7 +57,7 @@ impl Session {
 
     /// The client takes bytes.
     fn feed(&mut self, bytes: &[u8]) -> Result<(), ClientFault>
-        ensures ran { spec.Keeps self.old.pair self.new.pair }
+        ensures ran { spec.Keeps self.old self.new }
         ensures book { self.new.book ≡ self.old.book }
     {
         self.client.feed(bytes)
@@ -63,7 +65,7 @@ impl Session {
 
     /// The client reads a line, if one is there.
     fn read(&mut self) -> Result<bool, ClientFault>
-        ensures ran { spec.Keeps self.old.pair self.new.pair }
+        ensures ran { spec.Keeps self.old self.new }
         ensures book { self.new.book ≡ self.old.book }
     {
         self.client.read_one()
@@ -71,7 +73,7 @@ impl Session {
 
     /// All that the client had written was sent.
     fn clear(&mut self)
-        ensures ran { spec.Keeps self.old.pair self.new.pair }
+        ensures ran { spec.Keeps self.old self.new }
         ensures book { self.new.book ≡ self.old.book }
     {
         let count = self.client.out().len();
@@ -80,7 +82,7 @@ impl Session {
 
     /// The connection is broken off: the client leaves it.
     pub(crate) fn break_off(&mut self, why: PumpFault<ClientFault>)
-        ensures ran { spec.Keeps self.old.pair self.new.pair }
+        ensures ran { spec.Keeps self.old self.new }
         ensures book { self.new.book ≡ self.old.book }
     {
         self.leave();
@@ -89,7 +91,7 @@ impl Session {
 
     /// The client has refused.
     fn refuse_core(&mut self, fault: ClientFault) -> Result<(), AllocError>
-        ensures ran { spec.Keeps self.old.pair self.new.pair }
+        ensures ran { spec.Keeps self.old self.new }
         ensures book { self.new.book ≡ self.old.book }
     {
         if let ClientFault::Memory = fault {
@@ -99,13 +101,13 @@ impl Session {
         Ok(())
     }
 
-    /// The client sends each command that is due.
+    /// The client sends each command that is due, and is not held back.
     fn send_due(&mut self) -> Result<(), AllocError>
-        ensures ran { spec.Keeps self.old.pair self.new.pair }
+        ensures ran { spec.Keeps self.old self.new }
         ensures book { self.new.book ≡ self.old.book }
     {
         for _command in 0..u64::MAX {
-            if self.client.due().is_none() {
+            if self.client.due().is_none() || self.client.unsent() <= self.held() {
                 break;
             }
             if let Err(fault) = self.send() {
@@ -117,7 +119,7 @@ impl Session {
 
     /// All that was counted is kept and shown: commands that are due are sent, or bytes are awaited; or the run is over.
     pub(crate) fn go_on(&mut self) -> Result<(), AllocError>
-        ensures ran { spec.Keeps self.old.pair self.new.pair }
+        ensures ran { spec.Keeps self.old self.new }
         ensures book { self.new.book ≡ self.old.book }
         ensures due { OnOk result (spec.IsDue self.new) }
     {
@@ -127,16 +129,18 @@ impl Session {
         if self.is_over() {
             return self.end();
         }
-        self.stage = if self.client.out().is_empty() {
-            self.await_bytes()
+        if !self.client.out().is_empty() {
+            self.stage = Stage::Sending;
+        } else if self.is_paused() && !self.is_asked {
+            return self.ask();
         } else {
-            Stage::Sending
-        };
+            self.stage = self.await_bytes();
+        }
         Ok(())
     }
 
     /// What comes before bytes are received.
-    fn await_bytes(&self) -> Stage
+    pub(crate) fn await_bytes(&self) -> Stage
         ensures { spec.wants result ≡ None }
     {
         if self.run.stop.is_some() && !self.is_stopped {
@@ -150,20 +154,23 @@ impl Session {
     fn await_unstopped(&self) -> Stage
         ensures { spec.wants result ≡ None }
     {
-        if self.wait.limit.is_some() {
+        if self.is_asked {
+            Stage::Awaiting
+        } else if self.wait.limit.is_some() {
             Stage::Timing
         } else {
             Stage::Receiving
         }
     }
 
-    /// The stop file is there: the client aborts, if it can.
-    fn stop(&mut self) -> Result<(), AllocError>
-        ensures ran { spec.Keeps self.old.pair self.new.pair }
+    /// The stop file is there, or the operator has not confirmed a pause: the client aborts, if it can.
+    pub(crate) fn stop(&mut self) -> Result<(), AllocError>
+        ensures ran { spec.Keeps self.old self.new }
         ensures book { self.new.book ≡ self.old.book }
         ensures due { OnOk result (spec.IsDue self.new) }
     {
         self.is_stopped = true;
+        self.is_asked = false;
         self.seen = Some(self.client.state());
         self.wait = Wait::new(self.wait.limit);
         if !matches!(self.client.state(), State::Running | State::Failing) {
@@ -180,7 +187,7 @@ impl Session {
 
     /// The server has not done what was due for too long.
     fn lapsed(&mut self, lapse: Lapse, why: PumpFault<ClientFault>) -> Result<(), AllocError>
-        ensures ran { spec.Keeps self.old.pair self.new.pair }
+        ensures ran { spec.Keeps self.old self.new }
         ensures book { self.new.book ≡ self.old.book }
         ensures due { OnOk result (spec.IsDue self.new) }
     {
@@ -190,7 +197,7 @@ impl Session {
 
     /// The connection is broken off, and what was counted is kept.
     fn fail(&mut self, why: PumpFault<ClientFault>) -> Result<(), AllocError>
-        ensures ran { spec.Keeps self.old.pair self.new.pair }
+        ensures ran { spec.Keeps self.old self.new }
         ensures book { self.new.book ≡ self.old.book }
         ensures due { OnOk result (spec.IsDue self.new) }
     {
@@ -199,7 +206,7 @@ impl Session {
     }
 
     pub(crate) fn receive(&mut self, answer: Answer<'_>) -> Result<(), AllocError>
-        ensures ran { spec.Keeps self.old.pair self.new.pair }
+        ensures ran { spec.Keeps self.old self.new }
         ensures book { self.new.book ≡ self.old.book }
         ensures due { OnOk result (spec.IsDue self.new) }
     {
@@ -212,7 +219,7 @@ impl Session {
             },
             (Stage::Timing, _) => self.stage = Stage::Receiving,
             (_, Answer::Bytes(piece)) => return self.came(piece),
-            (_, Answer::Nothing) => self.stage = self.await_bytes(),
+            (_, Answer::Nothing) => return self.go_on(),
             (_, Answer::End) => return self.fail(PumpFault::Ended),
             (_, Answer::Short) => return Err(AllocError),
             _ => return self.fail(PumpFault::ReadFailed),
@@ -248,7 +255,7 @@ impl Session {
 
     /// Bytes of one line of the server, perhaps its last: its error is to be shown, and the client reads it.
     fn hear(&mut self, line: &[u8]) -> Result<(), AllocError>
-        ensures ran { spec.Keeps self.old.pair self.new.pair }
+        ensures ran { spec.Keeps self.old self.new }
         ensures book { self.new.book ≡ self.old.book }
     {
         self.remember(line)?;
@@ -265,7 +272,7 @@ impl Session {
 
     /// Bytes have come: the client reads each line, until its run is over.
     fn came(&mut self, piece: &[u8]) -> Result<(), AllocError>
-        ensures ran { spec.Keeps self.old.pair self.new.pair }
+        ensures ran { spec.Keeps self.old self.new }
         ensures book { self.new.book ≡ self.old.book }
         ensures due { OnOk result (spec.IsDue self.new) }
     {
@@ -280,7 +287,7 @@ impl Session {
 
     /// Commands were sent, or not.
     pub(crate) fn sent(&mut self, answer: Answer<'_>) -> Result<(), AllocError>
-        ensures ran { spec.Keeps self.old.pair self.new.pair }
+        ensures ran { spec.Keeps self.old self.new }
         ensures book { self.new.book ≡ self.old.book }
         ensures due { OnOk result (spec.IsDue self.new) }
     {
@@ -294,7 +301,7 @@ impl Session {
 
     /// All that the client had written was sent.
     fn has_sent(&mut self) -> Result<(), AllocError>
-        ensures ran { spec.Keeps self.old.pair self.new.pair }
+        ensures ran { spec.Keeps self.old self.new }
         ensures book { self.new.book ≡ self.old.book }
         ensures due { OnOk result (spec.IsDue self.new) }
     {

@@ -4,6 +4,7 @@ ghost use Rattle.std.specs.Prelude.{◌≡◌, OnOk};
 ghost use Rattle.run_session.specs.Records as spec;
 
 use crate::{Session, Stage};
+use client_core::State;
 use dme_orders::{ConnectionEnd, Counts, RunEnding, last_line};
 use link_world::LoopFault;
 use session_parts::lapse_line;
@@ -50,9 +51,10 @@ impl Session {
         ensures quiet { spec.IsQuiet self.old self.new }
         ensures due { OnOk result (spec.IsDue self.new) }
     {
-        let how = match self.early {
-            Some(how) => how,
-            None => RunEnding::Left(self.client.state(), self.seen),
+        let how = match (self.early, self.client.state()) {
+            (Some(how), _) => how,
+            (None, State::Halted) if self.is_declined => RunEnding::NotConfirmed,
+            (None, state) => RunEnding::Left(state, self.seen),
         };
         let counts = Counts {
             kept: self.kept,

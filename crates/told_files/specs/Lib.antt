@@ -3,3 +3,4 @@ pub mod Numbering
 pub mod Parts
 pub mod Runs
 pub mod ToldTexts
+pub mod Names

@@ -1,8 +1,7 @@
 // The audit of features by what a server reported.
 
 ghost use Rattle.std.specs.Prelude.{◌≡◌, ◌↔◌, IfOk};
-ghost use Rattle.ledger_audit.specs.Verdicts.{IfStarts, IfNoRun, TellsStarts, TellsNoRun};
-ghost use Rattle.told_files.specs.Runs.{AreToldRuns, AreLeastTold, AreFewestUnsoundTold, SoundByTold};
+ghost use Rattle.told_files.specs.Names.{IfStarts, IfNoRun, TellsStarts, TellsNoRun, AreToldRuns, AreLeastTold, AreFewestUnsoundTold, SoundByTold};
 
 use crate::ledger::ToldLedger;
 use crate::runs::run_contacts;

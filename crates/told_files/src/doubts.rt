@@ -1,8 +1,7 @@
 // What was reported that no feature can have: contacts whose tool or frame is not known, and lines that end runs.
 
 ghost use Rattle.std.specs.Prelude.{◌≡◌, count_by, map, IfOk};
-ghost use Rattle.std.specs.List.{position};
-ghost use Rattle.told_files.specs.Runs.{part_of, parts_of, known_contacts, is_made, is_touch, is_doubtful, is_end};
+ghost use Rattle.told_files.specs.Names.{position, part_of, parts_of, known_contacts, is_made, is_touch, is_doubtful, is_end};
 
 use crate::ledger::ToldLedger;
 use contact_ledger::Act;
@@ -20,74 +19,35 @@ pub struct Doubts {
     pub first: Option<usize>,
 }
 
-/// Whether this is a contact, with its tool and frame known or not.
 fn is_touch(told: &Reported) -> bool
     ensures { result ≡ is_touch (part_of told.now) }
 {
-    match told {
-        Reported::Did(Act::Contact { .. }) | Reported::Touched { .. } => true,
-        Reported::Did(
-            Act::HomedIs(_) | Act::Homed | Act::Moved(_, _) | Act::Changed(_) | Act::Framed(_),
-        )
-        | Reported::MovedSomewhere(_)
-        | Reported::FramedSomehow
-        | Reported::Other(_, _)
-        | Reported::Unasked(_)
-        | Reported::Broken(_, _)
-        | Reported::Opened
-        | Reported::Left => false,
-    }
+    matches!(
+        told,
+        Reported::Did(Act::Contact { .. }) | Reported::Touched { .. }
+    )
 }
 
-/// Whether this is a contact whose tool or frame is not known.
 fn is_doubtful(told: &Reported) -> bool
     ensures { result ≡ is_doubtful (part_of told.now) }
 {
-    match told {
-        Reported::Touched { .. } => true,
-        Reported::Did(
-            Act::HomedIs(_)
-            | Act::Homed
-            | Act::Moved(_, _)
-            | Act::Changed(_)
-            | Act::Framed(_)
-            | Act::Contact { .. },
-        )
-        | Reported::MovedSomewhere(_)
-        | Reported::FramedSomehow
-        | Reported::Other(_, _)
-        | Reported::Unasked(_)
-        | Reported::Broken(_, _)
-        | Reported::Opened
-        | Reported::Left => false,
-    }
+    matches!(told, Reported::Touched { .. })
 }
 
 /// Whether this line, which is no contact, ends the runs of its connection.
 pub fn ends_runs(told: &Reported) -> bool
     ensures { result ≡ is_end (part_of told.now) }
 {
-    match told {
+    matches!(
+        told,
         Reported::Other(_, _)
-        | Reported::Unasked(_)
-        | Reported::Broken(_, _)
-        | Reported::Opened
-        | Reported::Left => true,
-        Reported::Did(
-            Act::HomedIs(_)
-            | Act::Homed
-            | Act::Moved(_, _)
-            | Act::Changed(_)
-            | Act::Framed(_)
-            | Act::Contact { .. },
-        )
-        | Reported::MovedSomewhere(_)
-        | Reported::FramedSomehow
-        | Reported::Touched { .. } => false,
-    }
+            | Reported::Unasked(_)
+            | Reported::Broken(_, _)
+            | Reported::Opened
+            | Reported::Left
+    )
 }
 
-/// Whether this is a contact whose tool and frame are known.
 fn is_made(told: &Reported) -> bool
     ensures { result ≡ is_made (part_of told.now) }
 {

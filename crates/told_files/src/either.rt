@@ -1,8 +1,7 @@
 // A text of contacts for an audit: what a server reported, or what it did.
 
 ghost use Rattle.std.specs.Prelude.{◌≡◌, ◌↔◌, codes, IsTrue};
-ghost use Rattle.contact_ledger.specs.Damage.{ReadsText};
-ghost use Rattle.told_files.specs.Either.{IsToldFile, AreAudited, IsDamagedAudited};
+ghost use Rattle.told_files.specs.Names.{ReadsText, IsToldFile, AreAudited, IsDamagedAudited};
 
 use crate::runs::run_contacts;
 use crate::texts::read_told;
@@ -10,7 +9,6 @@ use contact_ledger::lines::cut_line;
 use contact_ledger::{ServerLedger, TextFault, read_contacts};
 use std::alloc::Global;
 
-/// Whether a line is the first one of a text of what was reported.
 fn is_header(line: &[u8]) -> bool
     ensures { IsTrue result ↔ (line.now ≡ codes "DME-TOLD 1") }
 {

@@ -1,16 +1,7 @@
 // Fields that only a text of what was reported has.
 
 ghost use Rattle.std.specs.Prelude.{◌≡◌, ◌≤◌, ◌+◌, ◌++◌, ◌∷◌, ◌<◌, ◌==◌, [], ℕ, List, Option, length, IfOk, IfSome, MatchOption};
-ghost use Rattle.std.specs.List.{list_all, position};
-ghost use Rattle.fixed_um.specs.Calls.{Finds};
-ghost use Rattle.fixed_um.specs.Written.{last_digit};
-ghost use Rattle.fixed_um.specs.declared.frames.Frame.{Frame};
-ghost use Rattle.dme_line.specs.Tags.{IsTag, four_digits, five_digits, written_tag};
-ghost use Rattle.line_framing.specs.Content.{is_content};
-ghost use Rattle.contact_ledger.specs.Lines.{fields_of, fields_behind};
-ghost use Rattle.witness.specs.Texts.{tool_field, known_frame, rule_name, side_field};
-ghost use Rattle.told_files.specs.Parts.{IsToolName};
-ghost use Rattle.told_files.specs.ToldTexts.{IsNamed, IsPlaced, IsLineText};
+ghost use Rattle.told_files.specs.Names.{list_all, position, Finds, last_digit, Frame, IsTag, four_digits, five_digits, written_tag, is_content, fields_of, fields_behind, tool_field, known_frame, rule_name, side_field, IsToolName, IsNamed, IsPlaced, IsLineText};
 
 use contact_ledger::forms::{Forms, read_name};
 use contact_ledger::lines::next_field;
@@ -51,7 +42,6 @@ pub(crate) fn read_frame<'a>(forms: &mut Forms, rest: &'a [u8]) -> Option<(Optio
     }
 }
 
-/// The rule that a field names.
 pub(crate) fn read_rule(field: &[u8]) -> Option<Rule>
     ensures { Finds result (λ rule. field.now ≡ rule_name rule) }
 {
@@ -76,7 +66,6 @@ pub(crate) fn read_rule(field: &[u8]) -> Option<Rule>
     }
 }
 
-/// The way that a line went.
 pub(crate) fn read_side(field: &[u8]) -> Option<Side>
     ensures { Finds result (λ side. field.now ≡ side_field side) }
 {
@@ -115,7 +104,6 @@ fn five_digits_value(a: u8, b: u8, c: u8, d: u8, e: u8) -> Option<u32>
     Some(digit(a)? * 10_000 + four_digits_value(b, c, d, e)?)
 }
 
-/// The tag that a field is.
 pub(crate) fn read_tag(field: &[u8]) -> Option<Tag>
     ensures { Finds result (λ tag. IsTag tag × (field.now ≡ written_tag tag)) }
 {
@@ -126,7 +114,6 @@ pub(crate) fn read_tag(field: &[u8]) -> Option<Tag>
     }
 }
 
-/// Where a space first occurs.
 fn place_of_space(bytes: &[u8]) -> Option<usize>
     ensures place { result ≡ position (λ b. b == 32) bytes.now }
     ensures within { IfSome result (λ at. at < length bytes.now) }
@@ -152,7 +139,6 @@ fn is_content(byte: u8) -> bool
     byte != b'\r' && byte != b'\n'
 }
 
-/// Whether bytes can be those of a line.
 fn is_line_text(line: &[u8]) -> bool
     ensures { result ≡ list_all is_content line.now }
 {

@@ -1,17 +1,7 @@
 // What follows from the definitions. Each function has laws for its contract and does nothing.
 
 ghost use Rattle.std.specs.Prelude.{◌≡◌, ◌≤◌, ◌<◌, ◌+◌, ◌↔◌, ℕ, List, [], ◌∷◌, length, map, take};
-ghost use Rattle.contact_ledger.specs.ContactTexts.{IsContacts};
-ghost use Rattle.contact_ledger.specs.declared.acts.Act.{Act};
-ghost use Rattle.contact_ledger.specs.declared.features.Feature.{Feature};
-ghost use Rattle.dmis_program.specs.declared.features.Wanted.{Wanted};
-ghost use Rattle.protocol_model.specs.Claims.{contacts, IsRun, Sound};
-ghost use Rattle.witness.specs.Texts.{told_text};
-ghost use Rattle.witness.specs.declared.lines.Reported.{Reported};
-ghost use Rattle.witness.specs.declared.lines.Reported.TheVariants.{Opened, Left};
-ghost use Rattle.told_files.specs.Either.{AreAudited};
-ghost use Rattle.told_files.specs.Runs.{AreRunContacts, IsToldRun, SoundByTold};
-ghost use Rattle.told_files.specs.ToldTexts.{AreWrittenEntries, AreToldEntries, NeverFall, IsToldText, IsDamagedTold, entry_back};
+ghost use Rattle.told_files.specs.Names.{IsContacts, Act, Feature, Wanted, contacts, IsRun, Sound, told_text, Reported, Opened, Left, AreAudited, AreRunContacts, IsToldRun, SoundByTold, AreWrittenEntries, AreToldEntries, NeverFall, IsToldText, IsDamagedTold, entry_back};
 
 /// Numbers may stay and be left out, as in 1, 1, 3; in 1, 2, 1 one falls (this profile).
 pub fn falling_rows()

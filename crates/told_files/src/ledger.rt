@@ -1,8 +1,7 @@
 // What a server reported, in order.
 
 ghost use Rattle.std.specs.Prelude.{◌≡◌, [], ◌∷◌, ◌++◌};
-ghost use Rattle.fixed_um.specs.Calls.{Leads};
-ghost use Rattle.told_files.specs.ToldTexts.{last_number};
+ghost use Rattle.told_files.specs.Names.{Leads, last_number};
 
 use std::alloc::{AllocError, Global};
 use std::marker::Model;
@@ -24,7 +23,6 @@ impl Model for ToldLedger {
 }
 
 impl ToldLedger {
-    /// Nothing; does not allocate.
     pub(crate) fn new(alloc: Global) -> ToldLedger
         ensures { result ≡ [] }
     {
@@ -33,7 +31,6 @@ impl ToldLedger {
         }
     }
 
-    /// Appends what was reported on a connection. Fails only if out of memory, and is then unchanged.
     pub(crate) fn push(&mut self, connection: u64, told: Reported) -> Result<(), AllocError>
         ensures { Leads result self.old self.new (self.old ++ (connection, told) ∷ []) }
     {
@@ -41,7 +38,6 @@ impl ToldLedger {
         Ok(())
     }
 
-    /// The number of the last connection; 0 if nothing was reported.
     pub(crate) fn last_number(&self) -> u64
         ensures { result ≡ last_number self.now }
     {

@@ -1,11 +1,7 @@
 // What a line of a text says that was reported.
 
 ghost use Rattle.std.specs.Prelude.{◌≡◌, ◌∷◌, [], codes, IfOk};
-ghost use Rattle.fixed_um.specs.Calls.{Finds};
-ghost use Rattle.contact_ledger.specs.Lines.{fields_behind};
-ghost use Rattle.witness.specs.Texts.{told_line};
-ghost use Rattle.told_files.specs.Parts.{IsOtherTold, told_parts};
-ghost use Rattle.told_files.specs.ToldTexts.{IsToldEntry, read_act};
+ghost use Rattle.told_files.specs.Names.{Finds, fields_behind, told_line, IsOtherTold, told_parts, IsToldEntry, read_act};
 
 use crate::fields::{read_frame, read_line_text, read_rule, read_side, read_tag, read_tool};
 use contact_ledger::forms::{Forms, read_number};
@@ -14,7 +10,6 @@ use contact_ledger::{Act, CONNECTION_MAX, read_entry};
 use std::alloc::{AllocError, Global};
 use witness::Reported;
 
-/// A move in a frame that is not known, after its word.
 fn read_moved(forms: &mut Forms, rest: &[u8]) -> Option<Reported>
     ensures { Finds result (λ t. IsOtherTold t
         × (codes "MOVED" ∷ fields_behind rest.now ≡ told_parts t)) }
@@ -22,23 +17,18 @@ fn read_moved(forms: &mut Forms, rest: &[u8]) -> Option<Reported>
     let Some((target, rest)) = forms.point(rest) else {
         return None;
     };
-    let Some((frame, rest)) = next_field(rest) else {
-        return None;
-    };
+    let (frame, rest) = next_field(rest)?;
     if frame != b"?".as_slice() || next_field(rest).is_some() {
         return None;
     }
     Some(Reported::MovedSomewhere(target))
 }
 
-/// A frame that is not known, after its word.
 fn read_framed(rest: &[u8]) -> Option<Reported>
     ensures { Finds result (λ t. IsOtherTold t
         × (codes "FRAMED" ∷ fields_behind rest.now ≡ told_parts t)) }
 {
-    let Some((frame, rest)) = next_field(rest) else {
-        return None;
-    };
+    let (frame, rest) = next_field(rest)?;
     if frame != b"?".as_slice() || next_field(rest).is_some() {
         return None;
     }
@@ -87,7 +77,6 @@ fn read_touched(
     }))
 }
 
-/// A line that is not known, after its word. Fails only if out of memory.
 fn read_other(alloc: Global, rest: &[u8]) -> Result<Option<Reported>, AllocError>
     ensures { IfOk result (λ found. Finds found (λ t. IsOtherTold t
         × (codes "OTHER" ∷ fields_behind rest.now ≡ told_parts t))) }
@@ -104,7 +93,6 @@ fn read_other(alloc: Global, rest: &[u8]) -> Result<Option<Reported>, AllocError
     Ok(Some(Reported::Other(side, line)))
 }
 
-/// A line of the server that belongs to no command, after its word. Fails only if out of memory.
 fn read_unasked(alloc: Global, rest: &[u8]) -> Result<Option<Reported>, AllocError>
     ensures { IfOk result (λ found. Finds found (λ t. IsOtherTold t
         × (codes "UNASKED" ∷ fields_behind rest.now ≡ told_parts t))) }
@@ -115,7 +103,6 @@ fn read_unasked(alloc: Global, rest: &[u8]) -> Result<Option<Reported>, AllocErr
     Ok(Some(Reported::Unasked(line)))
 }
 
-/// A rule that is broken and the tag, after their word.
 fn read_broken(rest: &[u8]) -> Option<Reported>
     ensures { Finds result (λ t. IsOtherTold t
         × (codes "BROKEN" ∷ fields_behind rest.now ≡ told_parts t)) }
@@ -130,7 +117,6 @@ fn read_broken(rest: &[u8]) -> Option<Reported>
     Some(Reported::Broken(rule, tag))
 }
 
-/// That a connection was opened, where nothing follows the word.
 fn read_opened(rest: &[u8]) -> Option<Reported>
     ensures { Finds result (λ t. IsOtherTold t
         × (codes "OPENED" ∷ fields_behind rest.now ≡ told_parts t)) }
@@ -141,7 +127,6 @@ fn read_opened(rest: &[u8]) -> Option<Reported>
     }
 }
 
-/// That a connection was left, where nothing follows the word.
 fn read_left(rest: &[u8]) -> Option<Reported>
     ensures { Finds result (λ t. IsOtherTold t
         × (codes "LEFT" ∷ fields_behind rest.now ≡ told_parts t)) }

@@ -1,8 +1,7 @@
 // The contacts that runs of features may be made of.
 
 ghost use Rattle.std.specs.Prelude.{◌≡◌, ◌++◌, true, None, OnOk, IfOk};
-ghost use Rattle.told_files.specs.Numbering.{is_joined, number_of, second_after, open_after, pushed};
-ghost use Rattle.told_files.specs.Runs.{part_of, AreRunContacts};
+ghost use Rattle.told_files.specs.Names.{is_joined, number_of, second_after, open_after, pushed, part_of, AreRunContacts};
 
 use crate::ledger::ToldLedger;
 use contact_ledger::{Act, ServerLedger};
@@ -35,7 +34,6 @@ struct Numbering {
 }
 
 impl Numbering {
-    /// Reads one line. Fails only if out of memory.
     fn add(&mut self, alloc: Global, connection: u64, told: &Reported) -> Result<(), AllocError>
         ensures ledger { OnOk result (self.new.ledger ≡ self.old.ledger
             ++ pushed self.old.second self.old.open_on connection (part_of told.now)) }
@@ -67,11 +65,6 @@ impl Numbering {
                 self.second = second;
                 self.open_on = Some(connection);
             }
-            Reported::Did(
-                Act::HomedIs(_) | Act::Homed | Act::Moved(_, _) | Act::Changed(_) | Act::Framed(_),
-            )
-            | Reported::MovedSomewhere(_)
-            | Reported::FramedSomehow => {}
             Reported::Touched { .. } => self.open_on = None,
             Reported::Other(_, _)
             | Reported::Unasked(_)
@@ -82,6 +75,7 @@ impl Numbering {
                     self.open_on = None;
                 }
             }
+            _ => {}
         }
         Ok(())
     }

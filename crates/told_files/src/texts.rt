@@ -1,11 +1,7 @@
 // The text of what a server reported (this profile).
 
 ghost use Rattle.std.specs.Prelude.{◌≡◌, ◌≤◌, ◌++◌, ◌∷◌, [], ℕ, OnOk, Err};
-ghost use Rattle.contact_ledger.specs.Damage.{ReadsText};
-ghost use Rattle.contact_ledger.specs.declared.faults.TextFault.TheVariants.{Damaged};
-ghost use Rattle.witness.specs.Texts.{told_line};
-ghost use Rattle.witness.specs.declared.lines.Reported.{Reported};
-ghost use Rattle.told_files.specs.ToldTexts.{IsToldEntry, last_number, IsToldText, IsDamagedTold};
+ghost use Rattle.told_files.specs.Names.{ReadsText, Damaged, told_line, Reported, IsToldEntry, last_number, IsToldText, IsDamagedTold};
 
 use crate::ledger::ToldLedger;
 use crate::lines::read_line;

@@ -1,29 +1,73 @@
 -- A relay reads as far as it may.
-use Rattle.std.proofs.Common.{◌≡◌, ℕ, true, false, List, Option, None, Result, Ok, Err, OnOk, sym, subst}
-use Rattle.witness.specs.Relaying.{Relaying, Reads, IsClientRead, IsServerRead, made_due}
-use Rattle.watched_ends.specs.Limits.{Limited, Within, limited, are_too_many, ended, IsRead, all, some, none}
+use Rattle.std.proofs.Common.{◌≡◌, ℕ, true, false, inl, inr, List, [], ◌++◌, drop, Option, Some, None, refl, sym, subst}
+use Rattle.dme_line.specs.declared.tags.Tag.TheVariants.{Event}
+use Rattle.witness.specs.Relaying.{Reads, IsClientRead, IsServerRead, untold}
+use Rattle.witness.specs.Texts.{told_lines}
+use Rattle.witness.specs.Watching.{Watching, IsFirstPast, KeepsFew}
+use Rattle.watched_ends.specs.Limits.{Limited, limited, are_too_many, too_many, last_tag, IsStop, IsRead, all, some, none, due_of, up_of, down_of}
+use Rattle.watched_ends.specs.Limits.{without_due, up_sent, down_sent}
 
-pub if_ok : {A E P Q : Type 0} (r : Result A E) → OnOk r P → (P → Q) → OnOk r Q
-if_ok (Ok x) p f = f p
-if_ok (Err e) p f = tt
+pub stop_first : (old w : Watching) → IsFirstPast 10000 old w → IsStop old w
+stop_first old w first = inl first
 
-pub none_read : (relay : Option Relaying) (up down due : List ℕ) → relay ≡ None → IsRead (limited relay up down due) (limited relay up down due)
-none_read relay up down due is =
-    subst (λ (r : Option Relaying). IsRead (limited r up down due) (limited r up down due)) (sym is) (none up down due)
+pub stop_read : (old w : Watching) → IsClientRead w → IsServerRead w → IsStop old w
+stop_read old w client server = inr (client, server)
 
-pub over_read : (old new : Limited) (r read : Relaying) → old ≡ Within r → Reads r.watching read.watching
-    → read ≡ record r { watching = read.watching } → are_too_many read.watching.dialogue.uses ≡ true → new ≡ ended (Within read) → IsRead old new
-over_read old new r read is reads others too_many new_is =
-    subst (IsRead old) (sym new_is)
-    (subst (λ (x : Relaying). IsRead old (ended (Within x))) (sym others)
-    (subst (λ (l : Limited). IsRead l (ended (Within (record r { watching = read.watching })))) (sym is) (some r read.watching reads too_many)))
+-- ---- what is there, whether it is past the limit or not
 
-pub all_read : (old : Limited) (r read new : Relaying) → old ≡ Within r → Reads r.watching read.watching
-    → read ≡ record r { watching = read.watching } → IsClientRead read.watching → IsServerRead read.watching
-    → are_too_many read.watching.dialogue.uses ≡ false → new ≡ made_due read
-    → IsRead old (Within new)
-all_read old r read new is reads others client server few new_is =
-    subst (λ (x : Relaying). IsRead old (Within x)) (sym new_is)
-    (subst (λ (x : Relaying). IsRead old (Within (made_due x))) (sym others)
-    (subst (λ (l : Limited). IsRead l (Within (made_due (record r { watching = read.watching })))) (sym is)
-    (all r read.watching reads client server few)))
+pub due_there : (n : ℕ) (o : Option Watching) (up down due : List ℕ) → due_of (limited n o up down due) ≡ due
+due_there n (Some w) up down due = refl
+due_there n None up down due = refl
+
+pub up_there : (n : ℕ) (o : Option Watching) (up down due : List ℕ) → up_of (limited n o up down due) ≡ up
+up_there n (Some w) up down due = refl
+up_there n None up down due = refl
+
+pub down_there : (n : ℕ) (o : Option Watching) (up down due : List ℕ) → down_of (limited n o up down due) ≡ down
+down_there n (Some w) up down due = refl
+down_there n None up down due = refl
+
+pub due_written : (n : ℕ) (o : Option Watching) (up down due : List ℕ) → limited n o up down [] ≡ without_due (limited n o up down due)
+due_written n (Some w) up down due = refl
+due_written n None up down due = refl
+
+pub ups_sent : (n count : ℕ) (o : Option Watching) (up down due : List ℕ)
+    → limited n o (drop count up) down due ≡ up_sent count (limited n o up down due)
+ups_sent n count (Some w) up down due = refl
+ups_sent n count None up down due = refl
+
+pub downs_sent : (n count : ℕ) (o : Option Watching) (up down due : List ℕ)
+    → limited n o up (drop count down) due ≡ down_sent count (limited n o up down due)
+downs_sent n count (Some w) up down due = refl
+downs_sent n count None up down due = refl
+
+-- ---- reading
+
+pub none_read : (n : ℕ) (o : Option Watching) (up down due : List ℕ) → o ≡ None → IsRead (limited n o up down due) (limited n o up down due)
+none_read n o up down due is =
+    subst (λ (r : Option Watching). IsRead (limited n r up down due) (limited n r up down due)) (sym is) (none up down due)
+
+pub all_read : (n : ℕ) (o : Option Watching) (up down due due_now : List ℕ) (w read taken : Watching) → o ≡ Some w
+    → Reads w read → IsClientRead read → IsServerRead read → KeepsFew read → are_too_many read.dialogue.uses ≡ false
+    → due_now ≡ due ++ told_lines n read.dialogue.reported → taken ≡ untold read
+    → IsRead (limited n o up down due) (limited n (Some taken) up down due_now)
+all_read n o up down due due_now w read taken is reads client server few within due_is taken_is =
+    subst (λ (x : Option Watching). IsRead (limited n x up down due) (limited n (Some taken) up down due_now)) (sym is)
+    (subst (λ (t : List ℕ). IsRead (limited n (Some w) up down due) (limited n (Some taken) up down t)) (sym due_is)
+    (subst (λ (x : Watching). IsRead (limited n (Some w) up down due)
+    (limited n (Some x) up down (due ++ told_lines n read.dialogue.reported))) (sym taken_is)
+    (all (record { connection = n; watching = w; up = up; down = down; due = due }) read reads client server few within)))
+
+pub over_read : (n : ℕ) (o : Option Watching) (up down due due_now past : List ℕ) (w read taken : Watching) → o ≡ Some w
+    → Reads w read → IsStop w read → are_too_many read.dialogue.uses ≡ true
+    → due_now ≡ due ++ told_lines n read.dialogue.reported → taken ≡ untold read
+    → past ≡ due_now ++ too_many n (last_tag (Event 0) taken.dialogue.uses)
+    → IsRead (limited n o up down due) (limited n None up down past)
+over_read n o up down due due_now past w read taken is reads stop over due_is taken_is past_is =
+    subst (λ (x : Option Watching). IsRead (limited n x up down due) (limited n None up down past)) (sym is)
+    (subst (λ (t : List ℕ). IsRead (limited n (Some w) up down due) (limited n None up down t)) (sym past_is)
+    (subst (λ (x : Watching). IsRead (limited n (Some w) up down due)
+    (limited n None up down (due_now ++ too_many n (last_tag (Event 0) x.dialogue.uses)))) (sym taken_is)
+    (subst (λ (t : List ℕ). IsRead (limited n (Some w) up down due)
+    (limited n None up down (t ++ too_many n (last_tag (Event 0) read.dialogue.uses)))) (sym due_is)
+    (some (record { connection = n; watching = w; up = up; down = down; due = due }) read reads stop over))))

@@ -3,3 +3,4 @@ pub mod Ledgers
 pub mod Limits
 pub mod Pieces
 pub mod Recorded
+pub mod Names

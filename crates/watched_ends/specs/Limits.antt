@@ -1,11 +1,11 @@
 -- A relay that keeps no more than it may (this profile).
-use Rattle.std.specs.Prelude.{◌≡◌, ℕ, ◌-◌, Bool, true, false, ◌||◌, nat_lt, if◌then◌else◌, List, [], ◌∷◌, ◌++◌, length, drop, Option, Some, None}
+use Rattle.std.specs.Prelude.{◌≡◌, ◌⊎◌, ℕ, ◌-◌, Bool, true, false, ◌||◌, nat_lt, if◌then◌else◌, List, [], ◌∷◌, ◌++◌, length, drop, Option, Some, None}
 use Rattle.dme_line.specs.declared.tags.Tag.{Tag}
 use Rattle.dme_line.specs.declared.tags.Tag.TheVariants.{Event}
 use Rattle.witness.specs.Relaying as relays
 use Rattle.witness.specs.Relaying.{Relaying, Reads, IsClientRead, IsServerRead, IsAllTold, made_due}
 use Rattle.witness.specs.Texts.{told_lines}
-use Rattle.witness.specs.Watching.{Watching}
+use Rattle.witness.specs.Watching.{Watching, IsFirstPast, KeepsFew}
 use Rattle.witness.specs.declared.lines.Reported.TheVariants as reports
 use Rattle.witness.specs.declared.lines.Rule.TheVariants.{TooMany}
 use Rattle.witness.specs.declared.lines.SentCommand.{SentCommand}
@@ -18,9 +18,9 @@ pub data Limited : Type 0 where
   Within : Relaying → Limited
   Past : (up down due : List ℕ) → Limited
 
-abbrev pub limited : Option Relaying → List ℕ → List ℕ → List ℕ → Limited
-limited (Some r) up down due = Within r
-limited None up down due = Past up down due
+abbrev pub limited : ℕ → Option Watching → List ℕ → List ℕ → List ℕ → Limited
+limited connection (Some w) up down due = Within (record { connection = connection; watching = w; up = up; down = down; due = due })
+limited connection None up down due = Past up down due
 
 abbrev pub fresh : ℕ → Limited
 fresh connection = Within (relays.fresh connection)
@@ -64,12 +64,16 @@ ended (Within r) = Past r.up r.down ((r.due ++ told_lines r.connection r.watchin
     ++ too_many r.connection (last_tag (Event 0) r.watching.dialogue.uses))
 ended (Past up down due) = Past up down due
 
--- what waits is read, and what it reports is due: all of it, unless too many lines of the client are open; then what was read until then, and that
--- there are too many
+-- reading ends with too many: at the first line of the client after which more than 10,000 are open, or with all read, if more than 16 MiB are kept
+abbrev pub IsStop : Watching → Watching → Type 0
+IsStop old w = IsFirstPast 10000 old w ⊎ (IsClientRead w × IsServerRead w)
+
+-- what waits is read, and what it reports is due: all of it, and only bytes of a line without its end are kept, unless too many lines of the client
+-- are open; then what was read until then, and that there are too many
 pub data IsRead : Limited → Limited → Type 0 where
   all : (r : Relaying) (w : Watching) → Reads r.watching w → IsClientRead w → IsServerRead w
-      → are_too_many w.dialogue.uses ≡ false → IsRead (Within r) (Within (made_due (record r { watching = w })))
-  some : (r : Relaying) (w : Watching) → Reads r.watching w → are_too_many w.dialogue.uses ≡ true
+      → KeepsFew w → are_too_many w.dialogue.uses ≡ false → IsRead (Within r) (Within (made_due (record r { watching = w })))
+  some : (r : Relaying) (w : Watching) → Reads r.watching w → IsStop r.watching w → are_too_many w.dialogue.uses ≡ true
       → IsRead (Within r) (ended (Within (record r { watching = w })))
   none : (up down due : List ℕ) → IsRead (Past up down due) (Past up down due)
 

@@ -1,9 +1,7 @@
 // The text of what two recordings report.
 
 ghost use Rattle.std.specs.Prelude.{◌≡◌, List, map, IfOk};
-ghost use Rattle.witness.specs.Texts.{told_text, numbered};
-ghost use Rattle.witness.specs.declared.lines.Reported.{Reported};
-ghost use Rattle.watched_ends.specs.Ledgers.{AreReportedBy};
+ghost use Rattle.watched_ends.specs.Names.{told_text, numbered, Reported, AreReportedBy};
 
 use crate::turns::heard;
 use std::alloc::{AllocError, Global};

@@ -1,14 +1,14 @@
 // A relay that keeps no more than it may.
 
 ghost use Rattle.std.specs.Prelude.{◌≡◌, ◌++◌, ◌≤◌, ◌↔◌, length, true, false, OnOk, OnErr, IfOk, IsTrue};
-ghost use Rattle.witness.specs.Relaying.{Reads, IsClientRead, IsServerRead};
+ghost use Rattle.watched_ends.specs.Names.{Reads, IsClientRead, IsServerRead, KeepsFew, untold, told_lines};
 ghost use Rattle.watched_ends.specs.Limits as spec;
 
 use dme_line::Tag;
 use line_framing::ByteQueue;
 use std::alloc::{AllocError, Global};
 use std::marker::Model;
-use witness::{Relay, Reported, Rule, SentCommand, Use, add_told};
+use witness::{Reported, Rule, SentCommand, Use, Witness, add_all, add_told};
 
 /// The most lines of a client that may be open on a connection (this profile).
 pub const MOST_OPEN: usize = 10_000;
@@ -16,13 +16,17 @@ pub const MOST_OPEN: usize = 10_000;
 /// The most bytes that may be kept of those that are unknown (this profile).
 pub const MOST_KEPT: usize = 16_777_216;
 
-/// A relay between the two ends of a connection, which sends on what comes, has what is reported written first, and keeps no more than it may: if
-/// too many lines of the client are open, that is reported, and nothing more of the connection is; what comes is sent on as before. Contracts see
-/// the relay until then, and after it the bytes of each end that were not sent on, and the text that is due.
+/// A relay between the two ends of a connection, which does no reading and writing itself, and keeps no more than it may: if too many lines of the
+/// client are open, that is reported, and nothing more of the connection is. Contracts see the relay until then: the number of the connection, its
+/// witness, the bytes of each end that were not sent on, and the text that is due; after it the bytes and the text.
+///
+/// Bytes that came are sent on as they came. Those of the server are held back until their lines were read, what these report is due (`read`), and
+/// it was written (`clear_due`): so whatever the client knows was written before.
 #[derive(Drop)]
 pub struct LimitedRelay {
     alloc: Global,
-    relay: Option<Relay>,
+    connection: u64,
+    witness: Option<Witness>,
     up: ByteQueue,
     down: ByteQueue,
     due: Vec<u8>,
@@ -33,10 +37,9 @@ impl Model for LimitedRelay {
 
     ghost Value = { Limited };
 
-    ghost view = { λ l. limited l.relay l.up.waiting l.down.waiting l.due.items };
+    ghost view = { λ l. limited l.connection l.witness l.up.waiting l.down.waiting l.due.items };
 }
 
-/// The tag of the last of these lines.
 fn last_tag(uses: &[Use]) -> Tag
     ensures { result ≡ spec.last_tag (Tag.Event 0) uses.now }
 {
@@ -47,7 +50,6 @@ fn last_tag(uses: &[Use]) -> Tag
     tag
 }
 
-/// How many bytes are kept of a line.
 fn kept(command: &SentCommand) -> usize
     ensures { result ≡ spec.kept command.now }
 {
@@ -57,7 +59,6 @@ fn kept(command: &SentCommand) -> usize
     }
 }
 
-/// Whether more bytes than they may are kept of these lines.
 fn keep_more(uses: &[Use]) -> bool
     ensures { result ≡ spec.keeps_more 16777216 uses.now }
 {
@@ -72,38 +73,63 @@ fn keep_more(uses: &[Use]) -> bool
     false
 }
 
-/// Whether too many lines are open, or too many bytes are kept of them.
 fn are_too_many(uses: &[Use]) -> bool
     ensures { result ≡ spec.are_too_many uses.now }
 {
     uses.len() > MOST_OPEN || keep_more(uses)
 }
 
-/// The text that is due, and that too many lines are open. Fails only if out of memory.
-fn ended_text(alloc: Global, relay: &Relay, tag: Tag) -> Result<Vec<u8>, AllocError>
-    ensures { IfOk result (λ text. text.items ≡ relay.now.due
-        ++ spec.too_many relay.now.connection tag) }
-{
-    let mut text = Vec::from_slice(alloc, relay.due())?;
-    let report = Reported::Broken(Rule::TooMany, tag);
-    add_told(&mut text, relay.connection(), &report)?;
-    Ok(text)
-}
-
 /// Reads the lines that wait, those of the client first, as long as not too many are open: whether too many are. Fails only if out of memory, and then
 /// has read some of them.
-fn read_most(relay: &mut Relay) -> Result<bool, AllocError>
-    ensures reads { Reads relay.old.watching relay.new.watching }
-    ensures others { relay.new ≡ record relay.old { watching = relay.new.watching } }
-    ensures client { IfOk result (λ over. over ≡ false → IsClientRead relay.new.watching) }
-    ensures server { IfOk result (λ over. over ≡ false → IsServerRead relay.new.watching) }
-    ensures over { IfOk result (λ over. over
-        ≡ spec.are_too_many relay.new.watching.dialogue.uses) }
+#[tactic(auto, using(crate::proofs::LimitLemmas::stop_first, crate::proofs::LimitLemmas::stop_read))]
+fn read_most(witness: &mut Witness) -> Result<bool, AllocError>
+    ensures reads { Reads witness.old witness.new }
+    ensures client { IfOk result (λ over. over ≡ false → IsClientRead witness.new) }
+    ensures server { IfOk result (λ over. over ≡ false → IsServerRead witness.new) }
+    ensures few { IfOk result (λ over. over ≡ false → KeepsFew witness.new) }
+    ensures stop { IfOk result (λ over. over ≡ true → spec.IsStop witness.old witness.new) }
+    ensures over { IfOk result (λ over. over ≡ spec.are_too_many witness.new.dialogue.uses) }
 {
-    if relay.read_within(MOST_OPEN)? {
+    if witness.read_within(MOST_OPEN)? {
         return Ok(true);
     }
-    Ok(are_too_many(relay.uses()))
+    Ok(are_too_many(witness.uses()))
+}
+
+/// What was reported is due. Fails only if out of memory, and then nothing has changed.
+fn make_due(
+    alloc: Global,
+    due: &mut Vec<u8>,
+    connection: u64,
+    witness: &mut Witness,
+) -> Result<(), AllocError>
+    ensures due { OnOk result (due.new.items ≡ due.old.items
+        ++ told_lines connection witness.old.dialogue.reported) }
+    ensures taken { OnOk result (witness.new ≡ untold witness.old) }
+    ensures same_due { OnErr result (due.new.items ≡ due.old.items) }
+    ensures same { OnErr result (witness.new ≡ witness.old) }
+{
+    let mut text = Vec::new(alloc);
+    add_all(&mut text, connection, witness.reported())?;
+    due.extend_from_slice(text.as_slice())?;
+    witness.clear_reported();
+    Ok(())
+}
+
+/// That too many lines are open is due, with the tag of the last of them. Fails only if out of memory.
+fn add_too_many(
+    alloc: Global,
+    due: &mut Vec<u8>,
+    connection: u64,
+    uses: &[Use],
+) -> Result<(), AllocError>
+    ensures { OnOk result (due.new.items ≡ due.old.items
+        ++ spec.too_many connection (spec.last_tag (Tag.Event 0) uses.now)) }
+{
+    let mut text = Vec::new(alloc);
+    let report = Reported::Broken(Rule::TooMany, last_tag(uses));
+    add_told(&mut text, connection, &report)?;
+    due.extend_from_slice(text.as_slice())
 }
 
 impl LimitedRelay {
@@ -113,7 +139,8 @@ impl LimitedRelay {
     {
         LimitedRelay {
             alloc,
-            relay: Some(Relay::new(alloc, connection)),
+            connection,
+            witness: Some(Witness::new(alloc, true)),
             up: ByteQueue::new(alloc),
             down: ByteQueue::new(alloc),
             due: Vec::new(alloc),
@@ -125,14 +152,12 @@ impl LimitedRelay {
         ensures ok { OnOk result (self.new ≡ spec.client_came self.old bytes.now) }
         ensures err { OnErr result (self.new ≡ self.old) }
     {
-        match &mut self.relay {
-            Some(relay) => relay.from_client(bytes),
-            None => {
-                self.up.reserve(bytes.len())?;
-                self.up.append(bytes);
-                Ok(())
-            }
+        self.up.reserve(bytes.len())?;
+        if let Some(witness) = &mut self.witness {
+            witness.from_client(bytes)?;
         }
+        self.up.append(bytes);
+        Ok(())
     }
 
     /// Bytes came from the server. Fails only if out of memory, and then nothing has changed.
@@ -140,31 +165,11 @@ impl LimitedRelay {
         ensures ok { OnOk result (self.new ≡ spec.server_came self.old bytes.now) }
         ensures err { OnErr result (self.new ≡ self.old) }
     {
-        match &mut self.relay {
-            Some(relay) => relay.from_server(bytes),
-            None => {
-                self.down.reserve(bytes.len())?;
-                self.down.append(bytes);
-                Ok(())
-            }
+        self.down.reserve(bytes.len())?;
+        if let Some(witness) = &mut self.witness {
+            witness.from_server(bytes)?;
         }
-    }
-
-    /// Nothing more of the connection is reported: there are too many open lines. Fails only if out of memory.
-    fn end(&mut self) -> Result<(), AllocError>
-        ensures { OnOk result (self.new ≡ spec.ended self.old) }
-    {
-        let Some(relay) = &mut self.relay else {
-            return Ok(());
-        };
-        let tag = last_tag(relay.uses());
-        relay.make_due()?;
-        self.due = ended_text(self.alloc, relay, tag)?;
-        if let Some(relay) = self.relay.take() {
-            let (up, down) = relay.into_queues();
-            self.up = up;
-            self.down = down;
-        }
+        self.down.append(bytes);
         Ok(())
     }
 
@@ -173,87 +178,83 @@ impl LimitedRelay {
     pub fn read(&mut self) -> Result<(), AllocError>
         ensures { OnOk result (spec.IsRead self.old self.new) }
     {
-        let Some(relay) = &mut self.relay else {
+        let Some(witness) = &mut self.witness else {
             return Ok(());
         };
-        let is_over = read_most(relay)?;
+        let is_over = read_most(witness)?;
+        make_due(self.alloc, &mut self.due, self.connection, witness)?;
         if is_over {
-            return self.end();
+            add_too_many(self.alloc, &mut self.due, self.connection, witness.uses())?;
+            self.witness = None;
+            return Ok(());
         }
-        relay.make_due()
+        Ok(())
     }
 
     /// The text that is due: it is to be written before anything is sent to the client.
+    #[tactic(auto, using(crate::proofs::LimitLemmas::due_there))]
     pub fn due(&self) -> &[u8]
         ensures { result.now ≡ spec.due_of self.now }
     {
-        match &self.relay {
-            Some(relay) => relay.due(),
-            None => self.due.as_slice(),
-        }
+        self.due.as_slice()
     }
 
     /// What was due is written. Does not allocate.
+    #[tactic(auto, using(crate::proofs::LimitLemmas::due_written))]
     pub fn clear_due(&mut self)
         ensures { self.new ≡ spec.without_due self.old }
     {
-        match &mut self.relay {
-            Some(relay) => relay.clear_due(),
-            None => self.due.clear(),
-        }
+        self.due.clear();
     }
 
     /// Whether all that is to be written was written: only then may bytes be sent to the client.
     pub fn is_all_told(&self) -> bool
         ensures { IsTrue result ↔ spec.IsTold self.now }
     {
-        match &self.relay {
-            Some(relay) => relay.is_all_told(),
+        match &self.witness {
+            Some(witness) => {
+                !witness.has_client_line()
+                    && !witness.has_server_line()
+                    && witness.reported().is_empty()
+                    && self.due.is_empty()
+            }
             None => self.due.is_empty(),
         }
     }
 
     /// What came from the client and was not sent on.
+    #[tactic(auto, using(crate::proofs::LimitLemmas::up_there))]
     pub fn to_server(&self) -> &[u8]
         ensures { result.now ≡ spec.up_of self.now }
     {
-        match &self.relay {
-            Some(relay) => relay.to_server(),
-            None => self.up.waiting(),
-        }
+        self.up.waiting()
     }
 
     /// The first `count` bytes were sent on to the server. Does not allocate.
+    #[tactic(auto, using(crate::proofs::LimitLemmas::up_there, crate::proofs::LimitLemmas::ups_sent))]
     pub fn sent_to_server(&mut self, count: usize)
         requires { count ≤ length (spec.up_of self.old) }
         ensures { self.new ≡ spec.up_sent count self.old }
     {
-        match &mut self.relay {
-            Some(relay) => relay.sent_to_server(count),
-            None => self.up.take(count),
-        }
+        self.up.take(count);
     }
 
     /// What came from the server and was not sent on. The caller must ensure that all that is to be written was written (`is_all_told`).
+    #[tactic(auto, using(crate::proofs::LimitLemmas::down_there))]
     pub fn to_client(&self) -> &[u8]
         requires { spec.IsTold self.now }
         ensures { result.now ≡ spec.down_of self.now }
     {
-        match &self.relay {
-            Some(relay) => relay.to_client(),
-            None => self.down.waiting(),
-        }
+        self.down.waiting()
     }
 
     /// The first `count` bytes were sent on to the client. The caller must ensure that all that is to be written was written. Does not allocate.
+    #[tactic(auto, using(crate::proofs::LimitLemmas::down_there, crate::proofs::LimitLemmas::downs_sent))]
     pub fn sent_to_client(&mut self, count: usize)
         requires told { spec.IsTold self.old }
         requires within { count ≤ length (spec.down_of self.old) }
         ensures { self.new ≡ spec.down_sent count self.old }
     {
-        match &mut self.relay {
-            Some(relay) => relay.sent_to_client(count),
-            None => self.down.take(count),
-        }
+        self.down.take(count);
     }
 }

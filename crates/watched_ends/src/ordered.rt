@@ -1,9 +1,8 @@
 // The text of what two recordings report, if the order between the two ends is known.
 
 ghost use Rattle.std.specs.Prelude.{◌≡◌, ◌≤◌, ◌+◌, ◌++◌, ◌∷◌, [], List, ℕ, length, take, IfOk, OnOk, MatchOption};
-ghost use Rattle.watched_ends.specs.Limits.{Limited};
+ghost use Rattle.watched_ends.specs.Names.{Limited, count_of, bytes_of, Pieces};
 ghost use Rattle.watched_ends.specs.Pieces as spec;
-ghost use Rattle.witness_judge.specs.Orders.{count_of, bytes_of, Pieces};
 
 use crate::limits::LimitedRelay;
 use crate::pieces::read_order;
@@ -77,7 +76,6 @@ fn come(
     }
 }
 
-/// All pieces come in turn, and are read. Fails only if out of memory.
 #[tactic(auto, using(crate::proofs::PieceLemmas::none_came))]
 fn come_all(
     relay: &mut LimitedRelay,

@@ -1,8 +1,7 @@
 // The order in which the bytes of both ends of a connection came, as a text.
 
 ghost use Rattle.std.specs.Prelude.{◌≡◌, ◌≤◌, ◌++◌, ◌∷◌, [], IfOk, MatchOption, OnOk};
-ghost use Rattle.fixed_um.specs.Calls.{Finds};
-ghost use Rattle.witness.specs.Texts.{side_field};
+ghost use Rattle.watched_ends.specs.Names.{Finds, side_field};
 ghost use Rattle.watched_ends.specs.Pieces as spec;
 
 use contact_ledger::fields::add_number;
@@ -17,7 +16,6 @@ pub const ORDER_HEADER: &[u8] = b"DME-ORDER 1\n";
 /// The most bytes that come at once.
 const MOST: u64 = u64::MAX;
 
-/// The mark of an end.
 fn mark_of(side: Side) -> &'static [u8]
     ensures { result.now ≡ side_field side }
 {

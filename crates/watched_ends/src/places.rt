@@ -1,8 +1,7 @@
 // Where the client uses each tag last.
 
 ghost use Rattle.std.specs.Prelude.{◌≡◌, ◌<◌, ◌≤◌, ◌+◌, ◌^◌, ℕ, List, false, if◌then◌else◌, length, drop, get_or, IfOk, OnOk};
-ghost use Rattle.witness.specs.Dialogues.{foreign_event};
-ghost use Rattle.witness_laws.specs.Orders.{at_once_line, some_sends};
+ghost use Rattle.watched_ends.specs.Names.{foreign_event, at_once_line, some_sends};
 ghost use Rattle.watched_ends.specs.Turns as spec;
 
 use dme_line::Tag;
@@ -13,7 +12,6 @@ use witness::{SentCommand, sent};
 /// How many tags have a place: five digits, or `E` and four.
 const TAGS: usize = 110_000;
 
-/// The place of a tag in a table.
 fn code_of(tag: Tag) -> usize
     ensures { result ≡ spec.code_of tag }
 {
@@ -58,7 +56,6 @@ fn note(alloc: Global, places: &mut Vec<usize>, at: usize, line: &[u8]) -> Resul
     }
 }
 
-/// The place after the last line that may be carried out at once, after one line more.
 fn quiet_after(quiet: usize, at: usize, once: bool) -> usize
     requires { at < 2 ^ 63 }
     ensures { result ≡ (if once then at + 1 else quiet) }
@@ -75,7 +72,6 @@ pub(crate) struct Later {
     pub(crate) quiet: usize,
 }
 
-/// What comes later in the lines of a client. Fails only if out of memory.
 pub(crate) fn later_of(alloc: Global, up: &[Line]) -> Result<Later, AllocError>
     ensures last { IfOk result (λ l. spec.AreLast up.now (length up.now) l.places.items) }
     ensures quiet { IfOk result (λ l. spec.AreQuiet up.now (length up.now) l.quiet) }

@@ -1,10 +1,8 @@
 // Lines of the client are read when a response needs them.
 
 ghost use Rattle.std.specs.Prelude.{◌≡◌, ◌<◌, ◌≤◌, ◌+◌, ◌++◌, ◌∷◌, [], ℕ, List, true, false, length, drop, IfOk, OnOk, IfSome};
-ghost use Rattle.dme_line.specs.Responses.{the_mark};
-ghost use Rattle.witness.specs.Asking.{signal_of};
+ghost use Rattle.watched_ends.specs.Names.{the_mark, signal_of, client_lines, server_lines, ledger};
 ghost use Rattle.witness.specs.Marks as marks;
-ghost use Rattle.witness.specs.Watching.{client_lines, server_lines, ledger};
 ghost use Rattle.witness_laws.specs.Orders as orders;
 ghost use Rattle.watched_ends.specs.Turns as spec;
 
@@ -14,7 +12,6 @@ use line_framing::Line;
 use std::alloc::{AllocError, Global};
 use witness::{Dialogue, Use};
 
-/// Whether a line of the client is open under a tag.
 fn is_open(tag: Tag, uses: &[Use]) -> bool
     ensures { result ≡ orders.is_open tag uses.now }
 {
@@ -33,14 +30,12 @@ fn has_failed(tag: Tag, uses: &[Use]) -> bool
     false
 }
 
-/// Whether a mark ends a command.
 fn is_end(mark: MarkSlice<'_>) -> bool
     ensures { result ≡ marks.is_end (signal_of (the_mark mark.entry)) }
 {
     matches!(mark, MarkSlice::Done)
 }
 
-/// Reads the next line of the client. Fails only if out of memory.
 fn read_next(dialogue: &mut Dialogue, up: &[Line], next: usize) -> Result<(), AllocError>
     requires { next < length up.now }
     ensures { (down : List (List ℕ)) → spec.AreTaken up.now next down dialogue.old
@@ -49,7 +44,6 @@ fn read_next(dialogue: &mut Dialogue, up: &[Line], next: usize) -> Result<(), Al
     dialogue.client_line(up[next].as_slice())
 }
 
-/// Reads the lines of the client between two places. Fails only if out of memory.
 fn read_to(dialogue: &mut Dialogue, up: &[Line], next: usize, end: usize) -> Result<(), AllocError>
     requires ordered { next ≤ end }
     requires within { end ≤ length up.now }
@@ -212,7 +206,6 @@ pub(crate) fn heard_in_turn(
     Ok(Some(dialogue))
 }
 
-/// Reads lines of the client. Fails only if out of memory.
 fn read_client(dialogue: &mut Dialogue, up: &[Line]) -> Result<(), AllocError>
     ensures { OnOk result (dialogue.new ≡ client_lines dialogue.old up.now) }
 {
@@ -222,7 +215,6 @@ fn read_client(dialogue: &mut Dialogue, up: &[Line]) -> Result<(), AllocError>
     Ok(())
 }
 
-/// Reads lines of the server. Fails only if out of memory.
 fn read_server(dialogue: &mut Dialogue, down: &[Line]) -> Result<(), AllocError>
     ensures { OnOk result (dialogue.new ≡ server_lines dialogue.old down.now) }
 {

@@ -1,5 +1,5 @@
 -- What follows for the whole course of a relay.
-use Rattle.std.proofs.Common.{◌≡◌, ℕ, zero, suc, Bool, true, List, [], ◌++◌, take, drop, map, Result, Ok, Err}
+use Rattle.std.proofs.Common.{◌≡◌, ◌≤◌, ℕ, zero, suc, length, Bool, true, List, [], ◌++◌, take, drop, map, Result, Ok, Err}
 use Rattle.std.proofs.Common.{OnOk, OnErr, refl, ap, sym, ◌∙◌, subst, append_assoc, append-nil}
 use Rattle.std.proofs.lemmas.List.{take-append-drop}
 use Rattle.std.proofs.lemmas.List.{map-append}
@@ -15,7 +15,7 @@ use Rattle.witness.specs.Relaying.{Reads, none, client, server, IsClientRead, Is
 use Rattle.witness.specs.Relaying.{IsHeard, silent, came_up, came_down, read}
 use Rattle.witness.specs.Texts.{told_line, told_lines, numbered}
 use Rattle.witness.specs.Watching.{Watching, unwatched, client_read, server_read, client_times, server_times}
-use Rattle.witness.specs.Watching.{ReadsClient, ReadsServer, AreAllRead, came}
+use Rattle.witness.specs.Watching.{ReadsClient, ReadsServer, ReadsWithin, then_one, AreAllRead, IsFew, came}
 use Rattle.witness.specs.declared.lines.Reported.{Reported}
 
 -- ---- reading
@@ -55,20 +55,20 @@ pub client_stays : (old new : Watching) → ReadsServer old new → IsClientRead
 client_stays old new reads ended =
     still_read old new (ap (λ (w : Watching). w.up) reads.1 ∙ up_stays reads.0 old) ended
 
--- what is read last may be a fault
-pub client_last : {A E : Type 0} (old so_far new : Watching) (r : Result A E) → ReadsClient old so_far
-    → OnOk r (new ≡ client_read so_far) → OnErr r (new ≡ so_far) → ReadsClient old new
-client_last old so_far new (Ok x) reads ok err = (suc reads.0, ok ∙ ap client_read reads.1)
-client_last old so_far new (Err e) reads ok err = (reads.0, err ∙ reads.1)
+pub line_within : (most : ℕ) (old w new : Watching) → ReadsWithin most old w → IsLineDue (next_of w.up.rest) → new ≡ client_read w
+    → length new.dialogue.uses ≤ most → ReadsWithin most old new
+line_within most old w new within due e few =
+    subst (ReadsWithin most old) (sym e) (then_one w within due (subst (λ (v : Watching). length v.dialogue.uses ≤ most) e few))
 
+pub few_stays : (old new : Watching) → ReadsServer old new → IsFew old.up → IsFew new.up
+few_stays old new reads few =
+    subst (λ (f : Framing). IsFew f) (sym (ap (λ (w : Watching). w.up) reads.1 ∙ up_stays reads.0 old)) few
+
+-- what is read last may be a fault
 pub server_last : {A E : Type 0} (old so_far new : Watching) (r : Result A E) → ReadsServer old so_far
     → OnOk r (new ≡ server_read so_far) → OnErr r (new ≡ so_far) → ReadsServer old new
 server_last old so_far new (Ok x) reads ok err = (suc reads.0, ok ∙ ap server_read reads.1)
 server_last old so_far new (Err e) reads ok err = (reads.0, err ∙ reads.1)
-
-pub either_way : {A E P : Type 0} (r : Result A E) → P → OnOk r P
-either_way (Ok x) p = p
-either_way (Err e) p = tt
 
 -- ---- what is sent on came
 

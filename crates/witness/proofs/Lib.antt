@@ -9,4 +9,5 @@ pub mod SendSteps
 pub mod Exactness
 pub mod TextPieces
 pub mod Prefixes
+pub mod Kept
 pub mod Courses

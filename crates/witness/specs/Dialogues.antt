@@ -139,6 +139,11 @@ client_sent d line (Some (tag, what)) = sent_tagged d line tag what
 abbrev pub use_renewed : (Known → Known) → Use → Use
 use_renewed f u = record u { known = f u.known }
 
+-- a line, if a mark for it is a fault
+abbrev pub if_early : Bool → Use → Use
+if_early true u = use_renewed (all_renewed Fault) u
+if_early false u = u
+
 abbrev pub faulting : Dialogue → Reported → Dialogue
 faulting d report = record {
   ordered = d.ordered;

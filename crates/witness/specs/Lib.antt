@@ -8,3 +8,4 @@ pub mod Watching
 pub mod Texts
 pub mod Relaying
 pub mod Examples
+pub mod Names

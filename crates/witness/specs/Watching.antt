@@ -1,7 +1,7 @@
 -- The bytes of both ends of a connection, and what they report (this profile).
-use Rattle.std.specs.Prelude.{◌≡◌, ℕ, zero, suc, Bool, false, List, [], ◌∷◌, Some, None, Ok, Err}
+use Rattle.std.specs.Prelude.{◌≡◌, ◌<◌, ◌≤◌, ℕ, zero, suc, length, Bool, false, List, [], ◌∷◌, Some, None, Ok, Err}
 use Rattle.line_framing.specs.Next.{Front, next_of}
-use Rattle.line_framing.specs.Framing.{Framing, IsLineDue, no_bytes, fed, after_next}
+use Rattle.line_framing.specs.Framing.{Framing, IsLineDue, no_bytes, fed}
 use Rattle.witness.specs.Asking.{client_line, server_line}
 use Rattle.witness.specs.Dialogues.{Dialogue, silence, after}
 
@@ -14,6 +14,22 @@ pub record Watching : Type 0 where
 -- a connection without a byte; whether the order between the lines of its two ends is known
 abbrev pub unwatched : Bool → Watching
 unwatched ordered = record { up = no_bytes; down = no_bytes; dialogue = silence ordered }
+
+-- the bytes of an end after what is at their front was read: of bytes that are no line nothing is kept, nor of what follows them
+abbrev pub left_after : Front → Framing → Framing
+left_after (Ok None) f = f
+left_after (Ok (Some (line, rest))) f = record f { rest = rest }
+left_after (Err fault) f = record { rest = []; fault = Some fault }
+
+abbrev pub after_first : Framing → Framing
+after_first f = left_after (next_of f.rest) f
+
+-- the bytes that are kept of a line without its end, of at most 65,536 bytes and perhaps the CR of its end
+abbrev pub IsFew : Framing → Type 0
+IsFew f = length f.rest ≤ 65537
+
+abbrev pub KeepsFew : Watching → Type 0
+KeepsFew w = IsFew w.up × IsFew w.down
 
 -- the first line of the client, if there is one
 abbrev pub client_front : Dialogue → Front → Dialogue
@@ -28,11 +44,11 @@ server_front d (Err fault) = d
 
 -- what is at the front of the client's bytes is read
 abbrev pub client_read : Watching → Watching
-client_read w = record { up = after_next w.up; down = w.down; dialogue = client_front w.dialogue (next_of w.up.rest) }
+client_read w = record { up = after_first w.up; down = w.down; dialogue = client_front w.dialogue (next_of w.up.rest) }
 
 -- what is at the front of the server's bytes is read
 abbrev pub server_read : Watching → Watching
-server_read w = record { up = w.up; down = after_next w.down; dialogue = server_front w.dialogue (next_of w.down.rest) }
+server_read w = record { up = w.up; down = after_first w.down; dialogue = server_front w.dialogue (next_of w.down.rest) }
 
 -- lines of one end, one after another
 abbrev pub client_lines : Dialogue → List (List ℕ) → Dialogue
@@ -64,6 +80,27 @@ ReadsClient old new = (n : ℕ) × (new ≡ client_times n old)
 
 abbrev pub ReadsServer : Watching → Watching → Type 0
 ReadsServer old new = (n : ℕ) × (new ≡ server_times n old)
+
+-- likewise the client's, with at most that many of its lines open after each
+pub data ReadsWithin (most : ℕ) (old : Watching) : Watching → Type 0 where
+  at_first : ReadsWithin most old old
+  then_one : (w : Watching) → ReadsWithin most old w → IsLineDue (next_of w.up.rest)
+      → length (client_read w).dialogue.uses ≤ most → ReadsWithin most old (client_read w)
+
+-- one line more, after which more are open
+pub record IsFirstPast (most : ℕ) (old new : Watching) : Type 0 where
+  pub before : Watching
+  pub within : ReadsWithin most old before
+  pub due : IsLineDue (next_of before.up.rest)
+  pub read : new ≡ client_read before
+  pub past : most < length new.dialogue.uses
+
+-- all of them, and then a fault if one follows them
+pub record AreAllWithin (most : ℕ) (old new : Watching) : Type 0 where
+  pub before : Watching
+  pub within : ReadsWithin most old before
+  pub ended : IsLineDue (next_of before.up.rest) → ⊥
+  pub read : new ≡ client_read before
 
 -- a connection on which these bytes came
 abbrev pub came : Bool → List ℕ → List ℕ → Watching

@@ -1,23 +1,19 @@
 // What a line of a client asks for.
 
 ghost use Rattle.std.specs.Prelude.{◌≡◌, ◌≤◌, length, drop, IfOk};
-ghost use Rattle.std.specs.List.{prefix_len};
-ghost use Rattle.dme_line.specs.CommandText.{is_name_part};
-ghost use Rattle.protocol_model.specs.Readings.{command_of};
+ghost use Rattle.witness.specs.Names.{prefix_len, is_name_part, command_of};
 ghost use Rattle.witness.specs.Asking as spec;
 
 use crate::lines::SentCommand;
 use dme_line::{LineFault, Tag, Text, read_command};
 use std::alloc::{AllocError, Global};
 
-/// Whether a byte belongs to a command's name.
 fn is_name_part(byte: u8) -> bool
     ensures { result ≡ is_name_part byte }
 {
     byte != b' ' && byte != b'('
 }
 
-/// How many bytes of a text are its command's name.
 fn name_len(text: &[u8]) -> usize
     ensures count { result ≡ prefix_len is_name_part text.now }
     ensures within { result ≤ length text.now }
@@ -25,7 +21,6 @@ fn name_len(text: &[u8]) -> usize
     text.iter().take_while(|byte| is_name_part(**byte)).count()
 }
 
-/// Whether an opening parenthesis comes first, after any number of spaces.
 fn opens(text: &[u8]) -> bool
     ensures { result ≡ spec.opens text.now }
 {
@@ -72,28 +67,20 @@ fn asks_setting(name: &[u8]) -> bool
         || name.eq_ignore_ascii_case(b"EnumCoordSystem")
 }
 
-/// Whether the text after a tag and its space is a command that changes neither tool nor frame (this profile's list): its name in any case, and an
+/// Whether a line is, after its tag and a space, a command that changes neither tool nor frame (this profile's list): its name in any case, and an
 /// opening parenthesis, with any number of spaces between the two. Does not allocate.
-pub fn only_asks(text: &[u8]) -> bool
-    ensures { result ≡ spec.is_asking text.now }
+pub fn only_asks(line: &[u8]) -> bool
+    ensures { result ≡ spec.is_asking (drop 6 line.now) }
 {
+    let (_, text) = line.split_at(line.len().min(6));
     let (name, rest) = text.split_at(name_len(text));
     (asks_value(name) || asks_state(name) || asks_setting(name)) && opens(rest)
 }
 
-/// What follows a tag and its space.
-fn after_tag(line: &[u8]) -> &[u8]
-    ensures { result.now ≡ drop 6 line.now }
-{
-    let (_, text) = line.split_at(line.len().min(6));
-    text
-}
-
-/// What a line with a tag asks for whose name this profile does not know.
 fn unknown(alloc: Global, line: &[u8]) -> Result<SentCommand, AllocError>
     ensures { IfOk result (λ command. command ≡ spec.unknown line.now) }
 {
-    if only_asks(after_tag(line)) {
+    if only_asks(line) {
         return Ok(SentCommand::Asking);
     }
     Ok(SentCommand::Foreign(Text::new(alloc, line)?))

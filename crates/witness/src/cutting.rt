@@ -1,7 +1,7 @@
 // Bytes as lines.
 
 ghost use Rattle.std.specs.Prelude.{ℕ, List, IfOk};
-ghost use Rattle.line_framing.specs.Stream.{IsStream};
+ghost use Rattle.witness.specs.Names.{IsStream};
 
 use line_framing::{FramingFault, Line, Lines, LinesFault};
 use std::alloc::{AllocError, Global};

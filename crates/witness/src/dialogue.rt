@@ -1,22 +1,15 @@
 // The lines of both ends of a connection, one at a time.
 
 ghost use Rattle.std.specs.Prelude.{◌≡◌, ◌<◌, ◌++◌, ◌==◌, ◌^◌, ◌+◌, [], true, length, map, slice_get, OnOk, OnErr, IfOk, IfSome, Some, if◌then◌else◌, vec_len, vec_capacity};
-ghost use Rattle.std.specs.List.{list_any};
-ghost use Rattle.fixed_um.specs.Calls.{Leads};
-ghost use Rattle.dme_line.specs.Responses.{the_mark};
-ghost use Rattle.witness.specs.Asking.{client_line, server_line, signal_of};
+ghost use Rattle.witness.specs.Names.{list_any, Leads, the_mark, client_line, server_line, signal_of, all_renewed, nothing, is_foreign};
 ghost use Rattle.witness.specs.Dialogues as spec;
-ghost use Rattle.witness.specs.Known.{all_renewed, nothing};
-ghost use Rattle.witness.specs.Marks.{is_foreign};
 
 use crate::asking::sent;
 use crate::effects::reported_by;
 use crate::known::{copied, fresh, go_below, nothing, renew};
 use crate::lines::{Heard, Known, Renewal, Reported, Rule, SentCommand, Side, Stage, Use};
 use crate::marks::{heard_as, is_end, is_foreign};
-use crate::uses::{
-    forget, is_out_of_turn, known_after, known_after_fault, last_under, mark_all, renew_all,
-};
+use crate::uses::{forget, is_out_of_turn, known_after, last_under, mark_all, renew_all};
 use dme_line::{MarkSlice, Tag, Text, cut_response};
 use std::alloc::{AllocError, Global};
 use std::marker::Model;
@@ -43,14 +36,12 @@ impl Model for Dialogue {
     ghost view = { λ d. record { ordered = d.ordered; lines = d.lines; uses = d.uses.items; events = d.events.items; crossed = d.crossed; known = d.known; reported = d.reported.items } };
 }
 
-/// Whether an event tag of this number was used.
 fn is_used(events: &[u16], number: u16) -> bool
     ensures { result ≡ list_any (λ m. m == number) events.now }
 {
     events.iter().any(|used| *used == number)
 }
 
-/// Notes an event tag, if it was not used before.
 fn note_event(events: &mut Vec<u16>, tag: Tag)
     requires { vec_len events.old < vec_capacity events.old }
     ensures { events.new.items ≡ spec.with_event tag events.old.items }
@@ -62,7 +53,6 @@ fn note_event(events: &mut Vec<u16>, tag: Tag)
     }
 }
 
-/// Whether a line is foreign and under an event tag.
 fn foreign_event(tag: Tag, command: &SentCommand) -> bool
     ensures event { result ≡ spec.foreign_event tag command.now }
     ensures foreign { result ≡ true → is_foreign command.now ≡ true }
@@ -84,7 +74,6 @@ fn rival_of(before: Option<(u64, bool)>) -> (Option<u64>, bool)
     }
 }
 
-/// Whether data under an event tag that was used are a report by event.
 fn is_report(events: &[u16], tag: Tag, mark: MarkSlice<'_>) -> bool
     ensures { result ≡ spec.is_report tag (signal_of (the_mark mark.entry)) events.now }
 {
@@ -94,7 +83,6 @@ fn is_report(events: &[u16], tag: Tag, mark: MarkSlice<'_>) -> bool
     }
 }
 
-/// Adds a report, if there is one.
 fn add_reserved(reported: &mut Vec<Reported>, report: Option<Reported>)
     requires { vec_len reported.old < vec_capacity reported.old }
     ensures { reported.new.items ≡ reported.old.items ++ spec.listed report }
@@ -104,7 +92,6 @@ fn add_reserved(reported: &mut Vec<Reported>, report: Option<Reported>)
     }
 }
 
-/// Removes the line at a place, if it has ended.
 fn remove_ended(uses: &mut Vec<Use>, at: usize, is_end: bool)
     requires { at < length uses.old.items }
     ensures { uses.new.items ≡ spec.left_over uses.old.items at is_end }
@@ -154,7 +141,6 @@ impl Dialogue {
 
     // ---- a line of the client
 
-    /// What may be known for a line that is sent now.
     fn known_now(&self, is_lost: bool) -> Result<Known, AllocError>
         ensures { IfOk result (λ known. known ≡ (if is_lost then nothing else self.now.known)) }
     {
@@ -164,7 +150,6 @@ impl Dialogue {
         copied(self.alloc, &self.known)
     }
 
-    /// A command is sent under a tag. Fails only if out of memory.
     fn send(&mut self, tag: Tag, command: SentCommand) -> Result<(), AllocError>
         requires { self.old.lines + 1 < 2 ^ 64 }
         ensures { Leads result self.old self.new (spec.sending self.old tag command) }
@@ -225,7 +210,6 @@ impl Dialogue {
         Ok(())
     }
 
-    /// A line without a valid tag is sent. Fails only if out of memory.
     fn send_untagged(&mut self, line: &[u8]) -> Result<(), AllocError>
         requires { self.old.lines + 1 < 2 ^ 64 }
         ensures { Leads result self.old self.new (spec.one_more (spec.at_once self.old line.now)) }
@@ -260,7 +244,6 @@ impl Dialogue {
 
     // ---- a line of the server
 
-    /// A fault of the server is reported. Fails only if out of memory.
     fn fault(&mut self, report: Reported) -> Result<(), AllocError>
         ensures { Leads result self.old self.new (spec.faulting self.old report) }
     {
@@ -269,7 +252,6 @@ impl Dialogue {
         Ok(())
     }
 
-    /// The command that was sent first of those that are open under a tag.
     fn place_of(&self, tag: Tag) -> Option<usize>
         ensures place { result ≡ spec.first_under tag self.now.uses }
         ensures within { IfSome result (λ at. at < length self.now.uses) }
@@ -289,43 +271,26 @@ impl Dialogue {
         self.fault(Reported::Unasked(line))
     }
 
-    /// What a mark reports of a line, with what may be known for it. Fails only if out of memory.
-    fn report_with(
-        &self,
-        used: &Use,
-        known: &Known,
-        heard: &Heard,
-    ) -> Result<Option<Reported>, AllocError>
+    /// What a mark reports of its line; `early`: the mark is a fault. Fails only if out of memory.
+    fn report(&self, used: &Use, heard: &Heard, early: bool) -> Result<Option<Reported>, AllocError>
         ensures { IfOk result (λ report. spec.listed report
-            ≡ spec.reported_by (spec.unless_crossed self.now.crossed known.now)
+            ≡ spec.reported_by (spec.unless_crossed self.now.crossed
+            (spec.use_heard used.now.line heard.now (spec.if_early early used.now)).known)
             used.now.tag used.now.command used.now.stage heard.now) }
     {
-        let (alloc, stage) = (self.alloc, used.stage);
-        if self.crossed {
-            return reported_by(alloc, &nothing(), used.tag, &used.command, stage, *heard);
-        }
-        reported_by(alloc, known, used.tag, &used.command, stage, *heard)
-    }
-
-    /// What a mark reports of its line. Fails only if out of memory.
-    fn report(&self, used: &Use, heard: &Heard) -> Result<Option<Reported>, AllocError>
-        ensures { IfOk result (λ report. spec.listed report ≡ spec.reported_by
-            (spec.unless_crossed self.now.crossed (spec.use_heard used.now.line heard.now used.now).known)
-            used.now.tag used.now.command used.now.stage heard.now) }
-    {
-        let known = known_after(self.alloc, used, heard)?;
-        self.report_with(used, &known, heard)
-    }
-
-    /// Likewise if the mark is a fault. Fails only if out of memory.
-    fn report_early(&self, used: &Use, heard: &Heard) -> Result<Option<Reported>, AllocError>
-        ensures { IfOk result (λ report. spec.listed report
-            ≡ spec.reported_by (spec.unless_crossed self.now.crossed (spec.use_heard used.now.line heard.now
-            (spec.use_renewed (all_renewed Renewal.Fault) used.now)).known)
-            used.now.tag used.now.command used.now.stage heard.now) }
-    {
-        let known = known_after_fault(self.alloc, used, heard)?;
-        self.report_with(used, &known, heard)
+        let known = if self.crossed {
+            nothing()
+        } else {
+            known_after(self.alloc, used, heard, early)?
+        };
+        reported_by(
+            self.alloc,
+            &known,
+            used.tag,
+            &used.command,
+            used.stage,
+            *heard,
+        )
     }
 
     /// All lines after a mark for the one at a place, on this line of the connection. Does not allocate.
@@ -341,14 +306,13 @@ impl Dialogue {
         renew(&mut self.known, &Renewal::Mark(line, *heard));
     }
 
-    /// A mark for the line at a place, in its turn. Fails only if out of memory.
     fn hear(&mut self, at: usize, heard: &Heard, is_end: bool) -> Result<(), AllocError>
         requires { at < length self.old.uses }
         ensures { (u : Use) → slice_get self.old.uses at ≡ Some u
             → Leads result self.old self.new (spec.hearing self.old at u heard.now is_end) }
     {
         let line = self.uses[at].line;
-        let report = self.report(&self.uses[at], heard)?;
+        let report = self.report(&self.uses[at], heard, false)?;
         self.reported.reserve(1)?;
         add_reserved(&mut self.reported, report);
         self.settle(at, line, heard, is_end);
@@ -366,7 +330,6 @@ impl Dialogue {
         renew(&mut self.known, &Renewal::Fault);
     }
 
-    /// A mark for the line at a place, out of turn. Fails only if out of memory.
     fn hear_early(&mut self, at: usize, heard: &Heard, is_end: bool) -> Result<(), AllocError>
         requires { at < length self.old.uses }
         ensures { (u : Use) → slice_get self.old.uses at ≡ Some u
@@ -375,7 +338,7 @@ impl Dialogue {
             (spec.use_renewed (all_renewed Renewal.Fault) u) heard.now is_end) }
     {
         let (line, tag) = (self.uses[at].line, self.uses[at].tag);
-        let report = self.report_early(&self.uses[at], heard)?;
+        let report = self.report(&self.uses[at], heard, true)?;
         self.reported.reserve(2)?;
         self.reported
             .push_reserved(Reported::Broken(Rule::NotInTurn, tag));
@@ -385,7 +348,6 @@ impl Dialogue {
         Ok(())
     }
 
-    /// Whether a mark for the line at a place comes out of turn.
     fn is_early(&self, at: usize, heard: &Heard) -> bool
         requires { at < length self.now.uses }
         ensures { (u : Use) → slice_get self.now.uses at ≡ Some u
@@ -394,7 +356,6 @@ impl Dialogue {
         is_out_of_turn(self.uses.as_slice(), at, &self.uses[at], heard)
     }
 
-    /// A mark for the line at a place, in its turn or not. Fails only if out of memory.
     fn hear_either(&mut self, at: usize, heard: &Heard, is_end: bool) -> Result<(), AllocError>
         requires { at < length self.old.uses }
         ensures { (u : Use) → slice_get self.old.uses at ≡ Some u
@@ -406,7 +367,6 @@ impl Dialogue {
         self.hear(at, heard, is_end)
     }
 
-    /// A mark for the line at a place. Fails only if out of memory.
     fn hear_at(&mut self, at: usize, mark: MarkSlice<'_>) -> Result<(), AllocError>
         requires { at < length self.old.uses }
         ensures { Leads result self.old self.new

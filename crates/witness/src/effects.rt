@@ -12,7 +12,6 @@ use fixed_um::{Dir, Frame, Name, Point};
 use protocol_model::Datum;
 use std::alloc::{AllocError, Global};
 
-/// A move, in the frame that is known.
 fn moved(target: Point, frame: Option<Frame>) -> Reported
     ensures { result ≡ spec.moved target frame }
 {
@@ -22,7 +21,6 @@ fn moved(target: Point, frame: Option<Frame>) -> Reported
     }
 }
 
-/// A frame that is selected.
 fn framed(frame: Option<Frame>) -> Reported
     ensures { result ≡ spec.framed frame }
 {
@@ -32,7 +30,6 @@ fn framed(frame: Option<Frame>) -> Reported
     }
 }
 
-/// A touch, with the tool and in the frame that are known.
 fn touched(
     tool: Option<Name>,
     frame: Option<Frame>,
@@ -60,7 +57,6 @@ fn touched(
     }
 }
 
-/// The act of a command that is complete, with its data.
 fn act_of(
     alloc: Global,
     known: &Known,
@@ -87,7 +83,6 @@ fn act_of(
     }
 }
 
-/// What a step of a command under a tag reports.
 fn report_of(
     alloc: Global,
     known: &Known,
@@ -105,7 +100,6 @@ fn report_of(
     }
 }
 
-/// A line that is not known, at its first mark.
 fn other_at(
     alloc: Global,
     tag: Tag,
@@ -123,7 +117,6 @@ fn other_at(
     }
 }
 
-/// What a mark reports of what was asked, with what is known for it.
 pub(crate) fn reported_by(
     alloc: Global,
     known: &Known,

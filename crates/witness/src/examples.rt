@@ -1,11 +1,8 @@
 // Examples: lines that are written out as values, and what is known of each of their contacts. Each falls if its rule loses a word.
 
 ghost use Rattle.std.specs.Prelude.{◌≡◌, [], ◌∷◌, ◌++◌, true, false, codes, Some, None, pos, negsuc};
-ghost use Rattle.fixed_um.specs.declared.frames.Frame.TheVariants.{Machine, Part};
+ghost use Rattle.witness.specs.Names.{Machine, Part, Ack, Done, Error, known_in, asks, tool, other_tool, machine, part, zero_point, touch, foreign, asking, event, untagged, hears, hears_event, given, done, touched, no_response, ready, both, neither, Known, Asking, Foreign};
 ghost use Rattle.dme_line.specs.declared.commands.Command.TheVariants as command;
-ghost use Rattle.witness.specs.Asking.{Ack, Done, Error};
-ghost use Rattle.witness.specs.Examples.{known_in, asks, tool, other_tool, machine, part, zero_point, touch, foreign, asking, event, untagged, hears, hears_event, given, done, touched, no_response, ready, both, neither};
-ghost use Rattle.witness.specs.declared.lines.SentCommand.TheVariants.{Known, Asking, Foreign};
 
 /// Two changes whose ends cross: neither is known, nor what had begun before; a change that begins after that is.
 pub fn changes_must_end_in_turn()

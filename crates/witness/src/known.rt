@@ -1,7 +1,7 @@
 // Changes of tool and frame that may hold for a line, and what becomes of them.
 
 ghost use Rattle.std.specs.Prelude.{◌≡◌, false, IfOk};
-ghost use Rattle.fixed_um.specs.Calls.{Leads};
+ghost use Rattle.witness.specs.Names.{Leads};
 ghost use Rattle.witness.specs.Known as spec;
 
 use crate::lines::{Heard, Known, Progress, Renewal, SentCommand, Standing};
@@ -10,7 +10,6 @@ use dme_line::{Command, Csy};
 use fixed_um::{Frame, Name, Point};
 use std::alloc::{AllocError, Global};
 
-/// Nothing may be known.
 pub(crate) fn nothing() -> Known
     ensures { result ≡ spec.nothing }
 {
@@ -69,7 +68,6 @@ pub(crate) fn is_rival(line: u64, rival: Option<u64>) -> bool
     }
 }
 
-/// What becomes of a change; nothing if it does not hold any more.
 fn renewed(by: &Renewal, standing: Standing) -> Option<Standing>
     ensures { result ≡ spec.renewed by.now standing }
 {
@@ -88,27 +86,19 @@ fn renewed(by: &Renewal, standing: Standing) -> Option<Standing>
     }
 }
 
-/// What is changed to, with how far it is.
 fn with_standing<A: Drop>(to: A, standing: Option<Standing>) -> Option<(A, Standing)>
     ensures { result ≡ spec.standing to standing }
 {
-    match standing {
-        Some(standing) => Some((to, standing)),
-        None => None,
-    }
+    Some((to, standing?))
 }
 
-/// What becomes of what may be known of one thing.
 fn one_renewed<A: Drop>(by: &Renewal, one: Option<(A, Standing)>) -> Option<(A, Standing)>
     ensures { result ≡ spec.one_renewed by.now one }
 {
-    match one {
-        Some((to, standing)) => with_standing(to, renewed(by, standing)),
-        None => None,
-    }
+    let (to, standing) = one?;
+    with_standing(to, renewed(by, standing))
 }
 
-/// Whether a mark for the line of this number may change what may be known of one thing.
 fn stands_on<A>(one: &Option<(A, Standing)>, line: u64) -> bool
     ensures { result ≡ false → (h : Heard) → spec.one_renewed (Renewal.Mark line h) one.now ≡ one.now }
 {
@@ -118,7 +108,7 @@ fn stands_on<A>(one: &Option<(A, Standing)>, line: u64) -> bool
     }
 }
 
-/// Whether it may change any of what may be known.
+/// Whether a mark for the line of this number may change any of what may be known.
 pub(crate) fn stand_on(known: &Known, line: u64) -> bool
     ensures { result ≡ false → (h : Heard)
         → spec.all_renewed (Renewal.Mark line h) known.now ≡ known.now }
@@ -129,7 +119,6 @@ pub(crate) fn stand_on(known: &Known, line: u64) -> bool
         || stands_on(&known.zero, line)
 }
 
-/// Renews all that may be known.
 pub(crate) fn renew(known: &mut Known, by: &Renewal)
     ensures { known.new ≡ spec.all_renewed by.now known.old }
 {
@@ -155,7 +144,6 @@ pub(crate) fn fresh(line: u64, rival: Option<u64>, is_lost: bool) -> Option<Stan
     })
 }
 
-/// The selection that may hold after a part's zero point was stored.
 fn unless_part(csy: Option<(Csy, Standing)>) -> Option<(Csy, Standing)>
     ensures { result ≡ spec.unless_part csy }
 {
@@ -165,7 +153,6 @@ fn unless_part(csy: Option<(Csy, Standing)>) -> Option<(Csy, Standing)>
     }
 }
 
-/// Changes what may be known to that below a command that was just sent. Fails only if out of memory.
 fn go_below_command(
     alloc: Global,
     known: &mut Known,
@@ -212,20 +199,16 @@ pub(crate) fn go_below(
 
 // ---- what is known
 
-/// What a change selects that is done.
 fn done<A: Copy>(one: Option<(A, Standing)>) -> Option<A>
     ensures { result ≡ spec.done one }
 {
-    match one {
-        Some((to, standing)) => match standing.progress {
-            Progress::Done => Some(to),
-            Progress::Sent | Progress::Begun => None,
-        },
-        None => None,
+    let (to, standing) = one?;
+    match standing.progress {
+        Progress::Done => Some(to),
+        Progress::Sent | Progress::Begun => None,
     }
 }
 
-/// The frame of a coordinate system, with this zero point of the part.
 fn frame_in(csy: Csy, zero: Option<Point>) -> Option<Frame>
     ensures { result ≡ spec.frame_in csy zero }
 {
@@ -243,17 +226,12 @@ pub(crate) fn frame_below(known: &Known, csy: Csy) -> Option<Frame>
     frame_in(csy, done(known.zero))
 }
 
-/// The frame that is known.
 pub(crate) fn frame_of(known: &Known) -> Option<Frame>
     ensures { result ≡ spec.frame_of known.now }
 {
-    match done(known.csy) {
-        Some(csy) => frame_in(csy, done(known.part)),
-        None => None,
-    }
+    frame_in(done(known.csy)?, done(known.part))
 }
 
-/// The tool that is known, with a name of its own. Fails only if out of memory.
 pub(crate) fn tool_of(alloc: Global, known: &Known) -> Result<Option<Name>, AllocError>
     ensures { IfOk result (λ tool. tool ≡ spec.tool_of known.now) }
 {
@@ -266,7 +244,6 @@ pub(crate) fn tool_of(alloc: Global, known: &Known) -> Result<Option<Name>, Allo
     }
 }
 
-/// A copy of what may be known. Fails only if out of memory.
 pub(crate) fn copied(alloc: Global, known: &Known) -> Result<Known, AllocError>
     ensures { IfOk result (λ copy. copy ≡ known.now) }
 {

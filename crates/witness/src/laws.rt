@@ -1,12 +1,7 @@
 // What follows from the definitions. Each function has a law for its contract and does nothing.
 
 ghost use Rattle.std.specs.Prelude.{◌≡◌, ℕ, Bool, true, List, ◌++◌};
-ghost use Rattle.witness.specs.Asking.{Line};
-ghost use Rattle.witness.specs.Dialogues.{after_all};
-ghost use Rattle.witness.specs.Relaying.{Relaying, Course, Relays, IsAllTold, IsToldOf};
-ghost use Rattle.witness.specs.Rules.{all_reported, witnessed};
-ghost use Rattle.witness.specs.Texts.{told_lines};
-ghost use Rattle.witness.specs.Watching.{Watching, AreAllRead};
+ghost use Rattle.witness.specs.Names.{Line, after_all, Relaying, Course, Relays, IsAllTold, IsToldOf, all_reported, witnessed, told_lines, Watching, AreAllRead};
 
 /// After any lines of both ends, given with the newest first, a witness keeps and reports just what the rules say, which look back over all
 /// these lines: whether the order between the two ends is known or not.

@@ -6,9 +6,8 @@
 //! - `known`: what becomes of the changes of tool and frame that may hold
 //! - `effects`: what a mark reports of its command
 //! - `uses`: what a mark or a fault does to the lines that are open
-//! - `dialogue`: `Dialogue`, the lines of both ends, one at a time; `witness`: `Witness`, their bytes
+//! - `dialogue`: `Dialogue`, the lines of both ends, one at a time; `ends`, `witness`: `Witness`, their bytes
 //! - `writing`: the text of what was reported
-//! - `relay`: `Relay`, which sends on what comes, and has what is reported written first
 //! - `laws`: what follows for all lines, and for the whole course of a relay; `examples`: what is known after lines that are written out
 #![tactic(auto)]
 
@@ -16,12 +15,12 @@ mod asking;
 mod cutting;
 mod dialogue;
 mod effects;
+mod ends;
 pub mod examples;
 mod known;
 pub mod laws;
 pub mod lines;
 mod marks;
-mod relay;
 mod uses;
 mod witness;
 mod writing;
@@ -30,6 +29,5 @@ pub use asking::{only_asks, sent};
 pub use cutting::cut_lines;
 pub use dialogue::Dialogue;
 pub use lines::{Known, Reported, Rule, SentCommand, Side, Use};
-pub use relay::Relay;
 pub use witness::Witness;
 pub use writing::{HEADER, add_all, add_told};

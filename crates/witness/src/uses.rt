@@ -1,10 +1,8 @@
 // Lines of a client that are open, and what becomes of them.
 
 ghost use Rattle.std.specs.Prelude.{◌≡◌, ◌<◌, ◌&&◌, None, map, take, length, IfOk, if◌then◌else◌};
-ghost use Rattle.std.specs.List.{list_any};
+ghost use Rattle.witness.specs.Names.{list_any, all_renewed, is_rival, nothing, is_error};
 ghost use Rattle.witness.specs.Dialogues as spec;
-ghost use Rattle.witness.specs.Known.{all_renewed, is_rival, nothing};
-ghost use Rattle.witness.specs.Marks.{is_error};
 
 use crate::known::{copied, is_rival, nothing, renew, stand_on};
 use crate::lines::{Heard, Known, Renewal, Use};
@@ -12,7 +10,6 @@ use crate::marks::{has_turn, is_answer, is_error, is_foreign, stage_with};
 use dme_line::Tag;
 use std::alloc::{AllocError, Global};
 
-/// The command that was sent last under a tag, if this was sent after the one found.
 fn later(tag: Tag, used: &Use, found: Option<(u64, bool)>) -> Option<(u64, bool)>
     ensures { result ≡ spec.later tag used.now found }
 {
@@ -42,7 +39,6 @@ pub(crate) fn forget(uses: &mut [Use])
     }
 }
 
-/// Renews what may be known for these lines.
 pub(crate) fn renew_all(uses: &mut [Use], by: &Renewal)
     ensures { uses.new ≡ map (spec.use_renewed (all_renewed by.now)) uses.old }
 {
@@ -51,7 +47,6 @@ pub(crate) fn renew_all(uses: &mut [Use], by: &Renewal)
     }
 }
 
-/// What may be known for a line, if a mark is read for it.
 fn answer(known: &mut Known, heard: &Heard)
     ensures { known.new ≡ spec.answered_known heard.now known.old }
 {
@@ -60,7 +55,6 @@ fn answer(known: &mut Known, heard: &Heard)
     }
 }
 
-/// A line after a mark for it.
 fn mark_own(used: &mut Use, heard: &Heard)
     ensures { used.new ≡ spec.after_mark
         (spec.use_renewed (spec.answered_known heard.now) used.old) heard.now }
@@ -80,7 +74,6 @@ fn drop_rival(used: &mut Use, line: u64, heard: &Heard)
     }
 }
 
-/// A line after a mark for the one of this number.
 fn mark(used: &mut Use, line: u64, heard: &Heard)
     ensures { used.new ≡ spec.use_heard line heard.now used.old }
 {
@@ -95,7 +88,6 @@ fn mark(used: &mut Use, line: u64, heard: &Heard)
     renew(&mut used.known, &Renewal::Mark(line, *heard));
 }
 
-/// These lines after a mark for the one of this number.
 pub(crate) fn mark_all(uses: &mut [Use], line: u64, heard: &Heard)
     ensures { uses.new ≡ map (spec.use_heard line heard.now) uses.old }
 {
@@ -104,7 +96,6 @@ pub(crate) fn mark_all(uses: &mut [Use], line: u64, heard: &Heard)
     }
 }
 
-/// What may be known for a line after a mark for it.
 fn marked(known: &mut Known, line: u64, rival: Option<u64>, heard: &Heard)
     ensures { known.new ≡ all_renewed (Renewal.Mark line heard.now) (spec.answered_known heard.now
         (if is_rival line rival && is_error heard.now then nothing else known.old)) }
@@ -116,41 +107,31 @@ fn marked(known: &mut Known, line: u64, rival: Option<u64>, heard: &Heard)
     renew(known, &Renewal::Mark(line, *heard));
 }
 
-/// What may be known for a line after a mark for it. Fails only if out of memory.
-#[tactic(auto, using(crate::proofs::AfterMarks::known_heard))]
-pub(crate) fn known_after(alloc: Global, used: &Use, heard: &Heard) -> Result<Known, AllocError>
-    ensures { IfOk result (λ known.
-        known ≡ (spec.use_heard used.now.line heard.now used.now).known) }
-{
-    let mut known = copied(alloc, &used.known)?;
-    marked(&mut known, used.line, used.rival, heard);
-    Ok(known)
-}
-
-/// Likewise if the mark is a fault. Fails only if out of memory.
-#[tactic(auto, using(crate::proofs::AfterMarks::fault_heard))]
-pub(crate) fn known_after_fault(
+/// What may be known for a line after a mark for it; `early`: the mark is a fault. Fails only if out of memory.
+#[tactic(auto, using(crate::proofs::AfterMarks::known_heard, crate::proofs::AfterMarks::fault_heard))]
+pub(crate) fn known_after(
     alloc: Global,
     used: &Use,
     heard: &Heard,
+    early: bool,
 ) -> Result<Known, AllocError>
-    ensures { IfOk result (λ known. known ≡ (spec.use_heard used.now.line heard.now
-        (spec.use_renewed (all_renewed Renewal.Fault) used.now)).known) }
+    ensures { IfOk result (λ known. known
+        ≡ (spec.use_heard used.now.line heard.now (spec.if_early early used.now)).known) }
 {
     let mut known = copied(alloc, &used.known)?;
-    renew(&mut known, &Renewal::Fault);
+    if early {
+        renew(&mut known, &Renewal::Fault);
+    }
     marked(&mut known, used.line, used.rival, heard);
     Ok(known)
 }
 
-/// Whether a line waits for its error or its end.
 fn waits(used: &Use) -> bool
     ensures { result ≡ spec.waits used.now }
 {
     has_turn(&used.command) && !used.has_failed
 }
 
-/// Whether a line before a place waits.
 fn some_wait(uses: &[Use], at: usize) -> bool
     requires { at < length uses.now }
     ensures { result ≡ list_any spec.waits (take at uses.now) }

@@ -1,24 +1,23 @@
 // The bytes of both ends of a connection.
 
 ghost use Rattle.std.specs.Prelude.{◌≡◌, ◌<◌, ◌↔◌, IsTrue, [], length, true, false, OnOk, OnErr, IfOk};
-ghost use Rattle.line_framing.specs.Framing.{fed, IsLineDue};
-ghost use Rattle.line_framing.specs.Next.{next_of};
+ghost use Rattle.witness.specs.Names.{fed, IsLineDue, next_of, Reads, IsClientRead, IsServerRead};
 ghost use Rattle.witness.specs.Watching as spec;
 
 use crate::dialogue::Dialogue;
+use crate::ends::End;
 use crate::lines::{Reported, Use};
-use line_framing::{Lines, LinesFault};
 use std::alloc::{AllocError, Global};
 use std::marker::Model;
 
 /// The bytes of both ends of a connection, cut into lines. Contracts see the bytes of each end that were fed and not read, and what the lines
 /// before them report.
 ///
-/// From a byte on that no line can hold, or a line that is too long, nothing more is read of that end.
+/// From a byte on that no line can hold, or a line that is too long, nothing more is read of that end, or kept.
 #[derive(Drop)]
 pub struct Witness {
-    up: Lines,
-    down: Lines,
+    up: End,
+    down: End,
     dialogue: Dialogue,
 }
 
@@ -30,25 +29,14 @@ impl Model for Witness {
     ghost view = { λ w. record { up = w.up; down = w.down; dialogue = w.dialogue } };
 }
 
-/// Feeds bytes, which after a fault are not kept. Fails only if out of memory, and then nothing has changed.
-fn feed(lines: &mut Lines, bytes: &[u8]) -> Result<(), AllocError>
-    ensures ok { OnOk result (lines.new ≡ fed lines.old bytes.now) }
-    ensures err { OnErr result (lines.new ≡ lines.old) }
-{
-    match lines.feed(bytes) {
-        Ok(()) | Err(LinesFault::Framing(_)) => Ok(()),
-        Err(LinesFault::Memory) => Err(AllocError),
-    }
-}
-
 impl Witness {
     /// A connection without a byte; `ordered`: the order between the lines of its two ends is known. Does not allocate.
     pub fn new(alloc: Global, ordered: bool) -> Witness
         ensures { result ≡ spec.unwatched ordered }
     {
         Witness {
-            up: Lines::new(alloc),
-            down: Lines::new(alloc),
+            up: End::new(alloc),
+            down: End::new(alloc),
             dialogue: Dialogue::new(alloc, ordered),
         }
     }
@@ -58,7 +46,7 @@ impl Witness {
         ensures ok { OnOk result (self.new ≡ record self.old { up = fed self.old.up bytes.now }) }
         ensures err { OnErr result (self.new ≡ self.old) }
     {
-        feed(&mut self.up, bytes)
+        self.up.feed(bytes)
     }
 
     /// Bytes come from the server. Fails only if out of memory, and then nothing has changed.
@@ -66,7 +54,7 @@ impl Witness {
         ensures ok { OnOk result (self.new ≡ record self.old { down = fed self.old.down bytes.now }) }
         ensures err { OnErr result (self.new ≡ self.old) }
     {
-        feed(&mut self.down, bytes)
+        self.down.feed(bytes)
     }
 
     /// Whether a whole line of the client waits.
@@ -115,22 +103,13 @@ impl Witness {
         Ok(())
     }
 
-    /// Reads the lines of the client that wait, and notes a fault that follows them, from which on no more bytes are kept. Fails only if out of memory, and
-    /// then has read some of them.
-    pub fn read_client_lines(&mut self) -> Result<(), AllocError>
-        ensures reads { spec.ReadsClient self.old self.new }
-        ensures all { OnOk result (IsLineDue (next_of self.new.up.rest) → ⊥) }
-    {
-        while self.has_client_line() {
-            self.read_client()?;
-        }
-        self.read_client()
-    }
-
-    /// Likewise for the server.
-    pub fn read_server_lines(&mut self) -> Result<(), AllocError>
+    /// Reads the lines of the server that wait, and drops bytes that are no line and follow them: what is kept is of a line without its end. Fails only
+    /// if out of memory, and then has read some of them.
+    #[tactic(auto, using(crate::proofs::Kept::few_left, crate::proofs::Kept::none_left))]
+    fn read_server_lines(&mut self) -> Result<(), AllocError>
         ensures reads { spec.ReadsServer self.old self.new }
         ensures all { OnOk result (IsLineDue (next_of self.new.down.rest) → ⊥) }
+        ensures few { OnOk result (spec.IsFew self.new.down) }
     {
         while self.has_server_line() {
             self.read_server()?;
@@ -138,11 +117,14 @@ impl Witness {
         self.read_server()
     }
 
-    /// Reads the lines of the client that wait, as long as at most `most` of those that it has sent are open: whether more are. Fails only if out of
-    /// memory, and then has read some of them.
-    pub fn read_client_within(&mut self, most: usize) -> Result<bool, AllocError>
+    /// Likewise those of the client, up to the first after which more than `most` of those that it has sent are open: whether one is.
+    #[tactic(auto, using(crate::proofs::Kept::few_left, crate::proofs::Kept::none_left))]
+    fn read_client_within(&mut self, most: usize) -> Result<bool, AllocError>
         ensures reads { spec.ReadsClient self.old self.new }
+        ensures first { IfOk result (λ over. over ≡ true → spec.IsFirstPast most self.old self.new) }
+        ensures within { IfOk result (λ over. over ≡ false → spec.AreAllWithin most self.old self.new) }
         ensures all { IfOk result (λ over. over ≡ false → IsLineDue (next_of self.new.up.rest) → ⊥) }
+        ensures few { IfOk result (λ over. over ≡ false → spec.IsFew self.new.up) }
         ensures over { IfOk result (λ over. over ≡ true → most < length self.new.dialogue.uses) }
     {
         while self.has_client_line() {
@@ -152,6 +134,24 @@ impl Witness {
             }
         }
         self.read_client()?;
+        Ok(false)
+    }
+
+    /// Reads the lines that wait, those of the client first, up to the first of them after which more than `most` are open: whether one is. What is
+    /// kept is of a line without its end. Fails only if out of memory, and then has read some of them.
+    #[tactic(auto, using(crate::proofs::Courses::reading))]
+    pub fn read_within(&mut self, most: usize) -> Result<bool, AllocError>
+        ensures reads { Reads self.old self.new }
+        ensures client { IfOk result (λ over. over ≡ false → IsClientRead self.new) }
+        ensures server { IfOk result (λ over. over ≡ false → IsServerRead self.new) }
+        ensures few { IfOk result (λ over. over ≡ false → spec.KeepsFew self.new) }
+        ensures first { IfOk result (λ over. over ≡ true → spec.IsFirstPast most self.old self.new) }
+        ensures over { IfOk result (λ over. over ≡ true → most < length self.new.dialogue.uses) }
+    {
+        if self.read_client_within(most)? {
+            return Ok(true);
+        }
+        self.read_server_lines()?;
         Ok(false)
     }
 

@@ -1,16 +1,12 @@
 // The text of what was reported (this profile).
 
 ghost use Rattle.std.specs.Prelude.{◌≡◌, ◌++◌, ◌∷◌, [], codes, OnOk};
-ghost use Rattle.dme_line.specs.Tags.{four_digits, written_tag};
-ghost use Rattle.fixed_um.specs.Written.{last_digit};
-ghost use Rattle.contact_ledger.specs.Lines.{text_of, spaced};
-ghost use Rattle.contact_ledger.specs.Fields.{point_fields, direction_fields};
-ghost use Rattle.witness.specs.Texts.{tool_field, known_frame, rule_name, side_field, told_fields, told_line, told_lines, unknown_field};
+ghost use Rattle.witness.specs.Names.{four_digits, written_tag, last_digit, text_of, spaced, point_fields, direction_fields, tool_field, known_frame, rule_name, side_field, told_fields, told_line, told_lines, unknown_field};
 
 use crate::lines::{Reported, Rule, Side};
 use contact_ledger::fields::{add_direction, add_frame, add_name, add_point};
 use contact_ledger::{Act, add_entry};
-use dme_line::{Tag, Text};
+use dme_line::Tag;
 use fixed_um::{Dir, Frame, Name, Point};
 use itoa::Buffer;
 use std::alloc::AllocError;
@@ -18,14 +14,12 @@ use std::alloc::AllocError;
 /// The first line of the text, with its LF.
 pub const HEADER: &[u8] = b"DME-TOLD 1\n";
 
-/// Adds what is not known.
 fn add_unknown(text: &mut Vec<u8>) -> Result<(), AllocError>
     ensures { OnOk result (text.new.items ≡ text.old.items ++ spaced (unknown_field ∷ [])) }
 {
     text.extend_from_slice(b" ?")
 }
 
-/// Adds a tool, if it is known.
 fn add_tool(text: &mut Vec<u8>, tool: &Option<Name>) -> Result<(), AllocError>
     ensures { OnOk result (text.new.items
         ≡ text.old.items ++ spaced (tool_field tool.now ∷ [])) }
@@ -36,7 +30,6 @@ fn add_tool(text: &mut Vec<u8>, tool: &Option<Name>) -> Result<(), AllocError>
     }
 }
 
-/// Adds a frame, if it is known.
 fn add_known_frame(text: &mut Vec<u8>, frame: Option<Frame>) -> Result<(), AllocError>
     ensures { OnOk result (text.new.items ≡ text.old.items ++ spaced (known_frame frame)) }
 {
@@ -46,7 +39,6 @@ fn add_known_frame(text: &mut Vec<u8>, frame: Option<Frame>) -> Result<(), Alloc
     }
 }
 
-/// The name of a rule, as it is written.
 fn rule_name(rule: Rule) -> &'static [u8]
     ensures { result.now ≡ rule_name rule }
 {
@@ -62,7 +54,6 @@ fn rule_name(rule: Rule) -> &'static [u8]
     }
 }
 
-/// The way that a line went, as it is written.
 fn side_field(side: Side) -> &'static [u8]
     ensures { result.now ≡ side_field side }
 {
@@ -72,7 +63,6 @@ fn side_field(side: Side) -> &'static [u8]
     }
 }
 
-/// Adds a field of these bytes.
 fn add_field(text: &mut Vec<u8>, field: &[u8]) -> Result<(), AllocError>
     ensures { OnOk result (text.new.items ≡ text.old.items ++ spaced (field.now ∷ [])) }
 {
@@ -86,7 +76,6 @@ fn last_digit(value: u32) -> u8
     b'0' + (value % 10) as u8
 }
 
-/// Adds four digits of a number.
 fn add_four_digits(text: &mut Vec<u8>, value: u32) -> Result<(), AllocError>
     ensures { OnOk result (text.new.items ≡ text.old.items ++ four_digits value) }
 {
@@ -97,7 +86,6 @@ fn add_four_digits(text: &mut Vec<u8>, value: u32) -> Result<(), AllocError>
     Ok(())
 }
 
-/// Adds a tag as a field.
 fn add_tag(text: &mut Vec<u8>, tag: Tag) -> Result<(), AllocError>
     ensures { OnOk result (text.new.items ≡ text.old.items ++ spaced (written_tag tag ∷ [])) }
 {
@@ -114,7 +102,6 @@ fn add_tag(text: &mut Vec<u8>, tag: Tag) -> Result<(), AllocError>
     }
 }
 
-/// Adds a move in a frame that is not known.
 #[tactic(auto, using(crate::proofs::TextPieces::pieces))]
 fn add_moved(text: &mut Vec<u8>, target: Point) -> Result<(), AllocError>
     ensures { OnOk result (text.new.items ≡ text.old.items
@@ -125,7 +112,6 @@ fn add_moved(text: &mut Vec<u8>, target: Point) -> Result<(), AllocError>
     add_unknown(text)
 }
 
-/// Adds a touch with a tool or in a frame that is not known.
 #[tactic(auto, using(crate::proofs::TextPieces::pieces))]
 fn add_touched(
     text: &mut Vec<u8>,
@@ -147,39 +133,8 @@ fn add_touched(
     add_point(text, point)
 }
 
-/// Adds a line that is not known.
-#[tactic(auto, using(crate::proofs::TextPieces::pieces))]
-fn add_other(text: &mut Vec<u8>, side: Side, line: &Text) -> Result<(), AllocError>
-    ensures { OnOk result (text.new.items ≡ text.old.items
-        ++ spaced (codes "OTHER" ∷ side_field side ∷ line.now ∷ [])) }
-{
-    text.extend_from_slice(b" OTHER")?;
-    add_field(text, side_field(side))?;
-    add_field(text, line.as_slice())
-}
-
-/// Adds a line of the server that belongs to no command.
-#[tactic(auto, using(crate::proofs::TextPieces::pieces))]
-fn add_unasked(text: &mut Vec<u8>, line: &Text) -> Result<(), AllocError>
-    ensures { OnOk result (text.new.items ≡ text.old.items
-        ++ spaced (codes "UNASKED" ∷ line.now ∷ [])) }
-{
-    text.extend_from_slice(b" UNASKED")?;
-    add_field(text, line.as_slice())
-}
-
-/// Adds a rule that is broken, with the tag.
-#[tactic(auto, using(crate::proofs::TextPieces::pieces))]
-fn add_broken(text: &mut Vec<u8>, rule: Rule, tag: Tag) -> Result<(), AllocError>
-    ensures { OnOk result (text.new.items ≡ text.old.items
-        ++ spaced (codes "BROKEN" ∷ rule_name rule ∷ written_tag tag ∷ [])) }
-{
-    text.extend_from_slice(b" BROKEN")?;
-    add_field(text, rule_name(rule))?;
-    add_tag(text, tag)
-}
-
 /// Adds the fields of what was reported other than acts whose tool and frame are known.
+#[tactic(auto, using(crate::proofs::TextPieces::pieces))]
 fn add_fields(text: &mut Vec<u8>, report: &Reported) -> Result<(), AllocError>
     requires { (act : Act) → report.now ≡ Reported.Did act → ⊥ }
     ensures { OnOk result (text.new.items
@@ -196,9 +151,20 @@ fn add_fields(text: &mut Vec<u8>, report: &Reported) -> Result<(), AllocError>
             frame,
             point,
         } => add_touched(text, *target, *dir, tool, *frame, *point),
-        Reported::Other(side, line) => add_other(text, *side, line),
-        Reported::Unasked(line) => add_unasked(text, line),
-        Reported::Broken(rule, tag) => add_broken(text, *rule, *tag),
+        Reported::Other(side, line) => {
+            text.extend_from_slice(b" OTHER")?;
+            add_field(text, side_field(*side))?;
+            add_field(text, line.as_slice())
+        }
+        Reported::Unasked(line) => {
+            text.extend_from_slice(b" UNASKED")?;
+            add_field(text, line.as_slice())
+        }
+        Reported::Broken(rule, tag) => {
+            text.extend_from_slice(b" BROKEN")?;
+            add_field(text, rule_name(*rule))?;
+            add_tag(text, *tag)
+        }
         Reported::Opened => text.extend_from_slice(b" OPENED"),
         Reported::Left => text.extend_from_slice(b" LEFT"),
     }

@@ -1,5 +1,5 @@
 -- Examples: lines of both ends as values, and the first break that is found (this profile). No contract but theirs cites these definitions.
-use Rattle.std.specs.Prelude.{ℕ, zero, suc, ◌+◌, List, [], ◌∷◌, ◌++◌, reverse, Option, Some, None}
+use Rattle.std.specs.Prelude.{◌≡◌, ℕ, zero, suc, ◌+◌, List, [], ◌∷◌, ◌++◌, reverse, Option, Some, None}
 use Rattle.dme_line.specs.declared.commands.Kind.{Kind}
 use Rattle.dme_line.specs.declared.commands.Kind.TheVariants as kind
 use Rattle.dme_line.specs.declared.tags.Tag.TheVariants.{Std, Event}
@@ -63,6 +63,13 @@ client_breaks up down = client_found [] up None down
 
 abbrev pub server_breaks : List Sent → List Heard → Option Found
 server_breaks up down = server_found [] up down None
+
+-- nothing is
+abbrev pub ClientKeeps : List Sent → List Heard → Type 0
+ClientKeeps up down = client_breaks up down ≡ None
+
+abbrev pub ServerKeeps : List Sent → List Heard → Type 0
+ServerKeeps up down = server_breaks up down ≡ None
 
 -- a touch, and two moves
 abbrev pub touch : List Sent

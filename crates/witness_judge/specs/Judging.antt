@@ -10,6 +10,7 @@ use Rattle.witness_judge.specs.ServerRules.{server_rule}
 use Rattle.witness_judge.specs.Counts.{client_counts, server_counts}
 use Rattle.witness_judge.specs.Orders.{Pieces, seen_lines}
 use Rattle.witness_judge.specs.declared.judgement.Break.{Break}
+use Rattle.witness_judge.specs.declared.judgement.Judgement.{Judgement}
 use Rattle.witness_judge.specs.declared.lines.Heard.{Heard}
 use Rattle.witness_judge.specs.declared.lines.Sent.{Sent}
 use Rattle.witness_judge.specs.declared.rules.Found.{Found}
@@ -58,15 +59,8 @@ server_found seen up down fault = end_break (first_break (server_rule seen up) [
 abbrev pub shown : List (List ℕ) → Found → Break
 shown lines found = record { number = found.number; rule = found.rule; line = get_or lines (found.number - 1) [] }
 
--- the first break of each end, and the counts of their lines
-pub record Judged : Type 0 where
-  pub client : Option Break
-  pub server : Option Break
-  pub commands : List ℕ
-  pub marks : List ℕ
-
 -- it is what their whole lines say, and their bytes that are not lines, with the order in which pieces of them came; without a piece, it is not known
-pub record IsJudged (up down : List ℕ) (pieces : Pieces) (j : Judged) : Type 0 where
+pub record IsJudged (up down : List ℕ) (pieces : Pieces) (j : Judgement) : Type 0 where
   pub up_lines : List (List ℕ)
   pub up_rest : List ℕ
   pub up_fault : Option FramingFault
@@ -79,5 +73,5 @@ pub record IsJudged (up down : List ℕ) (pieces : Pieces) (j : Judged) : Type 0
       (client_found (seen_lines pieces up_lines down_lines) (map sent_of up_lines) up_fault (map heard_of down_lines))
   pub server : j.server ≡ option_map (shown down_lines)
       (server_found (seen_lines pieces up_lines down_lines) (map sent_of up_lines) (map heard_of down_lines) down_fault)
-  pub commands : j.commands ≡ client_counts (map sent_of up_lines)
-  pub marks : j.marks ≡ server_counts (map heard_of down_lines)
+  pub commands : j.commands.items ≡ client_counts (map sent_of up_lines)
+  pub marks : j.marks.items ≡ server_counts (map heard_of down_lines)

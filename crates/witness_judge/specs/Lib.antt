@@ -7,3 +7,4 @@ pub mod Orders
 pub mod Judging
 pub mod Texts
 pub mod Examples
+pub mod Names

@@ -5,8 +5,8 @@ use Rattle.dme_line.specs.Kinds.{kind_name}
 use Rattle.dme_line.specs.declared.commands.Kind.{Kind}
 use Rattle.session_telling.specs.Visible.{visible}
 use Rattle.witness_judge.specs.Counts.{kinds}
-use Rattle.witness_judge.specs.Judging.{Judged}
 use Rattle.witness_judge.specs.declared.judgement.Break.{Break}
+use Rattle.witness_judge.specs.declared.judgement.Judgement.{Judgement}
 use Rattle.witness_judge.specs.declared.rules.Rule.{Rule}
 use Rattle.witness_judge.specs.declared.rules.Rule.TheVariants as rule
 
@@ -67,15 +67,15 @@ marks_text (received ∷ given ∷ complete ∷ errors ∷ []) = count_text (cod
 marks_text _ = []
 
 -- the counts, if no line breaks a rule
-abbrev pub counts_text : Judged → List ℕ
-counts_text j = codes "dme: no line breaks the rules\n" ++ (commands_text 0 j.commands ++ marks_text j.marks)
+abbrev pub counts_text : Judgement → List ℕ
+counts_text j = codes "dme: no line breaks the rules\n" ++ (commands_text 0 j.commands.items ++ marks_text j.marks.items)
 
-abbrev pub ends_text : Option Break → Option Break → Judged → List ℕ
+abbrev pub ends_text : Option Break → Option Break → Judgement → List ℕ
 ends_text None None j = counts_text j
 ends_text client server j = end_text (codes "CLIENT") client ++ end_text (codes "SERVER") server
 
 -- the text of a judgement
-abbrev pub judgement_text : Judged → List ℕ
+abbrev pub judgement_text : Judgement → List ℕ
 judgement_text j = ends_text j.client j.server j
 
 -- the exit status: 3 if a line breaks a rule
@@ -83,5 +83,5 @@ abbrev pub ends_status : Option Break → Option Break → ℕ
 ends_status None None = 0
 ends_status client server = 3
 
-abbrev pub judgement_status : Judged → ℕ
+abbrev pub judgement_status : Judgement → ℕ
 judgement_status j = ends_status j.client j.server

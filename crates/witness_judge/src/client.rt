@@ -1,12 +1,9 @@
 // The first line of the client that breaks a rule.
 
 ghost use Rattle.std.specs.Prelude.{◌≡◌, ◌<◌, ◌∷◌, [], ◌&&◌, not, Some, length, reverse, IfSome, IfOk, OnOk};
-ghost use Rattle.dme_line.specs.Kinds.{is_event_kind};
-ghost use Rattle.dme_line.specs.Tags.{is_event_tag};
-ghost use Rattle.dme_line.specs.declared.tags.Tag.{Tag};
+ghost use Rattle.witness_judge.specs.Names.{is_event_kind, is_event_tag, Tag, first_break};
 ghost use Rattle.witness_judge.specs.declared.lines.Mark.TheVariants as mark;
 ghost use Rattle.witness_judge.specs.ClientRules as spec;
-ghost use Rattle.witness_judge.specs.Judging.{first_break};
 ghost use Rattle.witness_judge.specs.Uses as said;
 
 use crate::course::Course;
@@ -15,27 +12,6 @@ use crate::rules::{Found, Moment, Rule};
 use crate::tables::{look, put, tag_of};
 use dme_line::{Kind, Tag};
 use std::alloc::{AllocError, Global};
-
-fn is_start(kind: Kind) -> bool
-    ensures { result ≡ spec.is_start kind }
-{
-    matches!(kind, Kind::StartSession)
-}
-
-fn is_end_of_session(kind: Kind) -> bool
-    ensures { result ≡ spec.is_end kind }
-{
-    matches!(kind, Kind::EndSession)
-}
-
-fn needs_session(kind: Kind) -> bool
-    ensures { result ≡ spec.needs_session kind }
-{
-    !matches!(
-        kind,
-        Kind::StartSession | Kind::ClearAllErrors | Kind::AbortE
-    )
-}
 
 /// What is known of the session after some lines of the client.
 #[derive(Clone, Copy)]
@@ -46,36 +22,32 @@ struct Session {
     must: bool,
 }
 
-/// What is known of the session after a command more, which may have failed.
 fn session_with(session: Session, kind: Kind, failed: bool) -> Session
     ensures may { result.may ≡ spec.may_after kind failed session.may }
     ensures must { result.must ≡ spec.must_after kind failed session.must }
 {
-    if is_start(kind) {
-        return Session {
+    match kind {
+        Kind::StartSession => Session {
             may: true,
             must: !failed || session.must,
-        };
-    }
-    if is_end_of_session(kind) {
-        return Session {
+        },
+        Kind::EndSession => Session {
             may: failed && session.may,
             must: false,
-        };
+        },
+        _ => session,
     }
-    session
 }
 
 fn session_rule(kind: Kind, session: Session) -> Option<Rule>
     ensures { result ≡ spec.session_rule kind session.may session.must }
 {
-    if needs_session(kind) && !session.may {
-        return Some(Rule::NoSession);
+    match kind {
+        Kind::StartSession if session.must => Some(Rule::SessionOpen),
+        Kind::StartSession | Kind::ClearAllErrors | Kind::AbortE => None,
+        _ if session.may => None,
+        _ => Some(Rule::NoSession),
     }
-    if is_start(kind) && session.must {
-        return Some(Rule::SessionOpen);
-    }
-    None
 }
 
 fn unread_rule(tag: Tag, kind: Kind) -> Option<Rule>
@@ -115,26 +87,15 @@ fn is_full(moment: Option<Moment>) -> bool
     }
 }
 
-/// Whether the line at a place was whole before one of the server, by how many lines of the client were.
-fn was_before(count: Option<usize>, at: usize, unknown: bool) -> bool
-    ensures { result ≡ spec.was_before count at unknown }
-{
-    match count {
-        Some(count) => at < count,
-        None => unknown,
-    }
-}
-
-/// Whether a use is not known to have ended when the line at a place came.
 fn is_kept(seen: &[usize], at: usize, moment: Option<Moment>, refused: usize, passed: bool) -> bool
     ensures { result ≡ spec.is_kept seen.now at moment refused passed }
 {
-    match moment {
-        Some(moment) => {
-            let count = seen.get(moment.number.saturating_sub(1)).copied();
-            was_before(count, at, refused < moment.refusals && passed)
-        }
-        None => true,
+    let Some(moment) = moment else {
+        return true;
+    };
+    match seen.get(moment.number.saturating_sub(1)) {
+        Some(count) => at < *count,
+        None => refused < moment.refusals && passed,
     }
 }
 
@@ -148,49 +109,51 @@ struct Above {
     session: Session,
 }
 
-/// The uses of a tag above a line, the nearest first.
+/// The lines of both ends, and what the server has done in all of its.
+#[derive(Clone, Copy)]
+pub(crate) struct Both<'a> {
+    /// For each line of the server, how many of the client were whole; empty if their order is not known.
+    pub(crate) seen: &'a [usize],
+    pub(crate) up: &'a [Sent],
+    pub(crate) down: &'a [Heard],
+    pub(crate) course: &'a Course,
+}
+
 fn uses_above(above: &Above, tag: Tag) -> (Option<usize>, Option<usize>)
     ensures one { result.0 ≡ said.found above.now.previous.items tag }
     ensures two { result.1 ≡ said.found above.now.before.items tag }
 {
-    (
-        look(above.previous.as_slice(), tag),
-        look(above.before.as_slice(), tag),
-    )
+    let one = look(above.previous.as_slice(), tag);
+    (one, look(above.before.as_slice(), tag))
 }
 
-/// Whether a line is under a tag that is in use. The uses of the tag above it are given.
-fn is_used(
-    seen: &[usize],
-    up: &[Sent],
-    down: &[Heard],
-    course: &Course,
-    at: usize,
-    above: (Option<usize>, Option<usize>),
-) -> bool
-    requires course { said.IsCourse up.now (reverse down.now) course.now }
-    requires within { at < length up.now }
-    requires one { IfSome above.0 (λ n. n < length up.now) }
-    requires two { IfSome above.1 (λ n. n < length up.now) }
-    ensures { result ≡ spec.is_used seen.now up.now (reverse down.now) at above.0 above.1 }
+fn is_used(both: Both<'_>, at: usize, above: (Option<usize>, Option<usize>)) -> bool
+    requires course { said.IsCourse both.up.now (reverse both.down.now) both.course.now }
+    requires within { at < length both.up.now }
+    requires one { IfSome above.0 (λ n. n < length both.up.now) }
+    requires two { IfSome above.1 (λ n. n < length both.up.now) }
+    ensures { result ≡ spec.is_used both.seen.now both.up.now (reverse both.down.now)
+        at above.0 above.1 }
 {
+    let notes = &both.course.notes;
     let Some(one) = above.0 else {
         return false;
     };
     let refused = match above.1 {
-        Some(two) => refused_by(course.notes.complete[two]),
+        Some(two) => refused_by(notes.complete[two]),
         None => 0,
     };
-    let passed = at < reach(course.notes.counted[at], course.moment.farthest);
-    is_kept(seen, at, course.notes.complete[one], refused, passed)
+    let passed = at < reach(notes.counted[at], both.course.moment.farthest);
+    is_kept(both.seen, at, notes.complete[one], refused, passed)
 }
 
 /// Whether the command at a place may have failed; the last argument: its tag was used before.
-fn may_have_failed(up: &[Sent], down: &[Heard], course: &Course, at: usize, again: bool) -> bool
-    requires course { said.IsCourse up.now (reverse down.now) course.now }
-    requires within { at < length up.now }
-    ensures { result ≡ spec.may_have_failed up.now (reverse down.now) at again }
+fn may_have_failed(both: Both<'_>, at: usize, again: bool) -> bool
+    requires course { said.IsCourse both.up.now (reverse both.down.now) both.course.now }
+    requires within { at < length both.up.now }
+    ensures { result ≡ spec.may_have_failed both.up.now (reverse both.down.now) at again }
 {
+    let course = both.course;
     course.notes.error[at].is_some() || course.is_unclear || (again && course.moment.refusals > 0)
 }
 
@@ -206,127 +169,76 @@ fn own_rule(sent: Sent, session: Session) -> Option<Rule>
     }
 }
 
-/// The rule that a line under a tag breaks, with its own rule. The uses of the tag above it are given.
 fn tagged_rule(
-    seen: &[usize],
-    up: &[Sent],
-    down: &[Heard],
-    course: &Course,
+    both: Both<'_>,
     at: usize,
     above: (Option<usize>, Option<usize>),
     tag: Tag,
     own: Option<Rule>,
 ) -> Option<Rule>
-    requires course { said.IsCourse up.now (reverse down.now) course.now }
-    requires within { at < length up.now }
-    requires one { IfSome above.0 (λ n. n < length up.now) }
-    requires two { IfSome above.1 (λ n. n < length up.now) }
-    ensures { result ≡ spec.tagged_rule
-        (spec.is_used seen.now up.now (reverse down.now) at above.0 above.1)
-        (not (is_event_tag tag)
-        && spec.is_full (said.came mark.Received up.now (reverse down.now) at)) own }
+    requires course { said.IsCourse both.up.now (reverse both.down.now) both.course.now }
+    requires within { at < length both.up.now }
+    requires one { IfSome above.0 (λ n. n < length both.up.now) }
+    requires two { IfSome above.1 (λ n. n < length both.up.now) }
+    ensures { result ≡ spec.tagged_rule (spec.is_used both.seen.now both.up.now
+        (reverse both.down.now) at above.0 above.1) (not (is_event_tag tag)
+        && spec.is_full (said.came mark.Received both.up.now (reverse both.down.now) at)) own }
 {
-    if is_used(seen, up, down, course, at, above) {
+    if is_used(both, at, above) {
         return Some(Rule::TagInUse);
     }
-    if own.is_none() && matches!(tag, Tag::Std(_)) && is_full(course.notes.received[at]) {
+    if own.is_none() && matches!(tag, Tag::Std(_)) && is_full(both.course.notes.received[at]) {
         return Some(Rule::QueueFull);
     }
     own
 }
 
-/// The rule that a line breaks under the lines above it.
 #[tactic(auto, using(crate::proofs::AboveLemmas::previous_among, crate::proofs::AboveLemmas::before_among, crate::proofs::Lists::above_count))]
-fn rule_of(
-    seen: &[usize],
-    up: &[Sent],
-    down: &[Heard],
-    course: &Course,
-    lines: &[Sent],
-    above: &Above,
-    sent: Sent,
-) -> Option<Rule>
-    requires course { said.IsCourse up.now (reverse down.now) course.now }
-    requires above { spec.AreAbove up.now (reverse down.now) (reverse lines.now) above.now }
-    requires within { length lines.now < length up.now }
-    ensures { result ≡ spec.client_rule seen.now up.now (reverse down.now)
+fn rule_of(both: Both<'_>, lines: &[Sent], above: &Above, sent: Sent) -> Option<Rule>
+    requires course { said.IsCourse both.up.now (reverse both.down.now) both.course.now }
+    requires above { spec.AreAbove both.up.now (reverse both.down.now) (reverse lines.now) above.now }
+    requires within { length lines.now < length both.up.now }
+    ensures { result ≡ spec.client_rule both.seen.now both.up.now (reverse both.down.now)
         (reverse lines.now) sent }
 {
     let Some(tag) = tag_of(sent) else {
         return Some(Rule::NoTag);
     };
     let own = own_rule(sent, above.session);
-    let uses = uses_above(above, tag);
-    tagged_rule(seen, up, down, course, lines.len(), uses, tag, own)
+    tagged_rule(both, lines.len(), uses_above(above, tag), tag, own)
 }
 
-/// What is known of the session after a line more, whose tag was used before or not.
-#[tactic(auto, using(crate::proofs::Lists::above_count))]
-fn session_after(
-    up: &[Sent],
-    down: &[Heard],
-    course: &Course,
-    lines: &[Sent],
-    session: Session,
-    sent: Sent,
-    again: bool,
-) -> Session
-    requires course { said.IsCourse up.now (reverse down.now) course.now }
-    requires within { length lines.now < length up.now }
-    requires again { (t : Tag) → said.tag_of sent ≡ Some t
-        → again ≡ spec.is_again t (reverse lines.now) }
-    requires may { session.may ≡ spec.may_be_open up.now (reverse down.now) (reverse lines.now) }
-    requires must { session.must ≡ spec.must_be_open up.now (reverse down.now) (reverse lines.now) }
-    ensures may { result.may ≡ spec.may_be_open up.now (reverse down.now)
-        (sent ∷ reverse lines.now) }
-    ensures must { result.must ≡ spec.must_be_open up.now (reverse down.now)
-        (sent ∷ reverse lines.now) }
-{
-    match sent {
-        Sent::Command(_, kind) => {
-            let failed = may_have_failed(up, down, course, lines.len(), again);
-            session_with(session, kind, failed)
-        }
-        _ => session,
-    }
-}
-
-/// A line more. Fails only if out of memory.
 #[tactic(auto, using(crate::proofs::AboveLemmas::previous_more, crate::proofs::AboveLemmas::before_more, crate::proofs::AboveLemmas::previous_untagged, crate::proofs::AboveLemmas::before_untagged, crate::proofs::Lists::above_count))]
 fn add_above(
-    up: &[Sent],
-    down: &[Heard],
-    course: &Course,
+    both: Both<'_>,
     lines: &[Sent],
     above: &mut Above,
     sent: Sent,
 ) -> Result<(), AllocError>
-    requires course { said.IsCourse up.now (reverse down.now) course.now }
-    requires above { spec.AreAbove up.now (reverse down.now) (reverse lines.now) above.old }
-    requires within { length lines.now < length up.now }
-    ensures { OnOk result (spec.AreAbove up.now (reverse down.now)
+    requires course { said.IsCourse both.up.now (reverse both.down.now) both.course.now }
+    requires above { spec.AreAbove both.up.now (reverse both.down.now) (reverse lines.now) above.old }
+    requires within { length lines.now < length both.up.now }
+    ensures { OnOk result (spec.AreAbove both.up.now (reverse both.down.now)
         (sent ∷ reverse lines.now) above.new) }
 {
     let Some(tag) = tag_of(sent) else {
         return Ok(());
     };
     let (one, _) = uses_above(above, tag);
-    above.session = session_after(up, down, course, lines, above.session, sent, one.is_some());
+    if let Sent::Command(_, kind) = sent {
+        let failed = may_have_failed(both, lines.len(), one.is_some());
+        above.session = session_with(above.session, kind, failed);
+    }
     put(&mut above.before, tag, one)?;
     put(&mut above.previous, tag, Some(lines.len()))
 }
 
 /// The first line of the client that breaks a rule. Fails only if out of memory.
-pub(crate) fn client_break(
-    alloc: Global,
-    seen: &[usize],
-    up: &[Sent],
-    down: &[Heard],
-    course: &Course,
-) -> Result<Option<Found>, AllocError>
-    requires { said.IsCourse up.now (reverse down.now) course.now }
+pub(crate) fn client_break(alloc: Global, both: Both<'_>) -> Result<Option<Found>, AllocError>
+    requires { said.IsCourse both.up.now (reverse both.down.now) both.course.now }
     ensures { IfOk result (λ found. found
-        ≡ first_break (spec.client_rule seen.now up.now (reverse down.now)) [] up.now) }
+        ≡ first_break (spec.client_rule both.seen.now both.up.now (reverse both.down.now))
+        [] both.up.now) }
 {
     let mut above = Above {
         previous: Vec::new(alloc),
@@ -336,16 +248,16 @@ pub(crate) fn client_break(
             must: false,
         },
     };
-    for at in 0..up.len() {
-        let (lines, _) = up.split_at(at);
-        let sent = up[at];
-        if let Some(rule) = rule_of(seen, up, down, course, lines, &above, sent) {
+    for at in 0..both.up.len() {
+        let (lines, _) = both.up.split_at(at);
+        let sent = both.up[at];
+        if let Some(rule) = rule_of(both, lines, &above, sent) {
             return Ok(Some(Found {
                 number: at + 1,
                 rule,
             }));
         }
-        add_above(up, down, course, lines, &mut above, sent)?;
+        add_above(both, lines, &mut above, sent)?;
     }
     Ok(None)
 }

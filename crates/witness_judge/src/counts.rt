@@ -69,14 +69,13 @@ fn named_none(up: &[Sent]) -> usize
     up.iter().filter(|sent| names_none(sent)).count()
 }
 
-/// Lines of the client by command. Fails only if out of memory.
 fn kind_counts(alloc: Global, up: &[Sent]) -> Result<Vec<usize>, AllocError>
     ensures { IfOk result (λ counts. counts.items ≡ map (spec.named up.now) spec.kinds) }
 {
     KINDS.iter().map(|kind| named(up, *kind)).collect(alloc)
 }
 
-/// Likewise, and last those of no command of this profile. Fails only if out of memory.
+/// Lines of the client by command, and last those of no command of this profile. Fails only if out of memory.
 pub(crate) fn client_counts(alloc: Global, up: &[Sent]) -> Result<Vec<usize>, AllocError>
     ensures { IfOk result (λ counts. counts.items ≡ spec.client_counts up.now) }
 {
@@ -109,7 +108,6 @@ fn marked(down: &[Heard], mark: Mark) -> usize
     down.iter().filter(|heard| is_marked(mark, heard)).count()
 }
 
-/// Lines of the server by mark. Fails only if out of memory.
 pub(crate) fn server_counts(alloc: Global, down: &[Heard]) -> Result<Vec<usize>, AllocError>
     ensures { IfOk result (λ counts. counts.items ≡ spec.server_counts down.now) }
 {

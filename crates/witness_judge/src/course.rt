@@ -1,7 +1,7 @@
 // What a server has done, and for which commands.
 
 ghost use Rattle.std.specs.Prelude.{◌≡◌, ◌<◌, ◌^◌, ◌∷◌, [], ℕ, Some, None, if◌then◌else◌, length, reverse, get_or, IfOk, OnOk};
-ghost use Rattle.std.specs.Option.{option_or};
+ghost use Rattle.witness_judge.specs.Names.{option_or};
 ghost use Rattle.witness_judge.specs.declared.lines.Heard.TheVariants as heard;
 ghost use Rattle.witness_judge.specs.declared.lines.Mark.TheVariants as mark;
 ghost use Rattle.witness_judge.specs.Uses as spec;
@@ -72,7 +72,6 @@ fn farther(at: usize, place: Option<usize>) -> usize
     }
 }
 
-/// What a server had done with a line more, which answers the command at a place.
 #[tactic(auto, using(crate::proofs::Moments::few_busy, crate::proofs::Moments::few_refused, crate::proofs::Lists::above_count))]
 fn moment_after(
     up: &[Sent],
@@ -98,7 +97,6 @@ fn moment_after(
     }
 }
 
-/// A mark came for the command at a place, if it is the first.
 fn note(notes: &mut [Option<Moment>], place: Option<usize>, moment: Moment)
     ensures count { length notes.new ≡ length notes.old }
     ensures each { (at : ℕ) → at < length notes.old → get_or notes.new at None
@@ -174,7 +172,6 @@ fn link_mark(
     }
 }
 
-/// Nothing came. Fails only if out of memory.
 #[tactic(auto, using(crate::proofs::Notes::none))]
 fn no_notes(alloc: Global, up: &[Sent]) -> Result<Notes, AllocError>
     ensures { IfOk result (spec.AreAllNoted up.now []) }
@@ -189,7 +186,6 @@ fn no_notes(alloc: Global, up: &[Sent]) -> Result<Notes, AllocError>
     })
 }
 
-/// The first use of each tag is next. Fails only if out of memory.
 #[tactic(auto, using(crate::proofs::Links::first_linked))]
 fn first_links(alloc: Global, up: &[Sent]) -> Result<Links, AllocError>
     ensures { IfOk result (spec.AreAllLinked up.now []) }
@@ -204,7 +200,6 @@ fn first_links(alloc: Global, up: &[Sent]) -> Result<Links, AllocError>
 }
 
 impl Course {
-    /// Nothing was heard. Fails only if out of memory.
     pub(crate) fn new(alloc: Global, up: &[Sent]) -> Result<Course, AllocError>
         ensures { IfOk result (spec.IsCourse up.now []) }
     {
@@ -229,7 +224,6 @@ impl Course {
         look(self.links.ends.as_slice(), tag)
     }
 
-    /// Whether a tag has an end.
     pub(crate) fn has_end(&self, up: &[Sent], above: &[Heard], tag: Tag) -> bool
         requires { spec.IsCourse up.now (reverse above.now) self.now }
         ensures { result ≡ spec.has_end tag (reverse above.now) }
@@ -237,7 +231,6 @@ impl Course {
         look(self.links.closed.as_slice(), tag).is_some()
     }
 
-    /// A line of the server comes. Fails only if out of memory.
     pub(crate) fn hear(
         &mut self,
         up: &[Sent],

@@ -1,11 +1,10 @@
 // What two recordings of a connection say of either end.
 
 ghost use Rattle.std.specs.Prelude.{◌≡◌, ◌<◌, ◌^◌, IfOk};
-ghost use Rattle.std.specs.Option.{option_map};
-ghost use Rattle.witness_judge.specs.Orders.{bytes_of};
+ghost use Rattle.witness_judge.specs.Names.{option_map, bytes_of};
 ghost use Rattle.witness_judge.specs.Judging as spec;
 
-use crate::client::client_break;
+use crate::client::{Both, client_break};
 use crate::counts::{client_counts, server_counts};
 use crate::orders::seen_lines;
 use crate::reading::{heard_lines, sent_lines};
@@ -14,7 +13,6 @@ use crate::server::server_break;
 use dme_line::Text;
 use line_framing::{FramingFault, Line};
 use std::alloc::{AllocError, Global};
-use std::marker::Model;
 use witness::{Side, cut_lines};
 
 /// A line that breaks a rule.
@@ -30,53 +28,14 @@ pub struct Break {
 /// What two recordings of a connection say of either end.
 #[derive(Drop)]
 pub struct Judgement {
-    client: Option<Break>,
-    server: Option<Break>,
-    commands: Vec<usize>,
-    marks: Vec<usize>,
-}
-
-impl Model for Judgement {
-    ghost use Rattle.witness_judge.specs.Judging.{Judged};
-
-    ghost Value = { Judged };
-
-    ghost view = { λ j. record {
-      client = j.client;
-      server = j.server;
-      commands = j.commands.items;
-      marks = j.marks.items;
-    } };
-}
-
-impl Judgement {
     /// The first line of the client that breaks a rule.
-    pub fn client(&self) -> &Option<Break>
-        ensures { result.now ≡ self.now.client }
-    {
-        &self.client
-    }
-
+    pub client: Option<Break>,
     /// The first line of the server that breaks a rule.
-    pub fn server(&self) -> &Option<Break>
-        ensures { result.now ≡ self.now.server }
-    {
-        &self.server
-    }
-
+    pub server: Option<Break>,
     /// How many lines of the client have the name of each command, in the order of `KINDS`, and last how many have none of them.
-    pub fn commands(&self) -> &[usize]
-        ensures { result.now ≡ self.now.commands }
-    {
-        self.commands.as_slice()
-    }
-
+    pub commands: Vec<usize>,
     /// How many lines of the server are of each mark: received, data, complete, error.
-    pub fn marks(&self) -> &[usize]
-        ensures { result.now ≡ self.now.marks }
-    {
-        self.marks.as_slice()
-    }
+    pub marks: Vec<usize>,
 }
 
 fn framing_rule(fault: FramingFault) -> Rule
@@ -103,7 +62,6 @@ fn end_break(found: Option<Found>, count: usize, fault: Option<FramingFault>) ->
     })
 }
 
-/// A break with its line. Fails only if out of memory.
 fn shown(alloc: Global, lines: &[Line], found: Option<Found>) -> Result<Option<Break>, AllocError>
     ensures { IfOk result (λ shown. shown ≡ option_map (spec.shown lines.now) found) }
 {
@@ -141,7 +99,13 @@ pub fn judge(
     let heard = heard_lines(alloc, down_lines.as_slice())?;
     let (seen, sent, heard) = (seen.as_slice(), sent.as_slice(), heard.as_slice());
     let (course, server) = server_break(alloc, seen, sent, heard)?;
-    let client = client_break(alloc, seen, sent, heard, &course)?;
+    let both = Both {
+        seen,
+        up: sent,
+        down: heard,
+        course: &course,
+    };
+    let client = client_break(alloc, both)?;
     let client = end_break(client, sent.len(), up_fault);
     let server = end_break(server, heard.len(), down_fault);
     Ok(Judgement {

@@ -1,13 +1,7 @@
 // What follows from the definitions alone.
 
 ghost use Rattle.std.specs.Prelude.{◌≡◌, ◌+◌, ◌-◌, ◌≤◌, ℕ, List, [], Some, None};
-ghost use Rattle.witness_judge.specs.ClientRules.{client_rule};
-ghost use Rattle.witness_judge.specs.ServerRules.{server_rule};
-ghost use Rattle.witness_judge.specs.Judging.{BreaksAt, first_break};
-ghost use Rattle.witness_judge.specs.declared.lines.Heard.{Heard};
-ghost use Rattle.witness_judge.specs.declared.lines.Sent.{Sent};
-ghost use Rattle.witness_judge.specs.declared.rules.Found.{Found};
-ghost use Rattle.witness_judge.specs.declared.rules.Rule.{Rule};
+ghost use Rattle.witness_judge.specs.Names.{client_rule, server_rule, BreaksAt, first_break, Heard, Sent, Found, Rule};
 
 /// Of the client: the line that is found breaks the rule that is named, no line before it breaks any, and if none is found no line does.
 #[tactic(auto, using(crate::proofs::FirstBreaks::breaks_there))]

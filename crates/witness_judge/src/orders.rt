@@ -7,7 +7,6 @@ use line_framing::Line;
 use std::alloc::{AllocError, Global};
 use witness::Side;
 
-/// How many bytes of an end a piece has.
 fn count_of(side: Side, piece: (Side, u64)) -> u64
     ensures { result ≡ spec.count_of side piece }
 {

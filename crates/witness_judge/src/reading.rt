@@ -1,9 +1,7 @@
 // What each line is.
 
-ghost use Rattle.std.specs.Prelude.{◌≡◌, map, drop, IfOk};
-ghost use Rattle.fixed_um.specs.declared.lengths.Point.{Point};
-ghost use Rattle.dme_line.specs.Responses.{the_mark};
-ghost use Rattle.protocol_model.specs.Readings.{command_of, response_of};
+ghost use Rattle.std.specs.Prelude.{◌≡◌, map, IfOk};
+ghost use Rattle.witness_judge.specs.Names.{Point, the_mark, command_of, response_of};
 ghost use Rattle.witness_judge.specs.Lines as spec;
 
 use crate::lines::{Data, Heard, Reply, Sent, Severity};
@@ -11,13 +9,6 @@ use dme_line::{LineFault, MarkSlice, cut_response, read_command, read_homed, rea
 use line_framing::Line;
 use std::alloc::{AllocError, Global};
 use witness::only_asks;
-
-fn behind_tag(line: &[u8]) -> &[u8]
-    ensures { result.now ≡ drop 6 line.now }
-{
-    let (_, text) = line.split_at(line.len().min(6));
-    text
-}
 
 /// What a line of the client is, given without its end. Fails only if out of memory.
 #[tactic(auto, using(crate::proofs::Readings::one_command))]
@@ -27,7 +18,7 @@ fn sent_of(alloc: Global, line: &[u8]) -> Result<Sent, AllocError>
     match read_command(alloc, line)? {
         Ok((tag, command)) => Ok(Sent::Command(tag, command.kind())),
         Err(LineFault::NoTag) => Ok(Sent::Untagged),
-        Err(LineFault::UnknownCommand(tag)) => if only_asks(behind_tag(line)) {
+        Err(LineFault::UnknownCommand(tag)) => if only_asks(line) {
             Ok(Sent::Standard(tag))
         } else {
             Ok(Sent::Unknown(tag))
@@ -80,7 +71,6 @@ fn heard_of(line: &[u8]) -> Heard
     }
 }
 
-/// What each line of the client is. Fails only if out of memory.
 pub(crate) fn sent_lines(alloc: Global, lines: &[Line]) -> Result<Vec<Sent>, AllocError>
     ensures { IfOk result (λ all. all.items ≡ map spec.sent_of lines.now) }
 {
@@ -91,13 +81,11 @@ pub(crate) fn sent_lines(alloc: Global, lines: &[Line]) -> Result<Vec<Sent>, All
     Ok(all)
 }
 
-/// What each line of the server is. Fails only if out of memory.
 pub(crate) fn heard_lines(alloc: Global, lines: &[Line]) -> Result<Vec<Heard>, AllocError>
     ensures { IfOk result (λ all. all.items ≡ map spec.heard_of lines.now) }
 {
-    let mut all = Vec::with_capacity(alloc, lines.len())?;
-    for line in lines {
-        all.push(heard_of(line.as_slice()))?;
-    }
-    Ok(all)
+    lines
+        .iter()
+        .map(|line| heard_of(line.as_slice()))
+        .collect(alloc)
 }

@@ -1,10 +1,8 @@
 // The first line of the server that breaks a rule.
 
 ghost use Rattle.std.specs.Prelude.{◌≡◌, ◌<◌, ◌≤◌, ◌+◌, ◌^◌, ◌∷◌, [], drop, length, reverse, slice_get, Some, None, IfOk};
-ghost use Rattle.std.specs.Option.{option_or};
+ghost use Rattle.witness_judge.specs.Names.{option_or, AreAllNoted, IsCourse, stage_of, first_break, found_at};
 ghost use Rattle.witness_judge.specs.ServerRules as spec;
-ghost use Rattle.witness_judge.specs.Uses.{AreAllNoted, IsCourse, stage_of};
-ghost use Rattle.witness_judge.specs.Judging.{first_break, found_at};
 
 use crate::course::{Course, Notes};
 use crate::lines::{Data, Heard, Reply, Sent, Severity};
@@ -12,21 +10,13 @@ use crate::rules::{Asks, Found, Rule, Sought, Stage, Standing};
 use dme_line::{Kind, Tag};
 use std::alloc::{AllocError, Global};
 
-fn kind_asks(kind: Kind) -> Asks
-    ensures { result ≡ spec.kind_asks kind }
-{
-    match kind {
-        Kind::PtMeas => Asks::Point,
-        Kind::IsHomed => Asks::Homed,
-        _ => Asks::Nothing,
-    }
-}
-
 fn asks_under(doubtful: bool, sent: Sent) -> Asks
     ensures { result ≡ spec.asks_under doubtful sent }
 {
     match sent {
-        Sent::Command(_, kind) if !doubtful => kind_asks(kind),
+        Sent::Command(_, Kind::PtMeas) if !doubtful => Asks::Point,
+        Sent::Command(_, Kind::IsHomed) if !doubtful => Asks::Homed,
+        Sent::Command(_, _) if !doubtful => Asks::Nothing,
         _ => Asks::Anything,
     }
 }
@@ -41,12 +31,6 @@ fn is_open(stage: Stage) -> bool
     ensures { result ≡ spec.is_open stage }
 {
     matches!(stage, Stage::Sent | Stage::Received | Stage::Given)
-}
-
-fn is_ended(stage: Stage) -> bool
-    ensures { result ≡ spec.is_ended stage }
-{
-    matches!(stage, Stage::Ended)
 }
 
 fn is_abort(sent: Sent) -> bool
@@ -72,12 +56,11 @@ fn is_sought(sought: Sought, sent: Sent, stage: Stage) -> bool
 {
     match sought {
         Sought::Open => is_queued(sent) && is_open(stage),
-        Sought::Unended => is_queued(sent) && !is_ended(stage),
+        Sought::Unended => is_queued(sent) && !matches!(stage, Stage::Ended),
         Sought::Clearing => is_clear(sent) && is_open(stage),
     }
 }
 
-/// How far the command at a place is.
 fn stage_at(up: &[Sent], above: &[Heard], notes: &Notes, at: usize) -> Stage
     requires notes { AreAllNoted up.now (reverse above.now) notes.now }
     requires within { at < length up.now }
@@ -115,7 +98,6 @@ fn front(sought: Sought, up: &[Sent], above: &[Heard], notes: &Notes, from: usiz
     up.len()
 }
 
-/// Whether a line of the server is an error after which nothing more is carried out.
 fn is_halt(heard: Heard) -> bool
     ensures { result ≡ spec.halts heard }
 {
@@ -155,13 +137,12 @@ fn data_rule(stage: Stage, asks: Asks, turn: bool, given: Data) -> Option<Rule>
 fn end_rule(turn: bool, barred: bool, left: bool) -> Option<Rule>
     ensures { result ≡ spec.end_rule turn barred left }
 {
-    if !turn {
-        return Some(Rule::NotInTurn);
+    match (turn, barred, left) {
+        (false, _, _) => Some(Rule::NotInTurn),
+        (true, true, _) => Some(Rule::NotCleared),
+        (true, false, true) => Some(Rule::NoEnd),
+        (true, false, false) => None,
     }
-    if barred {
-        return Some(Rule::NotCleared);
-    }
-    if left { Some(Rule::NoEnd) } else { None }
 }
 
 fn complete_rule(stage: Stage, asks: Asks, ending: Option<Rule>) -> Option<Rule>
@@ -175,7 +156,6 @@ fn complete_rule(stage: Stage, asks: Asks, ending: Option<Rule>) -> Option<Rule>
     }
 }
 
-/// The rule that a mark for a command breaks.
 fn mark_rule(
     stage: Stage,
     asks: Asks,
@@ -205,80 +185,65 @@ fn unasked_rule(tag: Tag) -> Option<Rule>
     }
 }
 
-fn is_doubtful(up: &[Sent], above: &[Heard], course: &Course, tag: Tag) -> bool
-    requires { IsCourse up.now (reverse above.now) course.now }
-    ensures { result ≡ spec.is_doubtful (reverse above.now) tag }
-{
-    course.has_end(up, above, tag) && course.moment.refusals > 0
-}
-
-fn is_in_turn(
-    up: &[Sent],
-    above: &[Heard],
-    course: &Course,
+/// The lines above a line of the server, and what is kept of them.
+#[derive(Clone, Copy)]
+struct SoFar<'a> {
+    up: &'a [Sent],
+    above: &'a [Heard],
+    course: &'a Course,
     standing: Standing,
-    at: usize,
-    sent: Sent,
-) -> bool
-    requires course { IsCourse up.now (reverse above.now) course.now }
-    requires standing { spec.IsStanding up.now (reverse above.now) standing }
-    ensures { result ≡ spec.is_in_turn up.now (reverse above.now) at sent }
-{
-    !(is_queued(sent) || is_abort(sent)) || course.moment.refusals > 0 || !(standing.waiting < at)
 }
 
-/// Whether an error bars a command, if it is the first that is open.
-fn is_halted(up: &[Sent], above: &[Heard], course: &Course, standing: Standing, sent: Sent) -> bool
-    requires course { IsCourse up.now (reverse above.now) course.now }
-    requires standing { spec.IsStanding up.now (reverse above.now) standing }
-    ensures { result ≡ spec.is_halted up.now (reverse above.now)
-        (spec.front Sought.Open up.now (reverse above.now)) sent }
+fn is_doubtful(so: SoFar<'_>, tag: Tag) -> bool
+    requires { IsCourse so.up.now (reverse so.above.now) so.course.now }
+    ensures { result ≡ spec.is_doubtful (reverse so.above.now) tag }
 {
-    is_queued(sent) && !is_clear(sent) && course.moment.refusals == 0 && standing.barred
+    so.course.has_end(so.up, so.above, tag) && so.course.moment.refusals > 0
 }
 
-fn leaves_some(
-    up: &[Sent],
-    above: &[Heard],
-    course: &Course,
-    standing: Standing,
-    at: usize,
-    sent: Sent,
-) -> bool
-    requires course { IsCourse up.now (reverse above.now) course.now }
-    requires standing { spec.IsStanding up.now (reverse above.now) standing }
-    ensures { result ≡ spec.leaves_some up.now (reverse above.now) at sent }
+fn is_in_turn(so: SoFar<'_>, at: usize, sent: Sent) -> bool
+    requires course { IsCourse so.up.now (reverse so.above.now) so.course.now }
+    requires standing { spec.IsStanding so.up.now (reverse so.above.now) so.standing }
+    ensures { result ≡ spec.is_in_turn so.up.now (reverse so.above.now) at sent }
 {
-    is_session_end(sent) && course.moment.refusals == 0 && standing.unended < at
+    !(is_queued(sent) || is_abort(sent))
+        || so.course.moment.refusals > 0
+        || !(so.standing.waiting < at)
 }
 
-/// The rule that a mark for the command at a place breaks.
+fn is_halted(so: SoFar<'_>, sent: Sent) -> bool
+    requires course { IsCourse so.up.now (reverse so.above.now) so.course.now }
+    requires standing { spec.IsStanding so.up.now (reverse so.above.now) so.standing }
+    ensures { result ≡ spec.is_halted so.up.now (reverse so.above.now)
+        (spec.front Sought.Open so.up.now (reverse so.above.now)) sent }
+{
+    is_queued(sent) && !is_clear(sent) && so.course.moment.refusals == 0 && so.standing.barred
+}
+
+fn leaves_some(so: SoFar<'_>, at: usize, sent: Sent) -> bool
+    requires course { IsCourse so.up.now (reverse so.above.now) so.course.now }
+    requires standing { spec.IsStanding so.up.now (reverse so.above.now) so.standing }
+    ensures { result ≡ spec.leaves_some so.up.now (reverse so.above.now) at sent }
+{
+    is_session_end(sent) && so.course.moment.refusals == 0 && so.standing.unended < at
+}
+
 #[tactic(auto, using(crate::proofs::Standings::first_ends))]
-fn command_rule(
-    up: &[Sent],
-    above: &[Heard],
-    course: &Course,
-    standing: Standing,
-    tag: Tag,
-    reply: Reply,
-    at: usize,
-    sent: Sent,
-) -> Option<Rule>
-    requires course { IsCourse up.now (reverse above.now) course.now }
-    requires standing { spec.IsStanding up.now (reverse above.now) standing }
-    requires within { at < length up.now }
-    requires there { slice_get up.now at ≡ Some sent }
-    ensures { result ≡ spec.command_rule up.now (reverse above.now) tag reply at sent }
+fn command_rule(so: SoFar<'_>, tag: Tag, reply: Reply, at: usize, sent: Sent) -> Option<Rule>
+    requires course { IsCourse so.up.now (reverse so.above.now) so.course.now }
+    requires standing { spec.IsStanding so.up.now (reverse so.above.now) so.standing }
+    requires within { at < length so.up.now }
+    requires there { slice_get so.up.now at ≡ Some sent }
+    ensures { result ≡ spec.command_rule so.up.now (reverse so.above.now) tag reply at sent }
 {
-    let stage = stage_at(up, above, &course.notes, at);
-    let asks = asks_under(is_doubtful(up, above, course, tag), sent);
-    let turn = is_in_turn(up, above, course, standing, at, sent);
-    let barred = is_halted(up, above, course, standing, sent);
-    let left = leaves_some(up, above, course, standing, at, sent);
+    let stage = stage_at(so.up, so.above, &so.course.notes, at);
+    let asks = asks_under(is_doubtful(so, tag), sent);
+    let turn = is_in_turn(so, at, sent);
+    let barred = is_halted(so, sent);
+    let left = leaves_some(so, at, sent);
     mark_rule(stage, asks, turn, end_rule(turn, barred, left), reply)
 }
 
-/// Whether the line of the client at a place was not whole when the server's was, by how many were.
 fn was_later(count: Option<usize>, at: usize) -> bool
     ensures { result ≡ spec.was_later count at }
 {
@@ -288,30 +253,22 @@ fn was_later(count: Option<usize>, at: usize) -> bool
     }
 }
 
-/// The rule that a line breaks under the lines above it.
-fn rule_of(
-    seen: &[usize],
-    up: &[Sent],
-    above: &[Heard],
-    course: &Course,
-    standing: Standing,
-    heard: Heard,
-) -> Option<Rule>
-    requires course { IsCourse up.now (reverse above.now) course.now }
-    requires standing { spec.IsStanding up.now (reverse above.now) standing }
-    ensures { result ≡ spec.server_rule seen.now up.now (reverse above.now) heard }
+fn rule_of(seen: &[usize], so: SoFar<'_>, heard: Heard) -> Option<Rule>
+    requires course { IsCourse so.up.now (reverse so.above.now) so.course.now }
+    requires standing { spec.IsStanding so.up.now (reverse so.above.now) so.standing }
+    ensures { result ≡ spec.server_rule seen.now so.up.now (reverse so.above.now) heard }
 {
     let Heard::Response(tag, reply) = heard else {
         return Some(Rule::NotResponse);
     };
-    let Some(at) = course.place(up, above, tag) else {
+    let Some(at) = so.course.place(so.up, so.above, tag) else {
         return unasked_rule(tag);
     };
-    if was_later(seen.get(above.len()).copied(), at) {
+    if was_later(seen.get(so.above.len()).copied(), at) {
         return Some(Rule::NotSent);
     }
-    match up.get(at) {
-        Some(sent) => command_rule(up, above, course, standing, tag, reply, at, *sent),
+    match so.up.get(at) {
+        Some(sent) => command_rule(so, tag, reply, at, *sent),
         None => None,
     }
 }
@@ -327,7 +284,6 @@ fn reach_after(halts: bool, clearing: usize, reach: usize) -> usize
     }
 }
 
-/// Whether an error bars the first command that is open.
 fn first_barred(now: usize, before: usize, reach: usize, barred: bool) -> bool
     ensures { result ≡ spec.first_barred now before reach barred }
 {
@@ -361,7 +317,6 @@ fn stand(
     }
 }
 
-/// How far all commands are, before any line of the server.
 fn at_first(up: &[Sent], none: &[Heard], notes: &Notes) -> Standing
     requires none { none.now ≡ [] }
     requires notes { AreAllNoted up.now (reverse none.now) notes.now }
@@ -376,7 +331,6 @@ fn at_first(up: &[Sent], none: &[Heard], notes: &Notes) -> Standing
     }
 }
 
-/// What was found first, with a line more, which may break a rule.
 fn found_or(found: Option<Found>, at: usize, rule: Option<Rule>) -> Option<Found>
     requires { at < 2 ^ 63 }
     ensures { result ≡ option_or found (found_at (at + 1) rule None) }
@@ -411,11 +365,13 @@ pub(crate) fn server_break(
         let (above, _) = down.split_at(at);
         let (lines, _) = down.split_at(at + 1);
         let heard = down[at];
-        found = found_or(
-            found,
-            at,
-            rule_of(seen, up, above, &course, standing, heard),
-        );
+        let so = SoFar {
+            up,
+            above,
+            course: &course,
+            standing,
+        };
+        found = found_or(found, at, rule_of(seen, so, heard));
         course.hear(up, above, heard)?;
         standing = stand(up, above, lines, heard, &course.notes, standing);
     }

@@ -1,15 +1,13 @@
 // The uses of each tag.
 
 ghost use Rattle.std.specs.Prelude.{◌≡◌, ◌<◌, ◌+◌, ◌^◌, ℕ, Some, None, if◌then◌else◌, length, get_or, IfOk, OnOk};
-ghost use Rattle.protocol_model.specs.Replies.{tag_is};
-ghost use Rattle.dme_line.specs.declared.tags.Tag.{Tag};
+ghost use Rattle.witness_judge.specs.Names.{tag_is, Tag};
 ghost use Rattle.witness_judge.specs.Uses as spec;
 
 use crate::lines::Sent;
 use dme_line::Tag;
 use std::alloc::{AllocError, Global};
 
-/// The tag of a line of the client.
 pub(crate) fn tag_of(sent: Sent) -> Option<Tag>
     ensures { result ≡ spec.tag_of sent }
 {
@@ -30,7 +28,6 @@ fn code_of(tag: Tag) -> usize
     }
 }
 
-/// What a table has for a tag.
 pub(crate) fn look(table: &[Option<usize>], tag: Tag) -> Option<usize>
     ensures { result ≡ spec.found table.now tag }
 {
@@ -42,7 +39,6 @@ pub(crate) fn look(table: &[Option<usize>], tag: Tag) -> Option<usize>
     }
 }
 
-/// Room for a number in a table. Fails only if out of memory.
 fn make_room(table: &mut Vec<Option<usize>>, code: usize) -> Result<(), AllocError>
     requires { code < 2 ^ 40 }
     ensures room { OnOk result (code < length table.new.items) }
@@ -65,7 +61,6 @@ fn change(table: &mut Vec<Option<usize>>, code: usize, place: Option<usize>)
     table[code] = place;
 }
 
-/// Changes what a table has for a tag. Fails only if out of memory.
 #[tactic(auto, using(crate::proofs::TagTables::put_found))]
 pub(crate) fn put(
     table: &mut Vec<Option<usize>>,
@@ -117,7 +112,6 @@ fn note_use(later: &mut Later, up: &[Sent], at: usize) -> Result<(), AllocError>
     put(&mut later.first, tag, Some(at))
 }
 
-/// The uses of each tag. Fails only if out of memory.
 #[tactic(auto, using(crate::proofs::TagTables::next_none))]
 pub(crate) fn later_uses(alloc: Global, up: &[Sent]) -> Result<Later, AllocError>
     ensures first { IfOk result (λ l. spec.AreFirst up.now 0 l.first.items) }

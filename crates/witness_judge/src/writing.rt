@@ -1,9 +1,7 @@
 // What is printed of a judgement.
 
 ghost use Rattle.std.specs.Prelude.{◌≡◌, ◌++◌, ◌<◌, length, slice_get, OnOk, IfOk, string_bytes};
-ghost use Rattle.fixed_um.specs.Calls.{Writes};
-ghost use Rattle.dme_line.specs.Kinds.{kind_name};
-ghost use Rattle.witness_judge.specs.Counts.{kinds};
+ghost use Rattle.witness_judge.specs.Names.{Writes, kind_name, kinds};
 ghost use Rattle.witness_judge.specs.Texts as spec;
 
 use crate::counts::KINDS;
@@ -59,7 +57,6 @@ fn kind_word(kind: Kind) -> &'static str
     }
 }
 
-/// Appends a line after a space, as it can be read.
 fn push_line(text: &mut String, line: &[u8]) -> Result<(), AllocError>
     ensures { OnOk result (string_bytes text.new ≡ string_bytes text.old ++ spec.line_text line.now) }
 {
@@ -92,7 +89,6 @@ fn push_end(text: &mut String, side: &str, broken: &Option<Break>) -> Result<(),
     }
 }
 
-/// Appends a count with its word, but not that of nothing.
 fn push_count(text: &mut String, word: &str, count: usize) -> Result<(), AllocError>
     ensures { OnOk result (string_bytes text.new ≡ string_bytes text.old
         ++ spec.count_text word.now count) }
@@ -103,7 +99,6 @@ fn push_count(text: &mut String, word: &str, count: usize) -> Result<(), AllocEr
     writeln!(text, "{word} {count}")
 }
 
-/// The word of the count at a place.
 fn word_at(at: usize) -> &'static str
     ensures { result.now ≡ spec.word_of (slice_get kinds at) }
 {
@@ -113,7 +108,6 @@ fn word_at(at: usize) -> &'static str
     }
 }
 
-/// Appends the counts of the lines of the client.
 fn push_commands(text: &mut String, counts: &[usize]) -> Result<(), AllocError>
     ensures { OnOk result (string_bytes text.new ≡ string_bytes text.old
         ++ spec.commands_text 0 counts.now) }
@@ -124,7 +118,6 @@ fn push_commands(text: &mut String, counts: &[usize]) -> Result<(), AllocError>
     Ok(())
 }
 
-/// Appends the counts of the lines of the server.
 fn push_marks(text: &mut String, counts: &[usize]) -> Result<(), AllocError>
     ensures { OnOk result (string_bytes text.new ≡ string_bytes text.old
         ++ spec.marks_text counts.now) }
@@ -138,19 +131,18 @@ fn push_marks(text: &mut String, counts: &[usize]) -> Result<(), AllocError>
     push_count(text, "!", *errors)
 }
 
-/// The text of a judgement. Fails only if out of memory.
 fn text_of(alloc: Global, judgement: &Judgement) -> Result<String, AllocError>
     ensures { IfOk result (λ text. string_bytes text ≡ spec.judgement_text judgement.now) }
 {
     let mut text = String::new(alloc);
-    if judgement.client().is_none() && judgement.server().is_none() {
+    if judgement.client.is_none() && judgement.server.is_none() {
         text.push_str("dme: no line breaks the rules\n")?;
-        push_commands(&mut text, judgement.commands())?;
-        push_marks(&mut text, judgement.marks())?;
+        push_commands(&mut text, judgement.commands.as_slice())?;
+        push_marks(&mut text, judgement.marks.as_slice())?;
         return Ok(text);
     }
-    push_end(&mut text, "CLIENT", judgement.client())?;
-    push_end(&mut text, "SERVER", judgement.server())?;
+    push_end(&mut text, "CLIENT", &judgement.client)?;
+    push_end(&mut text, "SERVER", &judgement.server)?;
     Ok(text)
 }
 
@@ -164,7 +156,7 @@ pub fn write_judgement(out: &mut Vec<u8>, judgement: &Judgement) -> Result<u8, A
 {
     let text = text_of(*out.allocator(), judgement)?;
     out.extend_from_slice(text.as_bytes())?;
-    if judgement.client().is_none() && judgement.server().is_none() {
+    if judgement.client.is_none() && judgement.server.is_none() {
         return Ok(0);
     }
     Ok(3)

@@ -16,3 +16,4 @@ pub mod Premises
 pub mod Contacts
 pub mod Relays
 pub mod MachineExamples
+pub mod Names

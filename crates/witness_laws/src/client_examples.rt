@@ -1,22 +1,9 @@
 // Examples: what a witness reports of clients that are written out.
 
 ghost use Rattle.std.specs.Prelude.{◌≡◌, [], ◌∷◌, codes, false, true, Some, None};
-ghost use Rattle.std.specs.List.{list_all};
-ghost use Rattle.fixed_um.specs.declared.frames.Frame.TheVariants.{Machine};
+ghost use Rattle.witness_laws.specs.Names.{list_all, Machine, written_command, Std, Event, Connected, Send, Feed, ReadOne, Abort, Resume, Leave, Restart, Sent, behind_calls, silence, Did, MovedSomewhere, FramedSomehow, Touched, Unasked, Left, completed, changing, Up, Down, said_all, BeginsWith, Claims, BeginsToClaim, Calls, Comes, after_turns, AreCausal, AreUnanswered, unasked_turns, witnessed, unasked, stays, behind_visits, told_of_all, some_unasked, BeginSo, written_of, sent, watching, sending, fresh, unread_on, two, relayed, homing, zero, stray, origin, touch, zero_read};
 ghost use Rattle.contact_ledger.specs.declared.acts.Act.TheVariants as act;
-ghost use Rattle.dme_line.specs.Written.{written_command};
 ghost use Rattle.dme_line.specs.declared.commands.Command.TheVariants as command;
-ghost use Rattle.dme_line.specs.declared.tags.Tag.TheVariants.{Std, Event};
-ghost use Rattle.client_core.specs.Calls.{Connected, Send, Feed, ReadOne, Abort, Resume, Leave, Restart, Sent, behind_calls};
-ghost use Rattle.witness.specs.Dialogues.{silence};
-ghost use Rattle.witness.specs.declared.lines.Reported.TheVariants.{Did, MovedSomewhere, FramedSomehow, Touched, Unasked, Left};
-ghost use Rattle.told_acts.specs.Examples.{completed, changing};
-ghost use Rattle.witness_laws.specs.Orders.{Up, Down, said_all};
-ghost use Rattle.witness_laws.specs.Acts.{BeginsWith, Claims, BeginsToClaim};
-ghost use Rattle.witness_laws.specs.Ahead.{Calls, Comes, after_turns, AreCausal, AreUnanswered, unasked_turns};
-ghost use Rattle.witness_laws.specs.Lines.{witnessed, unasked};
-ghost use Rattle.witness_laws.specs.Visits.{stays, behind_visits, told_of_all, some_unasked, BeginSo, written_of};
-ghost use Rattle.witness_laws.specs.ClientExamples.{sent, watching, sending, fresh, unread_on, two, relayed, homing, zero, stray, origin, touch, zero_read};
 
 /// A witness reads the lines that the client writes, in their order, and the line that it reads. It begins anew with a connection and with a
 /// restart, but not where the connection is left, and not by a call that is not possible.

@@ -1,21 +1,7 @@
 // What follows from the definitions. Each function has laws for its contract and does nothing.
 
 ghost use Rattle.std.specs.Prelude.{◌≡◌, ℕ, Bool, List, ◌++◌, false, true};
-ghost use Rattle.std.specs.List.{list_all};
-ghost use Rattle.contact_ledger.specs.declared.features.Feature.{Feature as OneFeature};
-ghost use Rattle.dmis_program.specs.Meaning.{Meaning};
-ghost use Rattle.dmis_program.specs.Programs.{IsProgram};
-ghost use Rattle.protocol_model.specs.Ends.{new_client_end};
-ghost use Rattle.client_core.specs.Calls.{Call, Connected, possible, behind_calls, client_behind};
-ghost use Rattle.client_core.specs.Clients.{are_ours, is_faulted};
-ghost use Rattle.witness.specs.Dialogues.{silence};
-ghost use Rattle.witness.specs.declared.lines.Reported.{Reported};
-ghost use Rattle.told_files.specs.Runs.{SoundByTold};
-ghost use Rattle.witness_laws.specs.Orders.{Line, said_all};
-ghost use Rattle.witness_laws.specs.Acts.{all_done, BeginsWith, Claims, BeginsToClaim};
-ghost use Rattle.witness_laws.specs.Ahead.{Turn, after_turns, begun_on, AreCausal, unasked_turns};
-ghost use Rattle.witness_laws.specs.Lines.{witnessed, unasked};
-ghost use Rattle.witness_laws.specs.Visits.{Visit, is_visit, behind_visits, told_of_all, some_unasked, BeginSo, written_of};
+ghost use Rattle.witness_laws.specs.Names.{list_all, Feature as OneFeature, Meaning, IsProgram, new_client_end, Call, Connected, possible, behind_calls, client_behind, are_ours, is_faulted, silence, Reported, SoundByTold, Line, said_all, all_done, BeginsWith, Claims, BeginsToClaim, Turn, after_turns, begun_on, AreCausal, unasked_turns, witnessed, unasked, Visit, is_visit, behind_visits, told_of_all, some_unasked, BeginSo, written_of};
 
 /// After every list of calls of a client with any program and kept features that are its own, whatever bytes are fed: a witness of its
 /// connection, which reads the lines that the client writes and those that it reads, and to which the order between the two ends is known or

@@ -1,11 +1,7 @@
 // Examples: histories that are written out. What keeps the premises; and what is known that was not so where one of them is broken.
 
 ghost use Rattle.std.specs.Prelude.{◌≡◌, [], ◌∷◌, reverse, Some, None, codes, pos, negsuc};
-ghost use Rattle.fixed_um.specs.declared.frames.Frame.TheVariants.{Machine, Part};
-ghost use Rattle.witness_laws.specs.MachineExamples.{known, tool_had, frame_had, p1, p2, plain, in_part, crosswise, sent_untagged, sent_foreign, homed, fell_off, late_end, used_again, taken_again};
-ghost use Rattle.witness_laws.specs.MachineExamples.{acts_late, touch_takes, zero_selects, change_first, once_late, not_made, not_held, two_clients, no_contact};
-ghost use Rattle.witness_laws.specs.MachineExamples.{BreaksWithin, BreaksOrder, BreaksBefore, BreaksMade, BreaksReported, BreaksTouched};
-ghost use Rattle.witness_laws.specs.Premises.{Keeps, KeepsUnlessCrossed};
+ghost use Rattle.witness_laws.specs.Names.{Machine, Part, known, tool_had, frame_had, p1, p2, plain, in_part, crosswise, sent_untagged, sent_foreign, homed, fell_off, late_end, used_again, taken_again, acts_late, touch_takes, zero_selects, change_first, once_late, not_made, not_held, two_clients, no_contact, BreaksWithin, BreaksOrder, BreaksBefore, BreaksMade, BreaksReported, BreaksTouched, Keeps, KeepsUnlessCrossed};
 
 /// What is known is so.
 pub fn known_in_ordinary_histories()

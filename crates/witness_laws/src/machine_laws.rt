@@ -1,18 +1,7 @@
 // What follows from the premises. Each function has laws for its contract and does nothing.
 
 ghost use Rattle.std.specs.Prelude.{◌≡◌, ℕ, false, true, List, [], ◌∷◌, Option, Some, slice_get};
-ghost use Rattle.fixed_um.specs.declared.frames.Frame.{Frame as OneFrame};
-ghost use Rattle.dme_line.specs.declared.tags.Tag.{Tag};
-ghost use Rattle.witness.specs.Asking.{Answers, Signal};
-ghost use Rattle.witness.specs.Dialogues.{silence};
-ghost use Rattle.witness.specs.Rules.{reported_of};
-ghost use Rattle.witness.specs.declared.lines.Reported.{Reported as OneReport};
-ghost use Rattle.witness_laws.specs.Claims.{in_turn, ClaimNoMore};
-ghost use Rattle.witness_laws.specs.Orders.{Line, said_all, IsCausal};
-ghost use Rattle.witness_laws.specs.Contacts.{contact_tool, contact_frame, HadTool, HadFrame};
-ghost use Rattle.witness_laws.specs.Machines.{Entry, Message, lines};
-ghost use Rattle.witness_laws.specs.Premises.{KeepsUnlessCrossed};
-ghost use Rattle.witness_laws.specs.Relays.{IsReadLater, onto, IsSoOf};
+ghost use Rattle.witness_laws.specs.Names.{Frame as OneFrame, Tag, Answers, Signal, silence, reported_of, Reported as OneReport, in_turn, ClaimNoMore, Line, said_all, IsCausal, contact_tool, contact_frame, HadTool, HadFrame, Entry, Message, lines, KeepsUnlessCrossed, IsReadLater, onto, IsSoOf};
 
 /// Where a contact is reported with a tool or a frame that is known, the machine had it at the contact: in each history that keeps the premises,
 /// up to a line of the server and with it, and for each report that this line brings. It is the end of a touch then, whose contact was made.

@@ -1,22 +1,10 @@
 // Examples: what lines report in orders that are written out.
 
 ghost use Rattle.std.specs.Prelude.{◌≡◌, true, false, [], ◌∷◌, ◌++◌, Some, None};
-ghost use Rattle.std.specs.List.{list_any};
-ghost use Rattle.fixed_um.specs.declared.frames.Frame.TheVariants.{Machine};
+ghost use Rattle.witness_laws.specs.Names.{list_any, Machine, Std, silence, frame_of, IsClientRead, ledger, client_read, Did, MovedSomewhere, FramedSomehow, Other, Unasked, Broken, OutOfOrder, Client, in_turn, ClaimNoMore, lines_of, lines_came, AreLinesOf, home, received, refused, ended, selected, home_2, ended_2, untagged, selecting, early, failed_before, crossing, with_end, asked_too, read_both, asked_course, course, Up, Down, said_all, ups, downs, answers, some_at_once, refuses, IsCausal, IsClear, AreFresh, AreAnswers, IsPrefix};
+ghost use Rattle.witness_laws.specs.OrderExamples.{origin, answered};
+ghost use Rattle.witness_laws.specs.OrderExamples.{homing};
 ghost use Rattle.contact_ledger.specs.declared.acts.Act.TheVariants as act;
-ghost use Rattle.dme_line.specs.declared.tags.Tag.TheVariants.{Std};
-ghost use Rattle.witness.specs.Dialogues.{silence};
-ghost use Rattle.witness.specs.Known.{frame_of};
-ghost use Rattle.witness.specs.Relaying.{IsClientRead};
-ghost use Rattle.witness.specs.Watching.{ledger, client_read};
-ghost use Rattle.witness.specs.declared.lines.Reported.TheVariants.{Did, MovedSomewhere, FramedSomehow, Other, Unasked, Broken};
-ghost use Rattle.witness.specs.declared.lines.Rule.TheVariants.{OutOfOrder};
-ghost use Rattle.witness.specs.declared.lines.Side.TheVariants.{Client};
-ghost use Rattle.witness_laws.specs.Claims.{in_turn, ClaimNoMore};
-ghost use Rattle.witness_laws.specs.Courses.{lines_of, lines_came, AreLinesOf};
-ghost use Rattle.witness_laws.specs.OrderExamples.{home, received, refused, ended, selected, home_2, ended_2, untagged, origin, answered, selecting, early, failed_before};
-ghost use Rattle.witness_laws.specs.OrderExamples.{homing, crossing, with_end, asked_too, read_both, asked_course, course};
-ghost use Rattle.witness_laws.specs.Orders.{Up, Down, said_all, ups, downs, answers, some_at_once, refuses, IsCausal, IsClear, AreFresh, AreAnswers, IsPrefix};
 
 /// A reply that is read before its command reports something else. One to no command at all may be read at any time.
 pub fn replies_come_after_commands()

@@ -1,19 +1,8 @@
 // What follows for each order of lines. Each function has laws for its contract and does nothing.
 
 ghost use Rattle.std.specs.Prelude.{◌≡◌, ℕ, Bool, true, false, List, [], ◌∷◌, ◌++◌, map, Some};
-ghost use Rattle.std.specs.List.{list_any};
-ghost use Rattle.dme_line.specs.declared.tags.Tag.{Tag};
-ghost use Rattle.protocol_model.specs.Readings.{response_of};
-ghost use Rattle.witness.specs.Asking.{Sends};
-ghost use Rattle.witness.specs.Dialogues.{Dialogue, silence, after, foreign_event};
-ghost use Rattle.witness.specs.Known.{tool_of, frame_of};
-ghost use Rattle.witness.specs.Relaying.{Relaying, Course, Relays, IsAllTold};
-ghost use Rattle.witness.specs.Texts.{told_lines};
-ghost use Rattle.witness.specs.Watching.{Watching, AreAllRead, client_lines, server_lines, ledger};
-ghost use Rattle.witness.specs.declared.lines.SentCommand.{SentCommand};
-ghost use Rattle.witness_laws.specs.Claims.{reported_first, in_turn, ClaimNoMore};
-ghost use Rattle.witness_laws.specs.Courses.{lines_of, lines_came, AreLinesOf};
-ghost use Rattle.witness_laws.specs.Orders.{Line, Up, Down, said, said_all, ups, downs, two_send, answers, some_at_once, refuses, is_open, IsBehind, IsCausal, IsClear, IsCounted, IsFresh, AreFresh, AreAnswers, IsPrefix};
+ghost use Rattle.witness_laws.specs.Names.{list_any, Tag, response_of, Sends, Dialogue, silence, after, foreign_event, frame_of, Relaying, Course, Relays, IsAllTold, told_lines, Watching, AreAllRead, client_lines, server_lines, ledger, SentCommand, reported_first, in_turn, ClaimNoMore, lines_of, lines_came, AreLinesOf, Line, Up, Down, said, said_all, ups, downs, two_send, answers, some_at_once, refuses, is_open, IsBehind, IsCausal, IsClear, IsCounted, IsFresh, AreFresh, AreAnswers, IsPrefix};
+ghost use Rattle.witness.specs.Known.{tool_of};
 
 use witness::laws::what_is_written_was_reported;
 

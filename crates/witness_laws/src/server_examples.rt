@@ -1,32 +1,18 @@
 // Examples: reports and acts, and lines that calls read and answer, that are written out.
 
 ghost use Rattle.std.specs.Prelude.{◌≡◌, [], ◌∷◌, ◌++◌, codes, reverse, Some, None, true, false, Ok, Err};
-ghost use Rattle.fixed_um.specs.declared.frames.Frame.TheVariants.{Machine, Part};
-ghost use Rattle.contact_ledger.specs.declared.acts.Act.TheVariants as act;
-ghost use Rattle.dme_line.specs.declared.commands.Command.TheVariants as command;
-ghost use Rattle.dme_line.specs.declared.commands.Csy.TheVariants.{MachineCsy};
-ghost use Rattle.dme_line.specs.declared.reading.LineFault.TheVariants as fault;
-ghost use Rattle.dme_line.specs.declared.commands.Kind.TheVariants as kind;
-ghost use Rattle.dme_line.specs.declared.tags.Tag.TheVariants.{Std, Event};
-ghost use Rattle.protocol_model.specs.Replies.{Ack, Given, Done, Error as Refusal};
-ghost use Rattle.protocol_model.specs.declared.held.Datum.TheVariants as datum;
-ghost use Rattle.protocol_model.specs.declared.machine.Outcome.TheVariants as outcome;
+ghost use Rattle.witness_laws.specs.Names.{Machine, Part, MachineCsy, Std, Event, Ack, Given, Done, Error as Refusal, silence, touched, hears_event, all_reported, Did, MovedSomewhere, FramedSomehow, Touched, Other, Unasked, Broken, Known, Asking, Foreign, Client, is_foreign_under, breaks_only, act_reports, IsReportOf, AreReportsOf, tool_of, tool_named, frame_named, line_read, all_read, answered, keeps_out, seen, all_seen, uses_again, taking, reported, acts_after, IsCourse, new_server_end, reply_text, Up, Down, lines_seen, fed_by, all_fed, all_written, AreReportsOfFirst, at, contact, serving, runs, waits, line, heard};
 ghost use Rattle.server_core.specs.Calls.{ReadOne, Turn, Machine as Ends, Feed, Leave, Restart, Sent};
 ghost use Rattle.witness.specs.Asking.{Error as Refused};
-ghost use Rattle.witness.specs.Dialogues.{silence};
-ghost use Rattle.witness.specs.Examples.{touch, touched, hears_event};
-ghost use Rattle.witness.specs.Rules.{all_reported};
-ghost use Rattle.witness.specs.declared.lines.Reported.TheVariants.{Did, MovedSomewhere, FramedSomehow, Touched, Other, Unasked, Broken};
+ghost use Rattle.witness.specs.Examples.{touch};
+ghost use Rattle.witness_laws.specs.Reports.{frame_of};
+ghost use Rattle.contact_ledger.specs.declared.acts.Act.TheVariants as act;
+ghost use Rattle.dme_line.specs.declared.commands.Command.TheVariants as command;
+ghost use Rattle.dme_line.specs.declared.reading.LineFault.TheVariants as fault;
+ghost use Rattle.dme_line.specs.declared.commands.Kind.TheVariants as kind;
+ghost use Rattle.protocol_model.specs.declared.held.Datum.TheVariants as datum;
+ghost use Rattle.protocol_model.specs.declared.machine.Outcome.TheVariants as outcome;
 ghost use Rattle.witness.specs.declared.lines.Rule.TheVariants as rule;
-ghost use Rattle.witness.specs.declared.lines.SentCommand.TheVariants.{Known, Asking, Foreign};
-ghost use Rattle.witness.specs.declared.lines.Side.TheVariants.{Client};
-ghost use Rattle.witness_laws.specs.Reports.{is_foreign_under, breaks_only, act_reports, IsReportOf, AreReportsOf, tool_of, frame_of, tool_named, frame_named};
-ghost use Rattle.witness_laws.specs.Lockstep.{line_read, all_read, answered, keeps_out, seen, all_seen, uses_again, taking, reported, acts_after, IsCourse};
-ghost use Rattle.protocol_model.specs.Ends.{new_server_end};
-ghost use Rattle.protocol_model.specs.Lines.{reply_text};
-ghost use Rattle.witness_laws.specs.Orders.{Up, Down};
-ghost use Rattle.witness_laws.specs.Transit.{lines_seen, fed_by, all_fed, all_written, AreReportsOfFirst};
-ghost use Rattle.witness_laws.specs.ServerExamples.{at, contact, serving, runs, waits, line, heard};
 
 /// A report is the act, or has all of it but the tool or the frame. A rule that is broken is no act.
 pub fn report_rows()

@@ -1,19 +1,9 @@
 // What follows from the definitions. Each function has laws for its contract and does nothing.
 
 ghost use Rattle.std.specs.Prelude.{◌≡◌, ℕ, Bool, List, ◌++◌, false, true, Some, slice_get};
-ghost use Rattle.std.specs.List.{list_all};
-ghost use Rattle.fixed_um.specs.declared.frames.Frame.{Frame as OneFrame};
-ghost use Rattle.contact_ledger.specs.declared.acts.Act.{Act as OneAct};
-ghost use Rattle.protocol_model.specs.Ends.{ServerEnd};
-ghost use Rattle.protocol_model.specs.Lines.{reply_bytes};
-ghost use Rattle.server_core.specs.Calls.{Call, behind_call, reached};
-ghost use Rattle.server_core.specs.Serving.{may_accept};
-ghost use Rattle.witness.specs.Watching.{Watching, AreAllRead, ledger};
-ghost use Rattle.witness.specs.declared.lines.Reported.{Reported as OneReport};
-ghost use Rattle.witness_laws.specs.Orders.{ups, downs};
-ghost use Rattle.witness_laws.specs.Lockstep.{all_read, answered, keeps_out, taking, reported, acts_after, IsCourse};
-ghost use Rattle.witness_laws.specs.Reports.{some_foreign, breaks_only, act_reports, AreReportsOf, tool_of, frame_of, tool_named, frame_named};
-ghost use Rattle.witness_laws.specs.Transit.{lines_seen, all_fed, all_written, AreReportsOfFirst};
+ghost use Rattle.witness_laws.specs.Names.{list_all, Frame as OneFrame, Act as OneAct, ServerEnd, reply_bytes, behind_call, reached, may_accept, Watching, AreAllRead, ledger, Reported as OneReport, ups, downs, all_read, answered, keeps_out, taking, reported, acts_after, IsCourse, some_foreign, breaks_only, act_reports, AreReportsOf, tool_of, tool_named, frame_named, lines_seen, all_fed, all_written, AreReportsOfFirst};
+ghost use Rattle.server_core.specs.Calls.{Call};
+ghost use Rattle.witness_laws.specs.Reports.{frame_of};
 
 use crate::order_laws::{more_lines_report_more, recordings_claim_no_more};
 

@@ -11,7 +11,7 @@ use Rattle.witness.specs.Relaying.{Did, moved}
 use Rattle.witness.specs.Watching.{server_read}
 use Rattle.witness_laws.proofs.orders.Claimed.{ups_append, downs_append}
 use Rattle.witness_laws.proofs.orders.Counts.{silence_counted}
-use Rattle.witness_laws.proofs.orders.Courses.{IsRead, IsAt, read_stream, at_course, at_client, at_server, at_reads, written_recorded}
+use Rattle.witness_laws.proofs.orders.Courses.{IsRead, kept_all, IsAt, read_stream, at_course, at_client, at_server, at_reads, written_recorded}
 use Rattle.witness_laws.proofs.orders.Views.{IsSooner, same, swapped, sooner_causal, sooner_clear}
 
 -- ---- whole lines
@@ -67,7 +67,7 @@ read_whole : (bytes : List ℕ) (f : Framing) (lines : List (List ℕ)) → IsRe
     → whole_lines bytes ≡ lines
 read_whole bytes f lines r ended =
     let stream = read_stream bytes f lines r ended in
-    whole_is bytes lines stream.0 (fault_in (next_of f.rest)) stream.1
+    whole_is bytes lines stream.0 stream.1 stream.2
 
 -- ---- lines of the client earlier
 
@@ -248,7 +248,7 @@ waits_move c r new (ToServer n) did came lines at w = waits_same c.came_up c.cam
 waits_move c r new (ToClient n) did came lines at w = waits_same c.came_up c.came_down came lines w
 
 pub whole_none : whole_lines [] ≡ []
-whole_none = read_whole [] no_bytes [] (record { calls = []; bytes_are = refl; left = refl; out = refl }) (λ due. absurd (cc))
+whole_none = read_whole [] no_bytes [] (record { calls = []; bytes_are = refl; left = kept_all []; out = refl }) (λ due. absurd (cc))
 
 waits_course : (n : ℕ) (c : Course) (r : Relaying) (course : Relays n c r)
     → IsWaiting c.came_up c.came_down (lines_came n c r course) (lines_of n c r course)

@@ -4,11 +4,13 @@ use Rattle.witness_laws.proofs.Names.{begun, bytes_fed, Call, came, ClaimNoMore,
 use Rattle.witness_laws.proofs.Names.{Course, Dialogue, down_in, downs, Err, false, fault_in, fed, Feed, Framing, FromClient, FromServer, Front}
 use Rattle.witness_laws.proofs.Names.{handed_out, handed_out_all, IfOk, in_turn, IsAllTold, IsCausal, IsClear, IsLineDue, IsNone, IsStream, ledger}
 use Rattle.witness_laws.proofs.Names.{Line, line_in, lines_in, lines_of, lines_read, List, MakeDue, Move, next_of, no_bytes, NoLineLeft, None, none}
-use Rattle.witness_laws.proofs.Names.{Ok, one_stream, Read, Reads, ReadsClient, ReadsServer, refl, Relaying, Relays, Reported, said_all, server}
+use Rattle.witness_laws.proofs.Names.{Ok, one_stream, Option, Read, Reads, ReadsClient, ReadsServer, refl, Relaying, Relays, Reported, said_all, server}
 use Rattle.witness_laws.proofs.Names.{server_front, server_lines, server_times, silence, Some, subst, suc, sym, ToClient, told_lines, ToServer, true}
 use Rattle.witness_laws.proofs.Names.{up_in, ups, Watching, with_move, Write, zero, ℕ}
 use Rattle.witness.specs.Relaying.{Did, moved}
-use Rattle.witness.specs.Watching.{server_read}
+use Rattle.witness.specs.Watching.{server_read, after_first, left_after}
+use Rattle.line_framing.specs.Framing.{left_by}
+use Rattle.line_framing.specs.declared.faults.FramingFault.{FramingFault}
 use Rattle.witness.proofs.Prefixes.{with_reports, prefixed, client_after, server_after}
 use Rattle.witness_laws.proofs.orders.Claimed.{ups_append, downs_append, causal_without, told_unordered, ordered_claim}
 use Rattle.witness_laws.proofs.orders.More.{client_append, server_append}
@@ -35,11 +37,46 @@ out_append f (Ask ∷ calls) more =
     ap (λ (l : List (List ℕ)). line_in (next_of f.rest) ++ l) (out_append (after_next f) calls more)
     ∙ sym (append_assoc (line_in (next_of f.rest)) (handed_out (after_next f) calls) (handed_out (after_calls (after_next f) calls) more))
 
--- a buffer to which these bytes were fed and of which these lines were read
+-- what a witness keeps of a buffer: nothing of bytes that are no line
+pub data IsKept : Framing → Framing → Type 0 where
+  kept_all : (rest : List ℕ) → IsKept (record { rest = rest; fault = None }) (record { rest = rest; fault = None })
+  kept_none : (rest : List ℕ) (fault : FramingFault) → next_of rest ≡ Err fault
+      → IsKept (record { rest = rest; fault = Some fault }) (record { rest = []; fault = Some fault })
+
+kept_fed : (g f : Framing) (piece : List ℕ) → IsKept g f → IsKept (fed g piece) (fed f piece)
+kept_fed _ _ piece (kept_all rest) = kept_all (rest ++ piece)
+kept_fed _ _ piece (kept_none rest fault e) = kept_none rest fault e
+
+asked_all : (rest : List ℕ) (front : Front) → next_of rest ≡ front
+    → IsKept (left_by front (record { rest = rest; fault = None })) (left_after front (record { rest = rest; fault = None }))
+asked_all rest (Ok None) e = kept_all rest
+asked_all rest (Ok (Some (line, more))) e = kept_all more
+asked_all rest (Err fault) e = kept_none rest fault e
+
+kept_asked : (g f : Framing) → IsKept g f → IsKept (after_next g) (after_first f)
+kept_asked _ _ (kept_all rest) = asked_all rest (next_of rest) refl
+kept_asked _ _ (kept_none rest fault e) =
+    subst (λ (front : Front). IsKept (left_by front (record { rest = rest; fault = Some fault })) (record { rest = []; fault = Some fault })) (sym e)
+    (kept_none rest fault e)
+
+kept_line : (g f : Framing) → IsKept g f → line_in (next_of g.rest) ≡ line_in (next_of f.rest)
+kept_line _ _ (kept_all rest) = refl
+kept_line _ _ (kept_none rest fault e) = ap line_in e
+
+no_line : (front : Front) → (IsLineDue front → ⊥) → IfOk front IsNone
+no_line (Ok None) ended = refl
+no_line (Ok (Some found)) ended = absurd (ended refl)
+no_line (Err fault) ended = tt
+
+kept_ended : (g f : Framing) → IsKept g f → (IsLineDue (next_of f.rest) → ⊥) → NoLineLeft g
+kept_ended _ _ (kept_all rest) ended = no_line (next_of rest) ended
+kept_ended _ _ (kept_none rest fault e) ended = subst (λ (front : Front). IfOk front IsNone) (sym e) tt
+
+-- a witness to whom these bytes of an end came, and that read these lines of it
 pub record IsRead (bytes : List ℕ) (f : Framing) (lines : List (List ℕ)) : Type 0 where
   pub calls : List Call
   pub bytes_are : bytes_fed calls ≡ bytes
-  pub left : after_calls no_bytes calls ≡ f
+  pub left : IsKept (after_calls no_bytes calls) f
   pub out : handed_out no_bytes calls ≡ lines
 
 read_fed : (bytes piece : List ℕ) (f : Framing) (lines : List (List ℕ)) → IsRead bytes f lines → IsRead (bytes ++ piece) (fed f piece) lines
@@ -47,38 +84,34 @@ read_fed bytes piece f lines r = record {
   calls = r.calls ++ Feed piece ∷ [];
   bytes_are = fed_append r.calls (Feed piece ∷ []) ∙ ap (λ (l : List ℕ). l ++ (piece ++ [])) r.bytes_are
       ∙ ap (λ (l : List ℕ). bytes ++ l) (append-nil piece);
-  left = after_append no_bytes r.calls (Feed piece ∷ []) ∙ ap (λ (g : Framing). fed g piece) r.left;
+  left = subst (λ (g : Framing). IsKept g (fed f piece)) (sym (after_append no_bytes r.calls (Feed piece ∷ [])))
+      (kept_fed (after_calls no_bytes r.calls) f piece r.left);
   out = out_append no_bytes r.calls (Feed piece ∷ []) ∙ append-nil (handed_out no_bytes r.calls) ∙ r.out;
 }
 
 pub read_asked : (bytes : List ℕ) (f : Framing) (lines : List (List ℕ)) → IsRead bytes f lines
-    → IsRead bytes (after_next f) (lines ++ line_in (next_of f.rest))
+    → IsRead bytes (after_first f) (lines ++ line_in (next_of f.rest))
 read_asked bytes f lines r = record {
   calls = r.calls ++ Ask ∷ [];
   bytes_are = fed_append r.calls (Ask ∷ []) ∙ append-nil (bytes_fed r.calls) ∙ r.bytes_are;
-  left = after_append no_bytes r.calls (Ask ∷ []) ∙ ap after_next r.left;
+  left = subst (λ (g : Framing). IsKept g (after_first f)) (sym (after_append no_bytes r.calls (Ask ∷ [])))
+      (kept_asked (after_calls no_bytes r.calls) f r.left);
   out = out_append no_bytes r.calls (Ask ∷ [])
-      ∙ ap (λ (g : Framing). handed_out no_bytes r.calls ++ (line_in (next_of g.rest) ++ [])) r.left
+      ∙ ap (λ (l : List (List ℕ)). handed_out no_bytes r.calls ++ (l ++ [])) (kept_line (after_calls no_bytes r.calls) f r.left)
       ∙ ap (λ (l : List (List ℕ)). handed_out no_bytes r.calls ++ l) (append-nil (line_in (next_of f.rest)))
       ∙ ap (λ (l : List (List ℕ)). l ++ line_in (next_of f.rest)) r.out;
 }
 
-no_line : (front : Front) → (IsLineDue front → ⊥) → IfOk front IsNone
-no_line (Ok None) ended = refl
-no_line (Ok (Some found)) ended = absurd (ended refl)
-no_line (Err fault) ended = tt
-
 pub read_stream : (bytes : List ℕ) (f : Framing) (lines : List (List ℕ)) → IsRead bytes f lines → (IsLineDue (next_of f.rest) → ⊥)
-    → (rest : List ℕ) × IsStream bytes lines rest (fault_in (next_of f.rest))
+    → (rest : List ℕ) × (fault : Option FramingFault) × IsStream bytes lines rest fault
 read_stream bytes f lines r ended =
-    let all : (rest : List ℕ) × IsStream (bytes_fed r.calls) (handed_out no_bytes r.calls) rest
-    (fault_in (next_of (after_calls no_bytes r.calls).rest)) =
-    handed_out_all r.calls (subst NoLineLeft (sym r.left) (no_line (next_of f.rest) ended)) in (
+    let why : Option FramingFault = fault_in (next_of (after_calls no_bytes r.calls).rest) in
+    let all : (rest : List ℕ) × IsStream (bytes_fed r.calls) (handed_out no_bytes r.calls) rest why =
+    handed_out_all r.calls (kept_ended (after_calls no_bytes r.calls) f r.left ended) in (
       all.0,
-      subst (λ (g : Framing). IsStream bytes lines all.0 (fault_in (next_of g.rest))) r.left
-          (subst (λ (l : List (List ℕ)). IsStream bytes l all.0 (fault_in (next_of (after_calls no_bytes r.calls).rest))) r.out
-          (subst (λ (b : List ℕ). IsStream b (handed_out no_bytes r.calls) all.0 (fault_in (next_of (after_calls no_bytes r.calls).rest)))
-          r.bytes_are all.1)),
+      why,
+      subst (λ (l : List (List ℕ)). IsStream bytes l all.0 why) r.out
+          (subst (λ (b : List ℕ). IsStream b (handed_out no_bytes r.calls) all.0 why) r.bytes_are all.1),
     )
 
 -- ---- a relay
@@ -117,7 +150,7 @@ pub at_client : (up down : List ℕ) (taken : List Reported) (w : Watching) (lin
 at_client up down taken w lines at = record {
   dialogue = said_more (prefixed taken w.dialogue) (prefixed taken (client_read w).dialogue) lines (up_in (next_of w.up.rest)) at.dialogue
       (sym (client_after taken w.dialogue (next_of w.up.rest)) ∙ client_front_said (prefixed taken w.dialogue) (next_of w.up.rest));
-  above = subst (IsRead up (after_next w.up))
+  above = subst (IsRead up (after_first w.up))
       (ap (λ (l : List (List ℕ)). ups lines ++ l) (sym ((ups_in (next_of w.up.rest)).0)) ∙ sym (ups_append lines (up_in (next_of w.up.rest))))
       (read_asked up w.up (ups lines) at.above);
   below = subst (IsRead down w.down)
@@ -135,7 +168,7 @@ at_server up down taken w lines at = record {
       (sym (ups_append lines (down_in (next_of w.down.rest))
       ∙ ap (λ (l : List (List ℕ)). ups lines ++ l) ((downs_in (next_of w.down.rest)).1) ∙ append-nil (ups lines)))
       at.above;
-  below = subst (IsRead down (after_next w.down))
+  below = subst (IsRead down (after_first w.down))
       (ap (λ (l : List (List ℕ)). downs lines ++ l) (sym ((downs_in (next_of w.down.rest)).0))
       ∙ sym (downs_append lines (down_in (next_of w.down.rest))))
       (read_asked down w.down (downs lines) at.below);
@@ -185,7 +218,7 @@ at_move c r new (ToClient n) did lines at =
     (subst (λ (x : Relaying). IsAt c.came_up c.came_down c.reported x.watching lines) (sym did.2) at)
 
 nothing_read : IsRead [] no_bytes []
-nothing_read = record { calls = []; bytes_are = refl; left = refl; out = refl }
+nothing_read = record { calls = []; bytes_are = refl; left = kept_all []; out = refl }
 
 pub at_course : (n : ℕ) (c : Course) (r : Relaying) (course : Relays n c r)
     → IsAt c.came_up c.came_down c.reported r.watching (lines_of n c r course)
@@ -200,11 +233,11 @@ read_lines n c r course all =
     let below = read_stream c.came_down r.watching.down (downs (lines_of n c r course)) at.below all.server in
     record {
       up_rest = above.0;
-      up_fault = fault_in (next_of r.watching.up.rest);
-      up_lines = above.1;
+      up_fault = above.1;
+      up_lines = above.2;
       down_rest = below.0;
-      down_fault = fault_in (next_of r.watching.down.rest);
-      down_lines = below.1;
+      down_fault = below.1;
+      down_lines = below.2;
     }
 
 pub told_all : (n : ℕ) (c : Course) (r : Relaying) (course : Relays n c r)
@@ -250,7 +283,7 @@ times_up (suc n) w =
           ∙ ap (λ (d : Dialogue). client_lines d (line_in (next_of v.up.rest))) first.dialogue
           ∙ sym (client_append w.dialogue first.lines (line_in (next_of v.up.rest)));
       above = λ bytes before read.
-          subst (IsRead bytes (after_next v.up)) (append_assoc before first.lines (line_in (next_of v.up.rest)))
+          subst (IsRead bytes (after_first v.up)) (append_assoc before first.lines (line_in (next_of v.up.rest)))
           (read_asked bytes v.up (before ++ first.lines) (first.above bytes before read));
       below = first.below;
     }
@@ -270,7 +303,7 @@ times_down (suc n) w =
           ∙ ap (λ (d : Dialogue). server_lines d (line_in (next_of v.down.rest))) first.dialogue
           ∙ sym (server_append w.dialogue first.lines (line_in (next_of v.down.rest)));
       below = λ bytes before read.
-          subst (IsRead bytes (after_next v.down)) (append_assoc before first.lines (line_in (next_of v.down.rest)))
+          subst (IsRead bytes (after_first v.down)) (append_assoc before first.lines (line_in (next_of v.down.rest)))
           (read_asked bytes v.down (before ++ first.lines) (first.below bytes before read));
     }
 
@@ -281,7 +314,7 @@ reads_down : (old new : Watching) → ReadsServer old new → ReadDown old new
 reads_down old new reads = subst (ReadDown old) (sym reads.1) (times_down reads.0 old)
 
 bytes_came : (bytes : List ℕ) → IsRead bytes (fed no_bytes bytes) []
-bytes_came bytes = record { calls = Feed bytes ∷ []; bytes_are = append-nil bytes; left = refl; out = refl }
+bytes_came bytes = record { calls = Feed bytes ∷ []; bytes_are = append-nil bytes; left = kept_all bytes; out = refl }
 
 -- what two recordings report is what their lines report, those of the client read first
 pub recorded_told : (up down : List ℕ) (w : Watching) (lines : List Line) → AreAllRead false up down w → AreLinesOf up down lines
@@ -292,10 +325,10 @@ recorded_told up down w lines all are =
     let above = read_stream up all.between.up first.lines (first.above up [] (bytes_came up)) all.client_ended in
     let below = read_stream down w.down then.lines
     (then.below down [] (subst (λ (f : Framing). IsRead down f []) (sym first.below) (bytes_came down))) all.server_ended in
-    let ups_are = one_stream up first.lines (ups lines) above.0 are.up_rest (fault_in (next_of all.between.up.rest)) are.up_fault
-    above.1 are.up_lines in
-    let downs_are = one_stream down then.lines (downs lines) below.0 are.down_rest (fault_in (next_of w.down.rest)) are.down_fault
-    below.1 are.down_lines in
+    let ups_are = one_stream up first.lines (ups lines) above.0 are.up_rest above.1 are.up_fault
+    above.2 are.up_lines in
+    let downs_are = one_stream down then.lines (downs lines) below.0 are.down_rest below.1 are.down_fault
+    below.2 are.down_lines in
     ap (λ (d : Dialogue). d.reported) then.dialogue
     ∙ ap (λ (d : Dialogue). (server_lines d then.lines).reported) first.dialogue
     ∙ ap (λ (l : List (List ℕ)). (ledger l then.lines).reported) ups_are.lines_are

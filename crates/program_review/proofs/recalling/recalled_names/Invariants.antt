@@ -1,11 +1,10 @@
 use Rattle.std.proofs.Common.{◌≡◌, ◌++◌, length}
-use Rattle.dmis_text.specs.Reading.{text_reading}
 use Rattle.program_review.specs.UnusedFrames.{names_recalled}
 use Rattle.program_review.proofs.recalling.recalled_names.Given as goal
 
 -- the names so far, and those of what is left
-abbrev pub invariant-loop-statement : goal.invariant-loop-statement
-invariant-loop-statement l = l.names.items ++ names_recalled l.statements.left ≡ names_recalled (text_reading l.bytes).statements
+abbrev pub invariant-loop-left : goal.invariant-loop-left
+invariant-loop-left l = l.names.items ++ names_recalled l.left ≡ names_recalled l.statements
 
-abbrev pub decreases-loop-statement : goal.decreases-loop-statement
-decreases-loop-statement l = length l.statements.left
+abbrev pub decreases-loop-left : goal.decreases-loop-left
+decreases-loop-left l = length l.left

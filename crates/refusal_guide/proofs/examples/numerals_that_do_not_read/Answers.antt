@@ -23,6 +23,3 @@ returns-clause-after_cart c = refl
 pub returns-clause-empty : goal.returns-clause-empty
 unfolding numeral_of exponent_of length_fault component_fault
 returns-clause-empty c = refl
-
-pub returns-clause-many : goal.returns-clause-many
-returns-clause-many c = refl

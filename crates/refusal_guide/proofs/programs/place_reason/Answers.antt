@@ -1,7 +1,7 @@
 use Rattle.std.proofs.Common.{sym, ◌∙◌}
 use Rattle.std.specs.Option.{option_map}
 use Rattle.std.proofs.lemmas.Result.{IfOk-weaker}
-use Rattle.refusal_guide.specs.Words.{said_by}
+use Rattle.refusal_guide.specs.Words.{caused_by}
 use Rattle.refusal_guide.specs.Reasons.{spot_at}
 use Rattle.refusal_guide.proofs.ReasonLemmas.{on_statement, on_line}
 use Rattle.refusal_guide.proofs.programs.place_reason.Goals as goal
@@ -9,12 +9,12 @@ use Rattle.refusal_guide.proofs.programs.place_reason.Goals as goal
 pub returns-in-Some : goal.returns-in-Some
 returns-in-Some c =
     IfOk-weaker c.statement_reason.result _ _
-    (λ r h. on_statement c.args.refusal (spot_at c.args.place) c.in-Some.statement (option_map said_by r)
+    (λ r h. on_statement c.args.refusal (spot_at c.args.place) c.in-Some.statement (option_map caused_by r)
     (sym c.in-Some.is ∙ c.in_ok-statement.ensures) h)
     c.statement_reason.ensures
 
 pub returns-in-None : goal.returns-in-None
 returns-in-None c =
     IfOk-weaker c.line_reason.result _ _
-    (λ r h. on_line c.args.refusal (spot_at c.args.place) (option_map said_by r) (sym c.in-None.is ∙ c.in_ok-statement.ensures) h)
+    (λ r h. on_line c.args.refusal (spot_at c.args.place) (option_map caused_by r) (sym c.in-None.is ∙ c.in_ok-statement.ensures) h)
     c.line_reason.ensures

@@ -1,6 +1,6 @@
 use Rattle.std.proofs.Common.{subst}
 use Rattle.std.proofs.lemmas.Result.{IfOk-weaker}
-use Rattle.refusal_guide.specs.Words.{said_by}
+use Rattle.refusal_guide.specs.Words.{caused_by}
 use Rattle.refusal_guide.specs.Reasons.{Spot, IsProgramReason}
 use Rattle.refusal_guide.proofs.ReasonLemmas.{spot_is}
 use Rattle.refusal_guide.proofs.programs.whole_reason.Goals as goal
@@ -8,5 +8,5 @@ use Rattle.refusal_guide.proofs.programs.whole_reason.Goals as goal
 pub returns : goal.returns
 returns c =
     IfOk-weaker c.program_reason.result _ _
-    (λ r h. subst (λ (p : Spot). IsProgramReason c.args.refusal p (said_by r)) (spot_is c.args.place c.requires.rest c.requires.above) h)
+    (λ r h. subst (λ (p : Spot). IsProgramReason c.args.refusal p (caused_by r)) (spot_is c.args.place c.requires.rest c.requires.above) h)
     c.program_reason.ensures

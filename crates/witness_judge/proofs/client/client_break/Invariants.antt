@@ -6,5 +6,6 @@ use Rattle.witness_judge.proofs.client.client_break.Given as goal
 -- the first line that breaks a rule is among those that are left
 abbrev pub invariant-loop-at : goal.invariant-loop-at
 invariant-loop-at l =
-    (first_break (client_rule l.seen l.up (reverse l.down)) (reverse (take l.at l.up)) (drop l.at l.up) ≡ first_break (client_rule l.seen l.up (reverse l.down)) [] l.up)
-    × AreAbove l.up (reverse l.down) (reverse (take l.at l.up)) l.above
+    (first_break (client_rule l.both.seen.now l.both.up.now (reverse l.both.down.now)) (reverse (take l.at l.both.up.now)) (drop l.at l.both.up.now)
+    ≡ first_break (client_rule l.both.seen.now l.both.up.now (reverse l.both.down.now)) [] l.both.up.now)
+    × AreAbove l.both.up.now (reverse l.both.down.now) (reverse (take l.at l.both.up.now)) l.above

@@ -4,7 +4,7 @@ use Rattle.witness_judge.proofs.server.command_rule.Goals as goal
 
 pub returns : goal.returns
 returns c =
-    let whole = first_ends c.args.up.now (reverse c.args.above.now) c.args.tag c.args.reply c.args.at c.args.sent c.requires.there c.requires.within in
+    let whole = first_ends c.args.so.up.now (reverse c.args.so.above.now) c.args.tag c.args.reply c.args.at c.args.sent c.requires.there c.requires.within in
     let rule = c.mark_rule.ensures in
     let stage = c.stage_at-stage.ensures in
     let doubtful = c.is_doubtful.ensures in

@@ -4,4 +4,4 @@ use Rattle.run_session.proofs.sessions.Session.send_due.Given as goal
 
 -- what was sent so far
 abbrev pub invariant-loop-command : goal.invariant-loop-command
-invariant-loop-command l = Keeps l.fn.self.pair l.self.pair × (l.self.book ≡ l.fn.self.book)
+invariant-loop-command l = Keeps l.fn.self l.self × (l.self.book ≡ l.fn.self.book)

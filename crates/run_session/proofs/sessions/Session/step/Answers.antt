@@ -1,7 +1,7 @@
 use Rattle.std.proofs.Common.{refl}
 use Rattle.effects.specs.Effects.{the_reply}
 use Rattle.run_session.specs.declared.stages.Stage.TheVariants as stage
-use Rattle.run_session.proofs.Filing.{is_quiet, or_quiet, arm}
+use Rattle.run_session.proofs.Filing.{is_quiet, or_quiet, arm, arm_on}
 use Rattle.run_session.proofs.sessions.Session.step.Goals as goal
 
 pub returns-in-Logged-clause-goes : goal.returns-in-Logged-clause-goes
@@ -27,6 +27,10 @@ returns-in-Checking-clause-goes c = arm _ c.args.self.now c.receive.new.self (th
 pub returns-in-Sending-clause-goes : goal.returns-in-Sending-clause-goes
 returns-in-Sending-clause-goes c = arm _ c.args.self.now c.sent.new.self (the_reply c.args.answer) c.self.view_is
     (is_quiet c.self.inside.stage stage.Sending refl c.in-Sending.is) c.sent.ensures.ran c.sent.ensures.book
+
+pub returns-in-Awaiting-clause-goes : goal.returns-in-Awaiting-clause-goes
+returns-in-Awaiting-clause-goes c = arm_on _ c.args.self.now c.typed.new.self (the_reply c.args.answer) c.self.view_is
+    (or_quiet c.self.inside.stage stage.Awaiting refl (is_quiet c.self.inside.stage stage.Returning refl) c.in-Awaiting.is) c.typed.ensures.ran c.typed.ensures.book
 
 pub returns-in-Tracing-clause-goes : goal.returns-in-Tracing-clause-goes
 returns-in-Tracing-clause-goes c = arm _ c.args.self.now c.show_on.new.self (the_reply c.args.answer) c.self.view_is

@@ -1,0 +1,10 @@
+use Rattle.std.proofs.Common.{◌≡◌, ◌++◌, length}
+use Rattle.program_review.specs.Printed.{names_of, finding_lines}
+use Rattle.program_review.proofs.printing.lines_text.Given as goal
+
+abbrev pub invariant-loop-left : goal.invariant-loop-left
+invariant-loop-left l = l.text.items ++ finding_lines (names_of l.style.program.now l.style.setup.now) l.left
+    ≡ finding_lines (names_of l.style.program.now l.style.setup.now) l.findings
+
+abbrev pub decreases-loop-left : goal.decreases-loop-left
+decreases-loop-left l = length l.left

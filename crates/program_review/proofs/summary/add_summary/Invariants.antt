@@ -1,0 +1,10 @@
+use Rattle.std.proofs.Common.{◌≡◌, ◌++◌, length}
+use Rattle.program_review.specs.Findings.{remarks_in}
+use Rattle.program_review.specs.Summary.{order, sums_in}
+use Rattle.program_review.proofs.summary.add_summary.Given as goal
+
+abbrev pub invariant-loop-left : goal.invariant-loop-left
+invariant-loop-left l = remarks_in l.findings.items ++ sums_in l.found l.left ≡ remarks_in l.fn.findings.items ++ sums_in l.found order
+
+abbrev pub decreases-loop-left : goal.decreases-loop-left
+decreases-loop-left l = length l.left

@@ -1,0 +1,10 @@
+use Rattle.std.proofs.Common.{◌≡◌, None, length}
+use Rattle.program_review.specs.TaskLines.{last_line, up_to_touch}
+use Rattle.program_review.proofs.texts.last_done.Given as goal
+
+-- the last of what is left is the last of all
+abbrev pub invariant-loop-left : goal.invariant-loop-left
+invariant-loop-left l = last_line l.last (up_to_touch l.left l.rest) ≡ last_line None (up_to_touch l.touches l.tasks)
+
+abbrev pub decreases-loop-left : goal.decreases-loop-left
+decreases-loop-left l = length l.rest

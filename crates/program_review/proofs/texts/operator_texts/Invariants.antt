@@ -1,0 +1,12 @@
+use Rattle.std.proofs.Common.{◌≡◌, ◌++◌, map, length}
+use Rattle.dmis_text.specs.Reading.{text_reading}
+use Rattle.program_review.specs.Texts.{text_seen, texts_from, texts_of}
+use Rattle.program_review.proofs.texts.operator_texts.Given as goal
+
+-- the texts so far, and those of what is left
+abbrev pub invariant-loop-statement : goal.invariant-loop-statement
+invariant-loop-statement l = map text_seen l.texts.items ++ texts_from l.is_open l.statements.left
+    ≡ texts_of (text_reading l.bytes).statements
+
+abbrev pub decreases-loop-statement : goal.decreases-loop-statement
+decreases-loop-statement l = length l.statements.left

@@ -1,0 +1,61 @@
+-- The report of a review (this profile). Free are the sentences, and which statements are odd.
+use Rattle.std.specs.Prelude.{◌≡◌, ℕ, List, [], ◌++◌, map, Option, Some, None}
+use Rattle.std.specs.Str.Lines.{lines}
+use Rattle.dmis_text.specs.Reading.{text_reading}
+use Rattle.dmis_text.specs.declared.elements.Statement.{Statement}
+use Rattle.fixed_um.specs.declared.lengths.Point.{Point}
+use Rattle.tool_rack.specs.Setups.{SetupValue}
+use Rattle.program_review.specs.Notices.{notices_of}
+use Rattle.program_review.specs.Refusals.{refusals_of}
+use Rattle.program_review.specs.Travels.{travels_of}
+use Rattle.program_review.specs.UnderSetup.{lacks_of}
+use Rattle.program_review.specs.UnusedFrames.{names_recalled, unused_from}
+use Rattle.program_review.specs.Findings.{FindingValue, remarks_in}
+use Rattle.program_review.specs.Remarks.{remarks_of}
+use Rattle.program_review.specs.Printed.{Names, printed}
+use Rattle.program_review.specs.Summary.{order, sums_in}
+use Rattle.program_review.specs.declared.remarks.Remark.{Remark}
+use Rattle.program_review.specs.declared.printing.FindingForm.{FindingForm}
+
+-- a setup, if one is named, its text, and the text of a program
+pub record ReviewTexts : Type 0 where
+  pub setup : Option SetupValue
+  pub stored : List ℕ
+  pub program : List ℕ
+
+abbrev pub texts_of : Option SetupValue → (stored program : List ℕ) → ReviewTexts
+texts_of setup stored program = record { setup = setup; stored = stored; program = program }
+
+-- the frames of a setup, and none without one
+abbrev pub frames_under : Option SetupValue → List (List ℕ × Point)
+frames_under None = []
+frames_under (Some setup) = setup.frames
+
+-- what the setup lacks for the statements of a program, and nothing without one
+abbrev pub lacks_under : Option SetupValue → List Statement → List Remark
+lacks_under None statements = []
+lacks_under (Some setup) statements = lacks_of setup.tools setup.frames statements
+
+-- the frames that the program does not recall
+abbrev pub unused : ReviewTexts → List Remark
+unused texts = unused_from (names_recalled (text_reading texts.program).statements) 0 (lines texts.stored)
+
+-- the remarks on a program under these frames, where the setup lacks this
+pub record AreRemarks (frames : List (List ℕ × Point)) (program : List ℕ) (lacks : List Remark) (remarks : List Remark) : Type 0 where
+  pub odd : List Remark
+  pub all : remarks ≡ remarks_of (refusals_of frames program) (notices_of (text_reading program).statements) lacks
+      (travels_of frames (text_reading program).statements) odd
+
+-- what is found: in the order of the program's lines all its refusals, all that is passed over, all that the setup lacks, all straight
+-- travels and what is odd;
+-- then each line of the setup with a frame that is not recalled; then each group of refused statements that has some
+pub record AreFindings (texts : ReviewTexts) (findings : List FindingValue) : Type 0 where
+  pub remarks : List Remark
+  pub are_remarks : AreRemarks (frames_under texts.setup) texts.program (lacks_under texts.setup (text_reading texts.program).statements) remarks
+  pub all : remarks_in findings ≡ (remarks ++ unused texts) ++ sums_in (refusals_of (frames_under texts.setup) texts.program) order
+
+-- the findings are printed in this form, under these names
+pub record IsReport (form : FindingForm) (names : Names) (texts : ReviewTexts) (text : List ℕ) : Type 0 where
+  pub findings : List FindingValue
+  pub found : AreFindings texts findings
+  pub printed : text ≡ printed form names findings

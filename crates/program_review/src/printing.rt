@@ -1,0 +1,223 @@
+// Findings in the form in which they are printed.
+
+ghost use Rattle.std.specs.Prelude.{◌≡◌, ◌++◌, ◌∷◌, [], codes, string_bytes, IfOk, OnOk, not, ◌==◌};
+ghost use Rattle.std.specs.List.{take_while};
+ghost use Rattle.json.specs.Token.{key, string};
+ghost use Rattle.deviations.specs.Json.{Puts};
+ghost use Rattle.program_review.specs.Printed.{file_of, line_of, kind_text, title_of, title_text, number_text, front_text, finding_line, finding_lines, finding_tokens, array_tokens, line_member, code_member, printed, names_of};
+ghost use Rattle.json.specs.Print.{print};
+
+use crate::findings::Finding;
+use crate::remarks::{Remark, What};
+use json::Writer;
+use std::alloc::{AllocError, Global};
+
+/// A form in which findings are printed.
+#[derive(Clone, Copy, Debug, PartialEq, Eq)]
+pub enum FindingForm {
+    /// A line for each, for people and editors.
+    Lines,
+    /// An array with an object for each (RFC 8259), for other programs.
+    Json,
+}
+
+/// How the findings of a review are printed.
+#[derive(Clone, Copy)]
+pub struct FindingStyle<'a> {
+    /// In which form.
+    pub form: FindingForm,
+    /// The name of the DMIS program.
+    pub program: &'a str,
+    /// The name of the machine's setup, if one is named.
+    pub setup: &'a str,
+}
+
+fn file_of<'a>(style: FindingStyle<'a>, what: What) -> &'a str
+    ensures { result.now ≡ file_of (names_of style.entry.program.now style.entry.setup.now) what }
+{
+    match what {
+        What::Unused => style.setup,
+        _ => style.program,
+    }
+}
+
+/// The number of the line, if it is on one.
+fn line_of(what: What, line: u64) -> Option<u64>
+    ensures { result ≡ line_of what line }
+{
+    match what {
+        What::Sum(_) => None,
+        _ => Some(line),
+    }
+}
+
+fn kind_text(what: What) -> &'static str
+    ensures { result.now ≡ kind_text what }
+{
+    match what {
+        What::Refused(_, _) => "refused",
+        What::Passed(_) | What::Clearing(_) => "passed over",
+        What::Lack(_) | What::Unused => "setup",
+        What::Straight(_) | What::Odd(_) => "odd",
+        What::Sum(_) => "summary",
+    }
+}
+
+/// The number of a line after a colon; nothing without one.
+fn number_text(alloc: Global, line: Option<u64>) -> Result<String, AllocError>
+    ensures { IfOk result (λ text. string_bytes text ≡ number_text line) }
+{
+    match line {
+        Some(number) => format!(in alloc; ":{number}"),
+        None => Ok(String::new(alloc)),
+    }
+}
+
+/// The code and the name of a refusal, with a colon; nothing for another kind.
+fn title_text(alloc: Global, what: What) -> Result<String, AllocError>
+    ensures { IfOk result (λ text. string_bytes text ≡ title_text (title_of what)) }
+{
+    match what {
+        What::Refused(refusal, _) => format!(in alloc; "{refusal}: "),
+        _ => Ok(String::new(alloc)),
+    }
+}
+
+#[tactic(auto, unfolding(crate::specs::Printed::front_text))]
+fn front_text(alloc: Global, style: FindingStyle<'_>, remark: Remark) -> Result<String, AllocError>
+    ensures { IfOk result (λ text. string_bytes text ≡ front_text
+        (names_of style.entry.program.now style.entry.setup.now) remark) }
+{
+    let file = file_of(style, remark.what);
+    let number = number_text(alloc, line_of(remark.what, remark.line))?;
+    let kind = kind_text(remark.what);
+    let title = title_text(alloc, remark.what)?;
+    format!(in alloc; "{file}{number}: {kind}: {title}")
+}
+
+fn push_line(
+    out: &mut Vec<u8>,
+    style: FindingStyle<'_>,
+    finding: &Finding,
+) -> Result<(), AllocError>
+    ensures { OnOk result (out.new.items ≡ out.old.items ++ finding_line
+        (names_of style.entry.program.now style.entry.setup.now) finding.now) }
+{
+    let front = front_text(*out.allocator(), style, finding.remark())?;
+    out.extend_from_slice(front.as_bytes())?;
+    out.extend_from_slice(finding.said())?;
+    out.extend_from_slice(b"\n")
+}
+
+fn lines_text(
+    alloc: Global,
+    style: FindingStyle<'_>,
+    findings: &[Finding],
+) -> Result<Vec<u8>, AllocError>
+    ensures { IfOk result (λ text. text.items ≡ finding_lines
+        (names_of style.entry.program.now style.entry.setup.now) findings.now) }
+{
+    let mut text = Vec::new(alloc);
+    let mut left = findings;
+    while let [finding, others @ ..] = left {
+        push_line(&mut text, style, finding)?;
+        left = others;
+    }
+    Ok(text)
+}
+
+fn put_text(json: &mut Writer, name: &str, text: &str) -> Result<(), AllocError>
+    ensures { Puts result json.old json.new (key name.now ∷ string text.now ∷ []) }
+{
+    json.key(name)?;
+    json.string(text)
+}
+
+fn put_line(json: &mut Writer, line: Option<u64>) -> Result<(), AllocError>
+    ensures { Puts result json.old json.new (line_member line) }
+{
+    json.key("line")?;
+    match line {
+        Some(number) => json.u64(number),
+        None => json.null(),
+    }
+}
+
+fn first_word(text: &str) -> &str
+    ensures { result.now ≡ take_while (λ c. not (c == 32)) text.now }
+{
+    match text.split_once(' ') {
+        Some((word, _)) => word,
+        None => text,
+    }
+}
+
+fn put_code(alloc: Global, json: &mut Writer, what: What) -> Result<(), AllocError>
+    ensures { Puts result json.old json.new (code_member (title_of what)) }
+{
+    json.key("code")?;
+    match what {
+        What::Refused(refusal, _) => {
+            let title = format!(in alloc; "{refusal}")?;
+            json.string(first_word(title.as_str()))
+        }
+        _ => json.null(),
+    }
+}
+
+#[tactic(auto, unfolding(crate::specs::Printed::finding_tokens))]
+fn put_finding(
+    alloc: Global,
+    json: &mut Writer,
+    style: FindingStyle<'_>,
+    finding: &Finding,
+) -> Result<(), AllocError>
+    ensures { Puts result json.old json.new (finding_tokens
+        (names_of style.entry.program.now style.entry.setup.now) finding.now) }
+{
+    let remark = finding.remark();
+    let said = String::from_utf8_lossy(alloc, finding.said())?;
+    json.begin_object()?;
+    put_text(json, "file", file_of(style, remark.what))?;
+    put_line(json, line_of(remark.what, remark.line))?;
+    put_text(json, "kind", kind_text(remark.what))?;
+    put_code(alloc, json, remark.what)?;
+    put_text(json, "text", said.as_str())?;
+    json.end_object()
+}
+
+fn array_text(
+    alloc: Global,
+    style: FindingStyle<'_>,
+    findings: &[Finding],
+) -> Result<Vec<u8>, AllocError>
+    ensures { IfOk result (λ text. text.items ≡ print (array_tokens
+        (names_of style.entry.program.now style.entry.setup.now) findings.now) ++ codes "\n") }
+{
+    let mut json = Writer::new(Vec::new(alloc));
+    json.begin_array()?;
+    let mut left = findings;
+    while let [finding, others @ ..] = left {
+        put_finding(alloc, &mut json, style, finding)?;
+        left = others;
+    }
+    json.end_array()?;
+    let mut text = json.into_inner();
+    text.extend_from_slice(b"\n")?;
+    Ok(text)
+}
+
+/// Findings in their form.
+pub(crate) fn printed(
+    alloc: Global,
+    style: FindingStyle<'_>,
+    findings: &[Finding],
+) -> Result<Vec<u8>, AllocError>
+    ensures { IfOk result (λ text. text.items ≡ printed style.entry.form
+        (names_of style.entry.program.now style.entry.setup.now) findings.now) }
+{
+    match style.form {
+        FindingForm::Lines => lines_text(alloc, style, findings),
+        FindingForm::Json => array_text(alloc, style, findings),
+    }
+}

@@ -1,0 +1,261 @@
+// Texts for the operator, and what a run holds back at them.
+
+ghost use Rattle.std.specs.Prelude.{◌≡◌, ◌++◌, None, map, IfOk, OnOk};
+ghost use Rattle.dmis_text.specs.Reading.{text_reading};
+ghost use Rattle.program_review.specs.TaskLines.{last_line, up_to_touch};
+ghost use Rattle.program_review.specs.Texts as spec;
+
+use crate::groups::is_text;
+use crate::notices::begins_with;
+use crate::sentences::statement_text;
+use crate::tasks::{Left, Task, TaskLine, command_lines, left_after};
+use crate::under_setup::meaning_of;
+use dmis_program::{Keyword, StatementMeaning, keyword_of_word};
+use dmis_text::{Statement, Statements, TextFault};
+use session_telling::visible;
+use std::alloc::{AllocError, Global};
+
+/// A text for the operator (`TEXT/OPER`, `TEXT/MAN`): the line on which its statement begins, whether it is in a block, and the statement as
+/// it is shown.
+#[derive(Drop)]
+pub struct OperatorText {
+    pub line: u64,
+    pub is_inside: bool,
+    pub shown: String,
+}
+
+/// What a run holds back at a text for the operator: how many of its plan's last commands, all if `usize::MAX`; whether it waits there; whether
+/// the text stands above each touch that is left; and its line, and the statement as it is shown.
+#[derive(Drop)]
+pub struct TextPlace {
+    pub held: usize,
+    pub is_waited: bool,
+    pub is_first: bool,
+    pub line: u64,
+    pub shown: String,
+}
+
+/// Whether a statement is a text for the operator.
+fn is_operator_text(statement: &Statement) -> bool
+    ensures { result ≡ spec.is_operator_text statement.now }
+{
+    if statement.label.is_some() || statement.is_open() {
+        return false;
+    }
+    is_text(&statement.word, "TEXT")
+        && (begins_with("OPER", &statement.params) || begins_with("MAN", &statement.params))
+}
+
+/// Whether a block is open after a statement that says this.
+fn is_open_after(is_open: bool, meaning: &Option<StatementMeaning>) -> bool
+    ensures { result ≡ spec.is_open_after is_open meaning.now }
+{
+    match meaning {
+        Some(StatementMeaning::Begins(_, _)) => true,
+        Some(StatementMeaning::Ends) => false,
+        _ => is_open,
+    }
+}
+
+/// Adds the text of a statement, if it is one.
+fn push_text(
+    texts: &mut Vec<OperatorText>,
+    is_inside: bool,
+    statement: &Statement,
+) -> Result<(), AllocError>
+    ensures { OnOk result (map spec.text_seen texts.new.items
+        ≡ map spec.text_seen texts.old.items ++ spec.text_on is_inside statement.now) }
+{
+    if is_operator_text(statement) {
+        let alloc = *texts.allocator();
+        let text = statement_text(alloc, statement)?;
+        texts.push(OperatorText {
+            line: statement.line,
+            is_inside,
+            shown: visible(alloc, text.as_slice())?,
+        })?;
+    }
+    Ok(())
+}
+
+/// The texts for the operator in a program, in order, up to `ENDFIL` or a line that cannot be read. Fails only if out of memory.
+pub fn operator_texts(alloc: Global, bytes: &[u8]) -> Result<Vec<OperatorText>, AllocError>
+    ensures { IfOk result (λ texts. map spec.text_seen texts.items
+        ≡ spec.texts_of (text_reading bytes.now).statements) }
+{
+    let mut statements = Statements::new(alloc, bytes);
+    let mut texts = Vec::new(alloc);
+    let mut is_open = false;
+    loop {
+        let statement = match statements.next() {
+            Ok(Some(statement)) => statement,
+            Ok(None) => return Ok(texts),
+            Err(TextFault::Memory) => return Err(AllocError),
+            Err(TextFault::LineTooLong(_) | TextFault::BadByte(_)) => return Ok(texts),
+        };
+        let keyword = keyword_of_word(&statement.word);
+        if keyword == Keyword::Endfil {
+            return Ok(texts);
+        }
+        push_text(&mut texts, is_open, &statement)?;
+        let meaning = meaning_of(alloc, keyword, &statement)?;
+        is_open = is_open_after(is_open, &meaning);
+        statements.take_back(statement);
+    }
+}
+
+/// The line of the last task up to the touch of this number.
+fn last_done(tasks: &[TaskLine], touches: usize) -> Option<u64>
+    ensures { result ≡ last_line None (up_to_touch touches tasks.now) }
+{
+    let mut last = None;
+    let mut rest = tasks;
+    let mut left = touches;
+    while left > 0 {
+        let Some((first, after)) = rest.split_first() else {
+            break;
+        };
+        if let Task::Touch = first.task {
+            left -= 1;
+        }
+        last = Some(first.line);
+        rest = after;
+    }
+    last
+}
+
+/// Whether a line is below what is done, of which this is the last line.
+fn is_left(last: Option<u64>, line: u64) -> bool
+    ensures { result ≡ spec.is_left last line }
+{
+    match last {
+        Some(last) => last < line,
+        None => true,
+    }
+}
+
+/// Whether the line of a command is below this line.
+fn is_below(line: u64, other: Option<u64>) -> bool
+    ensures { result ≡ spec.is_below line other }
+{
+    match other {
+        Some(other) => line < other,
+        None => false,
+    }
+}
+
+/// How many of a plan's last commands a text on this line holds back.
+fn held_at(lines: &[Option<u64>], left: &[TaskLine], line: u64) -> usize
+    ensures { result ≡ spec.held_at lines.now left.now line }
+{
+    let above = left.iter().filter(|task| task.line < line).count();
+    if above == 0 {
+        return usize::MAX;
+    }
+    let below = lines.iter().filter(|other| is_below(line, **other)).count();
+    below.saturating_add(1)
+}
+
+/// Whether a run that waits for its operator waits at a text that holds that many commands back.
+fn is_waited(is_confirmed: bool, is_inside: bool, held: usize) -> bool
+    ensures { result ≡ spec.is_waited is_confirmed is_inside held }
+{
+    !is_inside && held > 1 && !(is_confirmed && held == usize::MAX)
+}
+
+/// Whether no touch that is left stands above a line.
+fn is_above_touches(left: &[TaskLine], line: u64) -> bool
+    ensures { result ≡ spec.is_above_touches left.now line }
+{
+    let is_above = |task: &&TaskLine| matches!(task.task, Task::Touch) && task.line < line;
+    left.iter().filter(is_above).count() == 0
+}
+
+/// How a run waits for its operator: whether it does so at texts, and before it begins.
+#[derive(Clone, Copy, Debug)]
+pub struct Waits {
+    pub at_texts: bool,
+    pub at_begin: bool,
+}
+
+/// What is held back at a text, of these commands and tasks that are left. Fails only if out of memory.
+fn place_of(
+    alloc: Global,
+    waits: Waits,
+    lines: &[Option<u64>],
+    left: &[TaskLine],
+    text: &OperatorText,
+) -> Result<TextPlace, AllocError>
+    ensures { IfOk result (λ place. spec.place_seen place
+        ≡ spec.place_of waits.at_texts waits.at_begin lines.now left.now (spec.text_seen text.now)) }
+{
+    let held = held_at(lines, left, text.line);
+    Ok(TextPlace {
+        held,
+        is_waited: waits.at_texts && is_waited(waits.at_begin, text.is_inside, held),
+        is_first: is_above_touches(left, text.line),
+        line: text.line,
+        shown: String::from_str(alloc, text.shown.as_str())?,
+    })
+}
+
+/// Adds what is held back at a text, if it is below what is done, of which this is the last line.
+fn push_place(
+    places: &mut Vec<TextPlace>,
+    waits: Waits,
+    last: Option<u64>,
+    lines: &[Option<u64>],
+    left: &[TaskLine],
+    text: &OperatorText,
+) -> Result<(), AllocError>
+    ensures { OnOk result (map spec.place_seen places.new.items
+        ≡ map spec.place_seen places.old.items
+        ++ spec.place_on waits.at_texts waits.at_begin last lines.now left.now
+        (spec.text_seen text.now)) }
+{
+    if is_left(last, text.line) {
+        let alloc = *places.allocator();
+        places.push(place_of(alloc, waits, lines, left, text)?)?;
+    }
+    Ok(())
+}
+
+/// What a run of a program that has these tasks and texts holds back at each text that is left once that many touches are done. Fails only if
+/// out of memory.
+pub fn text_places(
+    alloc: Global,
+    waits: Waits,
+    touches: usize,
+    tasks: &[TaskLine],
+    texts: &[OperatorText],
+) -> Result<Vec<TextPlace>, AllocError>
+    ensures { IfOk result (λ places. map spec.place_seen places.items
+        ≡ spec.places_of waits.at_texts waits.at_begin touches tasks.now
+        (map spec.text_seen texts.now)) }
+{
+    let lines = command_lines(alloc, tasks, touches)?;
+    let lines = lines.as_slice();
+    let Left { tasks: left, .. } = left_after(tasks, touches);
+    let last = last_done(tasks, touches);
+    let mut places = Vec::new(alloc);
+    for text in texts {
+        push_place(&mut places, waits, last, lines, left, text)?;
+    }
+    Ok(places)
+}
+
+/// How many commands a run holds back at each of its pauses: at texts with no command between them, there is one. Fails only if out of memory.
+pub fn pauses(alloc: Global, places: &[TextPlace]) -> Result<Vec<usize>, AllocError>
+    ensures { IfOk result (λ pauses. pauses.items
+        ≡ spec.pauses_of (map spec.place_seen places.now)) }
+{
+    let mut pauses = Vec::new(alloc);
+    let mut before = 0;
+    for place in places {
+        if place.is_waited && place.held != before {
+            pauses.push(place.held)?;
+            before = place.held;
+        }
+    }
+    Ok(pauses)
+}

@@ -1,0 +1,10 @@
+use Rattle.std.proofs.Common.{subst}
+use Rattle.std.proofs.lemmas.Result.{IfOk-weaker}
+use Rattle.refusal_guide.specs.Words.{caused_by}
+use Rattle.refusal_guide.specs.Reasons.{Spot, IsProgramReason}
+use Rattle.refusal_guide.proofs.sentences.reason.Goals as goal
+
+pub returns : goal.returns
+returns c =
+    IfOk-weaker c.program_reason.result _ _
+    (λ r h. subst (λ (p : Spot). IsProgramReason c.args.refusal p (caused_by r)) c.place_of.ensures h) c.program_reason.ensures

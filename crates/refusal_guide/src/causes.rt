@@ -1,0 +1,244 @@
+// Why a text is refused, and how it is said. Contracts say which cause it is and which word is at fault. The words of the sentences are only
+// tested.
+
+use crate::numerals::Measure;
+use session_telling::visible;
+use std::alloc::{AllocError, Global};
+
+/// Why a text is refused, with the values that the sentence on it names.
+#[derive(Clone, Copy)]
+pub(crate) enum Cause {
+    /// The first statement is not that of a program.
+    NotFirst,
+    /// There is no statement.
+    NoStatement,
+    /// The text ends after the statement that begins on this line.
+    Ended(u64),
+    /// The line has this many bytes.
+    LongLine(usize),
+    /// This byte is not allowed where it is.
+    BadByte(u8),
+    /// The minor word names coordinates that are not carried out.
+    OtherCoordinates,
+    /// Likewise what is not recalled.
+    OtherRecall,
+    /// A program begins a second time.
+    SecondStart,
+    /// The word is not carried out.
+    NotCarriedOut,
+    /// No block is open.
+    OutsideBlock,
+    /// A block is open that begins on this line.
+    InsideBlock(u64),
+    /// The block that begins on this line has that many touches.
+    FewTouches(u64, u64),
+    /// The frame is not stored.
+    NoFrame,
+    /// The unit is not the millimetre.
+    OtherUnit,
+    /// The mode is not the programmed one.
+    OtherMode,
+    /// The direction is zero, of which this is the first component.
+    ZeroDirection,
+    /// No tool is selected.
+    NoTool,
+    /// It is one statement too many.
+    TooLarge,
+    /// The label is before a word that has none.
+    Label,
+    /// The text is not closed.
+    OpenText,
+    /// After this many parameters it has that many others.
+    Count(usize, usize),
+    /// It is not a kind.
+    NoKind,
+    /// It is not a count of touches.
+    NoCount,
+    /// It is not `CART`.
+    NotCart,
+    /// It is not a name in parentheses.
+    NoParentheses,
+    /// The name has no byte.
+    NoName,
+    /// The name has this many bytes.
+    LongName(usize),
+    /// This byte is not allowed in a name.
+    NameByte(u8),
+    /// It is not a name.
+    NotName,
+    /// The parameter of this number, counted from 1, is empty.
+    NoNumeral(usize),
+    /// It is not a numeral.
+    NotNumeral,
+    /// The numeral has this many digits.
+    ManyDigits(usize),
+    /// The numeral is beyond the limit of what it is to be.
+    BeyondLimit(Measure),
+    /// What is wrong with a text other than a program: no contract says which cause it is.
+    Other,
+}
+
+/// The word for this many.
+fn counted(count: usize, one: &'static str, more: &'static str) -> &'static str {
+    if count == 1 { one } else { more }
+}
+
+/// The sentence on a line or on a whole statement.
+fn statement_sentence(
+    alloc: Global,
+    cause: Cause,
+    word: &str,
+    other: &str,
+) -> Result<String, AllocError> {
+    match cause {
+        Cause::NotFirst => format!(in alloc;
+            "The first statement is {word}, and a program begins with DMISMN."
+        ),
+        Cause::NoStatement => String::from_str(
+            alloc,
+            "The file has no statement, and a program begins with DMISMN.",
+        ),
+        Cause::Ended(line) => format!(in alloc;
+            "The file ends after this line without ENDFIL: its last statement is {word} at line {line}."
+        ),
+        Cause::LongLine(count) => format!(in alloc;
+            "The line has {count} bytes before its end, and at most 4096 are allowed."
+        ),
+        Cause::BadByte(byte) => {
+            let why = if byte >= 128 {
+                "is allowed only in texts and in comments."
+            } else {
+                "is a control character, and only tabs are allowed."
+            };
+            format!(in alloc; "The byte {word} in column {other} {why}")
+        }
+        Cause::OtherCoordinates => format!(in alloc;
+            "{other}/{word} is not carried out: only CART coordinates are."
+        ),
+        Cause::OtherRecall => format!(in alloc;
+            "{other}/{word} is not carried out: RECALL/D(name) selects a stored frame."
+        ),
+        Cause::SecondStart => format!(in alloc;
+            "This is a second {word}, and a program has one, its first statement."
+        ),
+        Cause::NotCarriedOut => format!(in alloc; "{word} is not carried out."),
+        _ => place_sentence(alloc, cause, word, other),
+    }
+}
+
+/// The sentence on a statement that is not allowed where it is.
+fn place_sentence(
+    alloc: Global,
+    cause: Cause,
+    word: &str,
+    other: &str,
+) -> Result<String, AllocError> {
+    match cause {
+        Cause::OutsideBlock => format!(in alloc;
+            "{word} is outside a measurement block: no MEAS above it is open."
+        ),
+        Cause::InsideBlock(line) => format!(in alloc;
+            "{word} is inside the measurement block that begins at line {line}: it has no ENDMES yet."
+        ),
+        Cause::FewTouches(line, 0) => {
+            let touches = if other == "1" { "touch" } else { "touches" };
+            format!(in alloc;
+                "The program asks for automatic measuring: MEAS at line {line} names {other} {touches} and its block has none, and only programmed touches are measured. Write a PTMEAS for each, or delete the MEAS at line {line} and this ENDMES together."
+            )
+        }
+        Cause::FewTouches(line, touches) => format!(in alloc;
+            "MEAS at line {line} names {other} touches, and its block has {touches}."
+        ),
+        Cause::NoTool => format!(in alloc;
+            "This {word} is a touch before any SNSLCT: no tool is selected."
+        ),
+        Cause::TooLarge => format!(in alloc;
+            "This {word} is statement 10001, and a program has at most 10000."
+        ),
+        Cause::NoFrame => format!(in alloc;
+            "No frame {word} is stored: --setup is missing, or its file has no line FRAME {word}."
+        ),
+        Cause::OtherUnit => format!(in alloc; "The unit {word} is not read: lengths are in MM."),
+        Cause::OtherMode => format!(in alloc;
+            "The mode {word} is not carried out, and PROG is not among the words of MODE: without this line, or with PROG, the machine drives by itself to the touches below, which MAN leaves to the operator, since the place of the part is not known."
+        ),
+        _ => argument_sentence(alloc, cause, word, other),
+    }
+}
+
+/// The sentence on a parameter, a label or a text.
+fn argument_sentence(
+    alloc: Global,
+    cause: Cause,
+    word: &str,
+    other: &str,
+) -> Result<String, AllocError> {
+    match cause {
+        Cause::Label => format!(in alloc;
+            "The label {word} comes before {other}: of the statements that are read, only FEAT, TOL and SNSDEF have labels."
+        ),
+        Cause::OpenText => format!(in alloc; "The text {word} is not closed by an apostrophe."),
+        Cause::Count(before, count) => {
+            let parameters = counted(count, "parameter", "parameters");
+            let cart = if before > 0 { " after CART" } else { "" };
+            format!(in alloc; "{word} has {count} {parameters}{cart}, and takes {other}.")
+        }
+        Cause::NoKind => format!(in alloc; "{word} is not a kind: a kind is a word of letters."),
+        Cause::NoCount => format!(in alloc; "{word} is not a count of touches from 1 to 10000."),
+        Cause::NotCart => format!(in alloc; "{word} is not CART, which comes first in PTMEAS."),
+        Cause::NoParentheses => format!(in alloc; "{word} is not {other}."),
+        Cause::ZeroDirection => format!(in alloc;
+            "The direction {word},{other} is zero in all components, rounded to millionths."
+        ),
+        Cause::NoName => String::from_str(alloc, "There is no name between the parentheses."),
+        Cause::LongName(count) => format!(in alloc;
+            "{word} is not a name: it has {count} bytes, and a name has at most 64."
+        ),
+        Cause::NameByte(b' ') => format!(in alloc;
+            "{word} is not a name: a space is not allowed in one."
+        ),
+        Cause::NameByte(byte) => {
+            let byte = visible(alloc, &[byte])?;
+            format!(in alloc; "{word} is not a name: {byte} is not allowed in one.")
+        }
+        Cause::NotName => format!(in alloc; "{word} is not a name."),
+        _ => numeral_sentence(alloc, cause, word, other),
+    }
+}
+
+/// The sentence on a numeral; the other text for another cause.
+fn numeral_sentence(
+    alloc: Global,
+    cause: Cause,
+    word: &str,
+    other: &str,
+) -> Result<String, AllocError> {
+    match cause {
+        Cause::NoNumeral(number) => format!(in alloc;
+            "Parameter {number} of {other} is empty, and a numeral is expected."
+        ),
+        Cause::NotNumeral => format!(in alloc;
+            "{word} is not a numeral: a numeral has digits with at most one point, and optionally a sign and an exponent of one to three digits."
+        ),
+        Cause::ManyDigits(count) => format!(in alloc;
+            "The numeral {word} has {count} digits before its exponent, and at most 30 are read."
+        ),
+        Cause::BeyondLimit(Measure::Length) => format!(in alloc;
+            "The numeral {word}, rounded to micrometres, is beyond the limit of 1000000 millimetres."
+        ),
+        Cause::BeyondLimit(Measure::Component) => format!(in alloc;
+            "The numeral {word}, rounded to millionths, is beyond the limit of 1000 for a component of a direction."
+        ),
+        _ => String::from_str(alloc, other),
+    }
+}
+
+/// The sentence on a cause, with the word that is at fault and another text that some of them name.
+pub(crate) fn sentence_of(
+    alloc: Global,
+    cause: Cause,
+    word: &str,
+    other: &str,
+) -> Result<String, AllocError> {
+    statement_sentence(alloc, cause, word, other)
+}

@@ -1,9 +1,0 @@
-use Rattle.std.proofs.Common.{length}
-use Rattle.witness.specs.Watching.{ReadsClient}
-use Rattle.witness.proofs.witness.Witness.read_client_lines.Given as goal
-
-abbrev pub invariant-loop-self : goal.invariant-loop-self
-invariant-loop-self l = ReadsClient l.fn.self l.self
-
-abbrev pub decreases-loop-self : goal.decreases-loop-self
-decreases-loop-self l = length l.self.up.rest
