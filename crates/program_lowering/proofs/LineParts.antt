@@ -1,0 +1,89 @@
+-- Lines are written part by part.
+use Rattle.program_lowering.proofs.Names.{[], ◌++◌, ◌∙◌, ◌∷◌, ◌≡◌, after_word, ap, append-nil, append_assoc, as_read, Bool, Choices, codes, decimal}
+use Rattle.program_lowering.proofs.Names.{encode_lower, ended_lines, Err, false, Flat, flat_line, flat_meant, flat_said, flat_text, head_lines}
+use Rattle.program_lowering.proofs.Names.{is_operator_text, is_some, keyword_of, line_end, line_for, List, marked, Names, None, note_for, note_start}
+use Rattle.program_lowering.proofs.Names.{Ok, OnOk, Option, options_text, Reason, refl, Result, setup_name, shown_name, Some, Statement}
+use Rattle.program_lowering.proofs.Names.{StatementMeaning, sym, text_for, true, with_commas, ℕ}
+use Rattle.sha2.specs.Sha256.{sha256}
+use Rattle.program_lowering.specs.Lowering.{ended}
+use Rattle.program_lowering.specs.Reasons.{reason_text}
+
+parts : (line : ℕ) (old : List ℕ) (o : Option Flat)
+    → ((old ++ text_for o) ++ line_end line (is_some o)) ≡ (old ++ ended_lines (line_for line o))
+parts line old None = append-nil (old ++ [])
+parts line old (Some f) =
+    rw (
+      append-nil ((flat_text f ++ (codes " $$ line " ++ decimal line)) ++ 10 ∷ []),
+      append_assoc (flat_text f) (codes " $$ line " ++ decimal line) (10 ∷ []),
+      append_assoc old (flat_text f) (codes " $$ line " ++ (decimal line ++ 10 ∷ [])),
+    )
+    refl
+
+pub line_is : (line : ℕ) (o : Option Flat) (old middle new : List ℕ) (written : Bool) → middle ≡ old ++ text_for o → written ≡ is_some o
+    → new ≡ middle ++ line_end line written → new ≡ old ++ ended_lines (line_for line o)
+line_is line o old middle new written e h g = g ∙ rw (e, h) (parts line old o)
+
+-- a note
+pub note_on : {X E : Type 0} (r : Result X E) (s : Statement) (given : Option Reason) (reason : Reason) (old middle new shown : List ℕ)
+    → given ≡ Some reason → middle ≡ old ++ note_start s → shown ≡ reason_text reason
+    → OnOk r (new ≡ middle ++ ended (codes " is left out: " ++ shown)) → OnOk r (new ≡ old ++ note_for s given)
+note_on (Ok done) s given reason old middle new shown is e h g =
+    rw (is, g, e, h) (append_assoc old (note_start s) (ended (codes " is left out: " ++ reason_text reason)))
+note_on (Err refused) s given reason old middle new shown is e h g = tt
+
+-- the head
+five : (a b c d e : List ℕ) → ((((a ++ b) ++ c) ++ d) ++ e) ≡ (a ++ (b ++ (c ++ (d ++ (e ++ [])))))
+five a b c d e =
+    rw (
+      append-nil e,
+      append_assoc a b c,
+      append_assoc a (b ++ c) d,
+      append_assoc b c d,
+      append_assoc a (b ++ (c ++ d)) e,
+      append_assoc b (c ++ d) e,
+      append_assoc c d e,
+    )
+    refl
+
+pub head_is : (names : Names) (choices : Choices) (source none one two three four last program digest setup options : List ℕ)
+    → none ≡ [] → program ≡ shown_name names.program → digest ≡ encode_lower (sha256 source)
+    → setup ≡ shown_name (setup_name names.setup) → options ≡ options_text choices
+    → one ≡ none ++ ended (codes "$$ flat program, written by dme lower")
+    → two ≡ one ++ ended (codes "$$ source: " ++ program)
+    → three ≡ two ++ ended (codes "$$ SHA-256 of the source: " ++ digest)
+    → four ≡ three ++ ended (codes "$$ setup: " ++ setup)
+    → last ≡ four ++ ended (codes "$$ options: " ++ options)
+    → last ≡ ended_lines (head_lines names choices source)
+head_is names choices source none one two three four last program digest setup options is p d s o a b c e f =
+    rw (f, e, c, b, a, is, p, d, s, o) (five (ended (codes "$$ flat program, written by dme lower")) (ended (codes "$$ source: " ++ shown_name names.program))
+    (ended (codes "$$ SHA-256 of the source: " ++ encode_lower (sha256 source))) (ended (codes "$$ setup: " ++ shown_name (setup_name names.setup)))
+    (ended (codes "$$ options: " ++ options_text choices)))
+
+-- a text for the operator
+pub text_line_is : (s : Statement) (m : StatementMeaning) (old middle new : List ℕ) → is_operator_text s ≡ true
+    → middle ≡ old ++ flat_line (as_read s) s.line → new ≡ middle ++ 10 ∷ [] → new ≡ old ++ ended_lines (line_for s.line (flat_meant s m))
+text_line_is s m old middle new is e h =
+    rw (is, h, e, append-nil (flat_line (as_read s) s.line ++ 10 ∷ [])) (append_assoc old (flat_line (as_read s) s.line) (10 ∷ []))
+
+pub other_line_is : (s : Statement) (m : StatementMeaning) (old middle new : List ℕ) (written : Bool) → is_operator_text s ≡ false
+    → middle ≡ old ++ text_for (flat_said (keyword_of s.word) s.params m) → written ≡ is_some (flat_said (keyword_of s.word) s.params m)
+    → new ≡ middle ++ line_end s.line written → new ≡ old ++ ended_lines (line_for s.line (flat_meant s m))
+other_line_is s m old middle new written is e h g =
+    rw is (line_is s.line (flat_said (keyword_of s.word) s.params m) old middle new written e h g)
+
+-- parameters, each after its mark
+commas_are : (mark : ℕ) (p : List ℕ) (ps : List (List ℕ)) → mark ∷ with_commas p ps ≡ marked mark (p ∷ ps)
+commas_are mark p [] = ap (λ (xs : List ℕ). mark ∷ xs) (sym (append-nil p))
+commas_are mark p (q ∷ ps) = ap (λ (xs : List ℕ). mark ∷ (p ++ xs)) (commas_are 44 q ps)
+
+marked_is : (ps : List (List ℕ)) → marked 47 ps ≡ after_word ps
+marked_is [] = refl
+marked_is (p ∷ ps) = sym (commas_are 47 p ps)
+
+pub as_read_is : (s : Statement) (old middle new : List ℕ) → middle ≡ old ++ s.word → new ≡ middle ++ marked 47 s.params
+    → new ≡ old ++ flat_text (as_read s)
+as_read_is s old middle new e h = rw (h, e, append_assoc old s.word (marked 47 s.params)) (ap (λ (xs : List ℕ). old ++ (s.word ++ xs)) (marked_is s.params))
+
+pub ruleset marks = (as_read_is)
+
+pub ruleset lines = (text_line_is, other_line_is)

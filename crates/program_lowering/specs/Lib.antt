@@ -1,0 +1,11 @@
+pub mod Words
+pub mod Reasons
+pub mod Flats
+pub mod OperatorTexts
+pub mod Acts
+pub mod Lowering
+pub mod Heads
+pub mod Lowered
+pub mod Orders
+pub mod Carried
+pub mod Examples
