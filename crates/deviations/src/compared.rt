@@ -1,6 +1,7 @@
 // The lines that compare the points of a part with limits.
 
-ghost use Rattle.std.specs.Prelude.{◌≡◌, ◌++◌, ◌≤◌, ◌^◌, take, drop, IfOk, OnOk, string_bytes, None, unsigned_abs};
+ghost use Rattle.std.specs.Prelude.{◌≡◌, ◌-ℤ◌, ◌++◌, ◌≤◌, ◌^◌, take, drop, IfOk, OnOk, string_bytes, None, unsigned_abs};
+ghost use Rattle.std.specs.Int.{int_min};
 ghost use Rattle.deviations.specs.Compared.{
   margin,
   worse,
@@ -44,13 +45,27 @@ impl Model for Worst {
     ghost invariant = { λ w. unsigned_abs w.along ≤ 2 ^ 64 };
 }
 
+fn lesser(one: i128, other: i128) -> i128
+    ensures { result ≡ int_min one other }
+{
+    if other < one { other } else { one }
+}
+
+fn less(one: i128, other: i128) -> i128
+    requires one { unsigned_abs one ≤ 2 ^ 64 }
+    requires other { unsigned_abs other ≤ 2 ^ 64 }
+    ensures { result ≡ one -ℤ other }
+{
+    one - other
+}
+
 fn margin(range: &Range, along: i128) -> i128
     requires { unsigned_abs along ≤ 2 ^ 64 }
     ensures { result ≡ margin range.now along }
 {
-    let below = along - i128::from(range.lower.get());
-    let above = i128::from(range.upper.get()) - along;
-    below.min(above)
+    let below = less(along, i128::from(range.lower.get()));
+    let above = less(i128::from(range.upper.get()), along);
+    lesser(below, above)
 }
 
 fn worse(range: &Range, worst: Option<Worst>, next: Worst) -> Option<Worst>
@@ -146,7 +161,8 @@ fn behind<'a, 'b>(rows: &'a [Row<'b>], count: usize) -> &'a [Row<'b>]
     ensures { result.now ≡ drop count rows.now }
 {
     if count > rows.len() {
-        return &[];
+        let (_, nothing) = rows.split_at(rows.len());
+        return nothing;
     }
     let (_, behind) = rows.split_at(count);
     behind
