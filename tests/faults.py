@@ -10,7 +10,7 @@ A short program is run with a record, a features file, a file of contacts and a 
   with `dme: `, and with no line twice;
 - the same call, made again, comes to its end: each feature once, and its audit over the server's contacts answers RUNS.
 
-`run` calls this with some of the calls; by itself: tests/faults.py [STEP], which takes each STEP-th call.
+`releases.py` calls this; by itself: tests/faults.py [STEP], which takes each STEP-th call.
 """
 
 import pathlib
