@@ -4,8 +4,6 @@ use Rattle.dme_words.specs.declared.words.WordsFault.{WordsFault}
 use Rattle.dme_words.specs.declared.words.WordsFault.TheVariants as words
 use Rattle.dme_orders.specs.Printed.{status_of}
 use Rattle.dme_orders.specs.declared.faults.OrderFault.TheVariants as order
-use Rattle.record_keeping.specs.declared.opening.RecordRefusal.{RecordRefusal}
-use Rattle.record_keeping.specs.declared.opening.RecordRefusal.TheVariants as cause
 use Rattle.dme_files.specs.declared.faults.Fault.{Fault}
 use Rattle.dme_files.specs.declared.faults.Fault.TheVariants as fault
 
@@ -18,18 +16,9 @@ abbrev pub words_shown : WordsFault → Fault
 words_shown words.Memory = short
 words_shown refusal = fault.Words refusal
 
--- what is shown for a record that a run may not continue
-abbrev pub record_shown : RecordRefusal → Fault
-record_shown cause.Memory = short
-record_shown refusal = fault.Record refusal
-
--- 2 for the command line, 1 for a record and for a run that is not confirmed, else the status of the order's fault
+-- 2 for the command line, else the status of the order's fault
 abbrev pub exit_status : Fault → ℕ
 exit_status (fault.Words refusal) = 2
 exit_status fault.NotUtf8 = 2
-exit_status (fault.OneFile first second name) = 2
-exit_status fault.NotConfirmed = 1
-exit_status (fault.Record refusal) = 1
-exit_status (fault.ExplainedRecord refusal note) = 1
 exit_status (fault.Order cause) = status_of cause
 exit_status (fault.Explained cause place) = status_of cause

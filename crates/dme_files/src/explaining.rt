@@ -7,7 +7,7 @@ use dme_orders::{
 use std::alloc::{AllocError, Global};
 
 /// Bytes as text; nothing if memory ran out for them.
-pub fn text_of(alloc: Global, bytes: Result<Vec<u8>, AllocError>) -> String {
+fn text_of(alloc: Global, bytes: Result<Vec<u8>, AllocError>) -> String {
     let Ok(bytes) = bytes else {
         return String::new(alloc);
     };

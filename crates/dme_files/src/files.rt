@@ -4,7 +4,7 @@ ghost use Rattle.std.specs.Prelude.{◌≡◌, ◌≤◌, is_some, length, None,
 
 use byte_ports::{Failed, Source};
 use dme_orders::InputFile;
-use std::io::{ErrorKind, Read};
+use std::io::Read;
 use std::rt::Files;
 use std::{fs, io};
 
@@ -13,8 +13,6 @@ use std::{fs, io};
 enum Place<F, I> {
     /// The file of the source's name, which is not open yet.
     Closed,
-    /// The file of the source's name, which is not open yet; if there is no such file, nothing is left.
-    Kept,
     /// A file that is open.
     Open(F),
     /// Standard input.
@@ -106,14 +104,6 @@ impl<'a, R: Files + Input + AllocGlobal> Sources<'a, R> {
             None => None,
         }
     }
-
-    /// The file of this name, `-` too; nothing if there is no such file, and if none is named.
-    pub fn kept(&self, name: Option<String>) -> NamedSource<'a, R> {
-        match name {
-            Some(name) => self.source(name, Place::Kept),
-            None => self.source(String::new(self.rt.alloc()), Place::Taken),
-        }
-    }
 }
 
 impl<'a, R: Files + Input> NamedSource<'a, R> {
@@ -148,13 +138,6 @@ impl<'a, R: Files + Input> NamedSource<'a, R> {
             Place::Input(input) => input.read(buf),
             Place::Taken => Ok(0),
             Place::Closed => self.opened(buf),
-            Place::Kept => match self.opened(buf) {
-                Err(error) if error.kind() == ErrorKind::NotFound => {
-                    self.place = Place::Taken;
-                    Ok(0)
-                }
-                answer => answer,
-            },
         }
     }
 }

@@ -3,7 +3,7 @@
 //! - `files`: the files that a command reads, as sources
 //! - `text_files`: files that are replaced as a whole
 //! - `locked_files`: files that are locked before they are read, appended to or replaced, and that no other run may share
-//! - `names`: the files that one call names, which may not meet
+//! - `names`: the places of files
 //! - `explaining`: what is shown for an order whose files are refused
 //! - `faults`: what is printed on standard error, and the exit status
 #![tactic(auto)]
@@ -15,9 +15,9 @@ mod locked_files;
 mod names;
 mod text_files;
 
-pub use explaining::{of_output, refused, tell_audit, text_of};
-pub use faults::{Fault, cannot_write, unwritten};
+pub use explaining::{of_output, refused, tell_audit};
+pub use faults::Fault;
 pub use files::{NamedSource, Sources};
 pub use locked_files::{HeldFile, NextFile, has_name, is_bare};
-pub use names::{CalledFiles, meet};
-pub use text_files::{beside, is_plain, is_whole, replace_file};
+pub use names::place_of;
+pub use text_files::{is_plain, is_whole, replace_file};

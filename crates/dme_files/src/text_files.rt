@@ -1,19 +1,10 @@
 // Files of the file system that are replaced as a whole.
 
-use std::alloc::{AllocError, Global};
 use std::fs::{self, OpenFile, OpenOptions};
 use std::io::{self, ErrorKind, Write};
 use std::os::unix::fs::{OpenOptionsExt, PermissionsExt};
 use std::path::Path;
 use std::rt::Files;
-
-/// The name of the file next to that of this name, in which its next text is made.
-pub fn beside(alloc: Global, name: &str) -> Result<String, AllocError> {
-    let mut beside = String::new(alloc);
-    beside.push_str(name)?;
-    beside.push_str(".new")?;
-    Ok(beside)
-}
 
 /// The name of the folder that a file of this name is in.
 pub fn folder_of(name: &str) -> &str {

@@ -76,6 +76,36 @@ impl Growing {
         }
     }
 
+    /// A file is locked.
+    pub fn hold<R: Files<File = File> + AllocGlobal>(&mut self, rt: &R, name: &str) -> io::Result<()> {
+        let kept = String::from_str(rt.alloc(), name)?;
+        *self = Growing::Held(HeldFile::open(rt, name)?, kept);
+        Ok(())
+    }
+
+    /// A file that is locked has this text, and grows from now on.
+    pub fn fill<R: Files<File = File>>(
+        &mut self,
+        rt: &R,
+        text: &[u8],
+        held: usize,
+        length: usize,
+    ) -> io::Result<()> {
+        let Growing::Held(mut file, name) = std::mem::replace(self, Growing::None) else {
+            return Ok(());
+        };
+        match file.begin(rt, name.as_str(), text, (held, length)) {
+            Ok(()) => {
+                *self = Growing::Grows(file.into_file(), name);
+                Ok(())
+            }
+            Err(error) => {
+                *self = Growing::Held(file, name);
+                Err(error)
+            }
+        }
+    }
+
     /// Locks a file and makes its next text; whether it has more than the first bytes of that.
     pub fn make<R: Files<File = File> + AllocGlobal>(
         &mut self,

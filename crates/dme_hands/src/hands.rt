@@ -4,8 +4,10 @@ use crate::connections::Connections;
 use crate::files::Reader;
 use crate::growing::{Growing, GrowingFiles};
 use crate::written::{Written, names_in};
-use dme_files::{HeldFile, is_plain, replace_file};
+use dme_files::{is_plain, place_of, replace_file};
 use effects::{Answer, Came, Effect, Growth, Hands, Peer, Place, Slot};
+use std::alloc::AllocError;
+use std::os::unix::fs::MetadataExt;
 use jiff::Timestamp;
 use std::fs::{self, File};
 use std::io::{self, ErrorKind, Read, Write};
@@ -61,16 +63,6 @@ impl<
         }
     }
 
-    /// This file, which is locked, is the one of this name that grows once it begins.
-    pub fn hold(&mut self, growth: Growth, file: HeldFile, name: String) {
-        *self.files.growing(growth) = Growing::Held(file, name);
-    }
-
-    /// Likewise, one that has begun, and grows from now on.
-    pub fn grow(&mut self, growth: Growth, file: HeldFile, name: String) {
-        *self.files.growing(growth) = Growing::Grows(file.into_file(), name);
-    }
-
     /// The file of a slot that is read.
     fn file(&mut self, slot: Slot) -> &mut Reader<R> {
         match slot {
@@ -109,6 +101,26 @@ impl<
     fn names(&mut self, folder: &str) {
         match names_in(&self.rt, folder) {
             Ok(names) => self.came.text(names.as_slice()),
+            Err(error) => self.came.ended(Err(error)),
+        }
+    }
+
+    /// The place that a file of this name has or would have.
+    fn place(&mut self, name: &str) {
+        match place_of(&self.rt, name) {
+            Ok(Some(place)) => self.came.text(place.as_bytes()),
+            Ok(None) => self.came.looked(Ok(true)),
+            Err(AllocError) => self.is_short = true,
+        }
+    }
+
+    /// The device and the number of a file.
+    fn node(&mut self, name: &str) {
+        match fs::metadata(&self.rt, name) {
+            Ok(found) => {
+                let node = (u128::from(found.dev()) << 64) | u128::from(found.ino());
+                self.came.text(&node.to_be_bytes());
+            }
             Err(error) => self.came.ended(Err(error)),
         }
     }
@@ -198,6 +210,10 @@ impl<
     fn on_files(&mut self, effect: Effect<'_>) -> io::Result<()> {
         let RealHands { rt, files, .. } = self;
         match effect {
+            Effect::Hold(growth, name) => files.growing(growth).hold(rt, name),
+            Effect::Fill(growth, text, held, length) => {
+                files.growing(growth).fill(rt, text, held, length)
+            }
             Effect::Discard(growth) => files.growing(growth).discard(rt),
             Effect::SetAside(growth, old) => files.growing(growth).set_aside(rt, old),
             Effect::Begin(growth) => files.growing(growth).begin(rt),
@@ -252,6 +268,8 @@ impl<
             Effect::Exists(name) => self.came.looked(fs::exists(&self.rt, name)),
             Effect::Look(name) => self.came.ended(is_plain(&self.rt, name).map(|_| ())),
             Effect::Make(growth, name, beside, text) => self.make(growth, (name, beside), text),
+            Effect::Place(name) => self.place(name),
+            Effect::Node(name) => self.node(name),
             Effect::Stamp => self.stamp(),
             Effect::Now => {
                 let now = self.now();

@@ -3,13 +3,14 @@
 ghost use Rattle.std.specs.Prelude.{◌≡◌, true};
 ghost use Rattle.client_core.specs.Clients.{is_window};
 
+use crate::progress::Progress;
 use crate::tracing::TracingPort;
 use byte_ports::{Ports, Reading, Writing};
 use dme_files::{Fault, Sources, of_output, refused};
 use dme_orders::{
     ConnectionEnd, FilesFault, InputFiles, LoopTask, OrderFault, loop_over, setup_and_program,
 };
-use dme_run::{Progress, warn};
+use run_opening::lacking_lines;
 use dme_words::Loop;
 use effects::Cause;
 use link_world::LoopPorts;
@@ -113,7 +114,9 @@ pub fn loop_program<
         Ok(read) => read,
         Err(fault) => return Err(refused(rt.alloc(), fault, files, order.explain)),
     };
-    warn(rt, &files.setup, &files.program, &program)?;
+    let text = files.program.text.as_slice();
+    let lacking = lacking_lines(rt.alloc(), &program, text, &setup, files.setup.name.as_str())?;
+    let _ = eprint!(rt; "{lacking}");
     let task = Task {
         run: LoopTask {
             setup,

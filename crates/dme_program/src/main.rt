@@ -14,6 +14,7 @@
 
 mod connecting;
 mod exporting;
+mod progress;
 mod running;
 mod serving;
 mod tracing;

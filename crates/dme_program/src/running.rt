@@ -18,8 +18,8 @@ use dme_orders::{
     AuditFiles, FilesFault, InputFiles, RecordFiles, SimulationFiles, audit_files, audit_record,
     check_under_setup, review_program, simulate, status,
 };
-use dme_run::run_program;
-use dme_words::{Audit, Check, Order, RecordAudit, Review, Simulation, read_words};
+use dme_words::{Audit, Check, Order, RecordAudit, Review, Run, Simulation, read_words};
+use run_opening::Opening;
 use ledger_session::{Job, Session, run as run_reading};
 use program_review::{FindingForm, FindingStyle};
 use std::alloc::{AllocError, Global};
@@ -256,6 +256,26 @@ fn read_recordings<
     let mut hands = RealHands::new(rt.clone()?);
     let mut session = Session::new(rt.alloc(), job, up, down)?;
     Ok(run_reading(&mut session, &mut hands).unwrap_or(70))
+}
+
+/// Runs a program on a server.
+#[inline(never)]
+fn run_program<
+    R: Files<File = File>
+        + Input
+        + Print
+        + Eprint
+        + Clock
+        + Net<Listener = TcpListener, Stream = TcpStream>
+        + AllocGlobal
+        + Clone
+        + Drop,
+>(rt: &R, order: Run) -> Result<u8, Fault>
+    requires { is_window order.window ≡ true }
+{
+    let mut hands = RealHands::new(rt.clone()?);
+    let mut opening = Opening::new(rt.alloc(), order);
+    Ok(run_opening::run(&mut opening, &mut hands).unwrap_or(70))
 }
 
 /// Carries out an order: its exit status. None is joined to this function, whose frame would have room for all of them.

@@ -26,6 +26,10 @@ pub data Ask : Type 0 where
   Byte : Ask
   Exists : List ℕ → Ask
   Look : List ℕ → Ask
+  Place : List ℕ → Ask
+  Node : List ℕ → Ask
+  Hold : Growth → List ℕ → Ask
+  Fill : Growth → List ℕ → ℕ → ℕ → Ask
   Make : Growth → (name beside text : List ℕ) → Ask
   Discard : Growth → Ask
   SetAside : Growth → (old : List ℕ) → Ask
@@ -83,6 +87,10 @@ the_ask (effect.Read slot) = Read slot
 the_ask effect.Byte = Byte
 the_ask (effect.Exists name) = Exists name.now
 the_ask (effect.Look name) = Look name.now
+the_ask (effect.Place name) = Place name.now
+the_ask (effect.Node name) = Node name.now
+the_ask (effect.Hold growth name) = Hold growth name.now
+the_ask (effect.Fill growth text held length) = Fill growth text.now held length
 the_ask (effect.Make growth name beside text) = Make growth name.now beside.now text.now
 the_ask (effect.Discard growth) = Discard growth
 the_ask (effect.SetAside growth old) = SetAside growth old.now

@@ -158,6 +158,7 @@ fn cause(kind: ErrorKind) -> Cause {
         ErrorKind::WouldBlock => Cause::Locked,
         ErrorKind::FilesystemLoop => Cause::Link,
         ErrorKind::IsADirectory => Cause::Folder,
+        ErrorKind::InvalidInput => Cause::Device,
         ErrorKind::AlreadyExists => Cause::Taken,
         ErrorKind::StaleNetworkFileHandle => Cause::Renamed,
         ErrorKind::StorageFull | ErrorKind::QuotaExceeded => Cause::Full,

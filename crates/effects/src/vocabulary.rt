@@ -55,6 +55,15 @@ pub enum Effect<'a> {
     Exists(&'a str),
     /// Whether a plain file has this name, or nothing.
     Look(&'a str),
+    /// The place that a file of this name has or would have, without links. `Found` for a folder, a device or a pipe.
+    Place(&'a str),
+    /// The device of the file of this name, and its number there.
+    Node(&'a str),
+    /// The file of this name, which may be made for that, is locked.
+    Hold(Growth, &'a str),
+    /// The file that is locked has this text from now on, of which it has that many bytes, and grows; what it has after the second count of
+    /// bytes is cut off.
+    Fill(Growth, &'a [u8], usize, usize),
     /// The file of the first name, which may be made for that, is locked, and so is a new one of the second name, with this text, forced to
     /// the device. `Found` if the first has more than the first bytes of the text.
     Make(Growth, &'a str, &'a str, &'a [u8]),
@@ -134,6 +143,8 @@ pub enum Cause {
     Link,
     /// A file is a folder.
     Folder,
+    /// A file is a device or a pipe.
+    Device,
     /// The place of a new file is taken by what is no plain file.
     Taken,
     /// A file does not have its name any more.

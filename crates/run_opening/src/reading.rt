@@ -1,0 +1,216 @@
+// The texts that a run reads, one after another, each understood before the next is opened.
+
+use crate::openings::Opening;
+use crate::sayings::lacking_lines;
+use crate::stages::{Stage, Text};
+use contact_ledger::{FeatureLedger, TextFault, read_features};
+use dme_orders::{FilesFault, InputFile, Role, RunEnding, last_line};
+use dmis_program::{Frames, Program, ProgramFault};
+use effects::Answer;
+use program_review::{operator_texts, task_lines};
+use std::alloc::AllocError;
+use tool_rack::{Setup, SetupFault};
+
+/// How many pieces a text may have.
+const MOST: u32 = 1_000_000;
+
+/// What a text is to an order.
+fn role_of(text: Text) -> Role {
+    match text {
+        Text::Setup => Role::Setup,
+        Text::Features => Role::Features,
+        Text::Program => Role::Program,
+        Text::Record => Role::Record,
+    }
+}
+
+impl Opening {
+    /// A text cannot be read.
+    fn refuse_unread(&mut self, text: Text) -> Result<(), AllocError> {
+        let name = match text {
+            Text::Setup => self.order.setup.as_str(),
+            Text::Features => self.order.features.as_deref().unwrap_or(""),
+            Text::Program => self.order.program.as_str(),
+            Text::Record => self.order.record.as_deref().unwrap_or(""),
+        };
+        let name = String::from_str(self.alloc, name)?;
+        *self.name_in(text) = name;
+        self.refuse_text(FilesFault::Unread(role_of(text)))
+    }
+
+    /// The name of a file, as it is blamed.
+    fn name_in(&mut self, text: Text) -> &mut String {
+        match text {
+            Text::Setup => &mut self.files.setup.name,
+            Text::Features => &mut self.files.features.name,
+            Text::Program => &mut self.files.program.name,
+            Text::Record => &mut self.files.record.name,
+        }
+    }
+
+    /// A text is open, or is not there: features and a record may be lacking.
+    pub(crate) fn opened(&mut self, text: Text, answer: Answer<'_>) -> Result<(), AllocError> {
+        self.text.clear();
+        self.pieces = 0;
+        match (text, answer) {
+            (_, Answer::Done) => {
+                self.stage = Stage::Reading(text);
+                Ok(())
+            }
+            (_, Answer::Short) => Err(AllocError),
+            (Text::Features | Text::Record, Answer::Missing) => self.understand(text),
+            _ => self.refuse_unread(text),
+        }
+    }
+
+    /// The next bytes of a text, or its end.
+    pub(crate) fn read(&mut self, text: Text, answer: Answer<'_>) -> Result<(), AllocError> {
+        match answer {
+            Answer::Bytes(piece) if self.pieces < MOST => {
+                self.pieces += 1;
+                self.text.extend_from_slice(piece)
+            }
+            Answer::End => self.understand(text),
+            Answer::Short => Err(AllocError),
+            _ => self.refuse_unread(text),
+        }
+    }
+
+    /// A whole text is understood.
+    fn understand(&mut self, text: Text) -> Result<(), AllocError> {
+        let bytes = std::mem::replace(&mut self.text, Vec::new(self.alloc));
+        match text {
+            Text::Setup => self.take_setup(bytes),
+            Text::Features => self.take_features(bytes),
+            Text::Program => self.take_program(bytes),
+            Text::Record => self.take_record(bytes),
+        }
+    }
+
+    /// A file that was read, with its name, as it is blamed.
+    fn file(&self, name: &str, text: Vec<u8>) -> Result<InputFile, AllocError> {
+        Ok(InputFile {
+            name: String::from_str(self.alloc, name)?,
+            text,
+            is_short: false,
+        })
+    }
+
+    fn take_setup(&mut self, bytes: Vec<u8>) -> Result<(), AllocError> {
+        self.input_is_taken = self.order.setup.as_str() == "-";
+        self.files.setup = self.file(self.order.setup.as_str(), bytes)?;
+        match Setup::read(self.alloc, self.files.setup.text.as_slice()) {
+            Ok(setup) => {
+                self.setup = Some(setup);
+                self.stage = Stage::Opening(if self.order.features.is_some() {
+                    Text::Features
+                } else {
+                    Text::Program
+                });
+                Ok(())
+            }
+            Err(SetupFault::Memory) => Err(AllocError),
+            Err(cause) => self.refuse_text(FilesFault::Setup(cause)),
+        }
+    }
+
+    fn take_features(&mut self, bytes: Vec<u8>) -> Result<(), AllocError> {
+        let name = self.order.features.as_deref().unwrap_or("");
+        self.files.features = self.file(name, bytes)?;
+        match read_features(self.alloc, self.files.features.text.as_slice()) {
+            Ok(features) => {
+                self.features = Some(features);
+                self.stage = Stage::Opening(Text::Program);
+                Ok(())
+            }
+            Err(TextFault::Memory) => Err(AllocError),
+            Err(cause) => self.refuse_text(FilesFault::Features(cause)),
+        }
+    }
+
+    /// The program that these bytes are under the frames of the setup.
+    fn program_of(&self) -> Result<Program, ProgramFault> {
+        let bytes = self.files.program.text.as_slice();
+        match &self.setup {
+            Some(setup) => Program::read(self.alloc, bytes, setup.frames()),
+            None => Program::read(self.alloc, bytes, &Frames::new(self.alloc)),
+        }
+    }
+
+    fn take_program(&mut self, bytes: Vec<u8>) -> Result<(), AllocError> {
+        self.files.program = self.file(self.order.program.as_str(), bytes)?;
+        match self.program_of() {
+            Ok(program) => self.accept(program),
+            Err(ProgramFault::Memory) => Err(AllocError),
+            Err(cause) => self.refuse_text(FilesFault::Program(cause)),
+        }
+    }
+
+    /// The program is accepted: what the setup lacks for it is to be said.
+    fn accept(&mut self, program: Program) -> Result<(), AllocError> {
+        let text = self.files.program.text.as_slice();
+        self.asked = program.features().len();
+        self.tasks = task_lines(self.alloc, text)?;
+        self.texts = operator_texts(self.alloc, text)?;
+        if let Some(setup) = &self.setup {
+            self.said = lacking_lines(self.alloc, &program, text, setup, self.order.setup.as_str())?;
+        }
+        self.program = Some(program);
+        if self.said.is_empty() {
+            return self.peek();
+        }
+        self.stage = Stage::Warning;
+        Ok(())
+    }
+
+    /// The stop file is looked for, if one is named.
+    pub(crate) fn peek(&mut self) -> Result<(), AllocError> {
+        if self.order.stop.is_some() {
+            self.stage = Stage::Peeking;
+            Ok(())
+        } else {
+            self.continue_record()
+        }
+    }
+
+    /// The stop file is there, or not.
+    pub(crate) fn peeked(&mut self, answer: Answer<'_>) -> Result<(), AllocError> {
+        match answer {
+            Answer::Found => {
+                self.is_stopped = true;
+                self.continue_record()
+            }
+            Answer::Short => Err(AllocError),
+            _ => self.continue_record(),
+        }
+    }
+
+    /// The record is read, if one is named.
+    fn continue_record(&mut self) -> Result<(), AllocError> {
+        if self.order.record.is_some() {
+            self.stage = Stage::Opening(Text::Record);
+            return Ok(());
+        }
+        let kept = match &self.features {
+            Some(features) => features.list().len(),
+            None => 0,
+        };
+        if self.is_stopped {
+            return self.stop(Some(kept));
+        }
+        let features = self.features.take();
+        let features = features.unwrap_or(FeatureLedger::new(self.alloc));
+        self.take_kept(features)
+    }
+
+    /// The stop file is there: nothing is begun.
+    pub(crate) fn stop(&mut self, kept: Option<usize>) -> Result<(), AllocError> {
+        let name = self.order.stop.as_deref().unwrap_or("");
+        let said = format!(in self.alloc; "dme: {name} exists: nothing was begun\n")?;
+        let last = match kept {
+            Some(kept) => last_line(RunEnding::NotBegun, self.counts(kept)),
+            None => None,
+        };
+        self.refuse_last(said.as_str(), last, 3)
+    }
+}

@@ -1,0 +1,127 @@
+// The record that a run continues.
+
+use crate::openings::Opening;
+use crate::stages::Stage;
+use contact_ledger::Feature;
+use dme_orders::OrderFault;
+use dmis_program::Program;
+use effects::Answer;
+use record_keeping::{Beginning, RecordRefusal, begin_record};
+use refusal_guide::{Refused, write_other_part, write_other_program, write_place};
+use run_record::{RecordFault, read_record};
+use std::alloc::{AllocError, Global};
+
+/// Whether the features of a file are the first of those that a record gives back.
+fn are_first(features: &[Feature], recorded: &[Feature]) -> bool {
+    if features.len() > recorded.len() {
+        return false;
+    }
+    for at in 0..features.len() {
+        if features[at].label.as_bytes() != recorded[at].label.as_bytes()
+            || features[at].points.as_slice() != recorded[at].points.as_slice()
+        {
+            return false;
+        }
+    }
+    true
+}
+
+/// What is wrong with a record that is refused: at which line and what, which parts, or which feature and in what.
+fn note(
+    alloc: Global,
+    refusal: &RecordRefusal,
+    (name, part): (&str, Option<&[u8]>),
+    text: &[u8],
+    program: &Program,
+) -> Result<Vec<u8>, AllocError> {
+    let mut out = Vec::new(alloc);
+    if let RecordRefusal::Damaged(line) = refusal {
+        let refused = Refused::Record(RecordFault::Damaged(*line));
+        write_place(&mut out, refused, name, text)?;
+        return Ok(out);
+    }
+    let Ok(Some(record)) = read_record(alloc, text) else {
+        return Ok(out);
+    };
+    match refusal {
+        RecordRefusal::OtherPart => write_other_part(&mut out, &record, part)?,
+        RecordRefusal::OtherProgram(_) => write_other_program(&mut out, &record, program)?,
+        RecordRefusal::Damaged(_) | RecordRefusal::Memory => {}
+    }
+    Ok(out)
+}
+
+impl Opening {
+    fn part(&self) -> Option<&[u8]> {
+        self.order.part.as_ref().map(|part| part.as_bytes())
+    }
+
+    /// How the run continues from the text of its record.
+    fn beginning_of(&self, text: &[u8]) -> Result<Beginning, RecordRefusal> {
+        match &self.program {
+            Some(program) => begin_record(self.alloc, text, program, self.part()),
+            None => Err(RecordRefusal::Memory),
+        }
+    }
+
+    /// The whole text of the record.
+    pub(crate) fn take_record(&mut self, text: Vec<u8>) -> Result<(), AllocError> {
+        let beginning = self.beginning_of(text.as_slice());
+        if self.is_stopped {
+            return match beginning {
+                Ok(beginning) => self.stop(Some(beginning.features.list().len())),
+                Err(_) => self.stop(None),
+            };
+        }
+        match beginning {
+            Ok(beginning) => self.fill(beginning, text.len()),
+            Err(refusal) => self.refuse_record(refusal, text.as_slice()),
+        }
+    }
+
+    /// The record is not continued, and what is wrong with it is said, if that is asked for.
+    fn refuse_record(&mut self, refusal: RecordRefusal, text: &[u8]) -> Result<(), AllocError> {
+        let (Some(program), Some(name)) = (&self.program, &self.order.record) else {
+            return Err(AllocError);
+        };
+        if let RecordRefusal::Memory = refusal {
+            return Err(AllocError);
+        }
+        let note = if self.order.explain {
+            note(self.alloc, &refusal, (name.as_str(), self.part()), text, program)?
+        } else {
+            Vec::new(self.alloc)
+        };
+        let note = str::from_utf8(note.as_slice()).unwrap_or("");
+        let said = format!(in self.alloc; "dme: {refusal} in record\n{note}")?;
+        self.refuse(said, 1);
+        Ok(())
+    }
+
+    /// The record is to get the text that the run continues from, unless it does not give back the features of the file.
+    fn fill(&mut self, beginning: Beginning, length: usize) -> Result<(), AllocError> {
+        let is_ours = match &self.features {
+            Some(features) => are_first(features.list(), beginning.features.list()),
+            None => true,
+        };
+        if !is_ours {
+            return self.refuse_order(OrderFault::NotOurs);
+        }
+        self.beginning = Some(beginning);
+        self.length = length;
+        self.stage = Stage::Filling;
+        Ok(())
+    }
+
+    /// The record has it, or cannot be written.
+    pub(crate) fn filled(&mut self, answer: Answer<'_>) -> Result<(), AllocError> {
+        match answer {
+            Answer::Done => self.take_beginning(),
+            Answer::Short => Err(AllocError),
+            _ => {
+                let name = self.order.record.take();
+                self.refuse_file(name, answer)
+            }
+        }
+    }
+}
