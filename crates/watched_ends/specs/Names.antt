@@ -2,7 +2,6 @@
 pub use Rattle.dme_line.specs.Responses.{the_mark}
 pub use Rattle.fixed_um.specs.Calls.{Finds}
 pub use Rattle.witness.specs.Asking.{signal_of}
-pub use Rattle.witness.specs.Dialogues.{foreign_event}
 pub use Rattle.witness.specs.Relaying.{IsClientRead, IsServerRead, Reads, untold}
 pub use Rattle.witness.specs.Texts.{numbered, side_field, told_lines, told_text}
 pub use Rattle.witness.specs.Watching.{KeepsFew, client_lines, ledger, server_lines}

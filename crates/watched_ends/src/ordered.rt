@@ -1,6 +1,6 @@
 // The text of what two recordings report, if the order between the two ends is known.
 
-ghost use Rattle.std.specs.Prelude.{◌≡◌, ◌≤◌, ◌+◌, ◌++◌, ◌∷◌, [], List, ℕ, length, take, IfOk, OnOk, MatchOption};
+ghost use Rattle.std.specs.Prelude.{◌≡◌, ◌≤◌, ◌+◌, ◌++◌, ◌∷◌, [], List, ℕ, length, take, drop, IfOk, OnOk, MatchOption};
 ghost use Rattle.watched_ends.specs.Names.{Limited, count_of, bytes_of, Pieces};
 ghost use Rattle.watched_ends.specs.Pieces as spec;
 
@@ -10,38 +10,14 @@ use std::alloc::{AllocError, Global};
 use witness::{HEADER, Side};
 use witness_judge::first_bytes;
 
-/// The next `count` bytes after a place come from the client, and are read. Fails only if out of memory.
-#[tactic(auto, using(crate::proofs::PieceLemmas::came_up))]
-fn come_up(relay: &mut LimitedRelay, up: &[u8], from: usize, count: usize) -> Result<(), AllocError>
-    requires { from + count ≤ length up.now }
-    ensures { (first : Limited) (pieces : Pieces) (down : List ℕ)
-        → spec.Relayed first pieces (take from up.now) down relay.old → OnOk result
-        (spec.Relayed first (spec.with_up pieces count) (take (from + count) up.now) down relay.new) }
+fn piece_at(bytes: &[u8], from: usize, count: usize) -> &[u8]
+    requires { from + count ≤ length bytes.now }
+    ensures bytes { result.now ≡ take count (drop from bytes.now) }
+    ensures count { length result.now ≡ count }
 {
-    let (_, rest) = up.split_at(from);
+    let (_, rest) = bytes.split_at(from);
     let (piece, _) = rest.split_at(count);
-    relay.from_client(piece)?;
-    relay.read()
-}
-
-/// Likewise from the server.
-#[tactic(auto, using(crate::proofs::PieceLemmas::came_down))]
-fn come_down(
-    relay: &mut LimitedRelay,
-    down: &[u8],
-    from: usize,
-    count: usize,
-) -> Result<(), AllocError>
-    requires { from + count ≤ length down.now }
-    ensures { (first : Limited) (pieces : Pieces) (up : List ℕ)
-        → spec.Relayed first pieces up (take from down.now) relay.old → OnOk result
-        (spec.Relayed first (spec.with_down pieces count) up (take (from + count) down.now)
-        relay.new) }
-{
-    let (_, rest) = down.split_at(from);
-    let (piece, _) = rest.split_at(count);
-    relay.from_server(piece)?;
-    relay.read()
+    piece
 }
 
 /// A piece comes from its end, and is read: how many bytes of each end have come. Fails only if out of memory.
@@ -66,11 +42,13 @@ fn come(
     let count = count as usize;
     match side {
         Side::Client => {
-            come_up(relay, up, came_up, count)?;
+            relay.from_client(piece_at(up, came_up, count))?;
+            relay.read()?;
             Ok((came_up + count, came_down))
         }
         Side::Server => {
-            come_down(relay, down, came_down, count)?;
+            relay.from_server(piece_at(down, came_down, count))?;
+            relay.read()?;
             Ok((came_up, came_down + count))
         }
     }

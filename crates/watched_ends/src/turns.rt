@@ -10,7 +10,7 @@ use crate::places::{Later, later_of, may_come};
 use dme_line::{MarkSlice, Tag, cut_response};
 use line_framing::Line;
 use std::alloc::{AllocError, Global};
-use witness::{Dialogue, Use};
+use witness::{Dialogue, Use, is_end};
 
 fn is_open(tag: Tag, uses: &[Use]) -> bool
     ensures { result ≡ orders.is_open tag uses.now }
@@ -28,12 +28,6 @@ fn has_failed(tag: Tag, uses: &[Use]) -> bool
         }
     }
     false
-}
-
-fn is_end(mark: MarkSlice<'_>) -> bool
-    ensures { result ≡ marks.is_end (signal_of (the_mark mark.entry)) }
-{
-    matches!(mark, MarkSlice::Done)
 }
 
 fn read_next(dialogue: &mut Dialogue, up: &[Line], next: usize) -> Result<(), AllocError>
@@ -85,7 +79,7 @@ fn read_until(
 fn read_for(
     dialogue: &mut Dialogue,
     up: &[Line],
-    places: &[usize],
+    places: &[Option<usize>],
     next: usize,
     tag: Tag,
 ) -> Result<usize, AllocError>
@@ -107,7 +101,7 @@ fn read_for(
 /// Whether a response ends a command that has failed, and the client sends more under its tag: then it is not clear which has failed.
 fn is_unclear(
     dialogue: &Dialogue,
-    places: &[usize],
+    places: &[Option<usize>],
     next: usize,
     tag: Tag,
     mark: MarkSlice<'_>,

@@ -8,7 +8,7 @@ use Rattle.dme_line.specs.declared.commands.Csy.TheVariants.{MachineCsy, PartCsy
 use Rattle.dme_line.specs.declared.tags.Tag.TheVariants.{Std, Event}
 use Rattle.contact_ledger.specs.declared.acts.Act.{Act}
 use Rattle.contact_ledger.specs.declared.acts.Act.TheVariants as act
-use Rattle.witness.specs.Asking.{Line, Sends, Answers, Signal, Ack, Given, Done}
+use Rattle.witness.specs.Asking.{Line, Sends, Answers, Signal, Ack, Given, Done, Error}
 use Rattle.witness.specs.Rules.{all_reported}
 use Rattle.witness.specs.declared.lines.Reported.{Reported}
 use Rattle.witness.specs.declared.lines.Reported.TheVariants as reports
@@ -30,9 +30,13 @@ abbrev pub of_each : List Reported → List (Option (List ℕ) × Option Frame)
 of_each [] = []
 of_each (r ∷ rs) = of_one r ++ of_each rs
 
+abbrev pub joined : List (List Line) → List Line
+joined [] = []
+joined (some ∷ more) = some ++ joined more
+
 -- of lines in the order in which they came
-abbrev pub known_in : Bool → List Line → List (Option (List ℕ) × Option Frame)
-known_in ordered lines = of_each (all_reported ordered (reverse lines))
+abbrev pub known_in : Bool → List (List Line) → List (Option (List ℕ) × Option Frame)
+known_in ordered lines = of_each (all_reported ordered (reverse (joined lines)))
 
 -- ---- lines
 
@@ -83,11 +87,23 @@ hears_event n signal = Answers (codes "z") (Some (Event n, signal)) ∷ []
 abbrev pub given : Signal
 given = Given (Ok (point 5)) (Ok false)
 
+abbrev pub ack : ℕ → List Line
+ack n = hears n Ack
+
+abbrev pub gives : ℕ → List Line
+gives n = hears n given
+
+abbrev pub ends : ℕ → List Line
+ends n = hears n Done
+
+abbrev pub fails : ℕ → List Line
+fails n = hears n Error
+
 abbrev pub done : ℕ → List Line
-done n = hears n Ack ++ hears n Done
+done n = ack n ++ ends n
 
 abbrev pub touched : ℕ → List Line
-touched n = hears n Ack ++ (hears n given ++ hears n Done)
+touched n = ack n ++ (gives n ++ ends n)
 
 abbrev pub no_response : List Line
 no_response = Answers (codes "z") None ∷ []

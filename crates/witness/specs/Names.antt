@@ -16,7 +16,7 @@ pub use Rattle.protocol_model.specs.Open.{asks_data}
 pub use Rattle.protocol_model.specs.Readings.{command_of, homed_of, point_of}
 pub use Rattle.witness.specs.Asking.{Ack, Done, Error, Line, client_line, server_line, signal_of}
 pub use Rattle.witness.specs.Dialogues.{after_all}
-pub use Rattle.witness.specs.Examples.{asking, asks, both, done, event, foreign, given, hears, hears_event, known_in, machine, neither, no_response, other_tool, part, ready, tool, touch, touched, untagged, zero_point}
+pub use Rattle.witness.specs.Examples.{ack, asking, asks, both, done, ends, event, fails, foreign, given, gives, hears_event, known_in, machine, neither, no_response, other_tool, part, ready, tool, touch, touched, untagged, zero_point}
 pub use Rattle.witness.specs.Known.{all_renewed, is_rival, nothing}
 pub use Rattle.witness.specs.Marks.{is_error, is_foreign}
 pub use Rattle.witness.specs.Relaying.{Course, IsAllTold, IsClientRead, IsServerRead, IsToldOf, Reads, Relaying, Relays}

@@ -53,7 +53,8 @@ fn note_event(events: &mut Vec<u16>, tag: Tag)
     }
 }
 
-fn foreign_event(tag: Tag, command: &SentCommand) -> bool
+/// Whether a line under a tag may be carried out at once.
+pub fn foreign_event(tag: Tag, command: &SentCommand) -> bool
     ensures event { result ≡ spec.foreign_event tag command.now }
     ensures foreign { result ≡ true → is_foreign command.now ≡ true }
 {

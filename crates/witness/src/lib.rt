@@ -27,7 +27,8 @@ mod writing;
 
 pub use asking::{only_asks, sent};
 pub use cutting::cut_lines;
-pub use dialogue::Dialogue;
+pub use dialogue::{Dialogue, foreign_event};
 pub use lines::{Known, Reported, Rule, SentCommand, Side, Use};
+pub use marks::is_end;
 pub use witness::Witness;
 pub use writing::{HEADER, add_all, add_told};

@@ -45,7 +45,8 @@ pub(crate) fn heard_as(command: &SentCommand, mark: MarkSlice<'_>) -> Heard
     }
 }
 
-pub(crate) fn is_end(mark: MarkSlice<'_>) -> bool
+/// Whether a mark is the end of its command.
+pub fn is_end(mark: MarkSlice<'_>) -> bool
     ensures { result ≡ spec.is_end (signal_of (the_mark mark.entry)) }
 {
     match mark {

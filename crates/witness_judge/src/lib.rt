@@ -24,7 +24,7 @@ mod orders;
 mod reading;
 pub mod rules;
 mod server;
-mod tables;
+pub mod tables;
 mod writing;
 
 pub use counts::KINDS;

@@ -28,7 +28,8 @@ fn code_of(tag: Tag) -> usize
     }
 }
 
-pub(crate) fn look(table: &[Option<usize>], tag: Tag) -> Option<usize>
+/// What a table has for a tag.
+pub fn look(table: &[Option<usize>], tag: Tag) -> Option<usize>
     ensures { result ≡ spec.found table.now tag }
 {
     let code = code_of(tag);
@@ -61,12 +62,9 @@ fn change(table: &mut Vec<Option<usize>>, code: usize, place: Option<usize>)
     table[code] = place;
 }
 
+/// Changes what a table has for a tag. Fails only if out of memory.
 #[tactic(auto, using(crate::proofs::TagTables::put_found))]
-pub(crate) fn put(
-    table: &mut Vec<Option<usize>>,
-    tag: Tag,
-    place: Option<usize>,
-) -> Result<(), AllocError>
+pub fn put(table: &mut Vec<Option<usize>>, tag: Tag, place: Option<usize>) -> Result<(), AllocError>
     ensures { OnOk result ((t : Tag) → spec.found table.new.items t
         ≡ (if tag_is tag t then place else spec.found table.old.items t)) }
 {

@@ -1,6 +1,6 @@
 use Rattle.std.proofs.Common.{◌+◌, [], arith, sym, ◌∙◌, subst}
 use Rattle.watched_ends.specs.Turns.{AreQuiet}
-use Rattle.watched_ends.proofs.PlaceLemmas.{same_item, last_more, quiet_more, last_all, quiet_all, quiet_within}
+use Rattle.watched_ends.proofs.PlaceLemmas.{same_item, quiet_more, last_all, quiet_all, quiet_within}
 use Rattle.watched_ends.proofs.places.later_of.Goals as goal
 
 pub loop-at-preserved : goal.loop-at-preserved
@@ -9,7 +9,7 @@ loop-at-preserved c =
     let there = same_item c.args.up.now c.loop-at.at [] c.index-up-at.result c.loop-at-test.true ∙ sym c.index-up-at.is ∙ sym c.as_slice.ensures.bytes in
     let quiet = subst (AreQuiet c.args.up.now (c.loop-at.at + 1)) (sym c.quiet_after-quiet.ensures)
     (quiet_more c.args.up.now c.loop-at.at c.loop-at.quiet c.as_slice.result.now there before.1 c.in_ok-once.once c.in_ok-once.ensures.at_once) in (
-      last_more c.args.up.now c.loop-at.at c.loop-at.places.items c.note.new.places.items c.as_slice.result.now there before.0 c.in_ok-once.ensures.noted,
+      c.in_ok-once.ensures.noted c.args.up.now there before.0,
       quiet,
       quiet_within c.in_ok-once.once c.loop-at.at c.loop-at.quiet _ c.quiet_after-quiet.ensures before.2,
     )
