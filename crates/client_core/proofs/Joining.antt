@@ -61,7 +61,7 @@ nothing_behind zero (x ∷ xs) = leb-suc-zero (length xs)
 nothing_behind (suc n) [] = le-leb 0 (suc n) (omega arith)
 nothing_behind (suc n) (x ∷ xs) = leb-suc-suc (length xs) n ∙ nothing_behind n xs
 
--- so many are left after the first n
+-- that many are left after the first n
 pub left_behind : {A : Type 0} (n : ℕ) (xs : List A) → length xs - n ≡ length (drop n xs)
 left_behind n xs = sym (length-drop n xs)
 
