@@ -9,7 +9,7 @@ use Rattle.std.proofs.lemmas.List.Splits.{slice_split_first, length-slice_split}
 use Rattle.contact_ledger.specs.Lines.{but_last, whole_lines, fields_of, fields_behind}
 
 -- the first part ends at the first byte that passes
-first_part : (p : ℕ → Bool) (bs : List ℕ) (at : ℕ) → Some at ≡ position p bs → (at < length bs)
+pub first_part : (p : ℕ → Bool) (bs : List ℕ) (at : ℕ) → Some at ≡ position p bs → (at < length bs)
     × (slice_split p bs ≡ take at bs ∷ slice_split p (drop (at + 1) bs))
 first_part p bs at e =
     let parts = cond_some (ltb (position_or_len p bs) (length bs)) (position_or_len p bs) at (sym e) in
@@ -31,7 +31,7 @@ split_none p (x ∷ xs) h = go (λ l. split_none p xs l) (p x) refl h
     go rest true e l = absurd (omega arith)
     go rest false e l = split_alone p x xs (rest (omega arith)) e
 
-one_part : (p : ℕ → Bool) (bs : List ℕ) → None ≡ position p bs → slice_split p bs ≡ bs ∷ []
+pub one_part : (p : ℕ → Bool) (bs : List ℕ) → None ≡ position p bs → slice_split p bs ≡ bs ∷ []
 one_part p bs e = split_none p bs (not_found (ltb (position_or_len p bs) (length bs)) _ refl e)
   where
     not_found : (t : Bool) (at : ℕ) → ltb at (length bs) ≡ t → None ≡ cond t (Some at) None → length bs ≤ at

@@ -71,7 +71,7 @@ settled_is frames tool wanted count (said.Recalls name) t h = unless_is (is_none
 settled_is frames tool wanted count said.Closes t h = cc
 settled_is frames tool wanted count said.Passes t h = cc
 
-settling_is : (frames : List (List ℕ × Point)) (tool : Option (List ℕ)) (wanted : Option ℕ) (count : ℕ)
+pub settling_is : (frames : List (List ℕ × Point)) (tool : Option (List ℕ)) (wanted : Option ℕ) (count : ℕ)
     (r : Result StatementMeaning Refusal) (t : StatementMeaning)
     → (r >>= settled frames tool wanted count) ≡ Ok t → r ≡ Ok t
 settling_is frames tool wanted count (Ok s) t h = ap (λ (x : StatementMeaning). Ok x) (settled_is frames tool wanted count s t h)

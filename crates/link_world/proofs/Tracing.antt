@@ -1,18 +1,16 @@
 -- The text of a trace: rows of bytes, and the rows of an event.
-use Rattle.std.proofs.Common.{◌≡◌, ℕ, zero, suc, ◌+◌, ◌-◌, ◌<◌, ◌≤◌, Bool, true, false, not, cond, eqb, ltb, List, [], ◌∷◌, ◌++◌, length}
-use Rattle.std.proofs.Common.{take, drop, Option, Some, None, refl, sym, ap, ◌∙◌, subst, arith, rules, append_assoc, append-nil, slice_index_or}
+use Rattle.std.proofs.Common.{◌≡◌, ℕ, zero, suc, ◌+◌, ◌-◌, ◌<◌, ◌≤◌, Bool, true, false, cond, eqb, List, [], ◌∷◌, ◌++◌, length}
+use Rattle.std.proofs.Common.{take, drop, Option, Some, None, refl, sym, ap, ◌∙◌, subst, arith, append_assoc, append-nil, slice_index_or}
 use Rattle.std.specs.Prelude.{decimal}
-use Rattle.std.specs.List.{slice_split, position, position_or_len, IsLastAndRest, flat_map}
-use Rattle.std.proofs.lemmas.Bool.{ltb-true, ltb-false, false≢true}
-use Rattle.std.proofs.lemmas.Option.{cond_some}
-use Rattle.std.proofs.lemmas.List.Splits.{slice_split_first}
+use Rattle.std.specs.List.{position, IsLastAndRest, flat_map}
+use Rattle.std.proofs.lemmas.Bool.{false≢true}
 use Rattle.std.proofs.Common.{Result, Ok, Err, OnOk}
 use Rattle.line_framing.specs.Next.{Front, next_of}
 use Rattle.protocol_model.specs.Ends.{ClientEnd, ServerEnd, front_served}
 use Rattle.protocol_model.specs.Lines.{reading_of}
 use Rattle.protocol_model.specs.Readings.{command_of}
 use Rattle.protocol_model.proofs.invariant.Moves.{read_moves, turned_moves, machined_moves}
-use Rattle.protocol_model.specs.World.{World, Link, no_link, can, happens, after, run_of}
+use Rattle.protocol_model.specs.World.{World, Link, no_link, can, happens, after}
 use Rattle.protocol_model.specs.declared.events.Event.{Event}
 use Rattle.protocol_model.specs.declared.events.Event.TheVariants as event
 use Rattle.server_core.specs.Serving.{ServerValue}
@@ -20,11 +18,12 @@ use Rattle.link_world.specs.Links.{WorldValue, links_of, seen, IsReached}
 use Rattle.link_world.specs.declared.worlds.connection.Connection.{Connection}
 use Rattle.link_world.specs.declared.worlds.standing.Standing.{Standing}
 use Rattle.link_world.specs.Traces.{without_cr, row, rows, up_on, down_on, standing, shown, passed_over, traced, taken_after, client_mark, server_mark, lost_up, lost_down}
-use Rattle.link_world.specs.Traces.{comes_up, is_there, place, client_wrote, server_wrote, undelivered}
-use Rattle.link_world.specs.Traces.{TraceValue, Follows, Grows, TracesAll, Traces, Ends}
+use Rattle.link_world.specs.Traces.{comes_up, is_there, place, client_wrote, server_wrote}
+use Rattle.link_world.specs.Traces.{TraceValue, Follows, Grows, Traces, Ends}
 use Rattle.link_world.proofs.EventLists.{done_now}
 use Rattle.link_world.proofs.Linking.{links_get}
 use Rattle.link_world.proofs.Reached.{links_long, made}
+use Rattle.contact_ledger.proofs.LineCuts.{first_part, one_part}
 
 -- ---- the CR at the end of a line
 
@@ -65,33 +64,6 @@ row_more n old mark (b ∷ bs) some =
 
 -- ---- line by line
 
-first_part : (p : ℕ → Bool) (bs : List ℕ) (at : ℕ) → Some at ≡ position p bs → slice_split p bs ≡ take at bs ∷ slice_split p (drop (at + 1) bs)
-first_part p bs at e =
-    let parts = cond_some (ltb (position_or_len p bs) (length bs)) (position_or_len p bs) at (sym e) in
-    let within : position_or_len p bs < length bs = ltb-true _ _ parts.0 in
-    let first : slice_split p bs ≡ take (position_or_len p bs) bs ∷ slice_split p (drop (position_or_len p bs + 1) bs) =
-    slice_split_first p bs 0 within in
-    rw (← parts.1) first
-
-split_alone : (p : ℕ → Bool) (x : ℕ) (xs : List ℕ) → slice_split p xs ≡ xs ∷ [] → p x ≡ false → slice_split p (x ∷ xs) ≡ (x ∷ xs) ∷ []
-split_alone p x xs h e = rw (e, h)
-
-split_none : (p : ℕ → Bool) (bs : List ℕ) → length bs ≤ position_or_len p bs → slice_split p bs ≡ bs ∷ []
-split_none p [] h = refl
-split_none p (x ∷ xs) h = go (λ l. split_none p xs l) (p x) refl h
-  where
-    go : (length xs ≤ position_or_len p xs → slice_split p xs ≡ xs ∷ []) → (b : Bool) → p x ≡ b
-        → suc (length xs) ≤ cond (not b) (1 + position_or_len p xs) 0 → slice_split p (x ∷ xs) ≡ (x ∷ xs) ∷ []
-    go rest true e l = absurd (omega arith)
-    go rest false e l = split_alone p x xs (rest (omega arith)) e
-
-one_part : (p : ℕ → Bool) (bs : List ℕ) → None ≡ position p bs → slice_split p bs ≡ bs ∷ []
-one_part p bs e = split_none p bs (not_found (ltb (position_or_len p bs) (length bs)) _ refl e)
-  where
-    not_found : (t : Bool) (at : ℕ) → ltb at (length bs) ≡ t → None ≡ cond t (Some at) None → length bs ≤ at
-    not_found true at t n = absurd cc
-    not_found false at t n = ltb-false at _ t
-
 -- the rows of lines
 rows_by : ℕ → List ℕ → List (List ℕ) → List ℕ
 rows_by n mark lines = flat_map (λ (line : List ℕ). row n mark (without_cr line)) lines
@@ -105,7 +77,7 @@ rows_more n at mark text new rest line stripped after base e line_is stripped_is
     ∙ ap (λ (xs : List ℕ). text ++ row n mark xs) (stripped_is ∙ ap without_cr line_is))
     ∙ (append_assoc text (row n mark (without_cr (take at rest))) (rows n mark (drop (at + 1) rest))
     ∙ (ap (λ (parts : List (List ℕ)). text ++ flat_map (λ (line : List ℕ). row n mark (without_cr line)) parts)
-    (sym (first_part (λ b. eqb b 10) rest at e)) ∙ whole)))
+    (sym (first_part (λ b. eqb b 10) rest at e).1) ∙ whole)))
 
 rows_all : (n : ℕ) (mark text new rest base : List ℕ) → None ≡ position (λ b. eqb b 10) rest
     → new ≡ text ++ row n mark (without_cr rest) → text ++ rows n mark rest ≡ base → new ≡ base

@@ -11,7 +11,6 @@ use Rattle.dmis_text.specs.declared.reading.TextFault.{TextFault}
 use Rattle.fixed_um.specs.declared.lengths.Point.{Point}
 use Rattle.dmis_program.specs.Outcomes.{◌>>=◌}
 use Rattle.dmis_program.specs.Keywords.{keyword_of}
-use Rattle.dmis_program.specs.Offsets.{offset_of}
 use Rattle.dmis_program.specs.Sayings.{said_of, said_by, is_badly_formed, without_parameters}
 use Rattle.dmis_program.specs.LookBack.{Context, context_at, saying, nearest, or_else, tool_said, bound_said, bound_count, touched, touched_with}
 use Rattle.dmis_program.specs.Judging.{judged, settled, refused_by, word_refusal, misplaced, is_too_few}
@@ -30,6 +29,7 @@ use Rattle.program_review.specs.declared.remarks.Remark.{Remark}
 use Rattle.program_review.specs.Refusals.{at_start, number_at, some_tool, context_of, due, one_more, one_less, lacking_said, is_selection}
 use Rattle.program_review.specs.Variables.{names_by}
 use Rattle.program_review.specs.Refusals.{after_said, after, is_end, listed, refusals_from, refusals_of, first_of, fault_of}
+use Rattle.dmis_program.proofs.CarryingLemmas.{settling_is}
 
 -- what an open block that has this many touches lacks
 abbrev lacks : Option ℕ → ℕ → Option ℕ
@@ -102,28 +102,6 @@ due_is : (frames : List (List ℕ × Point)) (above : List Statement) (st : Stan
     → due frames st s ≡ judged frames (context_at frames above) s
 due_is frames above st s h = judged_same frames (context_of st (keyword_of s.word)) (context_at frames above) s
     (number_is above st (keyword_of s.word) h) h.tool h.lacking refl
-
--- what an accepted statement says, it says by itself
-unless_is : (b : Bool) (e : Refusal) (m t : StatementMeaning) → cond b (Err e) (Ok m) ≡ Ok t → m ≡ t
-unless_is true e m t h = absurd cc
-unless_is false e m t h = cc
-
-settled_is : (frames : List (List ℕ × Point)) (tool : Option (List ℕ)) (wanted : Option ℕ) (count : ℕ) (m t : StatementMeaning)
-    → settled frames tool wanted count m ≡ Ok t → m ≡ t
-settled_is frames tool wanted count (said.Goes target) t h = cc
-settled_is frames tool wanted count (said.Begins name n) t h = cc
-settled_is frames tool wanted count (said.Touches target direction) t h = unless_is (is_none tool) _ (said.Touches target direction) t h
-settled_is frames tool wanted count said.Ends t h = unless_is (is_too_few wanted count) _ said.Ends t h
-settled_is frames tool wanted count (said.Selects name) t h = cc
-settled_is frames tool wanted count (said.Recalls name) t h = unless_is (is_none (offset_of frames name)) _ (said.Recalls name) t h
-settled_is frames tool wanted count said.Closes t h = cc
-settled_is frames tool wanted count said.Passes t h = cc
-
-settling_is : (frames : List (List ℕ × Point)) (tool : Option (List ℕ)) (wanted : Option ℕ) (count : ℕ)
-    (r : Result StatementMeaning Refusal) (t : StatementMeaning)
-    → (r >>= settled frames tool wanted count) ≡ Ok t → r ≡ Ok t
-settling_is frames tool wanted count (Ok m) t h = ap (λ (x : StatementMeaning). Ok x) (settled_is frames tool wanted count m t h)
-settling_is frames tool wanted count (Err e) t h = absurd cc
 
 reached : (b : Bool) (e : Refusal) (o : Option Refusal) (r : Result StatementMeaning Refusal) (t : StatementMeaning)
     → cond b (Err e) (refused_by o r) ≡ Ok t → (b ≡ false) × (r ≡ Ok t)
