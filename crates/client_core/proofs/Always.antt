@@ -1,51 +1,19 @@
 -- What holds of a client at any time: its state and connection, its cause, its window and numbers, and what it holds on no connection.
-use Rattle.std.proofs.Common.{◌≡◌, ℕ, zero, suc, ◌≤◌, ◌<◌, ◌==◌, Bool, true, false, cond, ◌&&◌, not, is_some, nat_lt, List, []}
-use Rattle.std.proofs.Common.{◌∷◌, ◌++◌, drop}
-use Rattle.std.proofs.Common.{refl, sym, ◌∙◌, ap, subst, arith, Option, Some, None, Result, Ok, Err, le_refl}
-use Rattle.std.proofs.lemmas.Bool.{false≢true, ltb-true, leb-true}
-use Rattle.contact_ledger.specs.Ledgers.{connection_most}
-use Rattle.fixed_um.specs.declared.lengths.Point.{Point}
-use Rattle.dme_line.specs.Kinds.{kind_of}
-use Rattle.dme_line.specs.declared.tags.Tag.{Tag}
-use Rattle.dme_line.specs.declared.tags.Tag.TheVariants as tag
-use Rattle.dme_line.specs.declared.homed.NotHomedText.{NotHomedText}
-use Rattle.dme_line.specs.declared.points.NotPoint.{NotPoint}
-use Rattle.dme_line.specs.declared.commands.Kind.{Kind}
-use Rattle.dme_line.specs.declared.commands.Kind.TheVariants as kind
+use Rattle.client_core.proofs.Names.{[], ◌&&◌, ◌++◌, ◌<◌, ◌==◌, ◌∙◌, ◌∷◌, ◌≡◌, ◌≤◌, Abort, ap, arith, behind_call, behind_calls, Bool, Call, Cause}
+use Rattle.client_core.proofs.Names.{Client, client_connected, client_hears, client_left, client_read, client_restarted, client_resumed, ClientEnd}
+use Rattle.client_core.proofs.Names.{cond, Connected, connection_most, count_keeps, count_open, Datum, done_by, drop, due, ends_abort, Err, false}
+use Rattle.client_core.proofs.Names.{false≢true, faulted, Feature, fed_behind, Feed, fine, first_due, first_state, FitsState, FramingFault, Front}
+use Rattle.client_core.proofs.Names.{front_read, given_for, given_homed, given_point, given_under, heard_on, held_now, held_under, homed_of, if_false}
+use Rattle.client_core.proofs.Names.{is_asking, is_failed, is_faulted, is_running, is_some, is_whole, IsQuiet, IsReached, Kind, kind_of, last_state}
+use Rattle.client_core.proofs.Names.{le_refl, Leave, leb-true, left_by, left_state, line_read, List, ltb-true, may_abort, may_connect, may_go}
+use Rattle.client_core.proofs.Names.{may_read, Meaning, nat_lt, new_client, new_client_end, next_number, next_of, None, not, NotHomedText, NotPoint}
+use Rattle.client_core.proofs.Names.{NotResponse, Ok, OpenCommand, Option, Planned, Point, point_of, possible, ReadOne, refl, Response, response_of}
+use Rattle.client_core.proofs.Names.{response_read, Restart, Result, Resume, Send, sends_abort, sends_next, Sent, Some, State, state_behind}
+use Rattle.client_core.proofs.Names.{step_cases, subst, suc, sym, Table, Tag, tag_is, true, Wanted, zero, ℕ}
 use Rattle.dme_line.specs.declared.responses.Mark.{Mark as Marked}
-use Rattle.dme_line.specs.declared.responses.Mark.TheVariants as mark
-use Rattle.dme_line.specs.declared.responses.Response.{Response}
-use Rattle.dme_line.specs.declared.responses.NotResponse.{NotResponse}
-use Rattle.protocol_model.specs.Readings.{response_of, point_of, homed_of}
-use Rattle.line_framing.specs.Next.{Front, next_of}
-use Rattle.line_framing.specs.Framing.{fed_behind, left_by}
-use Rattle.line_framing.specs.declared.faults.FramingFault.{FramingFault}
-use Rattle.line_framing.specs.declared.faults.FramingFault.TheVariants as framing
-use Rattle.contact_ledger.specs.declared.features.Feature.{Feature}
-use Rattle.dmis_program.specs.Meaning.{Meaning}
-use Rattle.dmis_program.specs.declared.features.Wanted.{Wanted}
-use Rattle.protocol_model.specs.Replies.{Mark, tag_is}
-use Rattle.protocol_model.specs.Open.{is_asking, is_failed, count_open}
-use Rattle.protocol_model.specs.Client.{Client, Table, heard_on, faulted, new_client, client_connected, may_go, first_due, due}
+use Rattle.protocol_model.specs.Replies.{Mark}
 use Rattle.protocol_model.proofs.HeardTables.{heard}
-use Rattle.protocol_model.specs.Client.{held_now, sends_next, next_number, sends_abort, may_abort, first_state, last_state, state_behind}
-use Rattle.protocol_model.specs.Client.{is_running, is_whole, ends_abort, client_hears, client_read, client_resumed, client_left}
-use Rattle.protocol_model.specs.Client.{left_state, client_restarted}
-use Rattle.protocol_model.specs.Ends.{ClientEnd, new_client_end, held_under, given_point, given_homed, given_for, given_under}
-use Rattle.protocol_model.specs.Ends.{response_read, line_read, front_read}
-use Rattle.protocol_model.specs.declared.held.Datum.TheVariants as datum
-use Rattle.protocol_model.specs.declared.held.OpenCommand.{OpenCommand}
-use Rattle.protocol_model.specs.declared.plans.Planned.{Planned}
-use Rattle.protocol_model.specs.declared.states.State.{State}
-use Rattle.protocol_model.specs.declared.states.Cause.{Cause}
-use Rattle.protocol_model.proofs.table.Basics.{if_false}
-use Rattle.protocol_model.proofs.table.Counts.{count_keeps}
-use Rattle.protocol_model.proofs.table.Replying.{fine, step_cases}
-use Rattle.client_core.specs.Calls.{Call, Connected, Send, Feed, ReadOne, Abort, Resume, Leave, Restart, Sent, possible, done_by}
-use Rattle.client_core.specs.Calls.{behind_call, behind_calls}
-use Rattle.client_core.specs.Clients.{is_faulted, may_connect, may_read}
 use Rattle.client_core.specs.Clients as clients
-use Rattle.client_core.specs.Always.{IsReached, FitsState, IsQuiet}
 use Rattle.client_core.proofs.Fits.{both}
 use Rattle.client_core.proofs.Runs.{IsDue, due_running, resumed_state}
 
@@ -98,7 +66,7 @@ heard_fewer ws b c t m is =
     step_cases ws b t m c (count_open c.standard ≤ count_open b.standard) is
     (λ zero_tag same. subst (λ (x : Table). count_open x.standard ≤ count_open b.standard) same (le_refl (count_open b.standard)))
     (λ n hs e sort here after. subst (λ (x : Table). count_open x.standard ≤ count_open b.standard) (sym after)
-    (count_keeps (not b.tally.failed) b.standard (tag.Std n) m hs e here))
+    (count_keeps (not b.tally.failed) b.standard (Tag.Std n) m hs e here))
     (λ n hs e sort other here after. subst (λ (x : Table). count_open x.standard ≤ count_open b.standard) (sym after)
     (le_refl (count_open b.standard)))
 
@@ -153,39 +121,39 @@ hears_live c t m reads h (Ok b) is =
 hears_live c t m reads h (Err cause) is = faulted_live c cause h
 
 reply_live : (c : Client) (t : Tag) (m : Mark) → Reads c → IsLive c → IsLive (client_read c t m)
-reply_live c t m reads h = go (tag_is t (tag.Event 0)) refl
+reply_live c t m reads h = go (tag_is t (Tag.Event 0)) refl
   where
-    go : (b : Bool) → tag_is t (tag.Event 0) ≡ b → IsLive (cond b c (client_hears c t m (heard_on c.program.features c.table t m)))
+    go : (b : Bool) → tag_is t (Tag.Event 0) ≡ b → IsLive (cond b c (client_hears c t m (heard_on c.program.features c.table t m)))
     go true e = h
     go false e = hears_live c t m reads h (heard_on c.program.features c.table t m)
-        (if_false {A = Result Table Cause} (tag_is t (tag.Event 0)) (fine c.table) (heard_on c.program.features c.table t m) e)
+        (if_false {A = Result Table Cause} (tag_is t (Tag.Event 0)) (fine c.table) (heard_on c.program.features c.table t m) e)
 
 either_live : (b : Bool) (c d : Client) → IsLive c → IsLive d → IsLive (cond b c d)
 either_live true c d h g = h
 either_live false c d h g = g
 
 point_live : (c : Client) (t : Tag) (r : Result Point NotPoint) → Reads c → IsLive c → IsLive (given_point c t r)
-point_live c t (Ok q) reads h = reply_live c t (Mark.Given (datum.Point q)) reads h
+point_live c t (Ok q) reads h = reply_live c t (Mark.Given (Datum.Point q)) reads h
 point_live c t (Err why) reads h = faulted_live c Cause.NotResponse h
 
 homed_live : (c : Client) (t : Tag) (r : Result Bool NotHomedText) → Reads c → IsLive c → IsLive (given_homed c t r)
-homed_live c t (Ok homed) reads h = reply_live c t (Mark.Given (datum.Homed homed)) reads h
+homed_live c t (Ok homed) reads h = reply_live c t (Mark.Given (Datum.Homed homed)) reads h
 homed_live c t (Err why) reads h = faulted_live c Cause.NotResponse h
 
 given_live : (c : Client) (t : Tag) (text : List ℕ) (k : Kind) → Reads c → IsLive c
     → IsLive (given_for c t text k)
-given_live c t text kind.PtMeas reads h = point_live c t (point_of text) reads h
-given_live c t text kind.IsHomed reads h = homed_live c t (homed_of text) reads h
-given_live c t text kind.StartSession reads h = faulted_live c Cause.OutOfOrder h
-given_live c t text kind.EndSession reads h = faulted_live c Cause.OutOfOrder h
-given_live c t text kind.ClearAllErrors reads h = faulted_live c Cause.OutOfOrder h
-given_live c t text kind.Home reads h = faulted_live c Cause.OutOfOrder h
-given_live c t text kind.OnPtMeasReport reads h = faulted_live c Cause.OutOfOrder h
-given_live c t text kind.GoTo reads h = faulted_live c Cause.OutOfOrder h
-given_live c t text kind.ChangeTool reads h = faulted_live c Cause.OutOfOrder h
-given_live c t text kind.SetCsyTransformation reads h = faulted_live c Cause.OutOfOrder h
-given_live c t text kind.SetCoordSystem reads h = faulted_live c Cause.OutOfOrder h
-given_live c t text kind.AbortE reads h = faulted_live c Cause.OutOfOrder h
+given_live c t text Kind.PtMeas reads h = point_live c t (point_of text) reads h
+given_live c t text Kind.IsHomed reads h = homed_live c t (homed_of text) reads h
+given_live c t text Kind.StartSession reads h = faulted_live c Cause.OutOfOrder h
+given_live c t text Kind.EndSession reads h = faulted_live c Cause.OutOfOrder h
+given_live c t text Kind.ClearAllErrors reads h = faulted_live c Cause.OutOfOrder h
+given_live c t text Kind.Home reads h = faulted_live c Cause.OutOfOrder h
+given_live c t text Kind.OnPtMeasReport reads h = faulted_live c Cause.OutOfOrder h
+given_live c t text Kind.GoTo reads h = faulted_live c Cause.OutOfOrder h
+given_live c t text Kind.ChangeTool reads h = faulted_live c Cause.OutOfOrder h
+given_live c t text Kind.SetCsyTransformation reads h = faulted_live c Cause.OutOfOrder h
+given_live c t text Kind.SetCoordSystem reads h = faulted_live c Cause.OutOfOrder h
+given_live c t text Kind.AbortE reads h = faulted_live c Cause.OutOfOrder h
 
 under_live : (c : Client) (t : Tag) (text : List ℕ) (kind : Option Kind) → Reads c → IsLive c
     → IsLive (given_under c t text kind)
@@ -193,12 +161,12 @@ under_live c t text None reads h = faulted_live c Cause.UnknownTag h
 under_live c t text (Some k) reads h = given_live c t text k reads h
 
 response_live : (c : Client) (t : Tag) (m : Marked) → Reads c → IsLive c → IsLive (response_read c t m)
-response_live c t mark.Ack reads h = reply_live c t Mark.Ack reads h
-response_live c t (mark.Given text) reads h =
-    either_live (tag_is t (tag.Event 0)) c (given_under c t text (held_under t c)) h
+response_live c t Marked.Ack reads h = reply_live c t Mark.Ack reads h
+response_live c t (Marked.Given text) reads h =
+    either_live (tag_is t (Tag.Event 0)) c (given_under c t text (held_under t c)) h
     (under_live c t text (held_under t c) reads h)
-response_live c t mark.Done reads h = reply_live c t Mark.Done reads h
-response_live c t (mark.Error text) reads h = reply_live c t Mark.Error reads h
+response_live c t Marked.Done reads h = reply_live c t Mark.Done reads h
+response_live c t (Marked.Error text) reads h = reply_live c t Mark.Error reads h
 
 line_live : (c : Client) (r : Result Response NotResponse) → Reads c → IsLive c → IsLive (line_read c r)
 line_live c (Ok r) reads h = response_live c r.tag r.mark reads h
@@ -207,8 +175,8 @@ line_live c (Err refused) reads h = faulted_live c Cause.NotResponse h
 front_live : (c : Client) (f : Front) → Reads c → IsLive c → IsLive (front_read c f)
 front_live c (Ok None) reads h = h
 front_live c (Ok (Some (line, rest))) reads h = line_live c (response_of line) reads h
-front_live c (Err framing.LineTooLong) reads h = faulted_live c Cause.LineTooLong h
-front_live c (Err framing.BadByte) reads h = faulted_live c Cause.BadByte h
+front_live c (Err FramingFault.LineTooLong) reads h = faulted_live c Cause.LineTooLong h
+front_live c (Err FramingFault.BadByte) reads h = faulted_live c Cause.BadByte h
 
 -- ---- what is written
 
@@ -250,7 +218,7 @@ sends_steady : (c : Client) (l : List Planned) (number : Option ℕ) → c.state
 sends_steady c [] number running fewer h = h
 sends_steady c (q ∷ qs) None running fewer h = faulted_steady c Cause.TagsSpent (running_on c running h) h
 sends_steady c (q ∷ qs) (Some n) running fewer h =
-    let more = open_more c.table.standard (held_now (tag.Std n) (kind_of q.command)) in
+    let more = open_more c.table.standard (held_now (Tag.Std n) (kind_of q.command)) in
     record {
       connected = h.connected;
       cause = h.cause;
@@ -398,8 +366,8 @@ read_unmet : (e : ClientEnd) (f : Front) → next_of e.input.rest ≡ f → e.in
     → is_faulted (front_read e.client f).state ≡ false → (left_by f e.input).fault ≡ None
 read_unmet e (Ok None) is none awake = none
 read_unmet e (Ok (Some (line, rest))) is none awake = none
-read_unmet e (Err framing.LineTooLong) is none awake = absurd (false≢true (sym awake))
-read_unmet e (Err framing.BadByte) is none awake = absurd (false≢true (sym awake))
+read_unmet e (Err FramingFault.LineTooLong) is none awake = absurd (false≢true (sym awake))
+read_unmet e (Err FramingFault.BadByte) is none awake = absurd (false≢true (sym awake))
 
 drop_none : (k : ℕ) (none : List ℕ) → none ≡ [] → drop k none ≡ []
 drop_none zero none e = e
@@ -412,7 +380,7 @@ done_sound (Connected n) e may h = live_sound (done_by (Connected n) e) refl
 done_sound Send e may h =
     let now : IsDue e.client = due_running e.client may in
     let running : e.client.state ≡ State.Running = now.running in
-    let number : Option ℕ = next_number tag.Std e.client.table.standard e.client.drawn in
+    let number : Option ℕ = next_number Tag.Std e.client.table.standard e.client.drawn in
     live_sound (done_by Send e)
     (sends_on e.client e.client.table.tally.unsent number ∙ running_on e.client running (IsSound.steady h))
     (sends_steady e.client e.client.table.tally.unsent number running (may_fewer e.client may) (IsSound.steady h))
@@ -429,7 +397,7 @@ done_sound ReadOne e may h =
     (read_unmet e (next_of e.input.rest) refl (IsSound.unmet h (Reads.awake r)))
 done_sound Abort e may h =
     let a : Aborts e.client = aborts_by e.client e.client.state refl may (IsSteady.connected (IsSound.steady h)) in
-    let number : Option ℕ = next_number tag.Event e.client.table.event e.client.event_drawn in
+    let number : Option ℕ = next_number Tag.Event e.client.table.event e.client.event_drawn in
     live_sound (done_by Abort e) (aborts_on e.client number
     ∙ Aborts.on a) (aborts_steady e.client number a (IsSound.steady h)) (λ awake. IsSound.unmet h (Aborts.awake a))
 done_sound Resume e may h =

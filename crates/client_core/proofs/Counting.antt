@@ -1,14 +1,7 @@
 -- A counted command is what `protocol_model` counts.
-use Rattle.std.proofs.Common.{◌≡◌, suc, Bool, true, false, ◌||◌, List, [], ◌∷◌, ◌++◌, drop, Option, Some, None, refl, sym, ap}
-use Rattle.dme_line.specs.declared.commands.Kind.{Kind}
-use Rattle.dmis_program.specs.declared.features.Wanted.{Wanted}
-use Rattle.protocol_model.specs.Client.{Tally, act_of, measured, counted_next, begins_session, tells_homed, passed_over}
-use Rattle.protocol_model.specs.declared.held.Datum.{Datum}
-use Rattle.protocol_model.specs.declared.held.Datum.TheVariants as datum
-use Rattle.protocol_model.specs.declared.plans.Does.{Does}
-use Rattle.protocol_model.specs.declared.plans.Planned.{Planned}
-use Rattle.client_core.specs.declared.progress.Progress.{Progress}
-use Rattle.client_core.specs.Progress.{tally_of, measured_so, is_contact}
+use Rattle.client_core.proofs.Names.{[], ◌++◌, ◌||◌, ◌∷◌, ◌≡◌, act_of, ap, begins_session, Bool, counted_next, Datum, Does, drop, false, is_contact}
+use Rattle.client_core.proofs.Names.{Kind, List, measured, measured_so, None, Option, passed_over, Planned, Progress, refl, Some, suc, sym, Tally}
+use Rattle.client_core.proofs.Names.{tally_of, tells_homed, true, Wanted}
 
 -- the next command of the plan
 pub counted_is : (ws : List Wanted) (kind : Kind) (given : Option Datum) (p q : Progress) (planned : Planned) (rest : List Planned)
@@ -46,7 +39,7 @@ unmeasured ws (Does.Changes n) given y e = refl
 unmeasured ws (Does.Frames f) given y e = refl
 unmeasured ws (Does.Touches t false) None y e = refl
 unmeasured ws (Does.Touches t true) None y e = refl
-unmeasured ws (Does.Touches t false) (Some (datum.Homed h)) y e = refl
-unmeasured ws (Does.Touches t true) (Some (datum.Homed h)) y e = refl
-unmeasured ws (Does.Touches t false) (Some (datum.Point p)) y e = absurd (cc e)
-unmeasured ws (Does.Touches t true) (Some (datum.Point p)) y e = absurd (cc e)
+unmeasured ws (Does.Touches t false) (Some (Datum.Homed h)) y e = refl
+unmeasured ws (Does.Touches t true) (Some (Datum.Homed h)) y e = refl
+unmeasured ws (Does.Touches t false) (Some (Datum.Point p)) y e = absurd (cc e)
+unmeasured ws (Does.Touches t true) (Some (Datum.Point p)) y e = absurd (cc e)

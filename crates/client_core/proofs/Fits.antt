@@ -1,21 +1,9 @@
 -- The features that a client holds, and the points of the unfinished one, fit the touches that are left of its plan.
-use Rattle.std.proofs.Common.{◌≡◌, ℕ, zero, suc, ◌+◌, ◌≤◌, ◌==◌, Bool, true, false, ◌&&◌, List, [], ◌∷◌, ◌++◌, length, take, drop, refl}
-use Rattle.std.proofs.Common.{sym, ◌∙◌, ap, subst, arith, length-append, Option}
-use Rattle.std.proofs.lemmas.Bool.{false≢true, eq-eqb, eqb-true}
-use Rattle.std.specs.Prelude.{bytes_eq}
-use Rattle.std.specs.List.{AllByRecursion}
-use Rattle.fixed_um.specs.declared.lengths.Point.{Point}
-use Rattle.contact_ledger.specs.declared.features.Origin.{Origin}
-use Rattle.contact_ledger.specs.declared.features.Feature.{Feature}
-use Rattle.contact_ledger.specs.Ledgers.{HaveOrigins}
-use Rattle.contact_ledger.specs.FeatureTexts.{CanBeWritten, IsPointCount}
-use Rattle.dmis_program.specs.Programs.{IsFeature}
+use Rattle.client_core.proofs.Names.{[], ◌&&◌, ◌++◌, ◌+◌, ◌==◌, ◌∙◌, ◌∷◌, ◌≡◌, ◌≤◌, AllByRecursion, ap, are_ours, arith, Bool, bytes_eq, CanBeWritten}
+use Rattle.client_core.proofs.Names.{drop, eq-eqb, eqb-true, false, false≢true, Feature, feature_ends, HaveOrigins, is_ours, IsFeature, IsPointCount}
+use Rattle.client_core.proofs.Names.{joined, length, length-append, List, Option, Origin, origins_of, Point, refl, subst, suc, sym, take, touch_ends}
+use Rattle.client_core.proofs.Names.{true, Wanted, zero, ℕ}
 use Rattle.dmis_program.specs.declared.features.Touch.{Touch}
-use Rattle.dmis_program.specs.declared.features.Wanted.{Wanted}
-use Rattle.protocol_model.specs.Client.{joined}
-use Rattle.protocol_model.specs.PlanReading.{touch_ends, feature_ends}
-use Rattle.client_core.specs.Calls.{origins_of}
-use Rattle.client_core.specs.Clients.{is_ours, are_ours}
 
 -- of the touches of a feature that many are left after the next one, which then is the last or not
 abbrev pub ends_left : ℕ → List Bool

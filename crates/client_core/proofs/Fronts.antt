@@ -1,20 +1,12 @@
 -- What a reply does to the open commands that have not failed.
-use Rattle.std.proofs.Common.{◌≡◌, Bool, true, false, cond, ◌&&◌, ◌||◌, not, ℕ, suc, List, [], ◌∷◌, ◌++◌, refl, sym, ◌∙◌, ap, subst, Option}
+use Rattle.client_core.proofs.Names.{[], ◌&&◌, ◌++◌, ◌||◌, ◌∙◌, ◌∷◌, ◌≡◌, and_false, ap, AreFilled, ask_nothing, AskNothing, asks_homed, Becomes}
+use Rattle.client_core.proofs.Names.{becomes_calm, becomes_filled, Bool, Closes, cond, count_open, Counts, counts_given, Datum, Effect, failed_stays}
+use Rattle.client_core.proofs.Names.{false, false≢true, heard_in, if_false, if_true, is_asking, is_failed, is_failed-true, IsFilled, IsGiven, judged}
+use Rattle.client_core.proofs.Names.{Kind, List, never_counts, no_closes, no_counts, not, OpenCommand, Option, refl, subst, suc, sym, Tag, true, ℕ}
 use Rattle.std.proofs.Math.Bool.{and-true}
-use Rattle.std.proofs.lemmas.Bool.{false≢true}
-use Rattle.dme_line.specs.declared.tags.Tag.{Tag}
-use Rattle.dme_line.specs.declared.commands.Kind.{Kind}
 use Rattle.protocol_model.specs.Replies.{Mark}
-use Rattle.protocol_model.specs.Open.{Effect, Becomes, Closes, Counts, judged, heard_in, is_failed, asks_homed, is_asking, count_open}
-use Rattle.protocol_model.specs.declared.held.Datum.{Datum}
 use Rattle.protocol_model.specs.declared.held.Stage.{Stage}
-use Rattle.protocol_model.specs.declared.held.OpenCommand.{OpenCommand}
-use Rattle.protocol_model.proofs.table.Asking.{AskNothing, ask_nothing}
-use Rattle.protocol_model.proofs.table.Walks.{two, staged, heard_cases}
-use Rattle.protocol_model.proofs.table.Basics.{if_true, if_false, and_false}
-use Rattle.protocol_model.proofs.table.Counts.{failed_stays, is_failed-true, never_counts}
-use Rattle.protocol_model.proofs.undisturbed_run.Following.{becomes_calm, becomes_filled, no_closes, no_counts, counts_given}
-use Rattle.protocol_model.proofs.undisturbed_run.Following.{IsGiven, IsFilled, AreFilled}
+use Rattle.protocol_model.proofs.table.Walks.{heard_cases, staged, two}
 
 -- the kinds of those that have not failed, in sending order
 abbrev pub live_kinds : List OpenCommand → List Kind

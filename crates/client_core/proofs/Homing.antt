@@ -1,36 +1,14 @@
 -- A plan as it is followed: if the machine is reported to be homed, its homing is skipped.
-use Rattle.std.proofs.Common.{◌≡◌, ℕ, ◌+◌, Bool, true, false, cond, ◌||◌, List, [], ◌∷◌, ◌++◌, refl, sym, ◌∙◌, ap, arith, Option}
-use Rattle.std.proofs.Common.{Some, None}
-use Rattle.std.proofs.lemmas.Bool.{false≢true}
+use Rattle.client_core.proofs.Names.{[], ◌++◌, ◌+◌, ◌||◌, ◌∙◌, ◌∷◌, ◌≡◌, Act, act_in, act_of, acts_planned, ap, AreActs, AreAsked, arith, asks_data}
+use Rattle.client_core.proofs.Names.{asks_homed, behind, Bool, clearing, Command, cond, Datum, Does, end_of, ends_of, false, false≢true, followed}
+use Rattle.client_core.proofs.Names.{frame_behind, framing, has_homing, HasDatum, if_false, is_homing, IsAskedBy, Kind, kind_of, kinds_of, List}
+use Rattle.client_core.proofs.Names.{Meaning, measuring, None, Option, passed_over, plan, Planned, refl, Some, StandsFor, Start, stepping, sym, tells}
+use Rattle.client_core.proofs.Names.{tells_homed, tells_unasked, told_homed, tool_behind, tooling, true, up_to, without_homing, without_homings, ℕ}
 use Rattle.fixed_um.specs.declared.frames.Frame.{Frame}
 use Rattle.fixed_um.specs.declared.frames.Frame.TheVariants.{Machine, Part}
-use Rattle.dme_line.specs.Kinds.{kind_of}
-use Rattle.dme_line.specs.declared.commands.Kind.{Kind}
-use Rattle.dme_line.specs.declared.commands.Kind.TheVariants as kind
-use Rattle.dme_line.specs.declared.commands.Command.{Command}
-use Rattle.dme_line.specs.declared.commands.Command.TheVariants as command
-use Rattle.contact_ledger.specs.declared.acts.Act.{Act}
-use Rattle.contact_ledger.specs.declared.acts.Act.TheVariants as act
-use Rattle.dmis_program.specs.Meaning.{Meaning}
 use Rattle.dmis_program.specs.declared.steps.Step.{Step}
-use Rattle.dmis_program.specs.declared.steps.Step.TheVariants as step
-use Rattle.protocol_model.specs.Open.{asks_data, asks_homed}
-use Rattle.protocol_model.specs.Client.{act_of, is_homing, without_homing, passed_over, tells_homed}
-use Rattle.protocol_model.specs.Plan.{tool_behind, frame_behind, behind, up_to, framing, tooling, stepping, measuring, clearing, plan}
-use Rattle.protocol_model.specs.PlanReading.{end_of, ends_of}
-use Rattle.protocol_model.specs.Undisturbed.{act_in, acts_planned, StandsFor, AreActs, without_homings, followed}
-use Rattle.protocol_model.specs.declared.held.Datum.{Datum}
-use Rattle.protocol_model.specs.declared.held.Datum.TheVariants as datum
-use Rattle.protocol_model.specs.declared.plans.Does.{Does}
-use Rattle.protocol_model.specs.declared.plans.Planned.{Planned}
-use Rattle.protocol_model.specs.declared.plans.Start.{Start}
 use Rattle.protocol_model.specs.declared.plans.Start.TheVariants.{NewConnection, SameConnection}
-use Rattle.protocol_model.proofs.invariant.Touching.{HasDatum}
 use Rattle.protocol_model.proofs.plan.PassedOver.{passes}
-use Rattle.protocol_model.proofs.table.Asking.{tells_unasked}
-use Rattle.protocol_model.proofs.table.Basics.{if_false}
-use Rattle.protocol_model.proofs.undisturbed_run.Following.{IsAskedBy, AreAsked, kinds_of}
-use Rattle.client_core.specs.Calls.{tells, told_homed, has_homing}
 
 -- ---- a plan asks once, and homes once
 
@@ -66,12 +44,12 @@ tooling_measures (Some n) = (refl, refl, tt)
 
 stepping_measures : (frame : Frame) (ss : List Step) → Measure (stepping frame ss)
 stepping_measures frame [] = tt
-stepping_measures frame (step.Goto p ∷ ss) = (refl, refl, stepping_measures frame ss)
-stepping_measures frame (step.Begin l ∷ ss) = stepping_measures frame ss
-stepping_measures frame (step.Touch t ∷ ss) = (refl, refl, stepping_measures frame ss)
-stepping_measures frame (step.Tool n ∷ ss) = (refl, refl, stepping_measures frame ss)
-stepping_measures frame (step.Recall p ∷ ss) = (refl, refl, (refl, refl, stepping_measures (Part p) ss))
-stepping_measures frame (step.End ∷ ss) = stepping_measures frame ss
+stepping_measures frame (Step.Goto p ∷ ss) = (refl, refl, stepping_measures frame ss)
+stepping_measures frame (Step.Begin l ∷ ss) = stepping_measures frame ss
+stepping_measures frame (Step.Touch t ∷ ss) = (refl, refl, stepping_measures frame ss)
+stepping_measures frame (Step.Tool n ∷ ss) = (refl, refl, stepping_measures frame ss)
+stepping_measures frame (Step.Recall p ∷ ss) = (refl, refl, (refl, refl, stepping_measures (Part p) ss))
+stepping_measures frame (Step.End ∷ ss) = stepping_measures frame ss
 
 measuring_measures : (tool : Option (List ℕ)) (frame : Frame) (ss : List Step) → Measure (measuring tool frame ss)
 measuring_measures tool frame ss = measure_join (tooling tool) _ (tooling_measures tool)
@@ -115,36 +93,36 @@ unhomed_behind (p ∷ ps) qs h = unhomed_behind ps qs (later (is_homing p.comman
 
 -- the command of this kind homes the machine
 abbrev homes : Kind → Bool
-homes kind.Home = true
+homes Kind.Home = true
 homes _ = false
 
 homes_by : (c : Command) → is_homing c ≡ homes (kind_of c)
-homes_by command.Home = refl
-homes_by command.StartSession = refl
-homes_by command.EndSession = refl
-homes_by command.ClearAllErrors = refl
-homes_by command.IsHomed = refl
-homes_by command.OnPtMeasReport = refl
-homes_by (command.GoTo p) = refl
-homes_by (command.PtMeas p d) = refl
-homes_by (command.ChangeTool n) = refl
-homes_by (command.SetCsyTransformation p) = refl
-homes_by (command.SetCoordSystem system) = refl
-homes_by command.AbortE = refl
+homes_by Command.Home = refl
+homes_by Command.StartSession = refl
+homes_by Command.EndSession = refl
+homes_by Command.ClearAllErrors = refl
+homes_by Command.IsHomed = refl
+homes_by Command.OnPtMeasReport = refl
+homes_by (Command.GoTo p) = refl
+homes_by (Command.PtMeas p d) = refl
+homes_by (Command.ChangeTool n) = refl
+homes_by (Command.SetCsyTransformation p) = refl
+homes_by (Command.SetCoordSystem system) = refl
+homes_by Command.AbortE = refl
 
 no_question : (k : Kind) → homes k ≡ true → asks_homed k ≡ false
-no_question kind.Home e = refl
-no_question kind.StartSession e = refl
-no_question kind.EndSession e = refl
-no_question kind.ClearAllErrors e = refl
-no_question kind.IsHomed e = absurd (false≢true e)
-no_question kind.OnPtMeasReport e = refl
-no_question kind.GoTo e = refl
-no_question kind.PtMeas e = refl
-no_question kind.ChangeTool e = refl
-no_question kind.SetCsyTransformation e = refl
-no_question kind.SetCoordSystem e = refl
-no_question kind.AbortE e = refl
+no_question Kind.Home e = refl
+no_question Kind.StartSession e = refl
+no_question Kind.EndSession e = refl
+no_question Kind.ClearAllErrors e = refl
+no_question Kind.IsHomed e = absurd (false≢true e)
+no_question Kind.OnPtMeasReport e = refl
+no_question Kind.GoTo e = refl
+no_question Kind.PtMeas e = refl
+no_question Kind.ChangeTool e = refl
+no_question Kind.SetCsyTransformation e = refl
+no_question Kind.SetCoordSystem e = refl
+no_question Kind.AbortE e = refl
 
 -- by the kinds of commands alone
 abbrev kinds_without : List Kind → List Kind
@@ -308,29 +286,29 @@ told_more (a ∷ xs) ys = go (tells a) (told_more xs ys)
     go false e = e
 
 tells_not : (k : Kind) (given : Option Datum) → asks_data k ≡ false → tells_homed k given ≡ false
-tells_not kind.IsHomed given e = absurd (false≢true (sym e))
-tells_not kind.StartSession given e = refl
-tells_not kind.EndSession given e = refl
-tells_not kind.ClearAllErrors given e = refl
-tells_not kind.Home given e = refl
-tells_not kind.OnPtMeasReport given e = refl
-tells_not kind.GoTo given e = refl
-tells_not kind.PtMeas given e = refl
-tells_not kind.ChangeTool given e = refl
-tells_not kind.SetCsyTransformation given e = refl
-tells_not kind.SetCoordSystem given e = refl
-tells_not kind.AbortE given e = refl
+tells_not Kind.IsHomed given e = absurd (false≢true (sym e))
+tells_not Kind.StartSession given e = refl
+tells_not Kind.EndSession given e = refl
+tells_not Kind.ClearAllErrors given e = refl
+tells_not Kind.Home given e = refl
+tells_not Kind.OnPtMeasReport given e = refl
+tells_not Kind.GoTo given e = refl
+tells_not Kind.PtMeas given e = refl
+tells_not Kind.ChangeTool given e = refl
+tells_not Kind.SetCsyTransformation given e = refl
+tells_not Kind.SetCoordSystem given e = refl
+tells_not Kind.AbortE given e = refl
 
 -- the act of a counted command says it where its data do
 pub told_by : (d : Does) (k : Kind) (given : Option Datum) → IsAskedBy d k → HasDatum d given
     → told_homed (act_of d given) ≡ tells_homed k given
 told_by (Does.Touches t last) k None is has = absurd has
-told_by (Does.Touches t last) k (Some (datum.Homed homed)) is has = absurd has
-told_by (Does.Touches t last) k (Some (datum.Point p)) is has = ap (λ (x : Kind). tells_homed x (Some (datum.Point p))) (sym is)
+told_by (Does.Touches t last) k (Some (Datum.Homed homed)) is has = absurd has
+told_by (Does.Touches t last) k (Some (Datum.Point p)) is has = ap (λ (x : Kind). tells_homed x (Some (Datum.Point p))) (sym is)
 told_by Does.AsksHomed k None is has = absurd has
-told_by Does.AsksHomed k (Some (datum.Point p)) is has = absurd has
-told_by Does.AsksHomed k (Some (datum.Homed true)) is has = ap (λ (x : Kind). tells_homed x (Some (datum.Homed true))) (sym is)
-told_by Does.AsksHomed k (Some (datum.Homed false)) is has = ap (λ (x : Kind). tells_homed x (Some (datum.Homed false))) (sym is)
+told_by Does.AsksHomed k (Some (Datum.Point p)) is has = absurd has
+told_by Does.AsksHomed k (Some (Datum.Homed true)) is has = ap (λ (x : Kind). tells_homed x (Some (Datum.Homed true))) (sym is)
+told_by Does.AsksHomed k (Some (Datum.Homed false)) is has = ap (λ (x : Kind). tells_homed x (Some (Datum.Homed false))) (sym is)
 told_by Does.Nothing k given is has = sym (tells_not k given is)
 told_by Does.Homes k given is has = sym (tells_not k given is)
 told_by (Does.Moves p f) k given is has = sym (tells_not k given is)
@@ -350,18 +328,18 @@ is_question Does.AsksHomed = true
 is_question _ = false
 
 not_told : (a : Act) (d : Does) → is_question d ≡ false → StandsFor a d → tells a ≡ false
-not_told (act.HomedIs homed) Does.AsksHomed other h = absurd (false≢true (sym other))
-not_told (act.HomedIs homed) Does.Nothing other h = absurd h
-not_told (act.HomedIs homed) Does.Homes other h = absurd h
-not_told (act.HomedIs homed) (Does.Moves p f) other h = absurd h
-not_told (act.HomedIs homed) (Does.Changes n) other h = absurd h
-not_told (act.HomedIs homed) (Does.Frames f) other h = absurd h
-not_told (act.HomedIs homed) (Does.Touches t last) other h = absurd h
-not_told act.Homed d other h = refl
-not_told (act.Moved p f) d other h = refl
-not_told (act.Changed n) d other h = refl
-not_told (act.Framed f) d other h = refl
-not_told (act.Contact target dir tool frame point) d other h = refl
+not_told (Act.HomedIs homed) Does.AsksHomed other h = absurd (false≢true (sym other))
+not_told (Act.HomedIs homed) Does.Nothing other h = absurd h
+not_told (Act.HomedIs homed) Does.Homes other h = absurd h
+not_told (Act.HomedIs homed) (Does.Moves p f) other h = absurd h
+not_told (Act.HomedIs homed) (Does.Changes n) other h = absurd h
+not_told (Act.HomedIs homed) (Does.Frames f) other h = absurd h
+not_told (Act.HomedIs homed) (Does.Touches t last) other h = absurd h
+not_told Act.Homed d other h = refl
+not_told (Act.Moved p f) d other h = refl
+not_told (Act.Changed n) d other h = refl
+not_told (Act.Framed f) d other h = refl
+not_told (Act.Contact target dir tool frame point) d other h = refl
 
 one_act : (d : Does) (acts : List Act) (ds : List Does) → is_question d ≡ false → AreActs acts (d ∷ ds)
     → ((rest : List Act) → AreActs rest ds → told_homed rest ≡ false) → told_homed acts ≡ false

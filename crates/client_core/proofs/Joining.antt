@@ -1,21 +1,9 @@
 -- A feature joins the others as the next that the program wants.
-use Rattle.std.proofs.Common.{◌≡◌, ◌≤◌, ◌<◌, ◌++◌, ◌∷◌, [], ℕ, List, length, refl, sym, ap, suc, Option, Some, None, take, arith}
-use Rattle.std.proofs.Common.{slice_index_or, nat_le, drop, ◌-◌, zero, ◌∙◌, Bool, true, false, ◌&&◌}
-use Rattle.std.proofs.Math.Seq.{take-append_seam}
-use Rattle.std.proofs.Math.Dec.{leb-suc-zero, leb-suc-suc}
-use Rattle.std.proofs.lemmas.Bool.{le-leb}
-use Rattle.std.proofs.lemmas.List.{length-append, length-drop}
-use Rattle.fixed_um.specs.declared.lengths.Point.{Point}
-use Rattle.contact_ledger.specs.declared.features.Origin.{Origin}
-use Rattle.contact_ledger.specs.declared.features.Feature.{Feature}
-use Rattle.dmis_program.specs.declared.features.Wanted.{Wanted}
-use Rattle.protocol_model.specs.Client.{joined}
-use Rattle.protocol_model.specs.Plan.{is_empty}
-use Rattle.client_core.specs.Clients.{is_ours, are_ours}
-use Rattle.client_core.specs.Tables.{planned_command}
+use Rattle.client_core.proofs.Names.{[], ◌&&◌, ◌++◌, ◌-◌, ◌<◌, ◌∙◌, ◌∷◌, ◌≡◌, ◌≤◌, ap, are_ours, arith, Bool, Command, drop, false, Feature, is_empty}
+use Rattle.client_core.proofs.Names.{is_ours, joined, le-leb, length, length-append, length-drop, List, nat_le, None, Option, Origin, Planned}
+use Rattle.client_core.proofs.Names.{planned_command, Point, refl, slice_index_or, Some, suc, sym, take, take-append_seam, true, Wanted, zero, ℕ}
+use Rattle.std.proofs.Math.Dec.{leb-suc-suc, leb-suc-zero}
 use Rattle.std.specs.Option.{is_some}
-use Rattle.dme_line.specs.declared.commands.Command.{Command}
-use Rattle.protocol_model.specs.declared.plans.Planned.{Planned}
 
 pub joins : (ws : List Wanted) (fs : List Feature) (w : Wanted) (points : List Point) (origin : Option Origin) → length fs < length ws
     → w ≡ slice_index_or ws (length fs) w

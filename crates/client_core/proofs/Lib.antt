@@ -1,3 +1,4 @@
+pub mod Names
 pub mod Always
 pub mod Counting
 pub mod Fits

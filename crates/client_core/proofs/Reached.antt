@@ -1,31 +1,14 @@
 -- What a client's calls lead to.
-use Rattle.std.proofs.Common.{◌≡◌, ℕ, ◌≤◌, Bool, true, false, cond, is_some, Some, None, Ok, List, [], ◌∷◌, ◌++◌, length, drop, refl, sym}
-use Rattle.std.proofs.Common.{◌∙◌, ap, subst}
-use Rattle.std.proofs.lemmas.Bool.{false≢true, le-leb}
-use Rattle.contact_ledger.specs.Ledgers.{connection_most}
-use Rattle.contact_ledger.specs.declared.features.Feature.{Feature}
-use Rattle.contact_ledger.specs.Ledgers.{HaveOrigins, IsConnection}
-use Rattle.contact_ledger.specs.FeatureTexts.{CanBeWritten}
-use Rattle.std.specs.List.{AllByRecursion}
-use Rattle.dmis_program.specs.Meaning.{Meaning}
-use Rattle.dmis_program.specs.Programs.{IsProgram}
-use Rattle.line_framing.specs.Framing.{Framing, no_bytes, fed, after_next}
-use Rattle.line_framing.specs.Next.{next_of}
-use Rattle.line_framing.specs.declared.faults.FramingFault.{FramingFault}
-use Rattle.protocol_model.specs.Lines.{command_bytes}
-use Rattle.protocol_model.specs.Open.{count_open}
-use Rattle.protocol_model.specs.Client.{Client, new_client, due, may_abort, may_resume, client_connected, client_sent, client_aborted}
-use Rattle.protocol_model.specs.Client.{client_resumed, client_left, client_restarted}
-use Rattle.protocol_model.specs.Ends.{ClientEnd, new_client_end, line_read, front_read, end_read}
-use Rattle.client_core.specs.Calls.{Call, Connected, Send, Feed, ReadOne, Abort, Resume, Leave, Restart, Sent, possible, done_by}
-use Rattle.client_core.specs.Calls.{behind_call, behind_calls}
-use Rattle.client_core.specs.Clients.{are_ours, is_faulted, may_connect, may_read}
-use Rattle.client_core.specs.Always.{IsReached, FitsState, IsQuiet}
+use Rattle.client_core.proofs.Names.{[], ◌++◌, ◌∙◌, ◌∷◌, ◌≡◌, ◌≤◌, Abort, after_next, AllByRecursion, ap, are_ours, behind_call, behind_calls, Bool}
+use Rattle.client_core.proofs.Names.{Call, CanBeWritten, Client, client_aborted, client_connected, client_left, client_restarted, client_resumed}
+use Rattle.client_core.proofs.Names.{client_sent, ClientEnd, command_bytes, cond, Connected, connection_most, count_open, done_by, drop, due}
+use Rattle.client_core.proofs.Names.{end_read, false, false≢true, Feature, fed, Feed, FitsState, Framing, FramingFault, front_read, HaveOrigins}
+use Rattle.client_core.proofs.Names.{is_faulted, is_some, IsConnection, IsProgram, IsQuiet, IsReached, le-leb, Leave, length, line_read, List}
+use Rattle.client_core.proofs.Names.{may_abort, may_connect, may_read, may_resume, Meaning, new_client, new_client_end, next_of, no_bytes, None, Ok}
+use Rattle.client_core.proofs.Names.{plans_begun, possible, ReadOne, refl, response_of, Restart, Resume, Send, Sent, Some, subst, sym, true, ℕ}
 use Rattle.client_core.proofs.Always.{IsSteady, IsSound, sound, Reads, reads_by}
 use Rattle.client_core.proofs.Fits.{ours_writable}
 use Rattle.client_core.proofs.Runs.{behind_holds, Holds}
-use Rattle.client_core.specs.Calls.{plans_begun}
-use Rattle.protocol_model.specs.Readings.{response_of}
 
 -- ---- one call more
 

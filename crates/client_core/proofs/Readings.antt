@@ -1,25 +1,16 @@
 -- All that read as the interface says read a line, a point, and whether the machine is homed, in one way. What a server says unasked
 -- changes nothing.
-use Rattle.std.proofs.Common.{◌≡◌, ℕ, Bool, true, false, if◌then◌else◌, List, Result, refl}
-use Rattle.fixed_um.specs.declared.lengths.Point.{Point}
+use Rattle.client_core.proofs.Names.{◌≡◌, Bool, Client, client_hears, Event, false, given_under, heard_on, held_under, homed_of, if◌then◌else◌, List}
+use Rattle.client_core.proofs.Names.{NotHomedText, NotPoint, NotResponse, Point, point_of, reads_homed, reads_point, reads_response, refl, Response}
+use Rattle.client_core.proofs.Names.{response_of, response_read, Result, Tag, tag_is, true, ℕ}
 use Rattle.dme_line.specs.Points.{ReadsPoint}
 use Rattle.dme_line.specs.Homed.{ReadsHomed}
 use Rattle.dme_line.specs.Responses.{ReadsResponse}
-use Rattle.dme_line.specs.declared.homed.NotHomedText.{NotHomedText}
-use Rattle.dme_line.specs.declared.points.NotPoint.{NotPoint}
-use Rattle.dme_line.specs.declared.responses.Response.{Response}
-use Rattle.dme_line.specs.declared.responses.NotResponse.{NotResponse}
 use Rattle.dme_line.proofs.HomedLemmas.{one_homed_reading}
 use Rattle.dme_line.proofs.OneResponse.{one_response_reading}
 use Rattle.dme_line.proofs.PointLemmas.{one_point_reading}
 use Rattle.dme_line.specs.declared.responses.Mark.{Mark as Marked}
-use Rattle.dme_line.specs.declared.responses.Mark.TheVariants as mark
-use Rattle.dme_line.specs.declared.tags.Tag.{Tag}
-use Rattle.dme_line.specs.declared.tags.Tag.TheVariants.{Event}
-use Rattle.protocol_model.specs.Client.{Client, client_hears, heard_on}
-use Rattle.protocol_model.specs.Ends.{given_under, held_under, response_read}
-use Rattle.protocol_model.specs.Replies.{Mark, tag_is}
-use Rattle.protocol_model.specs.Readings.{response_of, point_of, homed_of, reads_response, reads_point, reads_homed}
+use Rattle.protocol_model.specs.Replies.{Mark}
 
 pub one_point : (text : List ℕ) (r : Result Point NotPoint) → ReadsPoint text r → point_of text ≡ r
 one_point text r read = one_point_reading text (point_of text) r (reads_point text) read
@@ -35,8 +26,8 @@ kept true c d is = refl
 kept false c d is = absurd (cc is)
 
 pub unasked : (c : Client) (t : Tag) (m : Marked) → tag_is t (Event 0) ≡ true → response_read c t m ≡ c
-unasked c t mark.Ack is = kept (tag_is t (Event 0)) c (client_hears c t Mark.Ack (heard_on c.program.features c.table t Mark.Ack)) is
-unasked c t (mark.Given text) is = kept (tag_is t (Event 0)) c (given_under c t text (held_under t c)) is
-unasked c t mark.Done is = kept (tag_is t (Event 0)) c (client_hears c t Mark.Done (heard_on c.program.features c.table t Mark.Done)) is
-unasked c t (mark.Error text) is =
+unasked c t Marked.Ack is = kept (tag_is t (Event 0)) c (client_hears c t Mark.Ack (heard_on c.program.features c.table t Mark.Ack)) is
+unasked c t (Marked.Given text) is = kept (tag_is t (Event 0)) c (given_under c t text (held_under t c)) is
+unasked c t Marked.Done is = kept (tag_is t (Event 0)) c (client_hears c t Mark.Done (heard_on c.program.features c.table t Mark.Done)) is
+unasked c t (Marked.Error text) is =
     kept (tag_is t (Event 0)) c (client_hears c t Mark.Error (heard_on c.program.features c.table t Mark.Error)) is

@@ -1,69 +1,28 @@
 -- What a client holds and counts after every list of calls.
-use Rattle.std.proofs.Common.{◌≡◌, ℕ, suc, ◌+◌, ◌≤◌, Bool, true, false, cond, ◌||◌, ◌&&◌, not, is_some, if◌then◌else◌, List, [], ◌∷◌, ◌++◌}
-use Rattle.std.proofs.Common.{length, take, refl, sym, ◌∙◌, ap, subst, arith, append_assoc, append-nil, length-append, Option, Some, None}
-use Rattle.std.proofs.Common.{Result, Ok, Err, eqb, eqb-true, le_refl, zero, drop}
-use Rattle.std.proofs.Math.Seq.{take-append_seam, drop-append_seam}
-use Rattle.std.proofs.lemmas.Bool.{false≢true}
-use Rattle.fixed_um.specs.declared.lengths.Point.{Point}
-use Rattle.dme_line.specs.Kinds.{kind_of}
-use Rattle.dme_line.specs.declared.tags.Tag.{Tag}
-use Rattle.dme_line.specs.declared.tags.Tag.TheVariants as tag
-use Rattle.dme_line.specs.declared.commands.Kind.{Kind}
-use Rattle.dme_line.specs.declared.commands.Kind.TheVariants as kind
-use Rattle.dme_line.specs.declared.homed.NotHomedText.{NotHomedText}
-use Rattle.dme_line.specs.declared.points.NotPoint.{NotPoint}
+use Rattle.client_core.proofs.Names.{[], ◌&&◌, ◌++◌, ◌+◌, ◌||◌, ◌∙◌, ◌∷◌, ◌≡◌, ◌≤◌, Abort, Act, act_in, act_of, act_stands, acts_join, acts_of_fronts}
+use Rattle.client_core.proofs.Names.{acts_planned, ap, append-nil, append_assoc, are_ours, AreActs, AreAsked, AreCounted, AreFilled, arith, asked_at}
+use Rattle.client_core.proofs.Names.{asks_homed, begins_session, begun_now, behind_call, behind_calls, Bool, Call, Cause, Client, client_behind}
+use Rattle.client_core.proofs.Names.{client_connected, client_hears, client_left, client_read, client_restarted, client_resumed, ClientEnd, cond}
+use Rattle.client_core.proofs.Names.{Connected, count_keeps, count_open, counted_by, counted_next, Datum, Does, done_by, drop, drop-append_seam, due}
+use Rattle.client_core.proofs.Names.{Effect, end_of, ends_abort, ends_of, eqb, eqb-true, Err, false, false≢true, faulted, Feature, features_ended}
+use Rattle.client_core.proofs.Names.{Feed, fine, first_due, first_plan, first_state, fits_asked, followed, FramingFault, Front, front_of, front_read}
+use Rattle.client_core.proofs.Names.{given_for, given_homed, given_point, given_under, has_datum, has_homing, HasDatum, Heard as Heardings, heard_in}
+use Rattle.client_core.proofs.Names.{heard_on, held_now, held_under, homed_of, if_false, if◌then◌else◌, is_asking, is_last, is_running, is_some}
+use Rattle.client_core.proofs.Names.{is_told, is_whole, IsAsked, IsGiven, IsProgram, Keeps, Kind, kind_counted, kind_of, kinds_of, last_state}
+use Rattle.client_core.proofs.Names.{le_refl, Leave, left_state, length, length-append, line_read, List, may_abort, may_read, may_resume, Meaning}
+use Rattle.client_core.proofs.Names.{measured, measured_keeps, new_client, new_client_end, next_kind, next_number, next_of, None, not, NotHomedText}
+use Rattle.client_core.proofs.Names.{NotPoint, NotResponse, Ok, OpenCommand, Option, Origin, origin_ended, origin_of, origins_ended, origins_of}
+use Rattle.client_core.proofs.Names.{passed_over, plan, Planned, planned_more, Plans, plans_begun, plans_behind, plans_by, Point, point_of, possible}
+use Rattle.client_core.proofs.Names.{ReadOne, refl, Response, response_of, response_read, Restart, Result, Resume, Send, sends_abort, sends_next}
+use Rattle.client_core.proofs.Names.{Sent, Some, Start, start_behind, State, state_behind, step_cases, subst, suc, sym, Table, Tag, tag_is, take}
+use Rattle.client_core.proofs.Names.{take-append_seam, tallied, Tally, tells_homed, told_homed, true, Wanted, zero, ℕ}
 use Rattle.dme_line.specs.declared.responses.Mark.{Mark as Marked}
-use Rattle.dme_line.specs.declared.responses.Mark.TheVariants as mark
-use Rattle.dme_line.specs.declared.responses.Response.{Response}
-use Rattle.dme_line.specs.declared.responses.NotResponse.{NotResponse}
-use Rattle.protocol_model.specs.Readings.{response_of, point_of, homed_of}
-use Rattle.line_framing.specs.Next.{Front, next_of}
-use Rattle.line_framing.specs.declared.faults.FramingFault.TheVariants as framing
-use Rattle.contact_ledger.specs.declared.acts.Act.{Act}
-use Rattle.contact_ledger.specs.declared.features.Origin.{Origin}
-use Rattle.contact_ledger.specs.declared.features.Feature.{Feature}
-use Rattle.dmis_program.specs.Meaning.{Meaning}
-use Rattle.dmis_program.specs.Programs.{IsProgram}
-use Rattle.dmis_program.specs.declared.features.Wanted.{Wanted}
-use Rattle.protocol_model.specs.Replies.{Mark, tag_is}
-use Rattle.protocol_model.specs.Open.{Effect, Heard as Heardings, heard_in, asks_homed, is_asking, count_open}
-use Rattle.protocol_model.specs.Client.{Client, Table, Tally, act_of, origin_of, measured, counted_next, begins_session, tells_homed}
-use Rattle.protocol_model.specs.Client.{passed_over, tallied}
+use Rattle.protocol_model.specs.Replies.{Mark}
 use Rattle.protocol_model.proofs.HeardTables.{heard}
-use Rattle.protocol_model.specs.Client.{heard_on}
-use Rattle.protocol_model.specs.Client.{faulted, new_client, client_connected, is_running, first_due, due, held_now, sends_next}
-use Rattle.protocol_model.specs.Client.{next_number, sends_abort, may_abort, first_state, last_state, state_behind, is_whole, ends_abort}
-use Rattle.protocol_model.specs.Client.{client_hears, client_read, may_resume, client_resumed, client_left, left_state, client_restarted}
-use Rattle.protocol_model.specs.Ends.{ClientEnd, new_client_end, held_under, given_point, given_homed, given_for, given_under}
-use Rattle.protocol_model.specs.Ends.{response_read, line_read, front_read}
-use Rattle.protocol_model.specs.Plan.{plan}
-use Rattle.protocol_model.specs.PlanReading.{end_of, ends_of}
-use Rattle.protocol_model.specs.Undisturbed.{act_in, acts_planned, AreActs, followed}
-use Rattle.protocol_model.specs.declared.states.State.{State}
-use Rattle.protocol_model.specs.declared.states.Cause.{Cause}
-use Rattle.protocol_model.specs.declared.held.Datum.{Datum}
-use Rattle.protocol_model.specs.declared.held.Datum.TheVariants as datum
-use Rattle.protocol_model.specs.declared.held.OpenCommand.{OpenCommand}
-use Rattle.protocol_model.specs.declared.plans.Planned.{Planned}
-use Rattle.protocol_model.specs.declared.plans.Does.{Does}
-use Rattle.protocol_model.specs.declared.plans.Start.{Start}
-use Rattle.protocol_model.proofs.table.Basics.{if_false}
 use Rattle.protocol_model.proofs.plan.Blocks.{program_is_plain}
 use Rattle.protocol_model.proofs.plan.Marks.{plan_fits}
 use Rattle.protocol_model.proofs.plan.PlanLaws.{plan_ends_left}
 use Rattle.protocol_model.proofs.plan.Fitting.{unknown}
-use Rattle.protocol_model.proofs.table.Counts.{count_keeps}
-use Rattle.protocol_model.proofs.table.Replying.{fine, step_cases}
-use Rattle.protocol_model.proofs.invariant.Touching.{HasDatum, Keeps, measured_keeps}
-use Rattle.protocol_model.proofs.undisturbed_run.Following.{AreAsked, IsAsked, fits_asked, asked_at, acts_join, act_stands}
-use Rattle.protocol_model.proofs.undisturbed_run.Following.{planned_more, kinds_of, IsGiven, AreFilled, has_datum}
-use Rattle.client_core.specs.Calls.{Call, Connected, Send, Feed, ReadOne, Abort, Resume, Leave, Restart, Sent, possible, done_by}
-use Rattle.client_core.specs.Calls.{behind_call, behind_calls, start_behind, acts_of_fronts, Plans, first_plan, plans_by, told_homed}
-use Rattle.client_core.specs.Calls.{is_told, begun_now, has_homing}
-use Rattle.client_core.specs.Calls.{plans_behind, client_behind, plans_begun, front_of, is_last, features_ended, AreCounted, next_kind}
-use Rattle.client_core.specs.Calls.{kind_counted}
-use Rattle.client_core.specs.Calls.{counted_by, origins_of, origin_ended, origins_ended}
-use Rattle.client_core.specs.Clients.{are_ours, may_read}
 use Rattle.client_core.proofs.Fits.{Fits, both, fits_ours, plan_fits_features, joined_more, point_fits, last_fits, fewer_are_ours}
 use Rattle.client_core.proofs.Fits.{joined_origin}
 use Rattle.client_core.proofs.Fronts.{live_kinds, Fronted, fronted, none_live, live_more, stay_filled, filled_more, none_asks}
@@ -113,10 +72,10 @@ other_kinds (k ∷ ks) = ks
 
 measured_completed : (ws : List Wanted) (does : Does) (given : Option Datum) (y : Tally)
     → (measured ws does given y).completed ≡ y.completed
-measured_completed ws (Does.Touches t false) (Some (datum.Point p)) y = refl
-measured_completed ws (Does.Touches t true) (Some (datum.Point p)) y = refl
-measured_completed ws (Does.Touches t false) (Some (datum.Homed homed)) y = refl
-measured_completed ws (Does.Touches t true) (Some (datum.Homed homed)) y = refl
+measured_completed ws (Does.Touches t false) (Some (Datum.Point p)) y = refl
+measured_completed ws (Does.Touches t true) (Some (Datum.Point p)) y = refl
+measured_completed ws (Does.Touches t false) (Some (Datum.Homed homed)) y = refl
+measured_completed ws (Does.Touches t true) (Some (Datum.Homed homed)) y = refl
 measured_completed ws (Does.Touches t false) None y = refl
 measured_completed ws (Does.Touches t true) None y = refl
 measured_completed ws Does.Nothing given y = refl
@@ -130,12 +89,12 @@ measured_fits : (p : Meaning) → IsProgram p → (does : Does) (given : Option 
     → HasDatum does given
     → Fits p.features y.features (length y.points) (end_of does ++ ends_of rest)
     → Fits p.features (measured p.features does given y).features (length (measured p.features does given y).points) (ends_of rest)
-measured_fits p program (Does.Touches t false) (Some (datum.Point q)) y rest has h =
+measured_fits p program (Does.Touches t false) (Some (Datum.Point q)) y rest has h =
     subst (λ (n : ℕ). Fits p.features y.features n (ends_of rest)) (omega (arith, length-append y.points (q ∷ [])))
     (point_fits p.features y.features (length y.points) (ends_of rest) h)
-measured_fits p program (Does.Touches t true) (Some (datum.Point q)) y rest has h =
+measured_fits p program (Does.Touches t true) (Some (Datum.Point q)) y rest has h =
     last_fits p.features y.features y.points q (origin_of y.connection t.frame) (ends_of rest) (IsProgram.features program) h
-measured_fits p program (Does.Touches t last) (Some (datum.Homed homed)) y rest has h = absurd has
+measured_fits p program (Does.Touches t last) (Some (Datum.Homed homed)) y rest has h = absurd has
 measured_fits p program (Does.Touches t last) None y rest has h = absurd has
 measured_fits p program Does.AsksHomed given y rest has h = h
 measured_fits p program Does.Nothing given y rest has h = h
@@ -158,11 +117,11 @@ measured_joins : (p : Meaning) (does : Does) (given : Option Datum) (y : Tally) 
     → HasDatum does given
     → Fits p.features y.features (length y.points) (end_of does ++ ends_of rest)
     → length (measured p.features does given y).features ≡ length y.features + cond (is_last does) 1 0
-measured_joins p (Does.Touches t false) (Some (datum.Point q)) y rest has h = omega (arith)
-measured_joins p (Does.Touches t true) (Some (datum.Point q)) y rest has h = let more =
+measured_joins p (Does.Touches t false) (Some (Datum.Point q)) y rest has h = omega (arith)
+measured_joins p (Does.Touches t true) (Some (Datum.Point q)) y rest has h = let more =
     joined_more p.features y.features (length y.points) (y.points ++ q ∷ []) (origin_of y.connection t.frame) (ends_of rest) h in
     omega (arith, more)
-measured_joins p (Does.Touches t last) (Some (datum.Homed homed)) y rest has h = absurd has
+measured_joins p (Does.Touches t last) (Some (Datum.Homed homed)) y rest has h = absurd has
 measured_joins p (Does.Touches t last) None y rest has h = absurd has
 measured_joins p Does.AsksHomed given y rest has h = omega (arith)
 measured_joins p Does.Nothing given y rest has h = omega (arith)
@@ -193,10 +152,10 @@ origins_more n (p ∷ ps) q = ap (λ (l : List (Option Origin)). origin_ended n 
 
 measured_number : (ws : List Wanted) (does : Does) (given : Option Datum) (y : Tally)
     → (measured ws does given y).connection ≡ y.connection
-measured_number ws (Does.Touches t false) (Some (datum.Point p)) y = refl
-measured_number ws (Does.Touches t true) (Some (datum.Point p)) y = refl
-measured_number ws (Does.Touches t false) (Some (datum.Homed homed)) y = refl
-measured_number ws (Does.Touches t true) (Some (datum.Homed homed)) y = refl
+measured_number ws (Does.Touches t false) (Some (Datum.Point p)) y = refl
+measured_number ws (Does.Touches t true) (Some (Datum.Point p)) y = refl
+measured_number ws (Does.Touches t false) (Some (Datum.Homed homed)) y = refl
+measured_number ws (Does.Touches t true) (Some (Datum.Homed homed)) y = refl
 measured_number ws (Does.Touches t false) None y = refl
 measured_number ws (Does.Touches t true) None y = refl
 measured_number ws Does.Nothing given y = refl
@@ -210,10 +169,10 @@ measured_origins : (p : Meaning) (does : Does) (given : Option Datum) (y : Tally
     → HasDatum does given
     → Fits p.features y.features (length y.points) (end_of does ++ ends_of rest)
     → origins_of (measured p.features does given y).features ≡ origins_of y.features ++ origin_ended y.connection does
-measured_origins p (Does.Touches t false) (Some (datum.Point q)) y rest has h = sym (append-nil (origins_of y.features))
-measured_origins p (Does.Touches t true) (Some (datum.Point q)) y rest has h =
+measured_origins p (Does.Touches t false) (Some (Datum.Point q)) y rest has h = sym (append-nil (origins_of y.features))
+measured_origins p (Does.Touches t true) (Some (Datum.Point q)) y rest has h =
     joined_origin p.features y.features (length y.points) (y.points ++ q ∷ []) (origin_of y.connection t.frame) (ends_of rest) h
-measured_origins p (Does.Touches t last) (Some (datum.Homed homed)) y rest has h = absurd has
+measured_origins p (Does.Touches t last) (Some (Datum.Homed homed)) y rest has h = absurd has
 measured_origins p (Does.Touches t last) None y rest has h = absurd has
 measured_origins p Does.AsksHomed given y rest has h = sym (append-nil (origins_of y.features))
 measured_origins p Does.Nothing given y rest has h = sym (append-nil (origins_of y.features))
@@ -463,9 +422,9 @@ heard_on_plan p program b c t m plans is f =
     (λ n hs e sort here after. subst (λ (x : Table). Heard p b x plans) (sym after)
     (record {
       plan_is = effect_on p program b.standard hs b.tally plans e f
-          (fronted (not b.tally.failed) b.standard (tag.Std n) m hs e here f.filled)
-          (stay_filled (not b.tally.failed) b.standard (tag.Std n) m hs e here f.filled);
-      fewer = count_keeps (not b.tally.failed) b.standard (tag.Std n) m hs e here;
+          (fronted (not b.tally.failed) b.standard (Tag.Std n) m hs e here f.filled)
+          (stay_filled (not b.tally.failed) b.standard (Tag.Std n) m hs e here f.filled);
+      fewer = count_keeps (not b.tally.failed) b.standard (Tag.Std n) m hs e here;
       number = tallied_number p.features e b.tally;
     }))
     (λ n hs e sort other here after. subst (λ (x : Table). Heard p b x plans) (sym after)
@@ -611,12 +570,12 @@ hears_holds p plans c t m on h (Err cause) is = faulted_holds p plans c cause on
 
 reply_holds : (p : Meaning) (plans : Plans) (c : Client) (t : Tag) (m : Mark) → c.on ≡ true → Holds p c plans
     → Holds p (client_read c t m) plans
-reply_holds p plans c t m on h = go (tag_is t (tag.Event 0)) refl
+reply_holds p plans c t m on h = go (tag_is t (Tag.Event 0)) refl
   where
-    go : (b : Bool) → tag_is t (tag.Event 0) ≡ b → Holds p (cond b c (client_hears c t m (heard_on c.program.features c.table t m))) plans
+    go : (b : Bool) → tag_is t (Tag.Event 0) ≡ b → Holds p (cond b c (client_hears c t m (heard_on c.program.features c.table t m))) plans
     go true e = h
     go false e = hears_holds p plans c t m on h (heard_on c.program.features c.table t m)
-        (if_false {A = Result Table Cause} (tag_is t (tag.Event 0)) (fine c.table) (heard_on c.program.features c.table t m) e)
+        (if_false {A = Result Table Cause} (tag_is t (Tag.Event 0)) (fine c.table) (heard_on c.program.features c.table t m) e)
 
 either_holds : (p : Meaning) (plans : Plans) (b : Bool) (c d : Client) → Holds p c plans → Holds p d plans → Holds p (cond b c d) plans
 either_holds p plans true c d h g = h
@@ -624,28 +583,28 @@ either_holds p plans false c d h g = g
 
 point_holds : (p : Meaning) (plans : Plans) (c : Client) (t : Tag) (r : Result Point NotPoint) → c.on ≡ true → Holds p c plans
     → Holds p (given_point c t r) plans
-point_holds p plans c t (Ok q) on h = reply_holds p plans c t (Mark.Given (datum.Point q)) on h
+point_holds p plans c t (Ok q) on h = reply_holds p plans c t (Mark.Given (Datum.Point q)) on h
 point_holds p plans c t (Err why) on h = faulted_holds p plans c Cause.NotResponse on h
 
 homed_holds : (p : Meaning) (plans : Plans) (c : Client) (t : Tag) (r : Result Bool NotHomedText) → c.on ≡ true → Holds p c plans
     → Holds p (given_homed c t r) plans
-homed_holds p plans c t (Ok homed) on h = reply_holds p plans c t (Mark.Given (datum.Homed homed)) on h
+homed_holds p plans c t (Ok homed) on h = reply_holds p plans c t (Mark.Given (Datum.Homed homed)) on h
 homed_holds p plans c t (Err why) on h = faulted_holds p plans c Cause.NotResponse on h
 
 given_holds : (p : Meaning) (plans : Plans) (c : Client) (t : Tag) (text : List ℕ) (k : Kind) → c.on ≡ true
     → Holds p c plans → Holds p (given_for c t text k) plans
-given_holds p plans c t text kind.PtMeas on h = point_holds p plans c t (point_of text) on h
-given_holds p plans c t text kind.IsHomed on h = homed_holds p plans c t (homed_of text) on h
-given_holds p plans c t text kind.StartSession on h = faulted_holds p plans c Cause.OutOfOrder on h
-given_holds p plans c t text kind.EndSession on h = faulted_holds p plans c Cause.OutOfOrder on h
-given_holds p plans c t text kind.ClearAllErrors on h = faulted_holds p plans c Cause.OutOfOrder on h
-given_holds p plans c t text kind.Home on h = faulted_holds p plans c Cause.OutOfOrder on h
-given_holds p plans c t text kind.OnPtMeasReport on h = faulted_holds p plans c Cause.OutOfOrder on h
-given_holds p plans c t text kind.GoTo on h = faulted_holds p plans c Cause.OutOfOrder on h
-given_holds p plans c t text kind.ChangeTool on h = faulted_holds p plans c Cause.OutOfOrder on h
-given_holds p plans c t text kind.SetCsyTransformation on h = faulted_holds p plans c Cause.OutOfOrder on h
-given_holds p plans c t text kind.SetCoordSystem on h = faulted_holds p plans c Cause.OutOfOrder on h
-given_holds p plans c t text kind.AbortE on h = faulted_holds p plans c Cause.OutOfOrder on h
+given_holds p plans c t text Kind.PtMeas on h = point_holds p plans c t (point_of text) on h
+given_holds p plans c t text Kind.IsHomed on h = homed_holds p plans c t (homed_of text) on h
+given_holds p plans c t text Kind.StartSession on h = faulted_holds p plans c Cause.OutOfOrder on h
+given_holds p plans c t text Kind.EndSession on h = faulted_holds p plans c Cause.OutOfOrder on h
+given_holds p plans c t text Kind.ClearAllErrors on h = faulted_holds p plans c Cause.OutOfOrder on h
+given_holds p plans c t text Kind.Home on h = faulted_holds p plans c Cause.OutOfOrder on h
+given_holds p plans c t text Kind.OnPtMeasReport on h = faulted_holds p plans c Cause.OutOfOrder on h
+given_holds p plans c t text Kind.GoTo on h = faulted_holds p plans c Cause.OutOfOrder on h
+given_holds p plans c t text Kind.ChangeTool on h = faulted_holds p plans c Cause.OutOfOrder on h
+given_holds p plans c t text Kind.SetCsyTransformation on h = faulted_holds p plans c Cause.OutOfOrder on h
+given_holds p plans c t text Kind.SetCoordSystem on h = faulted_holds p plans c Cause.OutOfOrder on h
+given_holds p plans c t text Kind.AbortE on h = faulted_holds p plans c Cause.OutOfOrder on h
 
 under_holds : (p : Meaning) (plans : Plans) (c : Client) (t : Tag) (text : List ℕ) (kind : Option Kind) → c.on ≡ true
     → Holds p c plans → Holds p (given_under c t text kind) plans
@@ -654,12 +613,12 @@ under_holds p plans c t text (Some k) on h = given_holds p plans c t text k on h
 
 response_holds : (p : Meaning) (plans : Plans) (c : Client) (t : Tag) (m : Marked) → c.on ≡ true → Holds p c plans
     → Holds p (response_read c t m) plans
-response_holds p plans c t mark.Ack on h = reply_holds p plans c t Mark.Ack on h
-response_holds p plans c t (mark.Given text) on h =
-    either_holds p plans (tag_is t (tag.Event 0)) c (given_under c t text (held_under t c)) h
+response_holds p plans c t Marked.Ack on h = reply_holds p plans c t Mark.Ack on h
+response_holds p plans c t (Marked.Given text) on h =
+    either_holds p plans (tag_is t (Tag.Event 0)) c (given_under c t text (held_under t c)) h
     (under_holds p plans c t text (held_under t c) on h)
-response_holds p plans c t mark.Done on h = reply_holds p plans c t Mark.Done on h
-response_holds p plans c t (mark.Error text) on h = reply_holds p plans c t Mark.Error on h
+response_holds p plans c t Marked.Done on h = reply_holds p plans c t Mark.Done on h
+response_holds p plans c t (Marked.Error text) on h = reply_holds p plans c t Mark.Error on h
 
 line_holds : (p : Meaning) (plans : Plans) (c : Client) (r : Result Response NotResponse) → c.on ≡ true
     → Holds p c plans → Holds p (line_read c r) plans
@@ -670,8 +629,8 @@ front_holds : (p : Meaning) (plans : Plans) (c : Client) (f : Front) → c.on �
     → Holds p (front_read c f) plans
 front_holds p plans c (Ok None) on h = h
 front_holds p plans c (Ok (Some (line, rest))) on h = line_holds p plans c (response_of line) on h
-front_holds p plans c (Err framing.LineTooLong) on h = faulted_holds p plans c Cause.LineTooLong on h
-front_holds p plans c (Err framing.BadByte) on h = faulted_holds p plans c Cause.BadByte on h
+front_holds p plans c (Err FramingFault.LineTooLong) on h = faulted_holds p plans c Cause.LineTooLong on h
+front_holds p plans c (Err FramingFault.BadByte) on h = faulted_holds p plans c Cause.BadByte on h
 
 -- ---- what is written
 
@@ -713,7 +672,7 @@ sends_holds p plans c (q ∷ qs) None e now h = faulted_holds p plans c Cause.Ta
 sends_holds p plans c (q ∷ qs) (Some n) e now h =
     let on : c.on ≡ true = on_unless_off c (λ off. subst IsOff now.running (h.off off)) in
     let r : Reads c plans = h.live on in
-    let x : OpenCommand = held_now (tag.Std n) (kind_of q.command) in
+    let x : OpenCommand = held_now (Tag.Std n) (kind_of q.command) in
     let one_more : live_kinds (c.table.standard ++ x ∷ []) ≡ live_kinds c.table.standard ++ kind_of q.command ∷ [] =
     live_more c.table.standard x refl in
     read_holds p plans (sends_next c (q ∷ qs) (Some n)).client h.program h.same on (record {
@@ -919,11 +878,11 @@ done_holds : (p : Meaning) (plans : Plans) (call : Call) (e : ClientEnd) → pos
     → Holds p e.client plans → Holds p (done_by call e).client (plans_by call e plans)
 done_holds p plans (Connected n) e may h = connected_holds p plans n e.client h
 done_holds p plans Send e may h = sends_holds p plans e.client e.client.table.tally.unsent
-    (next_number tag.Std e.client.table.standard e.client.drawn) refl (due_running e.client may) h
+    (next_number Tag.Std e.client.table.standard e.client.drawn) refl (due_running e.client may) h
 done_holds p plans (Feed bytes) e may h = h
 done_holds p plans ReadOne e may h = front_holds p plans e.client (next_of e.input.rest) (read_on e.client may) h
 done_holds p plans Abort e may h =
-    aborts_holds p plans e.client (next_number tag.Event e.client.table.event e.client.event_drawn)
+    aborts_holds p plans e.client (next_number Tag.Event e.client.table.event e.client.event_drawn)
     (on_unless_off e.client (λ off. may_abort_on e.client.state may (h.off off))) h
 done_holds p plans Resume e may h = resumed_holds p plans e.client (resumed_state e.client e.client.state may) h
 done_holds p plans Leave e may h = left_holds p plans e.client h
@@ -1019,16 +978,16 @@ counted_is_next p kept window calls program ours on n m kind is =
     let h : Holds p c (plans_begun calls p kept window) = behind_holds p kept window calls program ours in
     let r : Reads c (plans_begun calls p kept window) = h.live on in
     go c.table.standard c.table.tally (plans_begun calls p kept window) c.program r
-    (heard_in (not c.table.tally.failed) c.table.standard (tag.Std n) m) refl is
+    (heard_in (not c.table.tally.failed) c.table.standard (Tag.Std n) m) refl is
   where
     go : (hs : List OpenCommand) (y : Tally) (plans : Plans) (program : Meaning) → IsOnPlan program hs y plans
-        → (heard : Heardings) → heard_in (not y.failed) hs (tag.Std n) m ≡ heard → kind_counted heard ≡ Some kind
+        → (heard : Heardings) → heard_in (not y.failed) hs (Tag.Std n) m ≡ heard → kind_counted heard ≡ Some kind
         → next_kind y.todo ≡ Some kind
     go hs y plans program r (Ok (gs, Effect.Quiet)) here e = absurd (cc)
     go hs y plans program r (Ok (gs, Effect.Failure)) here e = absurd (cc)
     go hs y plans program r (Ok (gs, Effect.Count k given)) here e =
         let f : Fronted (not y.failed) (live_kinds hs) (live_kinds gs) (Effect.Count k given) =
-        fronted (not y.failed) hs (tag.Std n) m gs (Effect.Count k given) here r.filled in
+        fronted (not y.failed) hs (Tag.Std n) m gs (Effect.Count k given) here r.filled in
         let c : IsCalm hs y = r.calm (not_true y.failed f.0) in
         first_is_next y.todo k (live_kinds gs ++ kinds_of y.unsent) (ap (λ (l : List Kind). l ++ kinds_of y.unsent) (sym f.1)
         ∙ c.kinds)

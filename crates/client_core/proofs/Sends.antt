@@ -1,22 +1,8 @@
 -- A command that goes out under the tag that was drawn for it is what `protocol_model` sends.
-use Rattle.std.proofs.Common.{◌≡◌, ◌<◌, ℕ, suc, Bool, false, List, [], ◌∷◌, drop, slice_index_or, length, Option, Some, None, refl, ap, sym}
-use Rattle.std.proofs.Common.{◌∙◌}
-use Rattle.std.proofs.Math.Seq.{drop-cons}
+use Rattle.client_core.proofs.Names.{[], ◌<◌, ◌∙◌, ◌∷◌, ◌≡◌, ap, Bool, Cause, client_aborted, client_sent, Command, drop, drop-cons, Event, false}
+use Rattle.client_core.proofs.Names.{faulted, is_event_kind, Kind, kind_of, length, List, Meaning, next_number, next_tag, None, OpenValue, Option}
+use Rattle.client_core.proofs.Names.{Planned, Progress, refl, seen, slice_index_or, Some, State, Std, suc, sym, Tag, tagged, with_drawn, ℕ}
 use Rattle.std.proofs.lemmas.Option.{none-some}
-use Rattle.dme_line.specs.Kinds.{kind_of, is_event_kind}
-use Rattle.dme_line.specs.declared.tags.Tag.{Tag}
-use Rattle.dme_line.specs.declared.tags.Tag.TheVariants.{Std, Event}
-use Rattle.dme_line.specs.declared.commands.Kind.{Kind}
-use Rattle.dme_line.specs.declared.commands.Kind.TheVariants as kind
-use Rattle.dme_line.specs.declared.commands.Command.TheVariants as command
-use Rattle.dmis_program.specs.Meaning.{Meaning}
-use Rattle.dme_tags.specs.Opened.{OpenValue, tagged, next_tag, with_drawn}
-use Rattle.protocol_model.specs.Client.{next_number, client_sent, client_aborted, faulted}
-use Rattle.protocol_model.specs.declared.plans.Planned.{Planned}
-use Rattle.protocol_model.specs.declared.states.State.{State}
-use Rattle.protocol_model.specs.declared.states.Cause.{Cause}
-use Rattle.client_core.specs.declared.progress.Progress.{Progress}
-use Rattle.client_core.specs.Progress.{seen}
 
 -- the number of a drawn tag
 record IsDrawn (sort : ℕ → Tag) (number : Option ℕ) (tag : Tag) : Type 0 where
@@ -62,7 +48,7 @@ lines_at program window on state cause o y abort p tag n first number_is tag_is 
 
 abort_at : (program : Meaning) (window : ℕ) (on : Bool) (state : State) (cause : Option Cause) (o after : OpenValue) (y : Progress)
     (abort : Option Tag) (tag : Tag) (n : ℕ)
-    → next_number Event o.event o.event_drawn ≡ Some n → Event n ≡ tag → after ≡ with_drawn o tag kind.AbortE
+    → next_number Event o.event o.event_drawn ≡ Some n → Event n ≡ tag → after ≡ with_drawn o tag Kind.AbortE
     → seen program window on State.Aborting cause after y (Some tag)
     ≡ (client_aborted (seen program window on state cause o y abort)).client
 abort_at program window on state cause o after y abort tag n number_is tag_is held = rw (held, ← tag_is, number_is) refl
@@ -70,7 +56,7 @@ abort_at program window on state cause o after y abort tag n number_is tag_is he
 abort_line_at : (program : Meaning) (window : ℕ) (on : Bool) (state : State) (cause : Option Cause) (o : OpenValue) (y : Progress)
     (abort : Option Tag) (tag : Tag) (n : ℕ)
     → next_number Event o.event o.event_drawn ≡ Some n → Event n ≡ tag
-    → (client_aborted (seen program window on state cause o y abort)).lines ≡ record { tag = tag; command = command.AbortE } ∷ []
+    → (client_aborted (seen program window on state cause o y abort)).lines ≡ record { tag = tag; command = Command.AbortE } ∷ []
 abort_line_at program window on state cause o y abort tag n number_is tag_is = rw (← tag_is, number_is) refl
 
 pub sent_client : (program : Meaning) (window : ℕ) (on : Bool) (state : State) (cause : Option Cause) (o after : OpenValue)
@@ -110,7 +96,7 @@ sent_none program window on state cause o y abort p within is standard next =
 -- an abort is sent
 pub aborted_client : (program : Meaning) (window : ℕ) (on : Bool) (state : State) (cause : Option Cause) (o after : OpenValue)
     (y : Progress)
-    (abort : Option Tag) (tag : Tag) → next_tag o kind.AbortE ≡ Some tag → after ≡ with_drawn o tag kind.AbortE
+    (abort : Option Tag) (tag : Tag) → next_tag o Kind.AbortE ≡ Some tag → after ≡ with_drawn o tag Kind.AbortE
     → seen program window on State.Aborting cause after y (Some tag)
     ≡ (client_aborted (seen program window on state cause o y abort)).client
 aborted_client program window on state cause o after y abort tag next held =
@@ -119,15 +105,15 @@ aborted_client program window on state cause o after y abort tag next held =
 
 pub aborted_lines : (program : Meaning) (window : ℕ) (on : Bool) (state : State) (cause : Option Cause) (o : OpenValue)
     (y : Progress)
-    (abort : Option Tag) (tag : Tag) → next_tag o kind.AbortE ≡ Some tag
-    → (client_aborted (seen program window on state cause o y abort)).lines ≡ record { tag = tag; command = command.AbortE } ∷ []
+    (abort : Option Tag) (tag : Tag) → next_tag o Kind.AbortE ≡ Some tag
+    → (client_aborted (seen program window on state cause o y abort)).lines ≡ record { tag = tag; command = Command.AbortE } ∷ []
 aborted_lines program window on state cause o y abort tag next =
     let d : IsDrawn Event (next_number Event o.event o.event_drawn) tag = drawn_as _ _ _ next in
     abort_line_at program window on state cause o y abort tag d.n d.number_is d.tag_is
 
 pub aborted_none : (program : Meaning) (window : ℕ) (on : Bool) (state : State) (cause : Option Cause) (o : OpenValue)
     (y : Progress)
-    (abort : Option Tag) → next_tag o kind.AbortE ≡ None
+    (abort : Option Tag) → next_tag o Kind.AbortE ≡ None
     → client_aborted (seen program window on state cause o y abort)
     ≡ record { client = faulted Cause.TagsSpent (seen program window on state cause o y abort); lines = [] }
 aborted_none program window on state cause o y abort next =

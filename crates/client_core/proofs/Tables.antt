@@ -1,22 +1,11 @@
 -- What a mark does to the open commands decides what it does to the table.
-use Rattle.std.proofs.Common.{◌≡◌, ℕ, Bool, true, false, not, List, Option, Some, None, Result, Ok, Err, refl, ap, sym, subst, ◌∙◌}
-use Rattle.dme_line.specs.declared.tags.Tag.{Tag}
-use Rattle.dme_line.specs.declared.tags.Tag.TheVariants.{Std, Event}
-use Rattle.dmis_program.specs.declared.features.Wanted.{Wanted}
-use Rattle.dme_tags.specs.Opened.{OpenValue, heard, heard_standard, heard_event, failed_behind}
-use Rattle.dme_tags.specs.Answers.{IsRefused, effect_heard}
+use Rattle.client_core.proofs.Names.{◌∙◌, ◌≡◌, ap, Bool, Cause, Datum, Effect, effect_heard, Err, Event, failed_behind, false, Heard, heard_event}
+use Rattle.client_core.proofs.Names.{heard_in, heard_standard, is_count, IsRefused, Kind, List, Meaning, None, not, Ok, OpenValue, Option, Progress}
+use Rattle.client_core.proofs.Names.{refl, Result, seen, Some, State, Std, subst, sym, table_of, Tag, tally_of, true, Wanted, ℕ}
+use Rattle.dme_tags.specs.Opened.{heard}
 use Rattle.dme_line.specs.Tags.{is_event_tag}
-use Rattle.dmis_program.specs.Meaning.{Meaning}
-use Rattle.protocol_model.specs.declared.states.State.{State}
 use Rattle.protocol_model.specs.Replies.{Mark}
-use Rattle.protocol_model.specs.Open.{Effect, Heard, heard_in}
 use Rattle.protocol_model.specs.Client as client
-use Rattle.protocol_model.specs.declared.states.Cause.{Cause}
-use Rattle.protocol_model.specs.declared.held.Datum.{Datum}
-use Rattle.dme_line.specs.declared.commands.Kind.{Kind}
-use Rattle.client_core.specs.declared.progress.Progress.{Progress}
-use Rattle.client_core.specs.Progress.{tally_of, seen}
-use Rattle.client_core.specs.Tables.{table_of, is_count}
 use Rattle.client_core.proofs.TalliesOn.{tallied_on}
 
 fst_of : {A B C : Type 0} (x y : A) (v w : B) → Path (Result (A × B) C) (Ok (x, v)) (Ok (y, w)) → x ≡ y

@@ -1,10 +1,5 @@
 -- What only proofs speak of.
-use Rattle.std.specs.Prelude.{List}
-use Rattle.dme_line.specs.declared.tags.Tag.{Tag}
-use Rattle.dme_line.specs.declared.tags.Tag.TheVariants.{Std, Event}
-use Rattle.dmis_program.specs.declared.features.Wanted.{Wanted}
-use Rattle.protocol_model.specs.Open.{Effect}
-use Rattle.protocol_model.specs.Client.{Tally, tallied}
+use Rattle.client_core.proofs.Names.{Effect, Event, List, Std, Tag, tallied, Tally, Wanted}
 
 -- what a standard command's reply does is counted
 abbrev pub tallied_on : Tag → List Wanted → Effect → Tally → Tally

@@ -1,12 +1,10 @@
 -- A prefix of a written text of acts is read as the acts whose lines are whole in it.
-use Rattle.std.proofs.Common.{◌≡◌, ℕ, zero, suc, ◌+◌, ◌-◌, ◌<◌, ◌≤◌, Bool, true}
-use Rattle.std.proofs.Common.{false, not, eqb, List, [], ◌∷◌, ◌++◌, length, take, map, refl}
-use Rattle.std.proofs.Common.{ap, sym, subst, ◌∙◌, arith, codes, append_assoc, length-append}
-use Rattle.std.specs.List.{list_all, slice_split, AllByRecursion}
-use Rattle.std.proofs.lemmas.Bool.{and_parts, and_from}
-use Rattle.contact_ledger.specs.Lines.{text_of, but_last, whole_lines}
-use Rattle.contact_ledger.specs.declared.acts.Act.{Act}
-use Rattle.contact_ledger.specs.ContactTexts.{AreEntries, act_line, contact_lines, contacts_text, IsContacts, none, some}
+use Rattle.contact_ledger.proofs.Names.{[], ◌++◌, ◌+◌, ◌-◌, ◌<◌, ◌∙◌, ◌∷◌, ◌≡◌, ◌≤◌, Act, act_line, AllByRecursion, and_from, and_parts, ap}
+use Rattle.contact_ledger.proofs.Names.{append_assoc, AreEntries, arith, Bool, but_last, codes, contact_lines, contacts_text, eqb, false, IsContacts}
+use Rattle.contact_ledger.proofs.Names.{length, length-append, List, list_all, map, not, refl, slice_split, subst, suc, sym, take, text_of, true}
+use Rattle.contact_ledger.proofs.Names.{zero, ℕ}
+use Rattle.contact_ledger.specs.Lines.{whole_lines}
+use Rattle.contact_ledger.specs.ContactTexts.{none, some}
 use Rattle.contact_ledger.proofs.ContactLaws.{is_inner, IsInner, line_first, contact_inner, take_lines, take_entries}
 
 -- lines, and after them what has no line end

@@ -1,13 +1,10 @@
 -- A text of acts is read in one way, and a written one as its acts.
-use Rattle.std.proofs.Common.{◌≡◌, ℕ, zero, suc, ◌≤◌, Bool, true, false, not, eqb, List, [], ◌∷◌, ◌++◌, length, take, map, refl}
-use Rattle.std.proofs.Common.{ap, sym, ◌∙◌, arith, codes}
-use Rattle.std.specs.List.{list_all, slice_split, AllByRecursion}
-use Rattle.std.proofs.lemmas.Bool.{and_parts, and_from, leb-true, ne_eqb}
-use Rattle.std.proofs.lemmas.List.Folds.{list_all-append}
-use Rattle.contact_ledger.specs.Lines.{text_of, but_last, whole_lines, line_of, spaced}
-use Rattle.contact_ledger.specs.declared.acts.Act.{Act}
-use Rattle.contact_ledger.specs.ContactTexts.{AreEntries, act_fields, act_line, contact_lines, contacts_text, AreContactLines}
-use Rattle.contact_ledger.specs.ContactTexts.{IsContacts, IsDamagedContacts, none, some}
+use Rattle.contact_ledger.proofs.Names.{[], ◌++◌, ◌∙◌, ◌∷◌, ◌≡◌, ◌≤◌, Act, act_fields, act_line, AllByRecursion, and_from, and_parts, ap}
+use Rattle.contact_ledger.proofs.Names.{AreContactLines, AreEntries, arith, Bool, but_last, codes, contact_lines, contacts_text, eqb, false}
+use Rattle.contact_ledger.proofs.Names.{IsContacts, IsDamagedContacts, leb-true, length, line_of, List, list_all, list_all-append, map, ne_eqb, not}
+use Rattle.contact_ledger.proofs.Names.{refl, slice_split, spaced, suc, sym, take, text_of, true, zero, ℕ}
+use Rattle.contact_ledger.specs.Lines.{whole_lines}
+use Rattle.contact_ledger.specs.ContactTexts.{none, some}
 use Rattle.contact_ledger.proofs.PlainFields.{is_plain, ArePlain}
 use Rattle.contact_ledger.proofs.EntryLines.{entry_plain}
 use Rattle.contact_ledger.proofs.WrittenTexts.{line_spaced}

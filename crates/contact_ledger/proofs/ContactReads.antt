@@ -1,13 +1,8 @@
 -- What reading acts line by line comes to.
-use Rattle.std.proofs.Common.{◌≡◌, ℕ, zero, suc, ◌+◌, ◌-◌, List, [], ◌∷◌, ◌++◌, take, drop, map, refl, ap, sym, subst, ◌∙◌}
-use Rattle.std.proofs.Common.{arith, codes}
-use Rattle.contact_ledger.specs.Lines.{whole_lines}
-use Rattle.contact_ledger.specs.Damage.{ReadsFault}
-use Rattle.contact_ledger.specs.declared.faults.TextFault.{TextFault}
-use Rattle.contact_ledger.specs.declared.faults.TextFault.TheVariants.{Damaged, Memory}
-use Rattle.contact_ledger.specs.declared.acts.Act.{Act}
-use Rattle.contact_ledger.specs.ContactTexts.{IsEntry, AreEntries, act_line, contact_lines, AreContactLines, none, some}
-use Rattle.contact_ledger.specs.ContactTexts.{IsContacts, IsDamagedContacts}
+use Rattle.contact_ledger.proofs.Names.{[], ◌++◌, ◌+◌, ◌-◌, ◌∙◌, ◌∷◌, ◌≡◌, Act, act_line, ap, AreContactLines, AreEntries, arith, codes}
+use Rattle.contact_ledger.proofs.Names.{contact_lines, Damaged, drop, IsContacts, IsDamagedContacts, IsEntry, List, map, Memory, ReadsFault, refl}
+use Rattle.contact_ledger.proofs.Names.{subst, suc, sym, take, TextFault, whole_lines, zero, ℕ}
+use Rattle.contact_ledger.specs.ContactTexts.{none, some}
 use Rattle.contact_ledger.proofs.FeatureReads.{take_one_more}
 use Rattle.contact_ledger.proofs.FeatureShapes.{all_more}
 

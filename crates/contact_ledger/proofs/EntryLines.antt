@@ -1,17 +1,8 @@
 -- The lines of acts, and the fields after their words.
-use Rattle.std.proofs.Common.{◌≡◌, ℕ, ◌+◌, ◌*◌, ◌≤◌, true, false, List, [], ◌∷◌}
-use Rattle.std.proofs.Common.{◌++◌, length, refl, ap, sym, ◌∙◌, arith, codes, Option, Some, None}
-use Rattle.std.proofs.Common.{append-nil, slice_index}
-use Rattle.std.specs.Prelude.{decimal}
-use Rattle.fixed_um.specs.Shapes.{Direction}
-use Rattle.fixed_um.specs.declared.lengths.Point.{Point}
-use Rattle.fixed_um.specs.declared.frames.Frame.{Frame}
-use Rattle.fixed_um.specs.declared.frames.Frame.TheVariants.{Machine, Part}
-use Rattle.contact_ledger.specs.Lines.{fields_of, fields_behind}
-use Rattle.contact_ledger.specs.Fields.{IsOnWire, IsFrame, point_fields, frame_fields, direction_fields}
-use Rattle.contact_ledger.specs.ContactTexts.{IsWrittenAct, IsEntry, act_fields, act_line}
-use Rattle.contact_ledger.specs.declared.acts.Act.{Act}
-use Rattle.contact_ledger.specs.declared.acts.Act.TheVariants as act
+use Rattle.contact_ledger.proofs.Names.{[], ◌*◌, ◌++◌, ◌+◌, ◌∙◌, ◌∷◌, ◌≡◌, ◌≤◌, Act, act_fields, act_line, ap, append-nil, arith, codes, decimal}
+use Rattle.contact_ledger.proofs.Names.{Direction, direction_fields, false, fields_behind, fields_of, Frame, frame_fields, IsEntry, IsFrame, IsOnWire}
+use Rattle.contact_ledger.proofs.Names.{IsWrittenAct, length, List, Machine, None, Option, Part, Point, point_fields, refl, slice_index, Some, sym}
+use Rattle.contact_ledger.proofs.Names.{true, ℕ}
 use Rattle.contact_ledger.proofs.PlainFields.{ArePlain, plain_fields_append, decimal_plain, name_plain, point_plain, frame_plain}
 use Rattle.contact_ledger.proofs.PlainFields.{direction_plain}
 use Rattle.contact_ledger.proofs.LineFields.{line_fields, made_of}
@@ -56,44 +47,44 @@ abbrev NoPoint : List (List ℕ) → Type 0
 NoPoint fields = (p : Point) (more : List (List ℕ)) → IsOnWire p → fields ≡ point_fields p ++ more → ⊥
 
 pub no_framed : (fields : List (List ℕ)) (a : Act) → NoFrame fields → IsWrittenAct a → codes "FRAMED" ∷ fields ≡ act_fields a → ⊥
-no_framed fields (act.HomedIs homed) none h e = let k : 656 ≡ 777 = ap (λ (fs : List (List ℕ)). kind fs) e in omega (arith, k)
-no_framed fields act.Homed none h e = let k : 656 ≡ 775 = ap (λ (fs : List (List ℕ)). kind fs) e in omega (arith, k)
-no_framed fields (act.Moved target frame) none h e = let k : 656 ≡ 865 = ap (λ (fs : List (List ℕ)). kind fs) e in omega (arith, k)
-no_framed fields (act.Changed tool) none h e = let k : 656 ≡ 657 = ap (λ (fs : List (List ℕ)). kind fs) e in omega (arith, k)
-no_framed fields (act.Framed frame) none h e =
+no_framed fields (Act.HomedIs homed) none h e = let k : 656 ≡ 777 = ap (λ (fs : List (List ℕ)). kind fs) e in omega (arith, k)
+no_framed fields Act.Homed none h e = let k : 656 ≡ 775 = ap (λ (fs : List (List ℕ)). kind fs) e in omega (arith, k)
+no_framed fields (Act.Moved target frame) none h e = let k : 656 ≡ 865 = ap (λ (fs : List (List ℕ)). kind fs) e in omega (arith, k)
+no_framed fields (Act.Changed tool) none h e = let k : 656 ≡ 657 = ap (λ (fs : List (List ℕ)). kind fs) e in omega (arith, k)
+no_framed fields (Act.Framed frame) none h e =
     let same : fields ≡ frame_fields frame = cc in
     none frame [] h (same ∙ sym (append-nil (frame_fields frame)))
-no_framed fields (act.Contact target dir tool frame point) none h e =
+no_framed fields (Act.Contact target dir tool frame point) none h e =
     let k : 656 ≡ 787 = ap (λ (fs : List (List ℕ)). kind fs) e in omega (arith, k)
 
 pub no_moved : (fields behind : List (List ℕ)) (p : Point) (a : Act) → fields ≡ point_fields p ++ behind → NoFrame behind → IsWrittenAct a
     → codes "MOVED" ∷ fields ≡ act_fields a → ⊥
-no_moved fields behind p (act.HomedIs homed) q none h e = let k : 865 ≡ 777 = ap (λ (fs : List (List ℕ)). kind fs) e in omega (arith, k)
-no_moved fields behind p act.Homed q none h e = let k : 865 ≡ 775 = ap (λ (fs : List (List ℕ)). kind fs) e in omega (arith, k)
-no_moved fields behind p (act.Moved target frame) q none h e =
+no_moved fields behind p (Act.HomedIs homed) q none h e = let k : 865 ≡ 777 = ap (λ (fs : List (List ℕ)). kind fs) e in omega (arith, k)
+no_moved fields behind p Act.Homed q none h e = let k : 865 ≡ 775 = ap (λ (fs : List (List ℕ)). kind fs) e in omega (arith, k)
+no_moved fields behind p (Act.Moved target frame) q none h e =
     let all : fields ≡ point_fields target ++ frame_fields frame = cc in
     let both : point_fields p ++ behind ≡ point_fields target ++ frame_fields frame = sym q ∙ all in
     let same : behind ≡ frame_fields frame = cc in
     none frame [] h.1 (same ∙ sym (append-nil (frame_fields frame)))
-no_moved fields behind p (act.Changed tool) q none h e = let k : 865 ≡ 657 = ap (λ (fs : List (List ℕ)). kind fs) e in omega (arith, k)
-no_moved fields behind p (act.Framed frame) q none h e = let k : 865 ≡ 656 = ap (λ (fs : List (List ℕ)). kind fs) e in omega (arith, k)
-no_moved fields behind p (act.Contact target dir tool frame point) q none h e =
+no_moved fields behind p (Act.Changed tool) q none h e = let k : 865 ≡ 657 = ap (λ (fs : List (List ℕ)). kind fs) e in omega (arith, k)
+no_moved fields behind p (Act.Framed frame) q none h e = let k : 865 ≡ 656 = ap (λ (fs : List (List ℕ)). kind fs) e in omega (arith, k)
+no_moved fields behind p (Act.Contact target dir tool frame point) q none h e =
     let k : 865 ≡ 787 = ap (λ (fs : List (List ℕ)). kind fs) e in omega (arith, k)
 
 pub no_contact : (fields r s t u : List (List ℕ)) (p : Point) (d : Option Direction) (tool : List ℕ) (f : Frame) (a : Act)
     → fields ≡ point_fields p ++ r → r ≡ direction_fields d ++ s → s ≡ tool ∷ t → t ≡ frame_fields f ++ u → NoPoint u → IsWrittenAct a
     → codes "CONTACT" ∷ fields ≡ act_fields a → ⊥
-no_contact fields r s t u p d tool f (act.HomedIs homed) i j k l none h e =
+no_contact fields r s t u p d tool f (Act.HomedIs homed) i j k l none h e =
     let n : 787 ≡ 777 = ap (λ (fs : List (List ℕ)). kind fs) e in omega (arith, n)
-no_contact fields r s t u p d tool f act.Homed i j k l none h e =
+no_contact fields r s t u p d tool f Act.Homed i j k l none h e =
     let n : 787 ≡ 775 = ap (λ (fs : List (List ℕ)). kind fs) e in omega (arith, n)
-no_contact fields r s t u p d tool f (act.Moved target frame) i j k l none h e =
+no_contact fields r s t u p d tool f (Act.Moved target frame) i j k l none h e =
     let n : 787 ≡ 865 = ap (λ (fs : List (List ℕ)). kind fs) e in omega (arith, n)
-no_contact fields r s t u p d tool f (act.Changed name) i j k l none h e =
+no_contact fields r s t u p d tool f (Act.Changed name) i j k l none h e =
     let n : 787 ≡ 657 = ap (λ (fs : List (List ℕ)). kind fs) e in omega (arith, n)
-no_contact fields r s t u p d tool f (act.Framed frame) i j k l none h e =
+no_contact fields r s t u p d tool f (Act.Framed frame) i j k l none h e =
     let n : 787 ≡ 656 = ap (λ (fs : List (List ℕ)). kind fs) e in omega (arith, n)
-no_contact fields r s t u p d tool f (act.Contact target dir name frame point) i j k l none h e =
+no_contact fields r s t u p d tool f (Act.Contact target dir name frame point) i j k l none h e =
     let all : fields ≡ point_fields target ++ (direction_fields dir ++ (name ∷ (frame_fields frame ++ point_fields point))) = cc in
     let first : point_fields p ++ r ≡ point_fields target ++ (direction_fields dir ++ (name ∷ (frame_fields frame ++ point_fields point))) =
     sym i ∙ all in
@@ -107,16 +98,16 @@ no_contact fields r s t u p d tool f (act.Contact target dir name frame point) i
 -- ---- the fields of a line of an act
 
 act_plain : (a : Act) → IsWrittenAct a → ArePlain (act_fields a)
-act_plain (act.HomedIs true) h = (record { plain = refl }, (record { plain = refl }, tt))
-act_plain (act.HomedIs false) h = (record { plain = refl }, (record { plain = refl }, tt))
-act_plain act.Homed h = (record { plain = refl }, tt)
-act_plain (act.Moved target frame) h = (
+act_plain (Act.HomedIs true) h = (record { plain = refl }, (record { plain = refl }, tt))
+act_plain (Act.HomedIs false) h = (record { plain = refl }, (record { plain = refl }, tt))
+act_plain Act.Homed h = (record { plain = refl }, tt)
+act_plain (Act.Moved target frame) h = (
   record { plain = refl },
   plain_fields_append (point_fields target) (frame_fields frame) (point_plain target h.0) (frame_plain frame h.1),
 )
-act_plain (act.Changed tool) h = (record { plain = refl }, (name_plain tool h, tt))
-act_plain (act.Framed frame) h = (record { plain = refl }, frame_plain frame h)
-act_plain (act.Contact target dir tool frame point) h = (
+act_plain (Act.Changed tool) h = (record { plain = refl }, (name_plain tool h, tt))
+act_plain (Act.Framed frame) h = (record { plain = refl }, frame_plain frame h)
+act_plain (Act.Contact target dir tool frame point) h = (
   record { plain = refl },
   plain_fields_append (point_fields target) (direction_fields dir ++ (tool ∷ (frame_fields frame ++ point_fields point)))
       (point_plain target h.0) (plain_fields_append (direction_fields dir) (tool ∷ (frame_fields frame ++ point_fields point))

@@ -1,10 +1,6 @@
 -- What the writers of acts add, one piece after another.
-use Rattle.std.proofs.Common.{◌≡◌, ℕ, zero, suc, ◌+◌, ◌<◌, List, [], ◌∷◌, ◌++◌, length, map, take, drop, get_or, refl, ap, sym, ◌∙◌, arith}
-use Rattle.std.proofs.Common.{codes, append_assoc, append-nil}
-use Rattle.std.specs.Prelude.{decimal}
-use Rattle.contact_ledger.specs.Lines.{text_of, spaced}
-use Rattle.contact_ledger.specs.ContactTexts.{act_fields, act_line}
-use Rattle.contact_ledger.specs.declared.acts.Act.{Act}
+use Rattle.contact_ledger.proofs.Names.{[], ◌++◌, ◌+◌, ◌<◌, ◌∙◌, ◌∷◌, ◌≡◌, Act, act_fields, act_line, ap, append-nil, append_assoc, arith, codes}
+use Rattle.contact_ledger.proofs.Names.{decimal, drop, get_or, length, List, map, refl, spaced, suc, sym, take, text_of, zero, ℕ}
 use Rattle.contact_ledger.proofs.WrittenTexts.{line_spaced, spaced_more, text_more}
 
 pub ruleset pieces = (append_assoc, spaced_more)

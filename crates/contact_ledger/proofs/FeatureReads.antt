@@ -1,21 +1,10 @@
 -- What reading features line by line comes to.
-use Rattle.std.proofs.Common.{◌≡◌, ℕ, zero, suc, ◌+◌, ◌-◌, ◌≤◌, List, [], ◌∷◌, ◌++◌, length, take, drop, refl, ap, sym, subst}
-use Rattle.std.proofs.Common.{arith}
-use Rattle.contact_ledger.specs.Lines.{whole_lines}
-use Rattle.contact_ledger.specs.Damage.{ReadsFault}
-use Rattle.contact_ledger.specs.declared.faults.TextFault.{TextFault}
-use Rattle.contact_ledger.specs.declared.faults.TextFault.TheVariants.{Damaged, Memory}
-use Rattle.std.proofs.Common.{Option, Some, None}
-use Rattle.std.specs.List.{AllByRecursion}
+use Rattle.contact_ledger.proofs.Names.{[], ◌++◌, ◌+◌, ◌-◌, ◌∷◌, ◌≡◌, ◌≤◌, AllByRecursion, ap, AreFeatureLines, AreFeatures, arith, Between}
+use Rattle.contact_ledger.proofs.Names.{CanBeWritten, Damaged, drop, Feature, IsDamagedFeatures, IsFeatures, IsWrittenOrigin, length, List, Memory}
+use Rattle.contact_ledger.proofs.Names.{Next, None, Option, Origin, Place, ReadsFault, refl, Some, Start, subst, suc, sym, take, TextFault, Version}
+use Rattle.contact_ledger.proofs.Names.{whole_lines, Within, zero, ℕ}
 use Rattle.contact_ledger.specs.Ledgers.{IsOrigin}
-use Rattle.contact_ledger.specs.FeatureTexts.{AreFeatureLines, AreFeatures, IsFeatures, IsDamagedFeatures, IsWrittenOrigin, CanBeWritten}
-use Rattle.contact_ledger.specs.declared.features.Origin.{Origin}
-use Rattle.contact_ledger.specs.declared.openings.Version.{Version}
-use Rattle.contact_ledger.specs.Places.{Next}
 use Rattle.contact_ledger.proofs.LeadingPlaces.{Leads}
-use Rattle.contact_ledger.specs.declared.features.Feature.{Feature}
-use Rattle.contact_ledger.specs.declared.places.Place.{Place}
-use Rattle.contact_ledger.specs.declared.places.Place.TheVariants.{Start, Between, Within}
 use Rattle.contact_ledger.proofs.FeatureRuns.{leads_one, leads_more, leads_split}
 use Rattle.contact_ledger.proofs.FeatureShapes.{IsGood, leads_above, good_lines, held_lead}
 

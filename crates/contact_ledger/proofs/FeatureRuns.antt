@@ -1,24 +1,9 @@
 -- Lines lead from place to place in one way.
-use Rattle.std.proofs.Common.{◌≡◌, ℕ, List, [], ◌∷◌, ◌++◌, refl, ap, sym, ◌∙◌, arith}
-use Rattle.std.proofs.Common.{codes, Option, Some, None, inl, inr, slice_index}
-use Rattle.std.specs.Prelude.{decimal}
-use Rattle.std.proofs.lemmas.Fmt.{decimal_injective}
-use Rattle.fixed_um.specs.Written.{written}
-use Rattle.fixed_um.specs.declared.lengths.Point.{Point}
-use Rattle.fixed_um.specs.declared.frames.Frame.{Frame}
-use Rattle.fixed_um.specs.declared.frames.Frame.TheVariants.{Machine, Part}
-use Rattle.contact_ledger.specs.Fields.{IsOnWire, IsFrame, point_fields, frame_fields}
-use Rattle.contact_ledger.specs.FeatureTexts.{IsOpening, IsWrittenOrigin, IsKnown, header}
-use Rattle.contact_ledger.specs.FeatureTexts.{known_fields, origin_fields, opening_line, point_line}
-use Rattle.contact_ledger.specs.Places.{Next, AddsPoint}
+use Rattle.contact_ledger.proofs.Names.{[], ◌++◌, ◌∙◌, ◌∷◌, ◌≡◌, AddsPoint, ap, arith, Between, codes, decimal, decimal_injective, Feature, First}
+use Rattle.contact_ledger.proofs.Names.{Frame, frame_fields, header, inl, inr, IsFrame, IsKnown, IsOnWire, IsOpening, IsWrittenOrigin, known_fields}
+use Rattle.contact_ledger.proofs.Names.{List, Machine, Next, None, Opening, opening_line, Option, Origin, origin_fields, Part, Place, Point}
+use Rattle.contact_ledger.proofs.Names.{point_fields, point_line, refl, Second, slice_index, Some, Start, sym, Version, Within, written, ℕ}
 use Rattle.contact_ledger.proofs.LeadingPlaces.{Leads}
-use Rattle.contact_ledger.specs.declared.features.Feature.{Feature}
-use Rattle.contact_ledger.specs.declared.features.Origin.{Origin}
-use Rattle.contact_ledger.specs.declared.openings.Opening.{Opening}
-use Rattle.contact_ledger.specs.declared.openings.Version.{Version}
-use Rattle.contact_ledger.specs.declared.openings.Version.TheVariants.{First, Second}
-use Rattle.contact_ledger.specs.declared.places.Place.{Place}
-use Rattle.contact_ledger.specs.declared.places.Place.TheVariants.{Start, Between, Within}
 use Rattle.contact_ledger.proofs.Leaves.{number_no_dash, written_one}
 use Rattle.contact_ledger.proofs.OpeningLines.{opening_back, point_back}
 

@@ -1,20 +1,11 @@
 -- The lines above a place are those of its features.
-use Rattle.std.proofs.Common.{◌≡◌, ℕ, zero, suc, ◌+◌, ◌-◌, ◌<◌, ◌≤◌, List, [], ◌∷◌, ◌++◌, length, map, refl, ap, sym, subst, ◌∙◌, arith}
-use Rattle.std.proofs.Common.{codes, inl, inr, append_assoc, append-nil, length-append}
-use Rattle.std.specs.List.{AllByRecursion}
+use Rattle.contact_ledger.proofs.Names.{[], ◌++◌, ◌+◌, ◌-◌, ◌<◌, ◌∙◌, ◌∷◌, ◌≡◌, ◌≤◌, AllByRecursion, ap, append-nil, append_assoc, AreFeatureLines}
+use Rattle.contact_ledger.proofs.Names.{AreFeatures, arith, Between, codes, Feature, feature_lines, feature_of, header, inl, inr, IsFeature, IsOnWire}
+use Rattle.contact_ledger.proofs.Names.{IsOpening, IsTorn, length, length-append, lines_of_all, List, map, Next, Opening, opening_line, opening_of}
+use Rattle.contact_ledger.proofs.Names.{Place, Point, point_line, refl, Start, subst, suc, sym, Version, Within, zero, ℕ}
 use Rattle.fixed_um.specs.Points.{zero_point}
-use Rattle.fixed_um.specs.declared.lengths.Point.{Point}
-use Rattle.contact_ledger.specs.Fields.{IsOnWire}
-use Rattle.contact_ledger.specs.FeatureTexts.{IsOpening, IsFeature, AreFeatures, header}
-use Rattle.contact_ledger.specs.FeatureTexts.{opening_line, point_line, opening_of, feature_lines}
-use Rattle.contact_ledger.specs.FeatureTexts.{lines_of_all, IsTorn, AreFeatureLines, none, some}
-use Rattle.contact_ledger.specs.Places.{Next, feature_of}
+use Rattle.contact_ledger.specs.FeatureTexts.{none, some}
 use Rattle.contact_ledger.proofs.LeadingPlaces.{Leads}
-use Rattle.contact_ledger.specs.declared.features.Feature.{Feature}
-use Rattle.contact_ledger.specs.declared.openings.Opening.{Opening}
-use Rattle.contact_ledger.specs.declared.openings.Version.{Version}
-use Rattle.contact_ledger.specs.declared.places.Place.{Place}
-use Rattle.contact_ledger.specs.declared.places.Place.TheVariants.{Start, Between, Within}
 use Rattle.contact_ledger.proofs.FeatureRuns.{leads_more}
 
 -- the lines that are above a place

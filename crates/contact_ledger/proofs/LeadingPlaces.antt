@@ -1,8 +1,5 @@
 -- What only proofs speak of.
-use Rattle.std.specs.Prelude.{◌≡◌, ℕ, List, [], ◌∷◌}
-use Rattle.contact_ledger.specs.declared.features.Feature.{Feature}
-use Rattle.contact_ledger.specs.declared.places.Place.{Place}
-use Rattle.contact_ledger.specs.Places.{Next}
+use Rattle.contact_ledger.proofs.Names.{[], ◌∷◌, ◌≡◌, Feature, List, Next, Place, ℕ}
 
 -- lines lead from a place to another
 abbrev pub Leads : List Feature → Place → List (List ℕ) → List Feature → Place → Type 0

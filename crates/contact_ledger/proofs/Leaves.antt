@@ -1,22 +1,16 @@
 -- What one field is read as.
-use Rattle.std.proofs.Common.{◌≡◌, ℕ, ◌^◌, ◌<◌, ◌≤◌, Bool, true, false, List, [], ◌∷◌, ◌++◌, Result, Ok, Err, refl, ap, sym}
-use Rattle.std.proofs.Common.{subst, not, ◌∙◌, arith, ℤ, pos, codes, Option, Some, None, inl, inr}
-use Rattle.std.specs.Prelude.{unsigned_abs, decimal}
-use Rattle.std.specs.Str.{IsUtf8, bytes_eq}
+use Rattle.contact_ledger.proofs.Names.{[], ◌++◌, ◌<◌, ◌^◌, ◌∙◌, ◌∷◌, ◌≡◌, ◌≤◌, AllDigits, ap, arith, Bool, codes, component_limit, decimal}
+use Rattle.contact_ledger.proofs.Names.{decimal_is_IsNumeral, Direction, direction_reads_back, Err, false, fields_behind, fields_of, inl, inr}
+use Rattle.contact_ledger.proofs.Names.{IsAscii-decimal, IsDirection, IsLength, List, None, not, Ok, Option, parse-decimal, ParsesUnsigned, pos, refl}
+use Rattle.contact_ledger.proofs.Names.{Result, Some, subst, sym, true, unsigned_abs, wire_limit, written, written_component, written_direction}
+use Rattle.contact_ledger.proofs.Names.{written_reads_back, ℕ, ℤ}
+use Rattle.std.specs.Str.{bytes_eq, IsUtf8}
 use Rattle.std.proofs.lemmas.Slice.Eq.{bytes_eq-Decides}
-use Rattle.std.specs.Str.Parse.{ParsesUnsigned, AllDigits}
 use Rattle.std.proofs.lemmas.Str.{IsUtf8-from_ascii}
-use Rattle.std.proofs.lemmas.Fmt.{IsAscii-decimal, parse-decimal, decimal_is_IsNumeral}
 use Rattle.fixed_um.specs.Calls.{Finds}
-use Rattle.fixed_um.specs.Limits.{wire_limit, component_limit}
 use Rattle.fixed_um.specs.Numerals.{Reads, ReadsDirection}
-use Rattle.fixed_um.specs.Shapes.{Direction, IsDirection}
-use Rattle.fixed_um.specs.Written.{written, written_component, written_direction}
 use Rattle.fixed_um.specs.declared.numerals.NumeralFault.{NumeralFault}
 use Rattle.fixed_um.proofs.ReadLemmas.{one_reading}
-use Rattle.fixed_um.proofs.WrittenLemmas.{written_reads_back, direction_reads_back}
-use Rattle.contact_ledger.specs.Fields.{IsLength}
-use Rattle.contact_ledger.specs.Lines.{fields_of, fields_behind}
 use Rattle.contact_ledger.proofs.PlainFields.{component_plain}
 use Rattle.contact_ledger.proofs.LineFields.{line_fields}
 

@@ -1,3 +1,4 @@
+pub mod Names
 pub mod ContactFronts
 pub mod ContactLaws
 pub mod ContactReads

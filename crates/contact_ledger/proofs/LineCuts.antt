@@ -1,12 +1,11 @@
 -- The first line of a text and the first field of a line.
-use Rattle.std.proofs.Common.{◌≡◌, ℕ, zero, suc, ◌+◌, ◌-◌, ◌<◌, ◌≤◌, Bool, true, false, not, cond, eqb, ltb, List, [], ◌∷◌, ◌++◌, length}
-use Rattle.std.proofs.Common.{take, drop, Option, Some, None, refl, sym, ap, ◌∙◌, arith, rules}
-use Rattle.std.specs.List.{slice_split, position, position_or_len}
-use Rattle.std.proofs.lemmas.Bool.{ltb-true, ltb-false}
+use Rattle.contact_ledger.proofs.Names.{[], ◌++◌, ◌+◌, ◌-◌, ◌<◌, ◌∙◌, ◌∷◌, ◌≡◌, ◌≤◌, ap, arith, Bool, but_last, cond, drop, drop-drop, eqb, false}
+use Rattle.contact_ledger.proofs.Names.{fields_behind, length, length-drop, length-slice_split, List, ltb, ltb-false, ltb-true, None, not, Option}
+use Rattle.contact_ledger.proofs.Names.{position, position_or_len, refl, rules, slice_split, slice_split_first, Some, suc, sym, take, take_all, true}
+use Rattle.contact_ledger.proofs.Names.{zero, ℕ}
 use Rattle.std.proofs.lemmas.Option.{cond_some}
-use Rattle.std.proofs.lemmas.List.{drop-drop, take_all, drop_all, length-drop}
-use Rattle.std.proofs.lemmas.List.Splits.{slice_split_first, length-slice_split}
-use Rattle.contact_ledger.specs.Lines.{but_last, whole_lines, fields_of, fields_behind}
+use Rattle.std.proofs.lemmas.List.{drop_all}
+use Rattle.contact_ledger.specs.Lines.{fields_of, whole_lines}
 
 -- the first part ends at the first byte that passes
 pub first_part : (p : ℕ → Bool) (bs : List ℕ) (at : ℕ) → Some at ≡ position p bs → (at < length bs)

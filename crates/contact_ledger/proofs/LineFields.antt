@@ -1,10 +1,7 @@
 -- The fields of a line are those of which it was made.
-use Rattle.std.proofs.Common.{◌≡◌, ℕ, ◌<◌, true, false, eqb, List, [], ◌∷◌, ◌++◌, refl, ap}
-use Rattle.std.proofs.Common.{sym, ◌∙◌, arith}
-use Rattle.std.specs.List.{list_all, slice_split}
-use Rattle.std.proofs.lemmas.Bool.{and_parts, leb-true, ne_eqb}
-use Rattle.std.proofs.lemmas.List.Splits.{join_with_byte-slice_split}
-use Rattle.contact_ledger.specs.Lines.{line_of, fields_of}
+use Rattle.contact_ledger.proofs.Names.{[], ◌++◌, ◌<◌, ◌∙◌, ◌∷◌, ◌≡◌, and_parts, ap, arith, eqb, false, join_with_byte-slice_split, leb-true, line_of}
+use Rattle.contact_ledger.proofs.Names.{List, list_all, ne_eqb, refl, slice_split, sym, true, ℕ}
+use Rattle.contact_ledger.specs.Lines.{fields_of}
 use Rattle.contact_ledger.proofs.PlainFields.{is_plain, ArePlain}
 
 not_mark : (c mark : ℕ) → mark < 33 → is_plain c ≡ true → eqb c mark ≡ false

@@ -1,18 +1,8 @@
 -- An act has its line alone.
-use Rattle.std.proofs.Common.{◌≡◌, ℕ, Bool, true, false, List, [], ◌∷◌, ◌++◌, refl, ap, sym, ◌∙◌, arith, codes, Option, Some, None}
-use Rattle.std.proofs.Common.{slice_index}
-use Rattle.std.specs.Prelude.{decimal}
-use Rattle.std.proofs.lemmas.Fmt.{decimal_injective}
-use Rattle.fixed_um.specs.Shapes.{Direction}
-use Rattle.fixed_um.specs.Written.{written_component}
-use Rattle.fixed_um.specs.declared.lengths.Point.{Point}
-use Rattle.fixed_um.specs.declared.frames.Frame.{Frame}
-use Rattle.fixed_um.specs.declared.frames.Frame.TheVariants.{Machine, Part}
-use Rattle.fixed_um.proofs.WrittenLemmas.{direction_reads_back}
-use Rattle.contact_ledger.specs.Fields.{IsFrame, IsTouch, point_fields, frame_fields, direction_fields}
-use Rattle.contact_ledger.specs.ContactTexts.{IsWrittenAct, IsEntry, homed_field, act_fields, act_line}
-use Rattle.contact_ledger.specs.declared.acts.Act.{Act}
-use Rattle.contact_ledger.specs.declared.acts.Act.TheVariants as act
+use Rattle.contact_ledger.proofs.Names.{[], ◌++◌, ◌∙◌, ◌∷◌, ◌≡◌, Act, act_fields, act_line, ap, arith, Bool, codes, decimal, decimal_injective}
+use Rattle.contact_ledger.proofs.Names.{Direction, direction_fields, direction_reads_back, false, Frame, frame_fields, homed_field, IsEntry, IsFrame}
+use Rattle.contact_ledger.proofs.Names.{IsTouch, IsWrittenAct, List, Machine, None, Option, Part, Point, point_fields, refl, slice_index, Some, sym}
+use Rattle.contact_ledger.proofs.Names.{true, written_component, ℕ}
 use Rattle.contact_ledger.proofs.EntryLines.{kind, frame_tail, direction_tail, entry_back}
 use Rattle.contact_ledger.proofs.FeatureRuns.{one_place, one_frame}
 use Rattle.contact_ledger.proofs.Leaves.{direction_read}
@@ -55,91 +45,91 @@ one_touch (Some d) (Some e) x y p q h =
     ap (λ (z : Direction). Some z) (direction_read (written_component d.i) (written_component d.j) (written_component d.k) d e
     (direction_reads_back d p) q i j k)
 
-same_moved : (t u : Point) (f g : Frame) → t ≡ u → f ≡ g → act.Moved t f ≡ act.Moved u g
-same_moved t u f g p q = λ n. act.Moved (p n) (q n)
+same_moved : (t u : Point) (f g : Frame) → t ≡ u → f ≡ g → Act.Moved t f ≡ Act.Moved u g
+same_moved t u f g p q = λ n. Act.Moved (p n) (q n)
 
 same_contact : {t u : Point} {d e : Option Direction} {m n : List ℕ} {f g : Frame} {p q : Point} → t ≡ u → d ≡ e → m ≡ n → f ≡ g → p ≡ q
-    → act.Contact t d m f p ≡ act.Contact u e n g q
-same_contact a b c x y = λ n. act.Contact (a n) (b n) (c n) (x n) (y n)
+    → Act.Contact t d m f p ≡ Act.Contact u e n g q
+same_contact a b c x y = λ n. Act.Contact (a n) (b n) (c n) (x n) (y n)
 
 one_act : (a b : Act) → IsWrittenAct a → IsWrittenAct b → act_fields a ≡ act_fields b → a ≡ b
-one_act (act.HomedIs ah) (act.HomedIs bh) g h e =
+one_act (Act.HomedIs ah) (Act.HomedIs bh) g h e =
     let all : homed_field ah ∷ [] ≡ homed_field bh ∷ [] = cc in
     let same : homed_field ah ≡ homed_field bh = cc in
-    ap (λ (x : Bool). act.HomedIs x) (one_homed ah bh same)
-one_act (act.HomedIs ah) act.Homed g h e =
+    ap (λ (x : Bool). Act.HomedIs x) (one_homed ah bh same)
+one_act (Act.HomedIs ah) Act.Homed g h e =
     let n : 777 ≡ 775 = ap (λ (fs : List (List ℕ)). kind fs) e in absurd (omega (arith, n))
-one_act (act.HomedIs ah) (act.Moved bx bf) g h e =
+one_act (Act.HomedIs ah) (Act.Moved bx bf) g h e =
     let n : 777 ≡ 865 = ap (λ (fs : List (List ℕ)). kind fs) e in absurd (omega (arith, n))
-one_act (act.HomedIs ah) (act.Changed bn) g h e =
+one_act (Act.HomedIs ah) (Act.Changed bn) g h e =
     let n : 777 ≡ 657 = ap (λ (fs : List (List ℕ)). kind fs) e in absurd (omega (arith, n))
-one_act (act.HomedIs ah) (act.Framed bf) g h e =
+one_act (Act.HomedIs ah) (Act.Framed bf) g h e =
     let n : 777 ≡ 656 = ap (λ (fs : List (List ℕ)). kind fs) e in absurd (omega (arith, n))
-one_act (act.HomedIs ah) (act.Contact bx bd bn bf bq) g h e =
+one_act (Act.HomedIs ah) (Act.Contact bx bd bn bf bq) g h e =
     let n : 777 ≡ 787 = ap (λ (fs : List (List ℕ)). kind fs) e in absurd (omega (arith, n))
-one_act act.Homed (act.HomedIs bh) g h e =
+one_act Act.Homed (Act.HomedIs bh) g h e =
     let n : 775 ≡ 777 = ap (λ (fs : List (List ℕ)). kind fs) e in absurd (omega (arith, n))
-one_act act.Homed act.Homed g h e = refl
-one_act act.Homed (act.Moved bx bf) g h e =
+one_act Act.Homed Act.Homed g h e = refl
+one_act Act.Homed (Act.Moved bx bf) g h e =
     let n : 775 ≡ 865 = ap (λ (fs : List (List ℕ)). kind fs) e in absurd (omega (arith, n))
-one_act act.Homed (act.Changed bn) g h e =
+one_act Act.Homed (Act.Changed bn) g h e =
     let n : 775 ≡ 657 = ap (λ (fs : List (List ℕ)). kind fs) e in absurd (omega (arith, n))
-one_act act.Homed (act.Framed bf) g h e =
+one_act Act.Homed (Act.Framed bf) g h e =
     let n : 775 ≡ 656 = ap (λ (fs : List (List ℕ)). kind fs) e in absurd (omega (arith, n))
-one_act act.Homed (act.Contact bx bd bn bf bq) g h e =
+one_act Act.Homed (Act.Contact bx bd bn bf bq) g h e =
     let n : 775 ≡ 787 = ap (λ (fs : List (List ℕ)). kind fs) e in absurd (omega (arith, n))
-one_act (act.Moved ax af) (act.HomedIs bh) g h e =
+one_act (Act.Moved ax af) (Act.HomedIs bh) g h e =
     let n : 865 ≡ 777 = ap (λ (fs : List (List ℕ)). kind fs) e in absurd (omega (arith, n))
-one_act (act.Moved ax af) act.Homed g h e =
+one_act (Act.Moved ax af) Act.Homed g h e =
     let n : 865 ≡ 775 = ap (λ (fs : List (List ℕ)). kind fs) e in absurd (omega (arith, n))
-one_act (act.Moved ax af) (act.Moved bx bf) g h e =
+one_act (Act.Moved ax af) (Act.Moved bx bf) g h e =
     let all : point_fields ax ++ frame_fields af ≡ point_fields bx ++ frame_fields bf = cc in
     let point : point_fields ax ≡ point_fields bx = cc in
     let frame : frame_fields af ≡ frame_fields bf = cc in
     same_moved ax bx af bf (one_place ax bx g.0 h.0 point) (one_frame af bf g.1 h.1 frame)
-one_act (act.Moved ax af) (act.Changed bn) g h e =
+one_act (Act.Moved ax af) (Act.Changed bn) g h e =
     let n : 865 ≡ 657 = ap (λ (fs : List (List ℕ)). kind fs) e in absurd (omega (arith, n))
-one_act (act.Moved ax af) (act.Framed bf) g h e =
+one_act (Act.Moved ax af) (Act.Framed bf) g h e =
     let n : 865 ≡ 656 = ap (λ (fs : List (List ℕ)). kind fs) e in absurd (omega (arith, n))
-one_act (act.Moved ax af) (act.Contact bx bd bn bf bq) g h e =
+one_act (Act.Moved ax af) (Act.Contact bx bd bn bf bq) g h e =
     let n : 865 ≡ 787 = ap (λ (fs : List (List ℕ)). kind fs) e in absurd (omega (arith, n))
-one_act (act.Changed an) (act.HomedIs bh) g h e =
+one_act (Act.Changed an) (Act.HomedIs bh) g h e =
     let n : 657 ≡ 777 = ap (λ (fs : List (List ℕ)). kind fs) e in absurd (omega (arith, n))
-one_act (act.Changed an) act.Homed g h e =
+one_act (Act.Changed an) Act.Homed g h e =
     let n : 657 ≡ 775 = ap (λ (fs : List (List ℕ)). kind fs) e in absurd (omega (arith, n))
-one_act (act.Changed an) (act.Moved bx bf) g h e =
+one_act (Act.Changed an) (Act.Moved bx bf) g h e =
     let n : 657 ≡ 865 = ap (λ (fs : List (List ℕ)). kind fs) e in absurd (omega (arith, n))
-one_act (act.Changed an) (act.Changed bn) g h e =
+one_act (Act.Changed an) (Act.Changed bn) g h e =
     let same : an ≡ bn = cc in
-    ap (λ (x : List ℕ). act.Changed x) same
-one_act (act.Changed an) (act.Framed bf) g h e =
+    ap (λ (x : List ℕ). Act.Changed x) same
+one_act (Act.Changed an) (Act.Framed bf) g h e =
     let n : 657 ≡ 656 = ap (λ (fs : List (List ℕ)). kind fs) e in absurd (omega (arith, n))
-one_act (act.Changed an) (act.Contact bx bd bn bf bq) g h e =
+one_act (Act.Changed an) (Act.Contact bx bd bn bf bq) g h e =
     let n : 657 ≡ 787 = ap (λ (fs : List (List ℕ)). kind fs) e in absurd (omega (arith, n))
-one_act (act.Framed af) (act.HomedIs bh) g h e =
+one_act (Act.Framed af) (Act.HomedIs bh) g h e =
     let n : 656 ≡ 777 = ap (λ (fs : List (List ℕ)). kind fs) e in absurd (omega (arith, n))
-one_act (act.Framed af) act.Homed g h e =
+one_act (Act.Framed af) Act.Homed g h e =
     let n : 656 ≡ 775 = ap (λ (fs : List (List ℕ)). kind fs) e in absurd (omega (arith, n))
-one_act (act.Framed af) (act.Moved bx bf) g h e =
+one_act (Act.Framed af) (Act.Moved bx bf) g h e =
     let n : 656 ≡ 865 = ap (λ (fs : List (List ℕ)). kind fs) e in absurd (omega (arith, n))
-one_act (act.Framed af) (act.Changed bn) g h e =
+one_act (Act.Framed af) (Act.Changed bn) g h e =
     let n : 656 ≡ 657 = ap (λ (fs : List (List ℕ)). kind fs) e in absurd (omega (arith, n))
-one_act (act.Framed af) (act.Framed bf) g h e =
+one_act (Act.Framed af) (Act.Framed bf) g h e =
     let same : frame_fields af ≡ frame_fields bf = cc in
-    ap (λ (x : Frame). act.Framed x) (one_frame af bf g h same)
-one_act (act.Framed af) (act.Contact bx bd bn bf bq) g h e =
+    ap (λ (x : Frame). Act.Framed x) (one_frame af bf g h same)
+one_act (Act.Framed af) (Act.Contact bx bd bn bf bq) g h e =
     let n : 656 ≡ 787 = ap (λ (fs : List (List ℕ)). kind fs) e in absurd (omega (arith, n))
-one_act (act.Contact ax ad an af aq) (act.HomedIs bh) g h e =
+one_act (Act.Contact ax ad an af aq) (Act.HomedIs bh) g h e =
     let n : 787 ≡ 777 = ap (λ (fs : List (List ℕ)). kind fs) e in absurd (omega (arith, n))
-one_act (act.Contact ax ad an af aq) act.Homed g h e =
+one_act (Act.Contact ax ad an af aq) Act.Homed g h e =
     let n : 787 ≡ 775 = ap (λ (fs : List (List ℕ)). kind fs) e in absurd (omega (arith, n))
-one_act (act.Contact ax ad an af aq) (act.Moved bx bf) g h e =
+one_act (Act.Contact ax ad an af aq) (Act.Moved bx bf) g h e =
     let n : 787 ≡ 865 = ap (λ (fs : List (List ℕ)). kind fs) e in absurd (omega (arith, n))
-one_act (act.Contact ax ad an af aq) (act.Changed bn) g h e =
+one_act (Act.Contact ax ad an af aq) (Act.Changed bn) g h e =
     let n : 787 ≡ 657 = ap (λ (fs : List (List ℕ)). kind fs) e in absurd (omega (arith, n))
-one_act (act.Contact ax ad an af aq) (act.Framed bf) g h e =
+one_act (Act.Contact ax ad an af aq) (Act.Framed bf) g h e =
     let n : 787 ≡ 656 = ap (λ (fs : List (List ℕ)). kind fs) e in absurd (omega (arith, n))
-one_act (act.Contact ax ad an af aq) (act.Contact bx bd bn bf bq) g h e =
+one_act (Act.Contact ax ad an af aq) (Act.Contact bx bd bn bf bq) g h e =
     let all : point_fields ax ++ (direction_fields ad ++ (an ∷ (frame_fields af ++ point_fields aq)))
     ≡ point_fields bx ++ (direction_fields bd ++ (bn ∷ (frame_fields bf ++ point_fields bq))) = cc in
     let first : point_fields ax ≡ point_fields bx = cc in

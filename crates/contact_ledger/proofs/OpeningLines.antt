@@ -1,20 +1,11 @@
 -- The opening lines of features.
-use Rattle.std.proofs.Common.{◌≡◌, ℕ, ◌≤◌, List, [], ◌∷◌, ◌++◌, refl, sym, ◌∙◌, arith, codes, Option, Some, None, append-nil, ℤ}
-use Rattle.std.specs.Prelude.{decimal}
-use Rattle.fixed_um.specs.Names.{IsName}
-use Rattle.contact_ledger.specs.Lines.{fields_of, fields_behind}
-use Rattle.contact_ledger.specs.FeatureTexts.{IsOpening, point_line, IsWrittenOrigin, IsKnown, known_fields, origin_fields, opening_line}
-use Rattle.contact_ledger.specs.declared.features.Origin.{Origin}
-use Rattle.contact_ledger.specs.declared.openings.Opening.{Opening}
-use Rattle.contact_ledger.specs.declared.openings.Version.{Version}
-use Rattle.contact_ledger.specs.declared.openings.Version.TheVariants.{First, Second}
+use Rattle.contact_ledger.proofs.Names.{[], ◌++◌, ◌∙◌, ◌∷◌, ◌≡◌, ◌≤◌, append-nil, arith, codes, decimal, fields_behind, fields_of, First, Frame}
+use Rattle.contact_ledger.proofs.Names.{frame_fields, IsFrame, IsKnown, IsLength, IsName, IsOnWire, IsOpening, IsWrittenOrigin, known_fields, List}
+use Rattle.contact_ledger.proofs.Names.{None, Opening, opening_line, Option, Origin, origin_fields, Point, point_fields, point_line, refl, Second}
+use Rattle.contact_ledger.proofs.Names.{Some, sym, Version, written, ℕ, ℤ}
 use Rattle.contact_ledger.proofs.PlainFields.{ArePlain, decimal_plain, name_plain, frame_plain, point_plain}
 use Rattle.contact_ledger.proofs.LineFields.{line_fields, made_of}
 use Rattle.contact_ledger.proofs.Leaves.{number_no_dash}
-use Rattle.fixed_um.specs.declared.frames.Frame.{Frame}
-use Rattle.contact_ledger.specs.Fields.{IsLength, IsFrame, IsOnWire, frame_fields, point_fields}
-use Rattle.fixed_um.specs.Written.{written}
-use Rattle.fixed_um.specs.declared.lengths.Point.{Point}
 
 origin_plain : (o : Option Origin) → IsWrittenOrigin o → ArePlain (origin_fields o)
 origin_plain None h = (record { plain = refl }, tt)

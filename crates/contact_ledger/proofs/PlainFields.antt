@@ -1,22 +1,12 @@
 -- What is written as a field has no space and no line end.
-use Rattle.std.proofs.Common.{◌≡◌, ℕ, ◌/◌, ◌^◌, ◌<◌, ◌≤◌, Bool, true, List, [], ◌∷◌, ◌++◌, refl}
-use Rattle.std.proofs.Common.{◌∙◌, arith, codes, ℤ, pos, negsuc, Option, Some, None}
-use Rattle.std.specs.Prelude.{nat_le, unsigned_abs, decimal}
-use Rattle.std.specs.List.{list_all, AllByRecursion}
+use Rattle.contact_ledger.proofs.Names.{[], ◌++◌, ◌/◌, ◌<◌, ◌^◌, ◌∙◌, ◌∷◌, ◌≡◌, ◌≤◌, AllByRecursion, AllDigits, and_from, and_parts, arith, Bool}
+use Rattle.contact_ledger.proofs.Names.{codes, component_limit, decimal, decimal_is_IsNumeral, Direction, direction_fields, Frame, frame_fields}
+use Rattle.contact_ledger.proofs.Names.{is_name_byte, IsFrame, IsLength, IsName, IsOnWire, IsTouch, last_digit, le-leb, List, list_all}
+use Rattle.contact_ledger.proofs.Names.{list_all-append, Machine, minus_sign, nat_le, negsuc, None, Option, Part, Point, point_fields, pos, refl}
+use Rattle.contact_ledger.proofs.Names.{six_digits, Some, three_digits, true, unsigned_abs, ℕ, ℤ}
 use Rattle.std.specs.Char.{digit_value}
-use Rattle.std.specs.Str.Parse.{AllDigits}
-use Rattle.std.proofs.lemmas.Fmt.{decimal_is_IsNumeral}
-use Rattle.std.proofs.lemmas.Bool.{and_parts, and_from, le-leb}
-use Rattle.std.proofs.lemmas.List.Folds.{list_all-append}
-use Rattle.fixed_um.specs.Limits.{component_limit}
-use Rattle.fixed_um.specs.Names.{is_name_byte, IsName}
-use Rattle.fixed_um.specs.Shapes.{Direction}
-use Rattle.fixed_um.specs.Written.{minus_sign, last_digit, three_digits, six_digits, written, written_component}
-use Rattle.fixed_um.specs.declared.lengths.Point.{Point}
-use Rattle.fixed_um.specs.declared.frames.Frame.{Frame}
-use Rattle.fixed_um.specs.declared.frames.Frame.TheVariants.{Machine, Part}
+use Rattle.fixed_um.specs.Written.{written, written_component}
 use Rattle.fixed_um.proofs.DigitLemmas.{value-digit}
-use Rattle.contact_ledger.specs.Fields.{IsLength, IsOnWire, IsFrame, IsTouch, point_fields, frame_fields, direction_fields}
 
 -- a byte that is no space and no line end: from 33 on
 abbrev pub is_plain : ℕ → Bool

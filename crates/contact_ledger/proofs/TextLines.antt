@@ -1,19 +1,11 @@
 -- The whole lines of a text are the lines of which it was made.
-use Rattle.std.proofs.Common.{◌≡◌, ℕ, zero, suc, ◌+◌, ◌<◌, Bool, true, false, eqb, List, [], ◌∷◌, ◌++◌, length, take}
-use Rattle.std.proofs.Common.{refl, ap, sym, subst, ◌∙◌, arith, nat_le, append_assoc, append-nil, length-append, codes, map, inl, inr}
-use Rattle.std.specs.List.{list_all, slice_split, AllByRecursion}
-use Rattle.std.proofs.lemmas.Bool.{and_parts, and_from, leb-true, le-leb, ne_eqb}
-use Rattle.std.proofs.lemmas.List.Splits.{length-slice_split}
-use Rattle.fixed_um.specs.declared.lengths.Point.{Point}
-use Rattle.contact_ledger.specs.Lines.{text_of, but_last, whole_lines, line_of}
-use Rattle.contact_ledger.specs.Fields.{IsOnWire}
-use Rattle.contact_ledger.specs.FeatureTexts.{IsFeature, AreFeatures, IsFeatures, header, opening_of, point_line, none, some}
-use Rattle.contact_ledger.specs.FeatureTexts.{feature_lines, lines_of_all, features_text, known_fields}
-use Rattle.std.specs.Prelude.{decimal}
-use Rattle.fixed_um.specs.Written.{written}
-use Rattle.contact_ledger.specs.declared.features.Feature.{Feature}
-use Rattle.contact_ledger.specs.declared.openings.Version.{Version}
-use Rattle.contact_ledger.specs.declared.openings.Version.TheVariants.{First, Second}
+use Rattle.contact_ledger.proofs.Names.{[], ◌++◌, ◌+◌, ◌<◌, ◌∙◌, ◌∷◌, ◌≡◌, AllByRecursion, and_from, and_parts, ap, append-nil, append_assoc}
+use Rattle.contact_ledger.proofs.Names.{AreFeatures, arith, Bool, but_last, codes, decimal, eqb, false, Feature, feature_lines, features_text, First}
+use Rattle.contact_ledger.proofs.Names.{header, inl, inr, IsFeature, IsFeatures, IsOnWire, known_fields, le-leb, leb-true, length, length-append}
+use Rattle.contact_ledger.proofs.Names.{length-slice_split, line_of, lines_of_all, List, list_all, map, nat_le, ne_eqb, opening_of, Point, point_line}
+use Rattle.contact_ledger.proofs.Names.{refl, Second, slice_split, subst, suc, sym, take, text_of, true, Version, written, zero, ℕ}
+use Rattle.contact_ledger.specs.Lines.{whole_lines}
+use Rattle.contact_ledger.specs.FeatureTexts.{none, some}
 use Rattle.contact_ledger.proofs.PlainFields.{is_plain, ArePlain, point_plain}
 use Rattle.contact_ledger.proofs.OpeningLines.{opening_plain}
 use Rattle.contact_ledger.proofs.FeatureShapes.{opening_good}

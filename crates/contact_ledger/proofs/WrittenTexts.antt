@@ -1,12 +1,7 @@
 -- What the writers add, one piece after another.
-use Rattle.std.proofs.Common.{◌≡◌, ℕ, zero, suc, ◌+◌, ◌<◌, List, [], ◌∷◌, ◌++◌, length, map, drop, get_or, refl, ap, sym, ◌∙◌, arith}
-use Rattle.std.proofs.Common.{codes, Result, Ok, Err, OnOk, append_assoc, append-nil}
-use Rattle.std.specs.Prelude.{decimal, if◌then◌else◌}
-use Rattle.std.specs.Result.{is_ok}
-use Rattle.contact_ledger.specs.Lines.{text_of, line_of, spaced}
-use Rattle.contact_ledger.specs.FeatureTexts.{point_line, origin_fields, feature_lines, lines_of_all}
-use Rattle.contact_ledger.specs.declared.features.Feature.{Feature}
-use Rattle.contact_ledger.specs.declared.openings.Version.TheVariants.{Second}
+use Rattle.contact_ledger.proofs.Names.{[], ◌++◌, ◌+◌, ◌<◌, ◌∙◌, ◌∷◌, ◌≡◌, ap, append-nil, append_assoc, arith, codes, decimal, drop, Err, Feature}
+use Rattle.contact_ledger.proofs.Names.{feature_lines, get_or, if◌then◌else◌, is_ok, length, line_of, lines_of_all, List, map, Ok, OnOk}
+use Rattle.contact_ledger.proofs.Names.{origin_fields, point_line, refl, Result, Second, spaced, suc, sym, text_of, zero, ℕ}
 
 pub then_ok : {A E P Q : Type 0} (r : Result A E) → (P → Q) → OnOk r P → OnOk r Q
 then_ok (Ok x) f p = f p

@@ -1,3 +1,4 @@
+pub mod Names
 pub mod Roots
 pub mod Tables
 pub mod Digits

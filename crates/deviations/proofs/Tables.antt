@@ -1,7 +1,5 @@
 -- A table of rows, one for each place.
-use Rattle.std.proofs.Common.{List, [], ◌∷◌, ◌++◌}
-use Rattle.std.specs.List.{AllZip}
-use Rattle.deviations.specs.Rows.{Place, Row, IsRow}
+use Rattle.deviations.proofs.Names.{[], ◌++◌, ◌∷◌, AllZip, IsRow, List, Place, Row}
 
 -- one more place, and its row
 pub zip_push : (places : List Place) (rows : List Row) (p : Place) (r : Row) → AllZip IsRow places rows → IsRow p r

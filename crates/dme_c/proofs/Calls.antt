@@ -1,9 +1,6 @@
 -- What a call does follows from the three equations that handles and numbers give.
-use Rattle.std.specs.Prelude.{◌≡◌, Option, Some, Result}
-use Rattle.std.proofs.Common.{sym, subst}
+use Rattle.dme_c.proofs.Names.{◌≡◌, CalledBoth, ClientEnd, Option, RecordValue, Result, Some, subst, sym}
 use Rattle.dme_c.specs.Calls.{Called}
-use Rattle.dme_c.specs.Recordings.{CalledBoth, RecordValue}
-use Rattle.protocol_model.specs.Ends.{ClientEnd}
 use Rattle.client_core.specs.declared.faults.ClientFault.{ClientFault}
 
 pub called : {E A : Type 0} (Did : E → E → A → Type 0) {o n : Option E} {d : Option A} {old new : E} {answer : A}

@@ -1,4 +1,5 @@
 -- What is proved of handles and calls.
+pub mod Names
 mod Beginning
 mod Calls
 mod Making

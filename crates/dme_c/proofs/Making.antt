@@ -1,16 +1,11 @@
 -- Exactly one of the possible outcomes is due for texts, so the answer of a call that makes a core determines for each whether it is due.
-use Rattle.std.specs.Prelude.{◌≡◌, ℕ, Bool, false, true, not, ◌&&◌, List, Result, Ok, Err, IsErr}
-use Rattle.std.proofs.Common.{refl, inl, inr, subst, arith}
-use Rattle.contact_ledger.specs.FeatureTexts.{IsFeatures, IsDamagedFeatures}
-use Rattle.contact_ledger.specs.declared.features.Feature.{Feature}
-use Rattle.dmis_program.specs.Meaning.{Meaning, program_of}
-use Rattle.tool_rack.specs.Setups.{SetupValue, setup_of}
-use Rattle.client_core.specs.Clients.{is_window}
-use Rattle.protocol_model.specs.Ends.{ClientEnd}
+use Rattle.dme_c.proofs.Names.{◌&&◌, ◌≡◌, AnswersJust, arith, Bool, ClientEnd, Err, false, Feature, inl, inr, is_window, IsBadFeatures, IsBadProgram}
+use Rattle.dme_c.proofs.Names.{IsBadSetup, IsBadWindow, IsClientOf, IsErr, IsNotOurs, IsWhy, List, Meaning, Means, not, Ok, program_of, refl, Result}
+use Rattle.dme_c.proofs.Names.{Say, subst, true, ℕ}
+use Rattle.contact_ledger.specs.FeatureTexts.{IsDamagedFeatures, IsFeatures}
+use Rattle.tool_rack.specs.Setups.{setup_of, SetupValue}
 use Rattle.dme_c.specs.Codes.{not_made_number}
-use Rattle.dme_c.specs.Making.{AnswersJust, IsBadSetup, IsBadProgram, Means, IsBadFeatures, Say, IsBadWindow, IsNotOurs, IsClientOf, IsWhy}
 use Rattle.dme_c.specs.declared.codes.NotMade.{NotMade}
-use Rattle.dme_c.specs.declared.codes.NotMade.TheVariants as not_made
 
 -- what is read is not refused
 read_and_refused : {A E : Type 0} (r : Result A E) {x : A} → r ≡ Ok x → IsErr r → ⊥
@@ -92,39 +87,39 @@ module _ (one : One) (never_both : NeverBoth) (setup program features : List ℕ
 
   pub refused_features : (why : NotMade) → Why why → (number : ℕ) → number ≡ not_made_number why
       → AnswersJust number 6 (IsBadFeatures setup program features)
-  refused_features not_made.Memory w number is = unknown is (λ due. omega arith)
-  refused_features not_made.BadSetup w number is = elsewhere (λ due. omega arith) (λ bad. no_bad_setup bad.program_is w)
-  refused_features not_made.BadProgram w number is = elsewhere (λ due. omega arith) (λ bad. no_bad_program bad.program_is w)
-  refused_features not_made.BadFeatures w number is = here is w
-  refused_features not_made.BadWindow w number is = elsewhere (λ due. omega arith) (no_bad_features w.texts)
-  refused_features not_made.NotOurs w number is = elsewhere (λ due. omega arith) (no_bad_features w.texts)
+  refused_features NotMade.Memory w number is = unknown is (λ due. omega arith)
+  refused_features NotMade.BadSetup w number is = elsewhere (λ due. omega arith) (λ bad. no_bad_setup bad.program_is w)
+  refused_features NotMade.BadProgram w number is = elsewhere (λ due. omega arith) (λ bad. no_bad_program bad.program_is w)
+  refused_features NotMade.BadFeatures w number is = here is w
+  refused_features NotMade.BadWindow w number is = elsewhere (λ due. omega arith) (no_bad_features w.texts)
+  refused_features NotMade.NotOurs w number is = elsewhere (λ due. omega arith) (no_bad_features w.texts)
 
   pub refused_window : (why : NotMade) → Why why → (number : ℕ) → number ≡ not_made_number why
       → AnswersJust number 7 (IsBadWindow setup program features window)
-  refused_window not_made.Memory w number is = unknown is (λ due. omega arith)
-  refused_window not_made.BadSetup w number is = elsewhere (λ due. omega arith) (λ bad. no_bad_setup bad.texts.program_is w)
-  refused_window not_made.BadProgram w number is = elsewhere (λ due. omega arith) (λ bad. no_bad_program bad.texts.program_is w)
-  refused_window not_made.BadFeatures w number is = elsewhere (λ due. omega arith) (λ bad. no_bad_features bad.texts w)
-  refused_window not_made.BadWindow w number is = here is w
-  refused_window not_made.NotOurs w number is = elsewhere (λ due. omega arith) (no_bad_window w.window_is)
+  refused_window NotMade.Memory w number is = unknown is (λ due. omega arith)
+  refused_window NotMade.BadSetup w number is = elsewhere (λ due. omega arith) (λ bad. no_bad_setup bad.texts.program_is w)
+  refused_window NotMade.BadProgram w number is = elsewhere (λ due. omega arith) (λ bad. no_bad_program bad.texts.program_is w)
+  refused_window NotMade.BadFeatures w number is = elsewhere (λ due. omega arith) (λ bad. no_bad_features bad.texts w)
+  refused_window NotMade.BadWindow w number is = here is w
+  refused_window NotMade.NotOurs w number is = elsewhere (λ due. omega arith) (no_bad_window w.window_is)
 
   pub refused_others : (why : NotMade) → Why why → (number : ℕ) → number ≡ not_made_number why
       → AnswersJust number 8 (IsNotOurs setup program features window)
-  refused_others not_made.Memory w number is = unknown is (λ due. omega arith)
-  refused_others not_made.BadSetup w number is = elsewhere (λ due. omega arith) (λ bad. no_bad_setup bad.texts.program_is w)
-  refused_others not_made.BadProgram w number is = elsewhere (λ due. omega arith) (λ bad. no_bad_program bad.texts.program_is w)
-  refused_others not_made.BadFeatures w number is = elsewhere (λ due. omega arith) (λ bad. no_bad_features bad.texts w)
-  refused_others not_made.BadWindow w number is = elsewhere (λ due. omega arith) (λ bad. no_bad_window bad.window_is w)
-  refused_others not_made.NotOurs w number is = here is w
+  refused_others NotMade.Memory w number is = unknown is (λ due. omega arith)
+  refused_others NotMade.BadSetup w number is = elsewhere (λ due. omega arith) (λ bad. no_bad_setup bad.texts.program_is w)
+  refused_others NotMade.BadProgram w number is = elsewhere (λ due. omega arith) (λ bad. no_bad_program bad.texts.program_is w)
+  refused_others NotMade.BadFeatures w number is = elsewhere (λ due. omega arith) (λ bad. no_bad_features bad.texts w)
+  refused_others NotMade.BadWindow w number is = elsewhere (λ due. omega arith) (λ bad. no_bad_window bad.window_is w)
+  refused_others NotMade.NotOurs w number is = here is w
 
   -- if a client is due, nothing is refused except if out of memory
   pub no_client : (why : NotMade) → Why why → (client : ClientEnd) → Client client → not_made_number why ≡ 3
-  no_client not_made.Memory w client due = refl
-  no_client not_made.BadSetup w client due = absurd (no_bad_setup due.texts.program_is w)
-  no_client not_made.BadProgram w client due = absurd (no_bad_program due.texts.program_is w)
-  no_client not_made.BadFeatures w client due = absurd (no_bad_features due.texts w)
-  no_client not_made.BadWindow w client due = absurd (no_bad_window due.window_is w)
-  no_client not_made.NotOurs w client due = absurd (are_others due w)
+  no_client NotMade.Memory w client due = refl
+  no_client NotMade.BadSetup w client due = absurd (no_bad_setup due.texts.program_is w)
+  no_client NotMade.BadProgram w client due = absurd (no_bad_program due.texts.program_is w)
+  no_client NotMade.BadFeatures w client due = absurd (no_bad_features due.texts w)
+  no_client NotMade.BadWindow w client due = absurd (no_bad_window due.window_is w)
+  no_client NotMade.NotOurs w client due = absurd (are_others due w)
 
   pub made_features : {client : ClientEnd} → Client client → AnswersJust 0 6 (IsBadFeatures setup program features)
   made_features made = elsewhere (λ is. omega arith) (no_bad_features made.texts)

@@ -1,7 +1,5 @@
 -- The value of an option.
-use Rattle.std.specs.Prelude.{◌≡◌, Option, None, Some, IsSome}
-use Rattle.std.proofs.Common.{refl}
-use Rattle.std.proofs.lemmas.Bool.{false≢true}
+use Rattle.dme_c.proofs.Names.{◌≡◌, false≢true, IsSome, None, Option, refl, Some}
 
 pub there : {X : Type 0} → (o : Option X) → IsSome o → X
 there (Some x) _ = x

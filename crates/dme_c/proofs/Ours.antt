@@ -1,15 +1,12 @@
 -- Features that are sound for a ledger have the labels and counts of points of the program's first features.
-use Rattle.std.specs.Prelude.{◌≡◌, ℕ, suc, ◌==◌, Bool, true, ◌&&◌, List, [], ◌∷◌, length, bytes_eq}
-use Rattle.std.proofs.Common.{refl, ap, ◌∙◌}
-use Rattle.std.proofs.lemmas.Bool.{eq-eqb}
+use Rattle.dme_c.proofs.Names.{[], ◌&&◌, ◌==◌, ◌∙◌, ◌∷◌, ◌≡◌, ap, are_ours, Bool, bytes_eq, eq-eqb, Feature, is_ours, length, List, refl, suc, true}
+use Rattle.dme_c.proofs.Names.{ℕ}
 use Rattle.std.proofs.lemmas.Slice.Eq.{bytes_eq-Decides}
 use Rattle.fixed_um.specs.declared.lengths.Point.{Point}
 use Rattle.contact_ledger.specs.declared.acts.Act.{Act}
-use Rattle.contact_ledger.specs.declared.features.Feature.{Feature}
 use Rattle.dmis_program.specs.declared.features.Touch.{Touch}
 use Rattle.dmis_program.specs.declared.features.Wanted.{Wanted}
-use Rattle.protocol_model.specs.Claims.{MadeContact, Serves, AreRuns, Sound}
-use Rattle.client_core.specs.Clients.{is_ours, are_ours}
+use Rattle.protocol_model.specs.Claims.{AreRuns, MadeContact, Serves, Sound}
 
 -- as many points are reported as touches are served
 as_many : (n : ℕ) (ts : List Touch) (ps : List Point) (ms : List MadeContact) → Serves n ts ps ms → length ps ≡ length ts

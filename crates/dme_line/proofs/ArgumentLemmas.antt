@@ -1,8 +1,6 @@
 -- Lists of arguments and their tokens.
-use Rattle.std.proofs.Common.{◌≡◌, ℕ, ◌+◌, ◌⊎◌, inl, inr, List, [], ◌∷◌, ◌++◌, length, get_or, refl, ap, sym, ◌∙◌, arith, append_assoc}
-use Rattle.dme_line.specs.Tokens.{Token, Open, Close, Comma, tokens}
-use Rattle.dme_line.specs.Arguments.{Argument, Single, Triple, argument_tokens, list_tokens, enclosed}
-use Rattle.dme_line.specs.Taken.{IsPlaceLong}
+use Rattle.dme_line.proofs.Names.{[], ◌++◌, ◌+◌, ◌∙◌, ◌∷◌, ◌≡◌, ◌⊎◌, ap, append_assoc, Argument, argument_tokens, arith, Close, Comma, enclosed}
+use Rattle.dme_line.proofs.Names.{get_or, inl, inr, IsPlaceLong, length, List, list_tokens, Open, refl, Single, sym, Token, tokens, Triple, ℕ}
 
 -- a closing parenthesis alone
 pub closed_by_one : (bytes : List ℕ) → length bytes ≡ 1 → get_or bytes 0 0 ≡ 41 → tokens bytes ≡ Close ∷ []

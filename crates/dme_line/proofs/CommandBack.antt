@@ -1,33 +1,14 @@
 -- The written form of a command can be in a line, and reads back.
-use Rattle.std.proofs.Common.{◌≡◌, ℕ, ◌≤◌, inr, true, false, List, [], ◌∷◌, ◌++◌, map, Option, Some, None, Ok, refl, ap, sym, subst, ◌∙◌}
-use Rattle.std.proofs.Common.{arith, codes, append_assoc, append-nil, ℤ}
-use Rattle.std.specs.Prelude.{unsigned_abs}
-use Rattle.std.specs.Char.{to_ascii_lowercase}
-use Rattle.std.specs.List.{list_all}
-use Rattle.std.proofs.lemmas.Slice.Eq.{bytes_eq-Decides}
-use Rattle.fixed_um.specs.Limits.{wire_limit, volume_limit}
-use Rattle.fixed_um.specs.Names.{IsName}
-use Rattle.fixed_um.specs.Numerals.{Numeral, none, absent, nothing, Reads, IsZero}
-use Rattle.fixed_um.specs.Points.{IsInVolume}
-use Rattle.fixed_um.specs.Shapes.{Direction, IsDirection}
-use Rattle.fixed_um.specs.Written.{written, written_component}
-use Rattle.fixed_um.specs.declared.lengths.Point.{Point}
-use Rattle.fixed_um.proofs.WrittenLemmas.{written_reads_back, direction_reads_back}
-use Rattle.dme_line.specs.Words.{is_word, quoted}
-use Rattle.dme_line.specs.Tokens.{Token, Open, Close, Comma, Word, begins_word, tokens}
-use Rattle.dme_line.specs.Kinds.{kind_of, kind_name}
-use Rattle.dme_line.specs.Points.{written_point, IsOnWire}
-use Rattle.dme_line.specs.Arguments.{Single, Triple, IsPlace, Says}
-use Rattle.dme_line.specs.Written.{written_ijk, written_transformation, written_arguments, written_command, IsIjk, HasArguments, IsWritable}
-use Rattle.dme_line.specs.CommandText.{ReadsCommand, is_name_part}
-use Rattle.dme_line.specs.declared.tags.Tag.{Tag}
-use Rattle.dme_line.specs.declared.commands.Csy.{Csy}
-use Rattle.dme_line.specs.declared.commands.Csy.TheVariants.{MachineCsy, PartCsy}
-use Rattle.dme_line.specs.declared.commands.Kind.{Kind}
-use Rattle.dme_line.specs.declared.commands.Kind.TheVariants as kind
-use Rattle.dme_line.specs.declared.commands.Command.{Command}
-use Rattle.dme_line.specs.declared.commands.Command.TheVariants.{StartSession, EndSession, ClearAllErrors, IsHomed, Home, OnPtMeasReport}
-use Rattle.dme_line.specs.declared.commands.Command.TheVariants.{GoTo, PtMeas, ChangeTool, SetCsyTransformation, SetCoordSystem, AbortE}
+use Rattle.dme_line.proofs.Names.{[], ◌++◌, ◌∙◌, ◌∷◌, ◌≡◌, ◌≤◌, absent, ap, append-nil, append_assoc, arith, begins_word, bytes_eq-Decides, Close}
+use Rattle.dme_line.proofs.Names.{codes, Comma, Command, Csy, Direction, direction_reads_back, false, HasArguments, inr, is_name_part, is_word}
+use Rattle.dme_line.proofs.Names.{IsDirection, IsIjk, IsInVolume, IsName, IsOnWire, IsPlace, IsWritable, IsZero, Kind, kind_name, kind_of, List}
+use Rattle.dme_line.proofs.Names.{list_all, MachineCsy, map, None, none, nothing, Numeral, Ok, Open, Option, PartCsy, Point, quoted, Reads}
+use Rattle.dme_line.proofs.Names.{ReadsCommand, refl, Says, Single, Some, subst, sym, Tag, to_ascii_lowercase, Token, tokens, Triple, true}
+use Rattle.dme_line.proofs.Names.{unsigned_abs, volume_limit, wire_limit, Word, written, written_arguments, written_component, written_ijk}
+use Rattle.dme_line.proofs.Names.{written_point, written_reads_back, written_transformation, ℕ, ℤ}
+use Rattle.dme_line.specs.Written.{written_command}
+use Rattle.dme_line.specs.declared.commands.Command.TheVariants.{ClearAllErrors, EndSession, Home, IsHomed, OnPtMeasReport, StartSession}
+use Rattle.dme_line.specs.declared.commands.Command.TheVariants.{AbortE, ChangeTool, GoTo, PtMeas, SetCoordSystem, SetCsyTransformation}
 use Rattle.dme_line.proofs.TokenLemmas.{tokens-word}
 use Rattle.dme_line.proofs.WireTexts.{IsPlainWord, word_bytes, written-word, component-word, name-word}
 
@@ -193,7 +174,7 @@ place_back p (Some d) h g = touch_back p d h g
 tool-tokens : (n : List ℕ) → IsName n → written_tokens (ChangeTool n) ≡ Open ∷ Word (quoted n) ∷ Close ∷ []
 tool-tokens n h = ap (λ (ts : List Token). Open ∷ ts) (tokens-word (quoted n) (codes ")") (name-word n h).words (omega arith) refl)
 
-transformation_says : (p : Point) → IsInVolume p → Says kind.SetCsyTransformation (written_tokens (SetCsyTransformation p))
+transformation_says : (p : Point) → IsInVolume p → Says Kind.SetCsyTransformation (written_tokens (SetCsyTransformation p))
     (SetCsyTransformation p)
 transformation_says p h =
     let spelled = ap (λ (t : List ℕ). tokens (40 ∷ t)) (transformation-append p)
@@ -217,7 +198,7 @@ transformation_says p h =
       refl,
     )
 
-system_says : (s : Csy) → Says kind.SetCoordSystem (written_tokens (SetCoordSystem s)) (SetCoordSystem s)
+system_says : (s : Csy) → Says Kind.SetCoordSystem (written_tokens (SetCoordSystem s)) (SetCoordSystem s)
 system_says MachineCsy = (MachineCsy, record { word = codes "MachineCsy"; spelled = refl; named = refl }, refl)
 system_says PartCsy = (PartCsy, record { word = codes "PartCsy"; spelled = refl; named = refl }, refl)
 
@@ -257,18 +238,18 @@ arguments_say AbortE h = (refl, refl)
 -- ---- the whole line
 
 name_whole : (k : Kind) → list_all is_name_part (kind_name k) ≡ true
-name_whole kind.StartSession = refl
-name_whole kind.EndSession = refl
-name_whole kind.ClearAllErrors = refl
-name_whole kind.IsHomed = refl
-name_whole kind.Home = refl
-name_whole kind.OnPtMeasReport = refl
-name_whole kind.GoTo = refl
-name_whole kind.PtMeas = refl
-name_whole kind.ChangeTool = refl
-name_whole kind.SetCsyTransformation = refl
-name_whole kind.SetCoordSystem = refl
-name_whole kind.AbortE = refl
+name_whole Kind.StartSession = refl
+name_whole Kind.EndSession = refl
+name_whole Kind.ClearAllErrors = refl
+name_whole Kind.IsHomed = refl
+name_whole Kind.Home = refl
+name_whole Kind.OnPtMeasReport = refl
+name_whole Kind.GoTo = refl
+name_whole Kind.PtMeas = refl
+name_whole Kind.ChangeTool = refl
+name_whole Kind.SetCsyTransformation = refl
+name_whole Kind.SetCoordSystem = refl
+name_whole Kind.AbortE = refl
 
 at_parenthesis : (rest : List ℕ) (c : ℕ) (more : List ℕ) → 40 ∷ rest ≡ c ∷ more → is_name_part c ≡ false
 at_parenthesis rest c more e = let p : 40 ≡ c = cc in ap is_name_part (sym p)

@@ -1,19 +1,10 @@
 -- A line stands for one command.
-use Rattle.std.proofs.Common.{◌≡◌, ℕ, ◌+◌, ◌*◌, Bool, true, false, not, List, [], ◌∷◌, length, map, refl, ap, sym, subst, ◌∙◌}
-use Rattle.std.specs.Prelude.{◌==◌, if◌then◌else◌}
-use Rattle.std.specs.Char.{to_ascii_lowercase}
-use Rattle.std.proofs.lemmas.Slice.Eq.{bytes_eq-Decides}
+use Rattle.dme_line.proofs.Names.{[], ◌*◌, ◌+◌, ◌==◌, ◌∙◌, ◌∷◌, ◌≡◌, ap, Begins, Bool, bytes_eq-Decides, Command, false, if◌then◌else◌, is_name_part}
+use Rattle.dme_line.proofs.Names.{is_word, IsCommandText, IsTagOf, Kind, kind_name, length, List, map, not, refl, Says, subst, sym, Tag}
+use Rattle.dme_line.proofs.Names.{to_ascii_lowercase, tokens, true, ℕ}
 use mathlib.Core.Bool.{beq}
-use Rattle.dme_line.specs.Words.{is_word}
-use Rattle.dme_line.specs.Tokens.{tokens}
-use Rattle.dme_line.specs.Kinds.{kind_name, IsTagOf}
-use Rattle.dme_line.specs.CommandText.{Begins, IsCommandText, is_name_part}
-use Rattle.dme_line.specs.Arguments.{Says}
-use Rattle.dme_line.specs.declared.tags.Tag.{Tag}
-use Rattle.dme_line.specs.declared.commands.Kind.{Kind}
-use Rattle.dme_line.specs.declared.commands.Kind.TheVariants.{StartSession, EndSession, ClearAllErrors, IsHomed, Home, OnPtMeasReport, GoTo}
-use Rattle.dme_line.specs.declared.commands.Kind.TheVariants.{PtMeas, ChangeTool, SetCsyTransformation, SetCoordSystem, AbortE}
-use Rattle.dme_line.specs.declared.commands.Command.{Command}
+use Rattle.dme_line.specs.declared.commands.Kind.TheVariants.{ClearAllErrors, EndSession, GoTo, Home, IsHomed, OnPtMeasReport, StartSession}
+use Rattle.dme_line.specs.declared.commands.Kind.TheVariants.{AbortE, ChangeTool, PtMeas, SetCoordSystem, SetCsyTransformation}
 use Rattle.dme_line.proofs.TagLemmas.{one_tag, tag_numbered}
 use Rattle.dme_line.proofs.NameCutLemmas.{one_cut}
 

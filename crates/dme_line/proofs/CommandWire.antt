@@ -1,21 +1,11 @@
 -- The written form of a command can be in a line.
-use Rattle.std.proofs.Common.{ℕ, ◌≤◌, List, ◌∷◌, ◌++◌, Option, Some, None, refl, arith, codes}
-use Rattle.fixed_um.specs.Shapes.{Direction, IsDirection}
-use Rattle.fixed_um.specs.Written.{written, written_component, written_direction}
-use Rattle.fixed_um.specs.declared.lengths.Point.{Point}
-use Rattle.dme_line.specs.Words.{IsWireText, quoted}
-use Rattle.dme_line.specs.Tags.{written_tag}
-use Rattle.dme_line.specs.Kinds.{kind_of, kind_name, csy_name}
-use Rattle.dme_line.specs.Points.{written_point, IsOnWire}
-use Rattle.dme_line.specs.Written.{written_ijk, written_transformation, written_arguments, written_command, IsIjk, HasArguments, IsWritable}
-use Rattle.dme_line.specs.declared.tags.Tag.{Tag}
-use Rattle.dme_line.specs.declared.commands.Csy.{Csy}
-use Rattle.dme_line.specs.declared.commands.Csy.TheVariants.{MachineCsy, PartCsy}
-use Rattle.dme_line.specs.declared.commands.Kind.{Kind}
-use Rattle.dme_line.specs.declared.commands.Kind.TheVariants as kind
-use Rattle.dme_line.specs.declared.commands.Command.{Command}
-use Rattle.dme_line.specs.declared.commands.Command.TheVariants.{StartSession, EndSession, ClearAllErrors, IsHomed, Home, OnPtMeasReport}
-use Rattle.dme_line.specs.declared.commands.Command.TheVariants.{GoTo, PtMeas, ChangeTool, SetCsyTransformation, SetCoordSystem, AbortE}
+use Rattle.dme_line.proofs.Names.{◌++◌, ◌∷◌, ◌≤◌, arith, codes, Command, Csy, csy_name, Direction, HasArguments, IsDirection, IsIjk, IsOnWire}
+use Rattle.dme_line.proofs.Names.{IsWireText, IsWritable, Kind, kind_name, kind_of, List, MachineCsy, None, Option, PartCsy, Point, quoted, refl}
+use Rattle.dme_line.proofs.Names.{Some, Tag, written, written_arguments, written_component, written_direction, written_ijk, written_point}
+use Rattle.dme_line.proofs.Names.{written_tag, written_transformation, ℕ}
+use Rattle.dme_line.specs.Written.{written_command}
+use Rattle.dme_line.specs.declared.commands.Command.TheVariants.{ClearAllErrors, EndSession, Home, IsHomed, OnPtMeasReport, StartSession}
+use Rattle.dme_line.specs.declared.commands.Command.TheVariants.{AbortE, ChangeTool, GoTo, PtMeas, SetCoordSystem, SetCsyTransformation}
 use Rattle.dme_line.proofs.WireTexts.{wire_append, word_wire, written-word, component-word, tag-wire, point-wire, name-word}
 use Rattle.dme_line.proofs.CommandBack.{volume_on_wire}
 
@@ -23,18 +13,18 @@ pub wire_weaker : (m n : ℕ) (text : List ℕ) → m ≤ n → IsWireText m tex
 wire_weaker m n text le h = record { free = h.free; short = omega (arith, le, h.short) }
 
 pub name-wire : (k : Kind) → IsWireText 20 (kind_name k)
-name-wire kind.StartSession = record { free = refl; short = omega arith }
-name-wire kind.EndSession = record { free = refl; short = omega arith }
-name-wire kind.ClearAllErrors = record { free = refl; short = omega arith }
-name-wire kind.IsHomed = record { free = refl; short = omega arith }
-name-wire kind.Home = record { free = refl; short = omega arith }
-name-wire kind.OnPtMeasReport = record { free = refl; short = omega arith }
-name-wire kind.GoTo = record { free = refl; short = omega arith }
-name-wire kind.PtMeas = record { free = refl; short = omega arith }
-name-wire kind.ChangeTool = record { free = refl; short = omega arith }
-name-wire kind.SetCsyTransformation = record { free = refl; short = omega arith }
-name-wire kind.SetCoordSystem = record { free = refl; short = omega arith }
-name-wire kind.AbortE = record { free = refl; short = omega arith }
+name-wire Kind.StartSession = record { free = refl; short = omega arith }
+name-wire Kind.EndSession = record { free = refl; short = omega arith }
+name-wire Kind.ClearAllErrors = record { free = refl; short = omega arith }
+name-wire Kind.IsHomed = record { free = refl; short = omega arith }
+name-wire Kind.Home = record { free = refl; short = omega arith }
+name-wire Kind.OnPtMeasReport = record { free = refl; short = omega arith }
+name-wire Kind.GoTo = record { free = refl; short = omega arith }
+name-wire Kind.PtMeas = record { free = refl; short = omega arith }
+name-wire Kind.ChangeTool = record { free = refl; short = omega arith }
+name-wire Kind.SetCsyTransformation = record { free = refl; short = omega arith }
+name-wire Kind.SetCoordSystem = record { free = refl; short = omega arith }
+name-wire Kind.AbortE = record { free = refl; short = omega arith }
 
 comma : IsWireText 2 (codes ", ")
 comma = record { free = refl; short = omega arith }

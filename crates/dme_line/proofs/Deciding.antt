@@ -1,30 +1,13 @@
 -- Whether tokens are spelled as arguments are, and what their words say: all of it can be computed.
-use Rattle.std.proofs.Common.{◌≡◌, ℕ, zero, suc, ◌⊎◌, inl, inr, Bool, true, false, List, [], ◌∷◌, ◌++◌, length, take, drop, refl, sym, ◌∙◌}
-use Rattle.std.proofs.Common.{ap, subst, arith, Option, Some, None, MatchOption, Result, Ok, Err, ℤ, pos, negsuc, codes, take-append-drop}
-use Rattle.std.specs.Prelude.{bytes_eq, if◌then◌else◌}
-use Rattle.std.proofs.lemmas.Bool.{false≢true}
-use Rattle.std.proofs.lemmas.Slice.Eq.{bytes_eq-Decides}
-use Rattle.fixed_um.specs.Limits.{wire_limit, volume_limit, component_limit}
-use Rattle.fixed_um.specs.Names.{folded, is_name_text}
-use Rattle.fixed_um.specs.Numerals.{Reads, ReadsDirection, IsZero}
-use Rattle.fixed_um.specs.Shapes.{Direction}
-use Rattle.fixed_um.specs.Computed.{value_of, is_zero_text}
-use Rattle.fixed_um.specs.declared.lengths.Point.{Point}
-use Rattle.fixed_um.specs.declared.numerals.NumeralFault.{NumeralFault}
-use Rattle.fixed_um.proofs.ComputedLemmas.{value_of-reads, is_zero_text-is}
-use Rattle.dme_line.specs.Tokens.{Token, Open, Close, Comma, Word}
-use Rattle.dme_line.specs.Words.{is_word}
-use Rattle.dme_line.specs.Kinds.{csy_name}
-use Rattle.dme_line.specs.Taken.{bare_word}
-use Rattle.dme_line.specs.Arguments.{Argument, Single, Triple, argument_tokens, list_tokens, enclosed, single_named, triple_named, IsAxis}
-use Rattle.dme_line.specs.Arguments.{IsAlong, IsTarget, IsPlace, IsReport, IsOneWord, IsTool, IsSystem, Seven, HasLengths, HasNoAngles}
-use Rattle.dme_line.specs.Arguments.{IsTransformation, Says}
-use Rattle.dme_line.specs.declared.commands.Csy.{Csy}
-use Rattle.dme_line.specs.declared.commands.Csy.TheVariants.{MachineCsy, PartCsy}
-use Rattle.dme_line.specs.declared.commands.Kind.{Kind}
-use Rattle.dme_line.specs.declared.commands.Kind.TheVariants as kind
-use Rattle.dme_line.specs.declared.commands.Command.{Command}
-use Rattle.dme_line.specs.declared.commands.Command.TheVariants as command
+use Rattle.dme_line.proofs.Names.{[], ◌++◌, ◌∙◌, ◌∷◌, ◌≡◌, ◌⊎◌, ap, Argument, argument_tokens, arith, bare_word, Bool, bytes_eq, bytes_eq-Decides}
+use Rattle.dme_line.proofs.Names.{Close, codes, Comma, Command, component_limit, Csy, csy_name, Direction, drop, enclosed, Err, false, false≢true}
+use Rattle.dme_line.proofs.Names.{folded, HasLengths, HasNoAngles, if◌then◌else◌, inl, inr, is_name_text, is_word, IsAlong, IsAxis, IsOneWord}
+use Rattle.dme_line.proofs.Names.{IsPlace, IsReport, IsSystem, IsTarget, IsTool, IsTransformation, IsZero, Kind, length, List, list_tokens}
+use Rattle.dme_line.proofs.Names.{MachineCsy, MatchOption, negsuc, None, NumeralFault, Ok, Open, Option, PartCsy, Point, pos, Reads, ReadsDirection}
+use Rattle.dme_line.proofs.Names.{refl, Result, Says, Seven, Single, single_named, Some, subst, suc, sym, take, take-append-drop, Token, Triple}
+use Rattle.dme_line.proofs.Names.{triple_named, true, volume_limit, wire_limit, Word, zero, ℕ, ℤ}
+use Rattle.fixed_um.specs.Computed.{is_zero_text, value_of}
+use Rattle.fixed_um.proofs.ComputedLemmas.{is_zero_text-is, value_of-reads}
 use Rattle.dme_line.proofs.ArgumentLemmas.{tail_tokens, list_tokens-tail, same_argument}
 use Rattle.dme_line.proofs.PlaceLemmas.{not_refused, axis_refused, axis_missing, along_refused, along_is, place_target, place_ijk}
 use Rattle.dme_line.proofs.ToolLemmas.{tool_read, same_word}
@@ -624,48 +607,48 @@ nothing_is : (ts : List Token) → Decided (ts ≡ enclosed [])
 nothing_is ts = decided_by (λ (e : shapes ts ≡ 0 ∷ 1 ∷ []). filled_of (0 ∷ 1 ∷ []) ts e) (λ (e : ts ≡ enclosed []). ap shapes e)
     (has_shape (0 ∷ 1 ∷ []) ts)
 
-touch_is : (ts : List Token) → Decided (Saying kind.PtMeas ts)
+touch_is : (ts : List Token) → Decided (Saying Kind.PtMeas ts)
 touch_is ts = go (move_is ts) (directed_is ts)
   where
     neither : (Move ts → ⊥) → (Directed ts → ⊥) → (p : Point) (d : Option Direction) → IsPlace ts p d → ⊥
     neither move directed p None h = move (record { point = p; is = h })
     neither move directed p (Some d) h = directed (record { point = p; direction = d; is = h })
 
-    go : Decided (Move ts) → Decided (Directed ts) → Decided (Saying kind.PtMeas ts)
-    go (inl m) a = inl (record { command = command.PtMeas m.point None; says = (m.point, None, m.is, refl) })
+    go : Decided (Move ts) → Decided (Directed ts) → Decided (Saying Kind.PtMeas ts)
+    go (inl m) a = inl (record { command = Command.PtMeas m.point None; says = (m.point, None, m.is, refl) })
     go (inr m) (inl a) = inl (record {
-      command = command.PtMeas a.point (Some a.direction);
+      command = Command.PtMeas a.point (Some a.direction);
       says = (a.point, Some a.direction, a.is, refl);
     })
     go (inr m) (inr a) = inr (λ s. neither m a s.says.0 s.says.1 s.says.2)
 
 -- it is decided whether they do, for each kind
 pub saying : (k : Kind) (ts : List Token) → Decided (Saying k ts)
-saying kind.StartSession ts = decided_by (λ (e : ts ≡ enclosed []). record { command = command.StartSession; says = (e, refl) })
-    (λ (s : Saying kind.StartSession ts). s.says.0) (nothing_is ts)
-saying kind.EndSession ts = decided_by (λ (e : ts ≡ enclosed []). record { command = command.EndSession; says = (e, refl) })
-    (λ (s : Saying kind.EndSession ts). s.says.0) (nothing_is ts)
-saying kind.ClearAllErrors ts = decided_by (λ (e : ts ≡ enclosed []). record { command = command.ClearAllErrors; says = (e, refl) })
-    (λ (s : Saying kind.ClearAllErrors ts). s.says.0) (nothing_is ts)
-saying kind.IsHomed ts = decided_by (λ (e : ts ≡ enclosed []). record { command = command.IsHomed; says = (e, refl) })
-    (λ (s : Saying kind.IsHomed ts). s.says.0) (nothing_is ts)
-saying kind.Home ts = decided_by (λ (e : ts ≡ enclosed []). record { command = command.Home; says = (e, refl) })
-    (λ (s : Saying kind.Home ts). s.says.0) (nothing_is ts)
-saying kind.OnPtMeasReport ts = decided_by (λ (r : IsReport ts). record { command = command.OnPtMeasReport; says = (r, refl) })
-    (λ (s : Saying kind.OnPtMeasReport ts). s.says.0) (report_is ts)
-saying kind.GoTo ts = decided_by (λ (m : Move ts). record { command = command.GoTo m.point; says = (m.point, m.is, refl) })
-    (λ (s : Saying kind.GoTo ts). record { point = s.says.0; is = s.says.1 }) (move_is ts)
-saying kind.PtMeas ts = touch_is ts
-saying kind.ChangeTool ts = decided_by (λ (t : Tool ts). record { command = command.ChangeTool t.name; says = (t.name, t.is, refl) })
-    (λ (s : Saying kind.ChangeTool ts). record { name = s.says.0; is = s.says.1 }) (tool_is ts)
-saying kind.SetCsyTransformation ts = decided_by (λ (t : Transformation ts). record {
-  command = command.SetCsyTransformation t.point;
+saying Kind.StartSession ts = decided_by (λ (e : ts ≡ enclosed []). record { command = Command.StartSession; says = (e, refl) })
+    (λ (s : Saying Kind.StartSession ts). s.says.0) (nothing_is ts)
+saying Kind.EndSession ts = decided_by (λ (e : ts ≡ enclosed []). record { command = Command.EndSession; says = (e, refl) })
+    (λ (s : Saying Kind.EndSession ts). s.says.0) (nothing_is ts)
+saying Kind.ClearAllErrors ts = decided_by (λ (e : ts ≡ enclosed []). record { command = Command.ClearAllErrors; says = (e, refl) })
+    (λ (s : Saying Kind.ClearAllErrors ts). s.says.0) (nothing_is ts)
+saying Kind.IsHomed ts = decided_by (λ (e : ts ≡ enclosed []). record { command = Command.IsHomed; says = (e, refl) })
+    (λ (s : Saying Kind.IsHomed ts). s.says.0) (nothing_is ts)
+saying Kind.Home ts = decided_by (λ (e : ts ≡ enclosed []). record { command = Command.Home; says = (e, refl) })
+    (λ (s : Saying Kind.Home ts). s.says.0) (nothing_is ts)
+saying Kind.OnPtMeasReport ts = decided_by (λ (r : IsReport ts). record { command = Command.OnPtMeasReport; says = (r, refl) })
+    (λ (s : Saying Kind.OnPtMeasReport ts). s.says.0) (report_is ts)
+saying Kind.GoTo ts = decided_by (λ (m : Move ts). record { command = Command.GoTo m.point; says = (m.point, m.is, refl) })
+    (λ (s : Saying Kind.GoTo ts). record { point = s.says.0; is = s.says.1 }) (move_is ts)
+saying Kind.PtMeas ts = touch_is ts
+saying Kind.ChangeTool ts = decided_by (λ (t : Tool ts). record { command = Command.ChangeTool t.name; says = (t.name, t.is, refl) })
+    (λ (s : Saying Kind.ChangeTool ts). record { name = s.says.0; is = s.says.1 }) (tool_is ts)
+saying Kind.SetCsyTransformation ts = decided_by (λ (t : Transformation ts). record {
+  command = Command.SetCsyTransformation t.point;
   says = (t.point, t.is, refl);
-}) (λ (s : Saying kind.SetCsyTransformation ts). record { point = s.says.0; is = s.says.1 })
+}) (λ (s : Saying Kind.SetCsyTransformation ts). record { point = s.says.0; is = s.says.1 })
     (transformation_is ts)
-saying kind.SetCoordSystem ts = decided_by (λ (t : System ts). record {
-  command = command.SetCoordSystem t.csy;
+saying Kind.SetCoordSystem ts = decided_by (λ (t : System ts). record {
+  command = Command.SetCoordSystem t.csy;
   says = (t.csy, t.is, refl);
-}) (λ (s : Saying kind.SetCoordSystem ts). record { csy = s.says.0; is = s.says.1 }) (system_is ts)
-saying kind.AbortE ts = decided_by (λ (e : ts ≡ enclosed []). record { command = command.AbortE; says = (e, refl) })
-    (λ (s : Saying kind.AbortE ts). s.says.0) (nothing_is ts)
+}) (λ (s : Saying Kind.SetCoordSystem ts). record { csy = s.says.0; is = s.says.1 }) (system_is ts)
+saying Kind.AbortE ts = decided_by (λ (e : ts ≡ enclosed []). record { command = Command.AbortE; says = (e, refl) })
+    (λ (s : Saying Kind.AbortE ts). s.says.0) (nothing_is ts)

@@ -1,12 +1,9 @@
 -- Error lines.
-use Rattle.std.proofs.Common.{◌≡◌, ℕ, List, ◌++◌, ◌∙◌, codes, append_assoc, refl}
-use Rattle.dme_line.specs.Words.{quoted}
-use Rattle.dme_line.specs.Tags.{four_digits}
-use Rattle.dme_line.specs.Errors.{number_of, text_of, numbered, error_text}
-use Rattle.dme_line.specs.declared.errors.ErrorNumber.{ErrorNumber}
-use Rattle.dme_line.specs.declared.errors.ErrorNumber.TheVariants.{NoTag, TagInUse, UnknownCommand, BadArguments, NoSession, SessionOpen}
-use Rattle.dme_line.specs.declared.errors.ErrorNumber.TheVariants.{Aborted, ErrorState, QueueFull, NotHomed, NoTool, UnknownTool}
-use Rattle.dme_line.specs.declared.errors.ErrorNumber.TheVariants.{OutOfVolume, NoSurface, MachineFault}
+use Rattle.dme_line.proofs.Names.{◌++◌, ◌∙◌, ◌≡◌, Aborted, append_assoc, codes, ErrorNumber, ErrorState, four_digits, List, MachineFault, NoSession}
+use Rattle.dme_line.proofs.Names.{NoSurface, NotHomed, NoTool, number_of, OutOfVolume, QueueFull, quoted, refl, SessionOpen, TagInUse, text_of}
+use Rattle.dme_line.proofs.Names.{UnknownTool, ℕ}
+use Rattle.dme_line.specs.Errors.{error_text, numbered}
+use Rattle.dme_line.specs.declared.errors.ErrorNumber.TheVariants.{BadArguments, NoTag, UnknownCommand}
 
 -- five texts appended one after another
 five_texts : (a b c d e f : List ℕ) → ((((a ++ b) ++ c) ++ d) ++ e) ++ f ≡ a ++ (b ++ (c ++ (d ++ (e ++ f))))

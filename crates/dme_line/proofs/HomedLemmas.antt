@@ -1,19 +1,8 @@
 -- The answer to IsHomed: read in one way, and what is written reads back.
-use Rattle.std.proofs.Common.{◌≡◌, ℕ, Bool, true, false, List, [], ◌∷◌, inl, inr, Result, Ok, Err, refl, ap, sym, subst, ◌∙◌}
-use Rattle.std.proofs.Common.{arith, codes}
-use Rattle.std.specs.Prelude.{◌==◌, IfOk, OnErr}
-use Rattle.std.proofs.lemmas.Bool.{false≢true}
-use Rattle.dme_line.specs.Words.{is_word, IsWireText}
-use Rattle.dme_line.specs.Tokens.{tokens}
-use Rattle.dme_line.specs.Tags.{IsTag}
-use Rattle.dme_line.specs.Kinds.{kind_name}
-use Rattle.dme_line.specs.Arguments.{IsOneWord}
-use Rattle.dme_line.specs.CommandText.{is_name_part, IsNamed}
-use Rattle.dme_line.specs.Homed.{homed_digit, written_homed, IsHomedCall, IsHomedText, ReadsHomed}
-use Rattle.dme_line.specs.Responses.{homed_response, IsWritableResponse}
-use Rattle.dme_line.specs.declared.tags.Tag.{Tag}
+use Rattle.dme_line.proofs.Names.{[], ◌==◌, ◌∙◌, ◌∷◌, ◌≡◌, ap, arith, Bool, codes, Err, false, false≢true, homed_digit, homed_response, IfOk, inl}
+use Rattle.dme_line.proofs.Names.{inr, is_name_part, is_word, IsHomedCall, IsHomedText, IsNamed, IsOneWord, IsTag, IsWireText, IsWritableResponse}
+use Rattle.dme_line.proofs.Names.{kind_name, List, NotHomedText, Ok, OnErr, ReadsHomed, refl, Result, subst, sym, Tag, tokens, true, written_homed, ℕ}
 use Rattle.dme_line.specs.declared.commands.Kind.TheVariants.{IsHomed}
-use Rattle.dme_line.specs.declared.homed.NotHomedText.{NotHomedText}
 use Rattle.dme_line.proofs.NameCutLemmas.{SameCut, one_cut}
 use Rattle.dme_line.proofs.ToolLemmas.{same_word}
 use Rattle.dme_line.proofs.CommandWire.{wire_weaker}

@@ -1,9 +1,8 @@
 -- The kinds of commands are all in the table.
-use Rattle.std.proofs.Common.{◌≡◌, Bool, true, false, List, [], ◌∷◌, Option, Some, None, MatchOption, cond, refl, sym, ◌∙◌, find, subst}
-use Rattle.std.proofs.lemmas.Bool.{false≢true}
-use Rattle.dme_line.specs.declared.commands.Kind.{Kind}
-use Rattle.dme_line.specs.declared.commands.Kind.TheVariants.{StartSession, EndSession, ClearAllErrors, IsHomed, Home, OnPtMeasReport, GoTo}
-use Rattle.dme_line.specs.declared.commands.Kind.TheVariants.{PtMeas, ChangeTool, SetCsyTransformation, SetCoordSystem, AbortE}
+use Rattle.dme_line.proofs.Names.{[], ◌∙◌, ◌∷◌, ◌≡◌, Bool, cond, false, false≢true, find, Kind, List, MatchOption, None, Option, refl, Some, subst}
+use Rattle.dme_line.proofs.Names.{sym, true}
+use Rattle.dme_line.specs.declared.commands.Kind.TheVariants.{ClearAllErrors, EndSession, GoTo, Home, IsHomed, OnPtMeasReport, StartSession}
+use Rattle.dme_line.specs.declared.commands.Kind.TheVariants.{AbortE, ChangeTool, PtMeas, SetCoordSystem, SetCsyTransformation}
 use Rattle.dme_line.specs.declared.reading.TheConstants.{KINDS}
 
 abbrev NoneOf : (Kind → Bool) → List Kind → Type 0

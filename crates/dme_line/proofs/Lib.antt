@@ -1,3 +1,4 @@
+pub mod Names
 pub mod TokenLemmas
 pub mod ArgumentLemmas
 pub mod PlaceLemmas

@@ -1,8 +1,6 @@
 -- A command's name is cut off in one way.
-use Rattle.std.proofs.Common.{◌≡◌, ℕ, Bool, true, false, List, [], ◌∷◌, ◌++◌, take, drop, refl, sym, subst, ◌∙◌, take-append-drop}
-use Rattle.std.specs.List.{list_all, prefix_len}
-use Rattle.std.proofs.lemmas.Bool.{and_parts, false≢true}
-use Rattle.dme_line.specs.CommandText.{is_name_part, IsNamed}
+use Rattle.dme_line.proofs.Names.{[], ◌++◌, ◌∙◌, ◌∷◌, ◌≡◌, and_parts, Bool, drop, false, false≢true, is_name_part, IsNamed, List, list_all}
+use Rattle.dme_line.proofs.Names.{prefix_len, refl, subst, sym, take, take-append-drop, true, ℕ}
 use Rattle.dme_line.proofs.TokenLemmas.{list_all-front, begins, begins-behind}
 
 starts : (p : ℕ → Bool) (rest : List ℕ) → begins p rest ≡ false → (c : ℕ) (more : List ℕ) → rest ≡ c ∷ more → p c ≡ false

@@ -1,18 +1,7 @@
 -- Commands whose name is in its written form.
-use Rattle.std.proofs.Common.{◌≡◌, ℕ, false, ◌-◌, ◌≤◌, List, [], ◌∷◌, ◌++◌, length, take, drop, get_or, refl, ap, subst, codes, arith, Option, Some, None, IfSome}
-use Rattle.fixed_um.proofs.PlainLemmas.{rest_of}
-use Rattle.fixed_um.specs.Shapes.{Direction}
-use Rattle.fixed_um.specs.declared.lengths.Point.{Point}
-use Rattle.dme_line.specs.Tokens.{Open, tokens}
-use Rattle.dme_line.specs.Tags.{is_event_tag}
-use Rattle.dme_line.specs.Kinds.{is_event_kind}
-use Rattle.dme_line.specs.Arguments.{IsPlace}
-use Rattle.dme_line.specs.CommandText.{is_name_part, IsTagged, IsCommandOf, IsCommandText}
-use Rattle.dme_line.specs.declared.tags.Tag.{Tag}
-use Rattle.dme_line.specs.declared.commands.Kind.{Kind}
-use Rattle.dme_line.specs.declared.commands.Kind.TheVariants as kind
-use Rattle.dme_line.specs.declared.commands.Command.{Command}
-use Rattle.dme_line.specs.declared.commands.Command.TheVariants as command
+use Rattle.dme_line.proofs.Names.{[], ◌++◌, ◌-◌, ◌∷◌, ◌≡◌, ◌≤◌, ap, arith, codes, Command, Direction, drop, false, get_or, IfSome, is_event_kind}
+use Rattle.dme_line.proofs.Names.{is_event_tag, is_name_part, IsCommandOf, IsCommandText, IsPlace, IsTagged, Kind, length, List, None, Open, Option}
+use Rattle.dme_line.proofs.Names.{Point, refl, rest_of, Some, subst, Tag, take, tokens, ℕ}
 
 -- the bytes at the start of a text and the rest of it
 pub five_in_front : (xs : List ℕ) (a b c d e : ℕ) → 5 ≤ length xs
@@ -44,7 +33,7 @@ ends_name : (rest : List ℕ) (c : ℕ) (more : List ℕ) → 40 ∷ rest ≡ c 
 ends_name rest c more e = subst (λ (d : ℕ). is_name_part d ≡ false) (ap (λ (xs : List ℕ). get_or xs 0 0) e) refl
 
 pub named_move : (text rest : List ℕ) (o : Option Point) → text ≡ codes "GoTo" ++ (40 ∷ rest)
-    → IfSome o (λ p. IsPlace (Open ∷ tokens rest) p None) → IfSome o (λ p. IsCommandOf kind.GoTo text (command.GoTo p))
+    → IfSome o (λ p. IsPlace (Open ∷ tokens rest) p None) → IfSome o (λ p. IsCommandOf Kind.GoTo text (Command.GoTo p))
 named_move text rest None e h = tt
 named_move text rest (Some p) e h =
     record {
@@ -56,7 +45,7 @@ named_move text rest (Some p) e h =
     }
 
 pub named_touch : (text rest : List ℕ) (o : Option (Point × Option Direction)) → text ≡ codes "PtMeas" ++ (40 ∷ rest)
-    → IfSome o (λ t. IsPlace (Open ∷ tokens rest) t.0 t.1) → IfSome o (λ t. IsCommandOf kind.PtMeas text (command.PtMeas t.0 t.1))
+    → IfSome o (λ t. IsPlace (Open ∷ tokens rest) t.0 t.1) → IfSome o (λ t. IsCommandOf Kind.PtMeas text (Command.PtMeas t.0 t.1))
 named_touch text rest None e h = tt
 named_touch text rest (Some (p, d)) e h =
     record {

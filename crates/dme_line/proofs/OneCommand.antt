@@ -1,22 +1,10 @@
 -- A line is read as a command in one way.
-use Rattle.std.proofs.Common.{◌≡◌, ℕ, true, List, length, map, None, Result, Ok, Err, refl, ap, sym, subst, ◌∙◌, arith}
-use Rattle.std.specs.Char.{to_ascii_lowercase}
-use Rattle.fixed_um.specs.Limits.{volume_limit}
-use Rattle.fixed_um.specs.declared.lengths.Point.{Point}
-use Rattle.dme_line.specs.Words.{is_word}
-use Rattle.dme_line.specs.Tokens.{Token, tokens}
-use Rattle.dme_line.specs.Kinds.{kind_name, csy_name}
-use Rattle.dme_line.specs.Arguments.{IsToolWord, IsTool, IsSystem, Seven, seven_tokens, enclosed, HasLengths, IsTransformation, Says}
-use Rattle.dme_line.specs.CommandText.{Begins, IsCommandText, ReadsCommand}
-use Rattle.dme_line.specs.declared.tags.Tag.{Tag}
-use Rattle.dme_line.specs.declared.commands.Csy.{Csy}
-use Rattle.dme_line.specs.declared.commands.Csy.TheVariants.{MachineCsy, PartCsy}
-use Rattle.dme_line.specs.declared.commands.Kind.{Kind}
-use Rattle.dme_line.specs.declared.commands.Kind.TheVariants as kind
-use Rattle.dme_line.specs.declared.commands.Command.{Command}
-use Rattle.dme_line.specs.declared.commands.Command.TheVariants.{GoTo, PtMeas, ChangeTool, SetCsyTransformation, SetCoordSystem}
-use Rattle.dme_line.specs.declared.reading.LineFault.{LineFault}
-use Rattle.dme_line.specs.declared.reading.LineFault.TheVariants.{NoTag, UnknownCommand, BadArguments}
+use Rattle.dme_line.proofs.Names.{◌∙◌, ◌≡◌, ap, arith, Begins, Command, Csy, csy_name, enclosed, Err, HasLengths, is_word, IsCommandText, IsSystem}
+use Rattle.dme_line.proofs.Names.{IsTool, IsToolWord, IsTransformation, Kind, kind_name, length, LineFault, List, MachineCsy, map, None, Ok, PartCsy}
+use Rattle.dme_line.proofs.Names.{Point, ReadsCommand, refl, Result, Says, Seven, seven_tokens, subst, sym, Tag, to_ascii_lowercase, Token, tokens}
+use Rattle.dme_line.proofs.Names.{true, volume_limit, ℕ}
+use Rattle.dme_line.specs.declared.commands.Command.TheVariants.{ChangeTool, GoTo, PtMeas, SetCoordSystem, SetCsyTransformation}
+use Rattle.dme_line.specs.declared.reading.LineFault.TheVariants.{BadArguments, NoTag, UnknownCommand}
 use Rattle.dme_line.proofs.PlaceLemmas.{one_place, one_length, same_point}
 use Rattle.dme_line.proofs.ToolLemmas.{same_word, one_tool_word}
 use Rattle.dme_line.proofs.CommandLemmas.{same_letters, one_kind, one_front, says_here}
@@ -56,21 +44,21 @@ one_transformation ts p q f g = one_lengths g.words p q (subst (λ (s : Seven). 
 
 -- tokens say one command of a kind
 one_saying : (k : Kind) (ts : List Token) (c d : Command) → Says k ts c → Says k ts d → c ≡ d
-one_saying kind.StartSession ts c d f g = f.1 ∙ sym g.1
-one_saying kind.EndSession ts c d f g = f.1 ∙ sym g.1
-one_saying kind.ClearAllErrors ts c d f g = f.1 ∙ sym g.1
-one_saying kind.IsHomed ts c d f g = f.1 ∙ sym g.1
-one_saying kind.Home ts c d f g = f.1 ∙ sym g.1
-one_saying kind.OnPtMeasReport ts c d f g = f.1 ∙ sym g.1
-one_saying kind.GoTo ts c d f g = f.2 ∙ ap (λ (p : Point). GoTo p) (one_place ts f.0 g.0 None None f.1 g.1).target ∙ sym g.2
-one_saying kind.PtMeas ts c d f g =
+one_saying Kind.StartSession ts c d f g = f.1 ∙ sym g.1
+one_saying Kind.EndSession ts c d f g = f.1 ∙ sym g.1
+one_saying Kind.ClearAllErrors ts c d f g = f.1 ∙ sym g.1
+one_saying Kind.IsHomed ts c d f g = f.1 ∙ sym g.1
+one_saying Kind.Home ts c d f g = f.1 ∙ sym g.1
+one_saying Kind.OnPtMeasReport ts c d f g = f.1 ∙ sym g.1
+one_saying Kind.GoTo ts c d f g = f.2 ∙ ap (λ (p : Point). GoTo p) (one_place ts f.0 g.0 None None f.1 g.1).target ∙ sym g.2
+one_saying Kind.PtMeas ts c d f g =
     let same = one_place ts f.0 g.0 f.1 g.1 f.2 g.2 in
     f.3 ∙ (λ n. PtMeas (same.target n) (same.ijk n)) ∙ sym g.3
-one_saying kind.ChangeTool ts c d f g = f.2 ∙ ap (λ (n : List ℕ). ChangeTool n) (one_tool ts f.0 g.0 f.1 g.1) ∙ sym g.2
-one_saying kind.SetCsyTransformation ts c d f g = f.2 ∙ ap (λ (p : Point). SetCsyTransformation p) (one_transformation ts f.0 g.0 f.1 g.1)
+one_saying Kind.ChangeTool ts c d f g = f.2 ∙ ap (λ (n : List ℕ). ChangeTool n) (one_tool ts f.0 g.0 f.1 g.1) ∙ sym g.2
+one_saying Kind.SetCsyTransformation ts c d f g = f.2 ∙ ap (λ (p : Point). SetCsyTransformation p) (one_transformation ts f.0 g.0 f.1 g.1)
     ∙ sym g.2
-one_saying kind.SetCoordSystem ts c d f g = f.2 ∙ ap (λ (s : Csy). SetCoordSystem s) (one_system ts f.0 g.0 f.1 g.1) ∙ sym g.2
-one_saying kind.AbortE ts c d f g = f.1 ∙ sym g.1
+one_saying Kind.SetCoordSystem ts c d f g = f.2 ∙ ap (λ (s : Csy). SetCoordSystem s) (one_system ts f.0 g.0 f.1 g.1) ∙ sym g.2
+one_saying Kind.AbortE ts c d f g = f.1 ∙ sym g.1
 
 -- a line stands for one command under one tag
 pub record SameCommand (t u : Tag) (c d : Command) : Type 0 where

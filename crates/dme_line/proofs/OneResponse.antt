@@ -1,10 +1,6 @@
 -- A line is read as a response in one way.
-use Rattle.std.proofs.Common.{◌≡◌, ℕ, inl, inr, List, [], ◌∷◌, Result, Ok, Err, refl, ap, sym, subst, ◌∙◌, arith}
-use Rattle.dme_line.specs.Responses.{IsMarkText, IsResponseLine, ReadsResponse}
-use Rattle.dme_line.specs.declared.responses.Mark.{Mark}
-use Rattle.dme_line.specs.declared.responses.Mark.TheVariants.{Ack, Given, Done, Error}
-use Rattle.dme_line.specs.declared.responses.Response.{Response}
-use Rattle.dme_line.specs.declared.responses.NotResponse.{NotResponse}
+use Rattle.dme_line.proofs.Names.{[], ◌∙◌, ◌∷◌, ◌≡◌, Ack, ap, arith, Done, Err, Error, Given, inl, inr, IsMarkText, IsResponseLine, List, Mark}
+use Rattle.dme_line.proofs.Names.{NotResponse, Ok, ReadsResponse, refl, Response, Result, subst, sym, ℕ}
 use Rattle.dme_line.proofs.TagLemmas.{one_tag}
 
 -- what a mark begins with

@@ -1,17 +1,10 @@
 -- A place is read in one way.
-use Rattle.std.proofs.Common.{◌≡◌, ℕ, List, length, Option, Some, None, Ok, Err, refl, ap, sym, subst, ◌∙◌, arith, ℤ, pos, codes, inl, inr}
-use Rattle.std.proofs.Common.{MatchOption}
+use Rattle.dme_line.proofs.Names.{◌∙◌, ◌≡◌, ap, Argument, arith, codes, component_limit, Direction, enclosed, Err, HasIjk, inl, inr, IsAlong, IsAxis}
+use Rattle.dme_line.proofs.Names.{IsPlace, IsTarget, length, List, list_tokens, MatchOption, None, NumeralFault, Ok, Option, Point, pos, Reads}
+use Rattle.dme_line.proofs.Names.{ReadsDirection, refl, single_named, Some, subst, sym, Token, triple_named, wire_limit, ℕ, ℤ}
 use Rattle.std.proofs.lemmas.Option.{same_Some}
-use Rattle.fixed_um.specs.Limits.{wire_limit, component_limit}
-use Rattle.fixed_um.specs.Numerals.{Reads, ReadsDirection}
-use Rattle.fixed_um.specs.Shapes.{Direction}
-use Rattle.fixed_um.specs.declared.lengths.Point.{Point}
-use Rattle.fixed_um.specs.declared.numerals.NumeralFault.{NumeralFault}
 use Rattle.fixed_um.proofs.ReadLemmas.{one_reading}
-use Rattle.dme_line.specs.Arguments.{Argument, single_named, triple_named, IsAxis, IsAlong, IsTarget, HasIjk, IsPlace, list_tokens}
-use Rattle.dme_line.specs.Arguments.{enclosed}
 use Rattle.dme_line.proofs.ArgumentLemmas.{same_arguments}
-use Rattle.dme_line.specs.Tokens.{Token}
 
 -- a numeral has one value
 pub one_length : (scale limit : ℕ) (text : List ℕ) (x y : ℤ) → Reads scale limit text (Ok x) → Reads scale limit text (Ok y) → x ≡ y

@@ -1,15 +1,8 @@
 -- Point texts.
-use Rattle.std.proofs.Common.{◌≡◌, ℕ, ◌-◌, ◌≤◌, true, List, [], ◌∷◌, ◌++◌, length, get_or, take, drop, Result, Ok, Err, refl, ap, sym, subst, ◌∙◌, arith, codes, ℤ}
-use Rattle.std.proofs.lemmas.Bool.{and_from}
-use Rattle.fixed_um.proofs.PlainLemmas.{rest_of}
-use Rattle.fixed_um.specs.Fronts.{is_length_byte, BeginsWithLength}
-use Rattle.fixed_um.specs.Limits.{wire_limit}
-use Rattle.fixed_um.specs.Numerals.{Reads}
-use Rattle.fixed_um.specs.declared.lengths.Point.{Point}
-use Rattle.dme_line.specs.Tokens.{Token, Open, Close, Comma, Word, tokens, is_word_byte}
-use Rattle.dme_line.specs.Arguments.{Single, argument_tokens}
-use Rattle.dme_line.specs.Points.{point_tokens, IsPointText, ReadsPoint}
-use Rattle.dme_line.specs.declared.points.NotPoint.{NotPoint}
+use Rattle.dme_line.proofs.Names.{[], ◌++◌, ◌-◌, ◌∙◌, ◌∷◌, ◌≡◌, ◌≤◌, and_from, ap, argument_tokens, arith, Close, codes, Comma, drop, Err, get_or}
+use Rattle.dme_line.proofs.Names.{is_word_byte, IsPointText, length, List, NotPoint, Ok, Open, Point, point_tokens, Reads, ReadsPoint, refl, rest_of}
+use Rattle.dme_line.proofs.Names.{Result, Single, subst, sym, take, Token, tokens, true, wire_limit, Word, ℕ, ℤ}
+use Rattle.fixed_um.specs.Fronts.{BeginsWithLength, is_length_byte}
 use Rattle.dme_line.proofs.PlaceLemmas.{one_length, same_point}
 use Rattle.dme_line.proofs.TokenLemmas.{tokens-word, tokens-mark}
 use Rattle.dme_line.proofs.WireTexts.{all_weaker, plain_word}

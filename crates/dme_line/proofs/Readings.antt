@@ -1,34 +1,11 @@
 -- Each reading is computed, with what shows that it is the one.
-use Rattle.std.proofs.Common.{◌≡◌, ℕ, ◌+◌, ◌*◌, ◌-◌, ◌/◌, ◌≤◌, ◌⊎◌, inl, inr, Bool, true, false, ◌&&◌, List, [], ◌∷◌, ◌++◌, take, drop}
-use Rattle.std.proofs.Common.{refl, sym, ◌∙◌, ap, subst, arith, Option, Some, None, Result, Ok, Err, codes}
-use Rattle.std.specs.Prelude.{◌==◌, nat_le, if◌then◌else◌, cond}
-use Rattle.std.specs.List.{prefix_len}
-use Rattle.std.proofs.lemmas.Bool.{false≢true, and_parts, and_from, leb-true, le-leb, eqb-true, eq-eqb}
-use Rattle.fixed_um.specs.Limits.{wire_limit}
-use Rattle.fixed_um.specs.Written.{last_digit}
-use Rattle.fixed_um.specs.declared.lengths.Point.{Point}
-use Rattle.dme_line.specs.Words.{is_word}
-use Rattle.dme_line.specs.Tokens.{Token, tokens}
-use Rattle.dme_line.specs.Tags.{written_tag, IsTag, IsNumbered, is_event_tag}
-use Rattle.dme_line.specs.Kinds.{kind_name, is_event_kind}
-use Rattle.dme_line.specs.Arguments.{IsOneWord}
-use Rattle.dme_line.specs.Homed.{homed_digit, IsHomedCall, IsHomedText, ReadsHomed}
-use Rattle.dme_line.specs.Points.{point_tokens, HasCoordinates, IsPointText, ReadsPoint}
-use Rattle.dme_line.specs.CommandText.{IsTagged, is_name_part, Begins, ReadsCommand}
-use Rattle.dme_line.specs.Responses.{are_spaces, IsMarkText, IsResponseLine, ReadsResponse}
-use Rattle.dme_line.specs.declared.tags.Tag.{Tag}
-use Rattle.dme_line.specs.declared.tags.Tag.TheVariants.{Std, Event}
-use Rattle.dme_line.specs.declared.commands.Kind.{Kind}
-use Rattle.dme_line.specs.declared.commands.Kind.TheVariants as kind
-use Rattle.dme_line.specs.declared.commands.Command.{Command}
-use Rattle.dme_line.specs.declared.reading.LineFault.{LineFault}
-use Rattle.dme_line.specs.declared.reading.LineFault.TheVariants as fault
-use Rattle.dme_line.specs.declared.responses.Mark.{Mark}
-use Rattle.dme_line.specs.declared.responses.Mark.TheVariants as mark
-use Rattle.dme_line.specs.declared.responses.Response.{Response}
-use Rattle.dme_line.specs.declared.responses.NotResponse.{NotResponse}
-use Rattle.dme_line.specs.declared.points.NotPoint.{NotPoint}
-use Rattle.dme_line.specs.declared.homed.NotHomedText.{NotHomedText}
+use Rattle.dme_line.proofs.Names.{[], ◌&&◌, ◌*◌, ◌++◌, ◌+◌, ◌-◌, ◌/◌, ◌==◌, ◌∙◌, ◌∷◌, ◌≡◌, ◌≤◌, ◌⊎◌, and_from, and_parts, ap, are_spaces, arith}
+use Rattle.dme_line.proofs.Names.{Begins, Bool, codes, Command, cond, drop, eq-eqb, eqb-true, Err, Event, false, false≢true, HasCoordinates}
+use Rattle.dme_line.proofs.Names.{homed_digit, if◌then◌else◌, inl, inr, is_event_kind, is_event_tag, is_name_part, is_word, IsHomedCall, IsHomedText}
+use Rattle.dme_line.proofs.Names.{IsMarkText, IsNumbered, IsOneWord, IsPointText, IsResponseLine, IsTag, IsTagged, Kind, kind_name, last_digit}
+use Rattle.dme_line.proofs.Names.{le-leb, leb-true, LineFault, List, Mark, nat_le, None, NotHomedText, NotPoint, NotResponse, Ok, Option, Point}
+use Rattle.dme_line.proofs.Names.{point_tokens, prefix_len, ReadsCommand, ReadsHomed, ReadsPoint, ReadsResponse, refl, Response, Result, Some, Std}
+use Rattle.dme_line.proofs.Names.{subst, sym, Tag, take, Token, tokens, true, wire_limit, written_tag, ℕ}
 use Rattle.dme_line.proofs.TagLemmas.{one_tag, tag_numbered}
 use Rattle.dme_line.proofs.NameCutLemmas.{name_cut}
 use Rattle.dme_line.proofs.CommandLemmas.{SaysHere, says_here}
@@ -193,11 +170,11 @@ same_sort false false = inl refl
 known : (line : List ℕ) (t : Tag) (name rest : List ℕ) (k : Kind) → Begins line t name rest → is_word (kind_name k) name ≡ true
     → Decided (is_event_tag t ≡ is_event_kind k) → Decided (Saying k (tokens rest)) → CommandRead line
 known line t name rest k b is (inr sort) says = record {
-  result = Err (fault.BadArguments t k);
+  result = Err (LineFault.BadArguments t k);
   reads = (name, rest, b, is, λ c h. let here : SaysHere t k rest c = says_here line t t name rest k c b is h in sort here.fits.sort);
 }
 known line t name rest k b is (inl sort) (inr none) = record {
-  result = Err (fault.BadArguments t k);
+  result = Err (LineFault.BadArguments t k);
   reads = (
     name,
     rest,
@@ -244,22 +221,22 @@ named_one name (k ∷ ks) (inl is) = record { kind = k; is = is }
 named_one name (k ∷ ks) (inr h) = named_one name ks h
 
 abbrev all_kinds : List Kind
-all_kinds = kind.StartSession ∷ kind.EndSession ∷ kind.ClearAllErrors ∷ kind.Home ∷ kind.OnPtMeasReport ∷ kind.GoTo ∷ kind.PtMeas
-    ∷ kind.ChangeTool ∷ kind.SetCsyTransformation ∷ kind.SetCoordSystem ∷ kind.AbortE ∷ kind.IsHomed ∷ []
+all_kinds = Kind.StartSession ∷ Kind.EndSession ∷ Kind.ClearAllErrors ∷ Kind.Home ∷ Kind.OnPtMeasReport ∷ Kind.GoTo ∷ Kind.PtMeas
+    ∷ Kind.ChangeTool ∷ Kind.SetCsyTransformation ∷ Kind.SetCoordSystem ∷ Kind.AbortE ∷ Kind.IsHomed ∷ []
 
 among_all : (name : List ℕ) (k : Kind) → is_word (kind_name k) name ≡ true → IsOneOf name all_kinds
-among_all name kind.StartSession e = inl e
-among_all name kind.EndSession e = inr (inl e)
-among_all name kind.ClearAllErrors e = inr (inr (inl e))
-among_all name kind.Home e = inr (inr (inr (inl e)))
-among_all name kind.OnPtMeasReport e = inr (inr (inr (inr (inl e))))
-among_all name kind.GoTo e = inr (inr (inr (inr (inr (inl e)))))
-among_all name kind.PtMeas e = inr (inr (inr (inr (inr (inr (inl e))))))
-among_all name kind.ChangeTool e = inr (inr (inr (inr (inr (inr (inr (inl e)))))))
-among_all name kind.SetCsyTransformation e = inr (inr (inr (inr (inr (inr (inr (inr (inl e))))))))
-among_all name kind.SetCoordSystem e = inr (inr (inr (inr (inr (inr (inr (inr (inr (inl e)))))))))
-among_all name kind.AbortE e = inr (inr (inr (inr (inr (inr (inr (inr (inr (inr (inl e))))))))))
-among_all name kind.IsHomed e = inr (inr (inr (inr (inr (inr (inr (inr (inr (inr (inr (inl e)))))))))))
+among_all name Kind.StartSession e = inl e
+among_all name Kind.EndSession e = inr (inl e)
+among_all name Kind.ClearAllErrors e = inr (inr (inl e))
+among_all name Kind.Home e = inr (inr (inr (inl e)))
+among_all name Kind.OnPtMeasReport e = inr (inr (inr (inr (inl e))))
+among_all name Kind.GoTo e = inr (inr (inr (inr (inr (inl e)))))
+among_all name Kind.PtMeas e = inr (inr (inr (inr (inr (inr (inl e))))))
+among_all name Kind.ChangeTool e = inr (inr (inr (inr (inr (inr (inr (inl e)))))))
+among_all name Kind.SetCsyTransformation e = inr (inr (inr (inr (inr (inr (inr (inr (inl e))))))))
+among_all name Kind.SetCoordSystem e = inr (inr (inr (inr (inr (inr (inr (inr (inr (inl e)))))))))
+among_all name Kind.AbortE e = inr (inr (inr (inr (inr (inr (inr (inr (inr (inr (inl e))))))))))
+among_all name Kind.IsHomed e = inr (inr (inr (inr (inr (inr (inr (inr (inr (inr (inr (inl e)))))))))))
 
 -- the line has a tag and a name
 named : (line : List ℕ) (t : Tag) (name rest : List ℕ) → Begins line t name rest → CommandRead line
@@ -269,11 +246,11 @@ named line t name rest b = go (one_of name all_kinds)
     found n = known line t name rest n.kind b n.is (same_sort (is_event_tag t) (is_event_kind n.kind)) (saying n.kind (tokens rest))
 
     go : Decided (IsOneOf name all_kinds) → CommandRead line
-    go (inr none) = record { result = Err (fault.UnknownCommand t); reads = (name, rest, b, λ k e. none (among_all name k e)) }
+    go (inr none) = record { result = Err (LineFault.UnknownCommand t); reads = (name, rest, b, λ k e. none (among_all name k e)) }
     go (inl h) = found (named_one name all_kinds h)
 
 no_tag : (line : List ℕ) → ((t : Tag) (text : List ℕ) → IsTagged line t text → ⊥) → CommandRead line
-no_tag line none = record { result = Err fault.NoTag; reads = none }
+no_tag line none = record { result = Err LineFault.NoTag; reads = none }
 
 pub command_reading : (line : List ℕ) → CommandRead line
 command_reading line = go (tagged line)
@@ -308,28 +285,28 @@ pub record ResponseRead (line : List ℕ) : Type 0 where
 
 abbrev given_of : List ℕ → Option Mark
 given_of [] = None
-given_of (s ∷ text) = if s == 32 then Some (mark.Given text) else None
+given_of (s ∷ text) = if s == 32 then Some (Mark.Given text) else None
 
 abbrev error_of : List ℕ → Option Mark
-error_of [] = Some (mark.Error [])
-error_of (s ∷ text) = if s == 32 then Some (mark.Error text) else None
+error_of [] = Some (Mark.Error [])
+error_of (s ∷ text) = if s == 32 then Some (Mark.Error text) else None
 
 abbrev mark_from : List ℕ → Option Mark
 mark_from [] = None
 mark_from (c ∷ text) =
-    if c == 38 then (if are_spaces text then Some mark.Ack else None)
+    if c == 38 then (if are_spaces text then Some Mark.Ack else None)
     else if c == 35 then given_of text
-    else if c == 37 then (if are_spaces text then Some mark.Done else None)
+    else if c == 37 then (if are_spaces text then Some Mark.Done else None)
     else if c == 33 then error_of text
     else None
 
 -- a text that is a mark is found to be it
 mark_only : (text : List ℕ) (m : Mark) → IsMarkText text m → mark_from text ≡ Some m
-mark_only text mark.Ack h = ap mark_from h.1 ∙ ap (λ (b : Bool). if b then Some mark.Ack else None) h.2
-mark_only text (mark.Given given) h = ap mark_from h
-mark_only text mark.Done h = ap mark_from h.1 ∙ ap (λ (b : Bool). if b then Some mark.Done else None) h.2
-mark_only text (mark.Error given) (inl h) = ap mark_from h
-mark_only text (mark.Error given) (inr h) = ap mark_from h.0 ∙ ap (λ (t : List ℕ). Some (mark.Error t)) (sym h.1)
+mark_only text Mark.Ack h = ap mark_from h.1 ∙ ap (λ (b : Bool). if b then Some Mark.Ack else None) h.2
+mark_only text (Mark.Given given) h = ap mark_from h
+mark_only text Mark.Done h = ap mark_from h.1 ∙ ap (λ (b : Bool). if b then Some Mark.Done else None) h.2
+mark_only text (Mark.Error given) (inl h) = ap mark_from h
+mark_only text (Mark.Error given) (inr h) = ap mark_from h.0 ∙ ap (λ (t : List ℕ). Some (Mark.Error t)) (sym h.1)
 
 some_mark : (a b : Mark) → ◌≡◌ {A = Option Mark} (Some a) (Some b) → a ≡ b
 some_mark a b e = cc
@@ -343,15 +320,15 @@ first_same a b text e = ap (λ (x : ℕ). x ∷ text) e
 -- and what is found is one
 given_found : (text : List ℕ) (m : Mark) → given_of text ≡ Some m → IsMarkText (35 ∷ text) m
 given_found [] m e = absurd (no_mark m e)
-given_found (s ∷ text) m e = if_cases {A = Option Mark} (s == 32) (Some (mark.Given text)) None (Some m) (IsMarkText (35 ∷ s ∷ text) m) e
-    (λ is same. subst (IsMarkText (35 ∷ s ∷ text)) (some_mark (mark.Given text) m same)
+given_found (s ∷ text) m e = if_cases {A = Option Mark} (s == 32) (Some (Mark.Given text)) None (Some m) (IsMarkText (35 ∷ s ∷ text) m) e
+    (λ is same. subst (IsMarkText (35 ∷ s ∷ text)) (some_mark (Mark.Given text) m same)
     (ap (λ (l : List ℕ). 35 ∷ l) (first_same s 32 text (eqb-true s 32 is))))
     (λ is none. absurd (no_mark m none))
 
 error_found : (text : List ℕ) (m : Mark) → error_of text ≡ Some m → IsMarkText (33 ∷ text) m
-error_found [] m e = subst (IsMarkText (33 ∷ [])) (some_mark (mark.Error []) m e) (inr (refl, refl))
-error_found (s ∷ text) m e = if_cases {A = Option Mark} (s == 32) (Some (mark.Error text)) None (Some m) (IsMarkText (33 ∷ s ∷ text) m) e
-    (λ is same. subst (IsMarkText (33 ∷ s ∷ text)) (some_mark (mark.Error text) m same)
+error_found [] m e = subst (IsMarkText (33 ∷ [])) (some_mark (Mark.Error []) m e) (inr (refl, refl))
+error_found (s ∷ text) m e = if_cases {A = Option Mark} (s == 32) (Some (Mark.Error text)) None (Some m) (IsMarkText (33 ∷ s ∷ text) m) e
+    (λ is same. subst (IsMarkText (33 ∷ s ∷ text)) (some_mark (Mark.Error text) m same)
     (inl (ap (λ (l : List ℕ). 33 ∷ l) (first_same s 32 text (eqb-true s 32 is)))))
     (λ is none. absurd (no_mark m none))
 
@@ -364,11 +341,11 @@ spaces_found c text n m is_one e = if_cases {A = Option Mark} (are_spaces text) 
 mark_found : (text : List ℕ) (m : Mark) → mark_from text ≡ Some m → IsMarkText text m
 mark_found [] m e = absurd (no_mark m e)
 mark_found (c ∷ text) m e = if_cases {A = Option Mark} (c == 38) _ _ (Some m) (IsMarkText (c ∷ text) m) e
-    (λ is found. spaces_found c text mark.Ack m (λ spaces. (text, first_same c 38 text (eqb-true c 38 is), spaces)) found)
+    (λ is found. spaces_found c text Mark.Ack m (λ spaces. (text, first_same c 38 text (eqb-true c 38 is), spaces)) found)
     (λ is other. if_cases {A = Option Mark} (c == 35) _ _ (Some m) (IsMarkText (c ∷ text) m) other
     (λ is found. subst (λ (x : ℕ). IsMarkText (x ∷ text) m) (sym (eqb-true c 35 is)) (given_found text m found))
     (λ is other. if_cases {A = Option Mark} (c == 37) _ _ (Some m) (IsMarkText (c ∷ text) m) other
-    (λ is found. spaces_found c text mark.Done m (λ spaces. (text, first_same c 37 text (eqb-true c 37 is), spaces)) found)
+    (λ is found. spaces_found c text Mark.Done m (λ spaces. (text, first_same c 37 text (eqb-true c 37 is), spaces)) found)
     (λ is other. if_cases {A = Option Mark} (c == 33) _ _ (Some m) (IsMarkText (c ∷ text) m) other
     (λ is found. subst (λ (x : ℕ). IsMarkText (x ∷ text) m) (sym (eqb-true c 33 is)) (error_found text m found))
     (λ is none. absurd (no_mark m none)))))
@@ -533,7 +510,7 @@ record Call (text : List ℕ) : Type 0 where
   pub is : IsHomedCall text homed
 
 call_is : (text : List ℕ) → Decided (Call text)
-call_is text = go (test (is_word (kind_name kind.IsHomed) name)) (one_word (tokens rest))
+call_is text = go (test (is_word (kind_name Kind.IsHomed) name)) (one_word (tokens rest))
   where
     name : List ℕ
     name = take (prefix_len is_name_part text) text
@@ -547,7 +524,7 @@ call_is text = go (test (is_word (kind_name kind.IsHomed) name)) (one_word (toke
     word_is : (w : OneWord (tokens rest)) (c : Call text) → w.word ≡ homed_digit c.homed
     word_is w c = same_word (tokens rest) w.word (homed_digit c.homed) w.spelled (here c).spelled
 
-    told : is_word (kind_name kind.IsHomed) name ≡ true → (w : OneWord (tokens rest)) → Decided (Digit w.word) → Decided (Call text)
+    told : is_word (kind_name Kind.IsHomed) name ≡ true → (w : OneWord (tokens rest)) → Decided (Digit w.word) → Decided (Call text)
     told known w (inr none) = inr (λ c. none (record { homed = c.homed; is = word_is w c }))
     told known w (inl d) = inl (record {
       homed = d.homed;
@@ -557,7 +534,7 @@ call_is text = go (test (is_word (kind_name kind.IsHomed) name)) (one_word (toke
       });
     })
 
-    go : Decided (is_word (kind_name kind.IsHomed) name ≡ true) → Decided (OneWord (tokens rest)) → Decided (Call text)
+    go : Decided (is_word (kind_name Kind.IsHomed) name ≡ true) → Decided (OneWord (tokens rest)) → Decided (Call text)
     go (inr other) word = inr (λ c. other (here c).known)
     go (inl known) (inr none) = inr (λ c. none (record { word = homed_digit c.homed; spelled = (here c).spelled }))
     go (inl known) (inl w) = told known w (digit_is_said w.word)

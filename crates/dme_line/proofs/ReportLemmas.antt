@@ -1,8 +1,5 @@
 -- The report list.
-use Rattle.std.proofs.Common.{◌≡◌, ℕ, true, List, [], ◌∷◌, codes}
-use Rattle.dme_line.specs.Words.{is_word}
-use Rattle.dme_line.specs.Tokens.{Token, Open, Close, Comma, Word}
-use Rattle.dme_line.specs.Arguments.{IsReport}
+use Rattle.dme_line.proofs.Names.{[], ◌∷◌, ◌≡◌, Close, codes, Comma, is_word, IsReport, List, Open, Token, true, Word, ℕ}
 
 -- after the second axis of a report comes the third
 third_axis : (ts t u v w z : List Token) (a b : List ℕ) (h : IsReport ts) → ts ≡ Open ∷ t → t ≡ Word a ∷ Open ∷ Close ∷ u → u ≡ Comma ∷ v

@@ -1,23 +1,12 @@
 -- What is written of responses, points and errors can be in a line, and reads back.
-use Rattle.std.proofs.Common.{◌≡◌, ℕ, ◌+◌, inl, List, [], ◌∷◌, ◌++◌, Option, Some, None, Ok, refl, ap, sym, subst, ◌∙◌, arith, codes}
-use Rattle.std.proofs.Common.{append-nil}
-use Rattle.fixed_um.specs.declared.lengths.Point.{Point}
-use Rattle.fixed_um.specs.Written.{written}
-use Rattle.dme_line.specs.Words.{IsWireText, quoted}
-use Rattle.dme_line.specs.Tokens.{tokens}
-use Rattle.dme_line.specs.Tags.{four_digits, written_tag, IsTag}
-use Rattle.dme_line.specs.Points.{written_point, IsOnWire, ReadsPoint}
-use Rattle.dme_line.specs.Responses.{data_response, written_mark, written_response, HasText, IsWritableResponse, IsMarkText, ReadsResponse}
-use Rattle.dme_line.specs.Errors.{text_of, numbered, said_of, error_text, error_name, error_report, written_error, error_response}
-use Rattle.dme_line.specs.declared.errors.ErrorNumber.{ErrorNumber}
-use Rattle.dme_line.specs.declared.errors.ErrorNumber.TheVariants.{NoTag, TagInUse, UnknownCommand, BadArguments, NoSession, SessionOpen}
-use Rattle.dme_line.specs.declared.errors.ErrorNumber.TheVariants.{Aborted, ErrorState, QueueFull, NotHomed, NoTool, UnknownTool}
-use Rattle.dme_line.specs.declared.errors.ErrorNumber.TheVariants.{OutOfVolume, NoSurface, MachineFault}
-use Rattle.dme_line.specs.declared.tags.Tag.{Tag}
-use Rattle.dme_line.specs.declared.commands.Kind.{Kind}
-use Rattle.dme_line.specs.declared.responses.Mark.{Mark}
-use Rattle.dme_line.specs.declared.responses.Mark.TheVariants.{Ack, Given, Done, Error}
-use Rattle.dme_line.specs.declared.responses.Response.{Response}
+use Rattle.dme_line.proofs.Names.{[], ◌++◌, ◌+◌, ◌∙◌, ◌∷◌, ◌≡◌, Aborted, Ack, ap, append-nil, arith, codes, data_response, Done, Error, error_name}
+use Rattle.dme_line.proofs.Names.{error_report, error_response, ErrorNumber, ErrorState, four_digits, Given, HasText, inl, IsMarkText, IsOnWire}
+use Rattle.dme_line.proofs.Names.{IsTag, IsWireText, IsWritableResponse, Kind, List, MachineFault, Mark, None, NoSession, NoSurface, NotHomed, NoTool}
+use Rattle.dme_line.proofs.Names.{numbered, Ok, Option, OutOfVolume, Point, QueueFull, quoted, ReadsPoint, ReadsResponse, refl, Response, said_of}
+use Rattle.dme_line.proofs.Names.{SessionOpen, Some, subst, sym, Tag, TagInUse, text_of, tokens, UnknownTool, written, written_mark, written_point}
+use Rattle.dme_line.proofs.Names.{written_response, written_tag, ℕ}
+use Rattle.dme_line.specs.Errors.{error_text, written_error}
+use Rattle.dme_line.specs.declared.errors.ErrorNumber.TheVariants.{BadArguments, NoTag, UnknownCommand}
 use Rattle.dme_line.proofs.WireTexts.{wire_append, point-wire, tag-wire, four_digits-wire}
 use Rattle.dme_line.proofs.CommandBack.{point-append, point-tokens, reads_back}
 use Rattle.dme_line.proofs.CommandWire.{wire_weaker, name-wire}

@@ -1,12 +1,6 @@
 -- A tag has one text.
-use Rattle.std.proofs.Common.{◌≡◌, ℕ, ◌+◌, ◌/◌, ◌≤◌, true, false, ◌&&◌, List, [], ◌∷◌, ◌++◌, ap, sym, ◌∙◌, arith}
-use Rattle.std.specs.Char.{is_ascii_digit}
-use Rattle.std.proofs.lemmas.Bool.{and_from, and_parts, false≢true}
-use Rattle.std.proofs.lemmas.Bool.Decides.{nat_tests}
-use Rattle.fixed_um.specs.Written.{last_digit}
-use Rattle.dme_line.specs.declared.tags.Tag.{Tag}
-use Rattle.dme_line.specs.declared.tags.Tag.TheVariants.{Std, Event}
-use Rattle.dme_line.specs.Tags.{four_digits, written_tag, IsTag, IsNumbered}
+use Rattle.dme_line.proofs.Names.{[], ◌&&◌, ◌++◌, ◌+◌, ◌/◌, ◌∙◌, ◌∷◌, ◌≡◌, ◌≤◌, and_from, and_parts, ap, arith, Event, false, false≢true, four_digits}
+use Rattle.dme_line.proofs.Names.{is_ascii_digit, IsNumbered, IsTag, last_digit, List, nat_tests, Std, sym, Tag, true, written_tag, ℕ}
 
 -- a number of that many digits is written in one way
 four_apart : (m n : ℕ) → m ≤ 9999 → n ≤ 9999 → last_digit (m / 1000) ≡ last_digit (n / 1000) → last_digit (m / 100) ≡ last_digit (n / 100)

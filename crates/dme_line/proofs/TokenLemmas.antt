@@ -1,12 +1,8 @@
 -- The tokens of a text, from its front.
-use Rattle.std.proofs.Common.{◌≡◌, ◌≢◌, ℕ, suc, ◌+◌, ◌<◌, Bool, true, false, not, ◌||◌, cond, ◌⊎◌, inl, inr, List, [], ◌∷◌, ◌++◌, length}
-use Rattle.std.proofs.Common.{take, drop, refl, ap, sym, subst, ◌∙◌, arith, take-append-drop}
-use Rattle.std.specs.Prelude.{◌==◌, ◌↔◌, IsTrue}
-use Rattle.std.specs.List.{list_all, prefix_len}
-use Rattle.std.proofs.lemmas.Bool.{and_parts, not-true, eqb-true, ne_eqb, false≢true, true≢false, or_cases}
-use Rattle.std.proofs.lemmas.List.Folds.{length-prefix_len}
-use Rattle.dme_line.specs.Tokens.{Token, Open, Close, Comma, Word, is_mark, mark_token, is_word_byte, begins_word, longer_word}
-use Rattle.dme_line.specs.Tokens.{tokens_behind, tokens}
+use Rattle.dme_line.proofs.Names.{[], ◌++◌, ◌+◌, ◌<◌, ◌==◌, ◌||◌, ◌↔◌, ◌∙◌, ◌∷◌, ◌≡◌, ◌≢◌, ◌⊎◌, and_parts, ap, arith, begins_word, Bool, Close, Comma}
+use Rattle.dme_line.proofs.Names.{cond, drop, eqb-true, false, false≢true, inl, inr, is_mark, is_word_byte, IsTrue, length, length-prefix_len, List}
+use Rattle.dme_line.proofs.Names.{list_all, longer_word, mark_token, ne_eqb, not, not-true, Open, or_cases, prefix_len, refl, subst, suc, sym, take}
+use Rattle.dme_line.proofs.Names.{take-append-drop, Token, tokens, tokens_behind, true, true≢false, Word, ℕ}
 
 -- one element more on a front
 one_more : (n : ℕ) → 1 + n ≡ suc n

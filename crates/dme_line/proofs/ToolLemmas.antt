@@ -1,18 +1,11 @@
 -- The name of a tool, in quotes or not.
-use Rattle.std.proofs.Common.{◌≡◌, ℕ, zero, suc, ◌-◌, ◌≤◌, Bool, true, false, ◌&&◌, cond, ◌⊎◌, inl, inr, List, [], ◌∷◌, ◌++◌, length, take}
-use Rattle.std.proofs.Common.{drop, get_or, Option, Some, None, Result, Ok, Err, MatchOption, IfOk, refl, ap, sym, subst, ◌∙◌, arith}
-use Rattle.std.proofs.Common.{length-append}
-use Rattle.std.specs.Prelude.{◌==◌, nat_le, slice_index, if◌then◌else◌}
+use Rattle.dme_line.proofs.Names.{[], ◌&&◌, ◌++◌, ◌-◌, ◌==◌, ◌∙◌, ◌∷◌, ◌≡◌, ◌≤◌, ◌⊎◌, and_from, and_parts, ap, arith, bare_word, Bool, cond, drop}
+use Rattle.dme_line.proofs.Names.{eq-eqb, eqb-true, Err, false, false≢true, folded, get_or, IfOk, if◌then◌else◌, inl, inr, is_name_byte, is_name_text}
+use Rattle.dme_line.proofs.Names.{IsOneWord, IsTool, IsToolWord, le-leb, leb-true, length, length-append, List, list_all, MatchOption, nat_le, None}
+use Rattle.dme_line.proofs.Names.{Ok, Option, quoted, refl, Result, slice_index, Some, subst, suc, sym, take, Token, true, zero, ℕ}
 use Rattle.std.specs.declared.alloc.AllocError.{AllocError}
-use Rattle.std.specs.List.{list_all}
-use Rattle.std.proofs.lemmas.Bool.{and_parts, and_from, eqb-true, eq-eqb, leb-true, le-leb, false≢true}
 use Rattle.std.proofs.lemmas.List.{append_cancel_right}
 use Rattle.std.proofs.Math.Seq.{get_or-append_seam}
-use Rattle.fixed_um.specs.Names.{folded, is_name_byte, is_name_text}
-use Rattle.dme_line.specs.Tokens.{Token}
-use Rattle.dme_line.specs.Arguments.{IsOneWord, IsToolWord, IsTool}
-use Rattle.dme_line.specs.Words.{quoted}
-use Rattle.dme_line.specs.Taken.{bare_word}
 
 -- a text in quotes and what is in them, or a text not in quotes
 abbrev IsBare : List ℕ → List ℕ → Type 0

@@ -1,26 +1,13 @@
 -- What is written can be in a line, and its numerals and names are words.
-use Rattle.std.proofs.Common.{◌≡◌, ◌≢◌, ℕ, ◌+◌, ◌/◌, ◌^◌, ◌<◌, ◌≤◌, Bool, true, false, ◌&&◌, List, [], ◌∷◌, ◌++◌, length, refl, ap, sym}
-use Rattle.std.proofs.Common.{◌∙◌, arith, codes, length-append, ℤ, pos, negsuc}
-use Rattle.std.specs.Prelude.{◌==◌, nat_le, unsigned_abs, decimal}
-use Rattle.std.specs.List.{list_all}
-use Rattle.std.specs.Char.{digit_value}
+use Rattle.dme_line.proofs.Names.{[], ◌&&◌, ◌++◌, ◌+◌, ◌/◌, ◌<◌, ◌==◌, ◌^◌, ◌∙◌, ◌∷◌, ◌≡◌, ◌≢◌, ◌≤◌, and_from, and_parts, ap, arith, Bool, codes}
+use Rattle.dme_line.proofs.Names.{component_limit, decimal, digit_value, Event, false, false≢true, four_digits, is_content, is_name_byte}
+use Rattle.dme_line.proofs.Names.{is_word_byte, IsName, IsOnWire, IsWireText, last_digit, le-leb, leb-true, length, length-append, List, list_all}
+use Rattle.dme_line.proofs.Names.{list_all-append, minus_sign, nat_le, nat_tests, ne_eqb, negsuc, Point, pos, quoted, refl, six_digits, Std, sym, Tag}
+use Rattle.dme_line.proofs.Names.{three_digits, true, unsigned_abs, whole-short, wire_limit, written_point, written_tag, ℕ, ℤ}
 use Rattle.std.specs.Str.Parse.{AllDigits}
 use Rattle.std.proofs.lemmas.Fmt.{decimal_is_IsNumeral}
-use Rattle.std.proofs.lemmas.Bool.{and_parts, and_from, leb-true, le-leb, false≢true, ne_eqb}
-use Rattle.std.proofs.lemmas.Bool.Decides.{nat_tests}
-use Rattle.std.proofs.lemmas.List.Folds.{list_all-append}
-use Rattle.fixed_um.specs.Limits.{wire_limit, component_limit}
-use Rattle.fixed_um.specs.Names.{is_name_byte, IsName}
-use Rattle.fixed_um.specs.Written.{minus_sign, last_digit, three_digits, six_digits, written, written_component}
-use Rattle.fixed_um.specs.declared.lengths.Point.{Point}
+use Rattle.fixed_um.specs.Written.{written, written_component}
 use Rattle.fixed_um.proofs.DigitLemmas.{value-digit}
-use Rattle.fixed_um.proofs.WrittenLemmas.{whole-short}
-use Rattle.dme_line.specs.Words.{is_content, IsWireText, quoted}
-use Rattle.dme_line.specs.Tokens.{is_word_byte}
-use Rattle.dme_line.specs.Tags.{four_digits, written_tag}
-use Rattle.dme_line.specs.Points.{written_point, IsOnWire}
-use Rattle.dme_line.specs.declared.tags.Tag.{Tag}
-use Rattle.dme_line.specs.declared.tags.Tag.TheVariants.{Std, Event}
 
 -- ---- texts one after another
 

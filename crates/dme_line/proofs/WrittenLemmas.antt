@@ -1,11 +1,7 @@
 -- Points in their written form.
-use Rattle.std.proofs.Common.{◌≡◌, ℕ, List, [], ◌∷◌, ◌++◌, Option, Some, None, Ok, IfSome, refl, ap, ◌∙◌, codes}
-use Rattle.fixed_um.specs.Numerals.{ReadsDirection}
-use Rattle.fixed_um.specs.Shapes.{Direction}
-use Rattle.fixed_um.specs.declared.lengths.Point.{Point}
-use Rattle.dme_line.specs.Tokens.{Token, Open, Close, Comma, tokens}
-use Rattle.dme_line.specs.Arguments.{Argument, Single, argument_tokens, triple_of, triple_named, EndsWithAlong, IsPlace, IsTarget}
-use Rattle.dme_line.specs.Points.{BeginsWithPoint, HasCoordinates, IsPointText, point_tokens}
+use Rattle.dme_line.proofs.Names.{[], ◌++◌, ◌∙◌, ◌∷◌, ◌≡◌, ap, Argument, argument_tokens, BeginsWithPoint, Close, codes, Comma, Direction}
+use Rattle.dme_line.proofs.Names.{EndsWithAlong, HasCoordinates, IfSome, IsPlace, IsPointText, IsTarget, List, None, Ok, Open, Option, Point}
+use Rattle.dme_line.proofs.Names.{point_tokens, ReadsDirection, refl, Single, Some, Token, tokens, triple_named, triple_of, ℕ}
 
 -- three axes, one after the other
 pub three_axes : (ts t u v w us : List Token) (x y z : List ℕ) → ts ≡ argument_tokens (Single (codes "X") x) ++ t → t ≡ Comma ∷ u

@@ -1,21 +1,12 @@
 -- The lines of a simulation, from what was played to the sink.
-use Rattle.std.proofs.Common.{◌≡◌, inl, inr, ℕ, Bool, true, false, List, [], ◌++◌, Option, Some, None, refl, sym, ap, ◌∙◌, subst, Result, Ok, Err, IfOk}
-use Rattle.std.specs.Prelude.{OnOk, OnErr}
+use Rattle.dme_orders.proofs.Names.{[], ◌++◌, ◌∙◌, ◌≡◌, ap, AreTraced, Bool, Err, false, IfOk, inl, inr, Instruction, IsShown, LeavesLines, List}
+use Rattle.dme_orders.proofs.Names.{Meaning, None, Ok, OnErr, OnOk, Option, PlaysTraced, refl, report_text, Result, SetupValue, shown_of, ShowsLines}
+use Rattle.dme_orders.proofs.Names.{simulated, Some, start, State, subst, sym, true, went, World, ℕ}
 use Rattle.std.specs.Io.KnownBytes.{Appends}
 use Rattle.byte_ports.specs.Transfers.{AppendsFront}
-use Rattle.tool_rack.specs.Setups.{SetupValue}
-use Rattle.dmis_program.specs.Meaning.{Meaning}
-use Rattle.protocol_model.specs.World.{World, start}
 use Rattle.protocol_model.specs.declared.machine.Job.{Job}
 use Rattle.protocol_model.specs.declared.machine.Outcome.{Outcome}
-use Rattle.protocol_model.specs.declared.states.State.{State}
-use Rattle.link_world.specs.Machines.{simulated}
-use Rattle.link_world.specs.Reports.{report_text}
-use Rattle.link_world.specs.Schedules.{PlaysTraced}
-use Rattle.link_world.specs.Traces.{TraceValue, TracesAll, Ends, traced, undelivered}
-use Rattle.link_world.specs.declared.texts.schedules.Instruction.{Instruction}
-use Rattle.dme_orders.specs.Simulating.{shown_of, AreTraced, IsShown, ShowsLines, LeavesLines}
-use Rattle.dme_orders.specs.Orders.{went}
+use Rattle.link_world.specs.Traces.{Ends, traced, TracesAll, TraceValue, undelivered}
 
 -- a trace that is new
 abbrev pub fresh : TraceValue

@@ -1,17 +1,12 @@
 -- What follows from the turns that both ends have taken.
-use Rattle.std.proofs.Common.{◌≡◌, inr, ℕ, Option, None, Some, List, [], Result, Ok, Err, OnOk, subst}
-use Rattle.std.specs.Prelude.{IfErr}
+use Rattle.dme_orders.proofs.Names.{[], ◌≡◌, ends_shown, Err, first_client, first_server, IfErr, inr, List, Meaning, None, Ok, OnOk, Option}
+use Rattle.dme_orders.proofs.Names.{report_text, Result, SetupValue, simulated, Some, subst, ℕ}
 use Rattle.fixed_um.specs.declared.lengths.Point.{Point}
-use Rattle.tool_rack.specs.Setups.{SetupValue}
-use Rattle.dmis_program.specs.Meaning.{Meaning}
 use Rattle.protocol_model.specs.Ends.{ClientEnd}
 use Rattle.server_core.specs.Serving.{ServerValue}
-use Rattle.link_world.specs.LinkRuns.{client_side, server_side, LoopRan, LoopStopped}
-use Rattle.link_world.specs.Machines.{simulated}
-use Rattle.link_world.specs.Reports.{report_text}
+use Rattle.link_world.specs.LinkRuns.{client_side, LoopRan, LoopStopped, server_side}
 use Rattle.link_world.specs.Watching.{TellsRun}
-use Rattle.dme_orders.specs.Ends.{first_client, first_server, ends_shown}
-use Rattle.dme_orders.specs.Looping.{LoopTold, LoopCame, LoopsOver, LeavesLoop, StopsLoop}
+use Rattle.dme_orders.specs.Looping.{LeavesLoop, LoopCame, LoopsOver, LoopTold, StopsLoop}
 use Rattle.link_world.specs.declared.connections.links.LoopFault.{LoopFault}
 use Rattle.dme_orders.specs.declared.ended.ConnectionEnd.{ConnectionEnd}
 

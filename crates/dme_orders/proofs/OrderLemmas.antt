@@ -1,26 +1,24 @@
 -- What an order leaves that stops.
-use Rattle.std.proofs.Common.{◌≡◌, ◌<◌, ◌⊎◌, inl, inr, ℕ, Bool, false, List, [], ◌∷◌, length, Result, Ok, Err, refl, sym, subst, arith}
-use Rattle.std.specs.Prelude.{IsErrAnd, IfErr}
-use Rattle.dme_orders.specs.Orders.{Went, Carries, IsTorn, Prints, blamed, no_memory, torn}
+use Rattle.dme_orders.proofs.Names.{[], ◌<◌, ◌∷◌, ◌≡◌, ◌⊎◌, arith, blamed, Bool, Carries, Err, false, IfErr, inl, inr, IsErrAnd, IsTorn, length, List}
+use Rattle.dme_orders.proofs.Names.{no_memory, Ok, Prints, refl, Result, subst, sym, torn, Went, ℕ}
 use Rattle.dme_orders.specs.declared.reading.FilesFault.{FilesFault}
-use Rattle.dme_orders.specs.declared.reading.FilesFault.TheVariants as fault
 
 -- its files were read, and nothing was written
 pub no_room : {A B W : Type 0} (Reads : A → Type 0) (Leaves : A → B → List ℕ → Type 0) (w : Went W) (WhyNo : FilesFault → Type 0)
-    (r : Result B FilesFault) → IsErrAnd r (λ f. f ≡ fault.Memory) → (input : A) → Reads input → w.new ≡ w.old
+    (r : Result B FilesFault) → IsErrAnd r (λ f. f ≡ FilesFault.Memory) → (input : A) → Reads input → w.new ≡ w.old
     → Carries Reads Leaves w WhyNo r
 no_room Reads Leaves w WhyNo (Ok end) is input read same = absurd is
 no_room Reads Leaves w WhyNo (Err f) is input read same = no_memory is input read same
 
 -- its files were read, and the sink has failed
 pub torn_as : {A B W : Type 0} (Reads : A → Type 0) (Leaves : A → B → List ℕ → Type 0) (w : Went W) (WhyNo : FilesFault → Type 0)
-    (r : Result B FilesFault) → IsErrAnd r (λ f. f ≡ fault.Write) → IsTorn Reads Leaves w → Carries Reads Leaves w WhyNo r
+    (r : Result B FilesFault) → IsErrAnd r (λ f. f ≡ FilesFault.Write) → IsTorn Reads Leaves w → Carries Reads Leaves w WhyNo r
 torn_as Reads Leaves w WhyNo (Ok end) is front = absurd is
 torn_as Reads Leaves w WhyNo (Err f) is front = torn is front
 
 -- it reads no files
 pub no_text : {B W : Type 0} (Leaves : B → List ℕ → Type 0) (w : Went W) (r : Result B FilesFault)
-    → IsErrAnd r (λ f. f ≡ fault.Memory) → w.new ≡ w.old → Prints Leaves w r
+    → IsErrAnd r (λ f. f ≡ FilesFault.Memory) → w.new ≡ w.old → Prints Leaves w r
 no_text Leaves w (Ok end) is same = absurd is
 no_text Leaves w (Err f) is same = no_memory is tt tt same
 

@@ -1,18 +1,15 @@
 -- Numbers that are counted up.
-use Rattle.std.proofs.Common.{◌≡◌, ℕ, zero, suc, ◌+◌, ◌%◌, Bool, true, false, cond, ◌==◌, ◌<◌, length, length-append, List, [], ◌∷◌, ◌++◌, refl, ap}
-use Rattle.std.proofs.Common.{◌∙◌, arith, sym, append_assoc}
-use Rattle.std.specs.Prelude.{All, take}
-use Rattle.std.proofs.lemmas.Bool.{eqb-true, eqb-false}
+use Rattle.dme_orders.proofs.Names.{[], ◌%◌, ◌++◌, ◌+◌, ◌<◌, ◌==◌, ◌∙◌, ◌∷◌, ◌≡◌, All, ap, append_assoc, arith, Bool, cond, eqb-true, false}
+use Rattle.dme_orders.proofs.Names.{IsSendable, length, length-append, line_under, lines_from, List, Meaning, number_behind, number_behind_all, refl}
+use Rattle.dme_orders.proofs.Names.{shown_from, suc, sym, take, true, zero, ℕ}
+use Rattle.std.proofs.lemmas.Bool.{eqb-false}
 use Rattle.std.proofs.lemmas.List.Elements.{All-take}
-use Rattle.resume_plan.specs.Sendable.{IsSendable}
 use Rattle.dme_line.specs.declared.tags.Tag.TheVariants.{Std}
 use Rattle.dme_line.specs.Written.{written_command}
 use Rattle.protocol_model.specs.declared.plans.Planned.{Planned}
-use Rattle.dmis_program.specs.Meaning.{Meaning}
 use Rattle.protocol_model.specs.Plan.{plan}
 use Rattle.protocol_model.specs.declared.plans.Start.TheVariants.{NewConnection}
-use Rattle.dme_orders.specs.Plan.{lines_behind, plan_text, shown_line, shown_behind}
-use Rattle.dme_orders.specs.Numbered.{number_behind, number_behind_all, line_under, lines_from, shown_from}
+use Rattle.dme_orders.specs.Plan.{lines_behind, plan_text, shown_behind, shown_line}
 
 -- the next number is that of one command more
 number_step : (count : ℕ) (b : Bool) → (count % 9999 + 1 == 9999) ≡ b → cond b 1 (count % 9999 + 1 + 1) ≡ (count + 1) % 9999 + 1

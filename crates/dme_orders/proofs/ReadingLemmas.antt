@@ -1,12 +1,6 @@
 -- What follows from a report of a world.
-use Rattle.std.proofs.Common.{◌≡◌, ℕ, List, Result, Ok, Err, IfOk}
-use Rattle.tool_rack.specs.Setups.{SetupValue}
-use Rattle.dmis_program.specs.Meaning.{Meaning}
-use Rattle.protocol_model.specs.World.{World}
-use Rattle.protocol_model.specs.declared.states.State.{State}
-use Rattle.link_world.specs.Reports.{report_text}
-use Rattle.link_world.specs.declared.texts.schedules.Instruction.{Instruction}
-use Rattle.dme_orders.specs.Simulating.{IsPlayed, LeavesReport, shown_of}
+use Rattle.dme_orders.proofs.Names.{◌≡◌, Err, IfOk, Instruction, IsPlayed, LeavesReport, List, Meaning, Ok, report_text, Result, SetupValue, shown_of}
+use Rattle.dme_orders.proofs.Names.{State, World, ℕ}
 
 -- the report of a world to which the instructions lead
 pub leaves_report : {V E : Type 0} (result : Result (State × V) E) (items : V → List ℕ) (window : ℕ) (setup : SetupValue)

@@ -1,16 +1,12 @@
 -- The texts of a record's features and acts.
-use Rattle.std.proofs.Common.{◌≡◌, ◌<◌, true, List, ℕ, length, map}
-use Rattle.std.specs.Prelude.{codes}
-use Rattle.std.specs.List.{AllByRecursion}
+use Rattle.dme_orders.proofs.Names.{◌<◌, ◌≡◌, Act, AllByRecursion, codes, length, List, map, Meaning, true, ℕ}
 use Rattle.client_core.specs.Clients.{are_ours}
 use Rattle.client_core.proofs.Fits.{ours_writable}
-use Rattle.contact_ledger.specs.ContactTexts.{contacts_text, act_line}
+use Rattle.contact_ledger.specs.ContactTexts.{act_line, contacts_text}
 use Rattle.contact_ledger.specs.FeatureTexts.{CanBeWritten, header, lines_of_all}
 use Rattle.contact_ledger.specs.Ledgers.{HaveOrigins}
 use Rattle.contact_ledger.specs.Lines.{text_of}
-use Rattle.contact_ledger.specs.declared.acts.Act.{Act}
 use Rattle.contact_ledger.specs.declared.features.Feature.{Feature}
-use Rattle.dmis_program.specs.Meaning.{Meaning}
 use Rattle.dmis_program.specs.Programs.{IsProgram}
 use Rattle.dme_orders.specs.OfRecords.{IsFeaturesText}
 use Rattle.dme_orders.proofs.PlanLemmas.{some_after}

@@ -8,51 +8,49 @@ use Rattle.dme_orders.specs.Plan.{plan_text}
 use Rattle.dme_orders.specs.Reading.{Came, WhyNoProgram}
 use Rattle.dme_orders.specs.UnderSetup.{Checks}
 use Rattle.dme_orders.specs.declared.reading.FilesFault.{FilesFault}
-use Rattle.dme_orders.specs.declared.reading.FilesFault.TheVariants as files
 use Rattle.dme_orders.specs.declared.reading.Role.{Role}
-use Rattle.dme_orders.specs.declared.reading.Role.TheVariants as role
 use Rattle.dme_program.specs.Blamed.{OnSetup}
 
 on_any : (P : Type 0) (cause : FilesFault) → P → OnSetup P cause
-on_any P (files.Setup cause) p = p
-on_any P (files.Schedule cause) p = tt
-on_any P (files.Features cause) p = tt
-on_any P (files.Contacts cause) p = tt
-on_any P (files.Record cause) p = tt
-on_any P (files.OtherProgram label) p = tt
-on_any P (files.Program cause) p = tt
-on_any P (files.Unread role.Setup) p = p
-on_any P (files.Unread role.Schedule) p = tt
-on_any P (files.Unread role.Features) p = tt
-on_any P (files.Unread role.Contacts) p = tt
-on_any P (files.Unread role.Record) p = tt
-on_any P (files.Unread role.Program) p = tt
-on_any P files.NotOurs p = tt
-on_any P files.Write p = tt
-on_any P files.Memory p = tt
+on_any P (FilesFault.Setup cause) p = p
+on_any P (FilesFault.Schedule cause) p = tt
+on_any P (FilesFault.Features cause) p = tt
+on_any P (FilesFault.Contacts cause) p = tt
+on_any P (FilesFault.Record cause) p = tt
+on_any P (FilesFault.OtherProgram label) p = tt
+on_any P (FilesFault.Program cause) p = tt
+on_any P (FilesFault.Unread Role.Setup) p = p
+on_any P (FilesFault.Unread Role.Schedule) p = tt
+on_any P (FilesFault.Unread Role.Features) p = tt
+on_any P (FilesFault.Unread Role.Contacts) p = tt
+on_any P (FilesFault.Unread Role.Record) p = tt
+on_any P (FilesFault.Unread Role.Program) p = tt
+on_any P FilesFault.NotOurs p = tt
+on_any P FilesFault.Write p = tt
+on_any P FilesFault.Memory p = tt
 
-no_setup : role.Setup ≡ role.Program → ⊥
+no_setup : Role.Setup ≡ Role.Program → ⊥
 no_setup is = absurd (cc)
 
 -- a fault of the program is not one of the setup
 of_program : {R : Type 0} (r : Came R) (said : Option SetupValue) (P : Type 0) (cause : FilesFault)
     → WhyNoProgram r (frames_under said) cause → OnSetup P cause
-of_program r said P (files.Setup cause) why = absurd why
-of_program r said P (files.Schedule cause) why = tt
-of_program r said P (files.Features cause) why = tt
-of_program r said P (files.Contacts cause) why = tt
-of_program r said P (files.Record cause) why = tt
-of_program r said P (files.OtherProgram label) why = tt
-of_program r said P (files.Program cause) why = tt
-of_program r said P (files.Unread role.Setup) why = absurd (no_setup why.0)
-of_program r said P (files.Unread role.Schedule) why = tt
-of_program r said P (files.Unread role.Features) why = tt
-of_program r said P (files.Unread role.Contacts) why = tt
-of_program r said P (files.Unread role.Record) why = tt
-of_program r said P (files.Unread role.Program) why = tt
-of_program r said P files.NotOurs why = tt
-of_program r said P files.Write why = tt
-of_program r said P files.Memory why = tt
+of_program r said P (FilesFault.Setup cause) why = absurd why
+of_program r said P (FilesFault.Schedule cause) why = tt
+of_program r said P (FilesFault.Features cause) why = tt
+of_program r said P (FilesFault.Contacts cause) why = tt
+of_program r said P (FilesFault.Record cause) why = tt
+of_program r said P (FilesFault.OtherProgram label) why = tt
+of_program r said P (FilesFault.Program cause) why = tt
+of_program r said P (FilesFault.Unread Role.Setup) why = absurd (no_setup why.0)
+of_program r said P (FilesFault.Unread Role.Schedule) why = tt
+of_program r said P (FilesFault.Unread Role.Features) why = tt
+of_program r said P (FilesFault.Unread Role.Contacts) why = tt
+of_program r said P (FilesFault.Unread Role.Record) why = tt
+of_program r said P (FilesFault.Unread Role.Program) why = tt
+of_program r said P FilesFault.NotOurs why = tt
+of_program r said P FilesFault.Write why = tt
+of_program r said P FilesFault.Memory why = tt
 
 of_named : {S : Type 0} (left : S → Option (List ℕ)) (has_failed : S → Bool) (old new : Option S) (P : Type 0) (cause : FilesFault)
     → (is_some old ≡ true → P) → IsBlamed left has_failed old new cause → OnSetup P cause

@@ -1,7 +1,5 @@
 -- What only proofs speak of.
-use Rattle.std.specs.Prelude.{List, [], ◌∷◌}
-use Rattle.dme_tags.specs.Opened.{OpenValue}
-use Rattle.dme_tags.specs.Calls.{Call, behind_call}
+use Rattle.dme_tags.proofs.Names.{[], ◌∷◌, behind_call, Call, List, OpenValue}
 
 -- what is open after a list of calls
 abbrev pub behind_calls : OpenValue → List Call → OpenValue

@@ -1,31 +1,12 @@
 -- Which mark is taken in and which refusal is due, by what is held under the tag.
-use Rattle.std.proofs.Common.{◌≡◌, ◌↔◌, ◌⊎◌, inl, inr, Bool, true, false, cond, not, ◌&&◌, ℕ, List, [], ◌∷◌, Option, Some, None, Result, Ok}
-use Rattle.std.proofs.Common.{Err, refl, sym, ◌∙◌, ap, subst}
-use Rattle.std.specs.Prelude.{IsOk, IsErrOf, IfOk, IfErr}
-use Rattle.std.proofs.lemmas.Bool.{false≢true, and_parts}
-use Rattle.dme_line.specs.declared.tags.Tag.{Tag}
-use Rattle.dme_line.specs.declared.tags.Tag.TheVariants.{Std, Event}
-use Rattle.dme_line.specs.declared.commands.Kind.{Kind}
-use Rattle.protocol_model.specs.Replies.{Mark, tag_is}
-use Rattle.protocol_model.specs.Open.{Verdict, Becomes, Breaks, Closes, Counts, Refused, Effect, Heard}
-use Rattle.protocol_model.specs.Open.{asks_data, fits, is_failed, heard_in}
-use Rattle.protocol_model.specs.Open.{judged, judged_ack, judged_given, judged_done, judged_error, put_before, settled}
-use Rattle.protocol_model.specs.Ends.{held_kind}
-use Rattle.protocol_model.specs.declared.held.Datum.{Datum}
-use Rattle.protocol_model.specs.declared.held.OpenCommand.{OpenCommand}
-use Rattle.protocol_model.specs.declared.held.Stage.{Stage}
-use Rattle.protocol_model.specs.declared.states.Cause.{Cause}
-use Rattle.protocol_model.specs.declared.states.Cause.TheVariants as cause
-use Rattle.dme_tags.specs.Answers.{cause_of, IsRefused}
-use Rattle.dme_tags.specs.Opened.{OpenValue, Answer, heard, heard_standard, heard_event, kind_under, is_next, IsNext}
-use Rattle.dme_tags.specs.Places.{ahead_of, all_failed}
-use Rattle.protocol_model.proofs.table.Speaking.{fits_asks}
+use Rattle.dme_tags.proofs.Names.{[], ◌&&◌, ◌↔◌, ◌∙◌, ◌∷◌, ◌≡◌, ◌⊎◌, ahead_of, all_failed, and_parts, Answer, ap, asks_data, AwaitsData, Becomes}
+use Rattle.dme_tags.proofs.Names.{Bool, Breaks, Cause, cause_of, Closes, cond, Counts, Datum, Effect, Err, Event, false, false≢true, fits, fits_asks}
+use Rattle.dme_tags.proofs.Names.{HasData, Heard, heard, heard_event, heard_in, heard_standard, held_kind, IfErr, IfOk, inl, inr, is_failed, is_next}
+use Rattle.dme_tags.proofs.Names.{IsErrOf, IsNext, IsOk, IsRefused, judged, judged_ack, judged_done, judged_error, judged_given, Kind, kind_under}
+use Rattle.dme_tags.proofs.Names.{List, Mark, may_be_given, None, not, Ok, OpenCommand, OpenValue, Option, put_before, refl, Refused, Result, settled}
+use Rattle.dme_tags.proofs.Names.{Some, Stage, standing, standing_in, Std, subst, sym, Tag, tag_is, TagFault, true, Verdict, ℕ}
 use Rattle.dme_tags.proofs.Fitting.{asked}
 use Rattle.dme_tags.proofs.Refusals.{refused_standard, refused_event}
-use Rattle.dme_tags.specs.Data.{may_be_given}
-use Rattle.dme_tags.specs.Standing.{standing_in, standing, AwaitsData, HasData}
-use Rattle.dme_tags.specs.declared.faults.TagFault.{TagFault}
-use Rattle.dme_tags.specs.declared.faults.TagFault.TheVariants as fault
 
 -- ---- why a mark is refused
 
@@ -40,7 +21,7 @@ refusal_of (Counts given) = None
 refusal_of (Refused why) = Some why
 
 abbrev pub refusal_under : Standing → Bool → Mark → Option Cause
-refusal_under None front m = Some cause.UnknownTag
+refusal_under None front m = Some Cause.UnknownTag
 refusal_under (Some (k, stage)) front m = refusal_of (judged front k stage m)
 
 abbrev refusal_in : Heard → Option Cause
@@ -144,7 +125,7 @@ data_none true (Stage.Given q) p e = absurd (cc)
 data_none true Stage.Failed p e = absurd (cc)
 data_none false s p e = absurd (cc)
 
-data_second : (d : Bool) (s : Stage) (p : Datum) → refusal_of (judged_given d s p) ≡ Some cause.SecondData → (d ≡ true)
+data_second : (d : Bool) (s : Stage) (p : Datum) → refusal_of (judged_given d s p) ≡ Some Cause.SecondData → (d ≡ true)
     × ((q : Datum) × (s ≡ Stage.Given q))
 data_second true Stage.Sent p e = absurd (cc)
 data_second true Stage.Received p e = absurd (cc)
@@ -159,23 +140,23 @@ none_some c due a b = cc
 
 -- the fault for a cause
 abbrev pub fault_for : Option Cause → TagFault
-fault_for None = fault.Memory
-fault_for (Some cause.NotResponse) = fault.Memory
-fault_for (Some cause.LineTooLong) = fault.Memory
-fault_for (Some cause.BadByte) = fault.Memory
-fault_for (Some cause.UnknownTag) = fault.UnknownTag
-fault_for (Some cause.OutOfOrder) = fault.OutOfOrder
-fault_for (Some cause.NoData) = fault.NoData
-fault_for (Some cause.SecondData) = fault.SecondData
-fault_for (Some cause.TagsSpent) = fault.TagsSpent
+fault_for None = TagFault.Memory
+fault_for (Some Cause.NotResponse) = TagFault.Memory
+fault_for (Some Cause.LineTooLong) = TagFault.Memory
+fault_for (Some Cause.BadByte) = TagFault.Memory
+fault_for (Some Cause.UnknownTag) = TagFault.UnknownTag
+fault_for (Some Cause.OutOfOrder) = TagFault.OutOfOrder
+fault_for (Some Cause.NoData) = TagFault.NoData
+fault_for (Some Cause.SecondData) = TagFault.SecondData
+fault_for (Some Cause.TagsSpent) = TagFault.TagsSpent
 
 fault_back : (f : TagFault) → f ≡ fault_for (cause_of f)
-fault_back fault.UnknownTag = refl
-fault_back fault.OutOfOrder = refl
-fault_back fault.NoData = refl
-fault_back fault.SecondData = refl
-fault_back fault.TagsSpent = refl
-fault_back fault.Memory = refl
+fault_back TagFault.UnknownTag = refl
+fault_back TagFault.OutOfOrder = refl
+fault_back TagFault.NoData = refl
+fault_back TagFault.SecondData = refl
+fault_back TagFault.TagsSpent = refl
+fault_back TagFault.Memory = refl
 
 pub said_is : (due c : Option Cause) → IsSaid due c → due ≡ c
 said_is due None h = absurd h
@@ -243,14 +224,14 @@ nothing_stands None e = refl
 nothing_stands (Some (k, s)) e = absurd (cc)
 
 -- why a mark is refused under whose tag a command is held: the cause is never that no command is held
-pub ack_causes : (s : Stage) (why : Cause) → refusal_of (judged_ack s) ≡ Some why → why ≡ cause.OutOfOrder
+pub ack_causes : (s : Stage) (why : Cause) → refusal_of (judged_ack s) ≡ Some why → why ≡ Cause.OutOfOrder
 ack_causes Stage.Sent why e = absurd (cc)
 ack_causes Stage.Received why e = cc
 ack_causes (Stage.Given q) why e = cc
 ack_causes Stage.Failed why e = cc
 
 data_causes : (d : Bool) (s : Stage) (p : Datum) (why : Cause) → refusal_of (judged_given d s p) ≡ Some why
-    → (why ≡ cause.OutOfOrder) ⊎ (why ≡ cause.SecondData)
+    → (why ≡ Cause.OutOfOrder) ⊎ (why ≡ Cause.SecondData)
 data_causes true Stage.Sent p why e = inl (cc)
 data_causes true Stage.Received p why e = absurd (cc)
 data_causes true (Stage.Given q) p why e = inr (cc)
@@ -264,7 +245,7 @@ error_causes (Stage.Given q) why e = cc
 error_causes Stage.Failed why e = cc
 
 pub done_causes : (b a : Bool) (s : Stage) (why : Cause) → refusal_of (judged_done b a s) ≡ Some why
-    → (why ≡ cause.OutOfOrder) ⊎ (why ≡ cause.NoData)
+    → (why ≡ Cause.OutOfOrder) ⊎ (why ≡ Cause.NoData)
 done_causes true true Stage.Sent why e = inl (cc)
 done_causes true true Stage.Received why e = inr (cc)
 done_causes true true (Stage.Given q) why e = absurd (cc)
@@ -279,35 +260,35 @@ done_causes false a (Stage.Given q) why e = inl (cc)
 done_causes false a Stage.Failed why e = absurd (cc)
 
 -- the faults for one of two causes, or that no command is held
-pub named_two : (why a b : Cause) → (why ≡ a) ⊎ (why ≡ b) → (fault_for (Some why) ≡ fault.UnknownTag)
+pub named_two : (why a b : Cause) → (why ≡ a) ⊎ (why ≡ b) → (fault_for (Some why) ≡ TagFault.UnknownTag)
     ⊎ (fault_for (Some why) ≡ fault_for (Some a)) ⊎ (fault_for (Some why) ≡ fault_for (Some b))
 named_two why a b (inl e) = inr (inl (ap (λ (w : Cause). fault_for (Some w)) e))
 named_two why a b (inr e) = inr (inr (ap (λ (w : Cause). fault_for (Some w)) e))
 
-unknown_two : (a : Cause) → (cause.UnknownTag ≡ a → ⊥) → (cause.UnknownTag ≡ cause.OutOfOrder) ⊎ (cause.UnknownTag ≡ a) → ⊥
+unknown_two : (a : Cause) → (Cause.UnknownTag ≡ a → ⊥) → (Cause.UnknownTag ≡ Cause.OutOfOrder) ⊎ (Cause.UnknownTag ≡ a) → ⊥
 unknown_two a apart (inl e) = cc
 unknown_two a apart (inr e) = apart e
 
-unknown_judged : (front : Bool) (k : Kind) (s : Stage) (m : Mark) → refusal_of (judged front k s m) ≡ Some cause.UnknownTag → ⊥
-unknown_judged front k s Mark.Ack e = go (ack_causes s cause.UnknownTag e)
+unknown_judged : (front : Bool) (k : Kind) (s : Stage) (m : Mark) → refusal_of (judged front k s m) ≡ Some Cause.UnknownTag → ⊥
+unknown_judged front k s Mark.Ack e = go (ack_causes s Cause.UnknownTag e)
   where
-    go : cause.UnknownTag ≡ cause.OutOfOrder → ⊥
+    go : Cause.UnknownTag ≡ Cause.OutOfOrder → ⊥
     go e = cc
-unknown_judged front k s (Mark.Given p) e = unknown_two _ go (data_causes (front && fits k p) s p cause.UnknownTag e)
+unknown_judged front k s (Mark.Given p) e = unknown_two _ go (data_causes (front && fits k p) s p Cause.UnknownTag e)
   where
-    go : cause.UnknownTag ≡ cause.SecondData → ⊥
+    go : Cause.UnknownTag ≡ Cause.SecondData → ⊥
     go e = cc
-unknown_judged front k s Mark.Error e = error_causes s cause.UnknownTag e
-unknown_judged front k s Mark.Done e = unknown_two _ go (done_causes front (asks_data k) s cause.UnknownTag e)
+unknown_judged front k s Mark.Error e = error_causes s Cause.UnknownTag e
+unknown_judged front k s Mark.Done e = unknown_two _ go (done_causes front (asks_data k) s Cause.UnknownTag e)
   where
-    go : cause.UnknownTag ≡ cause.NoData → ⊥
+    go : Cause.UnknownTag ≡ Cause.NoData → ⊥
     go e = cc
 
-unknown_due : (s : Standing) (front : Bool) (m : Mark) → (refusal_under s front m ≡ Some cause.UnknownTag) ↔ (s ≡ None)
+unknown_due : (s : Standing) (front : Bool) (m : Mark) → (refusal_under s front m ≡ Some Cause.UnknownTag) ↔ (s ≡ None)
 unknown_due None front m = (λ _. refl, λ _. refl)
 unknown_due (Some (k, s)) front m = (λ e. absurd (unknown_judged front k s m e), λ e. absurd (cc))
 
-unknown_kind : (o : OpenValue) (t : Tag) (m : Mark) → (refusal_under (standing t o) (is_next t o) m ≡ Some cause.UnknownTag)
+unknown_kind : (o : OpenValue) (t : Tag) (m : Mark) → (refusal_under (standing t o) (is_next t o) m ≡ Some Cause.UnknownTag)
     ↔ (kind_under t o ≡ None)
 unknown_kind o t m = compose (unknown_due (standing t o) (is_next t o) m)
     (λ e. kind_under_is t o ∙ ap kind_part e, λ e. nothing_stands (standing t o) (sym (kind_under_is t o) ∙ e))
@@ -361,22 +342,22 @@ abbrev pub HasAsked : Standing → Type 0
 HasAsked st = (k : Kind) × (asks_data k ≡ true) × ((q : Datum) × (st ≡ Some (k, Stage.Given q)))
 
 second_due : (s : Standing) (b : Bool) (d : Datum) → may_be_given (kind_part s) d ≡ true
-    → (refusal_under s b (Mark.Given d) ≡ Some cause.SecondData) ↔ (HasAsked s × (b ≡ true))
+    → (refusal_under s b (Mark.Given d) ≡ Some Cause.SecondData) ↔ (HasAsked s × (b ≡ true))
 second_due None b d may = (λ e. absurd (cc), λ e. absurd (go e.0.0 e.0.2.0 e.0.2.1))
   where
     go : (k : Kind) (q : Datum) → ◌≡◌ {A = Standing} None (Some (k, Stage.Given q)) → ⊥
     go k q e = cc
 second_due (Some (k, s)) b d may = (only, all)
   where
-    only : refusal_of (judged_given (b && fits k d) s d) ≡ Some cause.SecondData → HasAsked (Some (k, s)) × (b ≡ true)
+    only : refusal_of (judged_given (b && fits k d) s d) ≡ Some Cause.SecondData → HasAsked (Some (k, s)) × (b ≡ true)
     only e = let both = data_second (b && fits k d) s d e in let parts = and_parts b (fits k d) both.0 in
         ((k, fits_asks k d parts.1, (both.1.0, ap (λ (x : Stage). Some (k, x)) both.1.1)), parts.0)
 
-    all : HasAsked (Some (k, s)) × (b ≡ true) → refusal_of (judged_given (b && fits k d) s d) ≡ Some cause.SecondData
+    all : HasAsked (Some (k, s)) × (b ≡ true) → refusal_of (judged_given (b && fits k d) s d) ≡ Some Cause.SecondData
     all e = asked_of k e.0.0 s (Stage.Given e.0.2.0) b d may e.0.1 e.0.2.1 e.1
 
 data_named : (s : Standing) (b : Bool) (p : Datum) (why : Cause) → refusal_under s b (Mark.Given p) ≡ Some why
-    → (fault_for (Some why) ≡ fault.UnknownTag) ⊎ (fault_for (Some why) ≡ fault.OutOfOrder) ⊎ (fault_for (Some why) ≡ fault.SecondData)
+    → (fault_for (Some why) ≡ TagFault.UnknownTag) ⊎ (fault_for (Some why) ≡ TagFault.OutOfOrder) ⊎ (fault_for (Some why) ≡ TagFault.SecondData)
 data_named None b p why e = inl (ap fault_for (sym e))
 data_named (Some (k, s)) b p why e = named_two why _ _ (data_causes (b && fits k p) s p why e)
 
@@ -386,9 +367,9 @@ abbrev pub Agrees : {T : Type 0} → OpenValue → Tag → Mark → Result T Tag
 Agrees o t m r = Fits r (refusal_under (standing t o) (is_next t o) m)
 
 pub unknown_exactly : {T : Type 0} (o : OpenValue) (t : Tag) (m : Mark) (r : Result T TagFault) → Agrees o t m r
-    → IsErrOf r fault.UnknownTag
+    → IsErrOf r TagFault.UnknownTag
     ↔ (kind_under t o ≡ None)
-unknown_exactly o t m r h = compose (err_exactly r _ cause.UnknownTag fault.UnknownTag refl h) (unknown_kind o t m)
+unknown_exactly o t m r h = compose (err_exactly r _ Cause.UnknownTag TagFault.UnknownTag refl h) (unknown_kind o t m)
 
 may_under : (o : OpenValue) (t : Tag) (d : Datum) → may_be_given (kind_under t o) d ≡ true
     → may_be_given (kind_part (standing t o)) d ≡ true
@@ -400,14 +381,14 @@ data_exactly o t d r may h = compose (ok_exactly r _ h) (compose (awaits_due (st
     (next_iff t o (Asks (standing t o) Stage.Received)))
 
 pub second_exactly : {T : Type 0} (o : OpenValue) (t : Tag) (d : Datum) (r : Result T TagFault) → may_be_given (kind_under t o) d ≡ true
-    → Agrees o t (Mark.Given d) r → IsErrOf r fault.SecondData ↔ HasData t o
-second_exactly o t d r may h = compose (err_exactly r _ cause.SecondData fault.SecondData refl h)
+    → Agrees o t (Mark.Given d) r → IsErrOf r TagFault.SecondData ↔ HasData t o
+second_exactly o t d r may h = compose (err_exactly r _ Cause.SecondData TagFault.SecondData refl h)
     (compose (second_due (standing t o) (is_next t o) d (may_under o t d may)) (next_iff t o (HasAsked (standing t o))))
 
 pub data_told : {T : Type 0} (o : OpenValue) (t : Tag) (p : Datum) (r : Result T TagFault) → Agrees o t (Mark.Given p) r
-    → IfErr r (λ f. (f ≡ fault.UnknownTag) ⊎ (f ≡ fault.OutOfOrder) ⊎ (f ≡ fault.SecondData))
-data_told o t p r h = named_by r _ (λ f. (f ≡ fault.UnknownTag) ⊎ (f ≡ fault.OutOfOrder)
-    ⊎ (f ≡ fault.SecondData)) h (data_named (standing t o) (is_next t o) p)
+    → IfErr r (λ f. (f ≡ TagFault.UnknownTag) ⊎ (f ≡ TagFault.OutOfOrder) ⊎ (f ≡ TagFault.SecondData))
+data_told o t p r h = named_by r _ (λ f. (f ≡ TagFault.UnknownTag) ⊎ (f ≡ TagFault.OutOfOrder)
+    ⊎ (f ≡ TagFault.SecondData)) h (data_named (standing t o) (is_next t o) p)
 
 agrees : (T : Type 0) (o n : OpenValue) (t : Tag) (m : Mark) (e : T → Effect) (r : Result T TagFault)
     → IfOk r (λ x. heard o t m ≡ Ok (n, e x))

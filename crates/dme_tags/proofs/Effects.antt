@@ -1,10 +1,6 @@
 -- The effect of a mark, apart from the open commands, is the same on both sorts of tags.
-use Rattle.std.proofs.Common.{◌≡◌, ℕ, Option, Ok, Err, refl, not, true, ◌∙◌}
-use Rattle.dme_line.specs.declared.tags.Tag.TheVariants.{Std, Event}
-use Rattle.protocol_model.specs.Replies.{Mark}
-use Rattle.protocol_model.specs.Open.{Effect, Heard, heard_in}
-use Rattle.dme_tags.specs.Answers.{effect_heard}
-use Rattle.dme_tags.specs.Opened.{OpenValue, heard, heard_standard, heard_event}
+use Rattle.dme_tags.proofs.Names.{◌∙◌, ◌≡◌, Effect, effect_heard, Err, Event, Heard, heard, heard_event, heard_in, heard_standard, Mark, not, Ok}
+use Rattle.dme_tags.proofs.Names.{OpenValue, Option, refl, Std, true, ℕ}
 
 on_standard : (o : OpenValue) (h : Heard) → effect_heard (heard_standard o h) ≡ effect_heard h
 on_standard o (Ok (hs, effect)) = refl

@@ -1,27 +1,11 @@
 -- Which end of a command is due, and which refusal.
-use Rattle.std.proofs.Common.{◌≡◌, ◌↔◌, ◌⊎◌, inl, inr, ℕ, Bool, true, false, cond, not, ◌&&◌, List, [], ◌∷◌, Option, Some, None, Result, Ok}
-use Rattle.std.proofs.Common.{Err, refl, sym, ◌∙◌, ap, subst}
-use Rattle.std.specs.Prelude.{IsOk, IsErrOf, IfOk, IfErr}
-use Rattle.dme_line.specs.declared.tags.Tag.{Tag}
-use Rattle.dme_line.specs.declared.tags.Tag.TheVariants.{Std, Event}
-use Rattle.dme_line.specs.declared.commands.Kind.{Kind}
-use Rattle.protocol_model.specs.Replies.{Mark, tag_is}
-use Rattle.protocol_model.specs.Open.{Verdict, Becomes, Breaks, Closes, Counts, Refused, Effect, Heard, asks_data, is_failed, heard_in}
-use Rattle.protocol_model.specs.Open.{judged, judged_done, put_before, settled}
-use Rattle.protocol_model.specs.declared.held.Datum.{Datum}
-use Rattle.protocol_model.specs.declared.held.OpenCommand.{OpenCommand}
-use Rattle.protocol_model.specs.declared.held.Stage.{Stage}
-use Rattle.protocol_model.specs.declared.states.Cause.{Cause}
-use Rattle.protocol_model.specs.declared.states.Cause.TheVariants as cause
-use Rattle.dme_tags.specs.Answers.{cause_of, effect_of, effect_heard, IsRefused}
+use Rattle.dme_tags.proofs.Names.{[], ◌&&◌, ◌↔◌, ◌∙◌, ◌∷◌, ◌≡◌, ◌⊎◌, ahead_of, all_failed, ap, asks_data, AwaitsData, Becomes, Bool, Breaks, Cause}
+use Rattle.dme_tags.proofs.Names.{cause_of, Closes, cond, Counts, CountsAs, Datum, Effect, effect_heard, effect_of, Ended, Err, Event, false}
+use Rattle.dme_tags.proofs.Names.{HasFailed, Heard, heard, heard_in, IfErr, IfOk, inl, inr, is_failed, is_next, IsErrOf, IsOk, IsRefused, IsUnread}
+use Rattle.dme_tags.proofs.Names.{judged, judged_done, Kind, kind_under, List, Mark, None, not, Ok, OpenCommand, OpenValue, Option, put_before, refl}
+use Rattle.dme_tags.proofs.Names.{Refused, Result, settled, Some, Stage, standing, standing_in, Std, subst, sym, Tag, tag_is, TagFault, true, Verdict}
+use Rattle.dme_tags.proofs.Names.{ℕ}
 use Rattle.dme_tags.specs.Endings.{IsEnding}
-use Rattle.dme_tags.specs.Opened.{OpenValue, heard, kind_under, is_next}
-use Rattle.dme_tags.specs.Places.{ahead_of, all_failed}
-use Rattle.dme_tags.specs.Standing.{standing_in, standing, IsUnread, HasFailed, AwaitsData, CountsAs}
-use Rattle.dme_tags.specs.declared.faults.TagFault.{TagFault}
-use Rattle.dme_tags.specs.declared.faults.TagFault.TheVariants as fault
-use Rattle.dme_tags.specs.declared.endings.Ended.{Ended}
-use Rattle.dme_tags.specs.declared.endings.Ended.TheVariants as ended
 use Rattle.dme_tags.proofs.Refusals.{refused_standard, refused_event}
 use Rattle.dme_tags.proofs.Effects.{standard_effect, event_effect}
 use Rattle.dme_tags.proofs.Dues.{Standing, Asks, Agrees, IsSaid, and_assoc, and_true, compose, err_exactly, fault_for, fits_err}
@@ -175,14 +159,14 @@ closed_all s b h = ap (λ (x : Standing). effect_under x b Mark.Done) h.1 ∙ go
     go false a = refl
 
 -- a command without its data
-unanswered_due : (s : Standing) (b : Bool) → (refusal_under s b Mark.Done ≡ Some cause.NoData) ↔ (Asks s Stage.Received × (b ≡ true))
+unanswered_due : (s : Standing) (b : Bool) → (refusal_under s b Mark.Done ≡ Some Cause.NoData) ↔ (Asks s Stage.Received × (b ≡ true))
 unanswered_due s b = (only s, all)
   where
-    only : (s : Standing) → refusal_under s b Mark.Done ≡ Some cause.NoData → Asks s Stage.Received × (b ≡ true)
+    only : (s : Standing) → refusal_under s b Mark.Done ≡ Some Cause.NoData → Asks s Stage.Received × (b ≡ true)
     only None e = absurd (cc)
     only (Some (k, s)) e = go b (asks_data k) refl s e
       where
-        go : (b a : Bool) → asks_data k ≡ a → (s : Stage) → refusal_of (judged_done b a s) ≡ Some cause.NoData
+        go : (b a : Bool) → asks_data k ≡ a → (s : Stage) → refusal_of (judged_done b a s) ≡ Some Cause.NoData
             → Asks (Some (k, s)) Stage.Received × (b ≡ true)
         go true true is Stage.Sent e = absurd (cc)
         go true true is Stage.Received e = ((k, is, refl), refl)
@@ -197,13 +181,13 @@ unanswered_due s b = (only s, all)
         go false a is (Stage.Given q) e = absurd (cc)
         go false a is Stage.Failed e = absurd (cc)
 
-    all : Asks s Stage.Received × (b ≡ true) → refusal_under s b Mark.Done ≡ Some cause.NoData
+    all : Asks s Stage.Received × (b ≡ true) → refusal_under s b Mark.Done ≡ Some Cause.NoData
     all h = ap (λ (x : Standing). refusal_under x b Mark.Done) h.0.2
         ∙ (ap (λ (x : Bool). refusal_of (judged_done b x Stage.Received)) h.0.1
         ∙ ap (λ (x : Bool). refusal_of (judged_done x true Stage.Received)) h.1)
 
 done_named : (s : Standing) (b : Bool) (why : Cause) → refusal_under s b Mark.Done ≡ Some why
-    → (fault_for (Some why) ≡ fault.UnknownTag) ⊎ (fault_for (Some why) ≡ fault.OutOfOrder) ⊎ (fault_for (Some why) ≡ fault.NoData)
+    → (fault_for (Some why) ≡ TagFault.UnknownTag) ⊎ (fault_for (Some why) ≡ TagFault.OutOfOrder) ⊎ (fault_for (Some why) ≡ TagFault.NoData)
 done_named None b why e = inl (ap fault_for (sym e))
 done_named (Some (k, s)) b why e = named_two why _ _ (done_causes b (asks_data k) s why e)
 
@@ -217,15 +201,15 @@ ends_agrees : (o : OpenValue) (t : Tag) (r : Result Ended TagFault) → Ends o t
 ends_agrees o t (Ok x) h = effect_taken (standing t o) (is_next t o) Mark.Done (effect_of x) h
 ends_agrees o t (Err f) h = h
 
-ended_is : (x : Ended) (k : Kind) (given : Option Datum) → effect_of x ≡ Effect.Count k given → x ≡ ended.Counted k given
-ended_is (ended.Counted j other) k given e =
-    let same : j ≡ k = cc in let at : other ≡ given = cc in ap (λ (i : Kind). ended.Counted i other) same
-    ∙ ap (λ (q : Option Datum). ended.Counted k q) at
-ended_is ended.Closed k given e = absurd (cc)
+ended_is : (x : Ended) (k : Kind) (given : Option Datum) → effect_of x ≡ Effect.Count k given → x ≡ Ended.Counted k given
+ended_is (Ended.Counted j other) k given e =
+    let same : j ≡ k = cc in let at : other ≡ given = cc in ap (λ (i : Kind). Ended.Counted i other) same
+    ∙ ap (λ (q : Option Datum). Ended.Counted k q) at
+ended_is Ended.Closed k given e = absurd (cc)
 
-closed_is : (x : Ended) → effect_of x ≡ Effect.Quiet → x ≡ ended.Closed
-closed_is (ended.Counted j other) e = absurd (cc)
-closed_is ended.Closed e = refl
+closed_is : (x : Ended) → effect_of x ≡ Effect.Quiet → x ≡ Ended.Closed
+closed_is (Ended.Counted j other) e = absurd (cc)
+closed_is Ended.Closed e = refl
 
 said_where_none : (due c : Option Cause) → IsSaid due c → due ≡ None → ⊥
 said_where_none due None h none = h
@@ -255,28 +239,28 @@ end_exactly o t (Err f) x only h = (
     apart e = cc
 
 counted_exactly : (o : OpenValue) (t : Tag) (r : Result Ended TagFault) → Ends o t r → (k : Kind) (given : Option Datum)
-    → (r ≡ Ok (ended.Counted k given)) ↔ CountsAs t o k given
-counted_exactly o t r h k None = compose (end_exactly o t r (ended.Counted k None) (λ y. ended_is y k None) h) (
+    → (r ≡ Ok (Ended.Counted k given)) ↔ CountsAs t o k given
+counted_exactly o t r h k None = compose (end_exactly o t r (Ended.Counted k None) (λ y. ended_is y k None) h) (
   λ e. let c = plain_only (standing t o) (is_next t o) k e in (c.0, c.1, next_only t o c.2),
   λ c. plain_all (standing t o) (is_next t o) k (c.0, c.1, next_all t o c.2),
 )
-counted_exactly o t r h k (Some p) = compose (end_exactly o t r (ended.Counted k (Some p)) (λ y. ended_is y k (Some p)) h) (
+counted_exactly o t r h k (Some p) = compose (end_exactly o t r (Ended.Counted k (Some p)) (λ y. ended_is y k (Some p)) h) (
   λ e. let c = given_only (standing t o) (is_next t o) k p e in (c.0, next_only t o c.1),
   λ c. given_all (standing t o) (is_next t o) k p (c.0, next_all t o c.1),
 )
 
-closed_exactly : (o : OpenValue) (t : Tag) (r : Result Ended TagFault) → Ends o t r → (r ≡ Ok ended.Closed) ↔ HasFailed t o
-closed_exactly o t r h = compose (end_exactly o t r ended.Closed closed_is h)
+closed_exactly : (o : OpenValue) (t : Tag) (r : Result Ended TagFault) → Ends o t r → (r ≡ Ok Ended.Closed) ↔ HasFailed t o
+closed_exactly o t r h = compose (end_exactly o t r Ended.Closed closed_is h)
     (λ e. closed_only (standing t o) (is_next t o) e, λ e. closed_all (standing t o) (is_next t o) e)
 
-no_data_exactly : (o : OpenValue) (t : Tag) (r : Result Ended TagFault) → Ends o t r → IsErrOf r fault.NoData ↔ AwaitsData t o
-no_data_exactly o t r h = compose (err_exactly r _ cause.NoData fault.NoData refl (ends_agrees o t r h))
+no_data_exactly : (o : OpenValue) (t : Tag) (r : Result Ended TagFault) → Ends o t r → IsErrOf r TagFault.NoData ↔ AwaitsData t o
+no_data_exactly o t r h = compose (err_exactly r _ Cause.NoData TagFault.NoData refl (ends_agrees o t r h))
     (compose (unanswered_due (standing t o) (is_next t o)) (next_iff t o (Asks (standing t o) Stage.Received)))
 
 end_named : (o : OpenValue) (t : Tag) (r : Result Ended TagFault) → Ends o t r
-    → IfErr r (λ f. (f ≡ fault.UnknownTag) ⊎ (f ≡ fault.OutOfOrder) ⊎ (f ≡ fault.NoData))
-end_named o t r h = named_by r _ (λ f. (f ≡ fault.UnknownTag) ⊎ (f ≡ fault.OutOfOrder)
-    ⊎ (f ≡ fault.NoData)) (ends_agrees o t r h) (done_named (standing t o) (is_next t o))
+    → IfErr r (λ f. (f ≡ TagFault.UnknownTag) ⊎ (f ≡ TagFault.OutOfOrder) ⊎ (f ≡ TagFault.NoData))
+end_named o t r h = named_by r _ (λ f. (f ≡ TagFault.UnknownTag) ⊎ (f ≡ TagFault.OutOfOrder)
+    ⊎ (f ≡ TagFault.NoData)) (ends_agrees o t r h) (done_named (standing t o) (is_next t o))
 
 ending : (o : OpenValue) (t : Tag) (r : Result Ended TagFault) → Ends o t r → IsEnding t o r
 ending o t r h = record {
@@ -339,12 +323,12 @@ unread_due s b = (only s, λ h. ap (λ (x : Standing). refusal_under x b Mark.Ac
     only (Some (k, Stage.Given q)) e = absurd (cc)
     only (Some (k, Stage.Failed)) e = absurd (cc)
 
-ack_named : (s : Standing) (b : Bool) (why : Cause) → refusal_under s b Mark.Ack ≡ Some why → (fault_for (Some why) ≡ fault.UnknownTag)
-    ⊎ (fault_for (Some why) ≡ fault.OutOfOrder)
+ack_named : (s : Standing) (b : Bool) (why : Cause) → refusal_under s b Mark.Ack ≡ Some why → (fault_for (Some why) ≡ TagFault.UnknownTag)
+    ⊎ (fault_for (Some why) ≡ TagFault.OutOfOrder)
 ack_named None b why e = inl (ap fault_for (sym e))
 ack_named (Some (k, s)) b why e = inr (ap (λ (w : Cause). fault_for (Some w)) (ack_causes s why e))
 
-error_named : (s : Standing) (b : Bool) (why : Cause) → refusal_under s b Mark.Error ≡ Some why → fault_for (Some why) ≡ fault.UnknownTag
+error_named : (s : Standing) (b : Bool) (why : Cause) → refusal_under s b Mark.Error ≡ Some why → fault_for (Some why) ≡ TagFault.UnknownTag
 error_named None b why e = ap fault_for (sym e)
 error_named (Some (k, s)) b why e = absurd (error_causes s why e)
 
@@ -352,28 +336,28 @@ pub unread_exactly : {T : Type 0} (o : OpenValue) (t : Tag) (r : Result T TagFau
 unread_exactly o t r h = compose (ok_exactly r _ h) (unread_due (standing t o) (is_next t o))
 
 pub receipt_named : {T : Type 0} (o : OpenValue) (t : Tag) (r : Result T TagFault) → Agrees o t Mark.Ack r
-    → IfErr r (λ f. (f ≡ fault.UnknownTag) ⊎ (f ≡ fault.OutOfOrder))
-receipt_named o t r h = named_by r _ (λ f. (f ≡ fault.UnknownTag) ⊎ (f ≡ fault.OutOfOrder)) h (ack_named (standing t o) (is_next t o))
+    → IfErr r (λ f. (f ≡ TagFault.UnknownTag) ⊎ (f ≡ TagFault.OutOfOrder))
+receipt_named o t r h = named_by r _ (λ f. (f ≡ TagFault.UnknownTag) ⊎ (f ≡ TagFault.OutOfOrder)) h (ack_named (standing t o) (is_next t o))
 
 pub error_named_by : {T : Type 0} (o : OpenValue) (t : Tag) (r : Result T TagFault) → Agrees o t Mark.Error r
-    → IfErr r (λ f. f ≡ fault.UnknownTag)
-error_named_by o t r h = named_by r _ (λ f. f ≡ fault.UnknownTag) h (error_named (standing t o) (is_next t o))
+    → IfErr r (λ f. f ≡ TagFault.UnknownTag)
+error_named_by o t r h = named_by r _ (λ f. f ≡ TagFault.UnknownTag) h (error_named (standing t o) (is_next t o))
 
 pub refused_unknown : (T : Type 0) (o : OpenValue) (t : Tag) (m : Mark) (f : TagFault) → IsRefused (heard o t m) (cause_of f)
-    → IsErrOf {T = T} (Err f) fault.UnknownTag ↔ (kind_under t o ≡ None)
+    → IsErrOf {T = T} (Err f) TagFault.UnknownTag ↔ (kind_under t o ≡ None)
 refused_unknown T o t m f h = unknown_exactly {T = T} o t m (Err f) (fits_err T o t m f h)
 
-pub refused_error : (o : OpenValue) (t : Tag) (f : TagFault) → IsRefused (heard o t Mark.Error) (cause_of f) → f ≡ fault.UnknownTag
+pub refused_error : (o : OpenValue) (t : Tag) (f : TagFault) → IsRefused (heard o t Mark.Error) (cause_of f) → f ≡ TagFault.UnknownTag
 refused_error o t f h = error_named_by {T = Bool} o t (Err f) (fits_err Bool o t Mark.Error f h)
 
 pub taken_standard : (T : Type 0) (x : T) (o : OpenValue) (hs gs : List OpenCommand) (t : Tag) (n : ℕ) (m : Mark) (e : Effect) → t ≡ Std n
     → hs ≡ o.standard
-    → heard_in (not o.failed) hs t m ≡ Ok (gs, e) → IsErrOf {T = T} (Ok x) fault.UnknownTag ↔ (kind_under t o ≡ None)
+    → heard_in (not o.failed) hs t m ≡ Ok (gs, e) → IsErrOf {T = T} (Ok x) TagFault.UnknownTag ↔ (kind_under t o ≡ None)
 taken_standard T x o hs gs t n m e is held ok = unknown_exactly {T = T} o t m (Ok x)
     (agrees_standard {T = T} o o.failed hs gs t n m (λ _. e) (Ok x) is refl held ok tt)
 
 pub taken_event : (T : Type 0) (x : T) (o : OpenValue) (hs gs : List OpenCommand) (t : Tag) (n : ℕ) (m : Mark) (e : Effect) → t ≡ Event n
     → hs ≡ o.event
-    → heard_in true hs t m ≡ Ok (gs, e) → IsErrOf {T = T} (Ok x) fault.UnknownTag ↔ (kind_under t o ≡ None)
+    → heard_in true hs t m ≡ Ok (gs, e) → IsErrOf {T = T} (Ok x) TagFault.UnknownTag ↔ (kind_under t o ≡ None)
 taken_event T x o hs gs t n m e is held ok = unknown_exactly {T = T} o t m (Ok x)
     (agrees_event {T = T} o hs gs t n m (λ _. e) (Ok x) is held ok tt)

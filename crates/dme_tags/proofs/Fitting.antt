@@ -1,20 +1,8 @@
 -- Open commands have the data that they ask for, and no other.
-use Rattle.std.proofs.Common.{◌≡◌, Bool, true, false, not, ◌&&◌, ◌||◌, List, [], ◌∷◌, ◌++◌, Option, Some, None, Ok, Err, refl, sym, ◌∙◌, ap}
-use Rattle.std.proofs.lemmas.Bool.{false≢true, and_parts}
-use Rattle.dme_line.specs.declared.tags.Tag.{Tag}
-use Rattle.dme_line.specs.declared.commands.Kind.{Kind}
-use Rattle.protocol_model.specs.Replies.{Mark}
-use Rattle.protocol_model.specs.Open.{Becomes, Counts, Effect, Heard, asks_data, fits, heard_in, is_failed, judged, judged_ack}
-use Rattle.protocol_model.specs.Open.{judged_given, judged_done, judged_error}
-use Rattle.protocol_model.specs.declared.held.Datum.{Datum}
-use Rattle.protocol_model.specs.declared.held.OpenCommand.{OpenCommand}
-use Rattle.protocol_model.specs.declared.held.Stage.{Stage}
-use Rattle.protocol_model.proofs.table.Speaking.{fits_asks}
-use Rattle.protocol_model.proofs.table.Walks.{two, heard_cases}
-use Rattle.dme_tags.specs.Answers.{effect_of, effect_heard}
-use Rattle.dme_tags.specs.Data.{may_be_given, is_fit, AreFit, has_its_data}
-use Rattle.dme_tags.specs.declared.endings.Ended.{Ended}
-use Rattle.dme_tags.specs.declared.endings.Ended.TheVariants as ended
+use Rattle.dme_tags.proofs.Names.{[], ◌&&◌, ◌++◌, ◌||◌, ◌∙◌, ◌∷◌, ◌≡◌, and_parts, ap, AreFit, asks_data, Becomes, Bool, Counts, Datum, Effect}
+use Rattle.dme_tags.proofs.Names.{effect_heard, effect_of, Ended, Err, false, false≢true, fits, fits_asks, has_its_data, Heard, heard_cases, heard_in}
+use Rattle.dme_tags.proofs.Names.{is_failed, is_fit, judged, judged_ack, judged_done, judged_error, judged_given, Kind, List, Mark, may_be_given}
+use Rattle.dme_tags.proofs.Names.{None, not, Ok, OpenCommand, Option, refl, Some, Stage, sym, Tag, true, two}
 
 -- data that may be given to a command are those that it asks for, where it asks for any
 pub asked : (k : Kind) (d : Datum) → may_be_given (Some k) d ≡ true → fits k d ≡ asks_data k
@@ -82,17 +70,17 @@ fit_heard front (h ∷ hs) gs t m e is fit =
 -- ---- what is counted has its data
 
 fit_counts : (k : Kind) (b a : Bool) (s : Stage) (given : Option Datum) → asks_data k ≡ a → judged_done b a s ≡ Counts given
-    → is_fit k s ≡ true → has_its_data (ended.Counted k given) ≡ true
+    → is_fit k s ≡ true → has_its_data (Ended.Counted k given) ≡ true
 fit_counts k true true Stage.Sent given is e fit = absurd (cc)
 fit_counts k true true Stage.Received given is e fit = absurd (cc)
 fit_counts k true true (Stage.Given d) given is e fit = let same : given ≡ Some d = cc
-    in ap (λ (x : Option Datum). has_its_data (ended.Counted k x)) same ∙ fit
+    in ap (λ (x : Option Datum). has_its_data (Ended.Counted k x)) same ∙ fit
 fit_counts k true true Stage.Failed given is e fit = absurd (cc)
 fit_counts k true false Stage.Sent given is e fit = absurd (cc)
 fit_counts k true false Stage.Received given is e fit = let same : given ≡ None = cc
-    in ap (λ (x : Option Datum). has_its_data (ended.Counted k x)) same ∙ ap not is
+    in ap (λ (x : Option Datum). has_its_data (Ended.Counted k x)) same ∙ ap not is
 fit_counts k true false (Stage.Given d) given is e fit = let same : given ≡ Some d = cc
-    in ap (λ (x : Option Datum). has_its_data (ended.Counted k x)) same ∙ fit
+    in ap (λ (x : Option Datum). has_its_data (Ended.Counted k x)) same ∙ fit
 fit_counts k true false Stage.Failed given is e fit = absurd (cc)
 fit_counts k false a Stage.Sent given is e fit = absurd (cc)
 fit_counts k false a Stage.Received given is e fit = absurd (cc)
@@ -100,21 +88,21 @@ fit_counts k false a (Stage.Given d) given is e fit = absurd (cc)
 fit_counts k false a Stage.Failed given is e fit = absurd (cc)
 
 quiet_end : (x : Ended) → effect_of x ≡ Effect.Quiet → has_its_data x ≡ true
-quiet_end (ended.Counted k given) e = absurd (cc)
-quiet_end ended.Closed e = refl
+quiet_end (Ended.Counted k given) e = absurd (cc)
+quiet_end Ended.Closed e = refl
 
 no_failure : (x : Ended) → effect_of x ≡ Effect.Failure → has_its_data x ≡ true
-no_failure (ended.Counted k given) e = absurd (cc)
-no_failure ended.Closed e = absurd (cc)
+no_failure (Ended.Counted k given) e = absurd (cc)
+no_failure Ended.Closed e = absurd (cc)
 
 counted_end : (x : Ended) (k : Kind) (given : Option Datum) → effect_of x ≡ Effect.Count k given
-    → has_its_data (ended.Counted k given) ≡ true → has_its_data x ≡ true
-counted_end (ended.Counted j other) k given e fit =
+    → has_its_data (Ended.Counted k given) ≡ true → has_its_data x ≡ true
+counted_end (Ended.Counted j other) k given e fit =
     let kinds : j ≡ k = cc in
     let datums : other ≡ given = cc in
-    ap (λ (x : Kind). has_its_data (ended.Counted x other)) kinds
-    ∙ (ap (λ (x : Option Datum). has_its_data (ended.Counted k x)) datums ∙ fit)
-counted_end ended.Closed k given e fit = refl
+    ap (λ (x : Kind). has_its_data (Ended.Counted x other)) kinds
+    ∙ (ap (λ (x : Option Datum). has_its_data (Ended.Counted k x)) datums ∙ fit)
+counted_end Ended.Closed k given e fit = refl
 
 data_at_end : (front : Bool) (hs gs : List OpenCommand) (t : Tag) (x : Ended) → heard_in front hs t Mark.Done ≡ Ok (gs, effect_of x)
     → AreFit hs

@@ -1,30 +1,13 @@
 -- The marks that are taken in under a tag between its draw and its `%`.
-use Rattle.std.proofs.Common.{◌≡◌, ℕ, ◌-◌, Bool, true, false, cond, not, ◌&&◌, List, [], ◌∷◌, ◌++◌, Option, Some, None, Ok, Err, refl, sym}
-use Rattle.std.proofs.Common.{◌∙◌, ap, subst}
-use Rattle.std.proofs.lemmas.Bool.{true≢false}
-use Rattle.dme_line.specs.Kinds.{is_event_kind}
-use Rattle.dme_line.specs.declared.tags.Tag.{Tag}
-use Rattle.dme_line.specs.declared.tags.Tag.TheVariants.{Std, Event}
-use Rattle.dme_line.specs.declared.commands.Kind.{Kind}
-use Rattle.protocol_model.specs.Replies.{Mark, tag_is}
-use Rattle.protocol_model.specs.Open.{Verdict, Becomes, Breaks, Closes, Counts, Refused, Effect, Heard}
-use Rattle.protocol_model.specs.Open.{asks_data, fits, heard_in, is_failed}
-use Rattle.protocol_model.specs.Open.{is_held, judged, judged_ack, judged_given, judged_done, judged_error}
-use Rattle.protocol_model.specs.Client.{held_now, next_number}
-use Rattle.protocol_model.specs.Language.{Placed, marks_of, IsRepliesFront, AreAtFront, Goes, Accepts}
-use Rattle.protocol_model.specs.declared.held.Datum.{Datum}
-use Rattle.protocol_model.specs.declared.held.OpenCommand.{OpenCommand}
-use Rattle.protocol_model.specs.declared.held.Stage.{Stage}
-use Rattle.protocol_model.proofs.table.Basics.{if_true, if_false, tag_is-refl, tag_is-true}
-use Rattle.protocol_model.proofs.table.Drawing.{drawn}
-use Rattle.protocol_model.proofs.table.Speaking.{accepts_only}
-use Rattle.protocol_model.proofs.table.Walks.{heard_cases, staged, two}
-use Rattle.dme_tags.specs.Calls.{Call, Draw, Received, Data, Failed, Complete, BeginPlan, behind_answer, behind_draw, answered, placed}
-use Rattle.dme_tags.specs.Calls.{taken_under, until_end}
-use Rattle.dme_tags.specs.Opened.{OpenValue, Answer, heard, heard_standard, heard_event}
-use Rattle.dme_tags.specs.Opened.{failed_behind, is_next, next_tag, tagged, with_drawn}
-use Rattle.dme_tags.specs.Places.{ahead_of, all_failed}
-use Rattle.dme_tags.specs.Standing.{standing_in, standing}
+use Rattle.dme_tags.proofs.Names.{[], ◌&&◌, ◌++◌, ◌-◌, ◌∙◌, ◌∷◌, ◌≡◌, accepts_only, ahead_of, all_failed, Answer, answered, ap, asks_data, Becomes}
+use Rattle.dme_tags.proofs.Names.{BeginPlan, behind_answer, behind_draw, Bool, Breaks, Call, Closes, Complete, cond, Counts, Data, Datum, Draw, drawn}
+use Rattle.dme_tags.proofs.Names.{Effect, Err, Event, Failed, failed_behind, false, fits, Heard, heard, heard_cases, heard_event, heard_in}
+use Rattle.dme_tags.proofs.Names.{heard_standard, held_now, is_event_kind, is_failed, is_held, is_next, judged, judged_ack, judged_done, judged_error}
+use Rattle.dme_tags.proofs.Names.{judged_given, Kind, List, Mark, next_number, next_tag, None, not, Ok, OpenCommand, OpenValue, Option, placed}
+use Rattle.dme_tags.proofs.Names.{Received, refl, Refused, Some, Stage, staged, standing, standing_in, Std, subst, sym, Tag, tag_is, tagged}
+use Rattle.dme_tags.proofs.Names.{taken_under, true, true≢false, two, until_end, Verdict, with_drawn, ℕ}
+use Rattle.protocol_model.specs.Language.{Accepts, AreAtFront, Goes, IsRepliesFront, marks_of, Placed}
+use Rattle.protocol_model.proofs.table.Basics.{if_false, if_true, tag_is-refl, tag_is-true}
 use Rattle.dme_tags.proofs.Dues.{Standing, and_assoc, and_true, kinds_same, stages_same}
 
 -- ---- what becomes of a command

@@ -1,18 +1,11 @@
 -- Commands in a slab, listed by their keys.
-use Rattle.std.proofs.Common.{◌≡◌, ◌≢◌, ℕ, zero, suc, ◌<◌, ◌≤◌, ◌+◌, ◌-◌}
-use Rattle.std.proofs.Common.{Bool, true, false, not, ◌||◌, ◌&&◌, List, [], ◌∷◌, ◌++◌, map, length, get_or}
-use Rattle.std.proofs.Common.{Option, Some, None, IsSome, refl, sym, ◌∙◌, ap, subst, arith, ◌==◌, set, cond}
-use Rattle.std.specs.Prelude.{is_some}
-use Rattle.std.proofs.lemmas.Bool.{true≢false}
-use Rattle.std.proofs.lemmas.List.{get_or_default, length-append, length-map, get_or-set_same, get_or-set_other}
+use Rattle.dme_tags.proofs.Names.{[], ◌&&◌, ◌++◌, ◌+◌, ◌-◌, ◌<◌, ◌==◌, ◌||◌, ◌∙◌, ◌∷◌, ◌≡◌, ◌≢◌, ◌≤◌, ap, AreKeys, arith, asks_homed, Bool}
+use Rattle.dme_tags.proofs.Names.{command_at, cond, count_by, false, get_or, get_or-set_other, get_or-set_same, get_or_default, is_failed, is_open}
+use Rattle.dme_tags.proofs.Names.{is_open_question, is_some, IsApart, IsSome, length, length-append, length-map, List, list_any, listed, map, None}
+use Rattle.dme_tags.proofs.Names.{not, OpenCommand, Option, refl, remove, set, Slab, slab_len, slot, Slots, Some, Stage, subst, suc, sym, true}
+use Rattle.dme_tags.proofs.Names.{true≢false, Updates, with_value, zero, ℕ}
 use Rattle.std.proofs.lemmas.List.Edits.{length-remove}
-use Rattle.std.proofs.lemmas.List.Sums.{sum_by-cons, sum_by_push, sum_by-set, sum_by-remove}
-use Rattle.std.specs.List.{count_by, list_any, remove}
-use Rattle.slab.specs.Slab.{Slab, Updates, with_value, slab_len}
-use Rattle.protocol_model.specs.Open.{is_failed, asks_homed}
-use Rattle.protocol_model.specs.declared.held.OpenCommand.{OpenCommand}
-use Rattle.protocol_model.specs.declared.held.Stage.{Stage}
-use Rattle.dme_tags.specs.Kept.{Slots, slot, command_at, listed, is_open, is_open_question, IsApart, AreKeys}
+use Rattle.std.proofs.lemmas.List.Sums.{sum_by-cons, sum_by-remove, sum_by-set, sum_by_push}
 
 -- ---- a slot that is not a listed one
 

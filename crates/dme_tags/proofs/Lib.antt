@@ -1,3 +1,4 @@
+pub mod Names
 pub mod CallLists
 pub mod Drawn
 pub mod Dues

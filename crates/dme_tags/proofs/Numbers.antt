@@ -1,11 +1,6 @@
 -- The first number that is free, one number further.
-use Rattle.std.proofs.Common.{◌≡◌, ℕ, suc, ◌+◌, ◌-◌, ◌<◌, ◌≤◌, Bool, true, false, Option, Some, None, List, refl, sym, ◌∙◌, ap, subst}
-use Rattle.std.proofs.Common.{arith, add-one, eqb}
-use Rattle.std.proofs.lemmas.Bool.{eqb-true, eqb-false}
-use Rattle.dme_line.specs.declared.tags.Tag.{Tag}
-use Rattle.protocol_model.specs.Open.{is_held}
-use Rattle.protocol_model.specs.Client.{first_free, next_number, or_else}
-use Rattle.protocol_model.specs.declared.held.OpenCommand.{OpenCommand}
+use Rattle.dme_tags.proofs.Names.{◌+◌, ◌-◌, ◌<◌, ◌∙◌, ◌≡◌, ◌≤◌, add-one, ap, arith, Bool, eqb, eqb-false, eqb-true, false, first_free, is_held, List}
+use Rattle.dme_tags.proofs.Names.{next_number, None, OpenCommand, Option, or_else, refl, Some, subst, suc, sym, Tag, true, ℕ}
 
 abbrev chosen : (sort : ℕ → Tag) (hs : List OpenCommand) (n left : ℕ) → Bool → Option ℕ
 chosen sort hs n left b = elim b as (λ x. Option ℕ) [ true ↦ first_free sort hs (suc n) left | false ↦ Some n ]

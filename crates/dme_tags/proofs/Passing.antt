@@ -1,20 +1,10 @@
 -- The numbers that are passed over are held, and a tag that is drawn is free.
-use Rattle.std.proofs.Common.{◌≡◌, ◌↔◌, ◌⊎◌, inl, inr, ℕ, suc, ◌+◌, ◌-◌, ◌<◌, ◌≤◌, Bool, true, false, cond, List, Option, Some, None}
-use Rattle.std.proofs.Common.{Result, Ok, Err, refl, sym, ◌∙◌, ap, subst, arith}
-use Rattle.std.specs.Prelude.{IsErrOf, IfOk, OnErr, IfErr}
-use Rattle.std.proofs.lemmas.Bool.{true≢false}
-use Rattle.dme_line.specs.Kinds.{is_event_kind}
-use Rattle.dme_line.specs.declared.tags.Tag.{Tag}
-use Rattle.dme_line.specs.declared.tags.Tag.TheVariants.{Std, Event}
-use Rattle.dme_line.specs.declared.commands.Kind.{Kind}
-use Rattle.protocol_model.specs.Open.{is_held}
-use Rattle.protocol_model.specs.Client.{first_free, next_number, or_else}
-use Rattle.protocol_model.specs.declared.held.OpenCommand.{OpenCommand}
-use Rattle.protocol_model.proofs.table.Drawing.{IsFound, found, none_free}
+use Rattle.dme_tags.proofs.Names.{◌+◌, ◌-◌, ◌<◌, ◌↔◌, ◌∙◌, ◌≡◌, ◌≤◌, ◌⊎◌, ap, ArePassedOver, arith, Bool, cond, Err, Event, false, first_free, found}
+use Rattle.dme_tags.proofs.Names.{IfErr, IfOk, inl, inr, is_event_kind, is_held, IsBetween, IsErrOf, IsSpentFor, Kind, List, next_number, next_tag}
+use Rattle.dme_tags.proofs.Names.{None, none_free, Ok, OnErr, OpenCommand, OpenValue, Option, or_else, refl, Result, Some, Std, subst, suc, sym, Tag}
+use Rattle.dme_tags.proofs.Names.{TagFault, tagged, true, true≢false, ℕ}
+use Rattle.protocol_model.proofs.table.Drawing.{IsFound}
 use Rattle.protocol_model.proofs.table.NextNumber.{before_first}
-use Rattle.dme_tags.specs.Opened.{OpenValue, tagged, next_tag, IsBetween, ArePassedOver, IsSpentFor}
-use Rattle.dme_tags.specs.declared.faults.TagFault.{TagFault}
-use Rattle.dme_tags.specs.declared.faults.TagFault.TheVariants as fault
 
 next_passed_of : (sort : ℕ → Tag) (hs : List OpenCommand) (d left all m i : ℕ) → all ≤ d + left
     → or_else (first_free sort hs (suc d) left) (first_free sort hs 1 all) ≡ Some m
@@ -101,9 +91,9 @@ not_spent o kind t is spent = go (is_event_kind kind) refl is
 
 pub spent_exactly : (o : OpenValue) (kind : Kind) (r : Result Tag TagFault) → IfOk r (λ t. next_tag o kind ≡ Some t)
     → OnErr r (IsSpentFor kind o)
-    → IfErr r (λ f. f ≡ fault.TagsSpent) → IsErrOf r fault.TagsSpent ↔ IsSpentFor kind o
+    → IfErr r (λ f. f ≡ TagFault.TagsSpent) → IsErrOf r TagFault.TagsSpent ↔ IsSpentFor kind o
 spent_exactly o kind (Ok t) ok spent named = (λ e. absurd (apart e), λ s. absurd (not_spent o kind t ok s))
   where
-    apart : ◌≡◌ {A = Result Tag TagFault} (Ok t) (Err fault.TagsSpent) → ⊥
+    apart : ◌≡◌ {A = Result Tag TagFault} (Ok t) (Err TagFault.TagsSpent) → ⊥
     apart e = cc
 spent_exactly o kind (Err f) ok spent named = (λ _. spent, λ _. ap (λ (g : TagFault). Err g) named)

@@ -1,24 +1,13 @@
 -- What a mark does at the place of its command.
-use Rattle.std.proofs.Common.{◌≡◌, ℕ, suc, ◌<◌, Bool, true, false, cond, ◌&&◌, ◌||◌, not, Option, Some, None, List, []}
-use Rattle.std.proofs.Common.{◌∷◌, ◌++◌, length, get_or}
-use Rattle.std.proofs.Common.{◌==◌, take, drop, set, Ok, Err, ◌+◌, refl, sym, ◌∙◌, ap, arith, add-one}
-use Rattle.std.specs.List.{count_by, list_any, remove}
-use Rattle.std.proofs.lemmas.Bool.{true≢false}
+use Rattle.dme_tags.proofs.Names.{[], ◌&&◌, ◌++◌, ◌+◌, ◌<◌, ◌==◌, ◌||◌, ◌∙◌, ◌∷◌, ◌≡◌, add-one, ahead_of, all_failed, ap, arith, asks_homed, Bool}
+use Rattle.dme_tags.proofs.Names.{Cause, cond, count_by, count_open, drop, drop_more, Effect, Err, failure_of, false, get_or, get_or_default, Heard}
+use Rattle.dme_tags.proofs.Names.{heard_in, held_kind, is_asking, is_failed, is_held, is_open, is_open_question, IsAt, IsRefused, judged, length}
+use Rattle.dme_tags.proofs.Names.{List, list_any, Mark, None, not, Ok, OpenCommand, Option, put_before, refl, remove, set, set_split, settled, Some}
+use Rattle.dme_tags.proofs.Names.{Stage, suc, sym, Tag, tag_is, take, take-append-drop, take_more, true, true≢false, ℕ}
 use Rattle.std.proofs.lemmas.List.Recursion.{is_count_by}
-use Rattle.dme_line.specs.declared.tags.Tag.{Tag}
-use Rattle.protocol_model.specs.Replies.{Mark, tag_is}
-use Rattle.protocol_model.specs.Open.{Effect, Heard, asks_homed, count_open, is_asking, is_held, is_failed}
-use Rattle.protocol_model.specs.Open.{heard_in, settled, judged, put_before}
-use Rattle.protocol_model.specs.Ends.{held_kind}
-use Rattle.protocol_model.specs.declared.held.OpenCommand.{OpenCommand}
-use Rattle.protocol_model.specs.declared.held.Stage.{Stage}
-use Rattle.protocol_model.specs.declared.states.Cause.{Cause}
 use Rattle.protocol_model.specs.declared.states.Cause.TheVariants.{UnknownTag}
-use Rattle.std.proofs.lemmas.List.{get_or_default, set_split, take_more, drop_more, take-append-drop}
-use Rattle.dme_tags.specs.Answers.{IsRefused, failure_of}
-use Rattle.dme_tags.specs.Kept.{is_open, is_open_question}
 use Rattle.dme_tags.proofs.Kept.{any_counted}
-use Rattle.dme_tags.specs.Places.{IsAt, IsFound, ahead_of, all_failed}
+use Rattle.dme_tags.specs.Places.{IsFound}
 
 -- a command further back
 abbrev pub behind : List OpenCommand → Heard → Heard

@@ -1,13 +1,6 @@
 -- A mark that is refused in the list of its sort of tags is refused by the open commands.
-use Rattle.std.proofs.Common.{◌≡◌, ℕ, true, not, List, Option, Some, None, sym, ◌∙◌, ap}
-use Rattle.dme_line.specs.declared.tags.Tag.{Tag}
-use Rattle.dme_line.specs.declared.tags.Tag.TheVariants.{Std, Event}
-use Rattle.protocol_model.specs.Replies.{Mark}
-use Rattle.protocol_model.specs.Open.{heard_in}
-use Rattle.protocol_model.specs.declared.held.OpenCommand.{OpenCommand}
-use Rattle.protocol_model.specs.declared.states.Cause.{Cause}
-use Rattle.dme_tags.specs.Answers.{IsRefused}
-use Rattle.dme_tags.specs.Opened.{OpenValue, heard, heard_standard, heard_event}
+use Rattle.dme_tags.proofs.Names.{◌∙◌, ◌≡◌, ap, Cause, Event, heard, heard_event, heard_in, heard_standard, IsRefused, List, Mark, None, not}
+use Rattle.dme_tags.proofs.Names.{OpenCommand, OpenValue, Option, Some, Std, sym, Tag, true, ℕ}
 
 pub refused_standard : (o : OpenValue) (hs : List OpenCommand) (t : Tag) (n : ℕ) (m : Mark) (cause : Option Cause) → t ≡ Std n
     → hs ≡ o.standard

@@ -1,21 +1,11 @@
 -- A client's table changes as its open commands do.
-use Rattle.std.proofs.Common.{◌≡◌, ℕ, Bool, true, false, not, cond, List, [], ◌∷◌, Option, Some, None, Result, Ok, Err, refl, sym, ◌∙◌, ap}
-use Rattle.dme_line.specs.Kinds.{is_event_kind}
-use Rattle.dme_line.specs.declared.tags.Tag.{Tag}
-use Rattle.dme_line.specs.declared.tags.Tag.TheVariants.{Std, Event}
-use Rattle.dme_line.specs.declared.commands.Kind.{Kind}
-use Rattle.dme_line.specs.declared.commands.Kind.TheVariants as kind
-use Rattle.protocol_model.specs.Replies.{Mark}
-use Rattle.protocol_model.specs.Open.{Effect, Heard, heard_in}
+use Rattle.dme_tags.proofs.Names.{[], ◌∙◌, ◌∷◌, ◌≡◌, ap, Bool, Cause, Client, cond, counted_next, Datum, Effect, Err, Event, failed_behind, false}
+use Rattle.dme_tags.proofs.Names.{Heard, heard, heard_event, heard_in, heard_on, heard_standard, is_event_kind, Kind, List, Mark, measured}
+use Rattle.dme_tags.proofs.Names.{next_number, next_tag, None, not, number_of, Ok, OpenCommand, OpenValue, Option, refl, Result, Some, Std, sym}
+use Rattle.dme_tags.proofs.Names.{Table, Tag, tagged, tallied, Tally, true, ℕ}
 use Rattle.protocol_model.specs.Client as client
-use Rattle.protocol_model.specs.Client.{Client, Table, Tally, tallied, measured, counted_next, heard_on, next_number}
-use Rattle.protocol_model.specs.declared.held.Datum.{Datum}
-use Rattle.protocol_model.specs.declared.held.Datum.TheVariants as datum
-use Rattle.protocol_model.specs.declared.held.OpenCommand.{OpenCommand}
 use Rattle.protocol_model.specs.declared.plans.Planned.{Planned}
 use Rattle.protocol_model.specs.declared.plans.Does.{Does}
-use Rattle.protocol_model.specs.declared.states.Cause.{Cause}
-use Rattle.dme_tags.specs.Opened.{OpenValue, heard, heard_standard, heard_event, failed_behind, next_tag, tagged, number_of}
 use Rattle.dme_tags.specs.Tables.{IsTableOf, table_behind}
 
 -- ---- marks
@@ -35,11 +25,11 @@ measured_failed c (Does.Moves p f) given y = refl
 measured_failed c (Does.Changes n) given y = refl
 measured_failed c (Does.Frames f) given y = refl
 measured_failed c (Does.Touches t true) None y = refl
-measured_failed c (Does.Touches t true) (Some (datum.Point p)) y = refl
+measured_failed c (Does.Touches t true) (Some (Datum.Point p)) y = refl
 measured_failed c (Does.Touches t false) None y = refl
-measured_failed c (Does.Touches t false) (Some (datum.Point p)) y = refl
-measured_failed c (Does.Touches t true) (Some (datum.Homed homed)) y = refl
-measured_failed c (Does.Touches t false) (Some (datum.Homed homed)) y = refl
+measured_failed c (Does.Touches t false) (Some (Datum.Point p)) y = refl
+measured_failed c (Does.Touches t true) (Some (Datum.Homed homed)) y = refl
+measured_failed c (Does.Touches t false) (Some (Datum.Homed homed)) y = refl
 
 tallied_failed : (c : Client) (effect : Effect) (y : Tally) → (tallied c.program.features effect y).failed ≡ failed_behind effect y.failed
 tallied_failed c Effect.Quiet y = refl
@@ -173,9 +163,9 @@ pub no_standard : (o : OpenValue) (kind : Kind) → is_event_kind kind ≡ false
     → next_number Std o.standard o.drawn ≡ None
 no_standard o kind e is = untagged_none Std (next_number Std o.standard o.drawn) (its_standard o kind None e is)
 
-pub event : (o : OpenValue) (t : Tag) → next_tag o kind.AbortE ≡ Some t → (next_number Event o.event o.event_drawn ≡ Some (number_of t))
+pub event : (o : OpenValue) (t : Tag) → next_tag o Kind.AbortE ≡ Some t → (next_number Event o.event o.event_drawn ≡ Some (number_of t))
     × (t ≡ Event (number_of t))
 event o t is = untagged Event (λ n. refl) (next_number Event o.event o.event_drawn) t is
 
-pub no_event : (o : OpenValue) → next_tag o kind.AbortE ≡ None → next_number Event o.event o.event_drawn ≡ None
+pub no_event : (o : OpenValue) → next_tag o Kind.AbortE ≡ None → next_number Event o.event o.event_drawn ≡ None
 no_event o is = untagged_none Event (next_number Event o.event o.event_drawn) is

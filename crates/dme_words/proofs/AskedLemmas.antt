@@ -1,17 +1,10 @@
 -- Words of `dme` without a fault name one of its subcommands, with the values that it cannot do without.
-use Rattle.std.proofs.Common.{◌≡◌, ◌||◌, Bool, true, false, cond, List, [], ◌∷◌, Option, Some, None, is_some, option_map, find, codes}
-use Rattle.std.proofs.Common.{refl, ap, sym, arith, inl, inr, true≢false}
-use Rattle.std.specs.Prelude.{IsSomeAnd}
-use Rattle.std.specs.Option.{option_map_or}
-use Rattle.std.proofs.lemmas.Option.{none-some}
-use Rattle.std.proofs.lemmas.Slice.Eq.{bytes_eq-Decides}
-use Rattle.std.specs.Str.{bytes_eq}
-use Rattle.clap.specs.Walk.{Text, answers_to, nothing_held, rows_after, walk, walk_from}
-use Rattle.clap.specs.Simple.{App, Shape, argument_words, built, entered, label_of, names_of}
-use Rattle.clap.specs.Simple.{rows_at, subcommand_of}
-use Rattle.clap.specs.Faults.{entered_fault, fault_of, level_fault, walk_fault}
-use Rattle.dme_words.specs.CommandLine.{audit_line, check_line, explain_line, export_line, judge_line, ledger_line, loop_line, run_line, serve_line, simulate_line, watch_line, whole_line}
-use Rattle.dme_words.specs.Ordered.{Has, IsAskable, leaf}
+use Rattle.dme_words.proofs.Names.{[], ◌||◌, ◌∷◌, ◌≡◌, answers_to, ap, App, argument_words, arith, audit_line, Bool, built, bytes_eq}
+use Rattle.dme_words.proofs.Names.{bytes_eq-Decides, check_line, codes, cond, entered, entered_fault, explain_line, export_line, false, fault_of}
+use Rattle.dme_words.proofs.Names.{find, Has, inl, inr, is_some, IsAskable, IsSomeAnd, judge_line, label_of, leaf, ledger_line, level_fault, List}
+use Rattle.dme_words.proofs.Names.{loop_line, names_of, None, none-some, nothing_held, Option, option_map, option_map_or, refl, rows_after, rows_at}
+use Rattle.dme_words.proofs.Names.{run_line, serve_line, Shape, simulate_line, Some, subcommand_of, sym, Text, true, true≢false, walk, walk_fault}
+use Rattle.dme_words.proofs.Names.{walk_from, watch_line, whole_line}
 use Rattle.dme_words.proofs.HelpLemmas.{NotAtHelp, entered_there, first_none, second_none, walk_stops}
 use Rattle.dme_words.proofs.FoundLemmas.{level_has}
 

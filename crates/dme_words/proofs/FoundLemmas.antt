@@ -1,30 +1,19 @@
 -- What a subcommand without a fault has found: the values that it cannot do without, each passed by the parser of its argument.
-use Rattle.std.proofs.Common.{◌≡◌, ◌<◌, ◌&&◌, ◌||◌, not, Bool, true, false, List, [], ◌∷◌, ◌++◌, fold, find, length}
-use Rattle.std.proofs.Common.{Option, Some, None, is_some, cond, refl, arith, ap, sym, subst, true≢false, ◌∙◌}
-use Rattle.std.specs.Prelude.{ℕ, ℤ, codes, negsuc, pos}
+use Rattle.dme_words.proofs.Names.{[], ◌&&◌, ◌++◌, ◌<◌, ◌||◌, ◌∙◌, ◌∷◌, ◌≡◌, action_of, ap, arg_by_id, arith, Bool, bool_text, bytes_eq}
+use Rattle.dme_words.proofs.Names.{bytes_eq-Decides, check_fault, check_kinds, codes, cond, default_fault, default_rows, DefaultValue, ErrorKind}
+use Rattle.dme_words.proofs.Names.{explicit_source, false, find, finished, first_of, fold, given_default_fault, has_default, has_row, HasAll, HasFlag}
+use Rattle.dme_words.proofs.Names.{HasIf, HasRead, HasSigned, HasValue, Held, is_empty, is_some, length, level_fault, List, more_values, ne_eqb}
+use Rattle.dme_words.proofs.Names.{negsuc, None, not, nothing_held, one_of, Option, option_map_or, or_else, parser_of_value, pos, read_as, reading_by}
+use Rattle.dme_words.proofs.Names.{reading_of, refl, request_kinds, Row, rows_after, Rule, same_Some, settle_fault, settled, Shape, Some, subst, sym}
+use Rattle.dme_words.proofs.Names.{Text, true, true≢false, value_kinds, ValueParser, values_fault, walk, walk_fault, walk_from, with_default}
+use Rattle.dme_words.proofs.Names.{with_values, ℕ, ℤ}
 use Rattle.std.specs.List.{list_any}
-use Rattle.std.specs.Option.{option_map_or}
-use Rattle.std.specs.Str.{bytes_eq}
-use Rattle.std.proofs.lemmas.Bool.{ne_eqb}
-use Rattle.std.proofs.lemmas.Option.{same_Some}
-use Rattle.std.proofs.lemmas.Slice.Eq.{bytes_eq-Decides}
-use Rattle.clap.specs.Facts.{explicit_source, parser_of_value}
-use Rattle.clap.specs.Values.{bool_text, read_as, reading_of}
-use Rattle.clap.specs.Kinds.{check_kinds, or_else, request_kinds, value_kinds}
-use Rattle.clap.specs.Walk.{action_of, Held, Row, Rule, Text, arg_by_id, default_rows, finished, first_of, has_row, is_empty, more_values}
-use Rattle.clap.specs.Walk.{nothing_held}
-use Rattle.clap.specs.Walk.{one_of, reading_by, rows_after, settled, walk, walk_from, with_default, with_values}
-use Rattle.clap.specs.Simple.{Shape}
 use Rattle.clap.specs.Takes.{is_given}
-use Rattle.clap.specs.Faults.{check_fault, default_fault, defaults_fault, given_default_fault, level_fault, settle_fault, values_fault}
-use Rattle.clap.specs.Faults.{walk_fault}
-use Rattle.clap.specs.declared.error.kind.ErrorKind.{ErrorKind}
-use Rattle.clap.specs.declared.parser.matches.ValueSource.TheVariants.{DefaultValue}
+use Rattle.clap.specs.Faults.{defaults_fault}
 use Rattle.clap.specs.declared.builder.value_parser.Reading.{Reading}
-use Rattle.clap.specs.declared.builder.value_parser.ValueParser.{ValueParser}
-use Rattle.clap.specs.declared.builder.value_parser.ValueParser.TheVariants.{Bool as OfBool, Boolish, Char, Falsey, Float, Names, NonEmptyString, Signed, String, Unsigned, Values}
+use Rattle.clap.specs.declared.builder.value_parser.ValueParser.TheVariants.{Bool as OfBool, Boolish, Char, Falsey, Float, Names, NonEmptyString}
+use Rattle.clap.specs.declared.builder.value_parser.ValueParser.TheVariants.{Signed, String, Unsigned, Values}
 use Rattle.clap.proofs.ValueTestLemmas.{accepts-Accepts}
-use Rattle.dme_words.specs.Ordered.{HasAll, HasFlag, HasIf, HasRead, HasSigned, HasValue, has_default}
 use Rattle.dme_words.proofs.HelpLemmas.{first_none, second_none, not_empty}
 use Rattle.dme_words.proofs.LevelLemmas.{AllFit, Fits, Known, Knows, fit_with, settle_fits, walk_fits}
 

@@ -1,18 +1,14 @@
 -- Words without a fault do not call for help: a walk over them does not stop at `help`, and it stops at a subcommand.
-use Rattle.std.proofs.Common.{◌≡◌, ℕ, Bool, true, false, List, [], ◌∷◌, fold, Option, Some, None, is_some, codes}
-use Rattle.std.proofs.Common.{length, cond, refl, arith, ap, sym, ◌∙◌}
-use Rattle.std.specs.Str.{bytes_eq}
-use Rattle.std.proofs.lemmas.Option.{none-some, same_Some}
-use Rattle.clap.specs.Lexer.{long_of, short_of}
-use Rattle.clap.specs.Walk.{Held, Names, Outcome, Row, Rule, Step, Text, Waiting, Walk, after_flag, settled, finished}
-use Rattle.clap.specs.Walk.{walk, walk_from, after_step, arg_by_index, arg_by_long, bundle, done, idle, long_met}
-use Rattle.clap.specs.Walk.{long_or_other, next, option, plain, plain_word, positional, refused, short_or_plain, subcommand, subcommand_met}
-use Rattle.clap.specs.Walk.{subcommand_or_other, to_positional, trailing, value, waits, walked, walked_from, word_met}
-use Rattle.clap.specs.Kinds.{Kinds, or_else}
-use Rattle.clap.specs.Simple.{App, Shape, names_of}
-use Rattle.clap.specs.Faults.{check_fault, defaults_fault, settle_fault, level_fault, other_fault, step_fault}
-use Rattle.clap.specs.Faults.{turn_fault, walk_fault, word_fault}
-use Rattle.clap.specs.declared.error.kind.ErrorKind.TheVariants as kind
+use Rattle.dme_words.proofs.Names.{[], ◌∙◌, ◌∷◌, ◌≡◌, after_flag, after_step, ap, App, arg_by_index, arg_by_long, arith, Bool, bundle, bytes_eq}
+use Rattle.dme_words.proofs.Names.{check_fault, codes, cond, defaults_fault, done, ErrorKind, false, finished, fold, Held, idle, is_some, Kinds}
+use Rattle.dme_words.proofs.Names.{length, level_fault, List, long_met, long_of, long_or_other, names_of, next, None, none-some, Option, option}
+use Rattle.dme_words.proofs.Names.{or_else, other_fault, Outcome, plain, plain_word, positional, refl, refused, Row, Rule, same_Some, settle_fault}
+use Rattle.dme_words.proofs.Names.{settled, Shape, short_of, short_or_plain, Some, Step, step_fault, subcommand, subcommand_met, subcommand_or_other}
+use Rattle.dme_words.proofs.Names.{sym, Text, to_positional, trailing, true, turn_fault, value, Waiting, waits, Walk, walk, walk_from, walked_from}
+use Rattle.dme_words.proofs.Names.{word_fault, word_met, ℕ}
+use Rattle.clap.specs.Walk.{Names}
+use Rattle.clap.specs.Walk.{walked}
+use Rattle.clap.specs.Faults.{walk_fault}
 
 -- no list with an element is empty
 pub not_empty : {A : Type 0} (x : A) (xs : List A) → x ∷ xs ≡ [] → ⊥
@@ -73,7 +69,7 @@ word_step s names false waiting position word h on none = go (subcommand_met nam
     dashes false = other_step s.rules waiting word (long_of word) h
 
     go : (met : Option Text) → other_fault s met word h ≡ [] → IsNoHelp (subcommand_or_other s.rules met waiting position word h).1
-    go (Some name) none = λ at_help. not_empty kind.DisplayHelp _ (rw (at_help, on) at none)
+    go (Some name) none = λ at_help. not_empty ErrorKind.DisplayHelp _ (rw (at_help, on) at none)
     go None none = dashes (bytes_eq word (45 ∷ 45 ∷ []))
 
 -- a step that names no `help` does not stop there
@@ -121,4 +117,4 @@ entered_there a h words None below unasked required none =
     last_none (walk_fault a.top (names_of a) (walk_from h) words) below
     (settle_fault a.top.rules a.top.args_override_self (walk a.top.rules (names_of a) h words).held)
     (defaults_fault (settled a.top.rules (walk a.top.rules (names_of a) h words).held).rows a.top.rules) _ none in
-    absurd (not_empty kind.MissingSubcommand [] (rw (unasked, required) at checks))
+    absurd (not_empty ErrorKind.MissingSubcommand [] (rw (unasked, required) at checks))

@@ -1,9 +1,6 @@
 -- Which values the last eight subcommands have, by their names.
-use Rattle.std.proofs.Common.{◌≡◌, ◌∙◌, List, codes, sym, inl, inr, true≢false}
-use Rattle.std.proofs.lemmas.Slice.Eq.{bytes_eq-Decides}
-use Rattle.clap.specs.Walk.{Row, Text}
-use Rattle.dme_words.specs.CommandLine.{run_line, serve_line, watch_line}
-use Rattle.dme_words.specs.Ordered.{Has, IsLaterAskable}
+use Rattle.dme_words.proofs.Names.{◌∙◌, ◌≡◌, bytes_eq-Decides, codes, Has, inl, inr, IsLaterAskable, List, Row, run_line, serve_line, sym, Text}
+use Rattle.dme_words.proofs.Names.{true≢false, watch_line}
 
 pub has_service : (p : Text × List Row) → IsLaterAskable p → p.0 ≡ codes "serve" → Has serve_line p.1
 has_service p (inl (is, has)) serve = has

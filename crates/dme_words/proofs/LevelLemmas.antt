@@ -1,36 +1,25 @@
 -- What a level of the command line without a fault has found: each value has passed the parser of its argument.
-use Rattle.std.proofs.Common.{◌≡◌, ◌⊎◌, ◌<◌, ◌&&◌, ℕ, zero, suc, Bool, true, false, List, [], ◌∷◌, ◌++◌, fold, find, length}
-use Rattle.std.proofs.Common.{Option, Some, None, cond, refl, arith, ap, sym, subst, ◌∙◌, inl, inr}
-use Rattle.std.specs.Prelude.{encode_utf8, drop, slice_get}
-use Rattle.std.specs.Option.{option_map_or}
-use Rattle.std.specs.Str.{bytes_eq, chars}
-use Rattle.std.proofs.lemmas.Option.{none-some, same_Some}
-use Rattle.std.proofs.lemmas.Slice.Eq.{bytes_eq-Decides}
-use Rattle.clap.specs.Lexer.{long_of, short_of}
-use Rattle.clap.specs.Facts.{unwrap_or_range}
-use Rattle.clap.specs.Kinds.{Kinds, or_else, range_kinds, values_kinds}
-use Rattle.clap.specs.Walk.{Held, Names, Outcome, Row, Rule, Step, Text, Waiting, Walk, action_of, after_flag, after_step, arg_by_id}
-use Rattle.clap.specs.Walk.{arg_by_index, arg_by_long, arg_by_short, at_row, attached_value, bundle, bundle_met, bundle_step, default_rows}
-use Rattle.clap.specs.Walk.{done, flag_met, has_row, idle, is_pending, long_met, long_or_other, more_values, most_values, next, option}
-use Rattle.clap.specs.Walk.{option_met}
-use Rattle.clap.specs.Walk.{option_word, plain, plain_word, positional, positional_held, reacted, reading_by, refused, settled}
-use Rattle.clap.specs.Walk.{settled_rows}
-use Rattle.clap.specs.Walk.{short_met, short_or_plain, subcommand, subcommand_met, subcommand_or_other, takes_several, takes_values}
-use Rattle.clap.specs.Walk.{to_positional, trailing, used, used_as, value, values_or_missing, waits, walked, walked_from, with_default}
-use Rattle.clap.specs.Walk.{with_values}
-use Rattle.clap.specs.Walk.{without, word_met}
-use Rattle.clap.specs.Simple.{Shape}
-use Rattle.clap.specs.Faults.{action_fault, repeat_fault, set_fault, bundle_step_fault, defaults_fault, bundle_fault}
-use Rattle.clap.specs.Faults.{flag_word_fault, flags_fault}
-use Rattle.clap.specs.Faults.{long_fault, option_fault, other_fault}
-use Rattle.clap.specs.Faults.{positional_fault, react_fault, settle_fault, short_fault, step_fault, turn_fault, use_fault, values_fault}
-use Rattle.clap.specs.Faults.{walk_fault, word_fault}
+use Rattle.dme_words.proofs.Names.{[], ◌&&◌, ◌++◌, ◌<◌, ◌∙◌, ◌∷◌, ◌≡◌, ◌⊎◌, action_fault, action_of, after_flag, after_step, ap, arg_by_id}
+use Rattle.dme_words.proofs.Names.{arg_by_index, arg_by_long, arg_by_short, arith, at_row, attached_value, Bool, bundle, bundle_fault, bundle_step}
+use Rattle.dme_words.proofs.Names.{bundle_step_fault, bytes_eq, bytes_eq-Decides, chars, CommandLine, cond, default_rows, defaults_fault, done, drop}
+use Rattle.dme_words.proofs.Names.{encode_utf8, false, find, flag_met, flag_word_fault, fold, has_row, Held, idle, inl, inr, is_pending, Kinds}
+use Rattle.dme_words.proofs.Names.{length, List, long_fault, long_met, long_of, long_or_other, more_values, most_values, next, None, none-some}
+use Rattle.dme_words.proofs.Names.{Option, option, option_fault, option_map_or, option_met, option_word, or_else, other_fault, Outcome, plain}
+use Rattle.dme_words.proofs.Names.{plain_word, positional, positional_fault, positional_held, range_kinds, react_fault, reacted, reading_by, refl}
+use Rattle.dme_words.proofs.Names.{refused, repeat_fault, Row, Rule, same_Some, set_fault, settle_fault, settled, settled_rows, Shape, short_fault}
+use Rattle.dme_words.proofs.Names.{short_met, short_of, short_or_plain, slice_get, Some, Step, step_fault, subcommand, subcommand_met}
+use Rattle.dme_words.proofs.Names.{subcommand_or_other, subst, suc, sym, takes_several, takes_values, Text, to_positional, trailing, true, turn_fault}
+use Rattle.dme_words.proofs.Names.{unwrap_or_range, use_fault, used, used_as, value, ValueParser, values_fault, values_kinds, values_or_missing}
+use Rattle.dme_words.proofs.Names.{Waiting, waits, Walk, walked_from, with_default, with_values, without, word_fault, word_met, zero, ℕ}
+use Rattle.clap.specs.Walk.{Names}
+use Rattle.clap.specs.Walk.{bundle_met}
+use Rattle.clap.specs.Walk.{walked}
+use Rattle.clap.specs.Faults.{flags_fault}
+use Rattle.clap.specs.Faults.{walk_fault}
 use Rattle.clap.specs.declared.builder.action.ArgAction.{ArgAction}
 use Rattle.clap.specs.declared.builder.action.ArgAction.TheVariants.{Help, Set, SetTrue}
 use Rattle.clap.specs.declared.builder.range.ValueRange.{ValueRange}
-use Rattle.clap.specs.declared.builder.value_parser.ValueParser.{ValueParser}
 use Rattle.clap.specs.declared.parser.matches.ValueSource.{ValueSource}
-use Rattle.clap.specs.declared.parser.matches.ValueSource.TheVariants.{CommandLine}
 use Rattle.dme_words.proofs.HelpLemmas.{first_none, second_none, not_empty}
 
 -- an argument that the rules know by its id, and that has one value, or is a flag, or asks for help

@@ -1,3 +1,4 @@
+pub mod Names
 pub mod WordsLemmas
 pub mod LineLemmas
 pub mod NumberLemmas

@@ -1,9 +1,8 @@
 -- What an argument or a subcommand adds to a command, where neither is global.
-use Rattle.std.proofs.Common.{◌≡◌, ◌||◌, false, ap₂, ◌∙◌}
-use Rattle.clap.specs.Words.{AddsArg, AddsSubcommand, app_of, rule_of, shape_of, with_rule, with_subcommand}
+use Rattle.dme_words.proofs.Names.{◌||◌, ◌∙◌, ◌≡◌, AddsArg, AddsSubcommand, app_of, ap₂, false, out-Command, rule_of, shape_of, with_rule}
+use Rattle.dme_words.proofs.Names.{with_subcommand}
 use Rattle.clap.specs.declared.builder.arg.Arg.{Arg}
 use Rattle.clap.specs.declared.builder.command.Command.{Command}
-use Rattle.clap.specs.declared.builder.command.Command.TheViews.{out-Command}
 
 pub adds_locally : (old : Command) (a : Arg) (new : Command) → AddsArg old a new → (out-Command old).has_globals ≡ false → a.global ≡ false
     → (app_of new ≡ with_rule (app_of old) (rule_of a)) × ((out-Command new).has_globals ≡ false)

@@ -1,16 +1,10 @@
 -- A text that passed a range from 1 on reads as the number that it writes, and a flag as it was given.
-use Rattle.std.proofs.Common.{◌≡◌, ◌==◌, ◌<◌, ◌^◌, ◌&&◌, ◌∙◌, ℕ, Bool, true, false, cond, List, [], ◌∷◌, Option, Some, None}
-use Rattle.std.proofs.Common.{Result, Ok, Err, refl, sym, subst, ap, ap₂, arith, le-leb, true≢false}
-use Rattle.std.specs.Prelude.{codes, pos, unwrap_or}
-use Rattle.std.specs.Str.Parse.{ParsesUnsigned, starts_with_minus}
+use Rattle.dme_words.proofs.Names.{[], ◌&&◌, ◌<◌, ◌==◌, ◌^◌, ◌∙◌, ◌∷◌, ◌≡◌, ap, ap₂, arith, Bool, bool_text, codes, cond, Err, false, first_of}
+use Rattle.dme_words.proofs.Names.{HasFlag, IsFlagOf, IsNumber, IsSignedIn, le-leb, List, None, Ok, one_of, Option, ParsesUnsigned, pos, refl, Result}
+use Rattle.dme_words.proofs.Names.{Row, Some, starts_with_minus, subst, sym, Text, true, true≢false, unwrap_or, without_minus, ℕ}
 use Rattle.std.proofs.lemmas.Int.{ints}
 use Rattle.clap.specs.Matches.{ReadsOne}
-use Rattle.clap.specs.Values.{IsSignedIn}
-use Rattle.clap.specs.Lexer.{without_minus}
-use Rattle.clap.specs.Values.{bool_text}
-use Rattle.clap.specs.Walk.{Row, Text, first_of, one_of}
 use Rattle.client_core.specs.Clients.{is_window}
-use Rattle.dme_words.specs.Ordered.{HasFlag, IsFlagOf, IsNumber}
 
 -- a text that does not begin with a minus
 without_minus-same : (t : List ℕ) → starts_with_minus t ≡ false → without_minus t ≡ t

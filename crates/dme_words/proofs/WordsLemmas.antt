@@ -1,13 +1,10 @@
 -- The order of a subcommand, from its name and its values.
-use Rattle.std.proofs.Common.{◌≡◌, Result, Ok, Err, IfOk, IfErr, inl, inr, List, [], subst, Option, Some, None}
-use Rattle.std.proofs.Common.{refl, ap, sym, ◌∙◌}
-use Rattle.std.specs.Prelude.{IsErrAnd, IsSomeAnd, ◌≢◌}
-use Rattle.clap.specs.Words.{App, FailsBy, IsAmong, is_simple, subcommand_of, HasKind, kind_of, HasMatchesOf, Row, Text, fault_of}
-use Rattle.clap.specs.Words.{subcommand_rows_of}
+use Rattle.dme_words.proofs.Names.{[], ◌∙◌, ◌≡◌, ◌≢◌, ap, App, Asks, AsksForNothing, Err, FailsBy, fault_of, HasFault, HasKind, HasMatchesOf}
+use Rattle.dme_words.proofs.Names.{HasNoValue, IfErr, IfOk, inl, inr, is_simple, IsAmong, IsAskable, IsCalled, IsErrAnd, IsOrderOf, IsRefusal}
+use Rattle.dme_words.proofs.Names.{IsRefusedOf, IsSomeAnd, kind_of, List, None, Ok, Option, refl, Result, Row, Some, subcommand_of}
+use Rattle.dme_words.proofs.Names.{subcommand_rows_of, subst, sym, Text, whole_line}
 use Rattle.clap.specs.declared.parser.matches.ArgMatches.{ArgMatches}
 use Rattle.dme_words.specs.declared.orders.Order.{Order}
-use Rattle.dme_words.specs.CommandLine.{whole_line}
-use Rattle.dme_words.specs.Ordered.{Asks, AsksForNothing, HasFault, HasNoValue, IsAskable, IsCalled, IsOrderOf, IsRefusal, IsRefusedOf}
 use Rattle.dme_words.specs.declared.words.WordsFault.{WordsFault}
 use Rattle.dme_words.specs.declared.words.WordsFault.TheVariants.{Line, Memory, Misfits, NoCode, NoFindingForm, NoForm, NoPart, NoSeconds}
 use Rattle.clap.specs.declared.error.Error.{Error}

@@ -1,9 +1,6 @@
 -- A block is a feature.
-use Rattle.std.proofs.Common.{◌≡◌, ℕ, ◌+◌, List, [], ◌∷◌, ◌++◌, Option, Some, None, refl, ap, ◌∙◌}
-use Rattle.dmis_program.specs.Meaning.{features_of, block_touches}
-use Rattle.dmis_program.specs.Programs.{AreBlocks, StayInside, touches_of}
-use Rattle.dmis_program.specs.declared.steps.Step.{Step}
-use Rattle.dmis_program.specs.declared.steps.Step.TheVariants.{Goto, Begin, Touch, Tool, Recall, End}
+use Rattle.dmis_program.proofs.Names.{[], ◌++◌, ◌+◌, ◌∙◌, ◌∷◌, ◌≡◌, ap, AreBlocks, Begin, block_touches, End, features_of, Goto, List, None, Option}
+use Rattle.dmis_program.proofs.Names.{Recall, refl, Some, StayInside, Step, Tool, Touch, touches_of, ℕ}
 use Rattle.dmis_program.specs.declared.features.Touch as touch
 
 -- the touches of a block that ends do not continue after its end

@@ -1,36 +1,22 @@
 -- Carrying the selections forward gives what looking back for them gives.
-use Rattle.std.proofs.Common.{◌≡◌, ℕ, suc, Bool, true, false, List, [], ◌∷◌, ◌++◌, length, Result, Ok, Err, Option, Some, None, refl, ap}
-use Rattle.std.proofs.Common.{sym, ◌∙◌, arith, subst, append_assoc, append-nil, length-append, cond, nat_le, is_none}
-use Rattle.std.specs.Prelude.{IfOk}
-use Rattle.std.specs.Str.Lines.{lines}
-use Rattle.dmis_text.specs.Reading.{text_reading}
-use Rattle.dmis_text.specs.declared.elements.Statement.{Statement}
-use Rattle.dmis_text.specs.declared.reading.TextFault.{TextFault}
-use Rattle.fixed_um.specs.declared.lengths.Point.{Point}
-use Rattle.dmis_program.specs.Outcomes.{◌>>=◌}
-use Rattle.dmis_program.specs.Keywords.{keyword_of}
-use Rattle.dmis_program.specs.Offsets.{offset_of, AreInVolume}
-use Rattle.dmis_program.specs.LookBack.{Context, context_at, saying, or_else, tool_said, frame_said, bound_said, nearest, frame_at}
-use Rattle.dmis_program.specs.LookBack.{bound_count, touched_with as touched_since, touched, part_at}
-use Rattle.dmis_program.specs.Judging.{judged, word_refusal, refused_by, is_too_few, settled}
-use Rattle.dmis_program.specs.Meaning.{Meaning, meaning_with, meant, meaning_of, program_of, closes, ended, steps_of, touch_with}
-use Rattle.dmis_program.specs.Meaning.{touch_steps, recall_steps, steps_from, with_front, continued}
-use Rattle.dmis_program.specs.Carrying.{ReaderState, no_statement, context_of, count_wanted, counted, changed, touched_with as carry_touch}
-use Rattle.dmis_program.specs.Carrying.{recalled_at, touches_left, next}
+use Rattle.dmis_program.proofs.Names.{[], ◌++◌, ◌>>=◌, ◌∙◌, ◌∷◌, ◌≡◌, ap, append-nil, append_assoc, AreInVolume, arith, Block, Bool, bound_count}
+use Rattle.dmis_program.proofs.Names.{bound_said, changed, closes, cond, Context, context_at, context_of, continued, count_wanted, counted, Direction}
+use Rattle.dmis_program.proofs.Names.{ended, Err, false, frame_at, frame_said, IfOk, is_none, is_too_few, IsProgram, keyword_of, length}
+use Rattle.dmis_program.proofs.Names.{length-append, lines, List, Meaning, meaning_with, meant, nat_le, nearest, next, no_statement, None, offset_of}
+use Rattle.dmis_program.proofs.Names.{Ok, Option, or_else, part_at, Point, program_of, ReaderState, recall_steps, recalled_at, refl, Refusal}
+use Rattle.dmis_program.proofs.Names.{refused_by, Result, saying, settled, Some, Statement, StatementMeaning, Step, steps_from, steps_of, subst, suc}
+use Rattle.dmis_program.proofs.Names.{sym, text_reading, TextFault, tool_said, TooLarge, touch_steps, touch_with, touched, touches_left, true}
+use Rattle.dmis_program.proofs.Names.{with_front, word_refusal, ℕ}
+use Rattle.dmis_program.specs.LookBack.{touched_with as touched_since}
+use Rattle.dmis_program.specs.Judging.{judged}
+use Rattle.dmis_program.specs.Meaning.{meaning_of}
+use Rattle.dmis_program.specs.Carrying.{touched_with as carry_touch}
 use Rattle.dmis_program.proofs.CarryingRuns.{ran, run}
-use Rattle.dmis_program.specs.Programs.{IsProgram}
 use Rattle.dmis_program.proofs.Sound.{MayFollow, IsAllowed, IsSound}
 use Rattle.dmis_program.proofs.JudgingLemmas.{judged_if}
 use Rattle.dmis_program.proofs.SoundLemmas.{sound_after, sound_at_start}
 use Rattle.dmis_program.proofs.ProgramLemmas.{done_is, program_is}
-use Rattle.fixed_um.specs.Shapes.{Direction}
-use Rattle.dmis_program.specs.declared.faults.Refusal.{Refusal}
-use Rattle.dmis_program.specs.declared.faults.Refusal.TheVariants.{TooLarge}
-use Rattle.dmis_program.specs.declared.sayings.StatementMeaning.{StatementMeaning}
-use Rattle.dmis_program.specs.declared.sayings.StatementMeaning.TheVariants as said
-use Rattle.dmis_program.specs.declared.steps.Step.{Step}
 use Rattle.dmis_program.specs.declared.features.Touch as touch
-use Rattle.dmis_program.specs.declared.reading.Block.{Block}
 
 -- two contexts are one where their parts are
 same_context : (c d : Context) → c.number ≡ d.number → c.tool ≡ d.tool → c.frame ≡ d.frame → c.wanted ≡ d.wanted → c.touched ≡ d.touched
@@ -62,14 +48,14 @@ unless_is false e s t h = cc
 
 settled_is : (frames : List (List ℕ × Point)) (tool : Option (List ℕ)) (wanted : Option ℕ) (count : ℕ) (s t : StatementMeaning)
     → settled frames tool wanted count s ≡ Ok t → s ≡ t
-settled_is frames tool wanted count (said.Goes target) t h = cc
-settled_is frames tool wanted count (said.Begins name n) t h = cc
-settled_is frames tool wanted count (said.Touches target direction) t h = unless_is (is_none tool) _ (said.Touches target direction) t h
-settled_is frames tool wanted count said.Ends t h = unless_is (is_too_few wanted count) _ said.Ends t h
-settled_is frames tool wanted count (said.Selects name) t h = cc
-settled_is frames tool wanted count (said.Recalls name) t h = unless_is (is_none (offset_of frames name)) _ (said.Recalls name) t h
-settled_is frames tool wanted count said.Closes t h = cc
-settled_is frames tool wanted count said.Passes t h = cc
+settled_is frames tool wanted count (StatementMeaning.Goes target) t h = cc
+settled_is frames tool wanted count (StatementMeaning.Begins name n) t h = cc
+settled_is frames tool wanted count (StatementMeaning.Touches target direction) t h = unless_is (is_none tool) _ (StatementMeaning.Touches target direction) t h
+settled_is frames tool wanted count StatementMeaning.Ends t h = unless_is (is_too_few wanted count) _ StatementMeaning.Ends t h
+settled_is frames tool wanted count (StatementMeaning.Selects name) t h = cc
+settled_is frames tool wanted count (StatementMeaning.Recalls name) t h = unless_is (is_none (offset_of frames name)) _ (StatementMeaning.Recalls name) t h
+settled_is frames tool wanted count StatementMeaning.Closes t h = cc
+settled_is frames tool wanted count StatementMeaning.Passes t h = cc
 
 pub settling_is : (frames : List (List ℕ × Point)) (tool : Option (List ℕ)) (wanted : Option ℕ) (count : ℕ)
     (r : Result StatementMeaning Refusal) (t : StatementMeaning)
@@ -113,14 +99,14 @@ left_count (Some d) b touches e = refl
 behind_said : (frames : List (List ℕ × Point)) (above : List Statement) (c : ReaderState) (t : StatementMeaning) → Stands frames above c
     → (c.open_block ≡ None → c.touches ≡ []) → IsAllowed frames c.tool c.open_block (length c.touches) t
     → StandsBehind frames (Ok t) above (changed frames (counted c) t)
-behind_said frames above c (said.Goes target) h idle may = record {
+behind_said frames above c (StatementMeaning.Goes target) h idle may = record {
   number = omega (arith, h.number);
   tool = h.tool;
   frame = h.frame;
   wanted = h.wanted;
   touched = h.touched;
 }
-behind_said frames above c (said.Begins name n) h idle may =
+behind_said frames above c (StatementMeaning.Begins name n) h idle may =
     record {
       number = omega (arith, h.number);
       tool = h.tool;
@@ -128,8 +114,8 @@ behind_said frames above c (said.Begins name n) h idle may =
       wanted = refl;
       touched = idle_count c.open_block c.touches may.0 idle;
     }
-behind_said frames above c (said.Touches target direction) h idle may =
-    subst (λ (o : Option (List ℕ)). StandsBehind frames (Ok (said.Touches target direction)) above
+behind_said frames above c (StatementMeaning.Touches target direction) h idle may =
+    subst (λ (o : Option (List ℕ)). StandsBehind frames (Ok (StatementMeaning.Touches target direction)) above
     (carry_touch (counted c) o target direction)) (sym may.2.1)
     record {
       number = omega (arith, h.number);
@@ -138,26 +124,26 @@ behind_said frames above c (said.Touches target direction) h idle may =
       wanted = h.wanted;
       touched = omega (arith, length-append c.touches (touch_with may.2.0 c.frame target direction ∷ []), h.touched);
     }
-behind_said frames above c said.Ends h idle may = record {
+behind_said frames above c StatementMeaning.Ends h idle may = record {
   number = omega (arith, h.number);
   tool = h.tool;
   frame = h.frame;
   wanted = refl;
   touched = left_count c.open_block may.0 c.touches may.1;
 }
-behind_said frames above c (said.Selects name) h idle may =
+behind_said frames above c (StatementMeaning.Selects name) h idle may =
     record { number = omega (arith, h.number); tool = refl; frame = h.frame; wanted = h.wanted; touched = h.touched }
-behind_said frames above c (said.Recalls name) h idle may =
-    subst (λ (o : Option Point). StandsBehind frames (Ok (said.Recalls name)) above (recalled_at (counted c) o)) (sym may.1)
+behind_said frames above c (StatementMeaning.Recalls name) h idle may =
+    subst (λ (o : Option Point). StandsBehind frames (Ok (StatementMeaning.Recalls name)) above (recalled_at (counted c) o)) (sym may.1)
     record { number = omega (arith, h.number); tool = h.tool; frame = ap part_at (sym may.1); wanted = h.wanted; touched = h.touched }
-behind_said frames above c said.Closes h idle may = record {
+behind_said frames above c StatementMeaning.Closes h idle may = record {
   number = omega (arith, h.number);
   tool = h.tool;
   frame = h.frame;
   wanted = h.wanted;
   touched = h.touched;
 }
-behind_said frames above c said.Passes h idle may = record {
+behind_said frames above c StatementMeaning.Passes h idle may = record {
   number = omega (arith, h.number);
   tool = h.tool;
   frame = h.frame;
@@ -186,14 +172,14 @@ recall_steps_are c (Some offset) = refl
 
 steps_are : (frames : List (List ℕ × Point)) (c : ReaderState) (t : StatementMeaning)
     → (changed frames (counted c) t).steps ≡ c.steps ++ steps_of frames (context_of c) t
-steps_are frames c (said.Goes target) = refl
-steps_are frames c (said.Begins name n) = refl
-steps_are frames c (said.Touches target direction) = touch_steps_are c c.tool target direction
-steps_are frames c said.Ends = refl
-steps_are frames c (said.Selects name) = refl
-steps_are frames c (said.Recalls name) = recall_steps_are c (offset_of frames name)
-steps_are frames c said.Closes = sym (append-nil c.steps)
-steps_are frames c said.Passes = sym (append-nil c.steps)
+steps_are frames c (StatementMeaning.Goes target) = refl
+steps_are frames c (StatementMeaning.Begins name n) = refl
+steps_are frames c (StatementMeaning.Touches target direction) = touch_steps_are c c.tool target direction
+steps_are frames c StatementMeaning.Ends = refl
+steps_are frames c (StatementMeaning.Selects name) = refl
+steps_are frames c (StatementMeaning.Recalls name) = recall_steps_are c (offset_of frames name)
+steps_are frames c StatementMeaning.Closes = sym (append-nil c.steps)
+steps_are frames c StatementMeaning.Passes = sym (append-nil c.steps)
 
 -- steps so far, and what is to come
 abbrev whole : List Step → Result (List Step) (Refusal × ℕ) → Result Meaning (Refusal × ℕ)
@@ -234,22 +220,22 @@ by_judgement : (frames : List (List ℕ × Point)) (fault : Option TextFault) (l
     → ran s.line (r >>= λ t. Ok (closes t, changed frames (counted c) t)) (run frames fault lines statements)
     ≡ whole c.steps (continued s.line r (steps_of frames (context_at frames above)) (steps_from frames fault lines (s ∷ above) statements))
 by_judgement frames fault lines statements above c s (Err e) sound same may behind = refl
-by_judgement frames fault lines statements above c s (Ok (said.Goes target)) sound same may behind =
-    goes_on frames fault lines statements above c s (said.Goes target) sound same refl (behind (said.Goes target) refl)
-by_judgement frames fault lines statements above c s (Ok (said.Begins name n)) sound same may behind =
-    goes_on frames fault lines statements above c s (said.Begins name n) sound same refl (behind (said.Begins name n) refl)
-by_judgement frames fault lines statements above c s (Ok (said.Touches target direction)) sound same may behind =
-    goes_on frames fault lines statements above c s (said.Touches target direction) sound same refl
-    (behind (said.Touches target direction) refl)
-by_judgement frames fault lines statements above c s (Ok said.Ends) sound same may behind =
-    goes_on frames fault lines statements above c s said.Ends sound same refl (behind said.Ends refl)
-by_judgement frames fault lines statements above c s (Ok (said.Selects name)) sound same may behind =
-    goes_on frames fault lines statements above c s (said.Selects name) sound same refl (behind (said.Selects name) refl)
-by_judgement frames fault lines statements above c s (Ok (said.Recalls name)) sound same may behind =
-    goes_on frames fault lines statements above c s (said.Recalls name) sound same refl (behind (said.Recalls name) refl)
-by_judgement frames fault lines statements above c s (Ok said.Closes) sound same may behind = closed_is c sound may.1
-by_judgement frames fault lines statements above c s (Ok said.Passes) sound same may behind =
-    goes_on frames fault lines statements above c s said.Passes sound same refl (behind said.Passes refl)
+by_judgement frames fault lines statements above c s (Ok (StatementMeaning.Goes target)) sound same may behind =
+    goes_on frames fault lines statements above c s (StatementMeaning.Goes target) sound same refl (behind (StatementMeaning.Goes target) refl)
+by_judgement frames fault lines statements above c s (Ok (StatementMeaning.Begins name n)) sound same may behind =
+    goes_on frames fault lines statements above c s (StatementMeaning.Begins name n) sound same refl (behind (StatementMeaning.Begins name n) refl)
+by_judgement frames fault lines statements above c s (Ok (StatementMeaning.Touches target direction)) sound same may behind =
+    goes_on frames fault lines statements above c s (StatementMeaning.Touches target direction) sound same refl
+    (behind (StatementMeaning.Touches target direction) refl)
+by_judgement frames fault lines statements above c s (Ok StatementMeaning.Ends) sound same may behind =
+    goes_on frames fault lines statements above c s StatementMeaning.Ends sound same refl (behind StatementMeaning.Ends refl)
+by_judgement frames fault lines statements above c s (Ok (StatementMeaning.Selects name)) sound same may behind =
+    goes_on frames fault lines statements above c s (StatementMeaning.Selects name) sound same refl (behind (StatementMeaning.Selects name) refl)
+by_judgement frames fault lines statements above c s (Ok (StatementMeaning.Recalls name)) sound same may behind =
+    goes_on frames fault lines statements above c s (StatementMeaning.Recalls name) sound same refl (behind (StatementMeaning.Recalls name) refl)
+by_judgement frames fault lines statements above c s (Ok StatementMeaning.Closes) sound same may behind = closed_is c sound may.1
+by_judgement frames fault lines statements above c s (Ok StatementMeaning.Passes) sound same may behind =
+    goes_on frames fault lines statements above c s StatementMeaning.Passes sound same refl (behind StatementMeaning.Passes refl)
 
 may_follow : (frames : List (List ℕ × Point)) (c : ReaderState) (s : Statement) (t : StatementMeaning)
     → judged frames (context_of c) s ≡ Ok t
@@ -289,25 +275,25 @@ pub record KeepsSound (closed : Bool) (c : ReaderState) : Type 0 where
 
 closes_out : (frames : List (List ℕ × Point)) (c : ReaderState) (t : StatementMeaning) → closes t ≡ true → MayFollow frames c t
     → c.open_block ≡ None
-closes_out frames c (said.Goes target) e may = absurd cc
-closes_out frames c (said.Begins name n) e may = absurd cc
-closes_out frames c (said.Touches target direction) e may = absurd cc
-closes_out frames c said.Ends e may = absurd cc
-closes_out frames c (said.Selects name) e may = absurd cc
-closes_out frames c (said.Recalls name) e may = absurd cc
-closes_out frames c said.Closes e may = may.1
-closes_out frames c said.Passes e may = absurd cc
+closes_out frames c (StatementMeaning.Goes target) e may = absurd cc
+closes_out frames c (StatementMeaning.Begins name n) e may = absurd cc
+closes_out frames c (StatementMeaning.Touches target direction) e may = absurd cc
+closes_out frames c StatementMeaning.Ends e may = absurd cc
+closes_out frames c (StatementMeaning.Selects name) e may = absurd cc
+closes_out frames c (StatementMeaning.Recalls name) e may = absurd cc
+closes_out frames c StatementMeaning.Closes e may = may.1
+closes_out frames c StatementMeaning.Passes e may = absurd cc
 
 closes_same : (frames : List (List ℕ × Point)) (c : ReaderState) (t : StatementMeaning) → closes t ≡ true
     → changed frames (counted c) t ≡ counted c
-closes_same frames c (said.Goes target) e = absurd cc
-closes_same frames c (said.Begins name n) e = absurd cc
-closes_same frames c (said.Touches target direction) e = absurd cc
-closes_same frames c said.Ends e = absurd cc
-closes_same frames c (said.Selects name) e = absurd cc
-closes_same frames c (said.Recalls name) e = absurd cc
-closes_same frames c said.Closes e = refl
-closes_same frames c said.Passes e = absurd cc
+closes_same frames c (StatementMeaning.Goes target) e = absurd cc
+closes_same frames c (StatementMeaning.Begins name n) e = absurd cc
+closes_same frames c (StatementMeaning.Touches target direction) e = absurd cc
+closes_same frames c StatementMeaning.Ends e = absurd cc
+closes_same frames c (StatementMeaning.Selects name) e = absurd cc
+closes_same frames c (StatementMeaning.Recalls name) e = absurd cc
+closes_same frames c StatementMeaning.Closes e = refl
+closes_same frames c StatementMeaning.Passes e = absurd cc
 
 keeps_said : (frames : List (List ℕ × Point)) (c : ReaderState) (r : Result StatementMeaning Refusal) (closed : Bool) (d : ReaderState)
     → AreInVolume frames

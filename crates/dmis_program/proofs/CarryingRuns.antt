@@ -1,11 +1,6 @@
 -- What only proofs speak of.
-use Rattle.std.specs.Prelude.{ℕ, Bool, true, false, List, [], ◌∷◌, Option, Result, Ok, Err}
-use Rattle.dmis_text.specs.declared.elements.Statement.{Statement}
-use Rattle.dmis_text.specs.declared.reading.TextFault.{TextFault}
-use Rattle.fixed_um.specs.declared.lengths.Point.{Point}
-use Rattle.dmis_program.specs.Meaning.{Meaning, ended}
-use Rattle.dmis_program.specs.declared.faults.Refusal.{Refusal}
-use Rattle.dmis_program.specs.Carrying.{ReaderState, next}
+use Rattle.dmis_program.proofs.Names.{[], ◌∷◌, Bool, ended, Err, false, List, Meaning, next, Ok, Option, Point, ReaderState, Refusal, Result}
+use Rattle.dmis_program.proofs.Names.{Statement, TextFault, true, ℕ}
 
 -- from here to the end of the program
 abbrev pub ran : ℕ → Result (Bool × ReaderState) Refusal → (ReaderState → Result Meaning (Refusal × ℕ)) → Result Meaning (Refusal × ℕ)

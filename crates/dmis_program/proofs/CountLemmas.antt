@@ -1,13 +1,7 @@
 -- Digits that write a count.
-use Rattle.std.proofs.Common.{◌≡◌, ℕ, ◌+◌, ◌-◌, ◌*◌, ◌<◌, ◌≤◌, true, false, List, [], ◌∷◌, get_or, drop, length, refl, sym, arith, add-one}
-use Rattle.std.proofs.Common.{Some, None}
-use Rattle.std.specs.Char.{digit_value, is_ascii_digit}
-use Rattle.std.specs.Str.Parse.{digits_value, digits_value_after}
-use Rattle.std.specs.List.{list_all}
-use Rattle.std.proofs.Math.Seq.{drop-cons}
-use Rattle.std.proofs.lemmas.Bool.{and_parts}
-use Rattle.std.proofs.lemmas.List.{drop_all}
-use Rattle.std.proofs.lemmas.Bool.Decides.{nat_tests}
+use Rattle.dmis_program.proofs.Names.{[], ◌*◌, ◌+◌, ◌-◌, ◌<◌, ◌∷◌, ◌≡◌, ◌≤◌, add-one, and_parts, arith, digit_value, digits_value, digits_value_after}
+use Rattle.dmis_program.proofs.Names.{drop, drop-cons, drop_all, false, get_or, is_ascii_digit, length, List, list_all, nat_tests, None, refl, Some}
+use Rattle.dmis_program.proofs.Names.{sym, true, ℕ}
 use Rattle.dmis_program.specs.Parameters.{count_of}
 
 -- digits after a number make it no smaller

@@ -1,25 +1,12 @@
 -- What a statement says where no refusal is due may be said there.
-use Rattle.std.proofs.Common.{◌≡◌, ℕ, ◌<◌, ◌≤◌, Bool, true, false, cond, List, length, Result, Ok, Err, Option, Some, None, refl, arith}
-use Rattle.std.proofs.Common.{◌&&◌, nat_le, not, subst, is_none}
-use Rattle.std.specs.Prelude.{IfOk, ◌==◌}
-use Rattle.std.proofs.lemmas.Bool.{ltb-false}
-use Rattle.std.proofs.lemmas.Bool.Decides.{nat_tests}
-use Rattle.fixed_um.specs.declared.lengths.Point.{Point}
-use Rattle.dmis_text.specs.declared.elements.Statement.{Statement}
-use Rattle.dmis_program.specs.Keywords.{keyword_of}
-use Rattle.dmis_program.specs.Offsets.{offset_of}
-use Rattle.dmis_program.specs.LookBack.{saying}
-use Rattle.dmis_program.specs.Judging.{is_start, is_unsupported, misplaced, word_refusal, refused_by, is_too_few, settled, judged}
-use Rattle.dmis_program.specs.Carrying.{ReaderState, context_of, count_wanted}
+use Rattle.dmis_program.proofs.Names.{◌&&◌, ◌<◌, ◌==◌, ◌≡◌, ◌≤◌, arith, Begins, Block, Bool, Closes, cond, context_of, count_wanted, Ends, Err, false}
+use Rattle.dmis_program.proofs.Names.{Goes, IfOk, is_none, is_start, is_too_few, is_unsupported, Keyword, keyword_of, length, List, ltb-false}
+use Rattle.dmis_program.proofs.Names.{misplaced, nat_le, nat_tests, None, not, NotDmis, offset_of, Ok, Option, Passes, Point, ReaderState, Recalls}
+use Rattle.dmis_program.proofs.Names.{refl, Refusal, refused_by, Result, saying, Selects, settled, Some, Statement, StatementMeaning, subst, Touches}
+use Rattle.dmis_program.proofs.Names.{true, Unsupported, word_refusal, ℕ}
+use Rattle.dmis_program.specs.Judging.{judged}
 use Rattle.dmis_program.proofs.Sound.{SaidBy, IsAllowed, MayFollow}
 use Rattle.dmis_program.proofs.SayingLemmas.{bind_if, unless_if, said_of_if}
-use Rattle.dmis_program.specs.declared.faults.Refusal.{Refusal}
-use Rattle.dmis_program.specs.declared.faults.Refusal.TheVariants.{NotDmis, Unsupported}
-use Rattle.dmis_program.specs.declared.keywords.Keyword.{Keyword}
-use Rattle.dmis_program.specs.declared.keywords.Keyword.TheVariants as word
-use Rattle.dmis_program.specs.declared.sayings.StatementMeaning.{StatementMeaning}
-use Rattle.dmis_program.specs.declared.sayings.StatementMeaning.TheVariants.{Goes, Begins, Touches, Ends, Selects, Recalls, Closes, Passes}
-use Rattle.dmis_program.specs.declared.reading.Block.{Block}
 
 -- no refusal by the word and the place, and then what follows
 when_none : {A : Type 0} (P : A → Type 0) (o : Option Refusal) (r : Result A Refusal) → (o ≡ None → IfOk r P) → IfOk (refused_by o r) P
@@ -33,19 +20,19 @@ last_none false true x y o h = absurd cc
 last_none false false x y o h = h
 
 -- the places of blocks
-outside : (block : Option Block) → misplaced word.Meas (count_wanted block) ≡ None → block ≡ None
+outside : (block : Option Block) → misplaced Keyword.Meas (count_wanted block) ≡ None → block ≡ None
 outside None h = refl
 outside (Some b) h = absurd cc
 
-at_end : (block : Option Block) → misplaced word.Endfil (count_wanted block) ≡ None → block ≡ None
+at_end : (block : Option Block) → misplaced Keyword.Endfil (count_wanted block) ≡ None → block ≡ None
 at_end None h = refl
 at_end (Some b) h = absurd cc
 
-inside : (block : Option Block) → misplaced word.Ptmeas (count_wanted block) ≡ None → (b : Block) × (block ≡ Some b)
+inside : (block : Option Block) → misplaced Keyword.Ptmeas (count_wanted block) ≡ None → (b : Block) × (block ≡ Some b)
 inside None h = absurd cc
 inside (Some b) h = (b, refl)
 
-inside_ends : (block : Option Block) → misplaced word.Endmes (count_wanted block) ≡ None → (b : Block) × (block ≡ Some b)
+inside_ends : (block : Option Block) → misplaced Keyword.Endmes (count_wanted block) ≡ None → (b : Block) × (block ≡ Some b)
 inside_ends None h = absurd cc
 inside_ends (Some b) h = (b, refl)
 

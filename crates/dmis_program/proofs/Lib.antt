@@ -1,3 +1,4 @@
+pub mod Names
 pub mod BlockLemmas
 pub mod CarryingLemmas
 pub mod CarryingRuns

@@ -1,14 +1,9 @@
 -- Stored frames: one more name that is not there yet leaves each name once.
-use Rattle.std.proofs.Common.{◌≡◌, ◌≢◌, ℕ, Bool, true, false, cond, List, [], ◌∷◌, ◌++◌, Option, Some, None, refl, sym, ap, ◌∙◌, subst}
+use Rattle.dmis_program.proofs.Names.{[], ◌++◌, ◌∙◌, ◌∷◌, ◌≡◌, ◌≢◌, AllByRecursion, ap, AreFrames, AreInVolume, AreNamedOnce, Bool, bytes_eq}
+use Rattle.dmis_program.proofs.Names.{bytes_eq-Decides, cond, false, find, IsInVolume, List, names_of, None, offset_of, Option, Point, refl, Some}
+use Rattle.dmis_program.proofs.Names.{subst, sym, true, ℕ}
 use Rattle.std.proofs.lemmas.Option.{same_Some}
-use Rattle.std.specs.List.{AllByRecursion}
-use Rattle.std.specs.Prelude.{find}
 use Rattle.std.specs.Option.{option_map}
-use Rattle.std.specs.Str.{bytes_eq}
-use Rattle.std.proofs.lemmas.Slice.Eq.{bytes_eq-Decides}
-use Rattle.fixed_um.specs.declared.lengths.Point.{Point}
-use Rattle.fixed_um.specs.Points.{IsInVolume}
-use Rattle.dmis_program.specs.Offsets.{names_of, offset_of, AreNamedOnce, AreInVolume, AreFrames}
 
 -- of one frame and others: the name is not that frame's, and not among the others
 record IsNotFirst (f : List ℕ × Point) (frames : List (List ℕ × Point)) (name : List ℕ) : Type 0 where

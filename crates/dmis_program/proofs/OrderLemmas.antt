@@ -1,14 +1,7 @@
 -- The first statement that is refused decides, and after the end nothing is read.
-use Rattle.std.proofs.Common.{◌≡◌, ℕ, true, List, [], ◌∷◌, ◌++◌, length, Ok, Err, Option, refl}
-use Rattle.dmis_text.specs.declared.elements.Statement.{Statement}
-use Rattle.dmis_text.specs.declared.reading.TextFault.{TextFault}
-use Rattle.fixed_um.specs.declared.lengths.Point.{Point}
-use Rattle.dmis_program.specs.LookBack.{context_at}
-use Rattle.dmis_program.specs.Judging.{judged}
-use Rattle.dmis_program.specs.Meaning.{closes, ended, steps_from}
-use Rattle.dmis_program.specs.Order.{AreRead, above_behind, steps_along}
-use Rattle.dmis_program.specs.declared.faults.Refusal.{Refusal}
-use Rattle.dmis_program.specs.declared.sayings.StatementMeaning.{StatementMeaning}
+use Rattle.dmis_program.proofs.Names.{[], ◌++◌, ◌∷◌, ◌≡◌, closes, context_at, ended, Err, judged, length, List, Ok, Option, Point, refl, Refusal}
+use Rattle.dmis_program.proofs.Names.{Statement, StatementMeaning, steps_from, TextFault, true, ℕ}
+use Rattle.dmis_program.specs.Order.{above_behind, AreRead, steps_along}
 
 pub refused_behind : (frames : List (List ℕ × Point)) (fault : Option TextFault) (lines : ℕ) (above front : List Statement) (s : Statement)
     (behind : List Statement) (refusal : Refusal) → AreRead frames above front

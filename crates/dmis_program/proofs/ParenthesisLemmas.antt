@@ -1,15 +1,10 @@
 -- A name is between its mark and a `)`.
-use Rattle.std.proofs.Common.{◌≡◌, ℕ, ◌+◌, ◌-◌, ◌<◌, Bool, true, false, cond, List, [], ◌∷◌, ◌++◌, length, take, drop, get_or, Option, Some}
-use Rattle.std.proofs.Common.{None, refl, ap, sym, ◌∙◌, arith, length-append, codes}
-use Rattle.std.specs.Prelude.{option_and_then, ◌==◌}
+use Rattle.dmis_program.proofs.Names.{[], ◌++◌, ◌+◌, ◌-◌, ◌<◌, ◌==◌, ◌∙◌, ◌∷◌, ◌≡◌, ap, arith, before_close, begins, Bool, codes, cond, Decides-eqb}
+use Rattle.dmis_program.proofs.Names.{drop, drop-append_seam, eqb-true, false, folded, get_or, get_or_push, is_name_text, length, length-append, List}
+use Rattle.dmis_program.proofs.Names.{name_of, None, Option, option_and_then, refl, Some, starts_is, sym, take, take-append_seam, take-length}
+use Rattle.dmis_program.proofs.Names.{take_more, true, ℕ}
 use Rattle.std.specs.Bool.{Decides}
-use Rattle.std.proofs.lemmas.Bool.Decides.{Decides-eqb}
-use Rattle.std.proofs.lemmas.Bool.{eqb-true}
-use Rattle.std.proofs.lemmas.Slice.Eq.{starts_is}
-use Rattle.std.proofs.lemmas.List.{take_more, get_or_push}
-use Rattle.std.proofs.Math.Seq.{drop-append_seam, take-append_seam, take-length}
-use Rattle.fixed_um.specs.Names.{is_name_text, folded}
-use Rattle.dmis_program.specs.Parameters.{begins, before_close, name_of, name_within}
+use Rattle.dmis_program.specs.Parameters.{name_within}
 
 -- the bytes of a text in front are there
 byte_test : (a b : ℕ) → Decides (a == b) (a ≡ b)

@@ -1,20 +1,10 @@
 -- What fixed_um's readers answer, as the functions of the definitions give it.
-use Rattle.std.proofs.Common.{◌≡◌, ℕ, Bool, true, false, List, ℤ, pos, Result, Ok, Err, Option, Some, None, refl, ap, sym, ◌∙◌, inl, inr}
-use Rattle.std.proofs.Common.{◌&&◌}
+use Rattle.dmis_program.proofs.Names.{◌&&◌, ◌∙◌, ◌≡◌, and_parts, ap, BadNumeral, Bool, component_limit, Decides-int_eq, Direction, Err, false, inl}
+use Rattle.dmis_program.proofs.Names.{inr, is_zero_direction, IsDirection, List, None, numeral_refused, NumeralFault, Ok, Option, pos, Reads}
+use Rattle.dmis_program.proofs.Names.{ReadsDirection, refl, Refusal, Result, Some, sym, true, unsigned_abs, value_of, value_of-is, volume_limit}
+use Rattle.dmis_program.proofs.Names.{ZeroVector, ℕ, ℤ}
 use Rattle.std.specs.Ordering.{int_eq}
-use Rattle.std.proofs.lemmas.Bool.{and_parts}
-use Rattle.std.proofs.lemmas.Bool.Decides.{Decides-int_eq}
-use Rattle.fixed_um.specs.Limits.{volume_limit, component_limit}
-use Rattle.std.specs.Prelude.{unsigned_abs}
-use Rattle.fixed_um.specs.Computed.{value_of}
-use Rattle.fixed_um.specs.Numerals.{Reads, ReadsDirection}
-use Rattle.fixed_um.specs.Shapes.{Direction, IsDirection}
-use Rattle.fixed_um.specs.declared.numerals.NumeralFault.{NumeralFault}
-use Rattle.fixed_um.proofs.ComputedLemmas.{value_of-is}
-use Rattle.dmis_program.specs.Outcomes.{numeral_refused}
-use Rattle.dmis_program.specs.Positions.{length_of, component_of, direction_of, is_zero_direction}
-use Rattle.dmis_program.specs.declared.faults.Refusal.{Refusal}
-use Rattle.dmis_program.specs.declared.faults.Refusal.TheVariants.{BadNumeral, ZeroVector}
+use Rattle.dmis_program.specs.Positions.{component_of, direction_of, length_of}
 
 pub length_of-is : (text : List ℕ) (limit : ℤ) (r : Result ℤ NumeralFault) → limit ≡ pos volume_limit → Reads 3 (unsigned_abs limit) text r
     → length_of text ≡ numeral_refused r

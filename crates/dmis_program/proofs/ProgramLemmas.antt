@@ -1,14 +1,8 @@
 -- What follows for the features of steps that are in blocks.
-use Rattle.std.proofs.Common.{◌≡◌, ℕ, ◌+◌, ◌≤◌, List, [], ◌∷◌, ◌++◌, length, Option, Some, None, refl, ap, sym, ◌∙◌, arith, append-nil}
-use Rattle.std.proofs.Common.{subst}
-use Rattle.std.specs.List.{AllByRecursion}
-use Rattle.fixed_um.specs.declared.frames.Frame.TheVariants.{Machine}
-use Rattle.dmis_program.specs.Meaning.{features_of, block_touches}
-use Rattle.dmis_program.specs.Programs.{IsTouch, IsStep, IsFeature, IsProgram, AreBlocks, FollowSelections, touches_of, feature_touches}
-use Rattle.dmis_program.specs.Carrying.{ReaderState}
+use Rattle.dmis_program.proofs.Names.{[], ◌++◌, ◌+◌, ◌∙◌, ◌∷◌, ◌≡◌, ◌≤◌, AllByRecursion, ap, append-nil, AreBlocks, arith, Begin, block_touches, End}
+use Rattle.dmis_program.proofs.Names.{feature_touches, features_of, FollowSelections, Goto, IsFeature, IsProgram, IsStep, IsTouch, length, List}
+use Rattle.dmis_program.proofs.Names.{Machine, None, Option, ReaderState, Recall, refl, Some, Step, subst, sym, Tool, Touch, touches_of, ℕ}
 use Rattle.dmis_program.proofs.Sound.{IsSound}
-use Rattle.dmis_program.specs.declared.steps.Step.{Step}
-use Rattle.dmis_program.specs.declared.steps.Step.TheVariants.{Goto, Begin, Touch, Tool, Recall, End}
 use Rattle.dmis_program.specs.declared.features.Touch as touch
 
 -- the touches of the open block are not those of a feature to come

@@ -1,34 +1,16 @@
 -- What a statement says by itself is within the limits, and says the statement's keyword.
-use Rattle.std.proofs.Common.{◌≡◌, ℕ, ◌≤◌, Bool, true, false, cond, List, [], ◌∷◌, ℤ, pos, Result, Ok, Err, Option, Some, None, refl, ◌&&◌}
-use Rattle.std.proofs.Common.{nat_le, codes, drop, length}
-use Rattle.std.specs.Prelude.{option_and_then, IfOk, IfSome, unsigned_abs}
-use Rattle.std.specs.List.{list_any, list_all}
-use Rattle.std.specs.Char.{is_ascii_digit}
-use Rattle.std.specs.Str.{bytes_eq}
-use Rattle.std.specs.Str.Parse.{digits_value}
-use Rattle.std.proofs.lemmas.Bool.{and_parts, and_from, leb-true}
-use Rattle.std.proofs.lemmas.Bool.Decides.{Decides-int_eq}
-use Rattle.fixed_um.specs.Limits.{volume_limit, component_limit}
-use Rattle.fixed_um.specs.Numerals.{Reads}
-use Rattle.fixed_um.specs.Names.{IsName, is_name_text, folded}
-use Rattle.fixed_um.specs.Points.{IsInVolume}
-use Rattle.fixed_um.specs.Shapes.{Direction, IsDirection}
-use Rattle.fixed_um.specs.Computed.{value_of}
+use Rattle.dmis_program.proofs.Names.{[], ◌&&◌, ◌>>=◌, ◌∷◌, ◌≡◌, ◌≤◌, and_from, and_parts, BadArguments, before_close, begins, Bool, bytes_eq, Closes}
+use Rattle.dmis_program.proofs.Names.{codes, component_limit, cond, Decides-int_eq, digits_value, Direction, drop, Ends, Err, false, folded, IfOk}
+use Rattle.dmis_program.proofs.Names.{IfSome, is_ascii_digit, is_letters, is_name_text, is_zero_direction, IsDirection, IsInVolume, IsName, Keyword}
+use Rattle.dmis_program.proofs.Names.{leb-true, length, List, list_all, list_any, name_of, nat_le, None, numeral_refused, NumeralFault, Ok, Option}
+use Rattle.dmis_program.proofs.Names.{option_and_then, Passes, pos, Reads, refl, Refusal, Result, Some, Statement, true, unsigned_abs, value_of}
+use Rattle.dmis_program.proofs.Names.{value_of-reads, volume_limit, within_count, without_cart, ℕ, ℤ}
 use Rattle.fixed_um.proofs.NameLemmas.{name-from_folded}
-use Rattle.fixed_um.proofs.ComputedLemmas.{value_of-reads}
-use Rattle.fixed_um.specs.declared.numerals.NumeralFault.{NumeralFault}
-use Rattle.dmis_text.specs.declared.elements.Statement.{Statement}
-use Rattle.dmis_program.specs.Outcomes.{◌>>=◌, numeral_refused}
-use Rattle.dmis_program.specs.Positions.{length_of, component_of, position_of, direction_of, is_zero_direction}
-use Rattle.dmis_program.specs.Parameters.{is_letters, begins, before_close, name_of, name_within, count_of, within_count, without_cart}
-use Rattle.dmis_program.specs.Sayings.{goes, begun, begins_block, touches_at, touches, without_parameters, selected, selects, recalled}
-use Rattle.dmis_program.specs.Sayings.{recalls_frame, recalls, units, mode, said_by, is_badly_formed, said_of}
+use Rattle.dmis_program.specs.Positions.{component_of, direction_of, length_of, position_of}
+use Rattle.dmis_program.specs.Parameters.{count_of, name_within}
+use Rattle.dmis_program.specs.Sayings.{begins_block, begun, goes, recalled, selected, selects, touches, touches_at, without_parameters}
+use Rattle.dmis_program.specs.Sayings.{is_badly_formed, mode, recalls, recalls_frame, said_by, said_of, units}
 use Rattle.dmis_program.proofs.Sound.{SaidBy}
-use Rattle.dmis_program.specs.declared.faults.Refusal.{Refusal}
-use Rattle.dmis_program.specs.declared.faults.Refusal.TheVariants.{BadArguments}
-use Rattle.dmis_program.specs.declared.keywords.Keyword.{Keyword}
-use Rattle.dmis_program.specs.declared.keywords.Keyword.TheVariants as word
-use Rattle.dmis_program.specs.declared.sayings.StatementMeaning.TheVariants.{Ends, Closes, Passes}
 
 -- one step and then the next
 pub bind_if : {A B : Type 0} (P : A → Type 0) (Q : B → Type 0) (r : Result A Refusal) (f : A → Result B Refusal) → IfOk r P
@@ -116,69 +98,69 @@ count_within : (text : List ℕ) → IfSome (count_of text) IsCount
 unfolding count_of
 count_within text = when_digits (list_all is_ascii_digit text) (digits_value 10 text)
 
-goes_if : (params : List (List ℕ)) → IfOk (goes params) (SaidBy word.Goto)
-goes_if (x ∷ (y ∷ (z ∷ []))) = bind_if IsInVolume (SaidBy word.Goto) (position_of x y z) _ (position_within x y z) (λ p h. h)
+goes_if : (params : List (List ℕ)) → IfOk (goes params) (SaidBy Keyword.Goto)
+goes_if (x ∷ (y ∷ (z ∷ []))) = bind_if IsInVolume (SaidBy Keyword.Goto) (position_of x y z) _ (position_within x y z) (λ p h. h)
 goes_if _ = tt
 
 begun_if : (b : Bool) (name : Option (List ℕ)) (count : Option ℕ) → IfSome name IsName → IfSome count IsCount
-    → IfOk (begun b name count) (SaidBy word.Meas)
+    → IfOk (begun b name count) (SaidBy Keyword.Meas)
 begun_if true (Some name) (Some count) h g = (refl, h, g.0)
 begun_if true (Some name) None h g = tt
 begun_if true None count h g = tt
 begun_if false name count h g = tt
 
-begins_if : (params : List (List ℕ)) → IfOk (begins_block params) (SaidBy word.Meas)
+begins_if : (params : List (List ℕ)) → IfOk (begins_block params) (SaidBy Keyword.Meas)
 begins_if (kind ∷ (feature ∷ (count ∷ []))) = begun_if (is_letters kind) (name_within (codes "F(") feature) (count_of count)
     (name_within_is (codes "F(") feature) (count_within count)
 begins_if _ = tt
 
-touches_at_if : (params : List (List ℕ)) → IfOk (touches_at params) (SaidBy word.Ptmeas)
-touches_at_if (x ∷ (y ∷ (z ∷ []))) = bind_if IsInVolume (SaidBy word.Ptmeas) (position_of x y z) _ (position_within x y z)
+touches_at_if : (params : List (List ℕ)) → IfOk (touches_at params) (SaidBy Keyword.Ptmeas)
+touches_at_if (x ∷ (y ∷ (z ∷ []))) = bind_if IsInVolume (SaidBy Keyword.Ptmeas) (position_of x y z) _ (position_within x y z)
     (λ p h. (refl, h, tt))
 touches_at_if (x ∷ (y ∷ (z ∷ (i ∷ (j ∷ (k ∷ [])))))) =
-    bind_if IsInVolume (SaidBy word.Ptmeas) (position_of x y z) _ (position_within x y z) (λ p h.
-    bind_if IsDirection (SaidBy word.Ptmeas) (direction_of i j k) _ (direction_is i j k) (λ d g. (refl, h, g)))
+    bind_if IsInVolume (SaidBy Keyword.Ptmeas) (position_of x y z) _ (position_within x y z) (λ p h.
+    bind_if IsDirection (SaidBy Keyword.Ptmeas) (direction_of i j k) _ (direction_is i j k) (λ d g. (refl, h, g)))
 touches_at_if _ = tt
 
-when_cart : (b : Bool) (rest : List (List ℕ)) → IfOk (cond b (touches_at rest) (Err BadArguments)) (SaidBy word.Ptmeas)
+when_cart : (b : Bool) (rest : List (List ℕ)) → IfOk (cond b (touches_at rest) (Err BadArguments)) (SaidBy Keyword.Ptmeas)
 when_cart true rest = touches_at_if rest
 when_cart false rest = tt
 
-touches_if : (params : List (List ℕ)) → IfOk (touches params) (SaidBy word.Ptmeas)
+touches_if : (params : List (List ℕ)) → IfOk (touches params) (SaidBy Keyword.Ptmeas)
 touches_if [] = tt
 touches_if (first ∷ rest) = when_cart (bytes_eq first (codes "CART")) rest
 
-ends_if : (params : List (List ℕ)) → IfOk (without_parameters Ends params) (SaidBy word.Endmes)
+ends_if : (params : List (List ℕ)) → IfOk (without_parameters Ends params) (SaidBy Keyword.Endmes)
 ends_if [] = refl
 ends_if (first ∷ rest) = tt
 
-closes_if : (params : List (List ℕ)) → IfOk (without_parameters Closes params) (SaidBy word.Endfil)
+closes_if : (params : List (List ℕ)) → IfOk (without_parameters Closes params) (SaidBy Keyword.Endfil)
 closes_if [] = refl
 closes_if (first ∷ rest) = tt
 
-selected_if : (one other : Option (List ℕ)) → IfSome one IsName → IfSome other IsName → IfOk (selected one other) (SaidBy word.Snslct)
+selected_if : (one other : Option (List ℕ)) → IfSome one IsName → IfSome other IsName → IfOk (selected one other) (SaidBy Keyword.Snslct)
 selected_if (Some name) other h g = h
 selected_if None (Some name) h g = g
 selected_if None None h g = tt
 
-selects_if : (params : List (List ℕ)) → IfOk (selects params) (SaidBy word.Snslct)
+selects_if : (params : List (List ℕ)) → IfOk (selects params) (SaidBy Keyword.Snslct)
 selects_if (first ∷ []) = selected_if (name_within (codes "S(") first) (name_within (codes "SA(") first) (name_within_is (codes "S(") first)
     (name_within_is (codes "SA(") first)
 selects_if _ = tt
 
-recalled_if : (name : Option (List ℕ)) → IfOk (recalled name) (SaidBy word.Recall)
+recalled_if : (name : Option (List ℕ)) → IfOk (recalled name) (SaidBy Keyword.Recall)
 recalled_if (Some name) = tt
 recalled_if None = tt
 
-recalls_frame_if : (params : List (List ℕ)) → IfOk (recalls_frame params) (SaidBy word.Recall)
+recalls_frame_if : (params : List (List ℕ)) → IfOk (recalls_frame params) (SaidBy Keyword.Recall)
 recalls_frame_if (first ∷ []) = recalled_if (name_within (codes "D(") first)
 recalls_frame_if _ = tt
 
-when_frame : (b : Bool) (params : List (List ℕ)) → IfOk (cond b (recalls_frame params) (Ok Passes)) (SaidBy word.Recall)
+when_frame : (b : Bool) (params : List (List ℕ)) → IfOk (cond b (recalls_frame params) (Ok Passes)) (SaidBy Keyword.Recall)
 when_frame true params = recalls_frame_if params
 when_frame false params = tt
 
-recalls_if : (params : List (List ℕ)) → IfOk (recalls params) (SaidBy word.Recall)
+recalls_if : (params : List (List ℕ)) → IfOk (recalls params) (SaidBy Keyword.Recall)
 recalls_if [] = tt
 recalls_if (first ∷ rest) = when_frame (begins (codes "D(") first) (first ∷ rest)
 
@@ -186,29 +168,29 @@ passes_if : (keyword : Keyword) (b : Bool) (e : Refusal) → IfOk (cond b (Ok Pa
 passes_if keyword true e = tt
 passes_if keyword false e = tt
 
-units_if : (params : List (List ℕ)) → IfOk (units params) (SaidBy word.Units)
+units_if : (params : List (List ℕ)) → IfOk (units params) (SaidBy Keyword.Units)
 units_if [] = tt
-units_if (first ∷ rest) = passes_if word.Units (bytes_eq first (codes "MM")) _
+units_if (first ∷ rest) = passes_if Keyword.Units (bytes_eq first (codes "MM")) _
 
-mode_if : (params : List (List ℕ)) → IfOk (mode params) (SaidBy word.Mode)
+mode_if : (params : List (List ℕ)) → IfOk (mode params) (SaidBy Keyword.Mode)
 mode_if [] = tt
-mode_if (first ∷ rest) = passes_if word.Mode (list_any (λ p. bytes_eq p (codes "PROG")) (first ∷ rest)) _
+mode_if (first ∷ rest) = passes_if Keyword.Mode (list_any (λ p. bytes_eq p (codes "PROG")) (first ∷ rest)) _
 
 said_by_if : (keyword : Keyword) (params : List (List ℕ)) → IfOk (said_by keyword params) (SaidBy keyword)
 unfolding said_by
-said_by_if word.Dmismn params = tt
-said_by_if word.Goto params = goes_if (without_cart params)
-said_by_if word.Meas params = begins_if params
-said_by_if word.Ptmeas params = touches_if params
-said_by_if word.Endmes params = ends_if params
-said_by_if word.Snslct params = selects_if params
-said_by_if word.Recall params = recalls_if params
-said_by_if word.Endfil params = closes_if params
-said_by_if word.Units params = units_if params
-said_by_if word.Mode params = mode_if params
-said_by_if word.Definition params = tt
-said_by_if word.Passed params = tt
-said_by_if word.Unknown params = tt
+said_by_if Keyword.Dmismn params = tt
+said_by_if Keyword.Goto params = goes_if (without_cart params)
+said_by_if Keyword.Meas params = begins_if params
+said_by_if Keyword.Ptmeas params = touches_if params
+said_by_if Keyword.Endmes params = ends_if params
+said_by_if Keyword.Snslct params = selects_if params
+said_by_if Keyword.Recall params = recalls_if params
+said_by_if Keyword.Endfil params = closes_if params
+said_by_if Keyword.Units params = units_if params
+said_by_if Keyword.Mode params = mode_if params
+said_by_if Keyword.Definition params = tt
+said_by_if Keyword.Passed params = tt
+said_by_if Keyword.Unknown params = tt
 
 pub said_of_if : (keyword : Keyword) (s : Statement) → IfOk (said_of keyword s) (SaidBy keyword)
 unfolding said_of

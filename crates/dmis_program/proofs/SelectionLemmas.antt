@@ -1,12 +1,6 @@
 -- A touch has what was selected last above it.
-use Rattle.std.proofs.Common.{◌≡◌, ℕ, List, [], ◌∷◌, ◌++◌, Option, Some, None, subst}
-use Rattle.fixed_um.specs.declared.frames.Frame.{Frame}
-use Rattle.fixed_um.specs.declared.frames.Frame.TheVariants.{Machine, Part}
-use Rattle.fixed_um.specs.declared.lengths.Point.{Point}
-use Rattle.dmis_program.specs.Meaning.{Meaning}
-use Rattle.dmis_program.specs.Programs.{IsProgram, FollowSelections, SelectNoTool, SelectNoFrame}
-use Rattle.dmis_program.specs.declared.steps.Step.{Step}
-use Rattle.dmis_program.specs.declared.steps.Step.TheVariants.{Goto, Begin, Touch, Tool, Recall, End}
+use Rattle.dmis_program.proofs.Names.{[], ◌++◌, ◌∷◌, ◌≡◌, Begin, End, FollowSelections, Frame, Goto, IsProgram, List, Machine, Meaning, None, Option}
+use Rattle.dmis_program.proofs.Names.{Part, Point, Recall, SelectNoFrame, SelectNoTool, Some, Step, subst, Tool, Touch, ℕ}
 use Rattle.dmis_program.specs.declared.features.Touch as touch
 
 -- after some steps, what is selected there

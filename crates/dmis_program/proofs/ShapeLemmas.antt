@@ -1,30 +1,14 @@
 -- An accepted program keeps its shape, and recalls stored frames alone.
-use Rattle.std.proofs.Common.{◌≡◌, ℕ, Bool, true, false, cond, List, [], ◌∷◌, ◌++◌, length, Result, Ok, Err, Option, Some, None, refl, ap}
-use Rattle.std.proofs.Common.{◌∙◌}
-use Rattle.std.specs.Prelude.{IfOk}
-use Rattle.std.specs.List.{AllByRecursion}
-use Rattle.std.specs.Str.Lines.{lines}
-use Rattle.fixed_um.specs.Shapes.{Direction}
-use Rattle.fixed_um.specs.declared.lengths.Point.{Point}
-use Rattle.fixed_um.specs.declared.frames.Frame.{Frame}
-use Rattle.dmis_text.specs.Reading.{text_reading}
-use Rattle.dmis_text.specs.declared.elements.Statement.{Statement}
-use Rattle.dmis_text.specs.declared.reading.TextFault.{TextFault}
-use Rattle.dmis_program.specs.Offsets.{offset_of, AreInVolume}
-use Rattle.dmis_program.specs.LookBack.{context_at, frame_said, nearest, frame_at, part_at}
-use Rattle.dmis_program.specs.Judging.{judged}
-use Rattle.dmis_program.specs.Meaning.{Meaning, meant, meaning_of, program_of, closes, steps_of, touch_steps, recall_steps, with_front}
-use Rattle.dmis_program.specs.Meaning.{continued, steps_from}
-use Rattle.dmis_program.specs.Programs.{IsProgram, FrameIsStored, StepIsStored}
-use Rattle.dmis_program.specs.Carrying.{ReaderState, no_statement, next}
+use Rattle.dmis_program.proofs.Names.{[], ◌++◌, ◌∙◌, ◌∷◌, ◌≡◌, AllByRecursion, ap, AreInVolume, Bool, closes, cond, context_at, continued, Direction}
+use Rattle.dmis_program.proofs.Names.{Err, false, Frame, frame_at, frame_said, FrameIsStored, IfOk, IsProgram, judged, length, lines, List, Meaning}
+use Rattle.dmis_program.proofs.Names.{meant, nearest, next, no_statement, None, offset_of, Ok, Option, part_at, Point, program_of, ReaderState}
+use Rattle.dmis_program.proofs.Names.{recall_steps, refl, Refusal, Result, Some, Statement, StatementMeaning, Step, StepIsStored, steps_from}
+use Rattle.dmis_program.proofs.Names.{steps_of, text_reading, TextFault, touch_steps, true, with_front, ℕ}
+use Rattle.dmis_program.specs.Meaning.{meaning_of}
 use Rattle.dmis_program.proofs.CarryingRuns.{ran, run}
 use Rattle.dmis_program.proofs.Sound.{IsSound}
 use Rattle.dmis_program.proofs.SoundLemmas.{sound_at_start}
 use Rattle.dmis_program.proofs.CarryingLemmas.{keeps_sound, starts}
-use Rattle.dmis_program.specs.declared.faults.Refusal.{Refusal}
-use Rattle.dmis_program.specs.declared.sayings.StatementMeaning.{StatementMeaning}
-use Rattle.dmis_program.specs.declared.sayings.StatementMeaning.TheVariants as said
-use Rattle.dmis_program.specs.declared.steps.Step.{Step}
 
 -- what a run gives is a program
 ran_program : (frames : List (List ℕ × Point)) (c : ReaderState) (s : Statement) (r : Result (Bool × ReaderState) Refusal)
@@ -73,16 +57,16 @@ recall_stored frames name (Some offset) e = ((name, e), tt)
 
 steps_stored : (frames : List (List ℕ × Point)) (above : List Statement) (s : StatementMeaning)
     → AllByRecursion (StepIsStored frames) (steps_of frames (context_at frames above) s)
-steps_stored frames above (said.Goes target) = (tt, tt)
-steps_stored frames above (said.Begins name count) = (tt, tt)
-steps_stored frames above (said.Touches target direction) =
+steps_stored frames above (StatementMeaning.Goes target) = (tt, tt)
+steps_stored frames above (StatementMeaning.Begins name count) = (tt, tt)
+steps_stored frames above (StatementMeaning.Touches target direction) =
     touch_stored frames (context_at frames above).tool (context_at frames above).frame target direction
     (frame_stored frames (nearest frame_said above))
-steps_stored frames above said.Ends = (tt, tt)
-steps_stored frames above (said.Selects name) = (tt, tt)
-steps_stored frames above (said.Recalls name) = recall_stored frames name (offset_of frames name) refl
-steps_stored frames above said.Closes = tt
-steps_stored frames above said.Passes = tt
+steps_stored frames above StatementMeaning.Ends = (tt, tt)
+steps_stored frames above (StatementMeaning.Selects name) = (tt, tt)
+steps_stored frames above (StatementMeaning.Recalls name) = recall_stored frames name (offset_of frames name) refl
+steps_stored frames above StatementMeaning.Closes = tt
+steps_stored frames above StatementMeaning.Passes = tt
 
 all_joined : (frames : List (List ℕ × Point)) (front more : List Step) → AllByRecursion (StepIsStored frames) front
     → AllByRecursion (StepIsStored frames) more → AllByRecursion (StepIsStored frames) (front ++ more)

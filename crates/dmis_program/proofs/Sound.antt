@@ -1,33 +1,19 @@
 -- What holds of the code's state at each statement. No public clause cites it.
-use Rattle.std.specs.Prelude.{◌≡◌, ℕ, ◌<◌, ◌≤◌, List, [], ◌∷◌, ◌++◌, length, Option, Some, None, IfSome}
-use Rattle.std.specs.List.{AllByRecursion}
-use Rattle.fixed_um.specs.Names.{IsName}
-use Rattle.fixed_um.specs.Points.{IsInVolume}
-use Rattle.fixed_um.specs.Shapes.{IsDirection}
-use Rattle.fixed_um.specs.declared.frames.Frame.TheVariants.{Machine}
-use Rattle.fixed_um.specs.declared.lengths.Point.{Point}
-use Rattle.dmis_program.specs.Offsets.{offset_of}
-use Rattle.dmis_program.specs.Meaning.{features_of, block_touches}
-use Rattle.dmis_program.specs.Programs.{IsFrame, IsStep, AreBlocks, FollowSelections}
-use Rattle.dmis_program.specs.Carrying.{ReaderState}
-use Rattle.dmis_program.specs.declared.keywords.Keyword.{Keyword}
-use Rattle.dmis_program.specs.declared.keywords.Keyword.TheVariants as word
-use Rattle.dmis_program.specs.declared.sayings.StatementMeaning.{StatementMeaning}
-use Rattle.dmis_program.specs.declared.sayings.StatementMeaning.TheVariants.{Goes, Begins, Touches, Ends, Selects, Recalls, Closes, Passes}
-use Rattle.dmis_program.specs.declared.steps.Step.{Step}
+use Rattle.dmis_program.proofs.Names.{[], ◌++◌, ◌<◌, ◌∷◌, ◌≡◌, ◌≤◌, AllByRecursion, AreBlocks, Begins, Block, block_touches, Closes, Ends}
+use Rattle.dmis_program.proofs.Names.{features_of, FollowSelections, Goes, IfSome, IsDirection, IsFrame, IsInVolume, IsName, IsStep, Keyword, length}
+use Rattle.dmis_program.proofs.Names.{List, Machine, None, offset_of, Option, Passes, Point, ReaderState, Recalls, Selects, Some, StatementMeaning}
+use Rattle.dmis_program.proofs.Names.{Step, Touches, Wanted, ℕ}
 use Rattle.dmis_program.specs.declared.features.Touch as touch
-use Rattle.dmis_program.specs.declared.features.Wanted.{Wanted}
-use Rattle.dmis_program.specs.declared.reading.Block.{Block}
 
 -- what a statement says by itself says its keyword, and is within the limits
 abbrev pub SaidBy : Keyword → StatementMeaning → Type 0
 SaidBy keyword (Goes target) = IsInVolume target
-SaidBy keyword (Begins name count) = (keyword ≡ word.Meas) × IsName name × (1 ≤ count)
-SaidBy keyword (Touches target direction) = (keyword ≡ word.Ptmeas) × IsInVolume target × IfSome direction IsDirection
-SaidBy keyword Ends = keyword ≡ word.Endmes
+SaidBy keyword (Begins name count) = (keyword ≡ Keyword.Meas) × IsName name × (1 ≤ count)
+SaidBy keyword (Touches target direction) = (keyword ≡ Keyword.Ptmeas) × IsInVolume target × IfSome direction IsDirection
+SaidBy keyword Ends = keyword ≡ Keyword.Endmes
 SaidBy keyword (Selects name) = IsName name
 SaidBy keyword (Recalls name) = Unit {0}
-SaidBy keyword Closes = keyword ≡ word.Endfil
+SaidBy keyword Closes = keyword ≡ Keyword.Endfil
 SaidBy keyword Passes = Unit {0}
 
 -- what is said where it may be said: by the selected tool, the open block and the count of its touches

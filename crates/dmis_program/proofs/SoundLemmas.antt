@@ -1,28 +1,13 @@
 -- Each statement keeps what holds of the code's state.
-use Rattle.std.proofs.Common.{◌≡◌, ℕ, ◌+◌, ◌<◌, ◌≤◌, List, [], ◌∷◌, ◌++◌, length, Option, Some, None, refl, ap, sym, ◌∙◌, arith, subst}
-use Rattle.std.proofs.Common.{append_assoc, length-append, append-nil}
-use Rattle.std.specs.Prelude.{IfSome}
-use Rattle.std.specs.List.{AllByRecursion}
-use Rattle.fixed_um.specs.Names.{IsName}
-use Rattle.fixed_um.specs.Shapes.{Direction, IsDirection}
-use Rattle.fixed_um.specs.Points.{IsInVolume}
-use Rattle.fixed_um.specs.declared.frames.Frame.TheVariants.{Machine}
-use Rattle.fixed_um.specs.declared.lengths.Point.{Point}
-use Rattle.dmis_program.specs.Offsets.{AreInVolume}
-use Rattle.fixed_um.specs.Points.{IsInVolume}
+use Rattle.dmis_program.proofs.Names.{[], ◌++◌, ◌+◌, ◌<◌, ◌∙◌, ◌∷◌, ◌≡◌, ◌≤◌, AllByRecursion, ap, append-nil, append_assoc, AreBlocks, AreInVolume}
+use Rattle.dmis_program.proofs.Names.{arith, Begin, Block, block_touches, changed, closed_block, counted, Direction, End, features_of}
+use Rattle.dmis_program.proofs.Names.{FollowSelections, Goto, IfSome, IsDirection, IsFrame, IsInVolume, IsName, IsStep, length, length-append, List}
+use Rattle.dmis_program.proofs.Names.{Machine, no_statement, None, Option, Point, ReaderState, Recall, recalled_at, refl, Some, StatementMeaning}
+use Rattle.dmis_program.proofs.Names.{Step, subst, sym, Tool, Touch, touch_with, touches_left, Wanted, with_step, ℕ}
 use Rattle.dmis_program.proofs.OffsetLemmas.{offset_within}
-use Rattle.dmis_program.specs.Meaning.{features_of, block_touches, touch_with}
-use Rattle.dmis_program.specs.Programs.{IsFrame, IsStep, AreBlocks, FollowSelections}
-use Rattle.dmis_program.specs.Carrying.{ReaderState, no_statement, with_step, touched_with, recalled_at, counted, changed, touches_left}
-use Rattle.dmis_program.specs.Carrying.{closed_block}
+use Rattle.dmis_program.specs.Carrying.{touched_with}
 use Rattle.dmis_program.proofs.Sound.{MayFollow, under_way, open_count, IsSound}
-use Rattle.dmis_program.specs.declared.sayings.StatementMeaning.{StatementMeaning}
-use Rattle.dmis_program.specs.declared.sayings.StatementMeaning.TheVariants as said
-use Rattle.dmis_program.specs.declared.steps.Step.{Step}
-use Rattle.dmis_program.specs.declared.steps.Step.TheVariants.{Goto, Begin, Touch, Tool, Recall, End}
 use Rattle.dmis_program.specs.declared.features.Touch as touch
-use Rattle.dmis_program.specs.declared.features.Wanted.{Wanted}
-use Rattle.dmis_program.specs.declared.reading.Block.{Block}
 
 -- one step after others, and more after it
 one_more : (front : List Step) (step : Step) (more : List Step) → (front ++ step ∷ []) ++ more ≡ front ++ (step ∷ more)
@@ -210,9 +195,9 @@ left_none None b touches e = absurd cc
 left_none (Some d) b touches e = refl
 
 sound_end : (frames : List (List ℕ × Point)) (c : ReaderState) (b : Block) → c.number < 10000 → IsSound c → c.open_block ≡ Some b
-    → b.wanted ≤ length c.touches → IsSound (changed frames (counted c) said.Ends)
+    → b.wanted ≤ length c.touches → IsSound (changed frames (counted c) StatementMeaning.Ends)
 sound_end frames c b few h block enough =
-    advance c (changed frames (counted c) said.Ends) End few h record {
+    advance c (changed frames (counted c) StatementMeaning.Ends) End few h record {
       steps = refl;
       number = refl;
       features = λ more. end_features c.open_block b c.done c.touches more block;
@@ -244,16 +229,16 @@ sound_counted c few h =
 pub sound_after : (frames : List (List ℕ × Point)) (c : ReaderState) (s : StatementMeaning) → AreInVolume frames → IsSound c
     → MayFollow frames c s
     → IsSound (changed frames (counted c) s)
-sound_after frames c (said.Goes target) volume h g = sound_goto c target g.0 h g.1
-sound_after frames c (said.Begins name wanted) volume h g = sound_begin c name wanted g.0 h g.1.0 g.1.1 g.1.2
-sound_after frames c (said.Touches target direction) volume h g =
+sound_after frames c (StatementMeaning.Goes target) volume h g = sound_goto c target g.0 h g.1
+sound_after frames c (StatementMeaning.Begins name wanted) volume h g = sound_begin c name wanted g.0 h g.1.0 g.1.1 g.1.2
+sound_after frames c (StatementMeaning.Touches target direction) volume h g =
     subst (λ (o : Option (List ℕ)). IsSound (touched_with (counted c) o target direction)) (sym g.1.2.1)
     (sound_touch c g.1.2.0 g.1.3.0 target direction g.0 h g.1.2.1 g.1.3.1 g.1.0 g.1.1)
-sound_after frames c said.Ends volume h g = sound_end frames c g.1.0 g.0 h g.1.1 g.1.2
-sound_after frames c (said.Selects name) volume h g = sound_select c name g.0 h g.1
-sound_after frames c (said.Recalls name) volume h g = rw g.1.1 (sound_recall c g.1.0 g.0 h (offset_within frames name g.1.0 volume g.1.1))
-sound_after frames c said.Closes volume h g = sound_counted c g.0 h
-sound_after frames c said.Passes volume h g = sound_counted c g.0 h
+sound_after frames c StatementMeaning.Ends volume h g = sound_end frames c g.1.0 g.0 h g.1.1 g.1.2
+sound_after frames c (StatementMeaning.Selects name) volume h g = sound_select c name g.0 h g.1
+sound_after frames c (StatementMeaning.Recalls name) volume h g = rw g.1.1 (sound_recall c g.1.0 g.0 h (offset_within frames name g.1.0 volume g.1.1))
+sound_after frames c StatementMeaning.Closes volume h g = sound_counted c g.0 h
+sound_after frames c StatementMeaning.Passes volume h g = sound_counted c g.0 h
 
 pub sound_at_start : IsSound no_statement
 sound_at_start =

@@ -1,18 +1,9 @@
 -- A line of bare bytes, and perhaps a comment after them: what it is to its statement.
-use Rattle.std.proofs.Common.{◌≡◌, ℕ, suc, ◌+◌, ◌-◌, ◌≤◌, Bool, true, false, not, ◌&&◌, cond, eqb, List, [], ◌∷◌, ◌++◌, take, drop, length}
-use Rattle.std.proofs.Common.{refl, sym, ap, ◌∙◌, arith, inl, inr}
-use Rattle.std.specs.Prelude.{◌⊎◌, nat_lt, nat_le}
-use Rattle.std.specs.List.{prefix_len, list_all}
-use Rattle.std.specs.Str.Lines.{lines}
-use Rattle.std.proofs.lemmas.Bool.{agree_below, agree_below_at, and_parts, and_from, eqb-true, leb-true, true≢false}
-use Rattle.std.proofs.lemmas.List.{take-append-drop, take-take, drop-take, drop_all, length-take}
-use Rattle.dmis_text.specs.Texts.{all_blank, begins_comment, before_comment, is_clean, is_continued}
-use Rattle.dmis_text.specs.Elements.{folded}
-use Rattle.dmis_text.specs.Contents.{lacks}
-use Rattle.dmis_text.specs.Reading.{line_role}
-use Rattle.dmis_text.specs.Reading.Role.{Last}
-use Rattle.dmis_text.specs.Ends.{IsBehindEnd, IsCommentEnd}
-use Rattle.dmis_text.specs.Runs.{is_bare, is_plain, is_settled, is_unquoted, is_in_comment}
+use Rattle.dmis_text.proofs.Names.{[], ◌&&◌, ◌++◌, ◌+◌, ◌-◌, ◌∙◌, ◌∷◌, ◌≡◌, ◌≤◌, ◌⊎◌, agree_below, agree_below_at, all_blank, and_from, and_parts, ap}
+use Rattle.dmis_text.proofs.Names.{arith, before_comment, begins_comment, Bool, cond, drop, drop-take, drop_all, eqb, eqb-true, false, folded, inl}
+use Rattle.dmis_text.proofs.Names.{inr, is_bare, is_clean, is_continued, is_in_comment, is_plain, is_settled, is_unquoted, IsBehindEnd, IsCommentEnd}
+use Rattle.dmis_text.proofs.Names.{lacks, Last, leb-true, length, length-take, line_role, lines, List, list_all, nat_le, nat_lt, not, prefix_len}
+use Rattle.dmis_text.proofs.Names.{refl, suc, sym, take, take-append-drop, take-take, true, true≢false, ℕ}
 use Rattle.dmis_text.proofs.CommentLaws.{nothing_before}
 use Rattle.dmis_text.proofs.LineLaws.{lacks_more, line_in_front}
 use Rattle.dmis_text.proofs.Skipping.{copies_content, drops_clean, kept_byte}

@@ -1,12 +1,8 @@
 -- Blanks at the ends of a list of bytes, and the `$` that continues a line.
-use Rattle.std.proofs.Common.{◌≡◌, ℕ, zero, suc, ◌+◌, ◌-◌, ◌<◌, ◌≤◌, Bool, true, false, ◌&&◌, ◌||◌, cond, eqb, List, [], ◌∷◌, ◌++◌, length}
-use Rattle.std.proofs.Common.{take, drop, get_or, refl, sym, ap, ◌∙◌, arith, length-append, append_assoc}
-use Rattle.std.proofs.lemmas.Bool.{and_right, and_left, both_ways, ne_eqb}
-use Rattle.std.proofs.lemmas.List.Folds.{list_all_at}
-use Rattle.std.proofs.lemmas.List.{take_all, drop_all}
-use Rattle.dmis_text.specs.Texts.{turned, inside_after, is_blank, all_blank, without_front_blanks, without_end_blanks, is_continued, without_mark}
-use Rattle.dmis_text.specs.Reading.{content_role}
-use Rattle.dmis_text.specs.Reading.Role.{Continued, Last}
+use Rattle.dmis_text.proofs.Names.{[], ◌&&◌, ◌++◌, ◌+◌, ◌-◌, ◌<◌, ◌||◌, ◌∙◌, ◌∷◌, ◌≡◌, ◌≤◌, all_blank, and_left, and_right, ap, append_assoc, arith}
+use Rattle.dmis_text.proofs.Names.{Bool, both_ways, cond, content_role, Continued, drop, drop_all, eqb, false, get_or, inside_after, is_blank}
+use Rattle.dmis_text.proofs.Names.{is_continued, Last, length, length-append, List, list_all_at, ne_eqb, refl, suc, sym, take, take_all, true, turned}
+use Rattle.dmis_text.proofs.Names.{without_end_blanks, without_front_blanks, without_mark, zero, ℕ}
 
 -- the element before the n-th of a longer list
 before_tail : (c : ℕ) (cs : List ℕ) (m : ℕ) → is_blank (get_or (c ∷ cs) m 0) ≡ false → 0 < m → is_blank (get_or cs (m - 1) 0) ≡ false

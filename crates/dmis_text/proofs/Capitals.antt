@@ -1,8 +1,6 @@
 -- Texts without small letters outside texts of their own: what is cut out of them has none either.
-use Rattle.std.proofs.Common.{◌≡◌, ℕ, Bool, true, false, cond, eqb, ◌||◌, List, [], ◌∷◌, ◌++◌, Some, refl, sym, ap, ap₂, ◌∙◌}
-use Rattle.std.proofs.lemmas.Bool.{eqb-true}
-use Rattle.dmis_text.specs.Texts.{turned, inside_after, is_blank, without_front_blanks}
-use Rattle.dmis_text.specs.Elements.{cut_at, folded}
+use Rattle.dmis_text.proofs.Names.{[], ◌++◌, ◌||◌, ◌∙◌, ◌∷◌, ◌≡◌, ap, ap₂, Bool, cond, cut_at, eqb, eqb-true, false, folded, inside_after, is_blank}
+use Rattle.dmis_text.proofs.Names.{List, refl, Some, sym, true, turned, without_front_blanks, ℕ}
 use Rattle.dmis_text.proofs.SplittingLaws.{cut_is}
 
 abbrev first : List ℕ → ℕ

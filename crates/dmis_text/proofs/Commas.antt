@@ -1,12 +1,7 @@
 -- Commas of bytes without texts: the first is where the first piece ends.
-use Rattle.std.proofs.Common.{◌≡◌, ℕ, suc, ◌+◌, ◌<◌, ◌≤◌, Bool, true, false, not, ◌&&◌, cond, eqb, List, [], ◌∷◌, ◌++◌, take, drop, Option, Some, None}
-use Rattle.std.proofs.Common.{length, refl, sym, ap, ◌∙◌, arith}
-use Rattle.std.specs.List.{prefix_len, list_all}
-use Rattle.std.specs.Option.{option_map}
-use Rattle.std.proofs.lemmas.Bool.{and_parts, not-true}
-use Rattle.dmis_text.specs.Runs.{is_unquoted}
-use Rattle.dmis_text.specs.Texts.{turned}
-use Rattle.dmis_text.specs.Elements.{onto_front, cut_at}
+use Rattle.dmis_text.proofs.Names.{[], ◌&&◌, ◌++◌, ◌+◌, ◌<◌, ◌∙◌, ◌∷◌, ◌≡◌, ◌≤◌, and_parts, ap, arith, Bool, cond, cut_at, drop, eqb, false}
+use Rattle.dmis_text.proofs.Names.{is_unquoted, length, List, list_all, None, not, not-true, onto_front, Option, option_map, prefix_len, refl, Some}
+use Rattle.dmis_text.proofs.Names.{suc, sym, take, true, turned, ℕ}
 use Rattle.dmis_text.proofs.SplittingLaws.{cut_is}
 
 abbrev pub comma_at : List ℕ → ℕ

@@ -1,12 +1,7 @@
 -- What is before a comment, and which bytes may stand, place by place.
-use Rattle.std.proofs.Common.{◌≡◌, ℕ, zero, suc, ◌<◌, Bool, true, false, ◌&&◌, ◌||◌, cond, leb, List, [], ◌∷◌, ◌++◌, length, take, drop}
-use Rattle.std.proofs.Common.{refl, sym, ap, ◌∙◌, inl, inr, arith}
-use Rattle.std.specs.Prelude.{◌↔◌, ◌⊎◌, slice_index}
-use Rattle.std.specs.List.{list_all}
-use Rattle.std.proofs.lemmas.Bool.{and_parts, and_from, le-leb, lt-leb}
-use Rattle.std.proofs.lemmas.Bool.Decides.{nat_tests}
-use Rattle.dmis_text.specs.Texts.{turned, inside_after, begins_comment, before_comment, may_stand, is_clean}
-use Rattle.dmis_text.specs.Contents.{IsContent, EachStands}
+use Rattle.dmis_text.proofs.Names.{[], ◌&&◌, ◌++◌, ◌<◌, ◌||◌, ◌↔◌, ◌∙◌, ◌∷◌, ◌≡◌, ◌⊎◌, and_from, and_parts, ap, arith, before_comment, begins_comment}
+use Rattle.dmis_text.proofs.Names.{Bool, cond, drop, EachStands, false, inl, inr, inside_after, is_clean, IsContent, le-leb, leb, length, List}
+use Rattle.dmis_text.proofs.Names.{list_all, lt-leb, may_stand, nat_tests, refl, slice_index, suc, sym, take, true, turned, zero, ℕ}
 
 -- a comment in front leaves nothing before it
 pub nothing_before : (inside : Bool) (line : List ℕ) → begins_comment inside line ≡ true → before_comment inside line ≡ []

@@ -1,8 +1,6 @@
 -- One byte more of a line: what is before the comment, what may be there, and whether a text is open.
-use Rattle.std.proofs.Common.{◌≡◌, ℕ, ◌+◌, ◌<◌, Bool, true, false, List, [], ◌∷◌, ◌++◌, length, take, drop, get_or, refl, sym, ap}
-use Rattle.std.proofs.Common.{append_assoc}
-use Rattle.std.proofs.lemmas.List.{drop_more, take_more}
-use Rattle.dmis_text.specs.Texts.{turned, inside_after, begins_comment, before_comment, may_stand, is_clean}
+use Rattle.dmis_text.proofs.Names.{[], ◌++◌, ◌+◌, ◌<◌, ◌∷◌, ◌≡◌, ap, append_assoc, before_comment, begins_comment, Bool, drop, drop_more, false}
+use Rattle.dmis_text.proofs.Names.{get_or, inside_after, is_clean, length, List, may_stand, refl, sym, take, take_more, true, turned, ℕ}
 
 -- an open text over two lists
 pub inside_after-append : (inside : Bool) (xs ys : List ℕ) → inside_after inside (xs ++ ys) ≡ inside_after (inside_after inside xs) ys

@@ -1,11 +1,6 @@
 -- A statement that continues after a line.
-use Rattle.std.proofs.Common.{◌≡◌, ℕ, Bool, true, false, eqb, ◌||◌, ◌&&◌, List, [], ◌∷◌, ◌++◌, map, Option, Some, None, refl, ap, ◌∙◌, sym}
-use Rattle.std.proofs.Common.{append_assoc}
-use Rattle.std.proofs.lemmas.Bool.{eqb-true}
-use Rattle.std.proofs.lemmas.List.{append-nil}
-use Rattle.std.specs.List.{onto_first}
-use Rattle.dmis_text.specs.Texts.{is_blank, all_blank}
-use Rattle.dmis_text.specs.Elements.{cut_at, pieces, element_of}
+use Rattle.dmis_text.proofs.Names.{[], ◌&&◌, ◌++◌, ◌||◌, ◌∙◌, ◌∷◌, ◌≡◌, all_blank, ap, append-nil, append_assoc, Bool, cut_at, element_of, eqb}
+use Rattle.dmis_text.proofs.Names.{eqb-true, false, is_blank, List, map, None, onto_first, Option, pieces, refl, Some, sym, true, ℕ}
 use Rattle.dmis_text.proofs.Splitting.{pieces_at, pieces_by_cut, pieces_some, pieces_none}
 use Rattle.dmis_text.proofs.SplittingLaws.{cut_is}
 use Rattle.dmis_text.proofs.Capitals.{blank_turns}

@@ -1,18 +1,9 @@
 -- Folding, trimming and open texts.
-use Rattle.std.proofs.Common.{◌≡◌, ℕ, zero, suc, ◌-◌, Bool, true, false, eqb, List, [], ◌∷◌, ◌++◌, length, take, drop, get_or, map, refl}
-use Rattle.std.proofs.Common.{sym, ap, ◌∙◌, arith, length-append}
-use Rattle.std.specs.Prelude.{◌↔◌, slice_index, if◌then◌else◌}
-use Rattle.std.specs.Char.{to_ascii_uppercase}
-use Rattle.std.proofs.lemmas.Bool.{and_parts, and_from, false≢true, ne_eqb}
-use Rattle.std.proofs.lemmas.Bool.Decides.{nat_tests}
-use Rattle.std.proofs.lemmas.List.{take_at, drop_at, append-nil, get_or_append_left}
-use Rattle.dmis_text.specs.Texts.{turned, inside_after, is_blank, all_blank, without_front_blanks, without_end_blanks}
-use Rattle.dmis_text.specs.Elements.{folded, element_of}
-use Rattle.dmis_text.specs.Contents.{IsTrimmed}
-use Rattle.dmis_text.specs.Splits.{IsCut, IsSplit, Says}
-use Rattle.dmis_text.specs.Splits.Says.{word_alone, with_params, with_label}
-use Rattle.dmis_text.specs.Statements.{statement_of, last_element, has_open_text}
-use Rattle.dmis_text.specs.declared.elements.Statement.{Statement}
+use Rattle.dmis_text.proofs.Names.{[], ◌++◌, ◌-◌, ◌↔◌, ◌∙◌, ◌∷◌, ◌≡◌, all_blank, and_from, and_parts, ap, append-nil, arith, Bool, drop, drop_at}
+use Rattle.dmis_text.proofs.Names.{element_of, eqb, false, false≢true, folded, get_or, get_or_append_left, has_open_text, if◌then◌else◌, inside_after}
+use Rattle.dmis_text.proofs.Names.{is_blank, IsCut, IsSplit, IsTrimmed, last_element, length, length-append, List, map, nat_tests, ne_eqb, refl, Says}
+use Rattle.dmis_text.proofs.Names.{slice_index, Statement, statement_of, suc, sym, take, take_at, to_ascii_uppercase, true, turned, with_label}
+use Rattle.dmis_text.proofs.Names.{with_params, without_end_blanks, without_front_blanks, word_alone, zero, ℕ}
 use Rattle.dmis_text.proofs.Blanks.{kept_cut, first_not_blank}
 use Rattle.dmis_text.proofs.Comments.{inside_after-append}
 use Rattle.dmis_text.proofs.SplittingLaws.{says_is}

@@ -1,14 +1,10 @@
 -- Runs in a block: the bits of a mask that was computed lane by lane say where a class ends.
-use Rattle.std.proofs.Common.{◌≡◌, ℕ, zero, suc, ◌+◌, ◌-◌, ◌%◌, ◌^◌, ◌<◌, ◌≤◌, leb, Bool, true, false, not, ◌&&◌, cond, List, [], ◌∷◌, ◌++◌, map, length, take, drop, Fits, w8}
-use Rattle.std.proofs.Common.{get_or, refl, sym, ap, ap₂, ◌∙◌, arith, inl, inr}
-use Rattle.std.proofs.lemmas.Bool.{agree_below, agree_below_at, cases_eq, eq-eqb, ne_eqb, cond-true, cond-false}
-use Rattle.std.proofs.lemmas.Simd.{map-map, mask_l-mod, length-chunk, chunk-drop, chunk-fits, zip2-map, leading_from_mask_l, trailing_mask_l}
-use Rattle.std.proofs.lemmas.List.{length-map, drop-drop, take_all, length-drop}
-use Rattle.std.proofs.lemmas.List.Folds.{prefix_len-append}
-use Rattle.std.proofs.lemmas.List.Sums.{prefix_len-le-length}
-use Rattle.std.specs.List.{prefix_len}
+use Rattle.dmis_text.proofs.Names.{[], ◌%◌, ◌&&◌, ◌++◌, ◌+◌, ◌-◌, ◌<◌, ◌^◌, ◌∙◌, ◌∷◌, ◌≡◌, ◌≤◌, agree_below, agree_below_at, ap, ap₂, arith, Bool}
+use Rattle.dmis_text.proofs.Names.{cases_eq, chunk-drop, chunk-fits, cond, cond-false, cond-true, drop, drop-drop, eq-eqb, false, Fits, get_or, inl}
+use Rattle.dmis_text.proofs.Names.{inr, leading_from_mask_l, leb, length, length-chunk, length-drop, length-map, List, lowest_set, map, map-map}
+use Rattle.dmis_text.proofs.Names.{mask_l-mod, ne_eqb, not, prefix_len, prefix_len-append, prefix_len-le-length, refl, suc, sym, take, take_all}
+use Rattle.dmis_text.proofs.Names.{trailing_mask_l, true, w8, zero, zip2-map, ℕ}
 use lib.Lanes.{Each1, chunk, zip2, mask_l, top}
-use Rattle.dmis_text.specs.Runs.{lowest_set}
 
 -- a lane of a vector that says where one byte is at most another
 abbrev pub at_most : ℕ → ℕ → ℕ

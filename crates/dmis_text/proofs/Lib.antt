@@ -1,3 +1,4 @@
+pub mod Names
 pub mod Blanks
 pub mod LineEnds
 pub mod Capitals

@@ -1,12 +1,8 @@
 -- The lines of a list of bytes, one line at a time.
-use Rattle.std.proofs.Common.{◌≡◌, ℕ, zero, suc, ◌+◌, ◌-◌, ◌<◌, ◌≤◌, Bool, true, false, not, cond, eqb, ltb, List, [], ◌∷◌, ◌++◌, length}
-use Rattle.std.proofs.Common.{take, drop, Option, Some, None, refl, sym, ap, ◌∙◌, arith, rules}
-use Rattle.std.specs.List.{slice_split, position, position_or_len}
-use Rattle.std.specs.Str.Lines.{lines, lines_of_parts, strip_carriage_return}
-use Rattle.std.proofs.lemmas.Bool.{ltb-true, ltb-false, ne_eqb}
-use Rattle.std.proofs.lemmas.Option.{cond_some}
-use Rattle.std.proofs.lemmas.List.{drop-drop, take_all, drop_all, length-drop}
-use Rattle.std.proofs.lemmas.List.Splits.{slice_split_first, length-slice_split}
+use Rattle.dmis_text.proofs.Names.{[], ◌++◌, ◌+◌, ◌-◌, ◌<◌, ◌∙◌, ◌∷◌, ◌≡◌, ◌≤◌, ap, arith, Bool, cond, cond_some, drop, drop-drop, drop_all, eqb}
+use Rattle.dmis_text.proofs.Names.{false, length, length-drop, length-slice_split, lines, lines_of_parts, List, ltb, ltb-false, ltb-true, ne_eqb}
+use Rattle.dmis_text.proofs.Names.{None, not, Option, position, position_or_len, refl, rules, slice_split, slice_split_first, Some}
+use Rattle.dmis_text.proofs.Names.{strip_carriage_return, suc, sym, take, take_all, true, zero, ℕ}
 
 -- the parts of a list are never none
 pub lines_of_more : (x : List ℕ) (parts : List (List ℕ)) (n : ℕ) → length parts ≡ n + 1

@@ -1,15 +1,8 @@
 -- Lines are read as they were written.
-use Rattle.std.proofs.Common.{◌≡◌, ℕ, zero, suc, ◌+◌, ◌-◌, Bool, true, false, not, cond, eqb, List, [], ◌∷◌, ◌++◌, length, refl, ap, ◌∙◌}
-use Rattle.std.proofs.Common.{arith, inl, inr, length-append, append_assoc}
-use Rattle.std.specs.Prelude.{slice_index}
-use Rattle.std.specs.List.{list_all, slice_split, onto_first, join_with_byte, flat_map}
-use Rattle.std.specs.Str.Lines.{lines, lines_of_parts, strip_carriage_return}
-use Rattle.std.proofs.lemmas.Bool.{and_parts, and_from, not-true}
-use Rattle.std.proofs.lemmas.List.Folds.{list_all-append}
-use Rattle.std.proofs.lemmas.List.{take_at, get_or_at, length_push}
-use Rattle.std.proofs.lemmas.List.Splits.{length-slice_split, join_with_byte-slice_split}
-use Rattle.dmis_text.specs.Contents.{lacks, is_line}
-use Rattle.dmis_text.specs.Ends.{IsBehindEnd}
+use Rattle.dmis_text.proofs.Names.{[], ◌++◌, ◌+◌, ◌-◌, ◌∙◌, ◌∷◌, ◌≡◌, and_from, and_parts, ap, append_assoc, arith, Bool, cond, eqb, false, flat_map}
+use Rattle.dmis_text.proofs.Names.{get_or_at, inl, inr, is_line, IsBehindEnd, join_with_byte, join_with_byte-slice_split, lacks, length}
+use Rattle.dmis_text.proofs.Names.{length-append, length-slice_split, length_push, lines, lines_of_parts, List, list_all, list_all-append, not}
+use Rattle.dmis_text.proofs.Names.{not-true, onto_first, refl, slice_index, slice_split, strip_carriage_return, suc, take_at, true, zero, ℕ}
 use Rattle.dmis_text.proofs.LineEnds.{lines_of_more}
 
 -- a list free of the byte is a part of its own before it

@@ -1,16 +1,10 @@
 -- The lines on which statements begin.
-use Rattle.std.proofs.Common.{◌≡◌, ℕ, ◌+◌, ◌<◌, ◌≤◌, Bool, true, false, cond, List, [], ◌∷◌, length, Option, Some, None, refl, ◌∙◌, arith}
-use Rattle.std.specs.Prelude.{IfSome}
-use Rattle.dmis_text.specs.Texts.{all_blank}
-use Rattle.dmis_text.specs.Elements.{cut_at}
-use Rattle.dmis_text.specs.Begun.{OpenStatement, is_open, grown}
-use Rattle.dmis_text.specs.Reading.{Role, line_role, Reading, read_line, reading_with, reading_of, ended, finished}
-use Rattle.dmis_text.specs.Reading.Role.{TooLong, Damaged, Dropped, Continued, Last}
-use Rattle.dmis_text.specs.Statements.{statement_of, headed, parted}
+use Rattle.dmis_text.proofs.Names.{[], ◌+◌, ◌<◌, ◌∙◌, ◌∷◌, ◌≡◌, ◌≤◌, all_blank, arith, Bool, cond, Continued, cut_at, Damaged, Dropped, ended, false}
+use Rattle.dmis_text.proofs.Names.{finished, grown, headed, IfSome, is_open, Last, length, line_role, List, None, OpenStatement, Option, parted}
+use Rattle.dmis_text.proofs.Names.{read_line, Reading, reading_of, reading_with, refl, Role, Some, Statement, statement_of, TooLong, true, ℕ}
 use Rattle.dmis_text.specs.Numbers.{AreNumbered, IsFaultWithin}
-use Rattle.dmis_text.specs.declared.elements.Statement.{Statement}
 use Rattle.dmis_text.specs.declared.reading.TextFault.{TextFault}
-use Rattle.dmis_text.specs.declared.reading.TextFault.TheVariants.{LineTooLong, BadByte, Memory}
+use Rattle.dmis_text.specs.declared.reading.TextFault.TheVariants.{BadByte, LineTooLong, Memory}
 
 line-headed : (line : ℕ) (params : List (List ℕ)) (head : List ℕ) (o : Option (List ℕ × List ℕ)) → (headed line params head o).line ≡ line
 line-headed line params head None = refl

@@ -1,10 +1,6 @@
 -- A part more of a statement that continues.
-use Rattle.std.proofs.Common.{◌≡◌, ℕ, ◌+◌, ◌-◌, ◌<◌, ◌≤◌, Bool, true, false, cond, List, [], ◌∷◌, ◌++◌, length, Option, Some, None, refl}
-use Rattle.std.proofs.Common.{sym, ap, ◌∙◌, arith, rules, append_assoc}
-use Rattle.std.specs.Prelude.{IfNone}
-use Rattle.std.specs.Option.{unwrap_or}
-use Rattle.dmis_text.specs.Texts.{inside_after}
-use Rattle.dmis_text.specs.Begun.{begun_of, is_open, grown}
+use Rattle.dmis_text.proofs.Names.{[], ◌++◌, ◌+◌, ◌-◌, ◌<◌, ◌∙◌, ◌∷◌, ◌≡◌, ◌≤◌, ap, append_assoc, arith, begun_of, Bool, cond, false, grown, IfNone}
+use Rattle.dmis_text.proofs.Names.{inside_after, is_open, length, List, None, Option, refl, rules, Some, sym, true, unwrap_or, ℕ}
 use Rattle.dmis_text.proofs.Comments.{inside_after-append}
 
 -- a part more in the code's form

@@ -1,18 +1,12 @@
 -- Runs over which nothing changes: what is passed over in blocks is passed over byte by byte.
-use Rattle.std.proofs.Common.{◌≡◌, ℕ, suc, ◌+◌, Bool, true, false, not, ◌&&◌, cond, eqb, List, [], ◌∷◌, ◌++◌, take, drop, Option, Some, None}
-use Rattle.std.proofs.Common.{get_or, length, ◌<◌, ◌≤◌, refl, sym, ap, ap₂, ◌∙◌, arith, inl, inr, append_assoc}
+use Rattle.dmis_text.proofs.Names.{[], ◌&&◌, ◌++◌, ◌+◌, ◌<◌, ◌∙◌, ◌∷◌, ◌≡◌, ◌≤◌, ap, append_assoc, ap₂, arith, before_comment, begins_comment, Bool}
+use Rattle.dmis_text.proofs.Names.{cases_eq, cond, cut_at, drop, drop-drop, drop_more, eq-eqb, eqb, eqb-true, false, folded, get_or, inl, inr}
+use Rattle.dmis_text.proofs.Names.{inside_after, is_clean, is_in_text, is_kept, is_passed, is_unmarked, is_unquoted, is_within, length, length-drop}
+use Rattle.dmis_text.proofs.Names.{List, list_all, list_all-from_AllPass, list_all_at, may_stand, ne_eqb, None, not, not-false, not-true, onto_front}
+use Rattle.dmis_text.proofs.Names.{Option, option_map, prefix_len, prefix_len-le-length, prefix_len_passes, prefix_len_stops, refl, Some, suc, sym}
+use Rattle.dmis_text.proofs.Names.{take, take_more, to_ascii_uppercase, true, true≢false, turned, ℕ}
 use Rattle.std.proofs.Math.Seq.{take-add}
-use Rattle.std.proofs.lemmas.Bool.{not-true, not-false, eqb-true, true≢false, cases_eq, eq-eqb, ne_eqb}
-use Rattle.std.proofs.lemmas.List.Sums.{list_all-from_AllPass, prefix_len-le-length, prefix_len_passes, prefix_len_stops}
 use Rattle.std.proofs.lemmas.List.Elements.{All-from_get_or}
-use Rattle.std.proofs.lemmas.List.Folds.{list_all_at}
-use Rattle.std.proofs.lemmas.List.{drop-drop, drop_more, take_more, length-drop}
-use Rattle.std.specs.List.{prefix_len, list_all}
-use Rattle.std.specs.Option.{option_map}
-use Rattle.std.specs.Char.{to_ascii_uppercase}
-use Rattle.dmis_text.specs.Texts.{turned, inside_after, begins_comment, before_comment, may_stand, is_clean}
-use Rattle.dmis_text.specs.Elements.{onto_front, cut_at, folded}
-use Rattle.dmis_text.specs.Runs.{is_passed, is_in_text, is_unquoted, is_unmarked, is_within, is_kept}
 use Rattle.dmis_text.proofs.Comments.{inside_after-append}
 use Rattle.dmis_text.proofs.Splitting.{put_before}
 

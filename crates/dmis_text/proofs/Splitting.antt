@@ -1,11 +1,6 @@
 -- Pieces as repeated cuts.
-use Rattle.std.proofs.Common.{◌≡◌, ℕ, Bool, true, false, not, ◌&&◌, cond, eqb, List, [], ◌∷◌, ◌++◌, Option, Some, None, refl, ap, ◌∙◌}
-use Rattle.std.proofs.Common.{append_assoc}
-use Rattle.std.specs.Option.{option_map}
-use Rattle.std.specs.List.{onto_first}
-use Rattle.dmis_text.specs.Texts.{turned}
-use Rattle.dmis_text.specs.Statements.{last_element}
-use Rattle.dmis_text.specs.Elements.{onto_front, cut_at, pieces}
+use Rattle.dmis_text.proofs.Names.{[], ◌&&◌, ◌++◌, ◌∙◌, ◌∷◌, ◌≡◌, ap, append_assoc, Bool, cond, cut_at, eqb, false, last_element, List, None, not}
+use Rattle.dmis_text.proofs.Names.{onto_first, onto_front, Option, option_map, pieces, refl, Some, true, turned, ℕ}
 
 -- a cut with more bytes in front
 abbrev pub put_before : List ℕ → Option (List ℕ × List ℕ) → Option (List ℕ × List ℕ)

@@ -1,18 +1,9 @@
 -- Cuts and pieces are what their relations say, and nothing else is.
-use Rattle.std.proofs.Common.{◌≡◌, ◌≢◌, ℕ, zero, suc, ◌+◌, ◌<◌, Bool, true, false, not, ◌&&◌, cond, eqb, List, [], ◌∷◌, ◌++◌, length, take}
-use Rattle.std.proofs.Common.{◌≤◌, subst, map, Option, Some, None, refl, sym, ap, ◌∙◌, arith, length-append}
-use Rattle.std.specs.Prelude.{◌↔◌, slice_index}
-use Rattle.std.specs.Option.{option_map}
-use Rattle.std.proofs.lemmas.Bool.{eqb-true, eqb-false, ne_eqb, eq-eqb, false≢true}
-use Rattle.std.proofs.lemmas.Option.{some_pair_parts}
-use Rattle.dmis_text.specs.Texts.{turned, inside_after}
-use Rattle.dmis_text.specs.Elements.{onto_front, cut_at, pieces, element_of}
-use Rattle.dmis_text.specs.Splits.{NoneOutside, IsCut, IsSplit, Says}
-use Rattle.dmis_text.specs.Splits.Says.{word_alone, with_params, with_label}
-use Rattle.dmis_text.specs.Statements.{headed, statement_of}
-use Rattle.dmis_text.specs.declared.elements.Statement.{Statement}
-use Rattle.std.specs.List.{prefix_len}
-use Rattle.dmis_text.specs.Runs.{is_unmarked}
+use Rattle.dmis_text.proofs.Names.{[], ◌&&◌, ◌++◌, ◌+◌, ◌<◌, ◌↔◌, ◌∙◌, ◌∷◌, ◌≡◌, ◌≢◌, ◌≤◌, ap, arith, Bool, cond, cut_at, element_of, eq-eqb, eqb}
+use Rattle.dmis_text.proofs.Names.{eqb-false, eqb-true, false, false≢true, headed, inside_after, is_unmarked, IsCut, IsSplit, length, length-append}
+use Rattle.dmis_text.proofs.Names.{List, map, ne_eqb, None, NoneOutside, not, onto_front, Option, option_map, pieces, prefix_len, refl, Says}
+use Rattle.dmis_text.proofs.Names.{slice_index, Some, some_pair_parts, Statement, statement_of, subst, suc, sym, take, true, turned, with_label}
+use Rattle.dmis_text.proofs.Names.{with_params, word_alone, zero, ℕ}
 use Rattle.dmis_text.proofs.Skipping.{plain_uncut}
 use Rattle.dmis_text.proofs.Splitting.{pieces_none, pieces_some}
 

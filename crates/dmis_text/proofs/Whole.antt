@@ -1,11 +1,6 @@
 -- Lines of bare bytes, where no statement has begun before them: what they are to a reading.
-use Rattle.std.proofs.Common.{◌≡◌, ℕ, ◌+◌, true, false, List, ◌∷◌, length}
-use Rattle.std.specs.Prelude.{nat_lt}
-use Rattle.std.specs.List.{list_all}
-use Rattle.dmis_text.specs.Texts.{all_blank, before_comment, is_clean}
-use Rattle.dmis_text.specs.Reading.{reading_of, with_first}
-use Rattle.dmis_text.specs.Runs.{is_bare}
-use Rattle.dmis_text.specs.Statements.{statement_of}
+use Rattle.dmis_text.proofs.Names.{◌+◌, ◌∷◌, ◌≡◌, all_blank, before_comment, false, is_bare, is_clean, length, List, list_all, nat_lt, reading_of}
+use Rattle.dmis_text.proofs.Names.{statement_of, true, with_first, ℕ}
 use Rattle.dmis_text.proofs.Bare.{bare_ends}
 
 -- blanks, and perhaps a comment after them, count for nothing

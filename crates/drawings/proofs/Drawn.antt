@@ -1,18 +1,12 @@
 -- The parts of a drawing, one after another.
-use Rattle.std.proofs.Common.{◌≡◌, ◌∙◌, ◌++◌, refl, codes, append_assoc, ℕ, List}
+use Rattle.drawings.proofs.Names.{◌++◌, ◌∙◌, ◌≡◌, Adds, append_assoc, AreFilled, AreLabels, AreWhiskers, codes, IsFooter, List, Mark, markup, refl}
+use Rattle.drawings.proofs.Names.{Stop, ℕ}
 use Rattle.dmis_program.specs.declared.features.Wanted.{Wanted}
 use Rattle.drawings.specs.Drawing.{head_text, IsDrawingOf}
-use Rattle.drawings.specs.Extents.{AreFilled}
-use Rattle.drawings.specs.Footer.{IsFooter}
-use Rattle.drawings.specs.Labels.{AreLabels}
 use Rattle.drawings.specs.Pictures.{picture_text}
-use Rattle.drawings.specs.Texts.{markup, Adds}
 use Rattle.drawings.specs.Placing.{AreViews}
-use Rattle.drawings.specs.Whiskers.{AreWhiskers}
 use Rattle.drawings.specs.declared.extents.Extents.{Extents}
-use Rattle.drawings.specs.declared.marks.Mark.{Mark}
 use Rattle.drawings.specs.declared.placing.Views.{Views}
-use Rattle.drawings.specs.declared.walk.Stop.{Stop}
 use Rattle.drawings.specs.declared.whiskers.Whiskers.{Whiskers}
 
 six : (old head labels plan front footer end : List ℕ) → (((((old ++ head) ++ labels) ++ plan) ++ front) ++ footer) ++ end

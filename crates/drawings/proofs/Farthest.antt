@@ -1,9 +1,6 @@
 -- The place farthest to the right, the first if there are several, as a walk over places finds it.
-use Rattle.std.proofs.Common.{◌≡◌, refl, List, [], ◌∷◌, arith}
-use Rattle.std.proofs.lemmas.Int.{ints}
+use Rattle.drawings.proofs.Names.{[], ◌∷◌, ◌≡◌, arith, farther, farthest, ints, List, Place, refl, touch_place}
 use Rattle.dmis_program.specs.declared.features.Touch.{Touch}
-use Rattle.drawings.specs.Named.{touch_place, farther, farthest}
-use Rattle.drawings.specs.declared.places.Place.{Place}
 
 -- the farthest of three, whichever two are taken first
 farther_twice : (a b c : Place) → farther (farther a b) c ≡ farther a (farther b c)

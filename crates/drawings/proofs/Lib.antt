@@ -1,3 +1,4 @@
+pub mod Names
 pub mod Paper
 pub mod Items
 pub mod Walked

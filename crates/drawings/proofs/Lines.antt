@@ -1,10 +1,7 @@
 -- The lines of labels, found from top to bottom.
-use Rattle.std.proofs.Common.{◌++◌, append_assoc, ◌≡◌, refl, ap, suc, ℕ, ◌+◌, ◌≤◌, List, [], ◌∷◌, length, min, arith}
-use Rattle.std.proofs.Math.Nat.{le-max_left, le-max_right, max-le}
-use Rattle.std.specs.List.{AllZip}
-use Rattle.drawings.specs.declared.marks.Mark.{Mark}
+use Rattle.drawings.proofs.Names.{[], ◌++◌, ◌+◌, ◌∷◌, ◌≡◌, ◌≤◌, AllZip, Anchor, anchors_from, ap, append_assoc, AreHighest, arith, le-max_left}
+use Rattle.drawings.proofs.Names.{le-max_right, length, line_for, List, lowest_line, Mark, max-le, MayStand, min, more_if_any, refl, suc, ℕ}
 use Rattle.drawings.specs.declared.views.View.{View}
-use Rattle.drawings.specs.Labels.{Anchor, anchors_from, more_if_any, lowest_line, line_for, MayStand, AreHighest}
 
 -- each label as high as it may be placed
 abbrev pub lines_for : ℕ → List Anchor → List ℕ

@@ -1,10 +1,7 @@
 -- The longest deviation, found stop by stop.
-use Rattle.std.proofs.Common.{◌≡◌, ℕ, ◌+◌, ◌*◌, ◌≤◌, List, [], ◌∷◌, max, arith, mul-le-mul}
-use Rattle.std.proofs.Math.Nat.{le-max_left, le-max_right, max-le}
-use Rattle.drawings.specs.Whiskers.{IsAtMost, NotLonger, NoneLonger, IsLongestAway}
+use Rattle.drawings.proofs.Names.{[], ◌*◌, ◌+◌, ◌∷◌, ◌≡◌, ◌≤◌, arith, IsAtMost, IsLongestAway, le-max_left, le-max_right, List, max, max-le}
+use Rattle.drawings.proofs.Names.{mul-le-mul, NoneLonger, NotLonger, Stop, ℕ}
 use Rattle.drawings.specs.declared.walk.Act.{Act}
-use Rattle.drawings.specs.declared.walk.Act.TheVariants as act
-use Rattle.drawings.specs.declared.walk.Stop.{Stop}
 
 -- a length is the longest of the stops examined so far
 pub record IsFound (stops left : List Stop) (longest : ℕ) : Type 0 where
@@ -19,10 +16,10 @@ found_none stops = record {
 
 -- what is not longer than a length is not longer than a larger one
 pub not_longer : (length most : ℕ) (a : Act) → length ≤ most → NotLonger length a → NotLonger most a
-not_longer length most (act.Measured away) le n = let m = mul-le-mul le le in let x = n.0 in let y = n.1 in
+not_longer length most (Act.Measured away) le n = let m = mul-le-mul le le in let x = n.0 in let y = n.1 in
     (omega (arith, m, x), omega (arith, m, y))
-not_longer length most act.Move le n = tt
-not_longer length most act.Touch le n = tt
+not_longer length most Act.Move le n = tt
+not_longer length most Act.Touch le n = tt
 
 pub found_more : (stops : List Stop) (stop : Stop) (left : List Stop) (longest length : ℕ) → IsFound stops (stop ∷ left) longest
     → NotLonger length stop.act → ((most : ℕ) → NotLonger most stop.act → length ≤ most) → IsFound stops left (max length longest)

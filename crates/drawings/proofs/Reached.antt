@@ -1,10 +1,6 @@
 -- The coordinates between which stops lie, found stop by stop.
-use Rattle.std.proofs.Common.{◌≡◌, ℤ, ◌≤ℤ◌, List, [], ◌∷◌, arith}
-use Rattle.std.proofs.lemmas.Int.{ints}
-use Rattle.drawings.specs.Extents.{AreWithin, AreNearest}
+use Rattle.drawings.proofs.Names.{[], ◌∷◌, ◌≡◌, ◌≤ℤ◌, AreNearest, AreWithin, arith, ints, List, Place, Stop, ℤ}
 use Rattle.drawings.specs.Places.{IsWider}
-use Rattle.drawings.specs.declared.places.Place.{Place}
-use Rattle.drawings.specs.declared.walk.Stop.{Stop}
 
 -- two coordinates are the bounds of the stops examined so far
 pub record IsReached (axis : Place → ℤ) (stops left : List Stop) (low high : ℤ) : Type 0 where

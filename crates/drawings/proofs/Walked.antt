@@ -1,11 +1,9 @@
 -- A walk over the steps of a program.
-use Rattle.std.proofs.Common.{◌≡◌, ◌∙◌, ap, sym, refl, append_assoc, append-nil, List, [], ◌∷◌, ◌++◌}
+use Rattle.drawings.proofs.Names.{[], ◌++◌, ◌∙◌, ◌∷◌, ◌≡◌, ap, append-nil, append_assoc, later_features, later_with, List, points_left, points_with}
+use Rattle.drawings.proofs.Names.{refl, Step, Stop, stops_at, stops_from, sym, zero_below, zero_with}
 use Rattle.contact_ledger.specs.declared.features.Feature.{Feature}
-use Rattle.dmis_program.specs.declared.steps.Step.{Step}
 use Rattle.fixed_um.specs.declared.lengths.Point.{Point}
 use Rattle.fixed_um.specs.Points.{zero_point}
-use Rattle.drawings.specs.Stops.{zero_with, zero_below, later_with, later_features, points_with, points_left, stops_at, stops_from}
-use Rattle.drawings.specs.declared.walk.Stop.{Stop}
 
 -- the state is that after the steps so far, and the stops so far and those of the steps that are left are all stops
 pub record Walked (steps : List Step) (features : List Feature) (left : List Step) (stops : List Stop) (zero : Point) (later : List Feature)

@@ -1,16 +1,9 @@
 -- The computing functions meet the relations.
-use Rattle.std.proofs.Common.{◌≡◌, ℕ, ◌+◌, ◌*◌, ◌/◌, ◌%◌, ◌^◌, ◌<◌, ◌≤◌, Bool, true, false, cond, List, length, Result, Ok}
-use Rattle.std.proofs.Common.{Err, Option, Some, None, refl, subst, arith, ℤ}
-use Rattle.std.specs.Prelude.{IsTrue, ◌↔◌, ◌==◌, nat_le}
-use Rattle.std.specs.Str.Parse.{digits_value}
-use Rattle.std.proofs.Math.Nat.{one-le-pow}
-use Rattle.std.proofs.lemmas.Bool.{leb-true, leb-false, le-leb, eqb-true, eq-eqb, and_parts, and_from, both_ways}
-use Rattle.fixed_um.specs.declared.numerals.NumeralFault.{NumeralFault}
-use Rattle.fixed_um.specs.declared.numerals.NumeralFault.TheVariants.{TooManyDigits, TooLarge}
-use Rattle.fixed_um.specs.Numerals.{Numeral, IsNumeral, StandsFor, Reads, IsZero, signed}
-use Rattle.fixed_um.specs.Rounding.{RoundsUp}
-use Rattle.fixed_um.specs.Scan.{numeral_of}
-use Rattle.fixed_um.specs.Computed.{rounded, magnitude_of, value_within, numeral_value, value_of, is_zero_numeral, is_zero_text}
+use Rattle.fixed_um.proofs.Names.{◌%◌, ◌*◌, ◌+◌, ◌/◌, ◌<◌, ◌==◌, ◌^◌, ◌↔◌, ◌≡◌, ◌≤◌, and_from, and_parts, arith, Bool, both_ways, cond, digits_value}
+use Rattle.fixed_um.proofs.Names.{eq-eqb, eqb-true, Err, false, IsNumeral, IsTrue, IsZero, le-leb, leb-false, leb-true, length, List, nat_le, None}
+use Rattle.fixed_um.proofs.Names.{Numeral, numeral_of, NumeralFault, Ok, one-le-pow, Option, Reads, refl, Result, RoundsUp, signed, Some, StandsFor}
+use Rattle.fixed_um.proofs.Names.{subst, TooLarge, TooManyDigits, true, ℕ, ℤ}
+use Rattle.fixed_um.specs.Computed.{is_zero_numeral, is_zero_text, magnitude_of, numeral_value, rounded, value_of, value_within}
 use Rattle.fixed_um.proofs.RoundingLemmas.{abs-signed}
 use Rattle.fixed_um.proofs.GrammarLemmas.{numeral_found, numeral_only}
 use Rattle.fixed_um.proofs.ReadLemmas.{stands, one_reading, the_one}

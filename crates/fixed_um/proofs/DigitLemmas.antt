@@ -1,15 +1,9 @@
 -- Digits and the numbers that they write.
-use Rattle.std.proofs.Common.{◌≡◌, ℕ, suc, ◌+◌, ◌-◌, ◌*◌, ◌^◌, ◌<◌, ◌≤◌, Bool, true, false, cond, List, [], ◌∷◌, ◌++◌, length, get_or}
-use Rattle.std.proofs.Common.{take, drop, refl, sym, arith, add-one}
-use Rattle.std.specs.Char.{digit_value, is_ascii_digit}
-use Rattle.std.specs.Str.Parse.{AllDigits, digits_value, digits_value_after}
-use Rattle.std.specs.List.{list_all, prefix_len}
-use Rattle.std.proofs.Common.{nat_le, ◌&&◌, length-append}
-use Rattle.std.proofs.lemmas.Bool.{and_parts, and_from, leb-true}
-use Rattle.std.proofs.lemmas.Bool.Decides.{nat_tests}
+use Rattle.fixed_um.proofs.Names.{[], ◌&&◌, ◌*◌, ◌++◌, ◌+◌, ◌-◌, ◌<◌, ◌^◌, ◌∷◌, ◌≡◌, ◌≤◌, add-one, AllDigits, and_from, and_parts, arith, Bool, cond}
+use Rattle.fixed_um.proofs.Names.{digit_value, digits_front, digits_value, digits_value_after, drop, drop-cons, false, get_or, is_ascii_digit}
+use Rattle.fixed_um.proofs.Names.{is_short_number, leb-true, length, length-append, List, list_all, nat_le, nat_tests, prefix_len, refl, suc, sym}
+use Rattle.fixed_um.proofs.Names.{take, true, ℕ}
 use Rattle.std.proofs.lemmas.Str.Parse.{digits_value_short, numerals_by_value, tells_digits}
-use Rattle.fixed_um.specs.Scan.{digits_front, is_short_number}
-use Rattle.std.proofs.Math.Seq.{drop-cons}
 
 -- digits after a number make it no smaller
 pub digits_value_after-ge : (n : ℕ) (ds : List ℕ) → n ≤ digits_value_after 10 n ds

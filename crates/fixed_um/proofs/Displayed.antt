@@ -1,13 +1,8 @@
 -- Digits that are printed one by one, and names, which are text.
-use Rattle.std.proofs.Common.{◌≡◌, ℕ, zero, suc, ◌+◌, ◌%◌, ◌<◌, true, List, [], ◌∷◌, length, arith}
-use Rattle.std.specs.Prelude.{decimal, nat_le, ◌&&◌}
-use Rattle.std.specs.List.{list_all}
+use Rattle.fixed_um.proofs.Names.{[], ◌%◌, ◌&&◌, ◌+◌, ◌<◌, ◌∷◌, ◌≡◌, and_parts, arith, decimal, decimal_digit, is_name_byte, IsName, length, List}
+use Rattle.fixed_um.proofs.Names.{list_all, nat_le, nat_tests, suc, true, zero, ℕ}
 use Rattle.std.specs.Str.{IsAscii, IsUtf8}
-use Rattle.std.proofs.lemmas.Bool.{and_parts}
-use Rattle.std.proofs.lemmas.Bool.Decides.{nat_tests}
-use Rattle.std.proofs.lemmas.Fmt.{decimal_digit}
 use Rattle.std.proofs.lemmas.Str.{IsUtf8-from_ascii}
-use Rattle.fixed_um.specs.Names.{is_name_byte, IsName}
 
 -- the last digit of a number, printed
 pub digit : (n : ℕ) → decimal (n % 10) ≡ (48 + n % 10) ∷ []

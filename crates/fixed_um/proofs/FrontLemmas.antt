@@ -1,15 +1,10 @@
 -- A length at the start of a text.
-use Rattle.std.proofs.Common.{◌≡◌, ℕ, ◌+◌, ◌-◌, ◌*◌, ◌^◌, ◌<◌, ◌≤◌, Bool, true, false, List, [], ◌∷◌, ◌++◌, length, get_or}
-use Rattle.std.proofs.Common.{take, drop, refl, ap, sym, ◌∙◌, arith, codes, append-nil, length-append, take-append-drop}
-use Rattle.std.specs.Char.{digit_value, is_ascii_digit}
-use Rattle.std.specs.List.{list_all}
-use Rattle.std.specs.Str.Parse.{AllDigits, digits_value, digits_value_after}
-use Rattle.std.proofs.lemmas.Bool.{and_from, le-leb}
-use Rattle.std.proofs.lemmas.List.{append_assoc, take_more, length-take}
+use Rattle.fixed_um.proofs.Names.{[], ◌*◌, ◌++◌, ◌+◌, ◌-◌, ◌<◌, ◌^◌, ◌∙◌, ◌∷◌, ◌≡◌, ◌≤◌, AllDigits, and_from, ap, append-nil, append_assoc, arith}
+use Rattle.fixed_um.proofs.Names.{BeginsWithDecimals, BeginsWithDigits, BeginsWithLength, Bool, codes, digit_value, digits_value, digits_value_after}
+use Rattle.fixed_um.proofs.Names.{drop, false, get_or, is_ascii_digit, is_length_byte, IsNumeral, IsSign, le-leb, length, length-append, length-take}
+use Rattle.fixed_um.proofs.Names.{List, list_all, minus, minus_if, none, nothing, Numeral, one-le-pow, pointed, refl, signed, StandsFor, sym, take}
+use Rattle.fixed_um.proofs.Names.{take-append-drop, take_more, true, ℕ}
 use Rattle.std.proofs.lemmas.List.Folds.{list_all-append}
-use Rattle.std.proofs.Math.Nat.{one-le-pow}
-use Rattle.fixed_um.specs.Fronts.{is_length_byte, minus_if, BeginsWithDigits, BeginsWithDecimals, BeginsWithLength}
-use Rattle.fixed_um.specs.Numerals.{Numeral, IsSign, none, minus, pointed, nothing, IsNumeral, StandsFor, signed}
 use Rattle.fixed_um.proofs.DigitLemmas.{AllDigits-append, digits_value_after-append, digits_value-below, digit-from_test, value-digit}
 use Rattle.fixed_um.proofs.PlainLemmas.{rest_of}
 use Rattle.fixed_um.proofs.ReadLemmas.{stands}

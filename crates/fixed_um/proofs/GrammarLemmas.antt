@@ -1,17 +1,12 @@
 -- The steps of the readers find a numeral exactly where the grammar has one, so a text says one numeral at most.
-use Rattle.std.proofs.Common.{◌≡◌, ℕ, ◌<◌, ◌≤◌, ◌≢◌, Bool, true, false, cond, ◌||◌, ◌⊎◌, List, [], ◌∷◌}
-use Rattle.std.proofs.Common.{◌++◌, length, drop, Option, Some, None, refl, ap, sym, subst, ◌∙◌, arith, inl, inr, codes}
-use Rattle.std.proofs.Common.{take-append-drop}
-use Rattle.std.specs.Prelude.{◌==◌, nat_lt, slice_index, if◌then◌else◌}
-use Rattle.std.specs.Char.{digit_value, is_ascii_digit}
-use Rattle.std.specs.List.{prefix_len}
-use Rattle.std.specs.Str.Parse.{AllDigits, digits_value, starts_with_minus, without_leading_sign}
-use Rattle.std.proofs.lemmas.Bool.{eqb-true, ne_eqb, or_cases, lt-ltb, le-leb, and_from, ltb-true}
-use Rattle.std.proofs.lemmas.List.{take_at, drop_at}
-use Rattle.std.proofs.lemmas.Option.{same_Some, cond_some}
-use Rattle.fixed_um.specs.Numerals.{Numeral, IsSign, none, plus, minus, IsFraction, absent, pointed, IsExponent, nothing, given, IsNumeral}
-use Rattle.fixed_um.specs.Scan.{digits_front, digits_behind, fraction_front, fraction_behind, is_short_number, exponent_digits, exponent_of}
-use Rattle.fixed_um.specs.Scan.{numeral_with, numeral_of}
+use Rattle.fixed_um.proofs.Names.{[], ◌++◌, ◌<◌, ◌==◌, ◌||◌, ◌∙◌, ◌∷◌, ◌≡◌, ◌≢◌, ◌≤◌, ◌⊎◌, absent, AllDigits, and_from, ap, arith, Bool, codes, cond}
+use Rattle.fixed_um.proofs.Names.{cond_some, digit_value, digits_behind, digits_front, digits_value, drop, drop_at, eqb-true, exponent_digits, false}
+use Rattle.fixed_um.proofs.Names.{fraction_behind, fraction_front, given, if◌then◌else◌, inl, inr, is_ascii_digit, is_short_number, IsExponent}
+use Rattle.fixed_um.proofs.Names.{IsFraction, IsNumeral, IsSign, le-leb, length, List, lt-ltb, ltb-true, minus, nat_lt, ne_eqb, None, none, nothing}
+use Rattle.fixed_um.proofs.Names.{Numeral, numeral_with, Option, or_cases, plus, pointed, prefix_len, refl, same_Some, slice_index, Some}
+use Rattle.fixed_um.proofs.Names.{starts_with_minus, subst, sym, take-append-drop, take_at, true, without_leading_sign, ℕ}
+use Rattle.fixed_um.specs.Scan.{exponent_of}
+use Rattle.fixed_um.specs.Scan.{numeral_of}
 use Rattle.fixed_um.proofs.DigitLemmas.{AllDigits-front, AllDigits-to_test, short_number, digit-to_test, value-digit}
 
 -- ---- from the steps to the grammar

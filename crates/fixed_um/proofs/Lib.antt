@@ -1,3 +1,4 @@
+pub mod Names
 pub mod NameLemmas
 pub mod DigitLemmas
 pub mod PlainLemmas

@@ -1,11 +1,7 @@
 -- A folded name text is a name.
-use Rattle.std.proofs.Common.{◌≡◌, ℕ, suc, ◌-◌, ◌<◌, ◌≤◌, true, cond, ◌&&◌, List, [], ◌∷◌, length, refl, ap}
-use Rattle.std.proofs.Common.{arith, nat_lt, nat_le, inl, inr}
-use Rattle.std.specs.List.{list_all}
-use Rattle.std.specs.Char.{to_ascii_uppercase}
-use Rattle.std.proofs.lemmas.Bool.{and_parts, and_from, cases_lt, lt-ltb, cond-true}
-use Rattle.std.proofs.lemmas.Bool.Decides.{nat_tests}
-use Rattle.fixed_um.specs.Names.{folded, is_name_byte, is_name_text, IsName}
+use Rattle.fixed_um.proofs.Names.{[], ◌&&◌, ◌-◌, ◌<◌, ◌∷◌, ◌≡◌, ◌≤◌, and_from, and_parts, ap, arith, cases_lt, cond, cond-true, folded, inl, inr}
+use Rattle.fixed_um.proofs.Names.{is_name_byte, is_name_text, IsName, length, List, list_all, lt-ltb, nat_le, nat_lt, nat_tests, refl, suc}
+use Rattle.fixed_um.proofs.Names.{to_ascii_uppercase, true, ℕ}
 
 lowered : (b : ℕ) → 97 ≤ b → b < 123 → to_ascii_uppercase b ≡ b - 32
 lowered b high small = grind (arith, nat_tests)

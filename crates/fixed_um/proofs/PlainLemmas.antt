@@ -1,16 +1,9 @@
 -- Numerals that one machine word takes.
-use Rattle.std.proofs.Common.{◌≡◌, ℕ, ◌+◌, ◌-◌, ◌*◌, ◌^◌, ◌<◌, ◌≤◌, true, false, List, [], ◌∷◌, ◌++◌, length, get_or}
-use Rattle.std.proofs.Common.{take, drop, refl, ap, sym, subst, ◌∙◌, arith, add-one, add-zero, append-nil, length-append}
-use Rattle.std.proofs.Common.{take-append-drop, take_all, length-drop}
-use Rattle.std.specs.Char.{digit_value, is_ascii_digit}
-use Rattle.std.specs.List.{prefix_len}
-use Rattle.std.specs.Str.Parse.{digits_value_after, starts_with_minus, without_leading_sign}
-use Rattle.std.proofs.lemmas.Bool.{lt-ltb}
-use Rattle.std.proofs.Math.Seq.{drop-cons}
-use Rattle.fixed_um.specs.Numerals.{StandsFor, signed}
-use Rattle.fixed_um.specs.Rounding.{RoundsUp}
-use Rattle.fixed_um.specs.Scan.{digits_front, digits_behind, exponent_of, numeral_of}
-use Rattle.fixed_um.specs.Taken.{IsPlain}
+use Rattle.fixed_um.proofs.Names.{[], ◌*◌, ◌++◌, ◌+◌, ◌-◌, ◌<◌, ◌^◌, ◌∙◌, ◌∷◌, ◌≡◌, ◌≤◌, add-one, add-zero, ap, append-nil, arith, digit_value}
+use Rattle.fixed_um.proofs.Names.{digits_behind, digits_front, digits_value_after, drop, drop-cons, false, get_or, is_ascii_digit, IsPlain, length}
+use Rattle.fixed_um.proofs.Names.{length-append, length-drop, List, lt-ltb, prefix_len, refl, RoundsUp, signed, StandsFor, starts_with_minus, subst}
+use Rattle.fixed_um.proofs.Names.{sym, take, take-append-drop, take_all, true, without_leading_sign, ℕ}
+use Rattle.fixed_um.specs.Scan.{exponent_of, numeral_of}
 use Rattle.fixed_um.specs.declared.plain.Plain.{Plain}
 use Rattle.fixed_um.proofs.DigitLemmas.{AllDigits-front, AllDigits-append, digit-from_test, digits_value-below, digits_value-parts}
 use Rattle.fixed_um.proofs.DigitLemmas.{digits_value_after-ge, value-digit, one_more}

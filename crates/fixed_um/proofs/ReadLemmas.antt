@@ -1,18 +1,10 @@
 -- A text is read in one way.
-use Rattle.std.proofs.Common.{◌≡◌, ℕ, ◌+◌, ◌*◌, ◌^◌, ◌<◌, ◌≤◌, List, length, Result, Ok, Err, Some, None, refl, ap, sym}
-use Rattle.std.proofs.Common.{subst, ◌∙◌, arith, ℤ}
-use Rattle.std.specs.Prelude.{unsigned_abs, IsTrue, ◌↔◌, ◌==◌, Bool, false}
-use Rattle.std.proofs.lemmas.Bool.{eqb-true, eq-eqb, both_ways}
-use Rattle.std.proofs.lemmas.Option.{same_Some}
-use Rattle.fixed_um.specs.Scan.{numeral_of}
-use Rattle.std.proofs.Math.Nat.{one-le-pow}
-use Rattle.fixed_um.specs.declared.numerals.NumeralFault.{NumeralFault}
-use Rattle.fixed_um.specs.declared.numerals.NumeralFault.TheVariants.{NotNumeral, TooManyDigits, TooLarge}
-use Rattle.fixed_um.specs.Numerals.{Numeral, IsNumeral, IsRounded, StandsFor, Reads, IsZero, numerator, denominator, signed}
+use Rattle.fixed_um.proofs.Names.{◌*◌, ◌+◌, ◌<◌, ◌==◌, ◌^◌, ◌↔◌, ◌∙◌, ◌≡◌, ◌≤◌, ap, arith, Bool, both_ways, denominator, digits_value, eq-eqb}
+use Rattle.fixed_um.proofs.Names.{eqb-true, Err, false, IsNumeral, IsRounded, IsTrue, IsZero, length, List, None, NotNumeral, Numeral, numeral_of}
+use Rattle.fixed_um.proofs.Names.{NumeralFault, numerator, Ok, one-le-pow, Reads, refl, Result, RoundsUp, same_Some, signed, Some, StandsFor, subst}
+use Rattle.fixed_um.proofs.Names.{sym, TooLarge, TooManyDigits, unsigned_abs, ℕ, ℤ}
 use Rattle.fixed_um.proofs.GrammarLemmas.{one_numeral, numeral_only, numeral_found}
 use Rattle.fixed_um.proofs.RoundingLemmas.{one_rounded, rounded_signed}
-use Rattle.std.specs.Str.Parse.{digits_value}
-use Rattle.fixed_um.specs.Rounding.{RoundsUp}
 
 -- a text stands for one number
 pub one_value : (scale : ℕ) (text : List ℕ) (r s : ℤ) → StandsFor scale text r → StandsFor scale text s → r ≡ s

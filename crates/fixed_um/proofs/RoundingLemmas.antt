@@ -1,14 +1,8 @@
 -- Rounded fractions: halves up without a sign is nearest and away from zero with one, and there is one nearest number.
-use Rattle.std.proofs.Common.{◌≡◌, ℕ, zero, suc, ◌+◌, ◌-◌, ◌*◌, ◌^◌, ◌<◌, ◌≤◌, Bool, true, false, ◌⊎◌, refl, ap, sym, subst, ◌∙◌, arith}
-use Rattle.std.proofs.Common.{inl, inr, ℤ, pos, negsuc, ◌*ℤ◌, ◌-ℤ◌}
-use Rattle.std.specs.Prelude.{unsigned_abs, ◌<ℤ◌, ◌≤ℤ◌, ◌+ℤ◌, Option, Some, None, SomeIff, IfSome, IfNone}
-use Rattle.std.proofs.Math.Nat.{mul-le-mul_right, one-le-pow}
-use Rattle.std.proofs.lemmas.Nat.{pow-add}
-use Rattle.std.proofs.lemmas.Int.{ints, by_lt_z}
-use Rattle.std.proofs.lemmas.Bool.{cases_lt}
-use Rattle.std.proofs.Math.IntN.{pos-*ℤ-pos, negsuc-*ℤ-pos}
-use Rattle.fixed_um.specs.Rounding.{RoundsUp}
-use Rattle.fixed_um.specs.Numerals.{IsRounded, signed}
+use Rattle.fixed_um.proofs.Names.{◌*ℤ◌, ◌*◌, ◌+ℤ◌, ◌+◌, ◌-ℤ◌, ◌-◌, ◌<ℤ◌, ◌<◌, ◌^◌, ◌∙◌, ◌≡◌, ◌≤ℤ◌, ◌≤◌, ◌⊎◌, ap, arith, Bool, by_lt_z, cases_lt}
+use Rattle.fixed_um.proofs.Names.{false, IfNone, IfSome, inl, inr, ints, IsRounded, mul-le-mul_right, negsuc, None, one-le-pow, Option, pos, pow-add}
+use Rattle.fixed_um.proofs.Names.{refl, RoundsUp, signed, Some, SomeIff, subst, suc, sym, true, unsigned_abs, zero, ℕ, ℤ}
+use Rattle.std.proofs.Math.IntN.{negsuc-*ℤ-pos, pos-*ℤ-pos}
 
 -- the product of a number with a sign
 signed-product : (negative : Bool) (m b : ℕ) → signed negative m *ℤ pos b ≡ signed negative (m * b)

@@ -1,21 +1,14 @@
 -- What is written is short, and reads back.
-use Rattle.std.proofs.Common.{◌≡◌, ℕ, ◌+◌, ◌/◌, ◌%◌, ◌^◌, ◌<◌, ◌≤◌, Bool, true, false, List, [], ◌∷◌, ◌++◌, length}
-use Rattle.std.proofs.Common.{refl, ap, sym, subst, ◌∙◌, arith, codes, append-nil, add-zero, length-append, ℤ, pos, negsuc}
-use Rattle.std.proofs.Common.{Ok, Some}
-use Rattle.std.specs.Prelude.{unsigned_abs, decimal}
-use Rattle.std.specs.Char.{digit_value}
-use Rattle.std.specs.Str.Parse.{AllDigits, digits_value, digits_value_after}
-use Rattle.std.proofs.lemmas.Fmt.{length-decimal-le, decimal_is_IsNumeral, decimal_digit, decimal_step}
-use Rattle.std.proofs.lemmas.Bool.Decides.{nat_tests}
-use Rattle.fixed_um.specs.Limits.{wire_limit, component_limit}
-use Rattle.fixed_um.specs.Written.{minus_sign, last_digit, three_digits, six_digits, written, written_component}
-use Rattle.fixed_um.specs.Numerals.{Numeral, IsSign, none, minus, absent, pointed, nothing, IsNumeral, StandsFor, Reads}
-use Rattle.fixed_um.specs.Numerals.{ReadsDirection, signed}
-use Rattle.fixed_um.specs.Shapes.{Direction, IsDirection}
+use Rattle.fixed_um.proofs.Names.{[], ◌%◌, ◌++◌, ◌+◌, ◌/◌, ◌<◌, ◌^◌, ◌∙◌, ◌∷◌, ◌≡◌, ◌≤◌, absent, add-zero, AllDigits, ap, append-nil, arith, Bool}
+use Rattle.fixed_um.proofs.Names.{codes, component_limit, decimal, decimal_digit, decimal_is_IsNumeral, decimal_step, digit_value, digits_value}
+use Rattle.fixed_um.proofs.Names.{digits_value_after, Direction, false, IsDirection, IsNumeral, IsSign, last_digit, length, length-append}
+use Rattle.fixed_um.proofs.Names.{length-decimal-le, List, minus, minus_sign, nat_tests, negsuc, none, nothing, Numeral, Ok, one-le-pow, pointed, pos}
+use Rattle.fixed_um.proofs.Names.{Reads, ReadsDirection, refl, signed, six_digits, Some, StandsFor, subst, sym, three_digits, true, unsigned_abs}
+use Rattle.fixed_um.proofs.Names.{wire_limit, ℕ, ℤ}
+use Rattle.fixed_um.specs.Written.{written, written_component}
 use Rattle.fixed_um.proofs.DigitLemmas.{AllDigits-append, digits_value_after-append}
 use Rattle.fixed_um.proofs.RoundingLemmas.{rounds_exact}
 use Rattle.fixed_um.proofs.ReadLemmas.{stands}
-use Rattle.std.proofs.Math.Nat.{one-le-pow}
 
 -- a number below 10 ^ 7 has at most seven digits
 pub whole-short : (n : ℕ) → n < 10 ^ 7 → length (decimal n) ≤ 7

@@ -1,10 +1,6 @@
 -- Choices of starts: a prefix of one, and one more feature.
-use Rattle.std.proofs.Common.{◌≡◌, ℕ, zero, suc, ◌+◌, ◌<◌, ◌≤◌, List, [], ◌∷◌, ◌++◌, length, take, get_or, refl, ap, subst, arith}
-use Rattle.contact_ledger.specs.declared.acts.Act.{Act}
-use Rattle.contact_ledger.specs.declared.features.Feature.{Feature}
-use Rattle.dmis_program.specs.declared.features.Wanted.{Wanted}
-use Rattle.protocol_model.specs.Claims.{MadeContact, contacts, IsRun, AreRuns, Sound}
-use Rattle.ledger_audit.specs.Verdicts.{AreAtMost}
+use Rattle.ledger_audit.proofs.Names.{[], ◌++◌, ◌+◌, ◌<◌, ◌∷◌, ◌≡◌, ◌≤◌, Act, ap, AreAtMost, AreRuns, arith, contacts, Feature, get_or, IsRun, length}
+use Rattle.ledger_audit.proofs.Names.{List, MadeContact, refl, Sound, subst, suc, take, Wanted, zero, ℕ}
 
 -- the end of the last of the runs with these starts, or the least start allowed for the first without one
 abbrev pub last_end : ℕ → List Feature → List ℕ → ℕ

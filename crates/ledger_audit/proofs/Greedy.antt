@@ -1,12 +1,8 @@
 -- The earliest choice of starts, feature by feature.
-use Rattle.std.proofs.Common.{◌≡◌, ℕ, zero, suc, ◌+◌, ◌<◌, ◌≤◌, List, [], ◌∷◌, ◌++◌, length, take, get_or, refl, ap, sym, subst, arith}
-use Rattle.std.proofs.Common.{◌∙◌}
-use Rattle.std.proofs.lemmas.List.{take-take, take_more, length-take-le}
-use Rattle.contact_ledger.specs.declared.acts.Act.{Act}
-use Rattle.contact_ledger.specs.declared.features.Feature.{Feature}
-use Rattle.dmis_program.specs.declared.features.Wanted.{Wanted}
-use Rattle.protocol_model.specs.Claims.{MadeContact, contacts, IsRun, AreRuns, Sound}
-use Rattle.ledger_audit.specs.Verdicts.{AreAtMost, IsFirstRun, HasNoRun, AreFewestUnsound}
+use Rattle.ledger_audit.proofs.Names.{[], ◌++◌, ◌+◌, ◌<◌, ◌∙◌, ◌∷◌, ◌≡◌, ◌≤◌, Act, ap, AreAtMost, AreFewestUnsound, AreRuns, arith, contacts, Feature}
+use Rattle.ledger_audit.proofs.Names.{get_or, HasNoRun, IsFirstRun, IsRun, length, length-take-le, List, MadeContact, refl, Sound, subst, suc, sym}
+use Rattle.ledger_audit.proofs.Names.{take, take-take, Wanted, zero, ℕ}
+use Rattle.std.proofs.lemmas.List.{take_more}
 use Rattle.ledger_audit.proofs.ChoiceLaws.{last_end, sound_take, runs_push, end_push, AreWithLast, runs_split, at_most_push}
 
 -- starts that are a choice, each at most the start in its place of any other choice; their runs end no later than those of another

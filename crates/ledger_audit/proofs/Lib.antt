@@ -1,3 +1,4 @@
+pub mod Names
 pub mod RunLaws
 pub mod ShiftLaws
 pub mod SearchLaws

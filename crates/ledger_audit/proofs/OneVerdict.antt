@@ -1,10 +1,6 @@
 -- A verdict is the only one.
-use Rattle.std.proofs.Common.{◌≡◌, ℕ, ◌<◌, ◌≤◌, List, [], ◌∷◌, refl, arith, ◌⊎◌, inl, inr}
-use Rattle.std.proofs.lemmas.Bool.{cases_lt}
-use Rattle.contact_ledger.specs.declared.acts.Act.{Act}
-use Rattle.contact_ledger.specs.declared.features.Feature.{Feature}
-use Rattle.dmis_program.specs.declared.features.Wanted.{Wanted}
-use Rattle.ledger_audit.specs.Verdicts.{AreAtMost, AreFewestUnsound}
+use Rattle.ledger_audit.proofs.Names.{[], ◌<◌, ◌∷◌, ◌≡◌, ◌≤◌, ◌⊎◌, Act, AreAtMost, AreFewestUnsound, arith, cases_lt, Feature, inl, inr, List, refl}
+use Rattle.ledger_audit.proofs.Names.{Wanted, ℕ}
 
 -- numbers that are at most others, which are at most them, are the same
 pub at_most_same : (starts others : List ℕ) → AreAtMost starts others → AreAtMost others starts → starts ≡ others

@@ -1,17 +1,8 @@
 -- Contacts that serve touches, and runs of them at a number.
-use Rattle.std.proofs.Common.{◌≡◌, ℕ, zero, suc, ◌+◌, ◌<◌, ◌≤◌, List, [], ◌∷◌, length, take, drop, refl, ap, sym, subst}
-use Rattle.std.proofs.Common.{arith, length-drop, ◌∙◌, ◌⊎◌, inl, inr}
-use Rattle.std.specs.Prelude.{Option, Some, None, IfSome, IfNone}
-use Rattle.std.proofs.lemmas.List.{length-take}
-use Rattle.std.proofs.lemmas.Bool.{cases_lt}
-use Rattle.fixed_um.specs.declared.lengths.Point.{Point}
-use Rattle.contact_ledger.specs.declared.features.Feature.{Feature}
-use Rattle.dmis_program.specs.declared.features.Touch.{Touch}
-use Rattle.dmis_program.specs.declared.features.Wanted.{Wanted}
-use Rattle.protocol_model.specs.Claims.{MadeContact, IsServed, Serves, IsRun}
-use Rattle.ledger_audit.specs.Shifts.{Probed, asked, asked_at, shown, shown_by, connection_by, contact_at}
-use Rattle.ledger_audit.specs.Shifts.{Begins, HasNoneBetween, IsFirstServed}
-use Rattle.ledger_audit.specs.Verdicts.{IsFirstRun, HasNoRun}
+use Rattle.ledger_audit.proofs.Names.{[], ◌+◌, ◌<◌, ◌∙◌, ◌∷◌, ◌≡◌, ◌≤◌, ◌⊎◌, ap, arith, asked, asked_at, Begins, cases_lt, connection_by, contact_at}
+use Rattle.ledger_audit.proofs.Names.{drop, Feature, HasNoneBetween, HasNoRun, IfNone, IfSome, inl, inr, IsFirstRun, IsFirstServed, IsRun, IsServed}
+use Rattle.ledger_audit.proofs.Names.{length, length-drop, length-take, List, MadeContact, None, Option, Point, Probed, refl, Serves, shown, shown_by}
+use Rattle.ledger_audit.proofs.Names.{Some, subst, suc, sym, take, Touch, Wanted, zero, ℕ}
 use Rattle.ledger_audit.proofs.SearchLaws.{begins_none}
 
 -- there are as many contacts that serve as points

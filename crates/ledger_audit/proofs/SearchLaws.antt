@@ -1,12 +1,7 @@
 -- A search for contacts that serve all touches of a feature.
-use Rattle.std.proofs.Common.{◌≡◌, ℕ, zero, suc, ◌+◌, ◌-◌, ◌<◌, ◌≤◌, List, [], ◌∷◌, length, get_or, ap, sym, subst, arith}
-use Rattle.std.proofs.Common.{◌∙◌, ◌⊎◌, inl, inr}
-use Rattle.std.specs.Prelude.{Some}
-use Rattle.std.proofs.lemmas.Bool.{cases_lt}
-use Rattle.fixed_um.specs.declared.lengths.Point.{Point}
-use Rattle.dmis_program.specs.declared.features.Touch.{Touch}
-use Rattle.protocol_model.specs.Claims.{MadeContact}
-use Rattle.ledger_audit.specs.Shifts.{Probed, asked, asked_at, shown, shown_by, connection_by, contact_at, IsLeastShift, Begins, HasNoneBetween}
+use Rattle.ledger_audit.proofs.Names.{[], ◌+◌, ◌-◌, ◌<◌, ◌∙◌, ◌∷◌, ◌≡◌, ◌≤◌, ◌⊎◌, ap, arith, asked, asked_at, Begins, cases_lt, connection_by}
+use Rattle.ledger_audit.proofs.Names.{contact_at, get_or, HasNoneBetween, inl, inr, IsLeastShift, length, List, MadeContact, Point, Probed, shown}
+use Rattle.ledger_audit.proofs.Names.{shown_by, Some, subst, suc, sym, Touch, zero, ℕ}
 use Rattle.ledger_audit.proofs.ShiftLaws.{shift_most}
 
 -- a contact, and what a touch asks for, by number

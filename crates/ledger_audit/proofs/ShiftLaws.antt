@@ -1,11 +1,8 @@
 -- The least shifts of touches against themselves, one count after the other.
-use Rattle.std.proofs.Common.{◌≡◌, ℕ, ◌+◌, ◌-◌, ◌<◌, ◌≤◌, List, [], ◌∷◌, ◌++◌, length, length-append, get_or, ap, sym, subst, arith}
-use Rattle.std.proofs.Common.{◌∙◌, ◌⊎◌, inl, inr}
-use Rattle.std.specs.Prelude.{Option}
-use Rattle.std.proofs.lemmas.Bool.{cases_lt}
+use Rattle.ledger_audit.proofs.Names.{[], ◌++◌, ◌+◌, ◌-◌, ◌<◌, ◌∙◌, ◌∷◌, ◌≡◌, ◌≤◌, ◌⊎◌, ap, AreShifts, arith, cases_lt, get_or, inl, inr, IsCandidate}
+use Rattle.ledger_audit.proofs.Names.{IsLeastShift, LastMeets, length, length-append, List, Meets, Option, Probed, subst, sym, ℕ}
 use Rattle.std.proofs.Math.ListN.{get_or-append}
 use Rattle.std.proofs.Math.Seq.{get_or-append_seam}
-use Rattle.ledger_audit.specs.Shifts.{Probed, Meets, LastMeets, IsLeastShift, IsCandidate, AreShifts}
 
 -- touches moved past their end meet themselves, so that the least shift is no more
 pub shift_most : (x : ℕ → Option Probed) (count shift : ℕ) → IsLeastShift x count shift → shift ≤ count + 1

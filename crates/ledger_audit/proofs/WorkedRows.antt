@@ -1,13 +1,8 @@
 -- What the examples show.
-use Rattle.std.proofs.Common.{ℕ, zero, suc, ◌<◌, ◌≤◌, List, [], ◌∷◌, codes, take, refl, arith}
-use Rattle.fixed_um.specs.declared.lengths.Point.{Point}
-use Rattle.contact_ledger.specs.declared.features.Feature.{Feature}
-use Rattle.dmis_program.specs.declared.features.Touch.{Touch}
-use Rattle.dmis_program.specs.declared.features.Wanted.{Wanted}
-use Rattle.protocol_model.specs.Claims.{MadeContact, contacts, IsServed, AreRuns, Sound}
-use Rattle.protocol_model.specs.LedgerRows.{first_touch, second_touch, one_wanted, first_point, second_point, measured_as}
+use Rattle.ledger_audit.proofs.Names.{[], ◌<◌, ◌∷◌, ◌≤◌, AreAtMost, AreFewestUnsound, AreLeast, AreRuns, arith, codes, contacts, Feature, IsServed}
+use Rattle.ledger_audit.proofs.Names.{List, MadeContact, Point, refl, Sound, suc, take, Touch, Wanted, zero, ℕ}
+use Rattle.protocol_model.specs.LedgerRows.{first_point, first_touch, measured_as, one_wanted, second_point, second_touch}
 use Rattle.protocol_model.proofs.worked_rows.LedgerRefused.{no_contact_is_none}
-use Rattle.ledger_audit.specs.Verdicts.{AreAtMost, AreLeast, AreFewestUnsound}
 use Rattle.ledger_audit.specs.Rows.{made_twice, once, once_more}
 use Rattle.ledger_audit.proofs.Greedy.{wanted_spent}
 

@@ -1,10 +1,7 @@
 -- A search in blocks ends where the content ends.
-use Rattle.std.proofs.Common.{◌≡◌, ℕ, Bool, true, false, ◌||◌, not, ◌&&◌, List, length, get_or, refl, sym, ◌∙◌, ap, arith}
-use Rattle.std.proofs.Common.{Some, None}
-use Rattle.std.proofs.lemmas.List.Sums.{prefix_len_is}
-use Rattle.memchr.specs.Find.{IsFirstByte, is_byte2}
-use Rattle.line_framing.specs.Content.{is_content}
-use Rattle.line_framing.specs.Next.{content_len}
+use Rattle.line_framing.proofs.Names.{◌&&◌, ◌||◌, ◌∙◌, ◌≡◌, ap, arith, Bool, content_len, false, get_or, is_content, length, List, None, not}
+use Rattle.line_framing.proofs.Names.{prefix_len_is, refl, Some, sym, true, ℕ}
+use Rattle.memchr.specs.Find.{is_byte2, IsFirstByte}
 
 -- CR and LF are what is no content
 no_content_by : (b c : Bool) → (not b && not c) ≡ not (b || c)

@@ -1,12 +1,8 @@
 -- How positions in a rest relate to what is at its front.
-use Rattle.std.proofs.Common.{◌≡◌, ℕ, ◌+◌, ◌≤◌, Bool, true, false, List, ◌∷◌, ◌++◌, length, take, drop, sym, ◌∙◌, ap, subst, arith}
-use Rattle.std.proofs.Common.{Some, Result, Ok, Err, length-drop}
-use Rattle.std.proofs.lemmas.List.{drop-drop, length-take, length-append}
-use Rattle.std.proofs.lemmas.List.Sums.{prefix_len-le-length}
-use Rattle.line_framing.specs.Content.{is_content, IsLine}
-use Rattle.line_framing.specs.Next.{content_len, content_of, behind_content, verdict, next_of}
-use Rattle.line_framing.specs.Buffer.{HasVerdict, HasFront}
-use Rattle.line_framing.specs.declared.faults.FramingFault.{FramingFault}
+use Rattle.line_framing.proofs.Names.{◌++◌, ◌+◌, ◌∙◌, ◌∷◌, ◌≡◌, ◌≤◌, ap, arith, behind_content, Bool, content_len, content_of, drop, drop-drop, Err}
+use Rattle.line_framing.proofs.Names.{false, FramingFault, is_content, IsLine, length, length-append, length-drop, length-take, List, next_of, Ok}
+use Rattle.line_framing.proofs.Names.{prefix_len-le-length, Result, Some, subst, sym, take, true, verdict, ℕ}
+use Rattle.line_framing.specs.Buffer.{HasFront, HasVerdict}
 use Rattle.line_framing.proofs.Cuts.{prefix_len_from, prefix_len-le-append}
 use Rattle.line_framing.proofs.FirstLine.{found}
 

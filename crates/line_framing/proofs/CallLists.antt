@@ -1,12 +1,8 @@
 -- Lists of calls on one buffer: nothing that was fed is lost, and the pieces do not matter.
-use Rattle.std.proofs.Common.{◌≡◌, ℕ, List, [], ◌∷◌, ◌++◌, refl, sym, ◌∙◌, ap, subst, append_assoc, Option, Some, None, Ok, Err}
-use Rattle.std.proofs.lemmas.List.{append-nil}
-use Rattle.line_framing.specs.Content.{line_bytes}
-use Rattle.line_framing.specs.Next.{Front, next_of}
-use Rattle.line_framing.specs.Framing.{Framing, no_bytes, left_by}
-use Rattle.line_framing.specs.Stream.{IsStream, fault_in}
-use Rattle.line_framing.specs.Calls.{Call, Feed, Ask, after_calls, line_in, handed_out, bytes_fed, IsAccounted, NoLineLeft}
-use Rattle.line_framing.specs.declared.faults.FramingFault.{FramingFault}
+use Rattle.line_framing.proofs.Names.{[], ◌++◌, ◌∙◌, ◌∷◌, ◌≡◌, ap, append-nil, append_assoc, Err, fault_in, FramingFault, Front, IsStream, line_bytes}
+use Rattle.line_framing.proofs.Names.{List, next_of, None, Ok, Option, refl, Some, subst, sym, ℕ}
+use Rattle.line_framing.specs.Framing.{Framing, left_by, no_bytes}
+use Rattle.line_framing.specs.Calls.{after_calls, Ask, bytes_fed, Call, Feed, handed_out, IsAccounted, line_in, NoLineLeft}
 use Rattle.line_framing.proofs.FirstLine.{found, fault_stays}
 use Rattle.line_framing.proofs.Streams.{one_stream, stream_end}
 

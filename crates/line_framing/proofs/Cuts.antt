@@ -1,11 +1,7 @@
 -- How bytes are cut into their content and what follows it: there is one such cut, and more bytes move it only at its end.
-use Rattle.std.proofs.Common.{◌≡◌, ℕ, ◌+◌, ◌≤◌, Bool, true, false, cond, List, [], ◌∷◌, ◌++◌, take, drop, refl, sym, ◌∙◌, ap, arith, zero}
-use Rattle.std.proofs.Common.{suc, append_assoc}
-use Rattle.std.specs.List.{list_all, prefix_len}
-use Rattle.std.proofs.lemmas.Bool.{and_parts, and_from, false≢true}
-use Rattle.std.proofs.lemmas.List.{take-append-drop}
-use Rattle.line_framing.specs.Content.{is_content}
-use Rattle.line_framing.specs.Next.{BeginsWith, content_len, content_of, behind_content}
+use Rattle.line_framing.proofs.Names.{[], ◌++◌, ◌+◌, ◌∙◌, ◌∷◌, ◌≡◌, ◌≤◌, and_from, and_parts, ap, append_assoc, arith, BeginsWith, behind_content}
+use Rattle.line_framing.proofs.Names.{Bool, cond, content_len, content_of, drop, false, false≢true, is_content, List, list_all, prefix_len, refl, suc}
+use Rattle.line_framing.proofs.Names.{sym, take, take-append-drop, true, zero, ℕ}
 
 one_more : (n : ℕ) → 1 + n ≡ suc n
 one_more n = omega arith

@@ -1,12 +1,8 @@
 -- What is at the start of bytes: one thing, and more bytes do not undo it.
-use Rattle.std.proofs.Common.{◌≡◌, ℕ, ◌<◌, ◌≤◌, Bool, true, false, cond, ◌&&◌, List, [], ◌∷◌, ◌++◌, length, refl, sym, ◌∙◌, ap, subst}
-use Rattle.std.proofs.Common.{arith, append_assoc, eqb, ltb, Some, None, Ok, Err}
-use Rattle.std.proofs.lemmas.Bool.{and_parts, le-ltb, lt-ltb, ltb-true, ltb-false, eqb-true}
-use Rattle.std.proofs.lemmas.List.Folds.{length-prefix_len}
-use Rattle.line_framing.specs.Content.{is_content, IsLine}
-use Rattle.line_framing.specs.Next.{Front, BeginsWith, Next, IsFound, content_len, content_of, behind_content, ending, verdict, next_of}
-use Rattle.line_framing.specs.declared.faults.FramingFault.{FramingFault}
-use Rattle.line_framing.specs.declared.faults.FramingFault.TheVariants.{LineTooLong, BadByte}
+use Rattle.line_framing.proofs.Names.{[], ◌&&◌, ◌++◌, ◌<◌, ◌∙◌, ◌∷◌, ◌≡◌, ◌≤◌, and_parts, ap, append_assoc, arith, BadByte, BeginsWith}
+use Rattle.line_framing.proofs.Names.{behind_content, Bool, cond, content_len, content_of, ending, eqb, eqb-true, Err, false, FramingFault, Front}
+use Rattle.line_framing.proofs.Names.{is_content, IsFound, IsLine, le-ltb, length, length-prefix_len, LineTooLong, List, lt-ltb, ltb, ltb-false}
+use Rattle.line_framing.proofs.Names.{ltb-true, Next, next_of, None, Ok, refl, Some, subst, sym, true, verdict, ℕ}
 use Rattle.line_framing.proofs.Cuts.{begins, one_cut, cut_stays, prefix_len-le-append}
 
 -- any cut of bytes says what is at their front

@@ -1,13 +1,10 @@
 -- Runs in a block: the bits of a mask that was computed lane by lane say where a content ends.
-use Rattle.std.proofs.Common.{◌≡◌, ℕ, ◌+◌, ◌%◌, ◌^◌, ◌<◌, ◌≤◌, ◌==◌, Bool, true, not, cond, if◌then◌else◌, List, [], ◌∷◌, ◌++◌, map, length, take, drop, Fits, w8}
-use Rattle.std.proofs.Common.{get_or, refl, sym, ap, ap₂, ◌∙◌, arith, inl, inr}
-use Rattle.std.proofs.lemmas.Bool.{agree_below, agree_below_at, cases_eq, eq-eqb, ne_eqb, cond-true, cond-false}
-use Rattle.std.proofs.lemmas.Simd.{map-map, mask_l-mod, length-chunk, chunk-drop, chunk-fits, zip2-map, leading_from_mask_l, trailing_mask_l}
+use Rattle.line_framing.proofs.Names.{[], ◌%◌, ◌++◌, ◌+◌, ◌<◌, ◌==◌, ◌^◌, ◌∙◌, ◌∷◌, ◌≡◌, ◌≤◌, agree_below, agree_below_at, ap, ap₂, arith, Bool}
+use Rattle.line_framing.proofs.Names.{cases_eq, chunk-drop, chunk-fits, cond, cond-false, cond-true, drop, eq-eqb, Fits, get_or, if◌then◌else◌, inl}
+use Rattle.line_framing.proofs.Names.{inr, leading_from_mask_l, length, length-chunk, List, map, map-map, mask_l-mod, ne_eqb, not, prefix_len}
+use Rattle.line_framing.proofs.Names.{prefix_len-append, prefix_len-le-length, refl, sym, take, trailing_mask_l, true, w8, zip2-map, ℕ}
 use Rattle.std.proofs.lemmas.List.{length-map}
-use Rattle.std.proofs.lemmas.List.Folds.{prefix_len-append}
-use Rattle.std.proofs.lemmas.List.Sums.{prefix_len-le-length}
-use Rattle.std.specs.Int.{w64, trailing_zeros}
-use Rattle.std.specs.List.{prefix_len}
+use Rattle.std.specs.Int.{trailing_zeros, w64}
 use lib.Lanes.{Each1, chunk, zip2, mask_l, top}
 
 -- the place of the lowest bit that is set, or n if no bit is

@@ -1,3 +1,4 @@
+pub mod Names
 pub mod Lanes
 pub mod Blocks
 pub mod Buffers

@@ -1,12 +1,9 @@
 -- Lists of lines as bytes: what is taken from them piece by piece is these lines.
-use Rattle.std.proofs.Common.{◌≡◌, ℕ, ◌<◌, ◌≤◌, Bool, true, false, cond, not, ◌&&◌, ◌||◌, List, [], ◌∷◌, ◌++◌, length, zero, suc, refl, sym}
-use Rattle.std.proofs.Common.{◌∙◌, ap, subst, arith, append_assoc, length-append, eqb, Option, Some, None, Ok, Err, IfOk, IsNone}
-use Rattle.std.proofs.lemmas.Bool.{true≢false, eqb-true, not-false}
-use Rattle.line_framing.specs.Content.{is_content, IsLine, AreLines, line_bytes}
-use Rattle.line_framing.specs.Next.{Front, content_of, behind_content, ending, next_of}
-use Rattle.line_framing.specs.Stream.{is_bad_end, fault_of, fault_in, IsStream, AreSame, TakesFirst, IsRead}
-use Rattle.line_framing.specs.declared.faults.FramingFault.{FramingFault}
-use Rattle.line_framing.specs.declared.faults.FramingFault.TheVariants.{LineTooLong, BadByte}
+use Rattle.line_framing.proofs.Names.{[], ◌&&◌, ◌++◌, ◌<◌, ◌||◌, ◌∙◌, ◌∷◌, ◌≡◌, ◌≤◌, ap, append_assoc, AreLines, AreSame, arith, BadByte}
+use Rattle.line_framing.proofs.Names.{behind_content, Bool, cond, content_of, ending, eqb, eqb-true, Err, false, fault_in, fault_of, FramingFault}
+use Rattle.line_framing.proofs.Names.{Front, IfOk, is_bad_end, is_content, IsLine, IsNone, IsRead, IsStream, length, length-append, line_bytes}
+use Rattle.line_framing.proofs.Names.{LineTooLong, List, next_of, None, not, not-false, Ok, Option, refl, Some, subst, suc, sym, TakesFirst, true}
+use Rattle.line_framing.proofs.Names.{true≢false, zero, ℕ}
 use Rattle.line_framing.proofs.Cuts.{begins}
 use Rattle.line_framing.proofs.FirstLine.{first_line_at, found, found_stays, fault_stays, same_found}
 

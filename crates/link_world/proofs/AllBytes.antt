@@ -1,17 +1,9 @@
 -- One event, and all bytes that wait on a connection.
-use Rattle.std.proofs.Common.{◌≡◌, inl, inr, ℕ, ◌-◌, ◌<◌, Bool, true, false, cond, ◌&&◌, List, [], ◌∷◌, length, slice_index_or}
-use Rattle.std.proofs.Common.{refl, sym, ◌∙◌, ap, subst, is_none, arith}
-use Rattle.std.proofs.Common.{Option, Some, None, Result, Ok, Err, IfOk, OnOk, OnErr}
-use Rattle.std.proofs.lemmas.Bool.{and_parts}
-use Rattle.protocol_model.specs.World.{World, can, server_link, client_link, Link, no_link, has_some}
-use Rattle.protocol_model.specs.declared.events.Event.{Event}
-use Rattle.protocol_model.specs.declared.events.Event.TheVariants as event
-use Rattle.protocol_model.specs.Ends.{ClientEnd}
-use Rattle.server_core.specs.Serving.{ServerValue}
-use Rattle.link_world.specs.declared.worlds.connection.Connection.{Connection}
-use Rattle.link_world.specs.Links.{WorldValue, seen, links_of, IsReached}
-use Rattle.protocol_model.specs.Rounds.{IsOne, possible, all_up, all_down}
-use Rattle.link_world.specs.Parts.{Makes, Tells, Staged, Leading}
+use Rattle.link_world.proofs.Names.{[], ◌&&◌, ◌-◌, ◌<◌, ◌∙◌, ◌∷◌, ◌≡◌, all_down, all_up, and_parts, ap, arith, Bool, can, client_link, ClientEnd}
+use Rattle.link_world.proofs.Names.{cond, Connection, Err, Event, false, has_some, IfOk, inl, inr, is_none, IsOne, IsReached, Leading, length, Link}
+use Rattle.link_world.proofs.Names.{links_of, List, Makes, no_link, None, Ok, OnErr, OnOk, Option, refl, Result, seen, server_link, ServerValue}
+use Rattle.link_world.proofs.Names.{slice_index_or, Some, Staged, subst, sym, Tells, true, World, WorldValue, ℕ}
+use Rattle.protocol_model.specs.Rounds.{possible}
 use Rattle.link_world.proofs.EventLists.{leads_none, leads_still}
 use Rattle.link_world.proofs.Linking.{links_get}
 use Rattle.link_world.proofs.Reached.{made}
@@ -66,32 +58,32 @@ attempted e some l m (Err fault) known never h = record {
 
 -- ---- all bytes up, and all down
 
-up_yes : (count : ℕ) (w : World) → (w.server.server.on ≡ true → count ≡ length (server_link w).up) → can (event.Up count) w ≡ true
-    → all_up w ≡ Some (event.Up count)
+up_yes : (count : ℕ) (w : World) → (w.server.server.on ≡ true → count ≡ length (server_link w).up) → can (Event.Up count) w ≡ true
+    → all_up w ≡ Some (Event.Up count)
 up_yes count w is may =
     let same : count ≡ length (server_link w).up = is (and_parts _ _ may).0 in
-    subst (λ (n : ℕ). possible (event.Up n) w ≡ Some (event.Up count)) same (possible_now (event.Up count) w may)
+    subst (λ (n : ℕ). possible (Event.Up n) w ≡ Some (Event.Up count)) same (possible_now (Event.Up count) w may)
 
 up_no : (count : ℕ) (w : World) (b : Bool) → w.server.server.on ≡ b → (w.server.server.on ≡ true → count ≡ length (server_link w).up)
-    → can (event.Up count) w ≡ false → all_up w ≡ None
+    → can (Event.Up count) w ≡ false → all_up w ≡ None
 up_no count w true on is never =
-    subst (λ (n : ℕ). possible (event.Up n) w ≡ None) (is on) (not_possible (event.Up count) w never)
+    subst (λ (n : ℕ). possible (Event.Up n) w ≡ None) (is on) (not_possible (Event.Up count) w never)
 up_no count w false off is never =
-    possible_by (event.Up (length (server_link w).up)) (can (event.Up (length (server_link w).up)) w) false
+    possible_by (Event.Up (length (server_link w).up)) (can (Event.Up (length (server_link w).up)) w) false
     (ap (λ (b : Bool). b && (is_none w.server.input.fault && has_some (length (server_link w).up) (server_link w).up)) off)
 
 pub up_done : {E : Type 0} (count : ℕ) (l m : Staged) (r : Result Bool E)
-    → (l.world.server.server.on ≡ true → count ≡ length (server_link l.world).up) → Attempted r (event.Up count) l m
+    → (l.world.server.server.on ≡ true → count ≡ length (server_link l.world).up) → Attempted r (Event.Up count) l m
     → Tells r (λ cut w. IsOne (all_up w) cut) l m
-up_done count l m r is h = attempted (event.Up count) all_up l m r (up_yes count l.world is)
+up_done count l m r is h = attempted (Event.Up count) all_up l m r (up_yes count l.world is)
     (up_no count l.world l.world.server.server.on refl is) h
 
 pub down_done : {E : Type 0} (count : ℕ) (l m : Staged) (r : Result Bool E)
-    → count ≡ length (client_link l.world).down → Attempted r (event.Down count) l m
+    → count ≡ length (client_link l.world).down → Attempted r (Event.Down count) l m
     → Tells r (λ cut w. IsOne (all_down w) cut) l m
-down_done count l m r is h = attempted (event.Down count) all_down l m r
-    (λ may. subst (λ (n : ℕ). possible (event.Down n) l.world ≡ Some (event.Down count)) is (possible_now (event.Down count) l.world may))
-    (λ never. subst (λ (n : ℕ). possible (event.Down n) l.world ≡ None) is (not_possible (event.Down count) l.world never)) h
+down_done count l m r is h = attempted (Event.Down count) all_down l m r
+    (λ may. subst (λ (n : ℕ). possible (Event.Down n) l.world ≡ Some (Event.Down count)) is (possible_now (Event.Down count) l.world may))
+    (λ never. subst (λ (n : ℕ). possible (Event.Down n) l.world ≡ None) is (not_possible (Event.Down count) l.world never)) h
 
 -- ---- how many wait
 

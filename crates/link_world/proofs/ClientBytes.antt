@@ -1,15 +1,9 @@
 -- The bytes that come to the client in a world.
-use Rattle.std.proofs.Common.{◌≡◌, ℕ, ◌-◌, ◌<◌, Bool, true, false, not, ◌&&◌, List, length, take, drop, slice_index_or, slice_set, sym, ◌∙◌}
-use Rattle.std.proofs.Common.{ap, arith}
-use Rattle.std.proofs.lemmas.Bool.{and_from}
-use Rattle.protocol_model.specs.Ends.{ClientEnd, end_fed}
-use Rattle.protocol_model.specs.World.{World, Link, no_link, link_of, with_link, client_link, has_some, can, happens, moved_down}
+use Rattle.link_world.proofs.Names.{◌&&◌, ◌-◌, ◌<◌, ◌∙◌, ◌≡◌, and_from, ap, arith, Bool, can, client_link, ClientEnd, Connection, drop, end_fed}
+use Rattle.link_world.proofs.Names.{Event, false, fewer_down, happens, has_some, IsReached, length, Link, link_of, link_of_connection, links_of, List}
+use Rattle.link_world.proofs.Names.{may_read, moved_down, no_link, not, seen, ServerValue, slice_index_or, slice_set, sym, take, true, with_link}
+use Rattle.link_world.proofs.Names.{with_world, World, WorldValue, ℕ}
 use Rattle.protocol_model.specs.World as world
-use Rattle.protocol_model.specs.declared.events.Event.TheVariants as event
-use Rattle.client_core.specs.Clients.{may_read}
-use Rattle.server_core.specs.Serving.{ServerValue}
-use Rattle.link_world.specs.declared.worlds.connection.Connection.{Connection}
-use Rattle.link_world.specs.Links.{WorldValue, link_of_connection, links_of, fewer_down, seen, with_world, IsReached}
 use Rattle.link_world.proofs.Linking.{links_get, link_put}
 use Rattle.link_world.proofs.Reached.{made}
 use Rattle.link_world.proofs.ClientWriting.{awake}
@@ -21,7 +15,7 @@ pub reads_on : (client : ClientEnd) (server : ServerValue) (cs : List Connection
     → client.client.on ≡ true → may_read client.client ≡ true
 reads_on client server cs written h on = and_from _ _ on (ap not (awake client server cs written h))
 
-pub off_no_bytes : (l : WorldValue) (count : ℕ) → l.world.client.client.on ≡ false → can (event.Down count) l.world ≡ false
+pub off_no_bytes : (l : WorldValue) (count : ℕ) → l.world.client.client.on ≡ false → can (Event.Down count) l.world ≡ false
 off_no_bytes l count off = ap (λ (b : Bool). b && (not (world.is_faulted l.world.client.client.state)
     && has_some count (client_link l.world).down)) off
 
@@ -37,7 +31,7 @@ here client server cs written at c h place some is =
 pub down_may : (count : ℕ) (client : ClientEnd) (server : ServerValue) (cs : List Connection) (written : List ℕ) (at : ℕ) (c : Connection)
     → IsReached (seen client server cs written) → client.client.on ≡ true
     → at ≡ length cs - 1 → 0 < length cs → c ≡ slice_index_or cs at c
-    → can (event.Down count) (seen client server cs written).world ≡ has_some count c.down.waiting
+    → can (Event.Down count) (seen client server cs written).world ≡ has_some count c.down.waiting
 down_may count client server cs written at c h on place some is =
     let link = here client server cs written at c h place some is in
     let stays : not (world.is_faulted client.client.state) ≡ true =

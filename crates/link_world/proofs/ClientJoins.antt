@@ -1,30 +1,16 @@
 -- A client's turn over its ports is a list of events of the world.
-use Rattle.std.proofs.Common.{◌≡◌, ℕ, zero, suc, ◌-◌, ◌≤◌, Bool, true, false, cond, not, ◌&&◌, List, [], ◌∷◌, ◌++◌, length, take, drop}
-use Rattle.std.proofs.Common.{refl, sym, ◌∙◌, ap, subst, arith, append_assoc, append-nil, is_some, Option, Some, None, Ok, slice_set}
-use Rattle.std.proofs.lemmas.Bool.{and_parts, and_from, le-leb}
-use Rattle.std.proofs.lemmas.List.{set-get_or, take-append-drop}
-use Rattle.line_framing.specs.Next.{Front, next_of}
-use Rattle.line_framing.specs.Framing.{Framing, fed, fed_behind}
-use Rattle.line_framing.specs.declared.faults.FramingFault.{FramingFault}
-use Rattle.dmis_program.specs.Programs.{IsProgram}
-use Rattle.dmis_program.specs.Meaning.{Meaning}
-use Rattle.protocol_model.specs.Claims.{Sound, Told}
-use Rattle.protocol_model.specs.Client.{Client, due, sends_next, sends_abort, next_number, may_abort}
-use Rattle.protocol_model.specs.Ends.{ClientEnd, end_sent, end_taken, end_fed, end_read, end_left, end_aborted}
-use Rattle.protocol_model.specs.World.{World, Link, no_link, client_link, link_of, with_link, has_some, is_any, start, can, happens, after, run_of}
+use Rattle.link_world.proofs.Names.{[], ◌&&◌, ◌++◌, ◌-◌, ◌∙◌, ◌∷◌, ◌≡◌, ◌≤◌, after, always_sound, always_told, and_from, and_parts, ap, append-nil}
+use Rattle.link_world.proofs.Names.{append_assoc, arith, Bool, can, Client, client_joined, client_link, ClientEnd, ClientTurn, cond, Course, drop}
+use Rattle.link_world.proofs.Names.{due, end_aborted, end_fed, end_left, end_read, end_sent, end_taken, Event, false, fed, fed_behind, Framing}
+use Rattle.link_world.proofs.Names.{FramingFault, Front, happens, has_some, is_some, IsClientTurn, IsProgram, le-leb, length, Link, link_of}
+use Rattle.link_world.proofs.Names.{link_same, List, may_abort, may_read, Meaning, next_number, next_of, no_link, None, not, Ok, Option, Planned}
+use Rattle.link_world.proofs.Names.{Reading, refl, run_of, Sending, sends, sends_abort, sends_next, set-get_or, slice_set, Some, Sound, Stage, start}
+use Rattle.link_world.proofs.Names.{State, steered, steering, subst, suc, sym, take, take-append-drop, Taking, Told, true, TurnLeads, with_link}
+use Rattle.link_world.proofs.Names.{World, Writing, zero, ℕ}
+use Rattle.protocol_model.specs.World.{is_any}
 use Rattle.protocol_model.specs.World.{is_faulted as is_over}
-use Rattle.protocol_model.specs.declared.events.Event.{Event}
-use Rattle.protocol_model.specs.declared.events.Event.TheVariants as event
-use Rattle.protocol_model.specs.declared.plans.Planned.{Planned}
-use Rattle.protocol_model.specs.declared.states.State.{State}
-use Rattle.protocol_model.proofs.whole_run.Links.{link_same}
-use Rattle.protocol_model.proofs.whole_run.WholeRun.{always_sound, always_told}
-use Rattle.client_core.specs.Clients.{is_faulted, may_read}
-use Rattle.link_world.specs.Pumps.{Stage, Sending, Writing, Taking, Reading, ClientTurn, begins, sends, writes, takes, has, reads}
-use Rattle.link_world.specs.Joined.{IsClientTurn, TurnLeads, client_joined, steering}
-use Rattle.link_world.specs.Courses.{steered}
-use Rattle.link_world.specs.declared.connections.steering.Course.{Course}
-use Rattle.link_world.specs.declared.connections.steering.Course.TheVariants as course
+use Rattle.client_core.specs.Clients.{is_faulted}
+use Rattle.link_world.specs.Pumps.{begins, has, reads, takes, writes}
 use Rattle.link_world.proofs.EventLists.{run_append, done_now, not_done}
 use Rattle.link_world.proofs.TurnJoins.{SoFar, not_yet, once_more, all_done, sent_only, client_turned}
 
@@ -108,20 +94,20 @@ record Starts (w v : World) (s : ClientEnd) : Type 0 where
   pub stands : v ≡ client_joined w s s.out 0
   pub last : s.client.last ≡ w.client.client.last
 
-stop_starts : (w : World) → IsOn w → (b : Bool) → Starts w (cond b (happens event.Abort w) w) (cond b (end_aborted w.client) w.client)
+stop_starts : (w : World) → IsOn w → (b : Bool) → Starts w (cond b (happens Event.Abort w) w) (cond b (end_aborted w.client) w.client)
 stop_starts w h true = record { stands = refl; last = aborts_last w.client.client _ }
 stop_starts w h false = record { stands = begun w h; last = refl }
 
 steered_starts : (c : Course) (w : World) → IsOn w → Starts w (run_of (steering c) w) (steered c w.client)
-steered_starts course.GoOn w h = record { stands = begun w h; last = refl }
-steered_starts course.Stop w h = stop_starts w h (may_abort w.client.client.state)
+steered_starts Course.GoOn w h = record { stands = begun w h; last = refl }
+steered_starts Course.Stop w h = stop_starts w h (may_abort w.client.client.state)
 
 sends_on : (w : World) (e : ClientEnd) → IsOn w → e.client.last ≡ w.client.client.last
     → is_some (due e.client) ≡ true
-    → after event.ClientSends (client_joined w e e.out 0) ≡ client_joined w (end_sent e) (end_sent e).out 0
+    → after Event.ClientSends (client_joined w e e.out 0) ≡ client_joined w (end_sent e) (end_sent e).out 0
 sends_on w e h last is =
     let more : List ℕ = (end_sent (record e { out = [] })).out in
-    done_now event.ClientSends (client_joined w e e.out 0) is ∙ (λ i. record {
+    done_now Event.ClientSends (client_joined w e e.out 0) is ∙ (λ i. record {
       client = record (end_sent e) { out = [] };
       server = w.server;
       links = (put_again (λ (l : Link). record l { up = l.up ++ more }) w.links w.client.client.last e.client.last
@@ -139,7 +125,7 @@ there w e text h last =
     ∙ link_same w.links w.client.client.last (record { up = (client_link w).up ++ text; down = (client_link w).down }) h.from h.to
 
 some_down : (w : World) (e : ClientEnd) (text : List ℕ) (k : ℕ) → IsOn w → e.client.last ≡ w.client.client.last → may_read e.client ≡ true
-    → 1 ≤ k → k ≤ length (client_link w).down → can (event.Down k) (client_joined w e text 0) ≡ true
+    → 1 ≤ k → k ≤ length (client_link w).down → can (Event.Down k) (client_joined w e text 0) ≡ true
 some_down w e text k h last may some le =
     let parts = and_parts _ _ may in
     and_from _ _ parts.0 (and_from _ _ (not_over e.client.state parts.1)
@@ -148,15 +134,15 @@ some_down w e text k h last may some le =
 
 takes_on : (w : World) (e : ClientEnd) (text read : List ℕ) → IsOn w → e.client.last ≡ w.client.client.last
     → may_read e.client ≡ true → take (length read) (client_link w).down ≡ read
-    → after (event.Down (length read)) (client_joined w e text 0) ≡ client_joined w (end_fed read e) text (length read)
+    → after (Event.Down (length read)) (client_joined w e text 0) ≡ client_joined w (end_fed read e) text (length read)
 takes_on w e text [] h last may front =
-    not_done (event.Down 0) (client_joined w e text 0) (never_none e.client.on (not (is_over e.client.state)))
+    not_done (Event.Down 0) (client_joined w e text 0) (never_none e.client.on (not (is_over e.client.state)))
     ∙ ap (λ (f : Framing). client_joined w (record e { input = f }) text 0) (sym (fed_none e.input))
 takes_on w e text (x ∷ xs) h last may front =
     let k : ℕ = length (x ∷ xs) in
     let came : take k (client_link (client_joined w e text 0)).down ≡ x ∷ xs =
     ap (λ (l : Link). take k l.down) (there w e text h last) ∙ front in
-    done_now (event.Down k) (client_joined w e text 0)
+    done_now (Event.Down k) (client_joined w e text 0)
     (some_down w e text k h last may (omega arith) (fits (x ∷ xs) (client_link w).down front))
     ∙ (λ i. record {
       client = record e { input = fed e.input (came i); out = [] };
@@ -176,31 +162,31 @@ all_out written e out = ap (λ (x : List ℕ). written ++ x) out ∙ append-nil 
 
 reads_on : (w : World) (e : ClientEnd) (text : List ℕ) (k : ℕ) → may_read e.client ≡ true
     → is_any (next_of e.input.rest) ≡ true
-    → after event.ClientReads (client_joined w e text k) ≡ client_joined w (end_read e) text k
+    → after Event.ClientReads (client_joined w e text k) ≡ client_joined w (end_read e) text k
 reads_on w e text k may is =
     let parts = and_parts _ _ may in
-    done_now event.ClientReads (client_joined w e text k)
+    done_now Event.ClientReads (client_joined w e text k)
     (and_from _ _ parts.0 (and_from _ _ (not_over e.client.state parts.1) is))
 
 -- ---- the turn
 
 -- in addition: until bytes come in the client is on its connection, and from then on it has nothing to send; it sends until nothing is due
 record Sends (v w : World) (e : ClientEnd) : Type 0 where
-  pub so_far : SoFar event.ClientSends v (client_joined w e e.out 0)
+  pub so_far : SoFar Event.ClientSends v (client_joined w e e.out 0)
   pub last : e.client.last ≡ w.client.client.last
 
 record Writes (v w : World) (written : List ℕ) (e : ClientEnd) : Type 0 where
-  pub so_far : SoFar event.ClientSends v (client_joined w e (written ++ e.out) 0)
+  pub so_far : SoFar Event.ClientSends v (client_joined w e (written ++ e.out) 0)
   pub last : e.client.last ≡ w.client.client.last
   pub none : due e.client ≡ None
 
 record Hears (v w : World) (read written : List ℕ) (e : ClientEnd) : Type 0 where
   pub first : ClientEnd
-  pub sent : SoFar event.ClientSends v (client_joined w first written 0)
+  pub sent : SoFar Event.ClientSends v (client_joined w first written 0)
   pub none : due first.client ≡ None
   pub fed : World
-  pub came : after (event.Down (length read)) (client_joined w first written 0) ≡ fed
-  pub so_far : SoFar event.ClientReads fed (client_joined w e written (length read))
+  pub came : after (Event.Down (length read)) (client_joined w first written 0) ≡ fed
+  pub so_far : SoFar Event.ClientReads fed (client_joined w e written (length read))
   pub out : e.out ≡ []
 
 abbrev Goes : (v w : World) → Stage → List ℕ → List ℕ → ClientEnd → Type 0
@@ -212,11 +198,11 @@ plays : (least : ℕ) (v w : World) (s : ClientEnd) (stage : Stage) (read writte
     → take (length read) (client_link w).down ≡ read → ClientTurn least s stage read written e
     → Goes v w stage read written e
 plays least v w s _ _ _ _ h g front begins =
-    (record { so_far = not_yet event.ClientSends v (client_joined w s s.out 0) g.stands; last = g.last }, refl)
+    (record { so_far = not_yet Event.ClientSends v (client_joined w s s.out 0) g.stands; last = g.last }, refl)
 plays least v w s _ _ _ _ h g front (sends e t is) =
     let p : Sends v w e = (plays least v w s Sending [] [] e h g front t).0 in (
       record {
-        so_far = once_more event.ClientSends v (client_joined w e e.out 0)
+        so_far = once_more Event.ClientSends v (client_joined w e e.out 0)
             (client_joined w (end_sent e) (end_sent e).out 0) p.so_far
             is (sends_on w e h p.last is);
         last = sent_last e ∙ p.last;
@@ -225,7 +211,7 @@ plays least v w s _ _ _ _ h g front (sends e t is) =
     )
 plays least v w s _ _ _ _ h g front (writes e count t none within) =
     let p : Sends v w e = (plays least v w s Sending [] [] e h g front t).0 in record {
-      so_far = subst (λ (x : List ℕ). SoFar event.ClientSends v (client_joined w e x 0))
+      so_far = subst (λ (x : List ℕ). SoFar Event.ClientSends v (client_joined w e x 0))
           (sym (take-append-drop count e.out)) p.so_far;
       last = p.last;
       none = none;
@@ -233,11 +219,11 @@ plays least v w s _ _ _ _ h g front (writes e count t none within) =
 plays least v w s _ _ _ _ h g front (takes e read written t out may) =
     let p : Writes v w written e = plays least v w s Writing [] written e h g refl t in record {
       first = e;
-      sent = subst (λ (x : List ℕ). SoFar event.ClientSends v (client_joined w e x 0)) (all_out written e out) p.so_far;
+      sent = subst (λ (x : List ℕ). SoFar Event.ClientSends v (client_joined w e x 0)) (all_out written e out) p.so_far;
       none = p.none;
       fed = client_joined w (end_fed read e) written (length read);
       came = takes_on w e written read h p.last may front;
-      so_far = not_yet event.ClientReads (client_joined w (end_fed read e) written (length read))
+      so_far = not_yet Event.ClientReads (client_joined w (end_fed read e) written (length read))
           (client_joined w (end_fed read e) written (length read)) refl;
       out = out;
     }
@@ -249,7 +235,7 @@ plays least v w s _ _ _ _ h g front (reads e read written t may is) =
       none = p.none;
       fed = p.fed;
       came = p.came;
-      so_far = once_more event.ClientReads p.fed (client_joined w e written (length read))
+      so_far = once_more Event.ClientReads p.fed (client_joined w e written (length read))
           (client_joined w (end_read e) written (length read)) p.so_far (may_hear e may is)
           (reads_on w e written (length read) may is);
       out = p.out;
@@ -257,7 +243,7 @@ plays least v w s _ _ _ _ h g front (reads e read written t may is) =
 
 -- nothing more is due
 none_due : (w : World) (e : ClientEnd) (text : List ℕ) → due e.client ≡ None
-    → can event.ClientSends (client_joined w e text 0) ≡ false
+    → can Event.ClientSends (client_joined w e text 0) ≡ false
 none_due w e text none = ap is_some none
 
 abbrev Turns : World → (cut : Bool) → ℕ → World → Type 0
@@ -319,11 +305,11 @@ pub turn_whole : (c : Course) (least : ℕ) (w : World) (read written : List ℕ
 turn_whole c least w read written e out from to front t none =
     let p : Hears (run_of (steering c) w) w read written e = heard_so_far c least w read written e out from to front t in
     let v : World = client_joined w e written (length read) in
-    let never : can event.ClientReads v ≡ false =
+    let never : can Event.ClientReads v ≡ false =
     ap (λ (f : Front). e.client.on && (not (is_over e.client.state) && is_any f)) none
     ∙ never_none e.client.on (not (is_over e.client.state)) in
     client_turned (length read) false (run_of (steering c) w) (client_joined w p.first written 0) p.fed v p.sent
-    (none_due w p.first written p.none) p.came p.so_far (all_done event.ClientReads p.fed v p.so_far never)
+    (none_due w p.first written p.none) p.came p.so_far (all_done Event.ClientReads p.fed v p.so_far never)
 
 -- it has then written all
 pub turn_written : (c : Course) (least : ℕ) (w : World) (read written : List ℕ) (e : ClientEnd)
@@ -384,7 +370,7 @@ turn_told c least w stage read written e program rack window events is few reach
 -- the client leaves its connection after events that have led so far
 pub turn_leaves : (w : World) (events : List Event) (e : ClientEnd) (text : List ℕ) (count : ℕ)
     → run_of events w ≡ client_joined w e text count → e.client.on ≡ true
-    → run_of (events ++ event.ClientLeaves ∷ []) w ≡ record (client_joined w e text count) { client = end_left e }
+    → run_of (events ++ Event.ClientLeaves ∷ []) w ≡ record (client_joined w e text count) { client = end_left e }
 turn_leaves w events e text count leads on =
-    run_append events (event.ClientLeaves ∷ []) w
-    ∙ (ap (after event.ClientLeaves) leads ∙ done_now event.ClientLeaves (client_joined w e text count) on)
+    run_append events (Event.ClientLeaves ∷ []) w
+    ∙ (ap (after Event.ClientLeaves) leads ∙ done_now Event.ClientLeaves (client_joined w e text count) on)

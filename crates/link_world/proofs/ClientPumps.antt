@@ -1,30 +1,17 @@
 -- What a client's turn makes of its end.
-use Rattle.std.proofs.Common.{◌≡◌, ◌≢◌, inl, inr, ℕ, ◌+◌, ◌*◌, ◌<◌, ◌≤◌, Bool, true, false, not, ◌&&◌, List, [], ◌∷◌, ◌++◌, length, take, drop}
-use Rattle.std.proofs.Common.{refl, sym, ◌∙◌, ap, subst, arith, append_assoc, append-nil, length-append, length-take-le, is_some, Option, Some, None, Ok, Err}
-use Rattle.std.proofs.Common.{IsErr, IsErrAnd, IfErr, Result, IsTrue, ◌↔◌}
-use Rattle.std.proofs.lemmas.Bool.{false≢true}
-use Rattle.std.proofs.lemmas.List.{take-append-le}
-use Rattle.std.specs.Io.KnownBytes.{Appends, Consumes}
-use Rattle.std.proofs.KnownBytes.{Consumes-nil, Consumes-trans, Appends-nil}
-use Rattle.line_framing.specs.Next.{Front, next_of, IsFound}
-use Rattle.line_framing.specs.Framing.{IsLineDue, Framing, fed, fed_behind, left_by}
-use Rattle.line_framing.specs.declared.faults.FramingFault.{FramingFault}
-use Rattle.line_framing.specs.declared.faults.FramingFault.TheVariants as framing
-use Rattle.line_framing.proofs.FirstLine.{found}
-use Rattle.protocol_model.specs.Client.{due}
-use Rattle.protocol_model.specs.Ends.{ClientEnd, end_sent, end_taken, end_fed, end_read, end_left, front_read, new_server_end}
-use Rattle.protocol_model.specs.World.{World, is_any}
-use Rattle.protocol_model.specs.declared.events.Event.TheVariants as event
-use Rattle.client_core.specs.Clients.{is_faulted, may_read}
-use Rattle.client_core.specs.Refusals.{IsRefused, IsSendRefused, IsReadRefused}
-use Rattle.client_core.specs.declared.faults.ClientFault.{ClientFault}
-use Rattle.client_core.specs.declared.faults.ClientFault.TheVariants as client_fault
-use Rattle.link_world.specs.declared.connections.pumps.PumpFault.{PumpFault}
-use Rattle.link_world.specs.declared.connections.pumps.PumpFault.TheVariants as fault
-use Rattle.link_world.specs.Pumps.{Stage, Sending, Writing, Taking, Reading, ClientTurn, begins, sends, writes, takes, has, reads}
-use Rattle.link_world.specs.Pumps.{ClientMoved, ClientStopped, ClientMovedWithin, ClientStoppedWithin, lines_read, next_lines}
-use Rattle.link_world.specs.Pumps.{HasRefused, IsLost, of_client}
-use Rattle.link_world.specs.PumpParts.{GoesOn, ReadsOn, AllOut, Pushed, IsPushFault, IsPullFault, Came, CameShort, IsTakeFault, IsReadFault}
+use Rattle.link_world.proofs.Names.{[], ◌&&◌, ◌*◌, ◌++◌, ◌+◌, ◌<◌, ◌↔◌, ◌∙◌, ◌∷◌, ◌≡◌, ◌≢◌, ◌≤◌, AllOut, ap, append-nil, append_assoc, Appends}
+use Rattle.link_world.proofs.Names.{Appends-nil, arith, Bool, Came, CameShort, ClientEnd, ClientFault, ClientMoved, ClientMovedWithin, ClientStopped}
+use Rattle.link_world.proofs.Names.{ClientStoppedWithin, ClientTurn, Consumes, Consumes-nil, Consumes-trans, drop, due, end_fed, end_left, end_read}
+use Rattle.link_world.proofs.Names.{end_sent, end_taken, Err, Event, false, false≢true, fed, fed_behind, found, Framing, FramingFault, Front}
+use Rattle.link_world.proofs.Names.{front_read, GoesOn, HasRefused, IfErr, inl, inr, is_some, IsErr, IsErrAnd, IsFound, IsLineDue, IsLost}
+use Rattle.link_world.proofs.Names.{IsPullFault, IsPushFault, IsReadRefused, IsRefused, IsSendRefused, IsTakeFault, IsTrue, left_by, length}
+use Rattle.link_world.proofs.Names.{length-append, length-take-le, lines_read, List, may_read, new_server_end, next_lines, next_of, None, not}
+use Rattle.link_world.proofs.Names.{of_client, Ok, Option, PumpFault, Pushed, Reading, ReadsOn, refl, Result, Sending, sends, Some, Stage, subst, sym}
+use Rattle.link_world.proofs.Names.{take, take-append-le, Taking, true, World, Writing, ℕ}
+use Rattle.protocol_model.specs.World.{is_any}
+use Rattle.client_core.specs.Clients.{is_faulted}
+use Rattle.link_world.specs.Pumps.{begins, has, reads, takes, writes}
+use Rattle.link_world.specs.PumpParts.{IsReadFault}
 use Rattle.link_world.proofs.EventsLeft.{left_of, less}
 
 -- what holds of a fault holds of the result that has it
@@ -43,9 +30,9 @@ abbrev pub alone : ClientEnd → World
 alone e = record { client = e; server = new_server_end []; links = []; written = [] }
 
 pub sending_less : (a b : ClientEnd) → is_some (due a.client) ≡ true → b ≡ end_sent a
-    → left_of event.ClientSends (alone b) < left_of event.ClientSends (alone a)
-sending_less a b is same = subst (λ (e : ClientEnd). left_of event.ClientSends (alone e) < left_of event.ClientSends (alone a)) (sym same)
-    (less event.ClientSends (alone a) refl is)
+    → left_of Event.ClientSends (alone b) < left_of Event.ClientSends (alone a)
+sending_less a b is same = subst (λ (e : ClientEnd). left_of Event.ClientSends (alone e) < left_of Event.ClientSends (alone a)) (sym same)
+    (less Event.ClientSends (alone a) refl is)
 
 pub goes_none : (stage : Stage) (read written : List ℕ) (e : ClientEnd) → GoesOn stage read written e e
 goes_none stage read written e = λ least start t. t
@@ -58,31 +45,31 @@ sent_more a b c h is same = λ least start t.
 -- a client that refuses to send
 pub send_goes : (a b c : ClientEnd) (why : ClientFault) → GoesOn Sending [] [] a b
     → IsSendRefused (is_some (due b.client)) b c (end_sent b) why → GoesOn Sending [] [] a c
-send_goes a b c client_fault.NotNow h r = subst (GoesOn Sending [] [] a) (sym r.0) h
-send_goes a b c (client_fault.Faulted cause) h (inl r) = subst (GoesOn Sending [] [] a) (sym r.1) h
-send_goes a b c (client_fault.Faulted cause) h (inr r) = sent_more a b c h r.0 r.1
-send_goes a b c client_fault.Memory h r = subst (GoesOn Sending [] [] a) (sym r) h
+send_goes a b c ClientFault.NotNow h r = subst (GoesOn Sending [] [] a) (sym r.0) h
+send_goes a b c (ClientFault.Faulted cause) h (inl r) = subst (GoesOn Sending [] [] a) (sym r.1) h
+send_goes a b c (ClientFault.Faulted cause) h (inr r) = sent_more a b c h r.0 r.1
+send_goes a b c ClientFault.Memory h r = subst (GoesOn Sending [] [] a) (sym r) h
 
 -- ---- where it stops
 
 -- a refusal is a reason to stop
 refused_why : (least bound read written held : ℕ) (left_now : Option (List ℕ)) (e : ClientEnd) (f : PumpFault ClientFault) → HasRefused e f
     → Rattle.link_world.specs.Pumps.ClientWhy least bound read written held left_now e f
-refused_why least bound read written held left_now e fault.ReadFailed r = absurd r
-refused_why least bound read written held left_now e fault.WriteFailed r = absurd r
-refused_why least bound read written held left_now e fault.Ended r = absurd r
-refused_why least bound read written held left_now e fault.TurnsSpent r = absurd r
-refused_why least bound read written held left_now e (fault.Core why) r = r
-refused_why least bound read written held left_now e fault.Memory r = tt
+refused_why least bound read written held left_now e PumpFault.ReadFailed r = absurd r
+refused_why least bound read written held left_now e PumpFault.WriteFailed r = absurd r
+refused_why least bound read written held left_now e PumpFault.Ended r = absurd r
+refused_why least bound read written held left_now e PumpFault.TurnsSpent r = absurd r
+refused_why least bound read written held left_now e (PumpFault.Core why) r = r
+refused_why least bound read written held left_now e PumpFault.Memory r = tt
 
 -- nothing is lost
 pub none_lost : {F : Type 0} (f : PumpFault F) → IsLost f []
-none_lost fault.ReadFailed = refl
-none_lost fault.WriteFailed = refl
-none_lost fault.Ended = refl
-none_lost fault.TurnsSpent = refl
-none_lost (fault.Core why) = refl
-none_lost fault.Memory = tt
+none_lost PumpFault.ReadFailed = refl
+none_lost PumpFault.WriteFailed = refl
+none_lost PumpFault.Ended = refl
+none_lost PumpFault.TurnsSpent = refl
+none_lost (PumpFault.Core why) = refl
+none_lost PumpFault.Memory = tt
 
 -- ---- how many lines were read
 
@@ -141,12 +128,12 @@ stops_sending a b f least bound calls calls_now left taken h r most = unread_wit
 
 push_why : (least bound read held n m : ℕ) (left_now : Option (List ℕ)) (e : ClientEnd) (f : PumpFault ClientFault) → m ≡ n
     → IsPushFault bound n f → Rattle.link_world.specs.Pumps.ClientWhy least bound read m held left_now e f
-push_why least bound read held n m left_now e fault.ReadFailed same r = absurd r
-push_why least bound read held n m left_now e fault.WriteFailed same r = tt
-push_why least bound read held n m left_now e fault.Ended same r = absurd r
-push_why least bound read held n m left_now e fault.TurnsSpent same r = omega (arith, r, same)
-push_why least bound read held n m left_now e (fault.Core why) same r = absurd r
-push_why least bound read held n m left_now e fault.Memory same r = absurd r
+push_why least bound read held n m left_now e PumpFault.ReadFailed same r = absurd r
+push_why least bound read held n m left_now e PumpFault.WriteFailed same r = tt
+push_why least bound read held n m left_now e PumpFault.Ended same r = absurd r
+push_why least bound read held n m left_now e PumpFault.TurnsSpent same r = omega (arith, r, same)
+push_why least bound read held n m left_now e (PumpFault.Core why) same r = absurd r
+push_why least bound read held n m left_now e PumpFault.Memory same r = absurd r
 
 -- while what it has written goes out
 pub stops_writing : (a b : ClientEnd) (f : PumpFault ClientFault) (least bound calls calls_now : ℕ)
@@ -239,12 +226,12 @@ pull_lost f now left_now r = none_lost f
 
 pub pull_why : {F : Type 0} (least budget now count m : ℕ) (left_now : Option (List ℕ)) (f : PumpFault F) → budget ≤ now + m → count ≡ m
     → count < least → IsPullFault now left_now f → IsTakeFault least budget m left_now f
-pull_why least budget now count m left_now fault.ReadFailed most is few r = tt
-pull_why least budget now count m left_now fault.WriteFailed most is few r = absurd r
-pull_why least budget now count m left_now fault.Ended most is few r = (omega (arith, is, few), r)
-pull_why least budget now count m left_now fault.TurnsSpent most is few r = omega (arith, most, r)
-pull_why least budget now count m left_now (fault.Core why) most is few r = absurd r
-pull_why least budget now count m left_now fault.Memory most is few r = absurd r
+pull_why least budget now count m left_now PumpFault.ReadFailed most is few r = tt
+pull_why least budget now count m left_now PumpFault.WriteFailed most is few r = absurd r
+pull_why least budget now count m left_now PumpFault.Ended most is few r = (omega (arith, is, few), r)
+pull_why least budget now count m left_now PumpFault.TurnsSpent most is few r = omega (arith, most, r)
+pull_why least budget now count m left_now (PumpFault.Core why) most is few r = absurd r
+pull_why least budget now count m left_now PumpFault.Memory most is few r = absurd r
 
 -- no piece was pulled
 pub pulls_none : (a b : ClientEnd) (left mid left_now : Option (List ℕ)) (least budget now count : ℕ) (f : PumpFault ClientFault)
@@ -268,11 +255,11 @@ may_stay e false faulted may is = false≢true may
 pub feeds_none : (a b c : ClientEnd) (left mid left_now : Option (List ℕ)) (least budget now count : ℕ) (bytes : List ℕ) (why : ClientFault)
     → Came a b left mid budget now count → Consumes mid left_now bytes → may_read a.client ≡ true → c ≡ b
     → IsRefused (may_read b.client) b why → CameShort least a c left left_now budget (of_client why)
-feeds_none a b c left mid left_now least budget now count bytes client_fault.NotNow h consumed may same r =
+feeds_none a b c left mid left_now least budget now count bytes ClientFault.NotNow h consumed may same r =
     absurd (false≢true (sym r.1 ∙ (ap (λ (e : ClientEnd). may_read e.client) h.fed ∙ may)))
-feeds_none a b c left mid left_now least budget now count bytes (client_fault.Faulted cause) h consumed may same r =
+feeds_none a b c left mid left_now least budget now count bytes (ClientFault.Faulted cause) h consumed may same r =
     absurd (may_stay b b.client.on (is_faulted b.client.state) (ap (λ (e : ClientEnd). may_read e.client) h.fed ∙ may) r.0)
-feeds_none a b c left mid left_now least budget now count bytes client_fault.Memory h consumed may same r = record {
+feeds_none a b c left mid left_now least budget now count bytes ClientFault.Memory h consumed may same r = record {
   read = h.read;
   lost = bytes;
   fed = same ∙ h.fed;
@@ -362,8 +349,8 @@ lines_end b c none fine same = go (next_of b.input.rest) refl
         }) e in
         record { same = unchanged; none = ap (λ (x : ClientEnd). next_of x.input.rest) unchanged ∙ e }
     go (Ok (Some found)) e = absurd (none (subst IsLineDue (sym e) refl))
-    go (Err framing.LineTooLong) e = absurd (false≢true (sym (met (Err framing.LineTooLong) e)))
-    go (Err framing.BadByte) e = absurd (false≢true (sym (met (Err framing.BadByte) e)))
+    go (Err FramingFault.LineTooLong) e = absurd (false≢true (sym (met (Err FramingFault.LineTooLong) e)))
+    go (Err FramingFault.BadByte) e = absurd (false≢true (sym (met (Err FramingFault.BadByte) e)))
 
 -- no more lines are read
 pub record LinesStop (a c : ClientEnd) (budget now held : ℕ) (f : PumpFault ClientFault) : Type 0 where
@@ -385,20 +372,20 @@ off_reads e off = ap (λ (b : Bool). b && not (is_faulted e.client.state)) off
 
 pub read_stops : (a b c : ClientEnd) (why : ClientFault) (budget now then held : ℕ) → ReadsOn budget now a b
     → then + next_lines (next_of b.input.rest) ≤ now → IsReadRefused b c why
-    → (why ≢ client_fault.Memory → may_read b.client ≡ true → c ≡ end_read b)
+    → (why ≢ ClientFault.Memory → may_read b.client ≡ true → c ≡ end_read b)
     → (may_read b.client ≡ false → c ≡ b) → LinesStop a c budget then held (of_client why)
-read_stops a b c client_fault.NotNow budget now then held h step r is before = record {
+read_stops a b c ClientFault.NotNow budget now then held h step r is before = record {
   goes = stays a b c budget now then h (omega (arith, step)) r.0;
   why = (
     subst (λ (e : ClientEnd). is_faulted e.client.state ≡ false) (sym r.0) r.2,
     subst (λ (e : ClientEnd). may_read e.client ≡ false) (sym r.0) (off_reads b r.1),
   );
 }
-read_stops a b c (client_fault.Faulted cause) budget now then held h step r is before =
+read_stops a b c (ClientFault.Faulted cause) budget now then held h step r is before =
     record { goes = go (may_read b.client) refl; why = (r.0, r.1) }
   where
     met : may_read b.client ≡ true → c ≡ end_read b
-    met = is (λ (e : client_fault.Faulted cause ≡ client_fault.Memory). cc)
+    met = is (λ (e : ClientFault.Faulted cause ≡ ClientFault.Memory). cc)
 
     front : (f : Front) → next_of b.input.rest ≡ f → may_read b.client ≡ true → ReadsOn budget then a c
     front (Ok None) e may =
@@ -415,11 +402,11 @@ read_stops a b c (client_fault.Faulted cause) budget now then held h step r is b
     go : (m : Bool) → may_read b.client ≡ m → ReadsOn budget then a c
     go true may = front (next_of b.input.rest) refl may
     go false never = stays a b c budget now then h (omega (arith, step)) (before never)
-read_stops a b c client_fault.Memory budget now then held h step r is before =
+read_stops a b c ClientFault.Memory budget now then held h step r is before =
     record { goes = stays a b c budget now then h (omega (arith, step)) r; why = tt }
 
 pub lines_spent : (a b : ClientEnd) (budget now : ℕ) → LinesRead a b budget now → now ≡ 0
-    → LinesStop a b budget now (length a.input.rest) fault.TurnsSpent
+    → LinesStop a b budget now (length a.input.rest) PumpFault.TurnsSpent
 lines_spent a b budget now h none = let counted = h.counted in record { goes = h.goes; why = omega (arith, counted, none) }
 
 -- ---- the whole turn
@@ -444,19 +431,19 @@ stops_asking a b c why least bound calls calls_now mid count left taken taken_no
     }) refl most
   where
     refused : (why : ClientFault) → IsRefused (may_read b.client) b why → HasRefused b (of_client why)
-    refused client_fault.NotNow r = r
-    refused (client_fault.Faulted cause) r = r
-    refused client_fault.Memory r = tt
+    refused ClientFault.NotNow r = r
+    refused (ClientFault.Faulted cause) r = r
+    refused ClientFault.Memory r = tt
 
 take_why : (least bound mid read written held : ℕ) (left_now : Option (List ℕ)) (e : ClientEnd) (f : PumpFault ClientFault)
     → bound ≤ mid + written → IsTakeFault least mid read left_now f
     → Rattle.link_world.specs.Pumps.ClientWhy least bound read written held left_now e f
-take_why least bound mid read written held left_now e fault.ReadFailed most r = tt
-take_why least bound mid read written held left_now e fault.WriteFailed most r = absurd r
-take_why least bound mid read written held left_now e fault.Ended most r = r
-take_why least bound mid read written held left_now e fault.TurnsSpent most r = omega (arith, most, r)
-take_why least bound mid read written held left_now e (fault.Core why) most r = absurd r
-take_why least bound mid read written held left_now e fault.Memory most r = tt
+take_why least bound mid read written held left_now e PumpFault.ReadFailed most r = tt
+take_why least bound mid read written held left_now e PumpFault.WriteFailed most r = absurd r
+take_why least bound mid read written held left_now e PumpFault.Ended most r = r
+take_why least bound mid read written held left_now e PumpFault.TurnsSpent most r = omega (arith, most, r)
+take_why least bound mid read written held left_now e (PumpFault.Core why) most r = absurd r
+take_why least bound mid read written held left_now e PumpFault.Memory most r = tt
 
 pub stops_taking : (a b c d : ClientEnd) (f : PumpFault ClientFault) (least bound calls calls_now mid count : ℕ)
     (left left_now taken taken_now : Option (List ℕ)) → AllOut a b taken taken_now bound mid count → may_read b.client ≡ true
@@ -484,12 +471,12 @@ longer (Some f) rest bytes = omega arith
 read_why : (least bound mid late read written held now : ℕ) (left_now : Option (List ℕ)) (e : ClientEnd) (f : PumpFault ClientFault)
     → bound ≤ mid + written → mid ≤ late + read → now ≤ held + read → IsReadFault late now e f
     → Rattle.link_world.specs.Pumps.ClientWhy least bound read written held left_now e f
-read_why least bound mid late read written held now left_now e fault.ReadFailed out come few r = absurd r
-read_why least bound mid late read written held now left_now e fault.WriteFailed out come few r = absurd r
-read_why least bound mid late read written held now left_now e fault.Ended out come few r = absurd r
-read_why least bound mid late read written held now left_now e fault.TurnsSpent out come few r = omega (arith, out, come, few, r)
-read_why least bound mid late read written held now left_now e (fault.Core why) out come few r = r
-read_why least bound mid late read written held now left_now e fault.Memory out come few r = tt
+read_why least bound mid late read written held now left_now e PumpFault.ReadFailed out come few r = absurd r
+read_why least bound mid late read written held now left_now e PumpFault.WriteFailed out come few r = absurd r
+read_why least bound mid late read written held now left_now e PumpFault.Ended out come few r = absurd r
+read_why least bound mid late read written held now left_now e PumpFault.TurnsSpent out come few r = omega (arith, out, come, few, r)
+read_why least bound mid late read written held now left_now e (PumpFault.Core why) out come few r = r
+read_why least bound mid late read written held now left_now e PumpFault.Memory out come few r = tt
 
 -- as many bytes have come as were asked for, and it reads
 has_come : (a b c d : ClientEnd) (least bound mid late count come : ℕ) (left left_now taken taken_now : Option (List ℕ))

@@ -1,25 +1,12 @@
 -- What the client reads in a world, and the bytes that come to it.
-use Rattle.std.proofs.Common.{◌≡◌, ◌≢◌, ℕ, Bool, true, false, not, ◌&&◌, List, refl, sym, ◌∙◌, ap, subst, Some, None, Ok, Err}
-use Rattle.std.proofs.lemmas.Bool.{false≢true, and_parts, and_from}
-use Rattle.line_framing.specs.Next.{Front, next_of}
-use Rattle.line_framing.specs.Framing.{IsLineDue, left_by}
-use Rattle.line_framing.specs.declared.faults.FramingFault.{FramingFault}
-use Rattle.protocol_model.specs.Ends.{ClientEnd, end_read, front_read}
-use Rattle.protocol_model.specs.World.{World, Link, no_link, link_of, with_link, client_link, is_any, has_some, can, happens, moved_down}
+use Rattle.link_world.proofs.Names.{◌&&◌, ◌∙◌, ◌≡◌, ◌≢◌, and_from, and_parts, ap, Bool, can, client_link, ClientEnd, ClientFault, Connection}
+use Rattle.link_world.proofs.Names.{end_read, Err, Event, false, false≢true, FramingFault, Front, front_read, happens, has_some, IsCarried, IsLineDue}
+use Rattle.link_world.proofs.Names.{IsReached, IsReadRefused, left_by, Link, link_of, List, may_read, moved_down, next_of, no_link, None, not, Ok}
+use Rattle.link_world.proofs.Names.{refl, refused_by, seen, ServerValue, Some, State, subst, sym, true, with_link, World, WorldFault, ℕ}
+use Rattle.protocol_model.specs.World.{is_any}
 use Rattle.protocol_model.specs.World as world
-use Rattle.protocol_model.specs.declared.events.Event.TheVariants as event
-use Rattle.protocol_model.specs.declared.states.State.{State}
-use Rattle.protocol_model.proofs.whole_run.Carrying.{IsCarried}
 use Rattle.protocol_model.proofs.written_lines.LineTaking.{no_reply_fault}
-use Rattle.client_core.specs.Clients.{is_faulted, may_read}
-use Rattle.client_core.specs.Refusals.{IsReadRefused}
-use Rattle.client_core.specs.declared.faults.ClientFault.{ClientFault}
-use Rattle.client_core.specs.declared.faults.ClientFault.TheVariants as client_fault
-use Rattle.server_core.specs.Serving.{ServerValue}
-use Rattle.link_world.specs.declared.worlds.connection.Connection.{Connection}
-use Rattle.link_world.specs.declared.worlds.faults.WorldFault.TheVariants as world_fault
-use Rattle.link_world.specs.Claims.{refused_by}
-use Rattle.link_world.specs.Links.{seen, IsReached}
+use Rattle.client_core.specs.Clients.{is_faulted}
 use Rattle.link_world.proofs.Reached.{carried, reached_more}
 use Rattle.link_world.proofs.ClientSteps.{never_faulted_now}
 use Rattle.link_world.proofs.ClientWriting.{awake}
@@ -62,7 +49,7 @@ pub read_reached : (client after : ClientEnd) (server : ServerValue) (cs : List 
     → reads_any client ≡ true → (after ≡ end_read client)
     → IsReached (seen after server cs written)
 read_reached client after server cs written h may is =
-    reached_more (seen client server cs written) (seen after server cs written) event.ClientReads h may
+    reached_more (seen client server cs written) (seen after server cs written) Event.ClientReads h may
     (ap (λ (e : ClientEnd). seen e server cs written) (is))
 
 -- no line is there
@@ -102,7 +89,7 @@ nothing_read client after server cs written h may none is = go (next_of client.i
 -- a call that is refused found no line, or no memory
 pub record NotRead (client after : ClientEnd) (fault : ClientFault) : Type 0 where
   pub same : after ≡ client
-  pub none : refused_by fault ≡ world_fault.NotNow → reads_any client ≡ false
+  pub none : refused_by fault ≡ WorldFault.NotNow → reads_any client ≡ false
 
 pub off_reads : (e : ClientEnd) → e.client.on ≡ false → reads_any e ≡ false
 off_reads e off = ap (λ (b : Bool). b && (not (world.is_faulted e.client.state) && is_any (next_of e.input.rest))) off
@@ -131,12 +118,12 @@ never_met client after server cs written h met is before = go (may_read client.c
 
 pub not_read : (client after : ClientEnd) (server : ServerValue) (cs : List Connection) (written : List ℕ) (fault : ClientFault)
     → IsReached (seen client server cs written)
-    → IsReadRefused client after fault → (fault ≢ client_fault.Memory → may_read client.client ≡ true → after ≡ end_read client)
+    → IsReadRefused client after fault → (fault ≢ ClientFault.Memory → may_read client.client ≡ true → after ≡ end_read client)
     → (may_read client.client ≡ false → after ≡ client) → NotRead client after fault
-not_read client after server cs written client_fault.NotNow h r is before = record { same = r.0; none = λ e. off_reads client r.1 }
-not_read client after server cs written (client_fault.Faulted cause) h r is before =
-    absurd (never_met client after server cs written h r.0 (is (λ (e : client_fault.Faulted cause ≡ client_fault.Memory). cc)) before)
-not_read client after server cs written client_fault.Memory h r is before = record { same = r; none = λ e. absurd (cc) }
+not_read client after server cs written ClientFault.NotNow h r is before = record { same = r.0; none = λ e. off_reads client r.1 }
+not_read client after server cs written (ClientFault.Faulted cause) h r is before =
+    absurd (never_met client after server cs written h r.0 (is (λ (e : ClientFault.Faulted cause ≡ ClientFault.Memory). cc)) before)
+not_read client after server cs written ClientFault.Memory h r is before = record { same = r; none = λ e. absurd (cc) }
 
 pub no_line : (client : ClientEnd) (server : ServerValue) (cs : List Connection) (written : List ℕ)
     → IsReached (seen client server cs written)
@@ -156,7 +143,7 @@ line_can client server cs written h on due =
     (ap not (awake client server cs written h))) (any_line (next_of client.input.rest) due))
 
 -- memory runs out only for a line that is there
-pub wanted_for : (fault : ClientFault) → refused_by fault ≡ world_fault.Memory → fault ≡ client_fault.Memory
-wanted_for client_fault.NotNow e = absurd (cc)
-wanted_for (client_fault.Faulted cause) e = absurd (cc)
-wanted_for client_fault.Memory e = refl
+pub wanted_for : (fault : ClientFault) → refused_by fault ≡ WorldFault.Memory → fault ≡ ClientFault.Memory
+wanted_for ClientFault.NotNow e = absurd (cc)
+wanted_for (ClientFault.Faulted cause) e = absurd (cc)
+wanted_for ClientFault.Memory e = refl

@@ -1,27 +1,12 @@
 -- A client's turns one after another: what comes in and goes out in all of them.
-use Rattle.std.proofs.Common.{◌≡◌, inl, inr, ℕ, ◌+◌, ◌<◌, ◌≤◌, Bool, true, false, List, [], ◌∷◌, ◌++◌, length, refl, sym, ◌∙◌, ap, subst, arith}
-use Rattle.std.proofs.lemmas.Bool.{false≢true}
-use Rattle.std.proofs.Common.{append_assoc, append-nil, length-append, Option, Some, None, Ok, Err}
-use Rattle.std.specs.Io.KnownBytes.{Appends, Consumes}
-use Rattle.std.proofs.KnownBytes.{Consumes-nil, Consumes-trans, Appends-nil, Appends-trans}
-use Rattle.line_framing.specs.Next.{Front, next_of}
-use Rattle.line_framing.specs.Framing.{Framing, left_by}
-use Rattle.protocol_model.specs.Ends.{ClientEnd, end_left}
-use Rattle.client_core.specs.Refusals.{IsSendRefused}
-use Rattle.client_core.specs.declared.faults.ClientFault.{ClientFault}
-use Rattle.client_core.specs.declared.faults.ClientFault.TheVariants as client_fault
-use Rattle.protocol_model.specs.Ends.{end_aborted}
-use Rattle.link_world.specs.declared.connections.pumps.Moved.{Moved}
-use Rattle.link_world.specs.declared.connections.pumps.PumpFault.{PumpFault}
-use Rattle.link_world.specs.declared.connections.pumps.PumpFault.TheVariants as fault
-use Rattle.link_world.specs.Pumps.{Stage, Sending, Writing, Taking, Reading, Working, ClientTurn, begins, sends, writes, takes, has, reads}
-use Rattle.link_world.specs.Pumps.{ClientMoved, ClientStopped, ClientWhy, IsLost}
-use Rattle.link_world.specs.Pumps.{HasRefused, of_client}
-use Rattle.link_world.specs.LinkRuns.{turns_most, steps_most, is_over, ClientRun, ClientRan, ClientEnds, ClientRunStopped, ClientRunWhy}
-use Rattle.link_world.specs.LinkRuns.{Phase, Fresh, Out, Steered}
-use Rattle.link_world.specs.Courses.{has_stopped, Says, steered, course_of, Asks, AbortRefused, StopRefused}
-use Rattle.link_world.specs.declared.connections.steering.Course.{Course}
-use Rattle.link_world.specs.declared.connections.steering.Course.TheVariants as course
+use Rattle.link_world.proofs.Names.{[], ◌++◌, ◌+◌, ◌<◌, ◌∙◌, ◌∷◌, ◌≡◌, ◌≤◌, AbortRefused, ap, append-nil, append_assoc, Appends, Appends-nil}
+use Rattle.link_world.proofs.Names.{Appends-trans, arith, Asks, Bool, ClientEnd, ClientEnds, ClientFault, ClientMoved, ClientRan, ClientRun}
+use Rattle.link_world.proofs.Names.{ClientRunStopped, ClientRunWhy, ClientStopped, ClientTurn, ClientWhy, Consumes, Consumes-nil, Consumes-trans}
+use Rattle.link_world.proofs.Names.{Course, course_of, end_aborted, end_left, Err, false, false≢true, Framing, Fresh, Front, has_stopped, HasRefused}
+use Rattle.link_world.proofs.Names.{inl, inr, is_over, IsLost, IsSendRefused, left_by, length, length-append, List, Moved, next_of, None, of_client}
+use Rattle.link_world.proofs.Names.{Ok, Option, Out, Phase, PumpFault, Reading, refl, Says, Sending, sends, Some, Stage, Steered, steered, steps_most}
+use Rattle.link_world.proofs.Names.{StopRefused, subst, sym, Taking, true, turns_most, Working, Writing, ℕ}
+use Rattle.link_world.specs.Pumps.{begins, has, reads, takes, writes}
 use Rattle.link_world.proofs.Courses.{stopped_now, says_none, says_more, steered_input}
 use Rattle.link_world.specs.LinkRuns as run
 use Rattle.link_world.proofs.ClientPumps.{longer, two_less}
@@ -213,12 +198,12 @@ client_ran phase turns stopped old new left left_now taken taken_now can can_now
 why_of_run : (least read written held r w held_now : ℕ) (left_now : Option (List ℕ)) (e : ClientEnd) (f : PumpFault ClientFault)
     → held_now ≤ held + read → ClientWhy least steps_most r w held_now left_now e f
     → ClientRunWhy (read + r) (written + w) held left_now e f
-why_of_run least read written held r w held_now left_now e fault.ReadFailed most why = tt
-why_of_run least read written held r w held_now left_now e fault.WriteFailed most why = tt
-why_of_run least read written held r w held_now left_now e fault.Ended most why = why.1
-why_of_run least read written held r w held_now left_now e fault.TurnsSpent most why = omega (arith, most, why)
-why_of_run least read written held r w held_now left_now e (fault.Core cause) most why = why
-why_of_run least read written held r w held_now left_now e fault.Memory most why = tt
+why_of_run least read written held r w held_now left_now e PumpFault.ReadFailed most why = tt
+why_of_run least read written held r w held_now left_now e PumpFault.WriteFailed most why = tt
+why_of_run least read written held r w held_now left_now e PumpFault.Ended most why = why.1
+why_of_run least read written held r w held_now left_now e PumpFault.TurnsSpent most why = omega (arith, most, why)
+why_of_run least read written held r w held_now left_now e (PumpFault.Core cause) most why = why
+why_of_run least read written held r w held_now left_now e PumpFault.Memory most why = tt
 
 -- a turn that stops, in a run that ends so
 stopped_run : (phase : Phase) (turns least : ℕ) (stopped : Bool) (old mid new : ClientEnd)
@@ -276,18 +261,18 @@ client_stops turns stopped stops old mid out asked new left left_mid left_out le
 -- why an abort is refused
 abort_why : (read written held : ℕ) (left_now : Option (List ℕ)) (e last : ClientEnd) (why : ClientFault)
     → IsSendRefused true e last (end_aborted e) why → ClientRunWhy read written held left_now last (of_client why)
-abort_why read written held left_now e last client_fault.NotNow r = absurd (false≢true (sym r.2))
-abort_why read written held left_now e last (client_fault.Faulted cause) (inl r) = absurd (false≢true (sym r.0))
-abort_why read written held left_now e last (client_fault.Faulted cause) (inr r) = (r.2, r.3)
-abort_why read written held left_now e last client_fault.Memory r = tt
+abort_why read written held left_now e last ClientFault.NotNow r = absurd (false≢true (sym r.2))
+abort_why read written held left_now e last (ClientFault.Faulted cause) (inl r) = absurd (false≢true (sym r.0))
+abort_why read written held left_now e last (ClientFault.Faulted cause) (inr r) = (r.2, r.3)
+abort_why read written held left_now e last ClientFault.Memory r = tt
 
 none_lost : {F : Type 0} (f : PumpFault F) → IsLost f []
-none_lost fault.ReadFailed = refl
-none_lost fault.WriteFailed = refl
-none_lost fault.Ended = refl
-none_lost fault.TurnsSpent = refl
-none_lost (fault.Core why) = refl
-none_lost fault.Memory = tt
+none_lost PumpFault.ReadFailed = refl
+none_lost PumpFault.WriteFailed = refl
+none_lost PumpFault.Ended = refl
+none_lost PumpFault.TurnsSpent = refl
+none_lost (PumpFault.Core why) = refl
+none_lost PumpFault.Memory = tt
 
 pub client_refuses : (turns : ℕ) (stopped : Bool) (old mid out new : ClientEnd)
     (left left_mid left_now taken taken_mid taken_now : Option (List ℕ)) (by_out : Moved)
@@ -299,7 +284,7 @@ client_refuses turns stopped old mid out new left left_mid left_now taken taken_
     still few s =
     let k : ClientSoFar Out turns stopped old out left left_now taken taken_now can can_mid =
     client_gives turns stopped old mid out left left_mid left_now taken taken_mid taken_now by_out can can_mid h going gives in record {
-      said = k.said ++ course.Stop ∷ [];
+      said = k.said ++ Course.Stop ∷ [];
       read = k.read;
       written = k.written;
       lost = [];
@@ -312,13 +297,13 @@ client_refuses turns stopped old mid out new left left_mid left_now taken taken_
       why = subst (λ (x : PumpFault ClientFault). ClientRunWhy (length k.read) (length k.written) (length old.input.rest) left_now s.abort.last x)
           (sym s.abort.named)
           (abort_why (length k.read) (length k.written) (length old.input.rest) left_now out s.abort.last s.abort.why s.abort.refused);
-      says = says_more can can_mid can_now k.said (course.Stop ∷ []) k.says s.says;
+      says = says_more can can_mid can_now k.said (Course.Stop ∷ []) k.says s.says;
     }
 
 pub client_spends : (turns : ℕ) (stopped : Bool) (old last new : ClientEnd) (left left_now taken taken_now : Option (List ℕ))
     (can can_now : List Course → Bool) → ClientSoFar Fresh turns stopped old last left left_now taken taken_now can can_now
     → is_over last.client.state ≡ false → turns ≡ turns_most → new ≡ end_left last
-    → ClientRunStopped old new left left_now taken taken_now can can_now fault.TurnsSpent
+    → ClientRunStopped old new left left_now taken taken_now can can_now PumpFault.TurnsSpent
 client_spends turns stopped old last new left left_now taken taken_now can can_now h going all is = record {
   said = h.said;
   read = h.read;

@@ -1,23 +1,10 @@
 -- What the client's events make of a world.
-use Rattle.std.proofs.Common.{◌≡◌, ℕ, suc, ◌+◌, ◌≤◌, ◌<◌, Bool, true, false, ◌&&◌, nat_lt, nat_le, List, [], ◌∷◌, ◌++◌, length, refl, sym}
-use Rattle.std.proofs.Common.{◌∙◌, ap, subst, arith}
-use Rattle.std.proofs.lemmas.Bool.{false≢true, and_parts, and_from, ltb-true, lt-ltb, le-leb, leb-true}
-use Rattle.contact_ledger.specs.Ledgers.{connection_most}
-use Rattle.protocol_model.specs.Client.{is_apart, may_resume}
-use Rattle.protocol_model.specs.Ends.{ClientEnd, end_connected, end_resumed, end_left, end_restarted}
-use Rattle.protocol_model.specs.World.{World, Link, no_link, can, happens, connected}
-use Rattle.protocol_model.specs.declared.events.Event.{Event}
-use Rattle.protocol_model.specs.declared.events.Event.TheVariants as event
-use Rattle.protocol_model.specs.declared.states.State.{State}
-use Rattle.client_core.specs.Clients.{is_faulted, may_connect}
-use Rattle.client_core.specs.Refusals.{IsRefused}
-use Rattle.client_core.specs.declared.faults.ClientFault.{ClientFault}
-use Rattle.client_core.specs.declared.faults.ClientFault.TheVariants as client_fault
-use Rattle.server_core.specs.Serving.{ServerValue}
-use Rattle.link_world.specs.declared.worlds.connection.Connection.{Connection}
-use Rattle.link_world.specs.declared.worlds.faults.WorldFault.TheVariants as world_fault
-use Rattle.link_world.specs.Claims.{refused_by}
-use Rattle.link_world.specs.Links.{WorldValue, link_of_connection, links_of, seen, with_world, IsReached}
+use Rattle.link_world.proofs.Names.{[], ◌&&◌, ◌++◌, ◌+◌, ◌<◌, ◌∙◌, ◌∷◌, ◌≡◌, ◌≤◌, and_from, and_parts, ap, arith, Bool, can, ClientEnd, ClientFault}
+use Rattle.link_world.proofs.Names.{connected, Connection, connection_most, end_connected, end_left, end_restarted, end_resumed, Event, false}
+use Rattle.link_world.proofs.Names.{false≢true, happens, is_apart, IsReached, IsRefused, le-leb, leb-true, length, Link, link_of_connection, links_of}
+use Rattle.link_world.proofs.Names.{List, lt-ltb, ltb-true, may_connect, may_resume, nat_le, nat_lt, no_link, refl, refused_by, seen, ServerValue}
+use Rattle.link_world.proofs.Names.{State, subst, suc, sym, true, with_world, World, WorldFault, WorldValue, ℕ}
+use Rattle.client_core.specs.Clients.{is_faulted}
 use Rattle.link_world.proofs.Linking.{links_more}
 use Rattle.link_world.proofs.Reached.{reached_more, made, headline}
 
@@ -39,10 +26,10 @@ never_faulted_now client server cs written h e = (headline (seen client server c
 pub refused_now : (client : ClientEnd) (server : ServerValue) (cs : List Connection) (written : List ℕ) (can_call : Bool)
     (fault : ClientFault)
     → IsReached (seen client server cs written)
-    → IsRefused can_call client fault → refused_by fault ≡ world_fault.NotNow → can_call ≡ false
-refused_now client server cs written can_call client_fault.NotNow h r e = r.1
-refused_now client server cs written can_call (client_fault.Faulted cause) h r e = absurd (never_faulted_now client server cs written h r.0)
-refused_now client server cs written can_call client_fault.Memory h r e = absurd (cc)
+    → IsRefused can_call client fault → refused_by fault ≡ WorldFault.NotNow → can_call ≡ false
+refused_now client server cs written can_call ClientFault.NotNow h r e = r.1
+refused_now client server cs written can_call (ClientFault.Faulted cause) h r e = absurd (never_faulted_now client server cs written h r.0)
+refused_now client server cs written can_call ClientFault.Memory h r e = absurd (cc)
 
 -- ---- the next connection
 
@@ -82,11 +69,11 @@ connect_seen client after server cs ds written now c number h is n d up down non
 
 pub connect_reached : (client after : ClientEnd) (server : ServerValue) (cs ds : List Connection) (written now : List ℕ) (c : Connection)
     (number : ℕ)
-    → IsReached (seen client server cs written) → can event.Connect (seen client server cs written).world ≡ true
+    → IsReached (seen client server cs written) → can Event.Connect (seen client server cs written).world ≡ true
     → after ≡ end_connected number client → number ≡ length cs + 1 → ds ≡ cs ++ c ∷ [] → c.up.waiting ≡ [] → c.down.waiting ≡ [] → now ≡ []
     → IsReached (seen after server ds now)
 connect_reached client after server cs ds written now c number h may is n d up down none =
-    reached_more (seen client server cs written) (seen after server ds now) event.Connect h may
+    reached_more (seen client server cs written) (seen after server ds now) Event.Connect h may
     (connect_seen client after server cs ds written now c number h is n d up down none)
 
 pub connect_is : (l : WorldValue) (client after : ClientEnd) (server : ServerValue) (cs ds : List Connection) (written now : List ℕ)
@@ -150,14 +137,14 @@ pub resume_reached : (client after : ClientEnd) (server : ServerValue) (cs : Lis
     → IsReached (seen client server cs written) → may_resume client.client client.client.state ≡ true
     → after ≡ end_resumed client → IsReached (seen after server cs written)
 resume_reached client after server cs written h may is =
-    alone client after server cs written event.Resume h may (ap
+    alone client after server cs written Event.Resume h may (ap
     (λ (e : ClientEnd). record (seen client server cs written).world { client = e }) is)
 
 pub left_reached : (client after : ClientEnd) (server : ServerValue) (cs : List Connection) (written : List ℕ)
     → IsReached (seen client server cs written) → client.client.on ≡ true
     → after ≡ end_left client → IsReached (seen after server cs written)
 left_reached client after server cs written h may is =
-    alone client after server cs written event.ClientLeaves h may
+    alone client after server cs written Event.ClientLeaves h may
     (ap (λ (e : ClientEnd). record (seen client server cs written).world { client = e }) is)
 
 pub restart_can : (count : ℕ) (client : ClientEnd) → count ≤ length client.client.table.tally.features
@@ -176,5 +163,5 @@ pub restart_reached : (count : ℕ) (client after : ClientEnd) (server : ServerV
     → IsReached (seen client server cs written)
     → count ≤ length client.client.table.tally.features → after ≡ end_restarted count client → IsReached (seen after server cs written)
 restart_reached count client after server cs written h le is =
-    alone client after server cs written (event.ClientRestart count) h (restart_can count client le)
+    alone client after server cs written (Event.ClientRestart count) h (restart_can count client le)
     (ap (λ (e : ClientEnd). record (seen client server cs written).world { client = e }) is)

@@ -1,17 +1,10 @@
 -- What the client writes in a world joins the bytes of its connection.
-use Rattle.std.proofs.Common.{◌≡◌, ◌≢◌, ℕ, ◌-◌, ◌≤◌, ◌<◌, Bool, true, false, is_some, List, ◌++◌, length, slice_index_or, slice_set, refl}
-use Rattle.std.proofs.Common.{sym, ◌∙◌, ap, arith}
-use Rattle.protocol_model.specs.Client.{due, may_abort}
-use Rattle.protocol_model.specs.Ends.{ClientEnd, end_sent, end_aborted}
-use Rattle.protocol_model.specs.World.{Link, link_of, with_link, client_writes}
-use Rattle.protocol_model.specs.declared.events.Event.TheVariants as event
-use Rattle.protocol_model.specs.declared.states.State.{State}
-use Rattle.protocol_model.proofs.whole_run.Carrying.{lined, IsCarried}
-use Rattle.protocol_model.proofs.whole_run.CarryingClient.{due_on, abort_on}
+use Rattle.link_world.proofs.Names.{◌++◌, ◌-◌, ◌<◌, ◌∙◌, ◌≡◌, ◌≢◌, ◌≤◌, ap, arith, Bool, client_writes, ClientEnd, Connection, due, end_aborted}
+use Rattle.link_world.proofs.Names.{end_sent, Event, false, is_some, IsCarried, IsReached, length, lined, Link, link_of, link_of_connection, links_of}
+use Rattle.link_world.proofs.Names.{List, may_abort, quiet_client, refl, seen, ServerValue, slice_index_or, slice_set, State, sym, true, with_link}
+use Rattle.link_world.proofs.Names.{with_up, with_world, WorldValue, ℕ}
+use Rattle.protocol_model.proofs.whole_run.CarryingClient.{abort_on, due_on}
 use Rattle.client_core.specs.Clients.{is_faulted}
-use Rattle.server_core.specs.Serving.{ServerValue}
-use Rattle.link_world.specs.declared.worlds.connection.Connection.{Connection}
-use Rattle.link_world.specs.Links.{WorldValue, link_of_connection, links_of, quiet_client, with_up, seen, with_world, IsReached}
 use Rattle.link_world.proofs.Linking.{links_same, link_put}
 use Rattle.link_world.proofs.Reached.{carried, made, headline, never_faulted_behind}
 
@@ -61,13 +54,13 @@ awake client server cs written h = awake_state client.client.state (headline (se
 pub send_fine : (client : ClientEnd) (server : ServerValue) (cs : List Connection) (written : List ℕ)
     → IsReached (seen client server cs written) → is_some (due client.client) ≡ true → is_faulted (end_sent client).client.state ≡ false
 send_fine client server cs written h may = awake_state (end_sent client).client.state
-    (never_faulted_behind (seen client server cs written) event.ClientSends h may)
+    (never_faulted_behind (seen client server cs written) Event.ClientSends h may)
 
 pub abort_fine : (client : ClientEnd) (server : ServerValue) (cs : List Connection) (written : List ℕ)
     → IsReached (seen client server cs written) → may_abort client.client.state ≡ true
     → is_faulted (end_aborted client).client.state ≡ false
 abort_fine client server cs written h may = awake_state (end_aborted client).client.state
-    (never_faulted_behind (seen client server cs written) event.Abort h may)
+    (never_faulted_behind (seen client server cs written) Event.Abort h may)
 
 -- ---- what is written
 

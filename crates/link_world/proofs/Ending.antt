@@ -1,21 +1,8 @@
 -- What is left of a program, brought to its end.
-use Rattle.std.specs.Prelude.{◌↔◌, OnOk, IfOk}
-use Rattle.std.specs.Result.{IsErrOf}
-use Rattle.std.proofs.Common.{rules, Result, Ok, Err, ◌≡◌, inl, inr, ℕ, ◌≤◌, Bool, true, false, List, [], length, refl, sym, ◌∙◌, ap, subst, Option, None, is_some}
-use Rattle.protocol_model.specs.Client.{due}
-use Rattle.protocol_model.specs.Finishing.{CanFinish, CanMeasure, HasMeasured, rejoining, rejoined, plan_left}
-use Rattle.protocol_model.specs.World.{World, run_of}
-use Rattle.protocol_model.specs.declared.events.Event.{Event}
-use Rattle.protocol_model.specs.declared.machine.Job.{Job}
-use Rattle.protocol_model.specs.declared.machine.Outcome.{Outcome}
-use Rattle.protocol_model.specs.declared.states.State.{State}
-use Rattle.client_core.specs.Always.{FitsState}
-use Rattle.link_world.specs.Finishing.{commands_most, IsSameKind, AreFirstOfJoining, AreTurns, Finishes, Stops, IsFinish}
-use Rattle.link_world.specs.declared.worlds.faults.WorldFault.{WorldFault}
-use Rattle.link_world.specs.declared.worlds.faults.WorldFault.TheVariants as fault
-use Rattle.link_world.specs.Links.{WorldValue, with_world, IsReached}
-use Rattle.link_world.specs.Parts.{Makes, unwatched}
-use Rattle.link_world.specs.Traces.{no_trace}
+use Rattle.link_world.proofs.Names.{[], ◌↔◌, ◌∙◌, ◌≡◌, ◌≤◌, ap, AreFirstOfJoining, AreTurns, Bool, CanFinish, CanMeasure, commands_most, due, Err}
+use Rattle.link_world.proofs.Names.{Event, false, Finishes, FitsState, HasMeasured, IfOk, inl, inr, is_some, IsErrOf, IsFinish, IsReached, IsSameKind}
+use Rattle.link_world.proofs.Names.{Job, length, List, Makes, no_trace, None, Ok, OnOk, Option, Outcome, plan_left, refl, rejoined, rejoining, Result}
+use Rattle.link_world.proofs.Names.{rules, run_of, State, Stops, subst, sym, true, unwatched, with_world, World, WorldFault, WorldValue, ℕ}
 use Rattle.link_world.proofs.EventLists.{run_append, leads_value, leads_world}
 use Rattle.link_world.proofs.Rejoining.{IsJoined, joined_at, joined_due, left_few}
 use Rattle.link_world.proofs.SameKind.{same_run, same_then}
@@ -93,13 +80,13 @@ same_turned are cut told l k m joined h = same_then l k m (same_joined l k joine
 
 -- what holds of each answer holds of all
 pub finish_is : (answer : Job → ℕ → Outcome) (l m : WorldValue) (r : Result ℕ WorldFault) → OnOk r (CanFinish l.world)
-    → (IsErrOf r fault.NotNow ↔ ¬ (CanFinish l.world)) → (IsErrOf r fault.NotNow → m ≡ l)
+    → (IsErrOf r WorldFault.NotNow ↔ ¬ (CanFinish l.world)) → (IsErrOf r WorldFault.NotNow → m ≡ l)
     → IfOk r (λ turns. Finishes answer turns l.world m.world) → IfOk r (λ turns. turns ≤ length (plan_left l.world))
     → OnOk r (CanMeasure answer l.world → m.world.client.client.state ≡ State.Done)
     → OnOk r (CanMeasure answer l.world → HasMeasured answer l.world m.world)
-    → (IsErrOf r fault.Memory → CanFinish l.world × Stops answer l.world m.world) → IsFinish answer l r m
+    → (IsErrOf r WorldFault.Memory → CanFinish l.world × Stops answer l.world m.world) → IsFinish answer l r m
 finish_is answer l m (Ok turns) can not_now unchanged finishes few done measured memory =
     (can, record { finishes = finishes; few = few; done = done; measured = measured })
-finish_is answer l m (Err fault.NotNow) can not_now unchanged finishes few done measured memory =
+finish_is answer l m (Err WorldFault.NotNow) can not_now unchanged finishes few done measured memory =
     (not_now.0 (search rules), unchanged (search rules))
-finish_is answer l m (Err fault.Memory) can not_now unchanged finishes few done measured memory = memory (search rules)
+finish_is answer l m (Err WorldFault.Memory) can not_now unchanged finishes few done measured memory = memory (search rules)

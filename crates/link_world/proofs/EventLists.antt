@@ -1,14 +1,9 @@
 -- Lists of events one after another, and an event that is repeated.
-use Rattle.std.proofs.Common.{◌≡◌, Bool, true, false, ◌||◌, cond, List, [], ◌∷◌, ◌++◌, refl, sym, ◌∙◌, ap, subst}
-use Rattle.std.proofs.Common.{Some, ℕ, append_assoc, append-nil}
-use Rattle.tool_rack.specs.Setups.{SetupValue}
-use Rattle.std.proofs.lemmas.Bool.{false≢true}
-use Rattle.protocol_model.specs.World.{World, can, happens, after, run_of}
-use Rattle.protocol_model.specs.declared.events.Event.{Event}
-use Rattle.link_world.specs.Links.{WorldValue, with_world}
-use Rattle.protocol_model.specs.Rounds.{AreWhile}
-use Rattle.link_world.specs.Parts.{is_any, Makes, Staged, staged, unwatched, Leading}
-use Rattle.link_world.specs.Traces.{TraceValue, TracesAll, Traces, traced, shown, standing}
+use Rattle.link_world.proofs.Names.{[], ◌++◌, ◌||◌, ◌∙◌, ◌∷◌, ◌≡◌, after, ap, append-nil, append_assoc, AreWhile, Bool, can, cond, Event, false}
+use Rattle.link_world.proofs.Names.{false≢true, happens, Leading, List, Makes, refl, run_of, SetupValue, Some, Staged, staged, standing, subst, sym}
+use Rattle.link_world.proofs.Names.{traced, Traces, TracesAll, TraceValue, true, unwatched, with_world, World, WorldValue, ℕ}
+use Rattle.link_world.specs.Parts.{is_any}
+use Rattle.link_world.specs.Traces.{shown}
 use Rattle.link_world.proofs.Undisturbed.{after_can}
 
 -- ---- lists of events

@@ -1,40 +1,10 @@
 -- What an event answers, and what it makes of a world.
-use Rattle.std.proofs.Common.{
-  ◌≡◌,
-  ℕ,
-  ◌-◌,
-  ◌<◌,
-  Bool,
-  true,
-  false,
-  ◌++◌,
-  length,
-  slice_index_or,
-  slice_set,
-  take,
-  List,
-  refl,
-  sym,
-  ◌∙◌,
-  ap,
-  subst,
-}
-use Rattle.std.proofs.Common.{Result, Ok, Err}
-use Rattle.std.specs.Prelude.{OnOk, OnErr, IsErrAnd}
-use Rattle.fixed_um.specs.Calls.{Leads}
-use Rattle.protocol_model.specs.Ends.{ClientEnd, ServerEnd, end_fed, serving_fed}
-use Rattle.protocol_model.specs.World.{World, can, happens, has_some, is_line, client_writes, server_writes, moved_up, moved_down}
-use Rattle.protocol_model.specs.declared.events.Event.{Event}
-use Rattle.protocol_model.specs.declared.events.Event.TheVariants as event
-use Rattle.line_framing.specs.Next.{next_of}
-use Rattle.server_core.specs.Serving.{ServerValue, with_end}
-use Rattle.link_world.specs.declared.worlds.connection.Connection.{Connection}
-use Rattle.link_world.specs.declared.worlds.faults.WorldFault.{WorldFault}
-use Rattle.link_world.specs.declared.worlds.faults.WorldFault.TheVariants as fault
+use Rattle.link_world.proofs.Names.{◌++◌, ◌-◌, ◌<◌, ◌∙◌, ◌≡◌, ap, Bool, can, client_writes, ClientEnd, Connection, end_fed, Err, Event, false}
+use Rattle.link_world.proofs.Names.{fewer_down, fewer_up, happens, HappensIf, HappensIff, has_some, is_line, IsErrAnd, IsReached, Leads, length}
+use Rattle.link_world.proofs.Names.{link_of_connection, List, moved_down, moved_up, next_of, Ok, OnErr, OnOk, quiet_client, quiet_server, refl}
+use Rattle.link_world.proofs.Names.{Result, seen, server_writes, ServerEnd, ServerValue, serving_fed, slice_index_or, slice_set, StandsOn, subst, sym}
+use Rattle.link_world.proofs.Names.{take, true, with_down, with_end, with_up, with_world, World, WorldFault, WorldValue, ℕ}
 use Rattle.link_world.specs.declared.worlds.world.World.TheInside.{Inside}
-use Rattle.link_world.specs.Events.{HappensIf, HappensIff}
-use Rattle.link_world.specs.Links.{WorldValue, StandsOn, link_of_connection, with_up, with_down, fewer_up, fewer_down}
-use Rattle.link_world.specs.Links.{quiet_client, quiet_server, seen, with_world, IsReached}
 use Rattle.link_world.proofs.Reached.{reached_more, server_number, taken}
 use Rattle.link_world.proofs.ClientBytes.{down_seen, down_may}
 use Rattle.link_world.proofs.ClientWriting.{writes_seen}
@@ -52,17 +22,17 @@ stands w h = (
 )
 
 -- an event that cannot happen is refused
-pub not_now : (b : Bool) → b ≡ false → HappensIf (Err fault.NotNow) b
+pub not_now : (b : Bool) → b ≡ false → HappensIf (Err WorldFault.NotNow) b
 not_now b never = (tt, (λ e. never), (λ e. absurd (cc)))
 
 -- a call of a side is refused
 pub refused_if : (r : Result (Unit {0}) WorldFault) (f : WorldFault) (b : Bool) → IsErrAnd r (λ given. given ≡ f)
-    → (f ≡ fault.NotNow → b ≡ false) → (f ≡ fault.Memory → b ≡ true) → HappensIf r b
+    → (f ≡ WorldFault.NotNow → b ≡ false) → (f ≡ WorldFault.Memory → b ≡ true) → HappensIf r b
 refused_if (Ok u) f b is never wanting = absurd is
-refused_if (Err fault.NotNow) f b is never wanting = (tt, (λ e. never (sym is)), (λ e. absurd (cc)))
-refused_if (Err fault.Memory) f b is never wanting = (tt, (λ e. absurd (cc)), (λ e. wanting (sym is)))
+refused_if (Err WorldFault.NotNow) f b is never wanting = (tt, (λ e. never (sym is)), (λ e. absurd (cc)))
+refused_if (Err WorldFault.Memory) f b is never wanting = (tt, (λ e. absurd (cc)), (λ e. wanting (sym is)))
 
-pub refused_iff : (r : Result (Unit {0}) WorldFault) (f : WorldFault) (b : Bool) → IsErrAnd r (λ given. given ≡ f) → f ≡ fault.NotNow
+pub refused_iff : (r : Result (Unit {0}) WorldFault) (f : WorldFault) (b : Bool) → IsErrAnd r (λ given. given ≡ f) → f ≡ WorldFault.NotNow
     → b ≡ false → HappensIff r b
 refused_iff (Ok u) f b is now never = absurd is
 refused_iff (Err g) f b is now never = (tt, never, is ∙ now)
@@ -129,13 +99,13 @@ writes e written_by l w after now at c d r view h same may place some is sent li
 -- bytes come to the client
 pub comes_down : (count : ℕ) (l : WorldValue) (w : Inside) (after : ClientEnd) (at : ℕ) (c d : Connection)
     (r : Result (Unit {0}) WorldFault)
-    → inner w ≡ l → IsReached (inner w) → HappensIf r (can (event.Down count) l.world)
+    → inner w ≡ l → IsReached (inner w) → HappensIf r (can (Event.Down count) l.world)
     → at ≡ length w.connections.items - 1 → 0 < length w.connections.items → c ≡ slice_index_or w.connections.items at c
     → Leads r w.client after (end_fed (take count c.down.waiting) w.client)
     → Leads r (link_of_connection c) (link_of_connection d) (fewer_down count c)
     → Tried l (seen after w.server (slice_set w.connections.items at d) w.written.items) r (moved_down count)
 comes_down count l w after at c d r view h may place some is fed link =
-    tried (event.Down count) (moved_down count) l (inner w)
+    tried (Event.Down count) (moved_down count) l (inner w)
     (seen after w.server (slice_set w.connections.items at d) w.written.items) r view h (refl) may (go r fed link)
   where
     go : (r : Result (Unit {0}) WorldFault) → Leads r w.client after (end_fed (take count c.down.waiting) w.client)
@@ -156,9 +126,9 @@ comes_down count l w after at c d r view h may place some is fed link =
 pub down_can : (count : ℕ) (l : WorldValue) (w : Inside) (at : ℕ) (c : Connection) (r : Result (Unit {0}) WorldFault)
     → inner w ≡ l → IsReached (inner w) → w.client.client.on ≡ true → at ≡ length w.connections.items - 1
     → 0 < length w.connections.items → c ≡ slice_index_or w.connections.items at c → HappensIf r (has_some count c.down.waiting)
-    → HappensIf r (can (event.Down count) l.world)
+    → HappensIf r (can (Event.Down count) l.world)
 down_can count l w at c r view h on place some is may =
-    subst (λ (k : WorldValue). HappensIf r (can (event.Down count) k.world)) view
+    subst (λ (k : WorldValue). HappensIf r (can (Event.Down count) k.world)) view
     (happens_same r _ _ (sym (down_may count w.client w.server w.connections.items w.written.items at c h on place some is)) may)
 
 -- the server answers on its connection
@@ -194,13 +164,13 @@ answers e answered l w after at c d r view h same may place short is served link
 -- bytes come to the server
 pub comes_up : (count : ℕ) (l : WorldValue) (w : Inside) (after : ServerValue) (at : ℕ) (c d : Connection)
     (r : Result (Unit {0}) WorldFault)
-    → inner w ≡ l → IsReached (inner w) → HappensIf r (can (event.Up count) l.world)
+    → inner w ≡ l → IsReached (inner w) → HappensIf r (can (Event.Up count) l.world)
     → at ≡ w.server.end.server.last - 1 → at < length w.connections.items → c ≡ slice_index_or w.connections.items at c
     → Leads r w.server after (with_end w.server (serving_fed (take count c.up.waiting) w.server.end))
     → Leads r (link_of_connection c) (link_of_connection d) (fewer_up count c)
     → Tried l (seen w.client after (slice_set w.connections.items at d) w.written.items) r (moved_up count)
 comes_up count l w after at c d r view h may place short is fed link =
-    tried (event.Up count) (moved_up count) l (inner w)
+    tried (Event.Up count) (moved_up count) l (inner w)
     (seen w.client after (slice_set w.connections.items at d) w.written.items) r view h (refl) may (go r fed link)
   where
     go : (r : Result (Unit {0}) WorldFault)
@@ -221,14 +191,14 @@ comes_up count l w after at c d r view h may place short is fed link =
 pub up_can : (count : ℕ) (l : WorldValue) (w : Inside) (at : ℕ) (c : Connection) (r : Result (Unit {0}) WorldFault)
     → inner w ≡ l → IsReached (inner w) → w.server.end.server.on ≡ true → at ≡ w.server.end.server.last - 1
     → at < length w.connections.items → c ≡ slice_index_or w.connections.items at c → HappensIf r (has_some count c.up.waiting)
-    → HappensIf r (can (event.Up count) l.world)
+    → HappensIf r (can (Event.Up count) l.world)
 up_can count l w at c r view h on place short is may =
-    subst (λ (k : WorldValue). HappensIf r (can (event.Up count) k.world)) view
+    subst (λ (k : WorldValue). HappensIf r (can (Event.Up count) k.world)) view
     (happens_same r _ _ (sym (up_may count w.client w.server w.connections.items w.written.items at c h on place short is)) may)
 
 pub reads_can : (l : WorldValue) (w : Inside) (r : Result (Unit {0}) WorldFault) → inner w ≡ l → IsReached (inner w)
     → w.server.end.server.on ≡ true → HappensIf r (is_line (next_of w.server.end.input.rest))
-    → HappensIf r (can event.ServerReads l.world)
+    → HappensIf r (can Event.ServerReads l.world)
 reads_can l w r view h on may =
-    subst (λ (k : WorldValue). HappensIf r (can event.ServerReads k.world)) view
+    subst (λ (k : WorldValue). HappensIf r (can Event.ServerReads k.world)) view
     (happens_same r _ _ (sym (reads_may w.client w.server w.connections.items w.written.items h on)) may)

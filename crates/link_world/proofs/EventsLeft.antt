@@ -1,22 +1,11 @@
 -- An event that is repeated leaves less to do.
-use Rattle.std.proofs.Common.{◌≡◌, ℕ, suc, ◌<◌, ◌≤◌, Bool, true, false, not, cond, ◌&&◌, List, [], ◌∷◌, length, refl, sym}
-use Rattle.std.proofs.Common.{◌∙◌, ap, subst, arith, Option, Some, None, Ok, Err, is_some, length-append}
-use Rattle.std.proofs.lemmas.Bool.{false≢true, and_parts}
-use Rattle.line_framing.specs.Next.{Front, next_of, IsFound}
-use Rattle.line_framing.specs.Framing.{left_by}
-use Rattle.line_framing.specs.declared.faults.FramingFault.TheVariants as framing
-use Rattle.line_framing.proofs.FirstLine.{found}
+use Rattle.link_world.proofs.Names.{[], ◌&&◌, ◌<◌, ◌∙◌, ◌∷◌, ◌≡◌, ◌≤◌, after, and_parts, ap, arith, Bool, can, Client, ClientEnd, cond, count_open}
+use Rattle.link_world.proofs.Names.{Err, Event, false, false≢true, first_due, found, FramingFault, Front, front_read, front_served, happens}
+use Rattle.link_world.proofs.Names.{is_asking, is_line, is_running, is_some, IsFound, left_by, length, length-append, List, next_number, next_of}
+use Rattle.link_world.proofs.Names.{None, not, Ok, Option, Planned, refl, repeats, sends_next, ServerEnd, Some, State, subst, suc, sym, true}
+use Rattle.link_world.proofs.Names.{with_world, World, WorldValue, ℕ}
 use Rattle.dme_line.specs.declared.tags.Tag.TheVariants.{Std}
-use Rattle.protocol_model.specs.Client.{Client, first_due, sends_next, next_number, is_running}
-use Rattle.protocol_model.specs.Open.{count_open, is_asking}
-use Rattle.protocol_model.specs.Ends.{ClientEnd, ServerEnd, front_read, front_served}
-use Rattle.protocol_model.specs.World.{World, is_line, is_any, is_faulted, can, happens, after}
-use Rattle.protocol_model.specs.declared.plans.Planned.{Planned}
-use Rattle.protocol_model.specs.declared.states.State.{State}
-use Rattle.protocol_model.specs.declared.events.Event.{Event}
-use Rattle.protocol_model.specs.declared.events.Event.TheVariants as event
-use Rattle.link_world.specs.Links.{WorldValue, with_world}
-use Rattle.link_world.specs.Parts.{repeats}
+use Rattle.protocol_model.specs.World.{is_any, is_faulted}
 use Rattle.link_world.proofs.EventLists.{done_now}
 
 -- how much there is to do at most: commands to be sent, and bytes to be read
@@ -29,9 +18,9 @@ reads_left true n = 0
 reads_left false n = suc n
 
 abbrev pub left_of : Event → World → ℕ
-left_of event.ClientSends w = sends_left w.client.client.state (length w.client.client.table.tally.unsent)
-left_of event.ServerReads w = length w.server.input.rest
-left_of event.ClientReads w = reads_left (is_faulted w.client.client.state) (length w.client.input.rest)
+left_of Event.ClientSends w = sends_left w.client.client.state (length w.client.client.table.tally.unsent)
+left_of Event.ServerReads w = length w.server.input.rest
+left_of Event.ClientReads w = reads_left (is_faulted w.client.client.state) (length w.client.input.rest)
 left_of _ w = 0
 
 -- ---- sending
@@ -63,12 +52,12 @@ sent_less c b [] number runs is = absurd (due_there c.window (count_open c.table
 sent_less c b (p ∷ ps) None runs is = omega arith
 sent_less c b (p ∷ ps) (Some n) runs is = subst (λ (s : State). sends_left s (length ps) < suc (length (p ∷ ps))) (sym runs) (omega arith)
 
-sends_less : (w : World) → can event.ClientSends w ≡ true
-    → left_of event.ClientSends (happens event.ClientSends w) < left_of event.ClientSends w
+sends_less : (w : World) → can Event.ClientSends w ≡ true
+    → left_of Event.ClientSends (happens Event.ClientSends w) < left_of Event.ClientSends w
 sends_less w may =
     let c : Client = w.client.client in
     let runs : c.state ≡ State.Running = is_runs c.state (due_runs c (is_running c.state) (not (is_asking c.table.standard)) may) in
-    subst (λ (s : State). left_of event.ClientSends (happens event.ClientSends w) < sends_left s (length c.table.tally.unsent))
+    subst (λ (s : State). left_of Event.ClientSends (happens Event.ClientSends w) < sends_left s (length c.table.tally.unsent))
     (sym runs)
     (sent_less c (is_running c.state && not (is_asking c.table.standard)) c.table.tally.unsent
     (next_number Std c.table.standard c.drawn) runs may)
@@ -97,23 +86,23 @@ heard_less e (Ok (Some (line, rest))) is there =
     let less : length rest < length e.input.rest = shorter e.input.rest line rest is in
     let most : reads_left (is_faulted (front_read e.client (Ok (Some (line, rest)))).state) (length rest) ≤ suc (length rest) =
     most_left _ (length rest) in omega (arith, less, most)
-heard_less e (Err framing.LineTooLong) is there = omega arith
-heard_less e (Err framing.BadByte) is there = omega arith
+heard_less e (Err FramingFault.LineTooLong) is there = omega arith
+heard_less e (Err FramingFault.BadByte) is there = omega arith
 
 awake : (b : Bool) (n : ℕ) → not b ≡ true → reads_left b n ≡ suc n
 awake true n e = absurd (false≢true e)
 awake false n e = refl
 
-reads_less : (w : World) → can event.ClientReads w ≡ true
-    → left_of event.ClientReads (happens event.ClientReads w) < left_of event.ClientReads w
+reads_less : (w : World) → can Event.ClientReads w ≡ true
+    → left_of Event.ClientReads (happens Event.ClientReads w) < left_of Event.ClientReads w
 reads_less w may =
     let parts = and_parts _ _ (and_parts _ _ may).1 in
-    subst (λ (n : ℕ). left_of event.ClientReads (happens event.ClientReads w) < n)
+    subst (λ (n : ℕ). left_of Event.ClientReads (happens Event.ClientReads w) < n)
     (sym (awake (is_faulted w.client.client.state) (length w.client.input.rest) parts.0))
     (heard_less w.client (next_of w.client.input.rest) refl parts.1)
 
-serves_less : (w : World) → can event.ServerReads w ≡ true
-    → left_of event.ServerReads (happens event.ServerReads w) < left_of event.ServerReads w
+serves_less : (w : World) → can Event.ServerReads w ≡ true
+    → left_of Event.ServerReads (happens Event.ServerReads w) < left_of Event.ServerReads w
 serves_less w may =
     let parts = and_parts _ _ (and_parts _ _ may).1 in
     served_less w.server (next_of w.server.input.rest) refl parts.1
@@ -121,21 +110,21 @@ serves_less w may =
 -- ---- each of them
 
 pub less : (e : Event) (w : World) → repeats e ≡ true → can e w ≡ true → left_of e (happens e w) < left_of e w
-less event.ClientSends w is may = sends_less w may
-less event.ServerReads w is may = serves_less w may
-less event.ClientReads w is may = reads_less w may
-less event.Connect w is may = absurd (false≢true is)
-less (event.Accept n) w is may = absurd (false≢true is)
-less (event.Up n) w is may = absurd (false≢true is)
-less event.ServerTurn w is may = absurd (false≢true is)
-less (event.Machine o) w is may = absurd (false≢true is)
-less (event.Down n) w is may = absurd (false≢true is)
-less event.ClientLeaves w is may = absurd (false≢true is)
-less event.ServerLeaves w is may = absurd (false≢true is)
-less event.Abort w is may = absurd (false≢true is)
-less event.Resume w is may = absurd (false≢true is)
-less (event.ClientRestart n) w is may = absurd (false≢true is)
-less event.ServerRestart w is may = absurd (false≢true is)
+less Event.ClientSends w is may = sends_less w may
+less Event.ServerReads w is may = serves_less w may
+less Event.ClientReads w is may = reads_less w may
+less Event.Connect w is may = absurd (false≢true is)
+less (Event.Accept n) w is may = absurd (false≢true is)
+less (Event.Up n) w is may = absurd (false≢true is)
+less Event.ServerTurn w is may = absurd (false≢true is)
+less (Event.Machine o) w is may = absurd (false≢true is)
+less (Event.Down n) w is may = absurd (false≢true is)
+less Event.ClientLeaves w is may = absurd (false≢true is)
+less Event.ServerLeaves w is may = absurd (false≢true is)
+less Event.Abort w is may = absurd (false≢true is)
+less Event.Resume w is may = absurd (false≢true is)
+less (Event.ClientRestart n) w is may = absurd (false≢true is)
+less Event.ServerRestart w is may = absurd (false≢true is)
 
 -- after an event that happened for all readers
 pub less_after : (e : Event) (l m : WorldValue) → repeats e ≡ true → can e l.world ≡ true

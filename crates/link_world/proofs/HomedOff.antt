@@ -1,27 +1,12 @@
 -- A server after a list of its calls, off a connection: it is as it left that, and no act of it is on a later one.
-use Rattle.std.proofs.Common.{◌≡◌, ℕ, ◌<◌, ◌≤◌, Bool, true, false, cond, List, [], ◌∷◌, ◌++◌, length, refl, sym, subst, arith}
-use Rattle.std.proofs.Common.{Some, None, Ok, Err}
-use Rattle.std.proofs.lemmas.Bool.{and_parts, ltb-true}
-use Rattle.dmis_program.specs.Meaning.{Meaning}
-use Rattle.dmis_program.specs.Programs.{IsProgram}
-use Rattle.contact_ledger.specs.declared.acts.Act.{Act}
-use Rattle.line_framing.specs.Next.{Front, next_of}
-use Rattle.protocol_model.specs.Lines.{reading_of}
-use Rattle.protocol_model.specs.Plan.{plan}
-use Rattle.protocol_model.specs.Server.{Server}
-use Rattle.protocol_model.specs.Ends.{ServerEnd, front_served, serving_left}
-use Rattle.protocol_model.specs.World.{Link, run_of}
-use Rattle.protocol_model.specs.Undisturbed.{AreUndisturbed, AreFirstLines, followed, AreUpTo, met}
-use Rattle.protocol_model.specs.declared.events.Event.{Event}
-use Rattle.protocol_model.specs.declared.plans.Start.{Start}
-use Rattle.protocol_model.proofs.invariant.Served.{up_to_above}
-use Rattle.protocol_model.proofs.invariant.Moves.{Moves, done_on, up_to_join, up_to_done, read_moves, turned_moves, machined_moves}
-use Rattle.protocol_model.proofs.undisturbed_run.UndisturbedRun.{homed_lines}
-use Rattle.server_core.specs.Calls.{Call, Accept, Feed, ReadOne, Turn, Machine, Leave, Restart, Sent, possible, done_by, behind_call}
+use Rattle.link_world.proofs.Names.{[], ◌++◌, ◌<◌, ◌∷◌, ◌≡◌, ◌≤◌, Act, and_parts, AreFirstLines, AreUndisturbed, AreUpTo, arith, Bool, command_of}
+use Rattle.link_world.proofs.Names.{cond, done_on, Err, Event, false, followed, Front, front_served, homed_lines, IsOff, IsProgram, length, Link}
+use Rattle.link_world.proofs.Names.{List, ltb-true, machined_moves, Meaning, met, Moves, next_of, None, Ok, plan, read_moves, reading_of, refl}
+use Rattle.link_world.proofs.Names.{run_of, Server, ServerEnd, serving_left, Some, Start, subst, sym, true, turned_moves, up_to_above, up_to_done}
+use Rattle.link_world.proofs.Names.{up_to_join, ℕ}
+use Rattle.server_core.specs.Calls.{Accept, behind_call, Call, done_by, Feed, Leave, Machine, possible, ReadOne, Restart, Sent, Turn}
 use Rattle.server_core.specs.Calls.{behind_calls, reached}
-use Rattle.server_core.specs.Steady.{IsOff}
 use Rattle.server_core.proofs.Reached.{reached_steady}
-use Rattle.protocol_model.specs.Readings.{command_of}
 
 -- no act is on a later connection than the last
 abbrev IsBehind : ServerEnd → Type 0

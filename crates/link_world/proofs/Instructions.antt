@@ -1,28 +1,13 @@
 -- The events of instructions, one after another.
-use Rattle.std.proofs.Common.{◌≡◌, ◌⊎◌, inl, inr, ℕ, zero, suc, ◌+◌, ◌<◌, ◌≤◌, Bool, true, false, List, [], ◌∷◌, ◌++◌, length, take, drop}
-use Rattle.std.proofs.Common.{slice_index_or, refl, sym, ◌∙◌, ap, subst, arith, rules, append_assoc, Option, Some, None, Result, Ok, Err}
-use Rattle.std.specs.Prelude.{OnErr, OnOk}
-use Rattle.std.proofs.lemmas.Bool.{false≢true}
-use Rattle.std.proofs.lemmas.List.{take_more, take_all}
-use Rattle.protocol_model.specs.World.{World, start, run_of}
-use Rattle.protocol_model.specs.declared.machine.Job.{Job}
-use Rattle.protocol_model.specs.declared.machine.Outcome.{Outcome}
-use Rattle.protocol_model.specs.declared.events.Event.{Event}
-use Rattle.link_world.specs.Claims.{Headline}
-use Rattle.link_world.specs.Links.{WorldValue, IsReached}
-use Rattle.link_world.specs.Machines.{simulated}
-use Rattle.fixed_um.specs.declared.lengths.Point.{Point}
-use Rattle.link_world.specs.Traces.{TraceValue}
-use Rattle.protocol_model.specs.Rounds.{IsOne, Then, IsRound}
-use Rattle.link_world.specs.Schedules.{AreMade, ArePlayed, Plays, PlaysTraced}
-use Rattle.link_world.specs.Parts.{Makes, PlaysPart, Staged, staged, Leading}
-use Rattle.link_world.specs.declared.texts.schedules.Instruction.{Instruction}
-use Rattle.link_world.specs.declared.texts.schedules.Instruction.TheVariants as instruction
+use Rattle.link_world.proofs.Names.{[], ◌++◌, ◌+◌, ◌<◌, ◌∙◌, ◌∷◌, ◌≡◌, ◌≤◌, ◌⊎◌, ap, append_assoc, AreMade, ArePlayed, arith, Bool, drop, Err, Event}
+use Rattle.link_world.proofs.Names.{false, false≢true, Headline, inl, inr, Instruction, IsOne, IsReached, IsRound, IsSameKind, Job, Leading, length}
+use Rattle.link_world.proofs.Names.{List, Makes, None, Ok, OnErr, OnOk, Option, Outcome, Plays, PlaysPart, PlaysTraced, Point, refl, Result, rules}
+use Rattle.link_world.proofs.Names.{run_of, simulated, slice_index_or, Some, Staged, staged, start, subst, suc, sym, take, take_all, take_more, Then}
+use Rattle.link_world.proofs.Names.{TraceValue, true, World, WorldValue, zero, ℕ}
 use Rattle.link_world.proofs.AllBytes.{one_cut}
 use Rattle.link_world.proofs.EventLists.{run_append, leads_more, leads_none, leads_world, leads_value, traces_none}
 use Rattle.link_world.proofs.SameKind.{same_run}
 use Rattle.link_world.proofs.Reached.{headline}
-use Rattle.link_world.specs.Finishing.{IsSameKind}
 
 -- ---- one event
 
@@ -154,7 +139,7 @@ no_round : (answer : Job → ℕ → Outcome) (w : World) → IsRound answer tru
 no_round answer w = record { front = []; back = []; whole = refl; parts = inr (refl, tt, refl) }
 
 nothing_counted : (answer : Job → ℕ → Outcome) (n : ℕ) (w : World)
-    → AreMade answer (instruction.Rounds n) true w []
+    → AreMade answer (Instruction.Rounds n) true w []
 nothing_counted answer zero w = record { rounds = []; rest = []; whole = refl; are = tt; end = inl (refl, refl) }
 nothing_counted answer (suc n) w = record {
   rounds = [];
@@ -165,14 +150,14 @@ nothing_counted answer (suc n) w = record {
 }
 
 nothing_made : (answer : Job → ℕ → Outcome) (i : Instruction) (w : World) → AreMade answer i true w []
-nothing_made answer (instruction.Once e) w = inr (refl, refl)
-nothing_made answer instruction.Auto w = one_cut _
-nothing_made answer instruction.UpAll w = one_cut _
-nothing_made answer instruction.DownAll w = one_cut _
-nothing_made answer instruction.ServerReadsAll w = tt
-nothing_made answer instruction.ClientReadsAll w = tt
-nothing_made answer (instruction.Rounds n) w = nothing_counted answer n w
-nothing_made answer instruction.Quiet w = record {
+nothing_made answer (Instruction.Once e) w = inr (refl, refl)
+nothing_made answer Instruction.Auto w = one_cut _
+nothing_made answer Instruction.UpAll w = one_cut _
+nothing_made answer Instruction.DownAll w = one_cut _
+nothing_made answer Instruction.ServerReadsAll w = tt
+nothing_made answer Instruction.ClientReadsAll w = tt
+nothing_made answer (Instruction.Rounds n) w = nothing_counted answer n w
+nothing_made answer Instruction.Quiet w = record {
   rounds = [];
   rest = [];
   whole = refl;

@@ -1,3 +1,4 @@
+pub mod Names
 pub mod AllBytes
 pub mod ClientBytes
 pub mod ClientJoins

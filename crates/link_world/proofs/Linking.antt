@@ -1,9 +1,6 @@
 -- The bytes of one connection among those of all.
-use Rattle.std.proofs.Common.{◌≡◌, ℕ, zero, suc, ◌-◌, ◌<◌, List, [], ◌∷◌, ◌++◌, length, slice_index_or, slice_set, refl, sym, ◌∙◌, ap}
-use Rattle.std.proofs.Common.{arith}
-use Rattle.protocol_model.specs.World.{Link, no_link, link_of, with_link}
-use Rattle.link_world.specs.declared.worlds.connection.Connection.{Connection}
-use Rattle.link_world.specs.Links.{link_of_connection, links_of}
+use Rattle.link_world.proofs.Names.{[], ◌++◌, ◌-◌, ◌<◌, ◌∙◌, ◌∷◌, ◌≡◌, ap, arith, Connection, length, Link, link_of, link_of_connection, links_of}
+use Rattle.link_world.proofs.Names.{List, no_link, refl, slice_index_or, slice_set, suc, sym, with_link, zero, ℕ}
 
 pub links_more : (cs : List Connection) (c : Connection) → links_of (cs ++ c ∷ []) ≡ links_of cs ++ link_of_connection c ∷ []
 links_more [] c = refl

@@ -1,13 +1,8 @@
 -- Pairs of turns one after another.
-use Rattle.std.proofs.Common.{◌≡◌, ℕ, ◌+◌, ◌<◌, true, false, subst}
-use Rattle.protocol_model.specs.declared.machine.Job.{Job}
-use Rattle.protocol_model.specs.declared.machine.Outcome.{Outcome}
-use Rattle.link_world.specs.declared.connections.pumps.Moved.{Moved}
-use Rattle.link_world.specs.declared.connections.pumps.PumpFault.TheVariants as fault
+use Rattle.link_world.proofs.Names.{◌+◌, ◌<◌, ◌≡◌, are_still, ClientSide, false, Job, LoopRan, LoopRun, LoopStopped, Moved, Outcome, PairMoved}
+use Rattle.link_world.proofs.Names.{PairStopped, PumpFault, server_leaves, ServerSide, subst, true, turns_most, ℕ}
 use Rattle.link_world.specs.declared.connections.links.LoopFault.{LoopFault}
-use Rattle.link_world.specs.declared.connections.links.LoopFault.TheVariants as loop_fault
-use Rattle.link_world.specs.LinkRuns.{turns_most, ClientSide, ServerSide, are_still, client_leaves, server_leaves}
-use Rattle.link_world.specs.LinkRuns.{PairMoved, PairStopped, LoopRun, LoopRan, LoopStopped}
+use Rattle.link_world.specs.LinkRuns.{client_leaves}
 use Rattle.link_world.specs.LinkRuns as run
 
 pub pair_goes : (answer now : Job → ℕ → Outcome) (pairs down : ℕ) (c c_mid c_now : ClientSide) (s s_mid s_now : ServerSide)
@@ -43,6 +38,6 @@ loop_stops answer now pairs down c c_mid c_now s s_mid s_now f h few same p =
 
 pub loop_spends : (answer : Job → ℕ → Outcome) (pairs down : ℕ) (c c_mid c_now : ClientSide) (s s_mid s_now : ServerSide)
     → LoopRun answer c s pairs down c_mid s_mid → pairs ≡ turns_most → c_now ≡ client_leaves c_mid → s_now ≡ server_leaves s_mid
-    → LoopStopped answer c c_now s s_now (loop_fault.Client fault.TurnsSpent)
+    → LoopStopped answer c c_now s s_now (LoopFault.Client PumpFault.TurnsSpent)
 loop_spends answer pairs down c c_mid c_now s s_mid s_now h all of_client of_server =
     run.spends down c_mid s_mid (subst (λ (n : ℕ). LoopRun answer c s n down c_mid s_mid) all h) of_client of_server

@@ -1,19 +1,9 @@
 -- What is left of a program is measured, if the rack and the machine give what that takes.
-use Rattle.std.proofs.Common.{◌≡◌, ◌⊎◌, inl, inr, ℕ, ◌≤◌, true, false, List, [], ◌++◌, length, sym, ◌∙◌, ap, subst, append-nil}
-use Rattle.std.proofs.lemmas.Bool.{false≢true}
-use Rattle.dmis_program.specs.Meaning.{Meaning}
-use Rattle.protocol_model.specs.Finishing.{CanFinish, CanMeasure, HasMeasured, rejoining, rejoined}
-use Rattle.protocol_model.specs.PlainExecution.{plain_execution, as_measured}
-use Rattle.protocol_model.specs.Rounds.{IsRound, AreBusy, AreAllBusy, all_of}
-use Rattle.protocol_model.specs.World.{World, start, run_of}
-use Rattle.protocol_model.specs.declared.events.Event.{Event}
-use Rattle.protocol_model.specs.declared.machine.Job.{Job}
-use Rattle.protocol_model.specs.declared.machine.Outcome.{Outcome}
-use Rattle.protocol_model.specs.declared.states.State.{State}
+use Rattle.link_world.proofs.Names.{[], ◌++◌, ◌∙◌, ◌≡◌, ◌≤◌, ◌⊎◌, all_of, ap, append-nil, AreAllBusy, AreBusy, AreTurns, CanFinish, CanMeasure, Event}
+use Rattle.link_world.proofs.Names.{false, false≢true, Finishes, HasMeasured, inl, inr, IsReached, IsRound, Job, length, List, Meaning, Outcome}
+use Rattle.link_world.proofs.Names.{rejoined, rejoining, run_of, run_window, start, State, subst, sym, true, World, WorldValue, ℕ}
+use Rattle.protocol_model.specs.PlainExecution.{as_measured, plain_execution}
 use Rattle.protocol_model.proofs.quiet_run.Finished.{done, features}
-use Rattle.protocol_model.proofs.whole_run.SameProgram.{run_window}
-use Rattle.link_world.specs.Finishing.{AreTurns, Finishes}
-use Rattle.link_world.specs.Links.{WorldValue, IsReached}
 use Rattle.link_world.proofs.EventLists.{run_append}
 
 -- a world is Done, with what was measured before and what is plainly measured then

@@ -1,27 +1,14 @@
 -- Calls of a client's pump are calls of the client, whatever its peer sends.
-use Rattle.std.proofs.Common.{◌≡◌, inl, inr, ℕ, Bool, true, false, cond, List, [], ◌∷◌, ◌++◌, refl, sym, ◌∙◌, ap, subst, Option}
-use Rattle.std.proofs.lemmas.Bool.{false≢true, le-leb}
-use Rattle.contact_ledger.specs.declared.features.Feature.{Feature}
-use Rattle.dmis_program.specs.Meaning.{Meaning}
-use Rattle.dmis_program.specs.Programs.{IsProgram}
-use Rattle.protocol_model.specs.Ends.{ClientEnd, new_client_end, end_aborted, end_left}
-use Rattle.protocol_model.specs.Client.{may_abort}
-use Rattle.client_core.specs.Calls.{Call, Send, Abort, Feed, ReadOne, Leave, Sent, possible, done_by, behind_call, behind_calls}
-use Rattle.client_core.specs.Clients.{are_ours}
+use Rattle.link_world.proofs.Names.{[], ◌++◌, ◌∙◌, ◌∷◌, ◌≡◌, Abort, AbortRefused, ap, are_ours, AreOwnCalls, Bool, called, ClientCalls, ClientEnd}
+use Rattle.link_world.proofs.Names.{ClientEnds, ClientFault, ClientRan, ClientRun, ClientRunStopped, ClientTurn, cond, Course, end_aborted, end_left}
+use Rattle.link_world.proofs.Names.{false, false≢true, Feature, Fresh, inl, inr, IsProgram, IsSendRefused, le-leb, List, may_abort, Meaning, moves}
+use Rattle.link_world.proofs.Names.{new_client_end, not_called, of_client, Option, Out, Phase, PumpFault, Reading, refl, Send, Sending, sends, Stage}
+use Rattle.link_world.proofs.Names.{Steered, steered, stops, subst, sym, Taking, true, Writing, ℕ}
+use Rattle.client_core.specs.Calls.{behind_call, behind_calls, Call, done_by, Feed, Leave, possible, ReadOne, Sent}
 use Rattle.client_core.proofs.Runs.{features_are_ours}
-use Rattle.link_world.specs.Pumps.{Stage, Sending, Writing, Taking, Reading, ClientTurn, begins, sends, writes, takes, has, reads}
-use Rattle.link_world.specs.Joined.{ClientCalls, not_called, moves, stops, called, AreOwnCalls}
-use Rattle.link_world.specs.LinkRuns.{Phase, Fresh, Out, Steered, ClientRun, ClientRan, ClientEnds, ClientRunStopped}
+use Rattle.link_world.specs.Pumps.{begins, has, reads, takes, writes}
 use Rattle.link_world.specs.LinkRuns as run
-use Rattle.link_world.specs.Courses.{steered, AbortRefused}
-use Rattle.link_world.specs.Pumps.{of_client}
-use Rattle.link_world.specs.declared.connections.pumps.PumpFault.{PumpFault}
-use Rattle.link_world.specs.declared.connections.steering.Course.{Course}
-use Rattle.link_world.specs.declared.connections.steering.Course.TheVariants as course
 use Rattle.link_world.proofs.Courses.{stop_aborts}
-use Rattle.client_core.specs.Refusals.{IsSendRefused}
-use Rattle.client_core.specs.declared.faults.ClientFault.{ClientFault}
-use Rattle.client_core.specs.declared.faults.ClientFault.TheVariants as client_fault
 
 -- ---- one more call
 
@@ -86,8 +73,8 @@ pumped_features program kept window e is ours t =
 -- ---- a run
 
 steered_calls : (first e : ClientEnd) (c : Course) → ClientCalls first e → ClientCalls first (steered c e)
-steered_calls first e course.GoOn h = h
-steered_calls first e course.Stop h = called e Abort h
+steered_calls first e Course.GoOn h = h
+steered_calls first e Course.Stop h = called e Abort h
 
 so_far : (first : ClientEnd) (left taken : Option (List ℕ)) (phase : Phase) (turns : ℕ) (said : List Course) (read written : List ℕ)
     (e : ClientEnd) (left_now taken_now : Option (List ℕ)) → ClientRun first left taken phase turns said read written e left_now taken_now
@@ -111,11 +98,11 @@ run_calls first e left left_now taken taken_now can can_now h =
 
 refused_calls : (first mid last : ClientEnd) (why : ClientFault) → may_abort mid.client.state ≡ true
     → IsSendRefused true mid last (end_aborted mid) why → ClientCalls first mid → ClientCalls first last
-refused_calls first mid last client_fault.NotNow may r h = absurd (false≢true (sym r.2))
-refused_calls first mid last (client_fault.Faulted cause) may (inl r) h = absurd (false≢true (sym r.0))
-refused_calls first mid last (client_fault.Faulted cause) may (inr r) h =
+refused_calls first mid last ClientFault.NotNow may r h = absurd (false≢true (sym r.2))
+refused_calls first mid last (ClientFault.Faulted cause) may (inl r) h = absurd (false≢true (sym r.0))
+refused_calls first mid last (ClientFault.Faulted cause) may (inr r) h =
     subst (ClientCalls first) (sym (stop_aborts mid last may r.1)) (called mid Abort h)
-refused_calls first mid last client_fault.Memory may r h = subst (ClientCalls first) (sym r) h
+refused_calls first mid last ClientFault.Memory may r h = subst (ClientCalls first) (sym r) h
 
 ends_so : (first e : ClientEnd) (left left_now taken taken_now : Option (List ℕ)) (fault : PumpFault ClientFault) (said : List Course)
     (read written lost : List ℕ) (last : ClientEnd)

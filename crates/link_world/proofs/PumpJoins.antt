@@ -1,66 +1,28 @@
 -- Calls of both pumps on one connection are a list of events of one world.
-use Rattle.std.proofs.Common.{◌≡◌, ◌≢◌, ℕ, zero, suc, ◌≤◌, Bool, true, false, cond, ◌&&◌, not, List, [], ◌∷◌, ◌++◌, length, take, drop}
-use Rattle.std.proofs.Common.{refl, sym, ◌∙◌, ap, subst, arith, append_assoc, append-nil, is_some, Option, Some, None, Ok, Err, Result}
-use Rattle.std.proofs.lemmas.Bool.{false≢true, and_parts}
-use Rattle.std.proofs.lemmas.List.{take-append-le, drop-append-le}
-use Rattle.std.proofs.Math.Seq.{take-append_seam}
-use Rattle.std.specs.Io.KnownBytes.{Consumes}
-use Rattle.line_framing.specs.Next.{Front, next_of}
-use Rattle.line_framing.specs.declared.faults.FramingFault.TheVariants as framing
-use Rattle.dme_line.specs.declared.tags.Tag.{Tag}
-use Rattle.dme_line.specs.declared.tags.Tag.TheVariants as tag
-use Rattle.dme_line.specs.declared.commands.Kind.{Kind}
-use Rattle.dme_line.specs.declared.commands.Kind.TheVariants as kind
-use Rattle.dme_line.specs.declared.homed.NotHomedText.{NotHomedText}
-use Rattle.dme_line.specs.declared.points.NotPoint.{NotPoint}
+use Rattle.link_world.proofs.Names.{[], ◌&&◌, ◌++◌, ◌∙◌, ◌∷◌, ◌≡◌, ◌≢◌, ◌≤◌, always_sound, always_told, and_parts, ap, append-nil, append_assoc}
+use Rattle.link_world.proofs.Names.{AreCalls, AreFit, AreOnWay, arith, Bool, Cause, Client, client_hears, client_joined, client_link, client_moves}
+use Rattle.link_world.proofs.Names.{client_read, client_turn, ClientEnd, ClientMoved, ClientStopped, ClientTurn, command_of, cond, Consumes}
+use Rattle.link_world.proofs.Names.{contact_count, count_open, Course, Datum, drop, drop-append-le, due, end_aborted, end_left, EndPair, Err, Event}
+use Rattle.link_world.proofs.Names.{false, false≢true, first_due, FramingFault, Front, front_read, front_served, given_for, given_homed, given_point}
+use Rattle.link_world.proofs.Names.{given_under, heard_on, held_under, homed_of, is_asking, is_running, is_some, IsCall, IsCarried, IsClientTurn}
+use Rattle.link_world.proofs.Names.{IsOneWorld, IsProgram, IsServerTurn, IsWorldOf, Job, Kind, left_state, length, line_read, Link, link_of}
+use Rattle.link_world.proofs.Names.{link_same, List, machined_moves, may_abort, may_read, may_turn, Meaning, never_faulted_run, next_of, no_call}
+use Rattle.link_world.proofs.Names.{no_calls, no_event, no_framing_fault, None, not, NotHomedText, NotPoint, NotResponse, Ok, one_more, Option}
+use Rattle.link_world.proofs.Names.{Outcome, Planned, Point, point_of, PumpCalls, pumped_of, read_moves, Reading, reading_of, refl, Response}
+use Rattle.link_world.proofs.Names.{response_of, response_read, Result, run_carried, run_of, running_job, Sending, sends_abort, sends_next}
+use Rattle.link_world.proofs.Names.{server_joined, server_left, server_link, server_moves, server_turn, ServerEnd, ServerMoved, ServerStopped}
+use Rattle.link_world.proofs.Names.{ServerTurn, serving_left, Some, Sound, Stage, start, start_carried, State, steered, steering, subst, suc, sym}
+use Rattle.link_world.proofs.Names.{Table, Tag, tag_is, take, take-append-le, take-append_seam, Taking, Told, true, turned_moves, TurnLeads}
+use Rattle.link_world.proofs.Names.{with_client, with_link, with_server, Working, World, Writing, zero, ℕ}
 use Rattle.dme_line.specs.declared.responses.Mark.{Mark as Marked}
-use Rattle.dme_line.specs.declared.responses.Mark.TheVariants as mark
-use Rattle.dme_line.specs.declared.responses.Response.{Response}
-use Rattle.dme_line.specs.declared.responses.NotResponse.{NotResponse}
-use Rattle.protocol_model.specs.Readings.{command_of, response_of, point_of, homed_of}
-use Rattle.fixed_um.specs.declared.lengths.Point.{Point}
-use Rattle.dmis_program.specs.Programs.{IsProgram}
-use Rattle.dmis_program.specs.Meaning.{Meaning}
-use Rattle.protocol_model.specs.Replies.{Mark, tag_is}
-use Rattle.protocol_model.specs.Lines.{reading_of}
-use Rattle.protocol_model.specs.Claims.{Sound, Told}
-use Rattle.protocol_model.specs.Client.{Client, Table, due, sends_next, client_read, client_hears, heard_on, left_state, is_running}
-use Rattle.protocol_model.specs.Client.{first_due, sends_abort, may_abort}
-use Rattle.protocol_model.specs.Open.{is_asking, count_open}
-use Rattle.protocol_model.specs.Server.{running_job}
-use Rattle.server_core.specs.Serving.{may_turn}
-use Rattle.protocol_model.specs.Ends.{ClientEnd, end_left, end_aborted, held_under, given_point, given_homed, given_for, given_under}
-use Rattle.protocol_model.specs.Ends.{response_read, line_read, front_read}
-use Rattle.protocol_model.specs.Ends.{ServerEnd, front_served, serving_left}
-use Rattle.protocol_model.specs.World.{World, Link, client_link, server_link, link_of, with_link, start, run_of}
-use Rattle.protocol_model.specs.declared.events.Event.{Event}
-use Rattle.protocol_model.specs.declared.events.Event.TheVariants as event
-use Rattle.protocol_model.specs.declared.held.Datum.TheVariants as datum
-use Rattle.protocol_model.specs.declared.plans.Planned.{Planned}
-use Rattle.protocol_model.specs.declared.states.State.{State}
-use Rattle.protocol_model.specs.declared.states.Cause.{Cause}
-use Rattle.protocol_model.specs.declared.machine.Job.{Job}
-use Rattle.protocol_model.specs.declared.machine.Outcome.{Outcome}
-use Rattle.protocol_model.proofs.invariant.Moves.{read_moves, turned_moves, machined_moves}
+use Rattle.protocol_model.specs.Replies.{Mark}
 use Rattle.protocol_model.proofs.undisturbed_run.UndisturbedClient.{read_last}
-use Rattle.protocol_model.proofs.whole_run.Links.{link_same}
-use Rattle.protocol_model.proofs.whole_run.Carrying.{IsCarried}
-use Rattle.protocol_model.proofs.whole_run.WholeRun.{run_carried, start_carried, always_sound, always_told, never_faulted_run}
-use Rattle.protocol_model.proofs.whole_run.WholeRun.{no_framing_fault}
-use Rattle.client_core.specs.Clients.{may_read}
-use Rattle.contact_ledger.specs.Ledgers.{contact_count}
-use Rattle.link_world.specs.Pumps.{Stage, Sending, Writing, Taking, Reading, Working, ClientTurn, ClientMoved, ClientStopped}
 use Rattle.link_world.specs.Pumps as client_stage
-use Rattle.link_world.specs.ServerPumps.{ServerTurn, ServerMoved, ServerStopped}
 use Rattle.link_world.specs.ServerPumps as server_stage
-use Rattle.link_world.specs.Joined.{IsClientTurn, IsServerTurn, TurnLeads, client_joined, AreFit, server_joined}
-use Rattle.link_world.specs.Joined.{EndPair, pumped_of, with_client, with_server, PumpCalls, no_calls, client_moves, client_stops}
-use Rattle.link_world.specs.Joined.{client_leaves, steering}
-use Rattle.link_world.specs.Courses.{steered}
-use Rattle.link_world.specs.declared.connections.steering.Course.{Course}
-use Rattle.link_world.specs.declared.connections.steering.Course.TheVariants as course
-use Rattle.link_world.specs.Joined.{server_moves, server_stops, AreOnWay, IsWorldOf, IsOneWorld}
-use Rattle.link_world.specs.Joined.{IsCall, no_event, client_turn, client_left, server_turn, server_left, AreCalls, no_call, one_more}
+use Rattle.link_world.specs.Joined.{client_stops}
+use Rattle.link_world.specs.Joined.{client_leaves}
+use Rattle.link_world.specs.Joined.{server_stops}
+use Rattle.link_world.specs.Joined.{client_left}
 use Rattle.link_world.proofs.EventLists.{run_append}
 use Rattle.link_world.proofs.ClientJoins.{fits, sent_last, turn_joins, turn_whole, turn_written, turn_leaves}
 use Rattle.link_world.proofs.ServerJoins.{IsServing, reached_serving, serving_joins, serving_whole, serving_leaves}
@@ -76,41 +38,41 @@ either_on c true d same = refl
 either_on c false d same = same
 
 client_on : (c : Client) (t : Tag) (m : Mark) → (client_read c t m).on ≡ c.on
-client_on c t m = either_on c (tag_is t (tag.Event 0)) (client_hears c t m (heard_on c.program.features c.table t m))
+client_on c t m = either_on c (tag_is t (Tag.Event 0)) (client_hears c t m (heard_on c.program.features c.table t m))
     (hears_on c t m (heard_on c.program.features c.table t m))
 
 point_on : (c : Client) (t : Tag) (r : Result Point NotPoint) → (given_point c t r).on ≡ c.on
-point_on c t (Ok p) = client_on c t (Mark.Given (datum.Point p))
+point_on c t (Ok p) = client_on c t (Mark.Given (Datum.Point p))
 point_on c t (Err why) = refl
 
 homed_on : (c : Client) (t : Tag) (r : Result Bool NotHomedText) → (given_homed c t r).on ≡ c.on
-homed_on c t (Ok homed) = client_on c t (Mark.Given (datum.Homed homed))
+homed_on c t (Ok homed) = client_on c t (Mark.Given (Datum.Homed homed))
 homed_on c t (Err why) = refl
 
 for_on : (c : Client) (t : Tag) (text : List ℕ) (k : Kind) → (given_for c t text k).on ≡ c.on
-for_on c t text kind.PtMeas = point_on c t (point_of text)
-for_on c t text kind.IsHomed = homed_on c t (homed_of text)
-for_on c t text kind.StartSession = refl
-for_on c t text kind.EndSession = refl
-for_on c t text kind.ClearAllErrors = refl
-for_on c t text kind.Home = refl
-for_on c t text kind.OnPtMeasReport = refl
-for_on c t text kind.GoTo = refl
-for_on c t text kind.ChangeTool = refl
-for_on c t text kind.SetCsyTransformation = refl
-for_on c t text kind.SetCoordSystem = refl
-for_on c t text kind.AbortE = refl
+for_on c t text Kind.PtMeas = point_on c t (point_of text)
+for_on c t text Kind.IsHomed = homed_on c t (homed_of text)
+for_on c t text Kind.StartSession = refl
+for_on c t text Kind.EndSession = refl
+for_on c t text Kind.ClearAllErrors = refl
+for_on c t text Kind.Home = refl
+for_on c t text Kind.OnPtMeasReport = refl
+for_on c t text Kind.GoTo = refl
+for_on c t text Kind.ChangeTool = refl
+for_on c t text Kind.SetCsyTransformation = refl
+for_on c t text Kind.SetCoordSystem = refl
+for_on c t text Kind.AbortE = refl
 
 under_on : (c : Client) (t : Tag) (text : List ℕ) (k : Option Kind) → (given_under c t text k).on ≡ c.on
 under_on c t text None = refl
 under_on c t text (Some k) = for_on c t text k
 
 response_on : (c : Client) (t : Tag) (m : Marked) → (response_read c t m).on ≡ c.on
-response_on c t mark.Ack = client_on c t Mark.Ack
-response_on c t (mark.Given text) = either_on c (tag_is t (tag.Event 0)) (given_under c t text (held_under t c))
+response_on c t Marked.Ack = client_on c t Mark.Ack
+response_on c t (Marked.Given text) = either_on c (tag_is t (Tag.Event 0)) (given_under c t text (held_under t c))
     (under_on c t text (held_under t c))
-response_on c t mark.Done = client_on c t Mark.Done
-response_on c t (mark.Error text) = client_on c t Mark.Error
+response_on c t Marked.Done = client_on c t Mark.Done
+response_on c t (Marked.Error text) = client_on c t Mark.Error
 
 line_on : (c : Client) (r : Result Response NotResponse) → (line_read c r).on ≡ c.on
 line_on c (Ok r) = response_on c r.tag r.mark
@@ -119,8 +81,8 @@ line_on c (Err refused) = refl
 read_on : (c : Client) (f : Front) → (front_read c f).on ≡ c.on
 read_on c (Ok None) = refl
 read_on c (Ok (Some (line, rest))) = line_on c (response_of line)
-read_on c (Err framing.LineTooLong) = refl
-read_on c (Err framing.BadByte) = refl
+read_on c (Err FramingFault.LineTooLong) = refl
+read_on c (Err FramingFault.BadByte) = refl
 
 next_on : (c : Client) (ps : List Planned) (n : Option ℕ) → (sends_next c ps n).client.on ≡ c.on
 next_on c [] n = refl
@@ -160,8 +122,8 @@ stop_stays e true = aborts_stay e.client _
 stop_stays e false = record { on = refl; last = refl }
 
 steered_stays : (c : Course) (e : ClientEnd) → Stays e.client.on (steered c e).client.on e.client.last (steered c e).client.last
-steered_stays course.GoOn e = record { on = refl; last = refl }
-steered_stays course.Stop e = stop_stays e (may_abort e.client.state)
+steered_stays Course.GoOn e = record { on = refl; last = refl }
+steered_stays Course.Stop e = stop_stays e (may_abort e.client.state)
 
 turn_stays : (c : Course) (least : ℕ) (s : ClientEnd) (stage : Stage) (read written : List ℕ) (e : ClientEnd)
     → ClientTurn least (steered c s) stage read written e → Stays s.client.on e.client.on s.client.last e.client.last
@@ -244,8 +206,8 @@ rests_by e false may = refl
 
 -- what has left is not steered
 left_steered : (c : Course) (s x : ClientEnd) → s ≡ end_left x → steered c s ≡ end_left x
-left_steered course.GoOn s x left = left
-left_steered course.Stop s x left =
+left_steered Course.GoOn s x left = left
+left_steered Course.Stop s x left =
     rests_by s (may_abort s.client.state) (ap (λ (e : ClientEnd). may_abort e.client.state) left ∙ never_aborts x.client.state) ∙ left
 
 record Still {E : Type 0} (s e : E) (read written : List ℕ) : Type 0 where
@@ -478,7 +440,7 @@ client_stopped_on answer k v p c s least stage read written e on front t =
     let last : e.client.last ≡ v.client.client.last = client_last_now v p e s g.stays.last in
     let link = client_link_now v p e (written ++ e.out) (length read) c s g.stays.last in
     let now : World = record (client_joined v e (written ++ e.out) (length read)) { client = end_left e } in record {
-      events = (steering k ++ g.joined.events) ++ event.ClientLeaves ∷ [];
+      events = (steering k ++ g.joined.events) ++ Event.ClientLeaves ∷ [];
       is = client_left k (length read) g.joined.events g.joined.made;
       now = now;
       leads = turn_leaves v (steering k ++ g.joined.events) e (written ++ e.out) (length read)
@@ -618,7 +580,7 @@ server_stopped_on answer fit v p c s least stage read written e on front t =
     server_goes answer fit v p c s least stage read written e on front t in
     let link = server_link_now v p e (written ++ e.out) (length read) c s in
     let now : World = record (server_joined v e (written ++ e.out) (length read)) { server = serving_left e } in record {
-      events = g.joined.events ++ event.ServerLeaves ∷ [];
+      events = g.joined.events ++ Event.ServerLeaves ∷ [];
       is = server_left (length read) g.joined.events g.joined.made;
       now = now;
       leads = serving_leaves v g.joined.events e (written ++ e.out) (length read) g.joined.leads (g.stays.on ∙ on);

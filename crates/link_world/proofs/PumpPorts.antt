@@ -1,10 +1,7 @@
 -- What counted pushes and pulls have done.
-use Rattle.std.proofs.Common.{ℕ, ◌≤◌, List, [], length, take, sym, Option, Some, None}
-use Rattle.std.specs.Io.KnownBytes.{Appends, Consumes, Keeps}
-use Rattle.std.proofs.KnownBytes.{Consumes-nil, Appends-kept}
+use Rattle.link_world.proofs.Names.{[], ◌≤◌, Appends, Appends-kept, Consumes, Consumes-nil, IsPushFault, Keeps, length, List, None, Option, PumpFault}
+use Rattle.link_world.proofs.Names.{Pushed, Some, sym, take, ℕ}
 use Rattle.byte_ports.proofs.Moved.{Appends-more}
-use Rattle.link_world.specs.declared.connections.pumps.PumpFault.{PumpFault}
-use Rattle.link_world.specs.PumpParts.{Pushed, IsPushFault}
 
 -- nothing was pulled
 pub Consumes-none : (a b : Option (List ℕ)) → Keeps a b → Consumes a b []

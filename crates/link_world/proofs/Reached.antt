@@ -1,30 +1,14 @@
 -- What holds of a world to which a list of events has led.
-use Rattle.std.proofs.Common.{◌≡◌, ◌≢◌, ℕ, suc, ◌-◌, ◌≤◌, ◌<◌, Bool, true, false, ◌&&◌, cond, nat_le, List, [], ◌∷◌, ◌++◌, length}
-use Rattle.std.proofs.Common.{if◌then◌else◌, refl, sym, ◌∙◌, ap, subst, arith, Option, Some, None, Err}
-use Rattle.std.proofs.lemmas.Bool.{false≢true, and_parts, leb-true}
-use Rattle.dmis_program.specs.Meaning.{Meaning}
-use Rattle.dmis_program.specs.Programs.{IsProgram}
-use Rattle.tool_rack.specs.Setups.{SetupValue}
-use Rattle.line_framing.specs.Framing.{Framing}
-use Rattle.line_framing.specs.Next.{next_of}
-use Rattle.line_framing.specs.declared.faults.FramingFault.{FramingFault}
+use Rattle.link_world.proofs.Names.{[], ◌&&◌, ◌++◌, ◌-◌, ◌<◌, ◌∙◌, ◌∷◌, ◌≡◌, ◌≢◌, ◌≤◌, after, and_parts, ap, arith, Bool, can, ClientEnd}
+use Rattle.link_world.proofs.Names.{command_texts, cond, Connection, Err, Event, false, false≢true, Framing, FramingFault, happens, Headline}
+use Rattle.link_world.proofs.Names.{if◌then◌else◌, IsCarried, IsProgram, IsReached, leb-true, length, lined, links_of, List, Meaning, nat_le}
+use Rattle.link_world.proofs.Names.{new_client_end, new_serving, next_of, None, Option, refl, run_carried, run_of, seen, served_sound, server_link}
+use Rattle.link_world.proofs.Names.{ServerValue, SetupValue, Some, Sound, start, start_carried, State, subst, suc, sym, Told, true, with_world, World}
+use Rattle.link_world.proofs.Names.{WorldValue, ℕ}
 use Rattle.line_framing.proofs.Streams.{no_fault}
-use Rattle.protocol_model.specs.Lines.{command_texts}
-use Rattle.protocol_model.specs.Ends.{ClientEnd, new_client_end}
-use Rattle.protocol_model.specs.World.{World, start, can, happens, after, run_of, server_link}
-use Rattle.protocol_model.specs.declared.events.Event.{Event}
-use Rattle.protocol_model.specs.declared.states.State.{State}
-use Rattle.protocol_model.proofs.whole_run.Carrying.{lined, IsCarried}
-use Rattle.protocol_model.proofs.each_event.ClientEvents.{served_now, told_now, never_faulted}
-use Rattle.protocol_model.proofs.invariant.Served.{served_sound}
+use Rattle.protocol_model.proofs.each_event.ClientEvents.{never_faulted, served_now, told_now}
 use Rattle.protocol_model.proofs.whole_run.Wires.{IsWhole}
 use Rattle.protocol_model.proofs.written_lines.Writable.{command_lines}
-use Rattle.protocol_model.proofs.whole_run.WholeRun.{run_carried, start_carried}
-use Rattle.server_core.specs.Serving.{ServerValue, new_serving}
-use Rattle.link_world.specs.declared.worlds.connection.Connection.{Connection}
-use Rattle.protocol_model.specs.Claims.{Sound, Told}
-use Rattle.link_world.specs.Claims.{Headline}
-use Rattle.link_world.specs.Links.{WorldValue, links_of, seen, with_world, IsReached}
 
 pub carried : (l : WorldValue) → IsReached l → IsCarried l.world
 carried l h = subst IsCarried (sym h.reached) (run_carried h.events (start h.program l.setup.tools h.window)

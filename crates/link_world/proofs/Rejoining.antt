@@ -1,34 +1,16 @@
 -- When what is left can be brought to its end, and the state of both ends after coming to the next connection.
-use Rattle.std.proofs.Common.{◌≡◌, ◌≢◌, ℕ, zero, suc, ◌+◌, ◌*◌, ◌≤◌, ◌<◌, nat_lt, Bool, true, false, not, cond, ◌&&◌, List, [], ◌∷◌, ◌++◌}
-use Rattle.std.proofs.Common.{length, length-append, refl, sym, ◌∙◌, ap, subst, arith, rules, Option, Some, None, is_some, IsTrue}
-use Rattle.std.proofs.lemmas.Bool.{false≢true, ltb-true}
-use Rattle.fixed_um.specs.declared.frames.Frame.{Frame}
+use Rattle.link_world.proofs.Names.{[], ◌&&◌, ◌*◌, ◌++◌, ◌+◌, ◌<◌, ◌∙◌, ◌∷◌, ◌≡◌, ◌≢◌, ◌≤◌, after, ap, AreFirstOfJoining, arith, behind}
+use Rattle.link_world.proofs.Names.{block_touches, Bool, can, CanFinish, Client, ClientEnd, Command, commands_most, cond, Connection, connection_most}
+use Rattle.link_world.proofs.Names.{count_open, due, Event, false, false≢true, Feature, first_due, FitsState, Frame, frame_behind, framing, happens}
+use Rattle.link_world.proofs.Names.{is_apart, is_asking, is_empty, is_running, is_some, IsReached, IsTrue, left_state, length, length-append, List}
+use Rattle.link_world.proofs.Names.{ltb-true, Makes, Meaning, measuring, nat_lt, None, not, Option, plan, plan_left, Planned, planned, refl, rejoined}
+use Rattle.link_world.proofs.Names.{rejoining, rules, run_of, seen, ServerValue, Some, Start, State, stepping, subst, suc, sym, tool_behind, tooling}
+use Rattle.link_world.proofs.Names.{true, unwatched, up_to, with_world, World, WorldValue, zero, ℕ}
 use Rattle.fixed_um.specs.declared.frames.Frame.TheVariants.{Machine, Part}
-use Rattle.dme_line.specs.declared.commands.Command.TheVariants as command
-use Rattle.dmis_program.specs.Meaning.{Meaning, block_touches}
 use Rattle.dmis_program.specs.declared.steps.Step.{Step}
-use Rattle.dmis_program.specs.declared.steps.Step.TheVariants as step
-use Rattle.contact_ledger.specs.Ledgers.{connection_most}
-use Rattle.contact_ledger.specs.declared.features.Feature.{Feature}
-use Rattle.protocol_model.specs.Client.{Client, due, first_due, is_apart, is_running, client_left, left_state}
-use Rattle.protocol_model.specs.Open.{count_open, is_asking}
-use Rattle.protocol_model.specs.Ends.{ClientEnd}
-use Rattle.protocol_model.specs.Finishing.{CanFinish, rejoining, rejoined, plan_left}
-use Rattle.protocol_model.specs.Plan.{is_empty, plan, planned, behind, up_to, tool_behind, frame_behind, tooling, framing, stepping, measuring}
-use Rattle.protocol_model.specs.World.{World, can, happens, after, run_of}
-use Rattle.protocol_model.specs.declared.events.Event.{Event}
-use Rattle.protocol_model.specs.declared.events.Event.TheVariants as event
+use Rattle.protocol_model.specs.Client.{client_left}
 use Rattle.protocol_model.specs.declared.held.OpenCommand.{OpenCommand}
 use Rattle.protocol_model.specs.declared.plans.Does.TheVariants.{Nothing}
-use Rattle.protocol_model.specs.declared.plans.Planned.{Planned}
-use Rattle.protocol_model.specs.declared.plans.Start.{Start}
-use Rattle.protocol_model.specs.declared.states.State.{State}
-use Rattle.client_core.specs.Always.{FitsState}
-use Rattle.server_core.specs.Serving.{ServerValue}
-use Rattle.link_world.specs.declared.worlds.connection.Connection.{Connection}
-use Rattle.link_world.specs.Finishing.{commands_most, AreFirstOfJoining}
-use Rattle.link_world.specs.Links.{WorldValue, seen, with_world, IsReached}
-use Rattle.link_world.specs.Parts.{Makes, unwatched}
 use Rattle.link_world.proofs.EventLists.{run_append, leads_unwatched, done_now}
 use Rattle.link_world.proofs.Reached.{made}
 use Rattle.link_world.proofs.Undisturbed.{program_is}
@@ -60,15 +42,15 @@ joins_one e l k m es first then =
 
 -- each of them happened
 pub joins_all : (l a b c m : WorldValue) (n : ℕ) → n ≡ suc l.world.client.client.last
-    → a ≡ with_world l (after event.ClientLeaves l.world) → b ≡ with_world a (after event.ServerLeaves a.world)
-    → c ≡ with_world b (after event.Connect b.world) → m ≡ with_world c (after (event.Accept n) c.world)
+    → a ≡ with_world l (after Event.ClientLeaves l.world) → b ≡ with_world a (after Event.ServerLeaves a.world)
+    → c ≡ with_world b (after Event.Connect b.world) → m ≡ with_world c (after (Event.Accept n) c.world)
     → m ≡ with_world l (rejoined l.world)
 joins_all l a b c m n is first second third fourth =
-    subst (λ (k : ℕ). m ≡ with_world l (run_of (event.ClientLeaves ∷ event.ServerLeaves ∷ event.Connect ∷ event.Accept k ∷ []) l.world))
+    subst (λ (k : ℕ). m ≡ with_world l (run_of (Event.ClientLeaves ∷ Event.ServerLeaves ∷ Event.Connect ∷ Event.Accept k ∷ []) l.world))
     is
-    (joins_one (event.Accept n) l c m (event.ClientLeaves ∷ event.ServerLeaves ∷ event.Connect ∷ [])
-    (joins_one event.Connect l b c (event.ClientLeaves ∷ event.ServerLeaves ∷ [])
-    (joins_one event.ServerLeaves l a b (event.ClientLeaves ∷ []) first second) third) fourth)
+    (joins_one (Event.Accept n) l c m (Event.ClientLeaves ∷ Event.ServerLeaves ∷ Event.Connect ∷ [])
+    (joins_one Event.Connect l b c (Event.ClientLeaves ∷ Event.ServerLeaves ∷ [])
+    (joins_one Event.ServerLeaves l a b (Event.ClientLeaves ∷ []) first second) third) fourth)
 
 -- the first of them happened, and the next ran out of memory
 pub joins_cut : (l k m : WorldValue) (es more : List Event) → k ≡ with_world l (run_of es l.world) → m ≡ k
@@ -83,23 +65,23 @@ joins_cut l k m es more leads same parts = record {
 pub joins_none : (l m : WorldValue) → m ≡ l → Makes AreFirstOfJoining true None (unwatched l) (unwatched m)
 joins_none l m same = joins_cut l l m [] (rejoining l.world) refl same refl
 
-pub joins_client : (l a m : WorldValue) → a ≡ with_world l (after event.ClientLeaves l.world) → m ≡ a
+pub joins_client : (l a m : WorldValue) → a ≡ with_world l (after Event.ClientLeaves l.world) → m ≡ a
     → Makes AreFirstOfJoining true None (unwatched l) (unwatched m)
-joins_client l a m first same = joins_cut l a m (event.ClientLeaves ∷ []) _ first same refl
+joins_client l a m first same = joins_cut l a m (Event.ClientLeaves ∷ []) _ first same refl
 
-pub joins_server : (l a b m : WorldValue) → a ≡ with_world l (after event.ClientLeaves l.world)
-    → b ≡ with_world a (after event.ServerLeaves a.world) → m ≡ b → Makes AreFirstOfJoining true None (unwatched l) (unwatched m)
+pub joins_server : (l a b m : WorldValue) → a ≡ with_world l (after Event.ClientLeaves l.world)
+    → b ≡ with_world a (after Event.ServerLeaves a.world) → m ≡ b → Makes AreFirstOfJoining true None (unwatched l) (unwatched m)
 joins_server l a b m first second same =
-    joins_cut l b m (event.ClientLeaves ∷ event.ServerLeaves ∷ []) _
-    (joins_one event.ServerLeaves l a b (event.ClientLeaves ∷ []) first second) same refl
+    joins_cut l b m (Event.ClientLeaves ∷ Event.ServerLeaves ∷ []) _
+    (joins_one Event.ServerLeaves l a b (Event.ClientLeaves ∷ []) first second) same refl
 
-pub joins_connect : (l a b c m : WorldValue) → a ≡ with_world l (after event.ClientLeaves l.world)
-    → b ≡ with_world a (after event.ServerLeaves a.world) → c ≡ with_world b (after event.Connect b.world) → m ≡ c
+pub joins_connect : (l a b c m : WorldValue) → a ≡ with_world l (after Event.ClientLeaves l.world)
+    → b ≡ with_world a (after Event.ServerLeaves a.world) → c ≡ with_world b (after Event.Connect b.world) → m ≡ c
     → Makes AreFirstOfJoining true None (unwatched l) (unwatched m)
 joins_connect l a b c m first second third same =
-    joins_cut l c m (event.ClientLeaves ∷ event.ServerLeaves ∷ event.Connect ∷ []) _
-    (joins_one event.Connect l b c (event.ClientLeaves ∷ event.ServerLeaves ∷ [])
-    (joins_one event.ServerLeaves l a b (event.ClientLeaves ∷ []) first second) third) same refl
+    joins_cut l c m (Event.ClientLeaves ∷ Event.ServerLeaves ∷ Event.Connect ∷ []) _
+    (joins_one Event.Connect l b c (Event.ClientLeaves ∷ Event.ServerLeaves ∷ [])
+    (joins_one Event.ServerLeaves l a b (Event.ClientLeaves ∷ []) first second) third) same refl
 
 -- the number of the next connection
 pub next_at : (l : WorldValue) (client : ClientEnd) (server : ServerValue) (cs : List Connection) (written : List ℕ) (n : ℕ)
@@ -155,33 +137,33 @@ pub record IsJoined (w v : World) : Type 0 where
   pub window : v.client.client.window ≡ w.client.client.window
 
 client_leaves : (w : World) → w.client.client.state ≢ State.Done → FitsState w.client.client.state w.client.client.on
-    → IsFree w.client.client (after event.ClientLeaves w).client.client
+    → IsFree w.client.client (after Event.ClientLeaves w).client.client
 client_leaves w undone fits =
     subst (IsFree w.client.client) (by w.client.client.on) (left_free w.client.client w.client.client.on refl undone fits)
   where
     by : (b : Bool) → cond b (client_left w.client.client) w.client.client
-        ≡ (cond b (happens event.ClientLeaves w) w).client.client
+        ≡ (cond b (happens Event.ClientLeaves w) w).client.client
     by true = refl
     by false = refl
 
-server_leaves : (w : World) → (after event.ServerLeaves w).client ≡ w.client
-server_leaves w = by (can event.ServerLeaves w)
+server_leaves : (w : World) → (after Event.ServerLeaves w).client ≡ w.client
+server_leaves w = by (can Event.ServerLeaves w)
   where
-    by : (b : Bool) → (cond b (happens event.ServerLeaves w) w).client ≡ w.client
+    by : (b : Bool) → (cond b (happens Event.ServerLeaves w) w).client ≡ w.client
     by true = refl
     by false = refl
 
-accepts_same : (n : ℕ) (w : World) → (after (event.Accept n) w).client ≡ w.client
-accepts_same n w = by (can (event.Accept n) w)
+accepts_same : (n : ℕ) (w : World) → (after (Event.Accept n) w).client ≡ w.client
+accepts_same n w = by (can (Event.Accept n) w)
   where
-    by : (b : Bool) → (cond b (happens (event.Accept n) w) w).client ≡ w.client
+    by : (b : Bool) → (cond b (happens (Event.Accept n) w) w).client ≡ w.client
     by true = refl
     by false = refl
 
 connects : (w v : World) → IsFree w.client.client v.client.client → w.client.client.last < connection_most
-    → IsJoined w (after event.Connect v)
+    → IsJoined w (after Event.Connect v)
 connects w v free few =
-    subst (IsJoined w) (sym (done_now event.Connect v may)) (record {
+    subst (IsJoined w) (sym (done_now Event.Connect v may)) (record {
       state = refl;
       standard = refl;
       unsent = ap (λ (p : Meaning). plan p (length v.client.client.table.tally.features) Start.NewConnection) free.program
@@ -192,19 +174,19 @@ connects w v free few =
     below : nat_lt v.client.client.last connection_most ≡ true
     below = search (rules, below_yes v.client.client.last (subst (λ (i : ℕ). i < connection_most) (sym free.last) few))
 
-    may : can event.Connect v ≡ true
+    may : can Event.Connect v ≡ true
     may = ap (λ (b : Bool). b && nat_lt v.client.client.last connection_most) free.apart ∙ below
 
 pub joined_at : (w : World) → CanFinish w → FitsState w.client.client.state w.client.client.on
     → IsJoined w (rejoined w)
 joined_at w may fits =
-    let left : World = after event.ServerLeaves (after event.ClientLeaves w) in
+    let left : World = after Event.ServerLeaves (after Event.ClientLeaves w) in
     let free : IsFree w.client.client left.client.client =
-    subst (λ (e : ClientEnd). IsFree w.client.client e.client) (sym (server_leaves (after event.ClientLeaves w)))
+    subst (λ (e : ClientEnd). IsFree w.client.client e.client) (sym (server_leaves (after Event.ClientLeaves w)))
     (client_leaves w may.undone fits) in
-    let joined : IsJoined w (after event.Connect left) = connects w left free may.connections in
-    let same : (rejoined w).client ≡ (after event.Connect left).client =
-    accepts_same (suc w.client.client.last) (after event.Connect left) in record {
+    let joined : IsJoined w (after Event.Connect left) = connects w left free may.connections in
+    let same : (rejoined w).client ≡ (after Event.Connect left).client =
+    accepts_same (suc w.client.client.last) (after Event.Connect left) in record {
       state = ap (λ (e : ClientEnd). e.client.state) same ∙ joined.state;
       standard = ap (λ (e : ClientEnd). e.client.table.standard) same ∙ joined.standard;
       unsent = ap (λ (e : ClientEnd). e.client.table.tally.unsent) same ∙ joined.unsent;
@@ -229,33 +211,33 @@ joined_due w v joined some =
 
     go : (n : ℕ) → 1 ≤ n → is_some (first_due n 0 (plan_left w)) ≡ true
     go n le = ap (λ (b : Bool). is_some (cond {A = Option Planned} (b && true)
-        (Some (planned command.StartSession Nothing)) None)) (some_below n le)
+        (Some (planned Command.StartSession Nothing)) None)) (some_below n le)
 
 -- ---- how many commands there are
 
 behind_few : (k : ℕ) (ss : List Step) → length (behind k ss) ≤ length ss
 behind_few zero ss = omega arith
 behind_few (suc k) [] = omega arith
-behind_few (suc k) (step.Goto p ∷ ss) = let few = behind_few (suc k) ss in omega (arith, few)
-behind_few (suc k) (step.Begin l ∷ ss) = let few = behind_few (suc k) ss in omega (arith, few)
-behind_few (suc k) (step.Touch t ∷ ss) = go (is_empty (block_touches ss)) (behind_few k ss) (behind_few (suc k) ss)
+behind_few (suc k) (Step.Goto p ∷ ss) = let few = behind_few (suc k) ss in omega (arith, few)
+behind_few (suc k) (Step.Begin l ∷ ss) = let few = behind_few (suc k) ss in omega (arith, few)
+behind_few (suc k) (Step.Touch t ∷ ss) = go (is_empty (block_touches ss)) (behind_few k ss) (behind_few (suc k) ss)
   where
     go : (b : Bool) → length (behind k ss) ≤ length ss → length (behind (suc k) ss) ≤ length ss
         → length (cond b (behind k ss) (behind (suc k) ss)) ≤ suc (length ss)
     go true few more = omega (arith, few)
     go false few more = omega (arith, more)
-behind_few (suc k) (step.Tool n ∷ ss) = let few = behind_few (suc k) ss in omega (arith, few)
-behind_few (suc k) (step.Recall p ∷ ss) = let few = behind_few (suc k) ss in omega (arith, few)
-behind_few (suc k) (step.End ∷ ss) = let few = behind_few (suc k) ss in omega (arith, few)
+behind_few (suc k) (Step.Tool n ∷ ss) = let few = behind_few (suc k) ss in omega (arith, few)
+behind_few (suc k) (Step.Recall p ∷ ss) = let few = behind_few (suc k) ss in omega (arith, few)
+behind_few (suc k) (Step.End ∷ ss) = let few = behind_few (suc k) ss in omega (arith, few)
 
 stepping_few : (frame : Frame) (ss : List Step) → length (stepping frame ss) ≤ 2 * length ss
 stepping_few frame [] = omega arith
-stepping_few frame (step.Goto p ∷ ss) = let few = stepping_few frame ss in omega (arith, few)
-stepping_few frame (step.Begin l ∷ ss) = let few = stepping_few frame ss in omega (arith, few)
-stepping_few frame (step.Touch t ∷ ss) = let few = stepping_few frame ss in omega (arith, few)
-stepping_few frame (step.Tool n ∷ ss) = let few = stepping_few frame ss in omega (arith, few)
-stepping_few frame (step.Recall p ∷ ss) = let few = stepping_few (Part p) ss in omega (arith, few)
-stepping_few frame (step.End ∷ ss) = let few = stepping_few frame ss in omega (arith, few)
+stepping_few frame (Step.Goto p ∷ ss) = let few = stepping_few frame ss in omega (arith, few)
+stepping_few frame (Step.Begin l ∷ ss) = let few = stepping_few frame ss in omega (arith, few)
+stepping_few frame (Step.Touch t ∷ ss) = let few = stepping_few frame ss in omega (arith, few)
+stepping_few frame (Step.Tool n ∷ ss) = let few = stepping_few frame ss in omega (arith, few)
+stepping_few frame (Step.Recall p ∷ ss) = let few = stepping_few (Part p) ss in omega (arith, few)
+stepping_few frame (Step.End ∷ ss) = let few = stepping_few frame ss in omega (arith, few)
 
 tooling_few : (tool : Option (List ℕ)) (ps : List Planned) → length (tooling tool ++ ps) ≤ 1 + length ps
 tooling_few None ps = omega arith
@@ -267,7 +249,7 @@ framing_few (Part p) ps = omega arith
 
 measuring_few : (tool : Option (List ℕ)) (frame : Frame) (ss : List Step) → length (measuring tool frame ss) ≤ 4 + 2 * length ss
 measuring_few tool frame ss =
-    let last : List Planned = planned command.EndSession Nothing ∷ [] in
+    let last : List Planned = planned Command.EndSession Nothing ∷ [] in
     let a = tooling_few tool (framing frame ++ (stepping frame ss ++ last)) in
     let b = framing_few frame (stepping frame ss ++ last) in
     let c = length-append (stepping frame ss) last in

@@ -1,30 +1,18 @@
 -- A quiet round leaves nothing to do but what is due.
-use Rattle.std.proofs.Common.{◌≡◌, ◌⊎◌, inl, inr, ℕ, zero, suc, ◌-◌, nat_le, Bool, true, false, not, cond, ◌&&◌, List, [], ◌∷◌, ◌++◌, length, refl}
-use Rattle.std.proofs.Common.{ap, subst, sym, ◌∙◌, Option, Some, None, is_none, is_some, Result, Ok, Err, drop, slice_index_or, slice_set, ◌<◌, ◌≤◌, ◌≢◌, arith}
-use Rattle.std.proofs.lemmas.Bool.{false≢true, and_parts}
-use Rattle.contact_ledger.specs.Ledgers.{contact_count}
-use Rattle.contact_ledger.specs.declared.acts.Act.{Act}
-use Rattle.line_framing.specs.Next.{Front, next_of}
-use Rattle.line_framing.specs.declared.faults.FramingFault.{FramingFault}
-use Rattle.line_framing.specs.Framing.{Framing}
-use Rattle.protocol_model.specs.Lines.{reading_of}
-use Rattle.protocol_model.specs.Client.{Client, due}
-use Rattle.protocol_model.specs.Plan.{is_empty}
-use Rattle.protocol_model.specs.Server.{Server, Answer, server_read, server_turned, server_machined, running_job}
-use Rattle.protocol_model.specs.Ends.{ServerEnd, front_served, with_answer}
-use Rattle.protocol_model.specs.Rounds.{MayEnd, IsOne, AreWhile, Then, possible, all_up, all_down, ended, ending, working, AreWork, IsRound}
-use Rattle.protocol_model.specs.World.{World, Link, no_link, link_of, with_link, client_link, server_link, is_line, is_faulted, has_some, can}
-use Rattle.protocol_model.specs.World.{happens, after, run_of, server_writes}
-use Rattle.protocol_model.specs.declared.events.Event.{Event}
-use Rattle.protocol_model.specs.declared.events.Event.TheVariants as event
-use Rattle.protocol_model.specs.declared.machine.Job.{Job}
-use Rattle.protocol_model.specs.declared.machine.Outcome.{Outcome}
-use Rattle.protocol_model.specs.declared.states.State.{State}
-use Rattle.protocol_model.proofs.invariant.Moves.{Moves, read_moves, turned_moves, machined_moves}
+use Rattle.link_world.proofs.Names.{[], ◌&&◌, ◌++◌, ◌-◌, ◌<◌, ◌∙◌, ◌∷◌, ◌≡◌, ◌≢◌, ◌≤◌, ◌⊎◌, Act, after, all_down, all_up, and_parts, ap, AreWhile}
+use Rattle.link_world.proofs.Names.{AreWork, arith, Bool, can, Client, client_link, command_of, cond, contact_count, drop, due, ended, ending, Err}
+use Rattle.link_world.proofs.Names.{Event, false, false≢true, Framing, FramingFault, Front, front_served, happens, has_some, inl, inr, is_empty}
+use Rattle.link_world.proofs.Names.{is_line, is_none, is_some, IsOne, IsRound, Job, length, Link, link_of, List, machined_moves, MayEnd, Moves}
+use Rattle.link_world.proofs.Names.{nat_le, next_of, no_link, None, not, Ok, Option, Outcome, read_moves, reading_of, refl, Result, run_of}
+use Rattle.link_world.proofs.Names.{running_job, Server, server_link, server_machined, server_read, server_turned, server_writes, ServerEnd}
+use Rattle.link_world.proofs.Names.{slice_index_or, slice_set, Some, State, subst, suc, sym, Then, true, turned_moves, with_answer, with_link}
+use Rattle.link_world.proofs.Names.{working, World, zero, ℕ}
+use Rattle.protocol_model.specs.Server.{Answer}
+use Rattle.protocol_model.specs.Rounds.{possible}
+use Rattle.protocol_model.specs.World.{is_faulted}
 use Rattle.link_world.proofs.AllBytes.{possible_now, not_possible}
 use Rattle.link_world.proofs.EventLists.{run_append, done_now}
 use Rattle.link_world.proofs.Unsent.{unsent, front_few, is_calm, AreCalm, run_few, sent_less}
-use Rattle.protocol_model.specs.Readings.{command_of}
 
 -- ---- parts of a round that were not cut
 
@@ -85,8 +73,8 @@ one_keeps e P keeps w es one p = go (possible e w) refl one
 
 -- what turns and ends keep, work keeps
 work_keeps : (answer : Job → ℕ → Outcome) (P : World → Type 0)
-    → ((v : World) → P v → P (happens event.ServerTurn v))
-    → ((o : Outcome) (v : World) → P v → P (happens (event.Machine o) v)) → (w : World) (es : List Event)
+    → ((v : World) → P v → P (happens Event.ServerTurn v))
+    → ((o : Outcome) (v : World) → P v → P (happens (Event.Machine o) v)) → (w : World) (es : List Event)
     → AreWork answer false w es → P w → P (run_of es w)
 work_keeps answer P turns ends w [] h p = p
 work_keeps answer P turns ends w (e ∷ es) h p =
@@ -94,12 +82,12 @@ work_keeps answer P turns ends w (e ∷ es) h p =
   where
     go : (job : Option Job) → working (ended answer (contact_count w.server.server.ledger) job) w ≡ Some e → P (after e w)
     go None is =
-        subst (λ (x : Event). P (after x w)) (sym (possible_is event.ServerTurn e (can event.ServerTurn w) is))
-        (after_keeps event.ServerTurn P turns w p)
+        subst (λ (x : Event). P (after x w)) (sym (possible_is Event.ServerTurn e (can Event.ServerTurn w) is))
+        (after_keeps Event.ServerTurn P turns w p)
     go (Some job) is =
-        let same : e ≡ event.Machine (answer job (contact_count w.server.server.ledger)) = cc in
+        let same : e ≡ Event.Machine (answer job (contact_count w.server.server.ledger)) = cc in
         subst (λ (x : Event). P (after x w)) (sym same)
-        (after_keeps (event.Machine (answer job (contact_count w.server.server.ledger))) P
+        (after_keeps (Event.Machine (answer job (contact_count w.server.server.ledger))) P
         (ends (answer job (contact_count w.server.server.ledger))) w p)
 
 -- nothing is left to do after work
@@ -142,14 +130,14 @@ nothing false b = refl
 
 -- no byte waits that could move up, and none that could move down
 abbrev CannotUp : World → Type 0
-CannotUp w = can (event.Up (length (server_link w).up)) w ≡ false
+CannotUp w = can (Event.Up (length (server_link w).up)) w ≡ false
 
 abbrev CannotDown : World → Type 0
-CannotDown w = can (event.Down (length (client_link w).down)) w ≡ false
+CannotDown w = can (Event.Down (length (client_link w).down)) w ≡ false
 
 -- no line can be read by the server
 abbrev CannotRead : World → Type 0
-CannotRead w = can event.ServerReads w ≡ false
+CannotRead w = can Event.ServerReads w ≡ false
 
 -- the server has nothing to do
 abbrev IsIdle : (Job → ℕ → Outcome) → World → Type 0
@@ -167,10 +155,10 @@ no_bytes_down w none =
 
 -- after all bytes that can move up have moved, no more can
 up_over : (w : World) (es : List Event) → IsOne (all_up w) false es → CannotUp (run_of es w)
-up_over w es one = go (can (event.Up (length (server_link w).up)) w) refl
+up_over w es one = go (can (Event.Up (length (server_link w).up)) w) refl
   where
     moves : Event
-    moves = event.Up (length (server_link w).up)
+    moves = Event.Up (length (server_link w).up)
 
     only : (es ≡ moves ∷ []) ⊎ ((false ≡ true) × (es ≡ [])) → es ≡ moves ∷ []
     only (inl same) = same
@@ -188,10 +176,10 @@ up_over w es one = go (can (event.Up (length (server_link w).up)) w) refl
 
 -- after all bytes that can move down have moved, no more can
 down_over : (w : World) (es : List Event) → IsOne (all_down w) false es → CannotDown (run_of es w)
-down_over w es one = go (can (event.Down (length (client_link w).down)) w) refl
+down_over w es one = go (can (Event.Down (length (client_link w).down)) w) refl
   where
     moves : Event
-    moves = event.Down (length (client_link w).down)
+    moves = Event.Down (length (client_link w).down)
 
     only : (es ≡ moves ∷ []) ⊎ ((false ≡ true) × (es ≡ [])) → es ≡ moves ∷ []
     only (inl same) = same
@@ -230,10 +218,10 @@ answers_same w input a acts moves fault = record {
       ∙ up_at w.links (w.server.server.last - 1) (w.server.server.last - 1) _;
 }
 
-read_keeps_up : (w : World) → can event.ServerReads w ≡ true → CannotUp w
-    → CannotUp (happens event.ServerReads w)
+read_keeps_up : (w : World) → can Event.ServerReads w ≡ true → CannotUp w
+    → CannotUp (happens Event.ServerReads w)
 read_keeps_up w may h =
-    keeps_up w (happens event.ServerReads w) (go (next_of w.server.input.rest) (and_parts _ _ (and_parts _ _ may).1).1) h
+    keeps_up w (happens Event.ServerReads w) (go (next_of w.server.input.rest) (and_parts _ _ (and_parts _ _ may).1).1) h
   where
     go : (f : Front) → is_line f ≡ true → SameUp w (server_writes w (front_served w.server f))
     go (Ok None) line = absurd (false≢true line)
@@ -242,44 +230,44 @@ read_keeps_up w may h =
         (read_moves w.server.server (reading_of (command_of line))) refl
     go (Err why) line = absurd (false≢true line)
 
-turn_keeps_up : (w : World) → CannotUp w → CannotUp (happens event.ServerTurn w)
+turn_keeps_up : (w : World) → CannotUp w → CannotUp (happens Event.ServerTurn w)
 turn_keeps_up w h =
     let m = turned_moves w.server.server in
-    keeps_up w (happens event.ServerTurn w) (answers_same w w.server.input (server_turned w.server.server) m.0 m.1 refl) h
+    keeps_up w (happens Event.ServerTurn w) (answers_same w w.server.input (server_turned w.server.server) m.0 m.1 refl) h
 
-end_keeps_up : (o : Outcome) (w : World) → CannotUp w → CannotUp (happens (event.Machine o) w)
+end_keeps_up : (o : Outcome) (w : World) → CannotUp w → CannotUp (happens (Event.Machine o) w)
 end_keeps_up o w h =
     let m = machined_moves w.server.server o in
-    keeps_up w (happens (event.Machine o) w) (answers_same w w.server.input (server_machined w.server.server o) m.0 m.1 refl) h
+    keeps_up w (happens (Event.Machine o) w) (answers_same w w.server.input (server_machined w.server.server o) m.0 m.1 refl) h
 
-turn_keeps_lines : (w : World) → CannotRead w → CannotRead (happens event.ServerTurn w)
+turn_keeps_lines : (w : World) → CannotRead w → CannotRead (happens Event.ServerTurn w)
 turn_keeps_lines w h =
     ap (λ (b : Bool). b && (is_none w.server.input.fault && is_line (next_of w.server.input.rest))) (turned_moves w.server.server).1.on ∙ h
 
-end_keeps_lines : (o : Outcome) (w : World) → CannotRead w → CannotRead (happens (event.Machine o) w)
+end_keeps_lines : (o : Outcome) (w : World) → CannotRead w → CannotRead (happens (Event.Machine o) w)
 end_keeps_lines o w h =
     ap (λ (b : Bool). b && (is_none w.server.input.fault && is_line (next_of w.server.input.rest))) (machined_moves w.server.server o).1.on ∙ h
 
-down_keeps_up : (k : ℕ) (w : World) → CannotUp w → CannotUp (happens (event.Down k) w)
-down_keeps_up k w h = keeps_up w (happens (event.Down k) w) (record {
+down_keeps_up : (k : ℕ) (w : World) → CannotUp w → CannotUp (happens (Event.Down k) w)
+down_keeps_up k w h = keeps_up w (happens (Event.Down k) w) (record {
   on = refl;
   fault = refl;
   up = up_at w.links (w.client.client.last - 1) (w.server.server.last - 1) _;
 }) h
 
-heard_keeps_down : (w : World) → can event.ClientReads w ≡ true → CannotDown w
-    → CannotDown (happens event.ClientReads w)
+heard_keeps_down : (w : World) → can Event.ClientReads w ≡ true → CannotDown w
+    → CannotDown (happens Event.ClientReads w)
 heard_keeps_down w may h =
     let on : w.client.client.on ≡ true = (and_parts _ _ may).0 in
     let awake : not (is_faulted w.client.client.state) ≡ true = (and_parts _ _ (and_parts _ _ may).1).0 in
     let none : has_some (length (client_link w).down) (client_link w).down ≡ false = blocked _ _ _ on awake h in
-    let here : (link_of w.links (happens event.ClientReads w).client.client.last).down ≡ (client_link w).down =
+    let here : (link_of w.links (happens Event.ClientReads w).client.client.last).down ≡ (client_link w).down =
     ap (λ (n : ℕ). (link_of w.links n).down) (front_few w.client.client (next_of w.client.input.rest)).last in
-    ap (λ (b : Bool). (happens event.ClientReads w).client.client.on
-    && (not (is_faulted (happens event.ClientReads w).client.client.state) && b))
+    ap (λ (b : Bool). (happens Event.ClientReads w).client.client.on
+    && (not (is_faulted (happens Event.ClientReads w).client.client.state) && b))
     (ap (λ (bytes : List ℕ). has_some (length bytes) bytes) here ∙ none)
-    ∙ nothing (happens event.ClientReads w).client.client.on
-    (not (is_faulted (happens event.ClientReads w).client.client.state))
+    ∙ nothing (happens Event.ClientReads w).client.client.on
+    (not (is_faulted (happens Event.ClientReads w).client.client.state))
   where
     blocked : (a b c : Bool) → a ≡ true → b ≡ true → (a && (b && c)) ≡ false → c ≡ false
     blocked true true c on awake is = is
@@ -289,17 +277,17 @@ heard_keeps_down w may h =
 -- what is to be done depends on the server alone
 idle_by : (o : Option Event) (w v : World) → v.server ≡ w.server → working o w ≡ None → working o v ≡ None
 idle_by None w v same is =
-    ap (λ (s : ServerEnd). cond {A = Option Event} (is_none s.server.running && not (is_empty s.server.waiting)) (Some event.ServerTurn) None)
+    ap (λ (s : ServerEnd). cond {A = Option Event} (is_none s.server.running && not (is_empty s.server.waiting)) (Some Event.ServerTurn) None)
     same ∙ is
 idle_by (Some e) w v same is = is
 
 heard_keeps_idle : (answer : Job → ℕ → Outcome) (w : World) → IsIdle answer w
-    → IsIdle answer (happens event.ClientReads w)
-heard_keeps_idle answer w h = idle_by (ending answer w) w (happens event.ClientReads w) refl h
+    → IsIdle answer (happens Event.ClientReads w)
+heard_keeps_idle answer w h = idle_by (ending answer w) w (happens Event.ClientReads w) refl h
 
 down_keeps_idle : (answer : Job → ℕ → Outcome) (k : ℕ) (w : World) → IsIdle answer w
-    → IsIdle answer (happens (event.Down k) w)
-down_keeps_idle answer k w h = idle_by (ending answer w) w (happens (event.Down k) w) refl h
+    → IsIdle answer (happens (Event.Down k) w)
+down_keeps_idle answer k w h = idle_by (ending answer w) w (happens (Event.Down k) w) refl h
 
 -- ---- a whole round
 
@@ -309,7 +297,7 @@ record Rests (answer : Job → ℕ → Outcome) (w : World) : Type 0 where
   pub lines : CannotRead w
   pub idle : IsIdle answer w
   pub down : CannotDown w
-  pub heard : can event.ClientReads w ≡ false
+  pub heard : can Event.ClientReads w ≡ false
 
 behind_both : (answer : Job → ℕ → Outcome) (A B : Bool → World → List Event → Type 0) (w : World) (es : List Event)
     → (h : Then A B false w es) → Rests answer (run_of h.back (run_of h.front w)) → Rests answer (run_of es w)
@@ -317,25 +305,25 @@ behind_both answer A B w es h rests =
     subst (Rests answer) (sym (ap (λ (x : List Event). run_of x w) h.whole ∙ run_append h.front h.back w)) rests
 
 rests_heard : (answer : Job → ℕ → Outcome) (w : World) (es : List Event)
-    → AreWhile event.ClientReads false w es → CannotUp w → CannotRead w → IsIdle answer w → CannotDown w
+    → AreWhile Event.ClientReads false w es → CannotUp w → CannotRead w → IsIdle answer w → CannotDown w
     → Rests answer (run_of es w)
 rests_heard answer w es h up lines idle down = record {
-  up = while_keeps event.ClientReads CannotUp (λ v may p. p) w es h up;
-  lines = while_keeps event.ClientReads CannotRead (λ v may p. p) w es h lines;
-  idle = while_keeps event.ClientReads (IsIdle answer) (λ v may p. heard_keeps_idle answer v p) w es h idle;
-  down = while_keeps event.ClientReads CannotDown (heard_keeps_down) w es h down;
-  heard = while_over event.ClientReads w es h;
+  up = while_keeps Event.ClientReads CannotUp (λ v may p. p) w es h up;
+  lines = while_keeps Event.ClientReads CannotRead (λ v may p. p) w es h lines;
+  idle = while_keeps Event.ClientReads (IsIdle answer) (λ v may p. heard_keeps_idle answer v p) w es h idle;
+  down = while_keeps Event.ClientReads CannotDown (heard_keeps_down) w es h down;
+  heard = while_over Event.ClientReads w es h;
 }
 
 -- the parts of a round, from the last on
 abbrev Lowers : Bool → World → List Event → Type 0
-Lowers = Then (λ cut w. IsOne (all_down w) cut) (AreWhile event.ClientReads)
+Lowers = Then (λ cut w. IsOne (all_down w) cut) (AreWhile Event.ClientReads)
 
 abbrev Works : (Job → ℕ → Outcome) → Bool → World → List Event → Type 0
 Works answer = Then (AreWork answer) (Lowers)
 
 abbrev Serves : (Job → ℕ → Outcome) → Bool → World → List Event → Type 0
-Serves answer = Then (AreWhile event.ServerReads) (Works answer)
+Serves answer = Then (AreWhile Event.ServerReads) (Works answer)
 
 abbrev Raises : (Job → ℕ → Outcome) → Bool → World → List Event → Type 0
 Raises answer = Then (λ cut w. IsOne (all_up w) cut) (Serves answer)
@@ -343,13 +331,13 @@ Raises answer = Then (λ cut w. IsOne (all_up w) cut) (Serves answer)
 rests_lowered : (answer : Job → ℕ → Outcome) (w : World) (es : List Event) → Lowers false w es → CannotUp w
     → CannotRead w → IsIdle answer w → Rests answer (run_of es w)
 rests_lowered answer w es h up lines idle =
-    let both = then_whole (λ cut w. IsOne (all_down w) cut) (AreWhile event.ClientReads) w es h in
+    let both = then_whole (λ cut w. IsOne (all_down w) cut) (AreWhile Event.ClientReads) w es h in
     let n : ℕ = length (client_link w).down in
-    behind_both answer (λ cut w. IsOne (all_down w) cut) (AreWhile event.ClientReads) w es h
+    behind_both answer (λ cut w. IsOne (all_down w) cut) (AreWhile Event.ClientReads) w es h
     (rests_heard answer (run_of h.front w) h.back both.1
-    (one_keeps (event.Down n) CannotUp (down_keeps_up n) w h.front both.0 up)
-    (one_keeps (event.Down n) CannotRead (λ v p. p) w h.front both.0 lines)
-    (one_keeps (event.Down n) (IsIdle answer) (down_keeps_idle answer n) w h.front both.0 idle)
+    (one_keeps (Event.Down n) CannotUp (down_keeps_up n) w h.front both.0 up)
+    (one_keeps (Event.Down n) CannotRead (λ v p. p) w h.front both.0 lines)
+    (one_keeps (Event.Down n) (IsIdle answer) (down_keeps_idle answer n) w h.front both.0 idle)
     (down_over w h.front both.0))
 
 rests_worked : (answer : Job → ℕ → Outcome) (w : World) (es : List Event) → Works answer false w es → CannotUp w
@@ -365,11 +353,11 @@ rests_worked answer w es h up lines =
 rests_served : (answer : Job → ℕ → Outcome) (w : World) (es : List Event) → Serves answer false w es → CannotUp w
     → Rests answer (run_of es w)
 rests_served answer w es h up =
-    let both = then_whole (AreWhile event.ServerReads) (Works answer) w es h in
-    behind_both answer (AreWhile event.ServerReads) (Works answer) w es h
+    let both = then_whole (AreWhile Event.ServerReads) (Works answer) w es h in
+    behind_both answer (AreWhile Event.ServerReads) (Works answer) w es h
     (rests_worked answer (run_of h.front w) h.back both.1
-    (while_keeps event.ServerReads CannotUp (read_keeps_up) w h.front both.0 up)
-    (while_over event.ServerReads w h.front both.0))
+    (while_keeps Event.ServerReads CannotUp (read_keeps_up) w h.front both.0 up)
+    (while_over Event.ServerReads w h.front both.0))
 
 rests_raised : (answer : Job → ℕ → Outcome) (w : World) (es : List Event) → Raises answer false w es
     → Rests answer (run_of es w)
@@ -381,8 +369,8 @@ rests_raised answer w es h =
 rests : (answer : Job → ℕ → Outcome) (w : World) (es : List Event) → IsRound answer false w es
     → Rests answer (run_of es w)
 rests answer w es h =
-    let both = then_whole (AreWhile event.ClientSends) (Raises answer) w es h in
-    behind_both answer (AreWhile event.ClientSends) (Raises answer) w es h
+    let both = then_whole (AreWhile Event.ClientSends) (Raises answer) w es h in
+    behind_both answer (AreWhile Event.ClientSends) (Raises answer) w es h
     (rests_raised answer (run_of h.front w) h.back both.1)
 
 -- if nothing is due after a round, the next does nothing
@@ -405,7 +393,7 @@ round_still answer w es h none = go (run_of es w) (rests answer w es h) none
           back = [];
           whole = refl;
           parts = inl (
-            nothing_there (event.Up (length (server_link v).up)) v r.up,
+            nothing_there (Event.Up (length (server_link v).up)) v r.up,
             record {
               front = [];
               back = [];
@@ -422,7 +410,7 @@ round_still answer w es h none = go (run_of es w) (rests answer w es h) none
                       front = [];
                       back = [];
                       whole = refl;
-                      parts = inl (nothing_there (event.Down (length (client_link v).down)) v r.down, r.heard);
+                      parts = inl (nothing_there (Event.Down (length (client_link v).down)) v r.down, r.heard);
                     },
                   );
                 },
@@ -456,9 +444,9 @@ work_calm answer w [] h = tt
 work_calm answer w (e ∷ es) h = (go (running_job w.server.server) h.0, work_calm answer (after e w) es h.1)
   where
     go : (job : Option Job) → working (ended answer (contact_count w.server.server.ledger) job) w ≡ Some e → is_calm e ≡ true
-    go None is = ap is_calm (possible_is event.ServerTurn e (can event.ServerTurn w) is)
+    go None is = ap is_calm (possible_is Event.ServerTurn e (can Event.ServerTurn w) is)
     go (Some job) is =
-        let same : e ≡ event.Machine (answer job (contact_count w.server.server.ledger)) = cc in ap is_calm same
+        let same : e ≡ Event.Machine (answer job (contact_count w.server.server.ledger)) = cc in ap is_calm same
 
 both_calm : (A B : Bool → World → List Event → Type 0) (w : World) (es : List Event)
     → (h : Then A B false w es) → AreCalm h.front → AreCalm h.back → AreCalm es
@@ -466,10 +454,10 @@ both_calm A B w es h p q = subst AreCalm (sym h.whole) (calm_append h.front h.ba
 
 lowered_calm : (w : World) (es : List Event) → Lowers false w es → AreCalm es
 lowered_calm w es h =
-    let both = then_whole (λ cut w. IsOne (all_down w) cut) (AreWhile event.ClientReads) w es h in
-    both_calm (λ cut w. IsOne (all_down w) cut) (AreWhile event.ClientReads) w es h
-    (one_calm (event.Down (length (client_link w).down)) w h.front refl both.0)
-    (while_calm event.ClientReads (run_of h.front w) h.back refl both.1)
+    let both = then_whole (λ cut w. IsOne (all_down w) cut) (AreWhile Event.ClientReads) w es h in
+    both_calm (λ cut w. IsOne (all_down w) cut) (AreWhile Event.ClientReads) w es h
+    (one_calm (Event.Down (length (client_link w).down)) w h.front refl both.0)
+    (while_calm Event.ClientReads (run_of h.front w) h.back refl both.1)
 
 worked_calm : (answer : Job → ℕ → Outcome) (w : World) (es : List Event) → Works answer false w es → AreCalm es
 worked_calm answer w es h =
@@ -479,15 +467,15 @@ worked_calm answer w es h =
 
 served_calm : (answer : Job → ℕ → Outcome) (w : World) (es : List Event) → Serves answer false w es → AreCalm es
 served_calm answer w es h =
-    let both = then_whole (AreWhile event.ServerReads) (Works answer) w es h in
-    both_calm (AreWhile event.ServerReads) (Works answer) w es h
-    (while_calm event.ServerReads w h.front refl both.0) (worked_calm answer (run_of h.front w) h.back both.1)
+    let both = then_whole (AreWhile Event.ServerReads) (Works answer) w es h in
+    both_calm (AreWhile Event.ServerReads) (Works answer) w es h
+    (while_calm Event.ServerReads w h.front refl both.0) (worked_calm answer (run_of h.front w) h.back both.1)
 
 raised_calm : (answer : Job → ℕ → Outcome) (w : World) (es : List Event) → Raises answer false w es → AreCalm es
 raised_calm answer w es h =
     let both = then_whole (λ cut w. IsOne (all_up w) cut) (Serves answer) w es h in
     both_calm (λ cut w. IsOne (all_up w) cut) (Serves answer) w es h
-    (one_calm (event.Up (length (server_link w).up)) w h.front refl both.0)
+    (one_calm (Event.Up (length (server_link w).up)) w h.front refl both.0)
     (served_calm answer (run_of h.front w) h.back both.1)
 
 cons_there : (e : Event) (es : List Event) → e ∷ es ≡ [] → ⊥
@@ -497,22 +485,22 @@ cons_there e es is = cc
 
 -- a round that begins with a command that is due begins by sending it, and leaves less to be sent
 pub round_fewer : (answer : Job → ℕ → Outcome) (w : World) (es : List Event) → IsRound answer false w es
-    → is_some (due w.client.client) ≡ true → (happens event.ClientSends w).client.client.state ≢ State.Faulted
+    → is_some (due w.client.client) ≡ true → (happens Event.ClientSends w).client.client.state ≢ State.Faulted
     → (es ≢ []) × (unsent (run_of es w) < unsent w)
 round_fewer answer w es h some fine =
-    let both = then_whole (AreWhile event.ClientSends) (Raises answer) w es h in
+    let both = then_whole (AreWhile Event.ClientSends) (Raises answer) w es h in
     go h.front h.back both.0 h.whole (raised_calm answer (run_of h.front w) h.back both.1)
   where
-    go : (front back : List Event) → AreWhile event.ClientSends false w front → es ≡ front ++ back → AreCalm back
+    go : (front back : List Event) → AreWhile Event.ClientSends false w front → es ≡ front ++ back → AreCalm back
         → (es ≢ []) × (unsent (run_of es w) < unsent w)
     go [] back none whole calm = absurd (false≢true (sym none ∙ some))
     go (f ∷ fs) back sends whole calm =
-        let first : after f w ≡ happens event.ClientSends w = first_is event.ClientSends f w sends.0 sends.1 in
-        let less : unsent (happens event.ClientSends w) < unsent w = sent_less w sends.1 fine in
-        let few : unsent (run_of (fs ++ back) (happens event.ClientSends w)) ≤ unsent (happens event.ClientSends w) =
-        run_few (fs ++ back) (happens event.ClientSends w)
-        (calm_append fs back (while_calm event.ClientSends (happens event.ClientSends w) fs refl sends.2) calm) in
-        let same : run_of es w ≡ run_of (fs ++ back) (happens event.ClientSends w) =
+        let first : after f w ≡ happens Event.ClientSends w = first_is Event.ClientSends f w sends.0 sends.1 in
+        let less : unsent (happens Event.ClientSends w) < unsent w = sent_less w sends.1 fine in
+        let few : unsent (run_of (fs ++ back) (happens Event.ClientSends w)) ≤ unsent (happens Event.ClientSends w) =
+        run_few (fs ++ back) (happens Event.ClientSends w)
+        (calm_append fs back (while_calm Event.ClientSends (happens Event.ClientSends w) fs refl sends.2) calm) in
+        let same : run_of es w ≡ run_of (fs ++ back) (happens Event.ClientSends w) =
         ap (λ (x : List Event). run_of x w) whole ∙ ap (run_of (fs ++ back)) first in (
           λ none. cons_there f (fs ++ back) (sym whole ∙ none),
           subst (λ (v : World). unsent v < unsent w) (sym same) (omega (arith, few, less)),

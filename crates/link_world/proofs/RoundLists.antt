@@ -1,18 +1,9 @@
 -- Quiet rounds, one after another.
-use Rattle.std.proofs.Common.{◌≡◌, ◌≢◌, inl, inr, ℕ, ◌+◌, ◌<◌, Bool, true, false, List, [], ◌∷◌, ◌++◌, length, refl, sym, ◌∙◌, ap}
-use Rattle.std.proofs.Common.{subst, arith, append-nil, length-append, Option, Some, None, rules}
-use Rattle.std.specs.List.{All}
-use Rattle.std.proofs.lemmas.Bool.{false≢true}
-use Rattle.std.proofs.lemmas.Grind.{flat_map-append}
+use Rattle.link_world.proofs.Names.{[], ◌++◌, ◌+◌, ◌<◌, ◌∙◌, ◌∷◌, ◌≡◌, ◌≢◌, All, all_of, ap, append-nil, AreCounted, AreQuiet, AreRounds, AreTurns}
+use Rattle.link_world.proofs.Names.{arith, Bool, Event, false, false≢true, flat_map-append, inl, inr, IsRound, Job, Leading, length, length-append}
+use Rattle.link_world.proofs.Names.{List, Makes, None, Option, Outcome, refl, rounds_most, rules, run_of, Some, Staged, subst, sym, true, World, ℕ}
 use Rattle.std.proofs.lemmas.List.Elements.{All-push}
-use Rattle.protocol_model.specs.World.{World, run_of}
-use Rattle.protocol_model.specs.declared.machine.Job.{Job}
-use Rattle.protocol_model.specs.declared.machine.Outcome.{Outcome}
-use Rattle.protocol_model.specs.declared.events.Event.{Event}
-use Rattle.protocol_model.specs.Rounds.{IsRound, AreRounds, all_of}
-use Rattle.link_world.specs.Schedules.{AreCounted, AreQuiet, rounds_most}
-use Rattle.link_world.specs.Finishing.{AreTurns}
-use Rattle.link_world.specs.Parts.{is_any, Makes, Staged, Leading}
+use Rattle.link_world.specs.Parts.{is_any}
 use Rattle.link_world.proofs.EventLists.{run_append, leads_more, leads_none, leads_end, leads_world, none_there}
 
 -- n whole rounds; each of them did something if that is required

@@ -1,11 +1,8 @@
 -- A list of events with one more at its end.
-use Rattle.std.proofs.Common.{◌≡◌, ℕ, suc, ◌+◌, ◌<◌, ◌≤◌, true, false, List, [], ◌∷◌, ◌++◌, length, take, slice_index_or, sym, ◌∙◌, ap}
-use Rattle.std.proofs.Common.{subst, arith}
-use Rattle.std.proofs.lemmas.List.{take_more, take_all}
-use Rattle.protocol_model.specs.World.{World, can, happens}
-use Rattle.protocol_model.specs.declared.events.Event.{Event}
-use Rattle.link_world.specs.Claims.{takes_memory}
-use Rattle.link_world.specs.Runs.{Answer, Happened, Refused, Wanting, Follows, happened, refused, wanting, HasRun}
+use Rattle.link_world.proofs.Names.{[], ◌++◌, ◌+◌, ◌<◌, ◌∙◌, ◌∷◌, ◌≡◌, ◌≤◌, ap, arith, can, Event, false, Happened, happened, happens, HasRun, length}
+use Rattle.link_world.proofs.Names.{List, Refused, refused, slice_index_or, subst, suc, sym, take, take_all, take_more, takes_memory, true, Wanting}
+use Rattle.link_world.proofs.Names.{wanting, World, ℕ}
+use Rattle.link_world.specs.Runs.{Answer, Follows}
 
 -- one event with its answer
 abbrev Led : World → Event → Answer → World → Type 0

@@ -1,35 +1,26 @@
 -- What an event answers; and no event changes the setup, the program or the window.
-use Rattle.std.specs.Result.{IsErrOf}
-use Rattle.std.proofs.Common.{rules, ◌≡◌, true, false, List, [], ◌∷◌, refl, sym, ◌∙◌, ap, Result, Ok, Err}
-use Rattle.fixed_um.specs.Calls.{Leads}
-use Rattle.protocol_model.specs.World.{World, can, happens, run_of}
-use Rattle.protocol_model.specs.declared.events.Event.{Event}
-use Rattle.protocol_model.proofs.whole_run.SameProgram.{run_same, run_window}
-use Rattle.link_world.specs.Claims.{IsAnswer, takes_memory}
-use Rattle.link_world.specs.Events.{HappensIf}
-use Rattle.link_world.specs.Finishing.{IsSameKind}
-use Rattle.link_world.specs.Links.{WorldValue, with_world}
-use Rattle.link_world.specs.declared.worlds.faults.WorldFault.{WorldFault}
-use Rattle.link_world.specs.declared.worlds.faults.WorldFault.TheVariants as fault
+use Rattle.link_world.proofs.Names.{[], ◌∙◌, ◌∷◌, ◌≡◌, ap, can, Err, Event, false, happens, HappensIf, IsAnswer, IsErrOf, IsSameKind, Leads, List, Ok}
+use Rattle.link_world.proofs.Names.{refl, Result, rules, run_of, run_same, run_window, sym, takes_memory, true, with_world, World, WorldFault}
+use Rattle.link_world.proofs.Names.{WorldValue}
 use Rattle.link_world.proofs.Undisturbed.{after_can}
 
 pub answered : (e : Event) (w : World) (r : Result (Unit {0}) WorldFault) → HappensIf r (can e w)
-    → (IsErrOf r fault.Memory → takes_memory e ≡ true) → IsAnswer e w r
+    → (IsErrOf r WorldFault.Memory → takes_memory e ≡ true) → IsAnswer e w r
 answered e w (Ok u) may takes = may.0
-answered e w (Err fault.NotNow) may takes = may.1 (search rules)
-answered e w (Err fault.Memory) may takes = (may.2 (search rules), takes (search rules))
+answered e w (Err WorldFault.NotNow) may takes = may.1 (search rules)
+answered e w (Err WorldFault.Memory) may takes = (may.2 (search rules), takes (search rules))
 
-pub answer_refused : (e : Event) (w : World) (r : Result (Unit {0}) WorldFault) → IsAnswer e w r → IsErrOf r fault.NotNow
+pub answer_refused : (e : Event) (w : World) (r : Result (Unit {0}) WorldFault) → IsAnswer e w r → IsErrOf r WorldFault.NotNow
     → can e w ≡ false
 answer_refused e w (Ok u) a is = absurd (cc)
-answer_refused e w (Err fault.NotNow) a is = a
-answer_refused e w (Err fault.Memory) a is = absurd (cc)
+answer_refused e w (Err WorldFault.NotNow) a is = a
+answer_refused e w (Err WorldFault.Memory) a is = absurd (cc)
 
-pub answer_wanting : (e : Event) (w : World) (r : Result (Unit {0}) WorldFault) → IsAnswer e w r → IsErrOf r fault.Memory
+pub answer_wanting : (e : Event) (w : World) (r : Result (Unit {0}) WorldFault) → IsAnswer e w r → IsErrOf r WorldFault.Memory
     → (can e w ≡ true) × (takes_memory e ≡ true)
 answer_wanting e w (Ok u) a is = absurd (cc)
-answer_wanting e w (Err fault.NotNow) a is = absurd (cc)
-answer_wanting e w (Err fault.Memory) a is = a
+answer_wanting e w (Err WorldFault.NotNow) a is = absurd (cc)
+answer_wanting e w (Err WorldFault.Memory) a is = a
 
 same_kind : (l m : WorldValue) (e : Event) → can e l.world ≡ true
     → (m ≡ with_world l (happens e l.world)) → IsSameKind l m

@@ -1,13 +1,10 @@
 -- Lines that are read one by one, and the lines of a whole text.
-use Rattle.std.proofs.Common.{◌≡◌, ℕ, ◌+◌, Bool, true, false, List, [], ◌∷◌, ◌++◌, Option, Some, None, Result, Ok, Err, refl, sym, ap, ◌∙◌}
-use Rattle.std.proofs.Common.{append-nil, append_assoc}
-use Rattle.std.specs.List.{position_from}
-use Rattle.std.specs.Str.Lines.{lines}
+use Rattle.link_world.proofs.Names.{[], ◌++◌, ◌+◌, ◌∙◌, ◌∷◌, ◌≡◌, ap, append-nil, append_assoc, Bool, Err, false, Instruction, instruction_on}
+use Rattle.link_world.proofs.Names.{instructions_on, is_refused, lines, List, None, Ok, Option, position_from, refl, Result, schedule_on}
+use Rattle.link_world.proofs.Names.{ScheduleFault, Some, sym, true, ℕ}
 use Rattle.tool_rack.specs.Fields.{is_dropped}
-use Rattle.link_world.specs.ScheduleTexts.{instruction_on, is_refused, instructions_on, schedule_on, schedule_of}
+use Rattle.link_world.specs.ScheduleTexts.{schedule_of}
 use Rattle.link_world.proofs.ScheduleRuns.{read_behind}
-use Rattle.link_world.specs.declared.texts.schedules.Instruction.{Instruction}
-use Rattle.link_world.specs.declared.texts.schedule_faults.ScheduleFault.{ScheduleFault}
 use Rattle.link_world.specs.declared.texts.schedule_faults.ScheduleFault.TheVariants.{BadLine}
 
 -- instructions, and then those of lines, or the refusal of the line of this number

@@ -1,12 +1,8 @@
 -- Digits that write a number of a schedule.
-use Rattle.std.proofs.Common.{◌≡◌, ℕ, ◌+◌, ◌-◌, ◌*◌, ◌^◌, ◌<◌, ◌≤◌, true, ◌&&◌, nat_le, List, get_or, drop, length, sym, arith}
+use Rattle.link_world.proofs.Names.{◌&&◌, ◌*◌, ◌+◌, ◌-◌, ◌<◌, ◌^◌, ◌≡◌, ◌≤◌, AllDigits, and_parts, arith, digits_value, digits_value_after, drop}
+use Rattle.link_world.proofs.Names.{drop_all, get_or, is_number, leb-true, length, List, list_all, nat_le, sym, true, ℕ}
 use Rattle.std.specs.Char.{is_ascii_digit}
-use Rattle.std.specs.Str.Parse.{AllDigits, digits_value, digits_value_after}
-use Rattle.std.specs.List.{list_all}
-use Rattle.std.proofs.lemmas.List.{drop_all}
-use Rattle.std.proofs.lemmas.Bool.{and_parts, leb-true}
-use Rattle.fixed_um.proofs.DigitLemmas.{one_digit, value-digit, digits_value_after-ge, AllDigits-from_test, digits_value-below}
-use Rattle.link_world.specs.ScheduleTexts.{is_number}
+use Rattle.fixed_um.proofs.DigitLemmas.{AllDigits-from_test, digits_value-below, digits_value_after-ge, one_digit, value-digit}
 
 pub number_digits : (text : List ℕ) → is_number text ≡ true → AllDigits 10 text
 number_digits text h = AllDigits-from_test text ((and_parts _ _ h).0)

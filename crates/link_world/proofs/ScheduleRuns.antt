@@ -1,7 +1,5 @@
 -- Definitions that only proofs use.
-use Rattle.std.specs.Prelude.{ℕ, ◌+◌, List, [], ◌∷◌, Result, Ok, Err}
-use Rattle.link_world.specs.declared.texts.schedules.Instruction.{Instruction}
-use Rattle.link_world.specs.declared.texts.schedule_faults.ScheduleFault.{ScheduleFault}
+use Rattle.link_world.proofs.Names.{[], ◌+◌, ◌∷◌, Err, Instruction, List, Ok, Result, ScheduleFault, ℕ}
 use Rattle.link_world.specs.ScheduleCarrying.{read_line}
 
 -- one step, and then the next with what it gave

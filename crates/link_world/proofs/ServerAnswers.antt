@@ -1,21 +1,10 @@
 -- What the server answers in a world joins the bytes of its connection, and the bytes that come to it.
-use Rattle.std.proofs.Common.{◌≡◌, ℕ, ◌-◌, ◌<◌, Bool, true, false, not, ◌&&◌, is_none, List, ◌++◌, length, take, drop, slice_index_or}
-use Rattle.std.proofs.Common.{slice_set, sym, ◌∙◌, ap, subst, Option}
-use Rattle.line_framing.specs.Next.{next_of}
-use Rattle.line_framing.specs.declared.faults.FramingFault.{FramingFault}
-use Rattle.protocol_model.specs.Plan.{is_empty}
-use Rattle.protocol_model.specs.Server.{may_end}
-use Rattle.protocol_model.specs.Ends.{ClientEnd, ServerEnd, serving_fed}
-use Rattle.protocol_model.specs.World.{Link, no_link, link_of, with_link, is_line, has_some, can}
-use Rattle.protocol_model.specs.World.{server_writes, moved_up}
-use Rattle.protocol_model.specs.declared.events.Event.TheVariants as event
-use Rattle.protocol_model.specs.declared.lines.Line.{Line}
-use Rattle.protocol_model.specs.declared.lines.Waiting.{Waiting}
-use Rattle.protocol_model.specs.declared.machine.Outcome.{Outcome}
+use Rattle.link_world.proofs.Names.{◌&&◌, ◌++◌, ◌-◌, ◌<◌, ◌∙◌, ◌≡◌, ap, Bool, can, ClientEnd, Connection, drop, Event, false, fewer_up, FramingFault}
+use Rattle.link_world.proofs.Names.{has_some, is_empty, is_line, is_none, IsReached, length, Line, Link, link_of, link_of_connection, links_of, List}
+use Rattle.link_world.proofs.Names.{may_end, may_turn, moved_up, next_of, no_link, not, Option, Outcome, quiet_server, seen, server_writes, ServerEnd}
+use Rattle.link_world.proofs.Names.{ServerValue, serving_fed, slice_index_or, slice_set, subst, sym, take, true, Waiting, with_down, with_end}
+use Rattle.link_world.proofs.Names.{with_link, with_world, WorldValue, ℕ}
 use Rattle.protocol_model.proofs.invariant.Holding.{IsIdle}
-use Rattle.server_core.specs.Serving.{ServerValue, with_end, may_turn}
-use Rattle.link_world.specs.declared.worlds.connection.Connection.{Connection}
-use Rattle.link_world.specs.Links.{WorldValue, link_of_connection, links_of, with_down, fewer_up, quiet_server, seen, with_world, IsReached}
 use Rattle.link_world.proofs.Linking.{links_get, links_same, link_put}
 use Rattle.link_world.proofs.Reached.{carried, headline}
 
@@ -75,7 +64,7 @@ answers_seen client server after cs written at c d e place short is quiet down =
 pub up_may : (count : ℕ) (client : ClientEnd) (server : ServerValue) (cs : List Connection) (written : List ℕ) (at : ℕ) (c : Connection)
     → IsReached (seen client server cs written) → server.end.server.on ≡ true
     → at ≡ server.end.server.last - 1 → at < length cs → c ≡ slice_index_or cs at c
-    → can (event.Up count) (seen client server cs written).world ≡ has_some count c.up.waiting
+    → can (Event.Up count) (seen client server cs written).world ≡ has_some count c.up.waiting
 up_may count client server cs written at c h on place short is =
     let link : link_of (links_of cs) server.end.server.last ≡ link_of_connection c = here server cs at c place short is in
     ap (λ (x : Bool). x && (is_none server.end.input.fault && has_some count (link_of (links_of cs) server.end.server.last).up)) on
@@ -128,7 +117,7 @@ same_seen l client server after cs written at c d view short is same link =
 
 pub reads_may : (client : ClientEnd) (server : ServerValue) (cs : List Connection) (written : List ℕ)
     → IsReached (seen client server cs written) → server.end.server.on ≡ true
-    → can event.ServerReads (seen client server cs written).world ≡ is_line (next_of server.end.input.rest)
+    → can Event.ServerReads (seen client server cs written).world ≡ is_line (next_of server.end.input.rest)
 reads_may client server cs written h on =
     ap (λ (x : Bool). x && (is_none server.end.input.fault && is_line (next_of server.end.input.rest))) on
     ∙ ap (λ (x : Option FramingFault). is_none x && is_line (next_of server.end.input.rest))

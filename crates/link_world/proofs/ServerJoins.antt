@@ -1,46 +1,15 @@
 -- A server's turn over its ports is a list of events of the world.
-use Rattle.std.proofs.Common.{◌≡◌, ℕ, ◌-◌, ◌≤◌, Bool, true, false, ◌&&◌, cond, List, [], ◌∷◌, ◌++◌, length, take, drop}
-use Rattle.std.proofs.Common.{refl, sym, ◌∙◌, ap, subst, arith, append_assoc, append-nil, is_none, Option, Some, None, Ok, Err}
-use Rattle.std.proofs.lemmas.Bool.{false≢true, and_parts, and_from, le-leb}
-use Rattle.std.proofs.lemmas.List.{set-get_or, take-append-drop}
-use Rattle.line_framing.specs.Next.{Front, next_of}
-use Rattle.line_framing.specs.Framing.{Framing, fed, fed_behind}
-use Rattle.line_framing.specs.declared.faults.FramingFault.{FramingFault}
-use Rattle.fixed_um.specs.declared.frames.Frame.{Frame}
-use Rattle.fixed_um.specs.declared.lengths.Point.{Point}
-use Rattle.fixed_um.specs.Points.{point_sum}
-use Rattle.fixed_um.specs.Shapes.{Direction}
-use Rattle.tool_rack.specs.Setups.{shift_at}
-use Rattle.dme_line.specs.declared.commands.Command.{Command}
-use Rattle.dme_line.specs.declared.commands.Command.TheVariants as command
-use Rattle.protocol_model.specs.Readings.{command_of}
-use Rattle.contact_ledger.specs.Ledgers.{contact_count}
-use Rattle.dmis_program.specs.Programs.{IsProgram}
-use Rattle.dmis_program.specs.Meaning.{Meaning}
-use Rattle.protocol_model.specs.Lines.{reply_bytes, reading_of}
-use Rattle.protocol_model.specs.Claims.{Sound, Told}
-use Rattle.protocol_model.specs.Server.{Server, running_job, job_run, job_of, may_end, has_outcome, in_volume, offset}
-use Rattle.protocol_model.specs.Server.{server_turned, server_machined}
-use Rattle.protocol_model.specs.Ends.{ServerEnd, front_served, serving_fed, serving_read, serving_turned, serving_machined}
-use Rattle.protocol_model.specs.Ends.{serving_left}
-use Rattle.protocol_model.specs.World.{World, Link, no_link, server_link, with_link, is_line, start, can, after, run_of}
-use Rattle.protocol_model.specs.World.{server_writes}
-use Rattle.protocol_model.specs.declared.events.Event.{Event}
-use Rattle.protocol_model.specs.declared.events.Event.TheVariants as event
-use Rattle.protocol_model.specs.declared.lines.Line.{Line}
-use Rattle.protocol_model.specs.declared.machine.Job.{Job}
-use Rattle.protocol_model.specs.declared.machine.Job.TheVariants as job
-use Rattle.protocol_model.specs.declared.machine.Outcome.{Outcome}
-use Rattle.protocol_model.specs.declared.machine.Outcome.TheVariants as outcome
-use Rattle.protocol_model.proofs.invariant.Moves.{read_moves, turned_moves, machined_moves}
-use Rattle.protocol_model.proofs.whole_run.Carrying.{IsCarried}
-use Rattle.protocol_model.proofs.whole_run.WholeRun.{run_carried, start_carried, always_sound, always_told}
-use Rattle.server_core.specs.Serving.{may_feed, may_turn}
-use Rattle.link_world.specs.Machines.{fits_job, simulated}
-use Rattle.protocol_model.specs.Rounds.{AreWork, ending, ended, working}
-use Rattle.link_world.specs.Pumps.{Stage, Writing, Taking, Reading, Working}
-use Rattle.link_world.specs.ServerPumps.{ServerTurn, begins, takes, has, reads, knows, turns, ends, writes}
-use Rattle.link_world.specs.Joined.{IsServerTurn, TurnLeads, AreFit, server_joined}
+use Rattle.link_world.proofs.Names.{[], ◌&&◌, ◌++◌, ◌-◌, ◌∙◌, ◌∷◌, ◌≡◌, ◌≤◌, after, always_sound, always_told, and_from, and_parts, ap, append-nil}
+use Rattle.link_world.proofs.Names.{append_assoc, AreFit, AreWork, arith, Bool, can, Command, command_of, cond, contact_count, Direction, drop, ended}
+use Rattle.link_world.proofs.Names.{ending, ends, Err, Event, false, false≢true, fed, fed_behind, fits_job, Frame, Framing, FramingFault, Front}
+use Rattle.link_world.proofs.Names.{front_served, has_outcome, in_volume, is_line, is_none, IsCarried, IsProgram, IsServerTurn, Job, job_of, job_run}
+use Rattle.link_world.proofs.Names.{knows, le-leb, length, Line, Link, List, machined_moves, may_end, may_feed, may_turn, Meaning, next_of, no_link}
+use Rattle.link_world.proofs.Names.{None, offset, Ok, Option, Outcome, Point, point_sum, read_moves, Reading, reading_of, refl, reply_bytes}
+use Rattle.link_world.proofs.Names.{run_carried, run_of, running_job, Server, server_joined, server_link, server_machined, server_turned}
+use Rattle.link_world.proofs.Names.{server_writes, ServerEnd, ServerTurn, serving_fed, serving_left, serving_machined, serving_read, serving_turned}
+use Rattle.link_world.proofs.Names.{set-get_or, shift_at, simulated, Some, Sound, Stage, start, start_carried, subst, sym, take, take-append-drop}
+use Rattle.link_world.proofs.Names.{Taking, Told, true, turned_moves, TurnLeads, turns, with_link, Working, working, World, Writing, ℕ}
+use Rattle.link_world.specs.ServerPumps.{begins, has, reads, takes, writes}
 use Rattle.link_world.proofs.EventLists.{run_append, done_now, not_done}
 use Rattle.link_world.proofs.TurnJoins.{SoFar, not_yet, once_more, Worked, no_work, more_work, all_worked, heard_only, served_whole}
 use Rattle.link_world.proofs.ClientJoins.{put_again, fed_none, never_none, fits}
@@ -59,60 +28,60 @@ may_end_by f (Some line) j o is fit = go line.command is
     fits_as : (k : Job) → Some k ≡ Some j → fits_job k o ≡ true
     fits_as k same = subst (λ (x : Job). fits_job x o ≡ true) (sym (ap job_in same)) fit
 
-    home : (o : Outcome) → fits_job job.Home o ≡ true → has_outcome command.Home o ≡ true
-    home outcome.Done fit = refl
-    home (outcome.Touched at) fit = absurd (false≢true fit)
-    home outcome.Missed fit = absurd (false≢true fit)
-    home outcome.Fault fit = refl
+    home : (o : Outcome) → fits_job Job.Home o ≡ true → has_outcome Command.Home o ≡ true
+    home Outcome.Done fit = refl
+    home (Outcome.Touched at) fit = absurd (false≢true fit)
+    home Outcome.Missed fit = absurd (false≢true fit)
+    home Outcome.Fault fit = refl
 
-    move : (p q : Point) (o : Outcome) → fits_job (job.Move q) o ≡ true → has_outcome (command.GoTo p) o ≡ true
-    move p q outcome.Done fit = refl
-    move p q (outcome.Touched at) fit = absurd (false≢true fit)
-    move p q outcome.Missed fit = absurd (false≢true fit)
-    move p q outcome.Fault fit = refl
+    move : (p q : Point) (o : Outcome) → fits_job (Job.Move q) o ≡ true → has_outcome (Command.GoTo p) o ≡ true
+    move p q Outcome.Done fit = refl
+    move p q (Outcome.Touched at) fit = absurd (false≢true fit)
+    move p q Outcome.Missed fit = absurd (false≢true fit)
+    move p q Outcome.Fault fit = refl
 
-    change : (n m : List ℕ) (o : Outcome) → fits_job (job.Change m) o ≡ true → has_outcome (command.ChangeTool n) o ≡ true
-    change n m outcome.Done fit = refl
-    change n m (outcome.Touched at) fit = absurd (false≢true fit)
-    change n m outcome.Missed fit = absurd (false≢true fit)
-    change n m outcome.Fault fit = refl
+    change : (n m : List ℕ) (o : Outcome) → fits_job (Job.Change m) o ≡ true → has_outcome (Command.ChangeTool n) o ≡ true
+    change n m Outcome.Done fit = refl
+    change n m (Outcome.Touched at) fit = absurd (false≢true fit)
+    change n m Outcome.Missed fit = absurd (false≢true fit)
+    change n m Outcome.Fault fit = refl
 
-    touch : (p q : Point) (d : Option Direction) (o : Outcome) → fits_job (job.Touch q d) o ≡ true
-        → has_outcome (command.PtMeas p d) o ≡ true
-    touch p q d outcome.Done fit = absurd (false≢true fit)
-    touch p q d (outcome.Touched at) fit = fit
-    touch p q d outcome.Missed fit = refl
-    touch p q d outcome.Fault fit = refl
+    touch : (p q : Point) (d : Option Direction) (o : Outcome) → fits_job (Job.Touch q d) o ≡ true
+        → has_outcome (Command.PtMeas p d) o ≡ true
+    touch p q d Outcome.Done fit = absurd (false≢true fit)
+    touch p q d (Outcome.Touched at) fit = fit
+    touch p q d Outcome.Missed fit = refl
+    touch p q d Outcome.Fault fit = refl
 
     go : (c : Command) → job_of f c ≡ Some j → has_outcome c o ≡ true
-    go command.Home is = home o (fits_as job.Home is)
-    go (command.ChangeTool n) is = change n n o (fits_as (job.Change n) is)
-    go (command.GoTo p) is = move p (point_sum p (offset f)) o (fits_as (job.Move (point_sum p (offset f))) is)
-    go (command.PtMeas p d) is = touch p (point_sum p (offset f)) d o (fits_as (job.Touch (point_sum p (offset f)) d) is)
-    go command.StartSession is = absurd (cc)
-    go command.EndSession is = absurd (cc)
-    go command.ClearAllErrors is = absurd (cc)
-    go command.OnPtMeasReport is = absurd (cc)
-    go command.IsHomed is = absurd (cc)
-    go (command.SetCsyTransformation p) is = absurd (cc)
-    go (command.SetCoordSystem system) is = absurd (cc)
-    go command.AbortE is = absurd (cc)
+    go Command.Home is = home o (fits_as Job.Home is)
+    go (Command.ChangeTool n) is = change n n o (fits_as (Job.Change n) is)
+    go (Command.GoTo p) is = move p (point_sum p (offset f)) o (fits_as (Job.Move (point_sum p (offset f))) is)
+    go (Command.PtMeas p d) is = touch p (point_sum p (offset f)) d o (fits_as (Job.Touch (point_sum p (offset f)) d) is)
+    go Command.StartSession is = absurd (cc)
+    go Command.EndSession is = absurd (cc)
+    go Command.ClearAllErrors is = absurd (cc)
+    go Command.OnPtMeasReport is = absurd (cc)
+    go Command.IsHomed is = absurd (cc)
+    go (Command.SetCsyTransformation p) is = absurd (cc)
+    go (Command.SetCoordSystem system) is = absurd (cc)
+    go Command.AbortE is = absurd (cc)
 
 none_run : (f : Frame) (r : Option Line) → is_none r ≡ true → job_run f r ≡ None
 none_run f None is = refl
 none_run f (Some line) is = absurd (false≢true is)
 
 met_fits : (p q : Point) (d : Option Direction) (b : Bool) → in_volume p ≡ b
-    → fits_job (job.Touch q d) (cond b (outcome.Touched p) outcome.Missed) ≡ true
+    → fits_job (Job.Touch q d) (cond b (Outcome.Touched p) Outcome.Missed) ≡ true
 met_fits p q d true is = is
 met_fits p q d false is = refl
 
 -- what the simulated machine answers fits
 pub simulated_fits : (shifts : List Point) → AreFit (simulated shifts)
-simulated_fits shifts (job.Touch p d) n = met_fits (point_sum p (shift_at shifts n)) p d (in_volume (point_sum p (shift_at shifts n))) refl
-simulated_fits shifts job.Home n = refl
-simulated_fits shifts (job.Move p) n = refl
-simulated_fits shifts (job.Change m) n = refl
+simulated_fits shifts (Job.Touch p d) n = met_fits (point_sum p (shift_at shifts n)) p d (in_volume (point_sum p (shift_at shifts n))) refl
+simulated_fits shifts Job.Home n = refl
+simulated_fits shifts (Job.Move p) n = refl
+simulated_fits shifts (Job.Change m) n = refl
 
 -- ---- what a server keeps
 
@@ -160,23 +129,23 @@ begun w h = sym (λ i. record {
   written = w.written;
 })
 
-begun_on : (w : World) → IsServing w → after (event.Up 0) w ≡ server_joined w w.server w.server.out 0
-begun_on w h = not_done (event.Up 0) w (never_none w.server.server.on (is_none w.server.input.fault)) ∙ begun w h
+begun_on : (w : World) → IsServing w → after (Event.Up 0) w ≡ server_joined w w.server w.server.out 0
+begun_on w h = not_done (Event.Up 0) w (never_none w.server.server.on (is_none w.server.input.fault)) ∙ begun w h
 
-some_up : (w : World) (k : ℕ) → may_feed w.server ≡ true → 1 ≤ k → k ≤ length (server_link w).up → can (event.Up k) w ≡ true
+some_up : (w : World) (k : ℕ) → may_feed w.server ≡ true → 1 ≤ k → k ≤ length (server_link w).up → can (Event.Up k) w ≡ true
 some_up w k may some le =
     let parts = and_parts _ _ may in
     and_from _ _ parts.0 (and_from _ _ parts.1 (and_from _ _ (le-leb 1 k some) (le-leb k (length (server_link w).up) le)))
 
 takes_on : (w : World) (read : List ℕ) → IsServing w → may_feed w.server ≡ true
     → take (length read) (server_link w).up ≡ read
-    → after (event.Up (length read)) w ≡ server_joined w (serving_fed read w.server) w.server.out (length read)
+    → after (Event.Up (length read)) w ≡ server_joined w (serving_fed read w.server) w.server.out (length read)
 takes_on w [] h may front =
     begun_on w h ∙ ap (λ (f : Framing). server_joined w (record (w.server) { input = f }) w.server.out 0)
     (sym (fed_none w.server.input))
 takes_on w (x ∷ xs) h may front =
     let k : ℕ = length (x ∷ xs) in
-    done_now (event.Up k) w (some_up w k may (omega arith) (fits (x ∷ xs) (server_link w).up front))
+    done_now (Event.Up k) w (some_up w k may (omega arith) (fits (x ∷ xs) (server_link w).up front))
     ∙ (λ i. record {
       client = w.client;
       server = record (w.server) { input = fed w.server.input (front i); out = h.out i };
@@ -203,54 +172,54 @@ writes_on w e f more k h last = λ i. record {
 
 reads_on : (w : World) (e : ServerEnd) (k : ℕ) → IsServing w → e.server.last ≡ w.server.server.last
     → e.input.fault ≡ None → e.server.on ≡ true → is_line (next_of e.input.rest) ≡ true
-    → after event.ServerReads (server_joined w e e.out k)
+    → after Event.ServerReads (server_joined w e e.out k)
     ≡ server_joined w (serving_read e) (serving_read e).out k
 reads_on w e k h last fine on is =
     let f : ServerEnd = serving_read (record e { out = [] }) in
-    done_now event.ServerReads (server_joined w e e.out k) (and_from _ _ on (and_from _ _ (ap is_none fine) is))
+    done_now Event.ServerReads (server_joined w e e.out k) (and_from _ _ on (and_from _ _ (ap is_none fine) is))
     ∙ (writes_on w e f f.out k h last
     ∙ ap (λ (x : ServerEnd). server_joined w x x.out k) (sym (served_more e (next_of e.input.rest) is)))
 
 turns_on : (w : World) (e : ServerEnd) (k : ℕ) → IsServing w → e.server.last ≡ w.server.server.last
     → may_turn e.server ≡ true
-    → after event.ServerTurn (server_joined w e e.out k) ≡ server_joined w (serving_turned e) (serving_turned e).out k
+    → after Event.ServerTurn (server_joined w e e.out k) ≡ server_joined w (serving_turned e) (serving_turned e).out k
 turns_on w e k h last may =
-    done_now event.ServerTurn (server_joined w e e.out k) may
+    done_now Event.ServerTurn (server_joined w e e.out k) may
     ∙ writes_on w e (serving_turned e) (reply_bytes (server_turned e.server).said) k h last
 
 ends_on : (w : World) (e : ServerEnd) (k : ℕ) (o : Outcome) → IsServing w → e.server.last ≡ w.server.server.last
     → may_end e.server.running o ≡ true
-    → after (event.Machine o) (server_joined w e e.out k) ≡ server_joined w (serving_machined o e) (serving_machined o e).out k
+    → after (Event.Machine o) (server_joined w e e.out k) ≡ server_joined w (serving_machined o e) (serving_machined o e).out k
 ends_on w e k o h last may =
-    done_now (event.Machine o) (server_joined w e e.out k) may
+    done_now (Event.Machine o) (server_joined w e e.out k) may
     ∙ writes_on w e (serving_machined o e) (reply_bytes (server_machined e.server o).said) k h last
 
 -- ---- what the server has to do
 
 next_turn : (answer : Job → ℕ → Outcome) (w : World) → may_turn w.server.server ≡ true
-    → working (ending answer w) w ≡ Some event.ServerTurn
+    → working (ending answer w) w ≡ Some Event.ServerTurn
 next_turn answer w may =
     let s : Server = w.server.server in
     ap (λ (o : Option Job). working (ended answer (contact_count s.ledger) o) w) (none_run s.frame s.running (and_parts _ _ may).0)
-    ∙ ap (λ (b : Bool). cond {A = Option Event} b (Some event.ServerTurn) None) may
+    ∙ ap (λ (b : Bool). cond {A = Option Event} b (Some Event.ServerTurn) None) may
 
 next_end : (answer : Job → ℕ → Outcome) (w : World) (j : Job) → running_job w.server.server ≡ Some j
-    → working (ending answer w) w ≡ Some (event.Machine (answer j (contact_count w.server.server.ledger)))
+    → working (ending answer w) w ≡ Some (Event.Machine (answer j (contact_count w.server.server.ledger)))
 next_end answer w j is = ap (λ (o : Option Job). working (ended answer (contact_count w.server.server.ledger) o) w) is
 
 next_none : (answer : Job → ℕ → Outcome) (w : World) → may_turn w.server.server ≡ false → running_job w.server.server ≡ None
     → working (ending answer w) w ≡ None
 next_none answer w idle none =
     ap (λ (o : Option Job). working (ended answer (contact_count w.server.server.ledger) o) w) none
-    ∙ ap (λ (b : Bool). cond {A = Option Event} b (Some event.ServerTurn) None) idle
+    ∙ ap (λ (b : Bool). cond {A = Option Event} b (Some Event.ServerTurn) None) idle
 
 -- ---- the turn
 
 -- in addition: the server stays on its connection and meets no fault
 record Hears (w : World) (read written : List ℕ) (e : ServerEnd) : Type 0 where
   pub fed : World
-  pub came : after (event.Up (length read)) w ≡ fed
-  pub so_far : SoFar event.ServerReads fed (server_joined w e e.out (length read))
+  pub came : after (Event.Up (length read)) w ≡ fed
+  pub so_far : SoFar Event.ServerReads fed (server_joined w e e.out (length read))
   pub none : written ≡ []
   pub last : e.server.last ≡ w.server.server.last
   pub fine : e.input.fault ≡ None
@@ -258,10 +227,10 @@ record Hears (w : World) (read written : List ℕ) (e : ServerEnd) : Type 0 wher
 -- and it has read all
 record Works (answer : Job → ℕ → Outcome) (w : World) (read written : List ℕ) (e : ServerEnd) : Type 0 where
   pub fed : World
-  pub came : after (event.Up (length read)) w ≡ fed
+  pub came : after (Event.Up (length read)) w ≡ fed
   pub first : ServerEnd
-  pub heard : SoFar event.ServerReads fed (server_joined w first first.out (length read))
-  pub all : can event.ServerReads (server_joined w first first.out (length read)) ≡ false
+  pub heard : SoFar Event.ServerReads fed (server_joined w first first.out (length read))
+  pub all : can Event.ServerReads (server_joined w first first.out (length read)) ≡ false
   pub so_far : Worked answer (server_joined w first first.out (length read)) (server_joined w e (written ++ e.out) (length read))
   pub last : e.server.last ≡ w.server.server.last
 
@@ -284,7 +253,7 @@ plays : (answer : Job → ℕ → Outcome) (least : ℕ) (w : World) (stage : St
 plays answer least w _ _ _ _ h fit front begins = record {
   fed = server_joined w w.server w.server.out 0;
   came = begun_on w h;
-  so_far = not_yet event.ServerReads (server_joined w w.server w.server.out 0) (server_joined w w.server w.server.out 0) refl;
+  so_far = not_yet Event.ServerReads (server_joined w w.server w.server.out 0) (server_joined w w.server w.server.out 0) refl;
   none = refl;
   last = refl;
   fine = h.fine;
@@ -293,7 +262,7 @@ plays answer least w _ _ _ _ h fit front (takes read may) =
     let v : World = server_joined w (serving_fed read w.server) w.server.out (length read) in record {
       fed = v;
       came = takes_on w read h may front;
-      so_far = not_yet event.ServerReads v v refl;
+      so_far = not_yet Event.ServerReads v v refl;
       none = refl;
       last = refl;
       fine = fed_fine w.server.input.fault w.server.input.rest read ∙ h.fine;
@@ -303,7 +272,7 @@ plays answer least w _ _ _ _ h fit front (reads e read t on is) =
     let p : Hears w read [] e = plays answer least w Reading read [] e h fit front t in record {
       fed = p.fed;
       came = p.came;
-      so_far = once_more event.ServerReads p.fed (server_joined w e e.out (length read))
+      so_far = once_more Event.ServerReads p.fed (server_joined w e e.out (length read))
           (server_joined w (serving_read e) (serving_read e).out (length read)) p.so_far
           (and_from _ _ on (and_from _ _ (ap is_none p.fine) is)) (reads_on w e (length read) h p.last p.fine on is);
       none = refl;
@@ -329,7 +298,7 @@ plays answer least w _ _ _ _ h fit front (turns e read t may) =
       first = p.first;
       heard = p.heard;
       all = p.all;
-      so_far = more_work answer event.ServerTurn (server_joined w p.first p.first.out (length read))
+      so_far = more_work answer Event.ServerTurn (server_joined w p.first p.first.out (length read))
           (server_joined w e e.out (length read)) (server_joined w (serving_turned e) (serving_turned e).out (length read)) p.so_far
           (next_turn answer (server_joined w e e.out (length read)) may) (turns_on w e (length read) h p.last may);
       last = (turned_moves e.server).1.last ∙ p.last;
@@ -342,7 +311,7 @@ plays answer least w _ _ _ _ h fit front (ends e read j t is) =
       first = p.first;
       heard = p.heard;
       all = p.all;
-      so_far = more_work answer (event.Machine o) (server_joined w p.first p.first.out (length read))
+      so_far = more_work answer (Event.Machine o) (server_joined w p.first p.first.out (length read))
           (server_joined w e e.out (length read)) (server_joined w (serving_machined o e) (serving_machined o e).out (length read)) p.so_far
           (next_end answer (server_joined w e e.out (length read)) j is)
           (ends_on w e (length read) o h p.last
@@ -416,10 +385,10 @@ serving_whole answer fit least w read written e out fine from to front t =
 -- the server leaves its connection after events that have led so far
 pub serving_leaves : (w : World) (events : List Event) (e : ServerEnd) (text : List ℕ) (count : ℕ)
     → run_of events w ≡ server_joined w e text count → e.server.on ≡ true
-    → run_of (events ++ event.ServerLeaves ∷ []) w ≡ record (server_joined w e text count) { server = serving_left e }
+    → run_of (events ++ Event.ServerLeaves ∷ []) w ≡ record (server_joined w e text count) { server = serving_left e }
 serving_leaves w events e text count leads on =
-    run_append events (event.ServerLeaves ∷ []) w
-    ∙ (ap (after event.ServerLeaves) leads ∙ done_now event.ServerLeaves (server_joined w e text count) on)
+    run_append events (Event.ServerLeaves ∷ []) w
+    ∙ (ap (after Event.ServerLeaves) leads ∙ done_now Event.ServerLeaves (server_joined w e text count) on)
 
 -- if a server reads, and from then on, as many bytes have come in as were asked for
 abbrev Enough : Stage → ℕ → List ℕ → Type 0

@@ -1,35 +1,16 @@
 -- What a server's turn makes of its end.
-use Rattle.std.proofs.Common.{◌≡◌, ℕ, ◌+◌, ◌*◌, ◌<◌, ◌≤◌, Bool, true, false, ◌&&◌, ◌||◌, List, [], ◌∷◌, ◌++◌, length, take, drop}
-use Rattle.std.proofs.Common.{refl, sym, ◌∙◌, ap, subst, arith, append-nil, length-append, length-take-le, is_some, is_none, Option, Some, None, Ok, Err}
-use Rattle.std.proofs.Common.{option_map, Result}
-use Rattle.std.proofs.lemmas.Bool.{false≢true, and_parts}
-use Rattle.std.proofs.lemmas.List.{take-append-le}
-use Rattle.std.specs.Io.KnownBytes.{Appends, Consumes}
-use Rattle.std.proofs.KnownBytes.{Consumes-nil, Consumes-trans, Appends-nil}
-use Rattle.line_framing.specs.Next.{Front, next_of}
-use Rattle.line_framing.specs.Framing.{IsLineDue, IsSound, Framing, fed, fed_behind}
-use Rattle.line_framing.specs.declared.faults.FramingFault.{FramingFault}
-use Rattle.contact_ledger.specs.Ledgers.{contact_count}
-use Rattle.protocol_model.specs.Server.{Server, running_job, may_end}
-use Rattle.protocol_model.specs.Ends.{ServerEnd, serving_fed, serving_read, serving_turned, serving_machined, serving_taken, serving_left}
-use Rattle.protocol_model.specs.Ends.{new_client_end, front_served}
-use Rattle.protocol_model.specs.World.{World, is_line}
-use Rattle.protocol_model.specs.declared.lines.Line.{Line}
-use Rattle.protocol_model.specs.declared.machine.Job.{Job}
-use Rattle.protocol_model.specs.declared.machine.Outcome.{Outcome}
-use Rattle.server_core.specs.Serving.{ServerValue, with_end, may_feed, may_turn, IsFeedFault, IsReadFault}
-use Rattle.server_core.specs.Steady.{IsRunnable}
-use Rattle.server_core.specs.declared.faults.ServerFault.{ServerFault}
-use Rattle.server_core.specs.declared.faults.ServerFault.TheVariants as server_fault
-use Rattle.link_world.specs.declared.connections.pumps.PumpFault.{PumpFault}
-use Rattle.link_world.specs.declared.connections.pumps.PumpFault.TheVariants as fault
-use Rattle.link_world.specs.Pumps.{Stage, Writing, Taking, Reading, Working}
-use Rattle.link_world.specs.PumpParts.{Pushed, IsPushFault, IsPullFault, IsTakeFault}
-use Rattle.link_world.specs.ServerPumps.{ServerTurn, begins, takes, has, reads, knows, turns, ends, writes}
-use Rattle.link_world.specs.ServerPumps.{ServerMovedWithin, ServerStoppedWithin, steps_made}
-use Rattle.link_world.specs.ServerPumps.{ServerWhy, of_server}
-use Rattle.link_world.specs.ServerPumpParts.{ServerGoesOn, ServerCame, ServerCameShort, ServerReadStops, IsServerReadFault, ReadIn}
-use Rattle.link_world.specs.ServerPumpParts.{has_work, steps_of, steps_of_one, IsWorkFault}
+use Rattle.link_world.proofs.Names.{[], ◌&&◌, ◌*◌, ◌++◌, ◌+◌, ◌<◌, ◌||◌, ◌∙◌, ◌∷◌, ◌≡◌, ◌≤◌, and_parts, ap, append-nil, Appends, Appends-nil, arith}
+use Rattle.link_world.proofs.Names.{Bool, Consumes, Consumes-nil, Consumes-trans, contact_count, drop, ends, Err, false, false≢true, fed, fed_behind}
+use Rattle.link_world.proofs.Names.{Framing, FramingFault, Front, front_served, has_work, is_line, is_none, is_some, IsFeedFault, IsLineDue}
+use Rattle.link_world.proofs.Names.{IsPullFault, IsPushFault, IsRunnable, IsServerReadFault, IsSound, IsTakeFault, IsWorkFault, Job, knows, length}
+use Rattle.link_world.proofs.Names.{length-append, length-take-le, Line, List, may_end, may_feed, may_turn, new_client_end, next_of, None, of_server}
+use Rattle.link_world.proofs.Names.{Ok, Option, option_map, Outcome, PumpFault, Pushed, ReadIn, Reading, refl, Result, running_job, Server}
+use Rattle.link_world.proofs.Names.{ServerCame, ServerCameShort, ServerEnd, ServerFault, ServerGoesOn, ServerMovedWithin, ServerReadStops}
+use Rattle.link_world.proofs.Names.{ServerStoppedWithin, ServerTurn, ServerValue, ServerWhy, serving_fed, serving_left, serving_machined}
+use Rattle.link_world.proofs.Names.{serving_read, serving_taken, serving_turned, Some, Stage, steps_made, steps_of, steps_of_one, subst, sym, take}
+use Rattle.link_world.proofs.Names.{take-append-le, Taking, true, turns, with_end, Working, World, Writing, ℕ}
+use Rattle.server_core.specs.Serving.{IsReadFault}
+use Rattle.link_world.specs.ServerPumps.{begins, has, reads, takes, writes}
 use Rattle.link_world.proofs.ServerWork.{one_if, turn_less, machine_less}
 use Rattle.link_world.proofs.ClientPumps.{fed_twice, fed_nothing, none_lost, pull_why, longer, two_less}
 
@@ -89,14 +70,14 @@ may_stay a b read fed may = ap (λ (s : ServerValue). may_feed s.end) fed
 pub server_feeds_none : (a b c : ServerValue) (left mid left_now : Option (List ℕ)) (least budget now count : ℕ) (bytes : List ℕ)
     (why : ServerFault) → ServerCame a b left mid budget now count → Consumes mid left_now bytes → may_feed a.end ≡ true → c ≡ b
     → IsFeedFault b.end why → ServerCameShort least a c left left_now budget (of_server why)
-server_feeds_none a b c left mid left_now least budget now count bytes server_fault.NotNow h consumed may same r =
+server_feeds_none a b c left mid left_now least budget now count bytes ServerFault.NotNow h consumed may same r =
     absurd (false≢true (sym r ∙ (and_parts _ _ (may_stay a b h.read h.fed may)).0))
-server_feeds_none a b c left mid left_now least budget now count bytes (server_fault.Framing why) h consumed may same r =
+server_feeds_none a b c left mid left_now least budget now count bytes (ServerFault.Framing why) h consumed may same r =
     absurd (false≢true (sym (ap is_none r) ∙ (and_parts _ _ (may_stay a b h.read h.fed may)).1))
-server_feeds_none a b c left mid left_now least budget now count bytes server_fault.NothingRuns h consumed may same r = absurd r
-server_feeds_none a b c left mid left_now least budget now count bytes server_fault.WrongOutcome h consumed may same r = absurd r
-server_feeds_none a b c left mid left_now least budget now count bytes server_fault.OutOfVolume h consumed may same r = absurd r
-server_feeds_none a b c left mid left_now least budget now count bytes server_fault.Memory h consumed may same r = record {
+server_feeds_none a b c left mid left_now least budget now count bytes ServerFault.NothingRuns h consumed may same r = absurd r
+server_feeds_none a b c left mid left_now least budget now count bytes ServerFault.WrongOutcome h consumed may same r = absurd r
+server_feeds_none a b c left mid left_now least budget now count bytes ServerFault.OutOfVolume h consumed may same r = absurd r
+server_feeds_none a b c left mid left_now least budget now count bytes ServerFault.Memory h consumed may same r = record {
   read = h.read;
   lost = bytes;
   fed = same ∙ h.fed;
@@ -170,25 +151,25 @@ is_on false x f never = absurd (ok_err x f (never refl))
 
 -- no more lines are read
 pub server_read_stops : (a b c : ServerValue) (why : ServerFault) (budget now : ℕ) → ServerLinesRead a b budget now → IsReadFault b c why
-    → (why ≡ server_fault.NotNow → b.end.server.on ≡ false) → ServerReadStops a c budget (of_server why)
-server_read_stops a b c server_fault.NotNow budget now h r off = record {
+    → (why ≡ ServerFault.NotNow → b.end.server.on ≡ false) → ServerReadStops a c budget (of_server why)
+server_read_stops a b c ServerFault.NotNow budget now h r off = record {
   last = b;
   goes = λ answer. goes_less answer Reading budget now 0 a b (h.goes answer) (omega arith);
   setup = ap (λ (s : ServerValue). s.setup) r ∙ (h.goes (λ job n. Outcome.Fault)).setup;
   same = ap (λ (s : ServerValue). serving_left s.end) r;
   why = off refl;
 }
-server_read_stops a b c (server_fault.Framing why) budget now h r off = record {
+server_read_stops a b c (ServerFault.Framing why) budget now h r off = record {
   last = b;
   goes = λ answer. goes_less answer Reading budget now 0 a b (h.goes answer) (omega arith);
   setup = ap (λ (s : ServerValue). s.setup) r.1 ∙ (h.goes (λ job n. Outcome.Fault)).setup;
   same = ap (λ (s : ServerValue). serving_left s.end) r.1;
   why = r.0;
 }
-server_read_stops a b c server_fault.NothingRuns budget now h r off = absurd r
-server_read_stops a b c server_fault.WrongOutcome budget now h r off = absurd r
-server_read_stops a b c server_fault.OutOfVolume budget now h r off = absurd r
-server_read_stops a b c server_fault.Memory budget now h r off = record {
+server_read_stops a b c ServerFault.NothingRuns budget now h r off = absurd r
+server_read_stops a b c ServerFault.WrongOutcome budget now h r off = absurd r
+server_read_stops a b c ServerFault.OutOfVolume budget now h r off = absurd r
+server_read_stops a b c ServerFault.Memory budget now h r off = record {
   last = b;
   goes = λ answer. goes_less answer Reading budget now 0 a b (h.goes answer) (omega arith);
   setup = ap (λ (s : ServerValue). s.setup) r.1 ∙ (h.goes (λ job n. Outcome.Fault)).setup;
@@ -197,7 +178,7 @@ server_read_stops a b c server_fault.Memory budget now h r off = record {
 }
 
 pub server_lines_spent : (a b : ServerValue) (budget now : ℕ) → ServerLinesRead a b budget now → now ≡ 0
-    → ServerReadStops a b budget fault.TurnsSpent
+    → ServerReadStops a b budget PumpFault.TurnsSpent
 server_lines_spent a b budget now h none = let counted = h.counted in record {
   last = b;
   goes = λ answer. goes_less answer Reading budget now 0 a b (h.goes answer) (omega arith);
@@ -210,12 +191,12 @@ server_lines_spent a b budget now h none = let counted = h.counted in record {
 
 asked_why : (least bound : ℕ) (left_now : Option (List ℕ)) (e : ServerEnd) (why : ServerFault) (held : ℕ) → IsSound e.input
     → IsFeedFault e why → ServerWhy least bound 0 0 held left_now e (of_server why)
-asked_why least bound left_now e server_fault.NotNow held sound r = r
-asked_why least bound left_now e (server_fault.Framing why) held sound r = sound.kept why r
-asked_why least bound left_now e server_fault.NothingRuns held sound r = absurd r
-asked_why least bound left_now e server_fault.WrongOutcome held sound r = absurd r
-asked_why least bound left_now e server_fault.OutOfVolume held sound r = absurd r
-asked_why least bound left_now e server_fault.Memory held sound r = tt
+asked_why least bound left_now e ServerFault.NotNow held sound r = r
+asked_why least bound left_now e (ServerFault.Framing why) held sound r = sound.kept why r
+asked_why least bound left_now e ServerFault.NothingRuns held sound r = absurd r
+asked_why least bound left_now e ServerFault.WrongOutcome held sound r = absurd r
+asked_why least bound left_now e ServerFault.OutOfVolume held sound r = absurd r
+asked_why least bound left_now e ServerFault.Memory held sound r = tt
 
 pub server_stops_asking : (a b : ServerValue) (why : ServerFault) (answer : Job → ℕ → Outcome) (least bound calls : ℕ)
     (left taken : Option (List ℕ)) → b ≡ a → IsSound a.end.input → IsFeedFault a.end why
@@ -239,12 +220,12 @@ server_stops_asking a b why answer least bound calls left taken same sound r = r
 
 take_why : (least bound read held : ℕ) (left_now : Option (List ℕ)) (e : ServerEnd) (f : PumpFault ServerFault)
     → IsTakeFault least bound read left_now f → ServerWhy least bound read 0 held left_now e f
-take_why least bound read held left_now e fault.ReadFailed r = tt
-take_why least bound read held left_now e fault.WriteFailed r = absurd r
-take_why least bound read held left_now e fault.Ended r = r
-take_why least bound read held left_now e fault.TurnsSpent r = omega (arith, r)
-take_why least bound read held left_now e (fault.Core why) r = absurd r
-take_why least bound read held left_now e fault.Memory r = tt
+take_why least bound read held left_now e PumpFault.ReadFailed r = tt
+take_why least bound read held left_now e PumpFault.WriteFailed r = absurd r
+take_why least bound read held left_now e PumpFault.Ended r = r
+take_why least bound read held left_now e PumpFault.TurnsSpent r = omega (arith, r)
+take_why least bound read held left_now e (PumpFault.Core why) r = absurd r
+take_why least bound read held left_now e PumpFault.Memory r = tt
 
 -- fed nothing, and then these
 fed_now : (a b c : ServerValue) (read : List ℕ) → b ≡ with_end a (serving_fed [] a.end) → c ≡ with_end b (serving_fed read b.end)
@@ -299,12 +280,12 @@ comes_on a b c d answer least bound mid late come left left_now may same s enoug
 
 read_why : (least bound mid read held now : ℕ) (left_now : Option (List ℕ)) (e : ServerEnd) (f : PumpFault ServerFault)
     → bound ≤ mid + read → now ≤ held + read → IsServerReadFault mid now e f → ServerWhy least bound read 0 held left_now e f
-read_why least bound mid read held now left_now e fault.ReadFailed come most r = absurd r
-read_why least bound mid read held now left_now e fault.WriteFailed come most r = absurd r
-read_why least bound mid read held now left_now e fault.Ended come most r = absurd r
-read_why least bound mid read held now left_now e fault.TurnsSpent come most r = omega (arith, come, most, r)
-read_why least bound mid read held now left_now e (fault.Core why) come most r = r
-read_why least bound mid read held now left_now e fault.Memory come most r = tt
+read_why least bound mid read held now left_now e PumpFault.ReadFailed come most r = absurd r
+read_why least bound mid read held now left_now e PumpFault.WriteFailed come most r = absurd r
+read_why least bound mid read held now left_now e PumpFault.Ended come most r = absurd r
+read_why least bound mid read held now left_now e PumpFault.TurnsSpent come most r = omega (arith, come, most, r)
+read_why least bound mid read held now left_now e (PumpFault.Core why) come most r = r
+read_why least bound mid read held now left_now e PumpFault.Memory come most r = tt
 
 pub server_stops_reading : (a b c d : ServerValue) (f : PumpFault ServerFault) (answer : Job → ℕ → Outcome)
     (least bound calls calls_now mid come : ℕ)
@@ -447,12 +428,12 @@ serving_stopped_beside more answer bound calls calls_now least old new left left
 
 work_why : (least bound mid read held : ℕ) (left_now : Option (List ℕ)) (e : ServerEnd) (f : PumpFault ServerFault)
     → 2 * bound ≤ 2 * mid + 3 * read + held → IsWorkFault mid f → ServerWhy least bound read 0 held left_now e f
-work_why least bound mid read held left_now e fault.ReadFailed most r = absurd r
-work_why least bound mid read held left_now e fault.WriteFailed most r = absurd r
-work_why least bound mid read held left_now e fault.Ended most r = absurd r
-work_why least bound mid read held left_now e fault.TurnsSpent most r = omega (arith, most, r)
-work_why least bound mid read held left_now e (fault.Core why) most r = absurd r
-work_why least bound mid read held left_now e fault.Memory most r = tt
+work_why least bound mid read held left_now e PumpFault.ReadFailed most r = absurd r
+work_why least bound mid read held left_now e PumpFault.WriteFailed most r = absurd r
+work_why least bound mid read held left_now e PumpFault.Ended most r = absurd r
+work_why least bound mid read held left_now e PumpFault.TurnsSpent most r = omega (arith, most, r)
+work_why least bound mid read held left_now e (PumpFault.Core why) most r = absurd r
+work_why least bound mid read held left_now e PumpFault.Memory most r = tt
 
 -- it has read, and has continued to work from there
 works_from : (a b c : ServerValue) (answer : Job → ℕ → Outcome) (least bound calls calls_now mid late come : ℕ)
@@ -507,12 +488,12 @@ idle_job s idle = go (running_job s) (may_turn s) idle
 push_why : (least bound mid late read written held n : ℕ) (left_now : Option (List ℕ)) (e : ServerEnd) (f : PumpFault ServerFault)
     → 2 * bound ≤ 2 * mid + 3 * read + held → mid ≤ late + 129 → written ≡ n → IsPushFault late n f
     → ServerWhy least bound read written held left_now e f
-push_why least bound mid late read written held n left_now e fault.ReadFailed most work same r = absurd r
-push_why least bound mid late read written held n left_now e fault.WriteFailed most work same r = tt
-push_why least bound mid late read written held n left_now e fault.Ended most work same r = absurd r
-push_why least bound mid late read written held n left_now e fault.TurnsSpent most work same r = omega (arith, most, work, same, r)
-push_why least bound mid late read written held n left_now e (fault.Core why) most work same r = absurd r
-push_why least bound mid late read written held n left_now e fault.Memory most work same r = absurd r
+push_why least bound mid late read written held n left_now e PumpFault.ReadFailed most work same r = absurd r
+push_why least bound mid late read written held n left_now e PumpFault.WriteFailed most work same r = tt
+push_why least bound mid late read written held n left_now e PumpFault.Ended most work same r = absurd r
+push_why least bound mid late read written held n left_now e PumpFault.TurnsSpent most work same r = omega (arith, most, work, same, r)
+push_why least bound mid late read written held n left_now e (PumpFault.Core why) most work same r = absurd r
+push_why least bound mid late read written held n left_now e PumpFault.Memory most work same r = absurd r
 
 pub server_stops_writing : (a b c : ServerValue) (f : PumpFault ServerFault) (answer : Job → ℕ → Outcome)
     (least bound calls calls_now pushes pushes_now mid late come : ℕ) (left left_now taken taken_now : Option (List ℕ)) (bytes : List ℕ)

@@ -1,25 +1,12 @@
 -- A server's turns one after another: what comes in and goes out in all of them.
-use Rattle.std.proofs.Common.{◌≡◌, ℕ, ◌+◌, ◌<◌, ◌≤◌, List, [], ◌∷◌, ◌++◌, length, refl, sym, ◌∙◌, ap, subst, arith}
-use Rattle.std.proofs.Common.{rules, ◌↔◌, IsOk, OnOk, IfErr, Result}
-use Rattle.std.proofs.Common.{append_assoc, append-nil, length-append, Option, Some, None, Ok, Err}
-use Rattle.std.specs.Io.KnownBytes.{Appends, Consumes}
-use Rattle.std.proofs.KnownBytes.{Consumes-nil, Consumes-trans, Appends-nil, Appends-trans}
-use Rattle.line_framing.specs.Next.{Front, next_of}
-use Rattle.contact_ledger.specs.declared.acts.Act.{Act}
-use Rattle.protocol_model.specs.Ends.{ServerEnd, front_served, serving_left}
-use Rattle.protocol_model.specs.declared.machine.Job.{Job}
-use Rattle.protocol_model.specs.declared.machine.Outcome.{Outcome}
-use Rattle.server_core.specs.declared.faults.ServerFault.{ServerFault}
-use Rattle.link_world.specs.declared.connections.pumps.Moved.{Moved}
-use Rattle.link_world.specs.declared.connections.pumps.PumpFault.{PumpFault}
-use Rattle.link_world.specs.declared.connections.pumps.PumpFault.TheVariants as fault
-use Rattle.link_world.specs.Pumps.{Stage, Sending, Writing, Taking, Reading, Working}
-use Rattle.link_world.specs.ServerPumps.{ServerTurn, begins, takes, has, reads, knows, turns, ends, writes}
-use Rattle.link_world.specs.ServerPumps.{ServerMoved, ServerStopped, ServerWhy}
-use Rattle.link_world.specs.LinkRuns.{turns_most, steps_most, ServerRun, ServerEnds, ServerRunStopped, ServerRunWhy}
+use Rattle.link_world.proofs.Names.{[], ◌++◌, ◌+◌, ◌<◌, ◌↔◌, ◌∙◌, ◌∷◌, ◌≡◌, ◌≤◌, Act, ap, append-nil, append_assoc, Appends, Appends-nil}
+use Rattle.link_world.proofs.Names.{Appends-trans, arith, Consumes, Consumes-nil, Consumes-trans, done_after, ends, EndsWith, Err, Front}
+use Rattle.link_world.proofs.Names.{front_served, Hears, IfErr, IsOk, Job, knows, length, length-append, List, Moved, next_of, None, Ok, OnOk, Option}
+use Rattle.link_world.proofs.Names.{Outcome, PumpFault, Reading, refl, reports_of, Result, rules, Sending, ServerEnd, ServerEnds, ServerFault}
+use Rattle.link_world.proofs.Names.{ServerMoved, ServerRun, ServerRunStopped, ServerRunWatched, ServerRunWhy, ServerStopped, ServerTurn, ServerWhy}
+use Rattle.link_world.proofs.Names.{serving_left, Some, Stage, steps_most, subst, sym, Taking, turns, turns_most, Working, Writing, ℕ}
+use Rattle.link_world.specs.ServerPumps.{begins, has, reads, takes, writes}
 use Rattle.link_world.specs.LinkRuns as run
-use Rattle.link_world.specs.Watching.{Hears}
-use Rattle.link_world.specs.ServerWatching.{done_after, reports_of, EndsWith, ServerRunWatched}
 use Rattle.link_world.proofs.ClientPumps.{longer}
 use Rattle.link_world.proofs.ClientRuns.{left_fewer}
 use Rattle.link_world.proofs.Telling.{hears_none, hears_more}
@@ -125,12 +112,12 @@ server_goes answer now n old mid new left left_mid left_now taken taken_mid take
 -- the fault of a turn is one of the run
 why_of_run : (read written held r w held_now : ℕ) (left_now : Option (List ℕ)) (e : ServerEnd) (f : PumpFault ServerFault)
     → held_now ≤ held + read → ServerWhy 1 steps_most r w held_now left_now e f → ServerRunWhy (read + r) (written + w) held left_now e f
-why_of_run read written held r w held_now left_now e fault.ReadFailed most why = tt
-why_of_run read written held r w held_now left_now e fault.WriteFailed most why = tt
-why_of_run read written held r w held_now left_now e fault.Ended most why = why.1
-why_of_run read written held r w held_now left_now e fault.TurnsSpent most why = omega (arith, most, why)
-why_of_run read written held r w held_now left_now e (fault.Core cause) most why = why
-why_of_run read written held r w held_now left_now e fault.Memory most why = tt
+why_of_run read written held r w held_now left_now e PumpFault.ReadFailed most why = tt
+why_of_run read written held r w held_now left_now e PumpFault.WriteFailed most why = tt
+why_of_run read written held r w held_now left_now e PumpFault.Ended most why = why.1
+why_of_run read written held r w held_now left_now e PumpFault.TurnsSpent most why = omega (arith, most, why)
+why_of_run read written held r w held_now left_now e (PumpFault.Core cause) most why = why
+why_of_run read written held r w held_now left_now e PumpFault.Memory most why = tt
 
 pub server_stops : (answer now : Job → ℕ → Outcome) (n : ℕ) (old mid new : ServerEnd)
     (left left_mid left_now taken taken_mid taken_now : Option (List ℕ)) (f : PumpFault ServerFault)
@@ -169,7 +156,7 @@ server_stops answer now n old mid new left left_mid left_now taken taken_mid tak
 pub server_spends : (answer : Job → ℕ → Outcome) (n : ℕ) (old last new : ServerEnd) (left left_now taken taken_now : Option (List ℕ))
     (told told_now : Option (List (List (ℕ × Act))))
     → ServerSoFar answer n old last left left_now taken taken_now told told_now → n ≡ turns_most → new ≡ serving_left last
-    → ServerRunWatched answer old new left left_now taken taken_now fault.TurnsSpent told told_now
+    → ServerRunWatched answer old new left left_now taken taken_now PumpFault.TurnsSpent told told_now
 server_spends answer n old last new left left_now taken taken_now told told_now so_far all is = record {
   stopped = stopped;
   heard = h.heard;
@@ -178,7 +165,7 @@ server_spends answer n old last new left left_now taken taken_now told told_now 
     h : ServerSoFar answer turns_most old last left left_now taken taken_now told told_now
     h = subst (λ (n : ℕ). ServerSoFar answer n old last left left_now taken taken_now told told_now) all so_far
 
-    stopped : ServerRunStopped answer old new left left_now taken taken_now fault.TurnsSpent
+    stopped : ServerRunStopped answer old new left left_now taken taken_now PumpFault.TurnsSpent
     stopped = record {
       read = h.read;
       written = h.written;
@@ -234,7 +221,7 @@ last_is answer old new left left_now taken taken_now f told told_now h =
 -- ---- how a run ends by the fault of a turn
 
 pub is_ended : {A : Type 0} (r : Result A (PumpFault ServerFault)) (f : PumpFault ServerFault) (Is : PumpFault ServerFault → Type 0)
-    → (IsOk r ↔ (f ≡ fault.Ended)) → Is f → OnOk r (Is fault.Ended)
+    → (IsOk r ↔ (f ≡ PumpFault.Ended)) → Is f → OnOk r (Is PumpFault.Ended)
 is_ended (Ok x) f Is ended h = subst Is (ended.0 (search rules)) h
 is_ended (Err e) f Is ended h = tt
 

@@ -1,18 +1,9 @@
 -- What the server's events make of a world.
-use Rattle.std.proofs.Common.{◌≡◌, ℕ, ◌≤◌, ◌<◌, Bool, true, false, List, [], ◌∷◌, length, refl, sym, ◌∙◌, ap, subst, arith, cond}
-use Rattle.std.proofs.Common.{length-append}
-use Rattle.std.proofs.lemmas.Bool.{false≢true, and_parts, and_from, ltb-true, le-leb, leb-true}
-use Rattle.contact_ledger.specs.Ledgers.{connection_most}
-use Rattle.protocol_model.specs.Ends.{ClientEnd, ServerEnd, serving_accepted, serving_left, serving_restarted}
-use Rattle.protocol_model.specs.World.{World, no_link, start, can, happens, after, run_of}
-use Rattle.protocol_model.specs.declared.events.Event.{Event}
-use Rattle.protocol_model.specs.declared.events.Event.TheVariants as event
-use Rattle.protocol_model.proofs.whole_run.Links.{link_long}
-use Rattle.protocol_model.proofs.whole_run.Carrying.{IsCarried}
-use Rattle.protocol_model.proofs.whole_run.WholeRun.{happens_carried, start_carried}
-use Rattle.server_core.specs.Serving.{ServerValue, with_end, may_accept}
-use Rattle.link_world.specs.declared.worlds.connection.Connection.{Connection}
-use Rattle.link_world.specs.Links.{WorldValue, links_of, seen, with_world, IsReached}
+use Rattle.link_world.proofs.Names.{[], ◌<◌, ◌∙◌, ◌∷◌, ◌≡◌, ◌≤◌, after, and_from, and_parts, ap, arith, Bool, can, ClientEnd, cond, Connection}
+use Rattle.link_world.proofs.Names.{connection_most, Event, false, false≢true, happens, happens_carried, IsCarried, IsReached, le-leb, leb-true}
+use Rattle.link_world.proofs.Names.{length, length-append, link_long, links_of, List, ltb-true, may_accept, no_link, refl, run_of, seen, ServerEnd}
+use Rattle.link_world.proofs.Names.{ServerValue, serving_accepted, serving_left, serving_restarted, start, start_carried, subst, sym, true, with_end}
+use Rattle.link_world.proofs.Names.{with_world, World, WorldValue, ℕ}
 use Rattle.link_world.proofs.Reached.{reached_more, links_long}
 
 -- ---- no more connections than have numbers are made
@@ -20,24 +11,24 @@ use Rattle.link_world.proofs.Reached.{reached_more, links_long}
 within : (e : Event) (w : World) → can e w ≡ true → length w.links ≡ w.client.client.last
     → length w.links ≤ connection_most
     → length (happens e w).links ≤ connection_most
-within event.Connect w may same le =
+within Event.Connect w may same le =
     let below : w.client.client.last < connection_most = ltb-true w.client.client.last connection_most (and_parts _ _ may).1 in
     omega (arith, length-append w.links (no_link ∷ []), same, below)
-within (event.Accept n) w may same le = le
-within event.ClientSends w may same le = subst (λ (n : ℕ). n ≤ connection_most) (sym (link_long w.links w.client.client.last _)) le
-within (event.Up k) w may same le = subst (λ (n : ℕ). n ≤ connection_most) (sym (link_long w.links w.server.server.last _)) le
-within event.ServerReads w may same le = subst (λ (n : ℕ). n ≤ connection_most) (sym (link_long w.links w.server.server.last _)) le
-within event.ServerTurn w may same le = subst (λ (n : ℕ). n ≤ connection_most) (sym (link_long w.links w.server.server.last _)) le
-within (event.Machine outcome) w may same le = subst (λ (n : ℕ). n ≤ connection_most)
+within (Event.Accept n) w may same le = le
+within Event.ClientSends w may same le = subst (λ (n : ℕ). n ≤ connection_most) (sym (link_long w.links w.client.client.last _)) le
+within (Event.Up k) w may same le = subst (λ (n : ℕ). n ≤ connection_most) (sym (link_long w.links w.server.server.last _)) le
+within Event.ServerReads w may same le = subst (λ (n : ℕ). n ≤ connection_most) (sym (link_long w.links w.server.server.last _)) le
+within Event.ServerTurn w may same le = subst (λ (n : ℕ). n ≤ connection_most) (sym (link_long w.links w.server.server.last _)) le
+within (Event.Machine outcome) w may same le = subst (λ (n : ℕ). n ≤ connection_most)
     (sym (link_long w.links w.server.server.last _)) le
-within (event.Down k) w may same le = subst (λ (n : ℕ). n ≤ connection_most) (sym (link_long w.links w.client.client.last _)) le
-within event.ClientReads w may same le = le
-within event.ClientLeaves w may same le = le
-within event.ServerLeaves w may same le = le
-within event.Abort w may same le = subst (λ (n : ℕ). n ≤ connection_most) (sym (link_long w.links w.client.client.last _)) le
-within event.Resume w may same le = le
-within (event.ClientRestart k) w may same le = le
-within event.ServerRestart w may same le = le
+within (Event.Down k) w may same le = subst (λ (n : ℕ). n ≤ connection_most) (sym (link_long w.links w.client.client.last _)) le
+within Event.ClientReads w may same le = le
+within Event.ClientLeaves w may same le = le
+within Event.ServerLeaves w may same le = le
+within Event.Abort w may same le = subst (λ (n : ℕ). n ≤ connection_most) (sym (link_long w.links w.client.client.last _)) le
+within Event.Resume w may same le = le
+within (Event.ClientRestart k) w may same le = le
+within Event.ServerRestart w may same le = le
 
 runs_within : (es : List Event) (w : World) → IsCarried w → length w.links ≤ connection_most
     → length (run_of es w).links ≤ connection_most
@@ -72,7 +63,7 @@ alone client server after cs written e h may is =
 
 accept_may : (number : ℕ) (client : ClientEnd) (server : ServerValue) (cs : List Connection) (written : List ℕ)
     → may_accept number server.end.server ≡ true → number ≤ length cs
-    → can (event.Accept number) (seen client server cs written).world ≡ true
+    → can (Event.Accept number) (seen client server cs written).world ≡ true
 accept_may number client server cs written may le =
     let parts = and_parts _ _ may in
     and_from _ _ parts.0 (and_from _ _ (and_parts _ _ parts.1).0
@@ -80,17 +71,17 @@ accept_may number client server cs written may le =
 
 pub accept_can : (l : WorldValue) (number : ℕ) (client : ClientEnd) (server : ServerValue) (cs : List Connection) (written : List ℕ)
     → l ≡ seen client server cs written → may_accept number server.end.server ≡ true → number ≤ length cs
-    → can (event.Accept number) l.world ≡ true
-accept_can l number client server cs written view may le = subst (λ (k : WorldValue). can (event.Accept number) k.world ≡ true) (sym view)
+    → can (Event.Accept number) l.world ≡ true
+accept_can l number client server cs written view may le = subst (λ (k : WorldValue). can (Event.Accept number) k.world ≡ true) (sym view)
     (accept_may number client server cs written may le)
 
 pub accept_far : (l : WorldValue) (number : ℕ) (client : ClientEnd) (server : ServerValue) (cs : List Connection) (written : List ℕ)
-    → l ≡ seen client server cs written → length cs < number → can (event.Accept number) l.world ≡ false
+    → l ≡ seen client server cs written → length cs < number → can (Event.Accept number) l.world ≡ false
 accept_far l number client server cs written view far =
-    subst (λ (k : WorldValue). can (event.Accept number) k.world ≡ false) (sym view)
-    (go (can (event.Accept number) (seen client server cs written).world) refl)
+    subst (λ (k : WorldValue). can (Event.Accept number) k.world ≡ false) (sym view)
+    (go (can (Event.Accept number) (seen client server cs written).world) refl)
   where
-    go : (b : Bool) → can (event.Accept number) (seen client server cs written).world ≡ b → b ≡ false
+    go : (b : Bool) → can (Event.Accept number) (seen client server cs written).world ≡ b → b ≡ false
     go false e = refl
     go true e =
         let le : number ≤ length (links_of cs) = leb-true number (length (links_of cs)) (and_parts _ _ (and_parts _ _ e).1).1 in
@@ -98,12 +89,12 @@ accept_far l number client server cs written view far =
 
 pub accept_refused : (l : WorldValue) (number : ℕ) (client : ClientEnd) (server : ServerValue) (cs : List Connection) (written : List ℕ)
     → l ≡ seen client server cs written → IsReached (seen client server cs written)
-    → number ≤ length cs → may_accept number server.end.server ≡ false → can (event.Accept number) l.world ≡ false
+    → number ≤ length cs → may_accept number server.end.server ≡ false → can (Event.Accept number) l.world ≡ false
 accept_refused l number client server cs written view h near never =
-    subst (λ (k : WorldValue). can (event.Accept number) k.world ≡ false) (sym view)
-    (go (can (event.Accept number) (seen client server cs written).world) refl)
+    subst (λ (k : WorldValue). can (Event.Accept number) k.world ≡ false) (sym view)
+    (go (can (Event.Accept number) (seen client server cs written).world) refl)
   where
-    go : (b : Bool) → can (event.Accept number) (seen client server cs written).world ≡ b → b ≡ false
+    go : (b : Bool) → can (Event.Accept number) (seen client server cs written).world ≡ b → b ≡ false
     go false e = refl
     go true e =
         let parts = and_parts _ _ e in
@@ -117,7 +108,7 @@ pub accept_reached : (number : ℕ) (client : ClientEnd) (server after : ServerV
     → IsReached (seen client after cs written)
 accept_reached number client server after cs written h may le is =
     subst (λ (s : ServerValue). IsReached (seen client s cs written)) (sym is)
-    (alone client server (serving_accepted number server.end) cs written (event.Accept number) h
+    (alone client server (serving_accepted number server.end) cs written (Event.Accept number) h
     (accept_may number client server cs written may le) (refl))
 
 pub left_reached : (client : ClientEnd) (server after : ServerValue) (cs : List Connection) (written : List ℕ)
@@ -125,11 +116,11 @@ pub left_reached : (client : ClientEnd) (server after : ServerValue) (cs : List 
     → server.end.server.on ≡ true → after ≡ with_end server (serving_left server.end) → IsReached (seen client after cs written)
 left_reached client server after cs written h may is =
     subst (λ (s : ServerValue). IsReached (seen client s cs written)) (sym is)
-    (alone client server (serving_left server.end) cs written event.ServerLeaves h may (refl))
+    (alone client server (serving_left server.end) cs written Event.ServerLeaves h may (refl))
 
 pub restart_reached : (client : ClientEnd) (server after : ServerValue) (cs : List Connection) (written : List ℕ)
     → IsReached (seen client server cs written)
     → after ≡ with_end server (serving_restarted server.end) → IsReached (seen client after cs written)
 restart_reached client server after cs written h is =
     subst (λ (s : ServerValue). IsReached (seen client s cs written)) (sym is)
-    (alone client server (serving_restarted server.end) cs written event.ServerRestart h refl (refl))
+    (alone client server (serving_restarted server.end) cs written Event.ServerRestart h refl (refl))

@@ -1,21 +1,11 @@
 -- What the watcher of a run of a client is shown.
-use Rattle.std.proofs.Common.{◌≡◌, inl, inr, ℕ, Bool, true, false, cond, List, [], ◌∷◌, ◌++◌, length, refl, sym, ap, ◌∙◌}
-use Rattle.std.proofs.Common.{subst, arith, length-append, Option, Result, Ok, Err, IfOk, IfErr}
-use Rattle.std.proofs.lemmas.Bool.{false≢true, le-leb}
-use Rattle.protocol_model.specs.Client.{may_abort}
-use Rattle.protocol_model.specs.Ends.{ClientEnd, end_aborted, end_left}
-use Rattle.client_core.specs.Calls.{Call, Send, Abort, Feed, ReadOne, Leave, Sent, possible, done_by}
-use Rattle.client_core.specs.Refusals.{IsSendRefused}
-use Rattle.client_core.specs.declared.faults.ClientFault.{ClientFault}
-use Rattle.client_core.specs.declared.faults.ClientFault.TheVariants as client_fault
-use Rattle.link_world.specs.declared.connections.pumps.Moved.{Moved}
-use Rattle.link_world.specs.declared.connections.pumps.PumpFault.{PumpFault}
-use Rattle.link_world.specs.declared.connections.steering.Course.{Course}
-use Rattle.link_world.specs.declared.connections.steering.Course.TheVariants as course
-use Rattle.link_world.specs.Pumps.{Stage, Sending, Writing, Taking, Reading, ClientTurn, begins, sends, writes, takes, has, reads}
-use Rattle.link_world.specs.Pumps.{ClientMovedWithin, ClientStoppedWithin}
-use Rattle.link_world.specs.Courses.{steered, course_of, Asks, StopRefused}
-use Rattle.link_world.specs.Showing.{IsRunCall, Shown, EndsShown}
+use Rattle.link_world.proofs.Names.{[], ◌++◌, ◌∙◌, ◌∷◌, ◌≡◌, Abort, ap, arith, Asks, Bool, ClientEnd, ClientFault, ClientMovedWithin}
+use Rattle.link_world.proofs.Names.{ClientStoppedWithin, ClientTurn, cond, Course, course_of, end_aborted, end_left, EndsShown, Err, false}
+use Rattle.link_world.proofs.Names.{false≢true, IfErr, IfOk, inl, inr, IsRunCall, IsSendRefused, le-leb, length, length-append, List, may_abort}
+use Rattle.link_world.proofs.Names.{Moved, Ok, Option, PumpFault, Reading, refl, Result, Send, Sending, sends, Shown, Stage, steered, StopRefused}
+use Rattle.link_world.proofs.Names.{subst, sym, Taking, true, Writing, ℕ}
+use Rattle.client_core.specs.Calls.{Call, done_by, Feed, Leave, possible, ReadOne, Sent}
+use Rattle.link_world.specs.Pumps.{begins, has, reads, takes, writes}
 use Rattle.link_world.specs.Showing as show
 use Rattle.link_world.specs.WatchingRows.{notes_on}
 use Rattle.link_world.proofs.Courses.{stop_aborts}
@@ -63,8 +53,8 @@ module _ {N : Type 0} (Shows : ClientEnd → N → N → Type 0) (first : Client
 
   -- a client that is steered
   steered_shown : (e : ClientEnd) (c : Course) (w : N) → Shown Shows first old e w → Shown Shows first old (steered c e) w
-  steered_shown e course.GoOn w h = h
-  steered_shown e course.Stop w h = show.calls e w Abort h tt
+  steered_shown e Course.GoOn w h = h
+  steered_shown e Course.Stop w h = show.calls e w Abort h tt
 
   pub asked_shown : (stopped stops : Bool) (e f : ClientEnd) (can can_now : List Course → Bool) (w : N)
       → Asks stopped stops e f can can_now → Shown Shows first old e w → Shown Shows first old f w
@@ -74,11 +64,11 @@ module _ {N : Type 0} (Shows : ClientEnd → N → N → Type 0) (first : Client
 
   refused_shown : (e f : ClientEnd) (why : ClientFault) (w : N) → may_abort e.client.state ≡ true
       → IsSendRefused true e f (end_aborted e) why → Shown Shows first old e w → Shown Shows first old f w
-  refused_shown e f client_fault.NotNow w may r h = absurd (false≢true (sym r.2))
-  refused_shown e f (client_fault.Faulted cause) w may (inl r) h = absurd (false≢true (sym r.0))
-  refused_shown e f (client_fault.Faulted cause) w may (inr r) h =
+  refused_shown e f ClientFault.NotNow w may r h = absurd (false≢true (sym r.2))
+  refused_shown e f (ClientFault.Faulted cause) w may (inl r) h = absurd (false≢true (sym r.0))
+  refused_shown e f (ClientFault.Faulted cause) w may (inr r) h =
       subst (λ (x : ClientEnd). Shown Shows first old x w) (sym (stop_aborts e f may r.1)) (show.calls e w Abort h tt)
-  refused_shown e f client_fault.Memory w may r h = subst (λ (x : ClientEnd). Shown Shows first old x w) (sym r) h
+  refused_shown e f ClientFault.Memory w may r h = subst (λ (x : ClientEnd). Shown Shows first old x w) (sym r) h
 
   -- one whose abort is refused
   pub stop_refused_shown : (stopped : Bool) (e f : ClientEnd) (can can_now : List Course → Bool) (fault : PumpFault ClientFault) (w : N)

@@ -1,33 +1,17 @@
 -- What a client has counted and holds only grows in its turns, and the features by which it grew are reported to its watcher.
-use Rattle.std.proofs.Common.{◌≡◌, inl, inr, ℕ, ◌+◌, ◌<◌, ◌≤◌, Bool, true, false, cond, List, [], ◌∷◌, ◌++◌, length, drop, refl, sym, ◌∙◌, ap, subst, arith}
-use Rattle.std.proofs.Common.{append_assoc, append-nil, length-append, Option, Some, None, Result, Ok, Err, IfOk, get_or}
-use Rattle.std.specs.Prelude.{IfErr}
-use Rattle.std.proofs.lemmas.Bool.{false≢true}
-use Rattle.std.proofs.Math.Seq.{drop-append_seam}
+use Rattle.link_world.proofs.Names.{[], ◌++◌, ◌+◌, ◌<◌, ◌∙◌, ◌∷◌, ◌≡◌, ◌≤◌, ap, append-nil, append_assoc, arith, Asks, Bool, Client, ClientEnd}
+use Rattle.link_world.proofs.Names.{ClientFault, ClientMoved, ClientMovedWithin, ClientStopped, ClientStoppedWithin, ClientTurn, Completed, cond}
+use Rattle.link_world.proofs.Names.{Course, course_of, drop, drop-append_seam, drop_more, end_aborted, end_left, Err, false, false≢true, Feature}
+use Rattle.link_world.proofs.Names.{Front, front_read, get_or, Hears, IfErr, IfOk, inl, inr, IsSendRefused, length, length-append, List, may_abort}
+use Rattle.link_world.proofs.Names.{Moved, next_of, None, Note, notes_from, Ok, Option, Planned, PumpFault, Reading, refl, Reply, Result, Sending}
+use Rattle.link_world.proofs.Names.{sends, sends_abort, sends_next, Some, Stage, steered, StopRefused, subst, sym, Table, Tag, Taking, TellsRun, true}
+use Rattle.link_world.proofs.Names.{Wanted, Writing, ℕ}
 use Rattle.std.proofs.Math.ListN.{drop_of_length-le}
-use Rattle.std.proofs.lemmas.List.{drop_more}
-use Rattle.line_framing.specs.Next.{Front, next_of}
-use Rattle.dme_line.specs.declared.tags.Tag.{Tag}
-use Rattle.contact_ledger.specs.declared.features.Feature.{Feature}
-use Rattle.dmis_program.specs.declared.features.Wanted.{Wanted}
-use Rattle.protocol_model.specs.Replies.{Mark, Reply}
-use Rattle.protocol_model.specs.Client.{Client, Table, sends_next, sends_abort, may_abort}
-use Rattle.protocol_model.specs.Ends.{ClientEnd, front_read, end_left, end_aborted}
-use Rattle.protocol_model.specs.declared.plans.Planned.{Planned}
+use Rattle.protocol_model.specs.Replies.{Mark}
 use Rattle.protocol_model.proofs.HeardTables.{heard}
-use Rattle.protocol_model.proofs.table.Replying.{fine, Grows, grows_refl, grows_trans, front_refl, reads_grows}
+use Rattle.protocol_model.proofs.table.Replying.{fine, front_refl, Grows, grows_refl, grows_trans, reads_grows}
 use Rattle.protocol_model.proofs.quiet_run.Hears.{front_cases}
-use Rattle.client_core.specs.declared.faults.ClientFault.{ClientFault}
-use Rattle.link_world.specs.declared.connections.pumps.Moved.{Moved}
-use Rattle.link_world.specs.declared.connections.pumps.PumpFault.{PumpFault}
-use Rattle.link_world.specs.Pumps.{Stage, Sending, Writing, Taking, Reading, ClientTurn, begins, sends, writes, takes, has, reads}
-use Rattle.link_world.specs.Pumps.{ClientMoved, ClientStopped, ClientMovedWithin, ClientStoppedWithin}
-use Rattle.client_core.specs.Refusals.{IsSendRefused}
-use Rattle.client_core.specs.declared.faults.ClientFault.TheVariants as client_fault
-use Rattle.link_world.specs.Courses.{steered, course_of, Asks, StopRefused}
-use Rattle.link_world.specs.declared.connections.steering.Course.{Course}
-use Rattle.link_world.specs.declared.connections.steering.Course.TheVariants as course
-use Rattle.link_world.specs.Watching.{Note, Completed, notes_from, Hears, TellsRun}
+use Rattle.link_world.specs.Pumps.{begins, has, reads, takes, writes}
 
 -- ---- a client's turn
 
@@ -219,8 +203,8 @@ stopped_features e true = aborted_features e.client _
 stopped_features e false = refl
 
 steered_features : (answer : Course) (e : ClientEnd) → (steered answer e).client.table.tally.features ≡ e.client.table.tally.features
-steered_features course.GoOn e = refl
-steered_features course.Stop e = stopped_features e (may_abort e.client.state)
+steered_features Course.GoOn e = refl
+steered_features Course.Stop e = stopped_features e (may_abort e.client.state)
 
 pub tells_asked : (stopped stops : Bool) (e f : ClientEnd) (can can_now : List Course → Bool) (told : Option (List Note))
     → Asks stopped stops e f can can_now → TellsRun e f told told
@@ -231,11 +215,11 @@ tells_asked false stops e f can can_now told asks =
 
 refused_features : (e f : ClientEnd) (why : ClientFault) → IsSendRefused true e f (end_aborted e) why
     → f.client.table.tally.features ≡ e.client.table.tally.features
-refused_features e f client_fault.NotNow r = absurd (false≢true (sym r.2))
-refused_features e f (client_fault.Faulted cause) (inl r) = absurd (false≢true (sym r.0))
-refused_features e f (client_fault.Faulted cause) (inr r) =
+refused_features e f ClientFault.NotNow r = absurd (false≢true (sym r.2))
+refused_features e f (ClientFault.Faulted cause) (inl r) = absurd (false≢true (sym r.0))
+refused_features e f (ClientFault.Faulted cause) (inr r) =
     ap (λ (x : ClientEnd). x.client.table.tally.features) r.1 ∙ aborted_features e.client _
-refused_features e f client_fault.Memory r = ap (λ (x : ClientEnd). x.client.table.tally.features) r
+refused_features e f ClientFault.Memory r = ap (λ (x : ClientEnd). x.client.table.tally.features) r
 
 pub tells_refused : (stopped : Bool) (e f : ClientEnd) (can can_now : List Course → Bool) (fault : PumpFault ClientFault)
     (told : Option (List Note)) → StopRefused stopped e f can can_now fault → TellsRun e f told told

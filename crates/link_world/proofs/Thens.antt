@@ -1,11 +1,7 @@
 -- One part of a schedule after another.
-use Rattle.std.proofs.Common.{◌≡◌, inl, inr, Bool, true, false, ◌||◌, List, [], ◌++◌, refl, sym, ◌∙◌, ap, subst, Option, Some, None, Result}
-use Rattle.std.proofs.Common.{Ok, Err, IfSome, IsErr, rules}
-use Rattle.std.proofs.lemmas.Bool.{false≢true}
-use Rattle.protocol_model.specs.World.{World}
-use Rattle.protocol_model.specs.declared.events.Event.{Event}
-use Rattle.protocol_model.specs.Rounds.{Then}
-use Rattle.link_world.specs.Parts.{is_any, Makes, Tells, PlaysPart, Staged}
+use Rattle.link_world.proofs.Names.{[], ◌++◌, ◌||◌, ◌∙◌, ◌≡◌, ap, Bool, Err, Event, false, false≢true, IfSome, inl, inr, IsErr, List, Makes, None, Ok}
+use Rattle.link_world.proofs.Names.{Option, PlaysPart, refl, Result, rules, Some, Staged, subst, sym, Tells, Then, true, World}
+use Rattle.link_world.specs.Parts.{is_any}
 use Rattle.link_world.proofs.EventLists.{leads_more, any_append}
 
 -- whether there was any event in two parts

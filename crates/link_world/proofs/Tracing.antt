@@ -1,25 +1,14 @@
 -- The text of a trace: rows of bytes, and the rows of an event.
-use Rattle.std.proofs.Common.{◌≡◌, ℕ, zero, suc, ◌+◌, ◌-◌, ◌<◌, ◌≤◌, Bool, true, false, cond, eqb, List, [], ◌∷◌, ◌++◌, length}
-use Rattle.std.proofs.Common.{take, drop, Option, Some, None, refl, sym, ap, ◌∙◌, subst, arith, append_assoc, append-nil, slice_index_or}
-use Rattle.std.specs.Prelude.{decimal}
-use Rattle.std.specs.List.{position, IsLastAndRest, flat_map}
-use Rattle.std.proofs.lemmas.Bool.{false≢true}
-use Rattle.std.proofs.Common.{Result, Ok, Err, OnOk}
-use Rattle.line_framing.specs.Next.{Front, next_of}
-use Rattle.protocol_model.specs.Ends.{ClientEnd, ServerEnd, front_served}
-use Rattle.protocol_model.specs.Lines.{reading_of}
-use Rattle.protocol_model.specs.Readings.{command_of}
-use Rattle.protocol_model.proofs.invariant.Moves.{read_moves, turned_moves, machined_moves}
-use Rattle.protocol_model.specs.World.{World, Link, no_link, can, happens, after}
-use Rattle.protocol_model.specs.declared.events.Event.{Event}
-use Rattle.protocol_model.specs.declared.events.Event.TheVariants as event
-use Rattle.server_core.specs.Serving.{ServerValue}
-use Rattle.link_world.specs.Links.{WorldValue, links_of, seen, IsReached}
-use Rattle.link_world.specs.declared.worlds.connection.Connection.{Connection}
+use Rattle.link_world.proofs.Names.{[], ◌++◌, ◌+◌, ◌-◌, ◌<◌, ◌∙◌, ◌∷◌, ◌≡◌, ◌≤◌, after, ap, append-nil, append_assoc, arith, Bool, can, client_mark}
+use Rattle.link_world.proofs.Names.{client_wrote, ClientEnd, comes_up, command_of, cond, Connection, decimal, down_on, drop, Ends, eqb, Err, Event}
+use Rattle.link_world.proofs.Names.{false, false≢true, flat_map, Front, front_served, happens, is_there, IsLastAndRest, IsReached, length, Link}
+use Rattle.link_world.proofs.Names.{links_of, List, lost_down, lost_up, machined_moves, next_of, no_link, None, Ok, OnOk, Option, place, position}
+use Rattle.link_world.proofs.Names.{read_moves, reading_of, refl, Result, row, rows, seen, server_mark, server_wrote, ServerEnd, ServerValue}
+use Rattle.link_world.proofs.Names.{slice_index_or, Some, standing, subst, suc, sym, take, taken_after, traced, Traces, TraceValue, true}
+use Rattle.link_world.proofs.Names.{turned_moves, up_on, without_cr, World, WorldValue, zero, ℕ}
 use Rattle.link_world.specs.declared.worlds.standing.Standing.{Standing}
-use Rattle.link_world.specs.Traces.{without_cr, row, rows, up_on, down_on, standing, shown, passed_over, traced, taken_after, client_mark, server_mark, lost_up, lost_down}
-use Rattle.link_world.specs.Traces.{comes_up, is_there, place, client_wrote, server_wrote}
-use Rattle.link_world.specs.Traces.{TraceValue, Follows, Grows, Traces, Ends}
+use Rattle.link_world.specs.Traces.{passed_over, shown}
+use Rattle.link_world.specs.Traces.{Follows, Grows}
 use Rattle.link_world.proofs.EventLists.{done_now}
 use Rattle.link_world.proofs.Linking.{links_get}
 use Rattle.link_world.proofs.Reached.{links_long, made}
@@ -209,26 +198,26 @@ last_count l client server cs written n view h long =
 
 -- the connection that the server took last, after an event
 last_after : (e : Event) (w : World) → (happens e w).server.server.last ≡ taken_after e w.server.server.last
-last_after event.Connect w = refl
-last_after (event.Accept n) w = refl
-last_after event.ClientSends w = refl
-last_after (event.Up k) w = refl
-last_after event.ServerReads w = front_last w.server (next_of w.server.input.rest)
+last_after Event.Connect w = refl
+last_after (Event.Accept n) w = refl
+last_after Event.ClientSends w = refl
+last_after (Event.Up k) w = refl
+last_after Event.ServerReads w = front_last w.server (next_of w.server.input.rest)
   where
     front_last : (e : ServerEnd) (f : Front) → (front_served e f).server.last ≡ e.server.last
     front_last e (Ok None) = refl
     front_last e (Ok (Some (line, rest))) = (read_moves e.server (reading_of (command_of line))).last
     front_last e (Err why) = refl
-last_after event.ServerTurn w = (turned_moves w.server.server).1.last
-last_after (event.Machine outcome) w = (machined_moves w.server.server outcome).1.last
-last_after (event.Down k) w = refl
-last_after event.ClientReads w = refl
-last_after event.ClientLeaves w = refl
-last_after event.ServerLeaves w = refl
-last_after event.Abort w = refl
-last_after event.Resume w = refl
-last_after (event.ClientRestart k) w = refl
-last_after event.ServerRestart w = refl
+last_after Event.ServerTurn w = (turned_moves w.server.server).1.last
+last_after (Event.Machine outcome) w = (machined_moves w.server.server outcome).1.last
+last_after (Event.Down k) w = refl
+last_after Event.ClientReads w = refl
+last_after Event.ClientLeaves w = refl
+last_after Event.ServerLeaves w = refl
+last_after Event.Abort w = refl
+last_after Event.Resume w = refl
+last_after (Event.ClientRestart k) w = refl
+last_after Event.ServerRestart w = refl
 
 traced_one : (e : Event) (w v : World) (s : Standing) → can e w ≡ true → v ≡ happens e w → s ≡ standing w → shown e s v ≡ traced (e ∷ []) w
 traced_one e w v s may is stands =

@@ -1,14 +1,8 @@
 -- Turns as events: the parts of a turn, one after another.
-use Rattle.std.proofs.Common.{◌≡◌, inl, inr, ℕ, zero, suc, Bool, true, false, cond, List, [], ◌∷◌, ◌++◌, refl, sym, ◌∙◌, ap, subst}
-use Rattle.std.proofs.Common.{append-nil}
-use Rattle.std.proofs.Common.{Some, None}
-use Rattle.protocol_model.specs.World.{World, can, happens, after, run_of}
-use Rattle.protocol_model.specs.declared.events.Event.{Event}
-use Rattle.protocol_model.specs.declared.events.Event.TheVariants as event
-use Rattle.protocol_model.specs.declared.machine.Job.{Job}
-use Rattle.protocol_model.specs.declared.machine.Outcome.{Outcome}
-use Rattle.protocol_model.specs.Rounds.{Then, AreWhile, IsOne, possible, AreWork, ending, working}
-use Rattle.link_world.specs.Joined.{IsClientTurn, IsServerTurn, TurnLeads}
+use Rattle.link_world.proofs.Names.{[], ◌++◌, ◌∙◌, ◌∷◌, ◌≡◌, after, ap, append-nil, AreWhile, AreWork, Bool, can, cond, ending, Event, false, happens}
+use Rattle.link_world.proofs.Names.{inl, inr, IsClientTurn, IsOne, IsServerTurn, Job, List, None, Outcome, refl, run_of, Some, subst, suc, sym, Then}
+use Rattle.link_world.proofs.Names.{true, TurnLeads, working, World, zero, ℕ}
+use Rattle.protocol_model.specs.Rounds.{possible}
 use Rattle.link_world.proofs.EventLists.{run_append, done_now, not_done}
 
 -- one event, repeated n times
@@ -129,28 +123,28 @@ only A B w front a = record { front = front; back = []; whole = sym (append-nil 
 
 -- ---- the turn of a client
 
-pub sent_only : (count : ℕ) (w v : World) → SoFar event.ClientSends w v
+pub sent_only : (count : ℕ) (w v : World) → SoFar Event.ClientSends w v
     → TurnLeads (IsClientTurn count) true w v
 sent_only count w v h = record {
-  events = times h.count event.ClientSends;
-  made = only (AreWhile event.ClientSends) _ w (times h.count event.ClientSends) h.while;
+  events = times h.count Event.ClientSends;
+  made = only (AreWhile Event.ClientSends) _ w (times h.count Event.ClientSends) h.while;
   leads = h.leads;
 }
 
-pub client_turned : (count : ℕ) (cut : Bool) (w v x y : World) → (s : SoFar event.ClientSends w v)
-    → can event.ClientSends v ≡ false → after (event.Down count) v ≡ x → (r : SoFar event.ClientReads x y)
-    → AreWhile event.ClientReads cut x (times r.count event.ClientReads)
+pub client_turned : (count : ℕ) (cut : Bool) (w v x y : World) → (s : SoFar Event.ClientSends w v)
+    → can Event.ClientSends v ≡ false → after (Event.Down count) v ≡ x → (r : SoFar Event.ClientReads x y)
+    → AreWhile Event.ClientReads cut x (times r.count Event.ClientReads)
     → TurnLeads (IsClientTurn count) cut w y
 client_turned count cut w v x y s never came r while =
-    let sends : List Event = times s.count event.ClientSends in
-    let downs : List Event = one (event.Down count) v in
-    let reads : List Event = times r.count event.ClientReads in
-    let there : run_of downs v ≡ x = run_one (event.Down count) v ∙ came in record {
+    let sends : List Event = times s.count Event.ClientSends in
+    let downs : List Event = one (Event.Down count) v in
+    let reads : List Event = times r.count Event.ClientReads in
+    let there : run_of downs v ≡ x = run_one (Event.Down count) v ∙ came in record {
       events = sends ++ (downs ++ reads);
-      made = both (AreWhile event.ClientSends) _ cut w v sends (downs ++ reads)
-          (all_done event.ClientSends w v s never) s.leads
-          (both (λ (cut : Bool) (u : World). IsOne (possible (event.Down count) u) cut) (AreWhile event.ClientReads) cut v x
-          downs reads (one_by (event.Down count) (can (event.Down count) v)) there while);
+      made = both (AreWhile Event.ClientSends) _ cut w v sends (downs ++ reads)
+          (all_done Event.ClientSends w v s never) s.leads
+          (both (λ (cut : Bool) (u : World). IsOne (possible (Event.Down count) u) cut) (AreWhile Event.ClientReads) cut v x
+          downs reads (one_by (Event.Down count) (can (Event.Down count) v)) there while);
       leads = run_append sends (downs ++ reads) w
           ∙ (ap (run_of (downs ++ reads)) s.leads
           ∙ (run_append downs reads v ∙ (ap (run_of reads) there ∙ r.leads)));
@@ -158,34 +152,34 @@ client_turned count cut w v x y s never came r while =
 
 -- ---- the turn of a server
 
-pub heard_only : (answer : Job → ℕ → Outcome) (count : ℕ) (w x y : World) → after (event.Up count) w ≡ x
-    → SoFar event.ServerReads x y → TurnLeads (IsServerTurn answer count) true w y
+pub heard_only : (answer : Job → ℕ → Outcome) (count : ℕ) (w x y : World) → after (Event.Up count) w ≡ x
+    → SoFar Event.ServerReads x y → TurnLeads (IsServerTurn answer count) true w y
 heard_only answer count w x y came r =
-    let ups : List Event = one (event.Up count) w in
-    let reads : List Event = times r.count event.ServerReads in
-    let there : run_of ups w ≡ x = run_one (event.Up count) w ∙ came in record {
+    let ups : List Event = one (Event.Up count) w in
+    let reads : List Event = times r.count Event.ServerReads in
+    let there : run_of ups w ≡ x = run_one (Event.Up count) w ∙ came in record {
       events = ups ++ reads;
-      made = both (λ (cut : Bool) (u : World). IsOne (possible (event.Up count) u) cut)
-          (Then (AreWhile event.ServerReads) (AreWork answer)) true w x ups reads
-          (one_by (event.Up count) (can (event.Up count) w)) there
-          (only (AreWhile event.ServerReads) (AreWork answer) x reads r.while);
+      made = both (λ (cut : Bool) (u : World). IsOne (possible (Event.Up count) u) cut)
+          (Then (AreWhile Event.ServerReads) (AreWork answer)) true w x ups reads
+          (one_by (Event.Up count) (can (Event.Up count) w)) there
+          (only (AreWhile Event.ServerReads) (AreWork answer) x reads r.while);
       leads = run_append ups reads w ∙ (ap (run_of reads) there ∙ r.leads);
     }
 
 pub served_whole : (answer : Job → ℕ → Outcome) (count : ℕ) (cut : Bool) (w x y z : World)
-    → after (event.Up count) w ≡ x → (r : SoFar event.ServerReads x y) → can event.ServerReads y ≡ false
+    → after (Event.Up count) w ≡ x → (r : SoFar Event.ServerReads x y) → can Event.ServerReads y ≡ false
     → (h : Worked answer y z) → AreWork answer cut y h.events
     → TurnLeads (IsServerTurn answer count) cut w z
 served_whole answer count cut w x y z came r never h work =
-    let ups : List Event = one (event.Up count) w in
-    let reads : List Event = times r.count event.ServerReads in
-    let there : run_of ups w ≡ x = run_one (event.Up count) w ∙ came in record {
+    let ups : List Event = one (Event.Up count) w in
+    let reads : List Event = times r.count Event.ServerReads in
+    let there : run_of ups w ≡ x = run_one (Event.Up count) w ∙ came in record {
       events = ups ++ (reads ++ h.events);
-      made = both (λ (cut : Bool) (u : World). IsOne (possible (event.Up count) u) cut)
-          (Then (AreWhile event.ServerReads) (AreWork answer)) cut w x ups (reads ++ h.events)
-          (one_by (event.Up count) (can (event.Up count) w)) there
-          (both (AreWhile event.ServerReads) (AreWork answer) cut x y reads h.events
-          (all_done event.ServerReads x y r never) r.leads work);
+      made = both (λ (cut : Bool) (u : World). IsOne (possible (Event.Up count) u) cut)
+          (Then (AreWhile Event.ServerReads) (AreWork answer)) cut w x ups (reads ++ h.events)
+          (one_by (Event.Up count) (can (Event.Up count) w)) there
+          (both (AreWhile Event.ServerReads) (AreWork answer) cut x y reads h.events
+          (all_done Event.ServerReads x y r never) r.leads work);
       leads = run_append ups (reads ++ h.events) w
           ∙ (ap (run_of (reads ++ h.events)) there
           ∙ (run_append reads h.events x ∙ (ap (run_of h.events) r.leads ∙ h.leads)));

@@ -1,16 +1,8 @@
 -- A quiet round that begins with a command that is due, and such rounds one after another.
-use Rattle.std.proofs.Common.{◌≡◌, ◌≢◌, ◌<◌, ℕ, Bool, true, false, List, [], ◌∷◌, refl, sym, ◌∙◌, ap, subst, Option, Some, None, is_some, Result, Ok, Err, OnErr}
-use Rattle.std.proofs.lemmas.Bool.{false≢true}
-use Rattle.protocol_model.specs.Client.{due}
-use Rattle.protocol_model.specs.Rounds.{IsRound}
-use Rattle.protocol_model.specs.World.{World, happens, run_of}
-use Rattle.protocol_model.specs.declared.events.Event.{Event}
-use Rattle.protocol_model.specs.declared.events.Event.TheVariants as event
-use Rattle.protocol_model.specs.declared.machine.Job.{Job}
-use Rattle.protocol_model.specs.declared.machine.Outcome.{Outcome}
-use Rattle.link_world.specs.Links.{WorldValue, IsReached}
-use Rattle.link_world.specs.Traces.{TraceValue}
-use Rattle.link_world.specs.Parts.{is_any, Makes, staged, unwatched}
+use Rattle.link_world.proofs.Names.{[], ◌<◌, ◌∙◌, ◌∷◌, ◌≡◌, ◌≢◌, ap, Bool, due, Err, Event, false, false≢true, happens, is_some, IsReached, IsRound}
+use Rattle.link_world.proofs.Names.{Job, List, Makes, None, Ok, OnErr, Option, Outcome, refl, Result, run_of, Some, staged, subst, sym, TraceValue}
+use Rattle.link_world.proofs.Names.{true, unwatched, World, WorldValue, ℕ}
+use Rattle.link_world.specs.Parts.{is_any}
 use Rattle.link_world.proofs.EventLists.{leads_unwatched, leads_value, leads_world}
 use Rattle.link_world.proofs.Reached.{never_faulted_behind}
 use Rattle.link_world.proofs.Resting.{round_still, round_fewer}
@@ -29,7 +21,7 @@ turn_made answer told l m t u reached some h = record {
   made = h.made;
   leads = leads_unwatched h.events l m (leads_value h.events l m t u h.leads);
   told_is = any_there h.events
-      (round_fewer answer l.world h.events h.made some (never_faulted_behind l event.ClientSends reached some)).0;
+      (round_fewer answer l.world h.events h.made some (never_faulted_behind l Event.ClientSends reached some)).0;
 }
 
 -- and left less to be sent
@@ -41,7 +33,7 @@ turn_fewer answer told l m t u reached some made =
     let h = made in
     subst (λ (k : WorldValue). unsent k.world < unsent l.world) (sym (leads_value h.events l m t u h.leads))
     (round_fewer answer l.world h.events h.made some
-    (never_faulted_behind l event.ClientSends reached some)).1
+    (never_faulted_behind l Event.ClientSends reached some)).1
 
 -- if nothing is due after it, the next does nothing
 pub turn_still : (answer : Job → ℕ → Outcome) (told : Option Bool) (l m : WorldValue) (t u : TraceValue)

@@ -1,16 +1,9 @@
 -- What comes of a list of events of which none disturbs, and of one for which memory sufficed.
-use Rattle.std.proofs.Common.{◌≡◌, ℕ, ◌≤◌, Bool, true, false, cond, List, [], ◌∷◌, refl, sym, ◌∙◌, ap, subst}
-use Rattle.std.proofs.lemmas.Bool.{false≢true}
-use Rattle.dmis_program.specs.Programs.{IsProgram}
-use Rattle.protocol_model.specs.World.{World, start, can, happens, run_of}
-use Rattle.protocol_model.specs.declared.events.Event.{Event}
-use Rattle.protocol_model.specs.Undisturbed.{AreUndisturbed, AreFirstLines, acts_planned, AreFirstActs, acts_in, AreFirstOf}
-use Rattle.protocol_model.proofs.whole_run.Carrying.{IsCarried}
-use Rattle.protocol_model.proofs.whole_run.SameProgram.{run_same}
-use Rattle.protocol_model.proofs.undisturbed_run.UndisturbedRun.{undisturbed_lines, undisturbed_acts, undisturbed_counts}
-use Rattle.link_world.specs.Claims.{IsNew, first_plan}
-use Rattle.link_world.specs.Links.{WorldValue, IsReached}
-use Rattle.link_world.specs.Runs.{Answer, Happened, Refused, Wanting, Follows, wanting, HasRun, FollowsPlan}
+use Rattle.link_world.proofs.Names.{[], ◌∙◌, ◌∷◌, ◌≡◌, ◌≤◌, acts_in, acts_planned, ap, AreFirstActs, AreFirstLines, AreFirstOf, AreUndisturbed, Bool}
+use Rattle.link_world.proofs.Names.{can, cond, Event, false, false≢true, first_plan, FollowsPlan, Happened, happens, HasRun, IsCarried, IsNew}
+use Rattle.link_world.proofs.Names.{IsProgram, IsReached, List, refl, Refused, run_of, run_same, start, subst, sym, true, undisturbed_acts}
+use Rattle.link_world.proofs.Names.{undisturbed_counts, undisturbed_lines, Wanting, wanting, World, WorldValue, ℕ}
+use Rattle.link_world.specs.Runs.{Answer, Follows}
 use Rattle.link_world.proofs.Reached.{carried}
 
 -- ---- the events that happened

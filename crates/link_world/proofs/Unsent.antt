@@ -1,37 +1,15 @@
 -- The events of a quiet round leave no more to be sent, and a command that is sent leaves less.
-use Rattle.std.proofs.Common.{◌≡◌, ◌≢◌, inl, inr, ℕ, suc, ◌<◌, ◌≤◌, Bool, true, false, not, cond, ◌&&◌, List, [], ◌∷◌, ◌++◌, length, refl}
-use Rattle.std.proofs.Common.{ap, subst, sym, ◌∙◌, arith, Option, Some, None, Result, Ok, Err, is_some}
-use Rattle.std.proofs.lemmas.Bool.{false≢true}
-use Rattle.dmis_program.specs.declared.features.Wanted.{Wanted}
-use Rattle.dme_line.specs.declared.tags.Tag.{Tag}
-use Rattle.dme_line.specs.declared.tags.Tag.TheVariants as tag
-use Rattle.dme_line.specs.declared.commands.Kind.{Kind}
-use Rattle.dme_line.specs.declared.commands.Kind.TheVariants as kind
-use Rattle.dme_line.specs.declared.points.NotPoint.{NotPoint}
-use Rattle.dme_line.specs.declared.homed.NotHomedText.{NotHomedText}
+use Rattle.link_world.proofs.Names.{[], ◌&&◌, ◌++◌, ◌<◌, ◌∙◌, ◌∷◌, ◌≡◌, ◌≢◌, ◌≤◌, after, ap, arith, Bool, can, Cause, Client, client_hears}
+use Rattle.link_world.proofs.Names.{client_read, cond, counted_next, Datum, Effect, Err, Event, false, false≢true, faulted, first_due, FramingFault}
+use Rattle.link_world.proofs.Names.{Front, front_read, given_for, given_homed, given_point, given_under, happens, Heard, heard_event, heard_in}
+use Rattle.link_world.proofs.Names.{heard_on, heard_standard, held_under, homed_of, inl, inr, is_homing, is_some, Kind, length, line_read, List}
+use Rattle.link_world.proofs.Names.{measured, next_number, next_of, None, not, NotHomedText, NotPoint, NotResponse, Ok, Option, Planned, Point}
+use Rattle.link_world.proofs.Names.{point_of, refl, Response, response_of, response_read, Result, run_of, sends_next, Some, State, subst, suc, sym}
+use Rattle.link_world.proofs.Names.{Table, Tag, tag_is, tallied, Tally, tells_homed, true, Wanted, without_homing, World, ℕ}
 use Rattle.dme_line.specs.declared.responses.Mark.{Mark as Marked}
-use Rattle.dme_line.specs.declared.responses.Mark.TheVariants as mark
-use Rattle.dme_line.specs.declared.responses.Response.{Response}
-use Rattle.dme_line.specs.declared.responses.NotResponse.{NotResponse}
-use Rattle.protocol_model.specs.Readings.{response_of, point_of, homed_of}
-use Rattle.fixed_um.specs.declared.lengths.Point.{Point}
-use Rattle.line_framing.specs.Next.{Front, next_of}
-use Rattle.line_framing.specs.declared.faults.FramingFault.TheVariants as framing
-use Rattle.protocol_model.specs.Replies.{Mark, tag_is}
-use Rattle.protocol_model.specs.Open.{Effect, Heard, heard_in}
-use Rattle.protocol_model.specs.Client.{Client, Table, Tally, sends_next, next_number, client_hears, client_read, heard_on, heard_standard}
-use Rattle.protocol_model.specs.Client.{heard_event, tallied, counted_next, measured, passed_over, without_homing, tells_homed, is_homing}
-use Rattle.protocol_model.specs.Client.{first_due, faulted}
-use Rattle.protocol_model.specs.Ends.{held_under, given_point, given_homed, given_for, given_under, response_read, line_read, front_read}
-use Rattle.protocol_model.specs.World.{World, can, happens, after, run_of}
-use Rattle.protocol_model.specs.declared.events.Event.{Event}
-use Rattle.protocol_model.specs.declared.events.Event.TheVariants as event
-use Rattle.protocol_model.specs.declared.held.Datum.{Datum}
-use Rattle.protocol_model.specs.declared.held.Datum.TheVariants as datum
+use Rattle.protocol_model.specs.Replies.{Mark}
+use Rattle.protocol_model.specs.Client.{passed_over}
 use Rattle.protocol_model.specs.declared.plans.Does.{Does}
-use Rattle.protocol_model.specs.declared.plans.Planned.{Planned}
-use Rattle.protocol_model.specs.declared.states.Cause.{Cause}
-use Rattle.protocol_model.specs.declared.states.State.{State}
 use Rattle.link_world.proofs.EventsLeft.{due_there}
 
 -- how many commands are not sent yet
@@ -61,10 +39,10 @@ passed_few true ps = without_few ps
 passed_few false ps = same_few (length ps)
 
 measured_same : (ws : List Wanted) (does : Does) (given : Option Datum) (y : Tally) → (measured ws does given y).unsent ≡ y.unsent
-measured_same ws (Does.Touches t false) (Some (datum.Point p)) y = refl
-measured_same ws (Does.Touches t true) (Some (datum.Point p)) y = refl
-measured_same ws (Does.Touches t false) (Some (datum.Homed b)) y = refl
-measured_same ws (Does.Touches t true) (Some (datum.Homed b)) y = refl
+measured_same ws (Does.Touches t false) (Some (Datum.Point p)) y = refl
+measured_same ws (Does.Touches t true) (Some (Datum.Point p)) y = refl
+measured_same ws (Does.Touches t false) (Some (Datum.Homed b)) y = refl
+measured_same ws (Does.Touches t true) (Some (Datum.Homed b)) y = refl
 measured_same ws (Does.Touches t false) None y = refl
 measured_same ws (Does.Touches t true) None y = refl
 measured_same ws Does.Nothing given y = refl
@@ -102,8 +80,8 @@ event_few b (Ok (hs, effect)) = same_few (length b.tally.unsent)
 event_few b (Err cause) = tt
 
 heard_few : (ws : List Wanted) (b : Table) (t : Tag) (m : Mark) → FewIn b (heard_on ws b t m)
-heard_few ws b (tag.Std n) m = standard_few ws b (heard_in (not b.tally.failed) b.standard (tag.Std n) m)
-heard_few ws b (tag.Event n) m = event_few b (heard_in true b.event (tag.Event n) m)
+heard_few ws b (Tag.Std n) m = standard_few ws b (heard_in (not b.tally.failed) b.standard (Tag.Std n) m)
+heard_few ws b (Tag.Event n) m = event_few b (heard_in true b.event (Tag.Event n) m)
 
 hears_few : (c : Client) (t : Tag) (m : Mark) (r : Result Table Cause) → FewIn c.table r → Few c (client_hears c t m r)
 hears_few c t m (Ok b) h = record { unsent = h; last = refl }
@@ -120,41 +98,41 @@ one_of c true d e p q = p
 one_of c false d e p q = q
 
 read_few : (c : Client) (t : Tag) (m : Mark) → Few c (client_read c t m)
-read_few c t m = one_of c (tag_is t (tag.Event 0)) c (client_hears c t m (heard_on c.program.features c.table t m)) (none_more c)
+read_few c t m = one_of c (tag_is t (Tag.Event 0)) c (client_hears c t m (heard_on c.program.features c.table t m)) (none_more c)
     (hears_few c t m (heard_on c.program.features c.table t m) (heard_few c.program.features c.table t m))
 
 point_few : (c : Client) (t : Tag) (r : Result Point NotPoint) → Few c (given_point c t r)
-point_few c t (Ok p) = read_few c t (Mark.Given (datum.Point p))
+point_few c t (Ok p) = read_few c t (Mark.Given (Datum.Point p))
 point_few c t (Err why) = given_up c _
 
 homed_few : (c : Client) (t : Tag) (r : Result Bool NotHomedText) → Few c (given_homed c t r)
-homed_few c t (Ok homed) = read_few c t (Mark.Given (datum.Homed homed))
+homed_few c t (Ok homed) = read_few c t (Mark.Given (Datum.Homed homed))
 homed_few c t (Err why) = given_up c _
 
 for_few : (c : Client) (t : Tag) (text : List ℕ) (k : Kind) → Few c (given_for c t text k)
-for_few c t text kind.PtMeas = point_few c t (point_of text)
-for_few c t text kind.IsHomed = homed_few c t (homed_of text)
-for_few c t text kind.StartSession = given_up c _
-for_few c t text kind.EndSession = given_up c _
-for_few c t text kind.ClearAllErrors = given_up c _
-for_few c t text kind.Home = given_up c _
-for_few c t text kind.OnPtMeasReport = given_up c _
-for_few c t text kind.GoTo = given_up c _
-for_few c t text kind.ChangeTool = given_up c _
-for_few c t text kind.SetCsyTransformation = given_up c _
-for_few c t text kind.SetCoordSystem = given_up c _
-for_few c t text kind.AbortE = given_up c _
+for_few c t text Kind.PtMeas = point_few c t (point_of text)
+for_few c t text Kind.IsHomed = homed_few c t (homed_of text)
+for_few c t text Kind.StartSession = given_up c _
+for_few c t text Kind.EndSession = given_up c _
+for_few c t text Kind.ClearAllErrors = given_up c _
+for_few c t text Kind.Home = given_up c _
+for_few c t text Kind.OnPtMeasReport = given_up c _
+for_few c t text Kind.GoTo = given_up c _
+for_few c t text Kind.ChangeTool = given_up c _
+for_few c t text Kind.SetCsyTransformation = given_up c _
+for_few c t text Kind.SetCoordSystem = given_up c _
+for_few c t text Kind.AbortE = given_up c _
 
 under_few : (c : Client) (t : Tag) (text : List ℕ) (kind : Option Kind) → Few c (given_under c t text kind)
 under_few c t text None = given_up c _
 under_few c t text (Some k) = for_few c t text k
 
 response_few : (c : Client) (t : Tag) (m : Marked) → Few c (response_read c t m)
-response_few c t mark.Ack = read_few c t Mark.Ack
-response_few c t (mark.Given text) = one_of c (tag_is t (tag.Event 0)) c (given_under c t text (held_under t c))
+response_few c t Marked.Ack = read_few c t Mark.Ack
+response_few c t (Marked.Given text) = one_of c (tag_is t (Tag.Event 0)) c (given_under c t text (held_under t c))
     (none_more c) (under_few c t text (held_under t c))
-response_few c t mark.Done = read_few c t Mark.Done
-response_few c t (mark.Error text) = read_few c t Mark.Error
+response_few c t Marked.Done = read_few c t Mark.Done
+response_few c t (Marked.Error text) = read_few c t Mark.Error
 
 line_few : (c : Client) (r : Result Response NotResponse) → Few c (line_read c r)
 line_few c (Ok r) = response_few c r.tag r.mark
@@ -163,8 +141,8 @@ line_few c (Err refused) = given_up c _
 pub front_few : (c : Client) (f : Front) → Few c (front_read c f)
 front_few c (Ok None) = none_more c
 front_few c (Ok (Some (line, rest))) = line_few c (response_of line)
-front_few c (Err framing.LineTooLong) = given_up c _
-front_few c (Err framing.BadByte) = given_up c _
+front_few c (Err FramingFault.LineTooLong) = given_up c _
+front_few c (Err FramingFault.BadByte) = given_up c _
 
 -- ---- sending
 
@@ -185,13 +163,13 @@ sends_less c b open_now (p ∷ ps) (Some n) is may fine = let long = ap length i
 
 -- an event of which quiet rounds are made
 abbrev pub is_calm : Event → Bool
-is_calm event.ClientSends = true
-is_calm (event.Up n) = true
-is_calm event.ServerReads = true
-is_calm event.ServerTurn = true
-is_calm (event.Machine o) = true
-is_calm (event.Down n) = true
-is_calm event.ClientReads = true
+is_calm Event.ClientSends = true
+is_calm (Event.Up n) = true
+is_calm Event.ServerReads = true
+is_calm Event.ServerTurn = true
+is_calm (Event.Machine o) = true
+is_calm (Event.Down n) = true
+is_calm Event.ClientReads = true
 is_calm _ = false
 
 abbrev pub AreCalm : List Event → Type 0
@@ -199,22 +177,22 @@ AreCalm [] = Unit {0}
 AreCalm (e ∷ es) = (is_calm e ≡ true) × AreCalm es
 
 happens_few : (e : Event) (w : World) → is_calm e ≡ true → unsent (happens e w) ≤ unsent w
-happens_few event.ClientSends w calm =
-    sends_few w.client.client w.client.client.table.tally.unsent (next_number tag.Std w.client.client.table.standard w.client.client.drawn) refl
-happens_few (event.Up n) w calm = same_few (unsent w)
-happens_few event.ServerReads w calm = same_few (unsent w)
-happens_few event.ServerTurn w calm = same_few (unsent w)
-happens_few (event.Machine o) w calm = same_few (unsent w)
-happens_few (event.Down n) w calm = same_few (unsent w)
-happens_few event.ClientReads w calm = (front_few w.client.client (next_of w.client.input.rest)).unsent
-happens_few event.Connect w calm = absurd (false≢true calm)
-happens_few (event.Accept n) w calm = absurd (false≢true calm)
-happens_few event.ClientLeaves w calm = absurd (false≢true calm)
-happens_few event.ServerLeaves w calm = absurd (false≢true calm)
-happens_few event.Abort w calm = absurd (false≢true calm)
-happens_few event.Resume w calm = absurd (false≢true calm)
-happens_few (event.ClientRestart n) w calm = absurd (false≢true calm)
-happens_few event.ServerRestart w calm = absurd (false≢true calm)
+happens_few Event.ClientSends w calm =
+    sends_few w.client.client w.client.client.table.tally.unsent (next_number Tag.Std w.client.client.table.standard w.client.client.drawn) refl
+happens_few (Event.Up n) w calm = same_few (unsent w)
+happens_few Event.ServerReads w calm = same_few (unsent w)
+happens_few Event.ServerTurn w calm = same_few (unsent w)
+happens_few (Event.Machine o) w calm = same_few (unsent w)
+happens_few (Event.Down n) w calm = same_few (unsent w)
+happens_few Event.ClientReads w calm = (front_few w.client.client (next_of w.client.input.rest)).unsent
+happens_few Event.Connect w calm = absurd (false≢true calm)
+happens_few (Event.Accept n) w calm = absurd (false≢true calm)
+happens_few Event.ClientLeaves w calm = absurd (false≢true calm)
+happens_few Event.ServerLeaves w calm = absurd (false≢true calm)
+happens_few Event.Abort w calm = absurd (false≢true calm)
+happens_few Event.Resume w calm = absurd (false≢true calm)
+happens_few (Event.ClientRestart n) w calm = absurd (false≢true calm)
+happens_few Event.ServerRestart w calm = absurd (false≢true calm)
 
 after_few : (e : Event) (w : World) (b : Bool) → is_calm e ≡ true
     → unsent (cond b (happens e w) w) ≤ unsent w
@@ -228,9 +206,9 @@ run_few (e ∷ es) w calm =
     let more : unsent (run_of es (after e w)) ≤ unsent (after e w) = run_few es (after e w) calm.1 in
     omega (arith, one, more)
 
-pub sent_less : (w : World) → can event.ClientSends w ≡ true
-    → (happens event.ClientSends w).client.client.state ≢ State.Faulted
-    → unsent (happens event.ClientSends w) < unsent w
+pub sent_less : (w : World) → can Event.ClientSends w ≡ true
+    → (happens Event.ClientSends w).client.client.state ≢ State.Faulted
+    → unsent (happens Event.ClientSends w) < unsent w
 sent_less w may fine =
     sends_less w.client.client _ _ w.client.client.table.tally.unsent
-    (next_number tag.Std w.client.client.table.standard w.client.client.drawn) refl may fine
+    (next_number Tag.Std w.client.client.table.standard w.client.client.drawn) refl may fine

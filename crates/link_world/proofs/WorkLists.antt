@@ -1,17 +1,7 @@
 -- What the server does, one thing after another.
-use Rattle.std.proofs.Common.{◌≡◌, ◌<◌, Bool, true, false, cond, List, [], ◌∷◌, ◌++◌, ℕ, sym, ◌∙◌, ap, subst, Option, Some, None}
-use Rattle.contact_ledger.specs.Ledgers.{contact_count}
-use Rattle.protocol_model.specs.Server.{running_job}
-use Rattle.protocol_model.specs.World.{World, can, happens, after, run_of}
-use Rattle.protocol_model.specs.declared.lines.Line.{Line}
-use Rattle.protocol_model.specs.declared.machine.Job.{Job}
-use Rattle.protocol_model.specs.declared.machine.Outcome.{Outcome}
-use Rattle.protocol_model.specs.declared.events.Event.{Event}
-use Rattle.protocol_model.specs.declared.events.Event.TheVariants as event
-use Rattle.server_core.specs.Steady.{IsRunnable}
-use Rattle.link_world.specs.Links.{WorldValue, with_world}
-use Rattle.protocol_model.specs.Rounds.{AreWork, ending, ended, working}
-use Rattle.link_world.specs.Parts.{Makes, Staged, Leading}
+use Rattle.link_world.proofs.Names.{[], ◌++◌, ◌<◌, ◌∙◌, ◌∷◌, ◌≡◌, after, ap, AreWork, Bool, can, cond, contact_count, ended, ending, Event, false}
+use Rattle.link_world.proofs.Names.{happens, IsRunnable, Job, Leading, Line, List, Makes, None, Option, Outcome, run_of, running_job, Some, Staged}
+use Rattle.link_world.proofs.Names.{subst, sym, true, with_world, working, World, WorldValue, ℕ}
 use Rattle.link_world.proofs.EventLists.{any_more, leads_more, done_now}
 use Rattle.link_world.proofs.ServerWork.{work_left, turn_less, machine_less}
 
@@ -55,7 +45,7 @@ working_ends answer b l k h is = record {
 
 -- ---- it ends
 
-turn_only : (e : Event) (w : World) (b : Bool) → cond {A = Option Event} b (Some event.ServerTurn) None ≡ Some e → e ≡ event.ServerTurn
+turn_only : (e : Event) (w : World) (b : Bool) → cond {A = Option Event} b (Some Event.ServerTurn) None ≡ Some e → e ≡ Event.ServerTurn
 turn_only e w true is = cc
 turn_only e w false is = absurd (cc)
 
@@ -64,11 +54,11 @@ next_less : (answer : Job → ℕ → Outcome) (e : Event) (w : World) (job : Op
     → ((line : Line) → w.server.server.running ≡ Some line → IsRunnable w.server.server line)
     → work_left (happens e w) < work_left w
 next_less answer e w None is may fine =
-    let same : e ≡ event.ServerTurn = turn_only e w (can event.ServerTurn w) is in
+    let same : e ≡ Event.ServerTurn = turn_only e w (can Event.ServerTurn w) is in
     subst (λ (x : Event). work_left (happens x w) < work_left w) (sym same)
     (turn_less w (subst (λ (x : Event). can x w ≡ true) same may))
 next_less answer e w (Some job) is may fine =
-    let same : e ≡ event.Machine (answer job (contact_count w.server.server.ledger)) = cc in
+    let same : e ≡ Event.Machine (answer job (contact_count w.server.server.ledger)) = cc in
     subst (λ (x : Event). work_left (happens x w) < work_left w) (sym same)
     (machine_less w (answer job (contact_count w.server.server.ledger)) (subst (λ (x : Event). can x w ≡ true) same may) fine)
 

@@ -1,34 +1,20 @@
 -- The first refusal that is listed is the one that the program is refused for.
-use Rattle.std.proofs.Common.{◌≡◌, ℕ, ◌+◌, ◌-◌, ◌<◌, ◌≤◌, Bool, true, false, cond, List, [], ◌∷◌, ◌++◌, length, Option, Some, None}
-use Rattle.std.proofs.Common.{Result, Ok, Err, refl, ap, sym, ◌∙◌, subst, arith, is_none, nat_le, ◌||◌}
-use Rattle.std.specs.Prelude.{nat_lt, is_err, is_some}
+use Rattle.program_review.proofs.Names.{[], ◌++◌, ◌+◌, ◌-◌, ◌<◌, ◌>>=◌, ◌||◌, ◌∙◌, ◌∷◌, ◌≡◌, ◌≤◌, after, after_said, ap, arith, at_start, Bool}
+use Rattle.program_review.proofs.Names.{bound_count, bound_said, closes, cond, Context, context_at, context_of, continued, due, Err, false, fault_of}
+use Rattle.program_review.proofs.Names.{first_of, is_badly_formed, is_end, is_err, is_none, is_selection, is_some, is_too_few, Keyword, keyword_of}
+use Rattle.program_review.proofs.Names.{lacking_said, length, lines, List, listed, meant, misplaced, names_by, nat_le, nat_lt, nearest, None}
+use Rattle.program_review.proofs.Names.{number_at, Ok, one_less, one_more, Option, or_else, Point, program_of, refl, Refusal, refusals_from}
+use Rattle.program_review.proofs.Names.{refusals_of, refused_by, Remark, Result, saying, settled, Some, some_tool, Statement, StatementMeaning, Step}
+use Rattle.program_review.proofs.Names.{steps_from, steps_of, subst, sym, text_reading, TextFault, tool_said, TooLarge, touched, touched_with, true}
+use Rattle.program_review.proofs.Names.{with_front, without_parameters, word_refusal, ℕ}
 use Rattle.std.proofs.Math.Bool.{or-false}
 use Rattle.std.proofs.lemmas.Bool.Decides.{nat_tests}
-use Rattle.std.specs.Str.Lines.{lines}
-use Rattle.dmis_text.specs.Reading.{text_reading}
-use Rattle.dmis_text.specs.declared.elements.Statement.{Statement}
-use Rattle.dmis_text.specs.declared.reading.TextFault.{TextFault}
-use Rattle.fixed_um.specs.declared.lengths.Point.{Point}
-use Rattle.dmis_program.specs.Outcomes.{◌>>=◌}
-use Rattle.dmis_program.specs.Keywords.{keyword_of}
-use Rattle.dmis_program.specs.Sayings.{said_of, said_by, is_badly_formed, without_parameters}
-use Rattle.dmis_program.specs.LookBack.{Context, context_at, saying, nearest, or_else, tool_said, bound_said, bound_count, touched, touched_with}
-use Rattle.dmis_program.specs.Judging.{judged, settled, refused_by, word_refusal, misplaced, is_too_few}
-use Rattle.dmis_program.specs.Meaning.{program_of, meaning_of, meant, steps_from, steps_of, continued, with_front, closes}
+use Rattle.dmis_program.specs.Sayings.{said_by, said_of}
+use Rattle.dmis_program.specs.Judging.{judged}
+use Rattle.dmis_program.specs.Meaning.{meaning_of}
 use Rattle.dmis_program.proofs.Sound.{SaidBy}
 use Rattle.dmis_program.proofs.SayingLemmas.{said_of_if}
-use Rattle.dmis_program.specs.declared.faults.Refusal.{Refusal}
-use Rattle.dmis_program.specs.declared.faults.Refusal.TheVariants.{TooLarge}
-use Rattle.dmis_program.specs.declared.keywords.Keyword.{Keyword}
-use Rattle.dmis_program.specs.declared.keywords.Keyword.TheVariants as word
-use Rattle.dmis_program.specs.declared.sayings.StatementMeaning.{StatementMeaning}
-use Rattle.dmis_program.specs.declared.sayings.StatementMeaning.TheVariants as said
-use Rattle.dmis_program.specs.declared.steps.Step.{Step}
 use Rattle.program_review.specs.declared.standing.Standing.{Standing}
-use Rattle.program_review.specs.declared.remarks.Remark.{Remark}
-use Rattle.program_review.specs.Refusals.{at_start, number_at, some_tool, context_of, due, one_more, one_less, lacking_said, is_selection}
-use Rattle.program_review.specs.Variables.{names_by}
-use Rattle.program_review.specs.Refusals.{after_said, after, is_end, listed, refusals_from, refusals_of, first_of, fault_of}
 use Rattle.dmis_program.proofs.CarryingLemmas.{settling_is}
 
 -- what an open block that has this many touches lacks
@@ -51,30 +37,30 @@ too_few_same (Some count) n = grind (arith, nat_tests)
 
 misplaced_same : (keyword : Keyword) (wanted : Option ℕ) (n : ℕ) → misplaced keyword (lacks wanted n) ≡ misplaced keyword wanted
 misplaced_same keyword None n = refl
-misplaced_same word.Dmismn (Some count) n = refl
-misplaced_same word.Goto (Some count) n = refl
-misplaced_same word.Meas (Some count) n = refl
-misplaced_same word.Ptmeas (Some count) n = refl
-misplaced_same word.Endmes (Some count) n = refl
-misplaced_same word.Snslct (Some count) n = refl
-misplaced_same word.Recall (Some count) n = refl
-misplaced_same word.Endfil (Some count) n = refl
-misplaced_same word.Units (Some count) n = refl
-misplaced_same word.Mode (Some count) n = refl
-misplaced_same word.Definition (Some count) n = refl
-misplaced_same word.Passed (Some count) n = refl
-misplaced_same word.Unknown (Some count) n = refl
+misplaced_same Keyword.Dmismn (Some count) n = refl
+misplaced_same Keyword.Goto (Some count) n = refl
+misplaced_same Keyword.Meas (Some count) n = refl
+misplaced_same Keyword.Ptmeas (Some count) n = refl
+misplaced_same Keyword.Endmes (Some count) n = refl
+misplaced_same Keyword.Snslct (Some count) n = refl
+misplaced_same Keyword.Recall (Some count) n = refl
+misplaced_same Keyword.Endfil (Some count) n = refl
+misplaced_same Keyword.Units (Some count) n = refl
+misplaced_same Keyword.Mode (Some count) n = refl
+misplaced_same Keyword.Definition (Some count) n = refl
+misplaced_same Keyword.Passed (Some count) n = refl
+misplaced_same Keyword.Unknown (Some count) n = refl
 
 settled_same : (frames : List (List ℕ × Point)) (t u : Option (List ℕ)) (wanted : Option ℕ) (n : ℕ) (m : StatementMeaning)
     → is_none t ≡ is_none u → settled frames t (lacks wanted n) 0 m ≡ settled frames u wanted n m
-settled_same frames t u wanted n (said.Goes target) h = refl
-settled_same frames t u wanted n (said.Begins name count) h = refl
-settled_same frames t u wanted n (said.Touches target direction) h = rw h refl
-settled_same frames t u wanted n said.Ends h = rw (too_few_same wanted n) refl
-settled_same frames t u wanted n (said.Selects name) h = refl
-settled_same frames t u wanted n (said.Recalls name) h = refl
-settled_same frames t u wanted n said.Closes h = refl
-settled_same frames t u wanted n said.Passes h = refl
+settled_same frames t u wanted n (StatementMeaning.Goes target) h = refl
+settled_same frames t u wanted n (StatementMeaning.Begins name count) h = refl
+settled_same frames t u wanted n (StatementMeaning.Touches target direction) h = rw h refl
+settled_same frames t u wanted n StatementMeaning.Ends h = rw (too_few_same wanted n) refl
+settled_same frames t u wanted n (StatementMeaning.Selects name) h = refl
+settled_same frames t u wanted n (StatementMeaning.Recalls name) h = refl
+settled_same frames t u wanted n StatementMeaning.Closes h = refl
+settled_same frames t u wanted n StatementMeaning.Passes h = refl
 
 bind_same : (frames : List (List ℕ × Point)) (t u : Option (List ℕ)) (wanted : Option ℕ) (n : ℕ) (r : Result StatementMeaning Refusal)
     → is_none t ≡ is_none u → (r >>= settled frames t (lacks wanted n) 0) ≡ (r >>= settled frames u wanted n)
@@ -125,44 +111,44 @@ accepted_is frames c s t h =
     record { few = below_most c.number both.0; said = settling_is frames c.tool c.wanted c.touched (saying s) t both.1 }
 
 -- an accepted statement ends the program by its word
-no_parameters_close : (params : List (List ℕ)) (t : StatementMeaning) → without_parameters said.Closes params ≡ Ok t → closes t ≡ true
-no_parameters_close [] t h = let same : said.Closes ≡ t = cc in rw (← same) refl
+no_parameters_close : (params : List (List ℕ)) (t : StatementMeaning) → without_parameters StatementMeaning.Closes params ≡ Ok t → closes t ≡ true
+no_parameters_close [] t h = let same : StatementMeaning.Closes ≡ t = cc in rw (← same) refl
 no_parameters_close (p ∷ params) t h = absurd cc
 
 pub unless_badly : (b : Bool) (e : Refusal) (r : Result StatementMeaning Refusal) (t : StatementMeaning) → cond b (Err e) r ≡ Ok t → r ≡ Ok t
 unless_badly true e r t h = absurd cc
 unless_badly false e r t h = h
 
-end_closes : (s : Statement) (t : StatementMeaning) → said_of word.Endfil s ≡ Ok t → closes t ≡ true
+end_closes : (s : Statement) (t : StatementMeaning) → said_of Keyword.Endfil s ≡ Ok t → closes t ≡ true
 unfolding said_of said_by
-end_closes s t h = no_parameters_close s.params t (unless_badly (is_badly_formed word.Endfil s) _ _ t h)
+end_closes s t h = no_parameters_close s.params t (unless_badly (is_badly_formed Keyword.Endfil s) _ _ t h)
 
-closing_ends : (keyword : Keyword) (t : StatementMeaning) → SaidBy keyword t → closes t ≡ true → keyword ≡ word.Endfil
-closing_ends keyword (said.Goes target) h e = absurd cc
-closing_ends keyword (said.Begins name n) h e = absurd cc
-closing_ends keyword (said.Touches target direction) h e = absurd cc
-closing_ends keyword said.Ends h e = absurd cc
-closing_ends keyword (said.Selects name) h e = absurd cc
-closing_ends keyword (said.Recalls name) h e = absurd cc
-closing_ends keyword said.Closes h e = h
-closing_ends keyword said.Passes h e = absurd cc
+closing_ends : (keyword : Keyword) (t : StatementMeaning) → SaidBy keyword t → closes t ≡ true → keyword ≡ Keyword.Endfil
+closing_ends keyword (StatementMeaning.Goes target) h e = absurd cc
+closing_ends keyword (StatementMeaning.Begins name n) h e = absurd cc
+closing_ends keyword (StatementMeaning.Touches target direction) h e = absurd cc
+closing_ends keyword StatementMeaning.Ends h e = absurd cc
+closing_ends keyword (StatementMeaning.Selects name) h e = absurd cc
+closing_ends keyword (StatementMeaning.Recalls name) h e = absurd cc
+closing_ends keyword StatementMeaning.Closes h e = h
+closing_ends keyword StatementMeaning.Passes h e = absurd cc
 
-both_same : (keyword : Keyword) (t : StatementMeaning) (b : Bool) → closes t ≡ b → (closes t ≡ true → keyword ≡ word.Endfil)
-    → (keyword ≡ word.Endfil → closes t ≡ true) → is_end keyword ≡ b
+both_same : (keyword : Keyword) (t : StatementMeaning) (b : Bool) → closes t ≡ b → (closes t ≡ true → keyword ≡ Keyword.Endfil)
+    → (keyword ≡ Keyword.Endfil → closes t ≡ true) → is_end keyword ≡ b
 both_same keyword t true h f g = rw (f h) refl
-both_same word.Endfil t false h f g = let e = g refl in cc
-both_same word.Dmismn t false h f g = refl
-both_same word.Goto t false h f g = refl
-both_same word.Meas t false h f g = refl
-both_same word.Ptmeas t false h f g = refl
-both_same word.Endmes t false h f g = refl
-both_same word.Snslct t false h f g = refl
-both_same word.Recall t false h f g = refl
-both_same word.Units t false h f g = refl
-both_same word.Mode t false h f g = refl
-both_same word.Definition t false h f g = refl
-both_same word.Passed t false h f g = refl
-both_same word.Unknown t false h f g = refl
+both_same Keyword.Endfil t false h f g = let e = g refl in cc
+both_same Keyword.Dmismn t false h f g = refl
+both_same Keyword.Goto t false h f g = refl
+both_same Keyword.Meas t false h f g = refl
+both_same Keyword.Ptmeas t false h f g = refl
+both_same Keyword.Endmes t false h f g = refl
+both_same Keyword.Snslct t false h f g = refl
+both_same Keyword.Recall t false h f g = refl
+both_same Keyword.Units t false h f g = refl
+both_same Keyword.Mode t false h f g = refl
+both_same Keyword.Definition t false h f g = refl
+both_same Keyword.Passed t false h f g = refl
+both_same Keyword.Unknown t false h f g = refl
 
 pub end_is : (s : Statement) (t : StatementMeaning) → saying s ≡ Ok t → is_end (keyword_of s.word) ≡ closes t
 end_is s t h =
@@ -173,15 +159,15 @@ end_is s t h =
 -- what is carried past an accepted statement
 tool_after : (has_tool : Bool) (m : StatementMeaning) (above : Option (List ℕ)) → is_none (some_tool has_tool) ≡ is_none above
     → is_none (some_tool (has_tool || is_selection m)) ≡ is_none (or_else (tool_said (Ok m)) above)
-tool_after has_tool (said.Goes target) above h = rw (or-false has_tool) h
-tool_after has_tool (said.Begins name n) above h = rw (or-false has_tool) h
-tool_after has_tool (said.Touches target direction) above h = rw (or-false has_tool) h
-tool_after has_tool said.Ends above h = rw (or-false has_tool) h
-tool_after true (said.Selects name) above h = refl
-tool_after false (said.Selects name) above h = refl
-tool_after has_tool (said.Recalls name) above h = rw (or-false has_tool) h
-tool_after has_tool said.Closes above h = rw (or-false has_tool) h
-tool_after has_tool said.Passes above h = rw (or-false has_tool) h
+tool_after has_tool (StatementMeaning.Goes target) above h = rw (or-false has_tool) h
+tool_after has_tool (StatementMeaning.Begins name n) above h = rw (or-false has_tool) h
+tool_after has_tool (StatementMeaning.Touches target direction) above h = rw (or-false has_tool) h
+tool_after has_tool StatementMeaning.Ends above h = rw (or-false has_tool) h
+tool_after true (StatementMeaning.Selects name) above h = refl
+tool_after false (StatementMeaning.Selects name) above h = refl
+tool_after has_tool (StatementMeaning.Recalls name) above h = rw (or-false has_tool) h
+tool_after has_tool StatementMeaning.Closes above h = rw (or-false has_tool) h
+tool_after has_tool StatementMeaning.Passes above h = rw (or-false has_tool) h
 
 one_less_lacks : (wanted : Option ℕ) (n : ℕ) → one_less (lacks wanted n) ≡ lacks wanted (n + 1)
 one_less_lacks None n = refl
@@ -193,14 +179,14 @@ nothing_less count = let e : count - 0 ≡ count = omega arith in rw e refl
 lacking_after : (lacking : Option ℕ) (m : StatementMeaning) (bound : Option (Option ℕ)) (n : ℕ)
     → lacking ≡ lacks (bound_count bound) n
     → lacking_said m lacking ≡ lacks (bound_count (or_else (bound_said (Ok m)) bound)) (touched_with (Ok m) n)
-lacking_after lacking (said.Goes target) bound n h = h
-lacking_after lacking (said.Begins name count) bound n h = nothing_less count
-lacking_after lacking (said.Touches target direction) bound n h = rw h (one_less_lacks (bound_count bound) n)
-lacking_after lacking said.Ends bound n h = refl
-lacking_after lacking (said.Selects name) bound n h = h
-lacking_after lacking (said.Recalls name) bound n h = h
-lacking_after lacking said.Closes bound n h = h
-lacking_after lacking said.Passes bound n h = h
+lacking_after lacking (StatementMeaning.Goes target) bound n h = h
+lacking_after lacking (StatementMeaning.Begins name count) bound n h = nothing_less count
+lacking_after lacking (StatementMeaning.Touches target direction) bound n h = rw h (one_less_lacks (bound_count bound) n)
+lacking_after lacking StatementMeaning.Ends bound n h = refl
+lacking_after lacking (StatementMeaning.Selects name) bound n h = h
+lacking_after lacking (StatementMeaning.Recalls name) bound n h = h
+lacking_after lacking StatementMeaning.Closes bound n h = h
+lacking_after lacking StatementMeaning.Passes bound n h = h
 
 one_more_is : (n : ℕ) → n < 10000 → one_more n ≡ n + 1
 one_more_is n h = let few : nat_lt 10000 n ≡ false = grind (arith, nat_tests, h) in rw few refl

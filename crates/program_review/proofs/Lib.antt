@@ -1,3 +1,4 @@
+pub mod Names
 pub mod FirstLemmas
 pub mod StepLemmas
 pub mod TaskSteps

@@ -1,28 +1,16 @@
 -- The lines of the commands that carry out statements are those of the plan's commands.
-use Rattle.std.proofs.Common.{◌≡◌, ℕ, ◌≤◌, List, [], ◌∷◌, ◌++◌, length, take, Option, Some, None, Ok, refl, sym, ◌∙◌, ap, subst}
-use Rattle.std.specs.List.{flat_map}
-use Rattle.dmis_text.specs.Reading.{text_reading}
-use Rattle.dmis_text.specs.declared.elements.Statement.{Statement}
-use Rattle.fixed_um.specs.declared.lengths.Point.{Point}
+use Rattle.program_review.proofs.Names.{[], ◌++◌, ◌∙◌, ◌∷◌, ◌≡◌, ◌≤◌, after_touch, ap, AreInVolume, behind, Command, command_lines_of}
+use Rattle.program_review.proofs.Names.{feature_touches, features_of, flat_map, frame_again, frame_behind, frame_line, framing, HaveLines, IsOn}
+use Rattle.program_review.proofs.Names.{length, lines_of, List, Meaning, measuring, None, Ok, Option, plan, planned, Point, program_of, refl, Some}
+use Rattle.program_review.proofs.Names.{Statement, statement_commands, Step, stepping, subst, sym, take, task_lines_of, TaskLine, text_reading}
+use Rattle.program_review.proofs.Names.{tool_again, tool_behind, tool_line, tooling, up_to, up_to_touch, Wanted, ℕ}
 use Rattle.fixed_um.specs.declared.frames.Frame.{Frame}
 use Rattle.fixed_um.specs.declared.frames.Frame.TheVariants.{Machine, Part}
-use Rattle.dme_line.specs.declared.commands.Command.TheVariants as command
-use Rattle.dmis_program.specs.Offsets.{AreInVolume}
-use Rattle.dmis_program.specs.Meaning.{Meaning, program_of, features_of}
-use Rattle.dmis_program.specs.Programs.{feature_touches}
-use Rattle.dmis_program.specs.declared.features.Wanted.{Wanted}
-use Rattle.dmis_program.specs.declared.steps.Step.{Step}
-use Rattle.dmis_program.specs.declared.steps.Step.TheVariants as step
 use Rattle.dmis_program.proofs.ShapeLemmas.{program_shape}
-use Rattle.protocol_model.specs.Plan.{plan, planned, up_to, behind, tool_behind, frame_behind, tooling, framing, stepping, measuring}
 use Rattle.protocol_model.specs.declared.plans.Does.TheVariants.{Nothing}
 use Rattle.protocol_model.specs.declared.plans.Planned.{Planned}
 use Rattle.protocol_model.specs.declared.plans.Start.{Start}
 use Rattle.protocol_model.specs.declared.plans.Start.TheVariants.{NewConnection, SameConnection}
-use Rattle.program_review.specs.TaskLines.{task_lines_of, command_lines_of, lines_of, up_to_touch, after_touch}
-use Rattle.program_review.specs.TaskLines.{tool_line, frame_line, tool_again, frame_again}
-use Rattle.program_review.specs.PlanLines.{IsOn, HaveLines, statement_commands}
-use Rattle.program_review.specs.declared.tasks.TaskLine.{TaskLine}
 use Rattle.program_review.proofs.TaskSteps.{StepIsOn, AreTasks, tasks_are_steps}
 use Rattle.program_review.proofs.TaskPlaces.{counted, count_of, parts}
 
@@ -31,46 +19,46 @@ abbrev ToolIsOn : List (List ℕ × Point) → List Statement → Option (List �
 ToolIsOn frames all None None = Unit {0}
 ToolIsOn frames all None (Some line) = ⊥
 ToolIsOn frames all (Some name) None = ⊥
-ToolIsOn frames all (Some name) (Some line) = IsOn frames all line (command.ChangeTool name)
+ToolIsOn frames all (Some name) (Some line) = IsOn frames all line (Command.ChangeTool name)
 
 tool_on : (frames : List (List ℕ × Point)) (all : List Statement) (ss : List Step) (ts : List TaskLine) (tool : Option (List ℕ))
     (line : Option ℕ) → AreTasks (StepIsOn frames all) ss ts → ToolIsOn frames all tool line
     → ToolIsOn frames all (tool_behind tool ss) (tool_line line ts)
 tool_on frames all [] [] tool line h is = is
 tool_on frames all [] (t ∷ ts) tool line h is = absurd h
-tool_on frames all (step.Goto p ∷ ss) [] tool line h is = absurd h
-tool_on frames all (step.Goto p ∷ ss) (t ∷ ts) tool line h is = rw h.0 (tool_on frames all ss ts tool line h.1.1 is)
-tool_on frames all (step.Begin l ∷ ss) ts tool line h is = tool_on frames all ss ts tool line h is
-tool_on frames all (step.Touch x ∷ ss) [] tool line h is = absurd h
-tool_on frames all (step.Touch x ∷ ss) (t ∷ ts) tool line h is = rw h.0 (tool_on frames all ss ts tool line h.1.1 is)
-tool_on frames all (step.Tool n ∷ ss) [] tool line h is = absurd h
-tool_on frames all (step.Tool n ∷ ss) (t ∷ ts) tool line h is = rw h.0 (tool_on frames all ss ts (Some n) (Some t.line) h.1.1 h.1.0)
-tool_on frames all (step.Recall p ∷ ss) [] tool line h is = absurd h
-tool_on frames all (step.Recall p ∷ ss) (t ∷ ts) tool line h is = rw h.0 (tool_on frames all ss ts tool line h.1.1 is)
-tool_on frames all (step.End ∷ ss) ts tool line h is = tool_on frames all ss ts tool line h is
+tool_on frames all (Step.Goto p ∷ ss) [] tool line h is = absurd h
+tool_on frames all (Step.Goto p ∷ ss) (t ∷ ts) tool line h is = rw h.0 (tool_on frames all ss ts tool line h.1.1 is)
+tool_on frames all (Step.Begin l ∷ ss) ts tool line h is = tool_on frames all ss ts tool line h is
+tool_on frames all (Step.Touch x ∷ ss) [] tool line h is = absurd h
+tool_on frames all (Step.Touch x ∷ ss) (t ∷ ts) tool line h is = rw h.0 (tool_on frames all ss ts tool line h.1.1 is)
+tool_on frames all (Step.Tool n ∷ ss) [] tool line h is = absurd h
+tool_on frames all (Step.Tool n ∷ ss) (t ∷ ts) tool line h is = rw h.0 (tool_on frames all ss ts (Some n) (Some t.line) h.1.1 h.1.0)
+tool_on frames all (Step.Recall p ∷ ss) [] tool line h is = absurd h
+tool_on frames all (Step.Recall p ∷ ss) (t ∷ ts) tool line h is = rw h.0 (tool_on frames all ss ts tool line h.1.1 is)
+tool_on frames all (Step.End ∷ ss) ts tool line h is = tool_on frames all ss ts tool line h is
 
 -- likewise the frame
 abbrev FrameIsOn : List (List ℕ × Point) → List Statement → Frame → Option ℕ → Type 0
 FrameIsOn frames all Machine None = Unit {0}
 FrameIsOn frames all Machine (Some line) = ⊥
 FrameIsOn frames all (Part p) None = ⊥
-FrameIsOn frames all (Part p) (Some line) = StepIsOn frames all (step.Recall p) line
+FrameIsOn frames all (Part p) (Some line) = StepIsOn frames all (Step.Recall p) line
 
 frame_on : (frames : List (List ℕ × Point)) (all : List Statement) (ss : List Step) (ts : List TaskLine) (frame : Frame)
     (line : Option ℕ) → AreTasks (StepIsOn frames all) ss ts → FrameIsOn frames all frame line
     → FrameIsOn frames all (frame_behind frame ss) (frame_line line ts)
 frame_on frames all [] [] frame line h is = is
 frame_on frames all [] (t ∷ ts) frame line h is = absurd h
-frame_on frames all (step.Goto p ∷ ss) [] frame line h is = absurd h
-frame_on frames all (step.Goto p ∷ ss) (t ∷ ts) frame line h is = rw h.0 (frame_on frames all ss ts frame line h.1.1 is)
-frame_on frames all (step.Begin l ∷ ss) ts frame line h is = frame_on frames all ss ts frame line h is
-frame_on frames all (step.Touch x ∷ ss) [] frame line h is = absurd h
-frame_on frames all (step.Touch x ∷ ss) (t ∷ ts) frame line h is = rw h.0 (frame_on frames all ss ts frame line h.1.1 is)
-frame_on frames all (step.Tool n ∷ ss) [] frame line h is = absurd h
-frame_on frames all (step.Tool n ∷ ss) (t ∷ ts) frame line h is = rw h.0 (frame_on frames all ss ts frame line h.1.1 is)
-frame_on frames all (step.Recall p ∷ ss) [] frame line h is = absurd h
-frame_on frames all (step.Recall p ∷ ss) (t ∷ ts) frame line h is = rw h.0 (frame_on frames all ss ts (Part p) (Some t.line) h.1.1 h.1.0)
-frame_on frames all (step.End ∷ ss) ts frame line h is = frame_on frames all ss ts frame line h is
+frame_on frames all (Step.Goto p ∷ ss) [] frame line h is = absurd h
+frame_on frames all (Step.Goto p ∷ ss) (t ∷ ts) frame line h is = rw h.0 (frame_on frames all ss ts frame line h.1.1 is)
+frame_on frames all (Step.Begin l ∷ ss) ts frame line h is = frame_on frames all ss ts frame line h is
+frame_on frames all (Step.Touch x ∷ ss) [] frame line h is = absurd h
+frame_on frames all (Step.Touch x ∷ ss) (t ∷ ts) frame line h is = rw h.0 (frame_on frames all ss ts frame line h.1.1 is)
+frame_on frames all (Step.Tool n ∷ ss) [] frame line h is = absurd h
+frame_on frames all (Step.Tool n ∷ ss) (t ∷ ts) frame line h is = rw h.0 (frame_on frames all ss ts frame line h.1.1 is)
+frame_on frames all (Step.Recall p ∷ ss) [] frame line h is = absurd h
+frame_on frames all (Step.Recall p ∷ ss) (t ∷ ts) frame line h is = rw h.0 (frame_on frames all ss ts (Part p) (Some t.line) h.1.1 h.1.0)
+frame_on frames all (Step.End ∷ ss) ts frame line h is = frame_on frames all ss ts frame line h is
 
 -- the commands of each part of a plan
 tooling_lines : (frames : List (List ℕ × Point)) (all : List Statement) (tool : Option (List ℕ)) (line : Option ℕ) (ps : List Planned)
@@ -91,24 +79,24 @@ framing_lines frames all (Part p) (Some line) ps lines is h = (is.0, (is.1, h))
 
 -- the end of a plan
 abbrev ending : List Planned
-ending = planned command.EndSession Nothing ∷ []
+ending = planned Command.EndSession Nothing ∷ []
 
 stepping_lines : (frames : List (List ℕ × Point)) (all : List Statement) (frame : Frame) (ss : List Step) (ts : List TaskLine)
     → AreTasks (StepIsOn frames all) ss ts
     → HaveLines frames all (statement_commands (stepping frame ss ++ ending)) (flat_map lines_of ts)
 stepping_lines frames all frame [] [] h = tt
 stepping_lines frames all frame [] (t ∷ ts) h = absurd h
-stepping_lines frames all frame (step.Goto p ∷ ss) [] h = absurd h
-stepping_lines frames all frame (step.Goto p ∷ ss) (t ∷ ts) h = rw h.0 (h.1.0, stepping_lines frames all frame ss ts h.1.1)
-stepping_lines frames all frame (step.Begin l ∷ ss) ts h = stepping_lines frames all frame ss ts h
-stepping_lines frames all frame (step.Touch x ∷ ss) [] h = absurd h
-stepping_lines frames all frame (step.Touch x ∷ ss) (t ∷ ts) h = rw h.0 (h.1.0, stepping_lines frames all frame ss ts h.1.1)
-stepping_lines frames all frame (step.Tool n ∷ ss) [] h = absurd h
-stepping_lines frames all frame (step.Tool n ∷ ss) (t ∷ ts) h = rw h.0 (h.1.0, stepping_lines frames all frame ss ts h.1.1)
-stepping_lines frames all frame (step.Recall p ∷ ss) [] h = absurd h
-stepping_lines frames all frame (step.Recall p ∷ ss) (t ∷ ts) h =
+stepping_lines frames all frame (Step.Goto p ∷ ss) [] h = absurd h
+stepping_lines frames all frame (Step.Goto p ∷ ss) (t ∷ ts) h = rw h.0 (h.1.0, stepping_lines frames all frame ss ts h.1.1)
+stepping_lines frames all frame (Step.Begin l ∷ ss) ts h = stepping_lines frames all frame ss ts h
+stepping_lines frames all frame (Step.Touch x ∷ ss) [] h = absurd h
+stepping_lines frames all frame (Step.Touch x ∷ ss) (t ∷ ts) h = rw h.0 (h.1.0, stepping_lines frames all frame ss ts h.1.1)
+stepping_lines frames all frame (Step.Tool n ∷ ss) [] h = absurd h
+stepping_lines frames all frame (Step.Tool n ∷ ss) (t ∷ ts) h = rw h.0 (h.1.0, stepping_lines frames all frame ss ts h.1.1)
+stepping_lines frames all frame (Step.Recall p ∷ ss) [] h = absurd h
+stepping_lines frames all frame (Step.Recall p ∷ ss) (t ∷ ts) h =
     rw h.0 (h.1.0.0, (h.1.0.1, stepping_lines frames all (Part p) ss ts h.1.1))
-stepping_lines frames all frame (step.End ∷ ss) ts h = stepping_lines frames all frame ss ts h
+stepping_lines frames all frame (Step.End ∷ ss) ts h = stepping_lines frames all frame ss ts h
 
 measuring_lines : (frames : List (List ℕ × Point)) (all : List Statement) (before after : List Step) (n : ℕ) (ts : List TaskLine)
     → AreTasks (StepIsOn frames all) before (up_to_touch n ts) → AreTasks (StepIsOn frames all) after (after_touch n ts)

@@ -1,34 +1,15 @@
 -- Where a program is accepted, its steps lack something exactly if its statements do.
-use Rattle.std.proofs.Common.{◌≡◌, ℕ, Bool, true, false, cond, List, [], ◌∷◌, ◌++◌, Option, Some, None, Result, Ok, Err, refl, sym, subst}
-use Rattle.std.proofs.Common.{◌∙◌, is_none, is_some, ◌||◌, ◌&&◌, nat_le}
-use Rattle.std.specs.Prelude.{◌==◌}
-use Rattle.dmis_text.specs.Reading.{text_reading}
-use Rattle.dmis_text.specs.declared.elements.Statement.{Statement}
-use Rattle.dmis_text.specs.declared.reading.TextFault.{TextFault}
-use Rattle.fixed_um.specs.declared.lengths.Point.{Point}
-use Rattle.dmis_program.specs.Outcomes.{◌>>=◌}
-use Rattle.dmis_program.specs.Keywords.{keyword_of}
-use Rattle.dmis_program.specs.Offsets.{offset_of}
-use Rattle.dmis_program.specs.Sayings.{said_of}
-use Rattle.dmis_program.specs.LookBack.{Context, context_at, saying}
-use Rattle.dmis_program.specs.Judging.{judged, settled, refused_by, word_refusal, misplaced}
+use Rattle.program_review.proofs.Names.{[], ◌&&◌, ◌++◌, ◌==◌, ◌>>=◌, ◌||◌, ◌∙◌, ◌∷◌, ◌≡◌, Bool, closes, cond, Context, context_at, continued, Err}
+use Rattle.program_review.proofs.Names.{false, is_none, is_outside, is_some, Keyword, keyword_of, lack_of, lack_on, lacks_from, lacks_some, List}
+use Rattle.program_review.proofs.Names.{Meaning, meant, misplaced, nat_le, None, NotDmis, offset_of, Ok, Option, Point, program_of, recall_steps}
+use Rattle.program_review.proofs.Names.{recalled, recalls_other, refl, Refusal, refused_by, Remark, Result, said_of, saying, Selected, selected_after}
+use Rattle.program_review.proofs.Names.{settled, Some, Statement, StatementMeaning, Step, steps_from, steps_of, subst, sym, text_reading, TextFault}
+use Rattle.program_review.proofs.Names.{TooLarge, touch_steps, true, Unsupported, when, with_front, word_refusal, ℕ}
+use Rattle.dmis_program.specs.Judging.{judged}
 use Rattle.dmis_program.specs.Parameters.{is_other_recall}
-use Rattle.dmis_program.specs.Meaning.{Meaning, program_of, meaning_of, meaning_with as program_with, meant, steps_from, steps_of, continued}
-use Rattle.dmis_program.specs.Meaning.{with_front, closes, touch_steps, recall_steps}
-use Rattle.dmis_program.specs.declared.faults.Refusal.{Refusal}
-use Rattle.dmis_program.specs.declared.faults.Refusal.TheVariants.{TooLarge, NotDmis, Unsupported}
-use Rattle.dmis_program.specs.declared.keywords.Keyword.{Keyword}
-use Rattle.dmis_program.specs.declared.keywords.Keyword.TheVariants as word
-use Rattle.dmis_program.specs.declared.sayings.StatementMeaning.{StatementMeaning}
-use Rattle.dmis_program.specs.declared.sayings.StatementMeaning.TheVariants as said
-use Rattle.dmis_program.specs.declared.steps.Step.{Step}
-use Rattle.program_review.specs.UnderSetup.{meaning_with, recalls_other, recalled, selected_after, is_outside, when, lack_of, lack_on, lacks_from}
-use Rattle.program_review.specs.StepLacks.{lacks_some}
-use Rattle.program_review.specs.declared.under_setup.Selected.{Selected}
-use Rattle.program_review.specs.declared.under_setup.Selected.TheVariants as selected
+use Rattle.dmis_program.specs.Meaning.{meaning_of, meaning_with as program_with}
+use Rattle.program_review.specs.UnderSetup.{meaning_with}
 use Rattle.program_review.specs.declared.under_setup.Lack.{Lack}
-use Rattle.program_review.specs.declared.under_setup.Lack.TheVariants as lack
-use Rattle.program_review.specs.declared.remarks.Remark.{Remark}
 use Rattle.program_review.proofs.FirstLemmas.{accepted_is, end_is, unless_badly}
 
 -- something is listed
@@ -51,8 +32,8 @@ when_so false what = refl
 
 -- what an accepted statement finds above it: a touch finds a tool, and a `RECALL` its frame
 abbrev pub IsFound : List (List ℕ × Point) → Option (List ℕ) → StatementMeaning → Type 0
-IsFound frames tool (said.Touches target direction) = is_none tool ≡ false
-IsFound frames tool (said.Recalls name) = is_none (offset_of frames name) ≡ false
+IsFound frames tool (StatementMeaning.Touches target direction) = is_none tool ≡ false
+IsFound frames tool (StatementMeaning.Recalls name) = is_none (offset_of frames name) ≡ false
 IsFound frames tool _ = Unit {0}
 
 unless_so : (b : Bool) (e : Refusal) (m t : StatementMeaning) → cond b (Err e) (Ok m) ≡ Ok t → b ≡ false
@@ -61,14 +42,14 @@ unless_so false e m t h = refl
 
 settled_finds : (frames : List (List ℕ × Point)) (tool : Option (List ℕ)) (wanted : Option ℕ) (count : ℕ) (m t : StatementMeaning)
     → settled frames tool wanted count m ≡ Ok t → IsFound frames tool m
-settled_finds frames tool wanted count (said.Goes target) t h = tt
-settled_finds frames tool wanted count (said.Begins name n) t h = tt
-settled_finds frames tool wanted count (said.Touches target direction) t h = unless_so (is_none tool) _ (said.Touches target direction) t h
-settled_finds frames tool wanted count said.Ends t h = tt
-settled_finds frames tool wanted count (said.Selects name) t h = tt
-settled_finds frames tool wanted count (said.Recalls name) t h = unless_so (is_none (offset_of frames name)) _ (said.Recalls name) t h
-settled_finds frames tool wanted count said.Closes t h = tt
-settled_finds frames tool wanted count said.Passes t h = tt
+settled_finds frames tool wanted count (StatementMeaning.Goes target) t h = tt
+settled_finds frames tool wanted count (StatementMeaning.Begins name n) t h = tt
+settled_finds frames tool wanted count (StatementMeaning.Touches target direction) t h = unless_so (is_none tool) _ (StatementMeaning.Touches target direction) t h
+settled_finds frames tool wanted count StatementMeaning.Ends t h = tt
+settled_finds frames tool wanted count (StatementMeaning.Selects name) t h = tt
+settled_finds frames tool wanted count (StatementMeaning.Recalls name) t h = unless_so (is_none (offset_of frames name)) _ (StatementMeaning.Recalls name) t h
+settled_finds frames tool wanted count StatementMeaning.Closes t h = tt
+settled_finds frames tool wanted count StatementMeaning.Passes t h = tt
 
 settling_finds : (frames : List (List ℕ × Point)) (tool : Option (List ℕ)) (wanted : Option ℕ) (count : ℕ)
     (r : Result StatementMeaning Refusal) (t : StatementMeaning)
@@ -88,7 +69,7 @@ unknown_refused true h = absurd cc
 unknown_refused false h = absurd cc
 
 is_known : (number : ℕ) (wanted : Option ℕ) (keyword : Keyword) (params : List (List ℕ)) → word_refusal number wanted keyword params ≡ None
-    → keyword ≡ word.Unknown → ⊥
+    → keyword ≡ Keyword.Unknown → ⊥
 is_known number wanted keyword params h e =
     unknown_refused (number == 0) (subst (λ (k : Keyword). word_refusal number wanted k params ≡ None) e h)
 
@@ -100,23 +81,23 @@ unless_other false false r h = refl
 
 is_read : (number : ℕ) (wanted : Option ℕ) (keyword : Keyword) (params : List (List ℕ)) → word_refusal number wanted keyword params ≡ None
     → recalls_other keyword params ≡ false
-is_read number wanted word.Recall params h = unless_other (number == 0) (is_other_recall params) (misplaced word.Recall wanted) h
-is_read number wanted word.Dmismn params h = refl
-is_read number wanted word.Goto params h = refl
-is_read number wanted word.Meas params h = refl
-is_read number wanted word.Ptmeas params h = refl
-is_read number wanted word.Endmes params h = refl
-is_read number wanted word.Snslct params h = refl
-is_read number wanted word.Endfil params h = refl
-is_read number wanted word.Units params h = refl
-is_read number wanted word.Mode params h = refl
-is_read number wanted word.Definition params h = refl
-is_read number wanted word.Passed params h = refl
-is_read number wanted word.Unknown params h = refl
+is_read number wanted Keyword.Recall params h = unless_other (number == 0) (is_other_recall params) (misplaced Keyword.Recall wanted) h
+is_read number wanted Keyword.Dmismn params h = refl
+is_read number wanted Keyword.Goto params h = refl
+is_read number wanted Keyword.Meas params h = refl
+is_read number wanted Keyword.Ptmeas params h = refl
+is_read number wanted Keyword.Endmes params h = refl
+is_read number wanted Keyword.Snslct params h = refl
+is_read number wanted Keyword.Endfil params h = refl
+is_read number wanted Keyword.Units params h = refl
+is_read number wanted Keyword.Mode params h = refl
+is_read number wanted Keyword.Definition params h = refl
+is_read number wanted Keyword.Passed params h = refl
+is_read number wanted Keyword.Unknown params h = refl
 
 pub record IsTaken (frames : List (List ℕ × Point)) (c : Context) (s : Statement) (m : StatementMeaning) : Type 0 where
   pub said : saying s ≡ Ok m
-  pub known : keyword_of s.word ≡ word.Unknown → ⊥
+  pub known : keyword_of s.word ≡ Keyword.Unknown → ⊥
   pub read : recalls_other (keyword_of s.word) s.params ≡ false
   pub found : IsFound frames c.tool m
 
@@ -135,21 +116,21 @@ taken_is frames c s m h =
     }
 
 -- what it says by itself
-pub meant_is : (keyword : Keyword) (s : Statement) (m : StatementMeaning) → said_of keyword s ≡ Ok m → (keyword ≡ word.Unknown → ⊥)
+pub meant_is : (keyword : Keyword) (s : Statement) (m : StatementMeaning) → said_of keyword s ≡ Ok m → (keyword ≡ Keyword.Unknown → ⊥)
     → recalls_other keyword s.params ≡ false → meaning_with keyword s ≡ Some m
-meant_is word.Dmismn s m h known read = rw h refl
-meant_is word.Goto s m h known read = rw h refl
-meant_is word.Meas s m h known read = rw h refl
-meant_is word.Ptmeas s m h known read = rw h refl
-meant_is word.Endmes s m h known read = rw h refl
-meant_is word.Snslct s m h known read = rw h refl
-meant_is word.Recall s m h known read = rw (read, h) refl
-meant_is word.Endfil s m h known read = rw h refl
-meant_is word.Units s m h known read = rw h refl
-meant_is word.Mode s m h known read = rw h refl
-meant_is word.Definition s m h known read = rw h refl
-meant_is word.Passed s m h known read = rw h refl
-meant_is word.Unknown s m h known read = absurd (known refl)
+meant_is Keyword.Dmismn s m h known read = rw h refl
+meant_is Keyword.Goto s m h known read = rw h refl
+meant_is Keyword.Meas s m h known read = rw h refl
+meant_is Keyword.Ptmeas s m h known read = rw h refl
+meant_is Keyword.Endmes s m h known read = rw h refl
+meant_is Keyword.Snslct s m h known read = rw h refl
+meant_is Keyword.Recall s m h known read = rw (read, h) refl
+meant_is Keyword.Endfil s m h known read = rw h refl
+meant_is Keyword.Units s m h known read = rw h refl
+meant_is Keyword.Mode s m h known read = rw h refl
+meant_is Keyword.Definition s m h known read = rw h refl
+meant_is Keyword.Passed s m h known read = rw h refl
+meant_is Keyword.Unknown s m h known read = absurd (known refl)
 
 -- the steps of a statement lack what it lacks itself, and those after them are judged in the frame that is selected after it
 touch_lacks : (tools : List (List ℕ)) (before : Selected) (tool : Option (List ℕ)) (c : Context) (target : Point) (direction : _)
@@ -167,15 +148,15 @@ steps_lack : (tools : List (List ℕ)) (frames : List (List ℕ × Point)) (c : 
     (m : StatementMeaning) (more : List Step) → IsFound frames c.tool m
     → lacks_some tools before (steps_of frames c m ++ more)
     ≡ (is_some (lack_of tools before (Some m)) || lacks_some tools (selected_after frames before (Some m) keyword) more)
-steps_lack tools frames c before keyword (said.Goes target) more h = rw (when_so (is_outside before target) lack.Volume) refl
-steps_lack tools frames c before keyword (said.Begins name n) more h = refl
-steps_lack tools frames c before keyword (said.Touches target direction) more h =
-    rw (when_so (is_outside before target) lack.Volume) (touch_lacks tools before c.tool c target direction more h)
-steps_lack tools frames c before keyword said.Ends more h = refl
-steps_lack tools frames c before keyword (said.Selects name) more h = rw (when_so _ lack.Tool) refl
-steps_lack tools frames c before keyword (said.Recalls name) more h = recall_lacks tools before (offset_of frames name) more h
-steps_lack tools frames c before keyword said.Closes more h = refl
-steps_lack tools frames c before keyword said.Passes more h = refl
+steps_lack tools frames c before keyword (StatementMeaning.Goes target) more h = rw (when_so (is_outside before target) Lack.Volume) refl
+steps_lack tools frames c before keyword (StatementMeaning.Begins name n) more h = refl
+steps_lack tools frames c before keyword (StatementMeaning.Touches target direction) more h =
+    rw (when_so (is_outside before target) Lack.Volume) (touch_lacks tools before c.tool c target direction more h)
+steps_lack tools frames c before keyword StatementMeaning.Ends more h = refl
+steps_lack tools frames c before keyword (StatementMeaning.Selects name) more h = rw (when_so _ Lack.Tool) refl
+steps_lack tools frames c before keyword (StatementMeaning.Recalls name) more h = recall_lacks tools before (offset_of frames name) more h
+steps_lack tools frames c before keyword StatementMeaning.Closes more h = refl
+steps_lack tools frames c before keyword StatementMeaning.Passes more h = refl
 
 -- one statement, and those after it
 goes_on : (tools : List (List ℕ)) (before : Selected) (closed : Bool) (own : List Step) (behind : Result (List Step) (Refusal × ℕ))
@@ -227,8 +208,8 @@ meant_steps (Ok steps) m h =
 meant_steps (Err e) m h = absurd cc
 
 pub nothing_lacks : (tools : List (List ℕ)) (frames : List (List ℕ × Point)) (text : List ℕ) (m : Meaning) → program_of frames text ≡ Ok m
-    → lacks_some tools selected.Machine m.steps ≡ false → lacks_from tools frames selected.Machine (text_reading text).statements ≡ []
+    → lacks_some tools Selected.Machine m.steps ≡ false → lacks_from tools frames Selected.Machine (text_reading text).statements ≡ []
 unfolding meaning_of
 nothing_lacks tools frames text m h none =
-    none_listed _ (sym (agrees tools frames (text_reading text).fault _ (text_reading text).statements [] selected.Machine m.steps
+    none_listed _ (sym (agrees tools frames (text_reading text).fault _ (text_reading text).statements [] Selected.Machine m.steps
     (meant_steps _ m h)) ∙ none)

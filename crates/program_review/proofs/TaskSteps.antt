@@ -1,87 +1,69 @@
 -- The tasks of an accepted program are its steps, each on the line of the statement that commands it.
-use Rattle.std.proofs.Common.{◌≡◌, inl, inr, ℕ, Bool, true, false, cond, List, [], ◌∷◌, ◌++◌, Option, Some, None, Result, Ok, Err}
-use Rattle.std.proofs.Common.{refl, subst, is_none}
-use Rattle.dmis_text.specs.Reading.{text_reading}
-use Rattle.dmis_text.specs.declared.elements.Statement.{Statement}
-use Rattle.dmis_text.specs.declared.reading.TextFault.{TextFault}
+use Rattle.program_review.proofs.Names.{[], ◌++◌, ◌∷◌, ◌≡◌, Bool, closes, Command, cond, Context, context_at, continued, Err, false, inl, inr}
+use Rattle.program_review.proofs.Names.{is_none, IsCarriedBy, IsOn, judged, keyword_of, List, Meaning, None, offset_of, Ok, Option, Point, program_of}
+use Rattle.program_review.proofs.Names.{recall_steps, refl, Refusal, Result, Some, Statement, StatementMeaning, Step, steps_from, steps_of, subst}
+use Rattle.program_review.proofs.Names.{Task, task_lines_of, task_on, task_said, TaskLine, text_reading, TextFault, touch_steps, true, with_front, ℕ}
 use Rattle.fixed_um.specs.Points.{point_opposite}
 use Rattle.fixed_um.specs.Shapes.{Direction}
-use Rattle.fixed_um.specs.declared.lengths.Point.{Point}
 use Rattle.dme_line.specs.declared.commands.Csy.TheVariants.{PartCsy}
-use Rattle.dme_line.specs.declared.commands.Command.{Command}
-use Rattle.dme_line.specs.declared.commands.Command.TheVariants as command
-use Rattle.dmis_program.specs.Keywords.{keyword_of}
-use Rattle.dmis_program.specs.Offsets.{offset_of}
-use Rattle.dmis_program.specs.LookBack.{Context, context_at}
-use Rattle.dmis_program.specs.Judging.{judged}
-use Rattle.dmis_program.specs.Meaning.{Meaning, program_of, meaning_of, steps_from, steps_of, continued, with_front, closes}
-use Rattle.dmis_program.specs.Meaning.{touch_steps, recall_steps}
-use Rattle.dmis_program.specs.declared.faults.Refusal.{Refusal}
-use Rattle.dmis_program.specs.declared.sayings.StatementMeaning.{StatementMeaning}
-use Rattle.dmis_program.specs.declared.sayings.StatementMeaning.TheVariants as said
-use Rattle.dmis_program.specs.declared.steps.Step.{Step}
-use Rattle.dmis_program.specs.declared.steps.Step.TheVariants as step
+use Rattle.dmis_program.specs.Meaning.{meaning_of}
 use Rattle.program_review.specs.UnderSetup.{meaning_with}
-use Rattle.program_review.specs.TaskLines.{task_said, task_on, task_lines_of}
-use Rattle.program_review.specs.PlanLines.{IsCarriedBy, IsOn}
-use Rattle.program_review.specs.declared.tasks.Task.TheVariants as task
-use Rattle.program_review.specs.declared.tasks.TaskLine.{TaskLine}
 use Rattle.program_review.proofs.FirstLemmas.{end_is}
 use Rattle.program_review.proofs.StepLemmas.{IsFound, taken_is, meant_is, meant_steps}
 
 -- a statement on this line is carried out by the commands of a step
 abbrev pub StepIsOn : List (List ℕ × Point) → List Statement → Step → ℕ → Type 0
-StepIsOn frames statements (step.Goto p) line = IsOn frames statements line (command.GoTo p)
-StepIsOn frames statements (step.Begin l) line = Unit {0}
-StepIsOn frames statements (step.Touch t) line = IsOn frames statements line (command.PtMeas t.target t.dir)
-StepIsOn frames statements (step.Tool n) line = IsOn frames statements line (command.ChangeTool n)
-StepIsOn frames statements (step.Recall p) line = IsOn frames statements line (command.SetCsyTransformation (point_opposite p))
-    × IsOn frames statements line (command.SetCoordSystem PartCsy)
-StepIsOn frames statements step.End line = Unit {0}
+StepIsOn frames statements (Step.Goto p) line = IsOn frames statements line (Command.GoTo p)
+StepIsOn frames statements (Step.Begin l) line = Unit {0}
+StepIsOn frames statements (Step.Touch t) line = IsOn frames statements line (Command.PtMeas t.target t.dir)
+StepIsOn frames statements (Step.Tool n) line = IsOn frames statements line (Command.ChangeTool n)
+StepIsOn frames statements (Step.Recall p) line = IsOn frames statements line (Command.SetCsyTransformation (point_opposite p))
+    × IsOn frames statements line (Command.SetCoordSystem PartCsy)
+StepIsOn frames statements Step.End line = Unit {0}
 
 -- the tasks are the steps, but for the bounds of blocks, each on its line
 abbrev pub AreTasks : (Step → ℕ → Type 0) → List Step → List TaskLine → Type 0
 AreTasks on [] [] = Unit {0}
 AreTasks on [] (t ∷ ts) = ⊥
-AreTasks on (step.Goto p ∷ ss) [] = ⊥
-AreTasks on (step.Goto p ∷ ss) (t ∷ ts) = (t.task ≡ task.Move) × (on (step.Goto p) t.line × AreTasks on ss ts)
-AreTasks on (step.Begin l ∷ ss) ts = AreTasks on ss ts
-AreTasks on (step.Touch x ∷ ss) [] = ⊥
-AreTasks on (step.Touch x ∷ ss) (t ∷ ts) = (t.task ≡ task.Touch) × (on (step.Touch x) t.line × AreTasks on ss ts)
-AreTasks on (step.Tool n ∷ ss) [] = ⊥
-AreTasks on (step.Tool n ∷ ss) (t ∷ ts) = (t.task ≡ task.Tool) × (on (step.Tool n) t.line × AreTasks on ss ts)
-AreTasks on (step.Recall p ∷ ss) [] = ⊥
-AreTasks on (step.Recall p ∷ ss) (t ∷ ts) = (t.task ≡ task.Frame) × (on (step.Recall p) t.line × AreTasks on ss ts)
-AreTasks on (step.End ∷ ss) ts = AreTasks on ss ts
+AreTasks on (Step.Goto p ∷ ss) [] = ⊥
+AreTasks on (Step.Goto p ∷ ss) (t ∷ ts) = (t.task ≡ Task.Move) × (on (Step.Goto p) t.line × AreTasks on ss ts)
+AreTasks on (Step.Begin l ∷ ss) ts = AreTasks on ss ts
+AreTasks on (Step.Touch x ∷ ss) [] = ⊥
+AreTasks on (Step.Touch x ∷ ss) (t ∷ ts) = (t.task ≡ Task.Touch) × (on (Step.Touch x) t.line × AreTasks on ss ts)
+AreTasks on (Step.Tool n ∷ ss) [] = ⊥
+AreTasks on (Step.Tool n ∷ ss) (t ∷ ts) = (t.task ≡ Task.Tool) × (on (Step.Tool n) t.line × AreTasks on ss ts)
+AreTasks on (Step.Recall p ∷ ss) [] = ⊥
+AreTasks on (Step.Recall p ∷ ss) (t ∷ ts) = (t.task ≡ Task.Frame) × (on (Step.Recall p) t.line × AreTasks on ss ts)
+AreTasks on (Step.End ∷ ss) ts = AreTasks on ss ts
 
 -- with one statement more they still are
 step_stays : (frames : List (List ℕ × Point)) (s : Statement) (statements : List Statement) (one : Step) (line : ℕ)
     → StepIsOn frames statements one line → StepIsOn frames (s ∷ statements) one line
-step_stays frames s statements (step.Goto p) line h = inr h
-step_stays frames s statements (step.Begin l) line h = tt
-step_stays frames s statements (step.Touch t) line h = inr h
-step_stays frames s statements (step.Tool n) line h = inr h
-step_stays frames s statements (step.Recall p) line h = (inr h.0, inr h.1)
-step_stays frames s statements step.End line h = tt
+step_stays frames s statements (Step.Goto p) line h = inr h
+step_stays frames s statements (Step.Begin l) line h = tt
+step_stays frames s statements (Step.Touch t) line h = inr h
+step_stays frames s statements (Step.Tool n) line h = inr h
+step_stays frames s statements (Step.Recall p) line h = (inr h.0, inr h.1)
+step_stays frames s statements Step.End line h = tt
 
 tasks_stay : (frames : List (List ℕ × Point)) (s : Statement) (statements : List Statement) (ss : List Step) (ts : List TaskLine)
     → AreTasks (StepIsOn frames statements) ss ts → AreTasks (StepIsOn frames (s ∷ statements)) ss ts
 tasks_stay frames s statements [] [] h = tt
 tasks_stay frames s statements [] (t ∷ ts) h = absurd h
-tasks_stay frames s statements (step.Goto p ∷ ss) [] h = absurd h
-tasks_stay frames s statements (step.Goto p ∷ ss) (t ∷ ts) h =
-    (h.0, (step_stays frames s statements (step.Goto p) t.line h.1.0, tasks_stay frames s statements ss ts h.1.1))
-tasks_stay frames s statements (step.Begin l ∷ ss) ts h = tasks_stay frames s statements ss ts h
-tasks_stay frames s statements (step.Touch x ∷ ss) [] h = absurd h
-tasks_stay frames s statements (step.Touch x ∷ ss) (t ∷ ts) h =
-    (h.0, (step_stays frames s statements (step.Touch x) t.line h.1.0, tasks_stay frames s statements ss ts h.1.1))
-tasks_stay frames s statements (step.Tool n ∷ ss) [] h = absurd h
-tasks_stay frames s statements (step.Tool n ∷ ss) (t ∷ ts) h =
-    (h.0, (step_stays frames s statements (step.Tool n) t.line h.1.0, tasks_stay frames s statements ss ts h.1.1))
-tasks_stay frames s statements (step.Recall p ∷ ss) [] h = absurd h
-tasks_stay frames s statements (step.Recall p ∷ ss) (t ∷ ts) h =
-    (h.0, (step_stays frames s statements (step.Recall p) t.line h.1.0, tasks_stay frames s statements ss ts h.1.1))
-tasks_stay frames s statements (step.End ∷ ss) ts h = tasks_stay frames s statements ss ts h
+tasks_stay frames s statements (Step.Goto p ∷ ss) [] h = absurd h
+tasks_stay frames s statements (Step.Goto p ∷ ss) (t ∷ ts) h =
+    (h.0, (step_stays frames s statements (Step.Goto p) t.line h.1.0, tasks_stay frames s statements ss ts h.1.1))
+tasks_stay frames s statements (Step.Begin l ∷ ss) ts h = tasks_stay frames s statements ss ts h
+tasks_stay frames s statements (Step.Touch x ∷ ss) [] h = absurd h
+tasks_stay frames s statements (Step.Touch x ∷ ss) (t ∷ ts) h =
+    (h.0, (step_stays frames s statements (Step.Touch x) t.line h.1.0, tasks_stay frames s statements ss ts h.1.1))
+tasks_stay frames s statements (Step.Tool n ∷ ss) [] h = absurd h
+tasks_stay frames s statements (Step.Tool n ∷ ss) (t ∷ ts) h =
+    (h.0, (step_stays frames s statements (Step.Tool n) t.line h.1.0, tasks_stay frames s statements ss ts h.1.1))
+tasks_stay frames s statements (Step.Recall p ∷ ss) [] h = absurd h
+tasks_stay frames s statements (Step.Recall p ∷ ss) (t ∷ ts) h =
+    (h.0, (step_stays frames s statements (Step.Recall p) t.line h.1.0, tasks_stay frames s statements ss ts h.1.1))
+tasks_stay frames s statements (Step.End ∷ ss) ts h = tasks_stay frames s statements ss ts h
 
 -- the task of an accepted statement is its step
 carried : (frames : List (List ℕ × Point)) (s : Statement) (statements : List Statement) (m : StatementMeaning) (c : Command)
@@ -90,26 +72,26 @@ carried frames s statements m c is h = inl (refl, rw is h)
 
 touch_task : (frames : List (List ℕ × Point)) (s : Statement) (statements : List Statement) (tool : Option (List ℕ)) (c : Context)
     (target : Point) (direction : Option Direction) (later : List Step) (ts : List TaskLine) → is_none tool ≡ false
-    → meaning_with (keyword_of s.word) s ≡ Some (said.Touches target direction)
+    → meaning_with (keyword_of s.word) s ≡ Some (StatementMeaning.Touches target direction)
     → AreTasks (StepIsOn frames (s ∷ statements)) later ts
     → AreTasks (StepIsOn frames (s ∷ statements)) (touch_steps tool c.frame target direction ++ later)
-    (record { task = task.Touch; line = s.line } ∷ ts)
+    (record { task = Task.Touch; line = s.line } ∷ ts)
 touch_task frames s statements None c target direction later ts found is h = absurd cc
 touch_task frames s statements (Some tool) c target direction later ts found is h =
-    (refl, (carried frames s statements (said.Touches target direction) _ is refl, h))
+    (refl, (carried frames s statements (StatementMeaning.Touches target direction) _ is refl, h))
 
 recall_task : (frames : List (List ℕ × Point)) (s : Statement) (statements : List Statement) (name : List ℕ) (offset : Option Point)
     (later : List Step) (ts : List TaskLine) → offset_of frames name ≡ offset → is_none offset ≡ false
-    → meaning_with (keyword_of s.word) s ≡ Some (said.Recalls name)
+    → meaning_with (keyword_of s.word) s ≡ Some (StatementMeaning.Recalls name)
     → AreTasks (StepIsOn frames (s ∷ statements)) later ts
-    → AreTasks (StepIsOn frames (s ∷ statements)) (recall_steps offset ++ later) (record { task = task.Frame; line = s.line } ∷ ts)
+    → AreTasks (StepIsOn frames (s ∷ statements)) (recall_steps offset ++ later) (record { task = Task.Frame; line = s.line } ∷ ts)
 recall_task frames s statements name None later ts stored found is h = absurd cc
 recall_task frames s statements name (Some offset) later ts stored found is h = (
   refl,
   (
     (
-      carried frames s statements (said.Recalls name) _ is (offset, stored, inl refl),
-      carried frames s statements (said.Recalls name) _ is (offset, stored, inr refl),
+      carried frames s statements (StatementMeaning.Recalls name) _ is (offset, stored, inl refl),
+      carried frames s statements (StatementMeaning.Recalls name) _ is (offset, stored, inr refl),
     ),
     h,
   ),
@@ -119,18 +101,18 @@ own_tasks : (frames : List (List ℕ × Point)) (c : Context) (s : Statement) (s
     (later : List Step) (ts : List TaskLine) → IsFound frames c.tool m → meaning_with (keyword_of s.word) s ≡ Some m
     → AreTasks (StepIsOn frames (s ∷ statements)) later ts
     → AreTasks (StepIsOn frames (s ∷ statements)) (steps_of frames c m ++ later) (task_on s.line (task_said (Some m)) ++ ts)
-own_tasks frames c s statements (said.Goes target) later ts found is h =
-    (refl, (carried frames s statements (said.Goes target) _ is refl, h))
-own_tasks frames c s statements (said.Begins name n) later ts found is h = h
-own_tasks frames c s statements (said.Touches target direction) later ts found is h =
+own_tasks frames c s statements (StatementMeaning.Goes target) later ts found is h =
+    (refl, (carried frames s statements (StatementMeaning.Goes target) _ is refl, h))
+own_tasks frames c s statements (StatementMeaning.Begins name n) later ts found is h = h
+own_tasks frames c s statements (StatementMeaning.Touches target direction) later ts found is h =
     touch_task frames s statements c.tool c target direction later ts found is h
-own_tasks frames c s statements said.Ends later ts found is h = h
-own_tasks frames c s statements (said.Selects name) later ts found is h =
-    (refl, (carried frames s statements (said.Selects name) _ is refl, h))
-own_tasks frames c s statements (said.Recalls name) later ts found is h =
+own_tasks frames c s statements StatementMeaning.Ends later ts found is h = h
+own_tasks frames c s statements (StatementMeaning.Selects name) later ts found is h =
+    (refl, (carried frames s statements (StatementMeaning.Selects name) _ is refl, h))
+own_tasks frames c s statements (StatementMeaning.Recalls name) later ts found is h =
     recall_task frames s statements name (offset_of frames name) later ts refl found is h
-own_tasks frames c s statements said.Closes later ts found is h = h
-own_tasks frames c s statements said.Passes later ts found is h = h
+own_tasks frames c s statements StatementMeaning.Closes later ts found is h = h
+own_tasks frames c s statements StatementMeaning.Passes later ts found is h = h
 
 -- one statement, and those after it
 goes_on : (on : Step → ℕ → Type 0) (closed : Bool) (own : List Step) (behind : Result (List Step) (Refusal × ℕ)) (steps : List Step)

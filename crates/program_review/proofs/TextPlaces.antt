@@ -1,8 +1,7 @@
 -- A text after another gives its place.
-use Rattle.std.proofs.Common.{◌≡◌, ◌<◌, ◌+◌, ℕ, Bool, List, ◌∷◌, ◌++◌, Option, drop, get_or, length, map, refl, ap, sym, ◌∙◌, append_assoc, add-one}
+use Rattle.program_review.proofs.Names.{◌++◌, ◌+◌, ◌<◌, ◌∙◌, ◌∷◌, ◌≡◌, add-one, ap, append_assoc, Bool, drop, get_or, Held, length, List, map, Option}
+use Rattle.program_review.proofs.Names.{place_on, places_below, refl, sym, TaskLine, text_seen, ℕ}
 use Rattle.std.proofs.Math.Seq.{drop-cons}
-use Rattle.program_review.specs.Texts.{Held, place_on, places_below, text_seen}
-use Rattle.program_review.specs.declared.tasks.TaskLine.{TaskLine}
 use Rattle.program_review.specs.declared.texts.OperatorText.{OperatorText}
 
 drop_item : {A : Type 0} (i : ℕ) (xs : List A) (x : A) → i < length xs → x ≡ get_or xs i x → drop i xs ≡ x ∷ drop (i + 1) xs

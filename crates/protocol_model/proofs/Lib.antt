@@ -1,4 +1,5 @@
 -- The proof of the headline, in the order in which it is read.
+pub mod Names
 pub mod HeardTables
 pub mod each_event
 pub mod invariant

@@ -1,14 +1,9 @@
 -- Entries of acts that are added in pieces, and entries that follow one another.
-use Rattle.std.proofs.Common.{◌≡◌, ℕ, ◌+◌, ◌-◌, ◌≤◌, List, [], ◌∷◌, ◌++◌, length, drop, refl, ap, sym, ◌∙◌, subst, arith, append_assoc, append-nil}
-use Rattle.std.specs.Prelude.{slice_get}
-use Rattle.contact_ledger.specs.declared.acts.Act.{Act}
-use Rattle.contact_ledger.specs.declared.features.Feature.{Feature}
-use Rattle.dmis_program.specs.declared.features.Wanted.{Wanted}
-use Rattle.protocol_model.specs.Claims.{contacts, Serves}
-use Rattle.run_record.specs.Records.{Kept, with_told, with_refused, with_completed, Follows, Follow, Completes, IsLastRun, completed_feature}
-use Rattle.run_record.specs.Tellings.{Counted, counted, entries_of, counted_after}
-use Rattle.run_record.specs.declared.entries.Entry.{Entry}
-use Rattle.run_record.specs.declared.entries.Entry.TheVariants.{Told, Refused, Completed}
+use Rattle.record_laws.proofs.Names.{[], ◌++◌, ◌+◌, ◌-◌, ◌∙◌, ◌∷◌, ◌≡◌, ◌≤◌, Act, ap, append-nil, append_assoc, arith, Completed, completed_feature}
+use Rattle.record_laws.proofs.Names.{Completes, contacts, Counted, counted, counted_after, drop, entries_of, Entry, Feature, Follow, Follows}
+use Rattle.record_laws.proofs.Names.{IsLastRun, Kept, length, List, refl, Refused, Serves, slice_get, subst, sym, Wanted, with_completed}
+use Rattle.record_laws.proofs.Names.{with_refused, with_told, ℕ}
+use Rattle.run_record.specs.declared.entries.Entry.TheVariants.{Told}
 
 -- ---- entries of acts
 

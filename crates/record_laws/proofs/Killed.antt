@@ -1,43 +1,25 @@
 -- What a run begins with, what its record says at each moment, and what runs over one file leave, each killed at any moment.
-use Rattle.std.proofs.Common.{◌≡◌, ℕ, ◌+◌, ◌-◌, ◌<◌, ◌≤◌, Bool, true, false, nat_lt, List, [], ◌∷◌, ◌++◌, length, take, map}
-use Rattle.std.proofs.Common.{refl, ap, sym, ◌∙◌, subst, arith, append_assoc, append-nil, length-append, Option, inl, inr}
-use Rattle.std.specs.Prelude.{◌⊎◌}
-use Rattle.std.proofs.lemmas.Bool.{false≢true, ltb-true, ltb-false}
-use Rattle.std.proofs.lemmas.List.{take_all}
-use Rattle.std.proofs.Math.Seq.{take-append-add}
-use Rattle.contact_ledger.specs.Lines.{text_of, whole_lines}
-use Rattle.contact_ledger.specs.declared.acts.Act.{Act}
-use Rattle.contact_ledger.specs.declared.features.Feature.{Feature}
+use Rattle.record_laws.proofs.Names.{[], ◌++◌, ◌+◌, ◌-◌, ◌<◌, ◌∙◌, ◌∷◌, ◌≡◌, ◌≤◌, ◌⊎◌, Act, ap, append-nil, append_assoc, AreAsked, AreFit}
+use Rattle.record_laws.proofs.Names.{AreRecordLines, AreWritten, arith, BeginsWith, behind_moments, Bool, calls_in, client_behind, ClientEnd}
+use Rattle.record_laws.proofs.Names.{Completed, contacts, contacts_more, Continues, Entry, entry_line, false, false≢true, Feature, Follow, Follows}
+use Rattle.record_laws.proofs.Names.{Growth, head_lines, inl, inr, is_told, IsNew, IsPartGiven, IsProgram, IsRecorded, IsSame, IsTold, Kept, length}
+use Rattle.record_laws.proofs.Names.{length-append, List, ltb-false, ltb-true, MadeContact, map, Meaning, Moment, nat_lt, new_client_end}
+use Rattle.record_laws.proofs.Names.{nothing_kept, Option, record_lines, Recorded, recorded, refl, Refused, Sound, subst, sym, take, take-append-add}
+use Rattle.record_laws.proofs.Names.{take_all, text_of, told_behind, true, view, Wanted, whole_lines, ℕ}
 use Rattle.contact_ledger.proofs.WrittenTexts.{text_more}
-use Rattle.dmis_program.specs.Meaning.{Meaning}
-use Rattle.dmis_program.specs.Programs.{IsProgram}
-use Rattle.dmis_program.specs.declared.features.Wanted.{Wanted}
-use Rattle.protocol_model.specs.Claims.{MadeContact, contacts, Sound}
-use Rattle.protocol_model.specs.Ends.{ClientEnd, new_client_end}
-use Rattle.protocol_model.proofs.invariant.Served.{contacts_more}
-use Rattle.client_core.specs.Calls.{client_behind}
-use Rattle.told_acts.specs.Told.{told_behind}
-use Rattle.told_acts.proofs.Tells.{IsTold, is_told}
-use Rattle.told_acts.proofs.Views.{view}
-use Rattle.run_record.specs.Heads.{IsPartGiven, AreAsked, head_lines}
-use Rattle.run_record.specs.Entries.{entry_line}
-use Rattle.run_record.specs.Reading.{IsRecord, IsUnbegun, AreTornHead}
-use Rattle.run_record.specs.Records.{Kept, nothing_kept, Follows, Follow, Recorded, recorded, record_lines, IsRecorded, AreRecordLines}
-use Rattle.run_record.specs.Cuts.{ReadsCut, unbegun, begun}
-use Rattle.run_record.specs.Stages.{Stage, start, head, within, body, Leads}
-use Rattle.run_record.specs.declared.entries.Entry.{Entry}
-use Rattle.run_record.specs.declared.entries.Entry.TheVariants.{Told, Refused, Completed}
+use Rattle.run_record.specs.Reading.{AreTornHead, IsRecord, IsUnbegun}
+use Rattle.run_record.specs.Cuts.{begun, ReadsCut, unbegun}
+use Rattle.run_record.specs.Stages.{body, head, Leads, Stage, start, within}
+use Rattle.run_record.specs.declared.entries.Entry.TheVariants.{Told}
 use Rattle.run_record.proofs.CutTexts.{cut_read, whole_read}
 use Rattle.run_record.proofs.RecordFacts.{record_holds}
 use Rattle.run_record.proofs.RecordOnes.{not_unbegun}
 use Rattle.run_record.proofs.StageOnes.{leads_one}
 use Rattle.run_record.proofs.StageReads.{record_leads}
 use Rattle.run_record.proofs.StageShapes.{Halves, leads_split}
-use Rattle.record_keeping.specs.Beginnings.{IsNew, Continues, IsSame, BeginsWith}
-use Rattle.record_keeping.specs.Growths.{Growth}
 use Rattle.record_keeping.specs.declared.opening.Beginning.{Beginning}
-use Rattle.record_laws.specs.Recordings.{told_now, Moment, behind_moments, calls_in, AreFit, AreWritten}
-use Rattle.record_laws.specs.Runs.{run_begun, IsRecordOf, IsKilledRun, AreKilledRuns, no_run, one_more, HasAllOf}
+use Rattle.record_laws.specs.Recordings.{told_now}
+use Rattle.record_laws.specs.Runs.{AreKilledRuns, HasAllOf, IsKilledRun, IsRecordOf, no_run, one_more, run_begun}
 use Rattle.record_laws.proofs.Wholes.{Found, whole_found, whole_then}
 use Rattle.record_laws.proofs.Entries.{follow_more, Parts, follow_parts, Grown, follow_grown}
 use Rattle.record_laws.proofs.Stands.{Base, due, Stands, lines_joined, Reached, moments_stand}

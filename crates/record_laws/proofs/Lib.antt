@@ -1,3 +1,4 @@
+pub mod Names
 pub mod Wholes
 pub mod Entries
 pub mod Moves

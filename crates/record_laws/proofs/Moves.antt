@@ -1,34 +1,17 @@
 -- What one counted command adds to a record, next to what it changes of the client's features and points.
-use Rattle.std.proofs.Common.{◌≡◌, ℕ, suc, ◌+◌, ◌-◌, ◌≤◌, Bool, true, false, cond, nat_le, List, [], ◌∷◌, ◌++◌, length, drop, refl}
-use Rattle.std.proofs.Common.{ap, sym, ◌∙◌, subst, arith, append_assoc, append-nil, length-append, Option, Some, None}
-use Rattle.std.specs.Prelude.{slice_get}
-use Rattle.std.specs.List.{AllByRecursion}
-use Rattle.std.proofs.Math.Seq.{drop-append_seam}
-use Rattle.std.proofs.lemmas.Bool.{lt-leb, le-leb, false≢true}
-use Rattle.fixed_um.specs.declared.lengths.Point.{Point}
+use Rattle.record_laws.proofs.Names.{[], ◌++◌, ◌+◌, ◌-◌, ◌∙◌, ◌∷◌, ◌≡◌, ◌≤◌, Act, act_of, AllByRecursion, ap, append-nil, append_assoc, AreAsked}
+use Rattle.record_laws.proofs.Names.{arith, Bool, Completed, completed_feature, Completes, cond, contacts, contacts_more, Counted, counted}
+use Rattle.record_laws.proofs.Names.{counted_after, Datum, drop, drop-append_seam, entries_of, Entry, false, false≢true, Feature, Follow, is_contact}
+use Rattle.record_laws.proofs.Names.{IsAsked, IsConnection, IsNext, IsProgress, IsWrittenAct, joined, joined_is, Kept, last_frame, le-leb, length}
+use Rattle.record_laws.proofs.Names.{length-append, List, lt-leb, MadeContact, Marked, marks_of, measured, nat_le, next_touch, None, numbered}
+use Rattle.record_laws.proofs.Names.{one_point, Option, origin_of, Point, refl, Serves, serves_more, slice_get, Some, subst, suc, sym, Tally}
+use Rattle.record_laws.proofs.Names.{touch_in, true, Wanted, with_completed, with_made, with_told, ℕ}
 use Rattle.fixed_um.specs.declared.frames.Frame.{Frame}
-use Rattle.contact_ledger.specs.Ledgers.{IsConnection, is_contact}
-use Rattle.contact_ledger.specs.ContactTexts.{IsWrittenAct}
-use Rattle.contact_ledger.specs.declared.acts.Act.{Act}
-use Rattle.contact_ledger.specs.declared.acts.Act.TheVariants as act
-use Rattle.contact_ledger.specs.declared.features.Feature.{Feature}
 use Rattle.dmis_program.specs.declared.features.Touch.{Touch}
-use Rattle.dmis_program.specs.declared.features.Wanted.{Wanted}
-use Rattle.protocol_model.specs.Claims.{MadeContact, contacts, Serves}
-use Rattle.protocol_model.specs.Client.{Tally, act_of, measured, origin_of, joined}
 use Rattle.protocol_model.specs.Plan.{is_empty}
-use Rattle.protocol_model.specs.declared.held.Datum.{Datum}
-use Rattle.protocol_model.specs.declared.held.Datum.TheVariants as datum
 use Rattle.protocol_model.specs.declared.plans.Does.{Does}
-use Rattle.protocol_model.proofs.plan.Marks.{Marked, marks_of, touch_in}
-use Rattle.protocol_model.proofs.invariant.Served.{contacts_more, serves_more, joined_is, with_made, IsProgress, IsNext, next_touch}
-use Rattle.told_acts.specs.Told.{numbered}
 use Rattle.told_acts.proofs.Sounds.{serves_count}
-use Rattle.run_record.specs.Heads.{IsAsked, AreAsked}
-use Rattle.run_record.specs.Records.{Kept, with_told, with_completed, Follow, Completes, completed_feature, last_frame}
-use Rattle.run_record.specs.Tellings.{Counted, one_point, counted, entries_of, counted_after}
-use Rattle.run_record.specs.declared.entries.Entry.{Entry}
-use Rattle.run_record.specs.declared.entries.Entry.TheVariants.{Told, Completed}
+use Rattle.run_record.specs.declared.entries.Entry.TheVariants.{Told}
 use Rattle.run_record.proofs.ContactRuns.{contacts_other}
 
 -- the entries of acts follow what is kept, and what they leave has these features; that many points of the next one are counted, by
@@ -174,7 +157,7 @@ touched ws n fs ps ms left t last rest h e =
     }
 
 abbrev contact_of : Touch → Point → Act
-contact_of t p = act.Contact t.target t.dir t.tool t.frame p
+contact_of t p = Act.Contact t.target t.dir t.tool t.frame p
 
 abbrev made_by : ℕ → Touch → Point → MadeContact
 made_by n t p = record { connection = n; target = t.target; dir = t.dir; tool = t.tool; frame = t.frame; point = p }
@@ -337,15 +320,15 @@ pub measured_moves : (ws : List Wanted) (does : Does) (given : Option Datum) (y 
     → Rests y.connection c kept y.features y.points
     → IsProgress ws y.connection y.features y.points (contacts kept.told) left → touch_in does ++ rest ≡ marks_of left
     → Moves ws y.connection c kept (act_of does given) (measured ws does given y).features (measured ws does given y).points
-measured_moves ws (Does.Touches t false) (Some (datum.Point p)) y c kept left rest asked written h progress e =
+measured_moves ws (Does.Touches t false) (Some (Datum.Point p)) y c kept left rest asked written h progress e =
     contact_moves ws y.connection c kept y.features y.points t p h
     (touched ws y.connection y.features y.points (contacts kept.told) left t false rest progress e) written.0
-measured_moves ws (Does.Touches t true) (Some (datum.Point p)) y c kept left rest asked written h progress e =
+measured_moves ws (Does.Touches t true) (Some (Datum.Point p)) y c kept left rest asked written h progress e =
     last_moves ws y.connection c kept y.features y.points t p asked h
     (touched ws y.connection y.features y.points (contacts kept.told) left t true rest progress e) written.0
-measured_moves ws (Does.Touches t false) (Some (datum.Homed homed)) y c kept left rest asked written h progress e =
+measured_moves ws (Does.Touches t false) (Some (Datum.Homed homed)) y c kept left rest asked written h progress e =
     none_moves ws y.connection c kept y.features y.points h
-measured_moves ws (Does.Touches t true) (Some (datum.Homed homed)) y c kept left rest asked written h progress e =
+measured_moves ws (Does.Touches t true) (Some (Datum.Homed homed)) y c kept left rest asked written h progress e =
     none_moves ws y.connection c kept y.features y.points h
 measured_moves ws (Does.Touches t false) None y c kept left rest asked written h progress e =
     none_moves ws y.connection c kept y.features y.points h
@@ -353,17 +336,17 @@ measured_moves ws (Does.Touches t true) None y c kept left rest asked written h 
     none_moves ws y.connection c kept y.features y.points h
 measured_moves ws Does.Nothing given y c kept left rest asked written h progress e =
     none_moves ws y.connection c kept y.features y.points h
-measured_moves ws Does.AsksHomed (Some (datum.Homed homed)) y c kept left rest asked written h progress e =
-    calm_moves ws y.connection c kept (act.HomedIs homed) y.features y.points refl written.0 h
-measured_moves ws Does.AsksHomed (Some (datum.Point p)) y c kept left rest asked written h progress e =
+measured_moves ws Does.AsksHomed (Some (Datum.Homed homed)) y c kept left rest asked written h progress e =
+    calm_moves ws y.connection c kept (Act.HomedIs homed) y.features y.points refl written.0 h
+measured_moves ws Does.AsksHomed (Some (Datum.Point p)) y c kept left rest asked written h progress e =
     none_moves ws y.connection c kept y.features y.points h
 measured_moves ws Does.AsksHomed None y c kept left rest asked written h progress e =
     none_moves ws y.connection c kept y.features y.points h
 measured_moves ws Does.Homes given y c kept left rest asked written h progress e =
-    calm_moves ws y.connection c kept act.Homed y.features y.points refl written.0 h
+    calm_moves ws y.connection c kept Act.Homed y.features y.points refl written.0 h
 measured_moves ws (Does.Moves q f) given y c kept left rest asked written h progress e =
-    calm_moves ws y.connection c kept (act.Moved q f) y.features y.points refl written.0 h
+    calm_moves ws y.connection c kept (Act.Moved q f) y.features y.points refl written.0 h
 measured_moves ws (Does.Changes m) given y c kept left rest asked written h progress e =
-    calm_moves ws y.connection c kept (act.Changed m) y.features y.points refl written.0 h
+    calm_moves ws y.connection c kept (Act.Changed m) y.features y.points refl written.0 h
 measured_moves ws (Does.Frames f) given y c kept left rest asked written h progress e =
-    calm_moves ws y.connection c kept (act.Framed f) y.features y.points refl written.0 h
+    calm_moves ws y.connection c kept (Act.Framed f) y.features y.points refl written.0 h

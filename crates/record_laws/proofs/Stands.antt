@@ -1,55 +1,28 @@
 -- What holds of a record while it follows a client: its entries follow one another, and what they leave is what the client holds.
-use Rattle.std.proofs.Common.{◌≡◌, ℕ, suc, ◌+◌, ◌<◌, ◌≤◌, Bool, true, false, cond, ◌||◌, List, [], ◌∷◌, ◌++◌, length, drop, map, refl, ap}
-use Rattle.std.proofs.Common.{sym, ◌∙◌, subst, arith, append_assoc, append-nil, length-append, nat_lt, nat_le, Option}
-use Rattle.std.specs.List.{AllByRecursion}
-use Rattle.std.proofs.lemmas.List.{drop-append-le, take_all}
-use Rattle.std.proofs.lemmas.Bool.{false≢true, ltb-true, leb-true}
-use Rattle.std.proofs.Math.Seq.{drop-length}
-use Rattle.fixed_um.specs.declared.lengths.Point.{Point}
-use Rattle.dme_line.specs.declared.tags.Tag.{Tag}
-use Rattle.dme_line.specs.declared.tags.Tag.TheVariants as tag
+use Rattle.record_laws.proofs.Names.{[], ◌++◌, ◌+◌, ◌<◌, ◌||◌, ◌∙◌, ◌∷◌, ◌≡◌, ◌≤◌, Abort, aborts_view, Act, act_of, AllByRecursion, ap, append-nil}
+use Rattle.record_laws.proofs.Names.{append_assoc, AreAsked, AreErrors, AreFit, AreWritten, arith, begins_session, behind_call, behind_calls}
+use Rattle.record_laws.proofs.Names.{behind_moments, Bool, Call, Calls, calls_in, Client, client_behind, client_connected, ClientEnd, cond, Connected}
+use Rattle.record_laws.proofs.Names.{connection_most, contacts, Counted, counted_after, counted_next, Datum, done_by, drop, drop-length, entries_of}
+use Rattle.record_laws.proofs.Names.{Entry, entry_line, false, false≢true, Feature, Feed, Fits, Follow, Grows, grows_told, Growth, heard_grows}
+use Rattle.record_laws.proofs.Names.{is_told, IsConnection, IsGoing, IsProgram, IsProgress, IsTold, IsWrittenAct, Kept, kept_error, Leave, leb-true}
+use Rattle.record_laws.proofs.Names.{length, length-append, List, ltb-true, map, Meaning, Moment, nat_le, nat_lt, new_client_end, next_number}
+use Rattle.record_laws.proofs.Names.{next_of, none_anew, none_told, numbered, Option, passed_over, Point, possible, read_all, ReadOne, recorded_by}
+use Rattle.record_laws.proofs.Names.{refl, refusals, Restart, Resume, Send, sends_view, Sent, Sound, subst, suc, sym, Table, Tag, take_all, tallied}
+use Rattle.record_laws.proofs.Names.{Tally, Tell, Tells, tells_homed, text_of, told_behind, told_by, told_to, told_unless, touches_in, true, View}
+use Rattle.record_laws.proofs.Names.{view, view_by, Wanted, with_errors, with_none, with_refused, ℕ}
+use Rattle.std.proofs.lemmas.List.{drop-append-le}
 use Rattle.dme_line.specs.declared.commands.Kind.{Kind}
-use Rattle.line_framing.specs.Next.{next_of}
-use Rattle.contact_ledger.specs.Ledgers.{IsConnection, connection_most}
-use Rattle.contact_ledger.specs.ContactTexts.{IsWrittenAct}
-use Rattle.contact_ledger.specs.Lines.{text_of}
-use Rattle.contact_ledger.specs.declared.acts.Act.{Act}
-use Rattle.contact_ledger.specs.declared.features.Feature.{Feature}
-use Rattle.dmis_program.specs.Meaning.{Meaning}
-use Rattle.dmis_program.specs.Programs.{IsProgram}
-use Rattle.dmis_program.specs.declared.features.Wanted.{Wanted}
 use Rattle.protocol_model.specs.Replies.{Mark}
 use Rattle.protocol_model.specs.Open.{Effect}
-use Rattle.protocol_model.specs.Client.{Client, Table, Tally, act_of, counted_next, tallied, begins_session, tells_homed, passed_over}
-use Rattle.protocol_model.specs.Client.{next_number, client_connected}
-use Rattle.protocol_model.specs.Claims.{contacts, Sound}
-use Rattle.protocol_model.specs.Ends.{ClientEnd, new_client_end}
-use Rattle.protocol_model.specs.declared.held.Datum.{Datum}
 use Rattle.protocol_model.specs.declared.plans.Planned.{Planned}
 use Rattle.protocol_model.proofs.HeardTables.{heard}
 use Rattle.protocol_model.proofs.table.Replying.{fine, step_cases}
-use Rattle.protocol_model.proofs.plan.Marks.{touches_in}
 use Rattle.protocol_model.proofs.invariant.Touching.{Keeps, measured_keeps}
-use Rattle.protocol_model.proofs.invariant.Served.{IsProgress}
-use Rattle.client_core.specs.Calls.{Call, Connected, Send, Feed, ReadOne, Abort, Resume, Leave}
-use Rattle.client_core.specs.Calls.{Restart, Sent, possible, done_by, behind_call}
-use Rattle.client_core.specs.Calls.{behind_calls, client_behind}
 use Rattle.client_core.specs.Clients.{is_apart, may_connect, may_read}
 use Rattle.client_core.proofs.Fits.{both}
-use Rattle.told_acts.specs.Told.{numbered, told_by, told_behind}
-use Rattle.told_acts.proofs.Views.{View, view, view_by, told_to, none_told, none_anew, with_none, sends_view, aborts_view, read_all}
-use Rattle.told_acts.proofs.Counts.{IsGoing, Grows, grows_told, heard_grows}
-use Rattle.told_acts.proofs.Tells.{Tells, IsTold, is_told}
-use Rattle.run_record.specs.Heads.{AreAsked}
-use Rattle.run_record.specs.Entries.{entry_line, kept_error}
-use Rattle.run_record.specs.Records.{Kept, with_refused, Follow}
-use Rattle.run_record.specs.Tellings.{Counted, entries_of, counted_after}
-use Rattle.run_record.specs.declared.entries.Entry.{Entry}
 use Rattle.run_record.proofs.ToldLines.{lines_more}
-use Rattle.record_keeping.specs.Growths.{Growth, refusals, with_errors, begun}
-use Rattle.record_laws.specs.Recordings.{told_now, told_unless, recorded_by}
-use Rattle.record_laws.specs.Recordings.{Moment, Calls, Tell, behind_moments}
-use Rattle.record_laws.specs.Recordings.{calls_in, Fits, AreErrors, AreFit, AreWritten}
+use Rattle.record_keeping.specs.Growths.{begun}
+use Rattle.record_laws.specs.Recordings.{told_now}
 use Rattle.record_laws.proofs.Entries.{entries_more, after_more, follow_more, Parts, follow_parts, follow_last, Later, later}
 use Rattle.record_laws.proofs.Moves.{Moves, Rests, measured_moves}
 
@@ -601,12 +574,12 @@ done_stands b acts (Connected n) e r may asked fit tells h written =
     (none_anew n e.client.table.tally.counted)
     (begun_stands b acts (view e.client) (view (client_connected n e.client)) r n 0 h (connected_begins b acts n e.client r may fit h))
 done_stands b acts Send e r may asked fit tells h written = same_stands b acts (view e.client) (view (done_by Send e).client) r
-    (sends_view e.client e.client.table.tally.unsent (next_number tag.Std e.client.table.standard e.client.drawn)) h
+    (sends_view e.client e.client.table.tally.unsent (next_number Tag.Std e.client.table.standard e.client.drawn)) h
 done_stands b acts (Feed bytes) e r may asked fit tells h written = same_stands b acts (view e.client) (view e.client) r refl h
 done_stands b acts ReadOne e r may asked fit tells h written =
     read_stands b acts e r (read_on e.client may) asked (Tells.going tells (read_on e.client may)) h written
 done_stands b acts Abort e r may asked fit tells h written = same_stands b acts (view e.client) (view (done_by Abort e).client) r
-    (aborts_view e.client (next_number tag.Event e.client.table.event e.client.event_drawn)) h
+    (aborts_view e.client (next_number Tag.Event e.client.table.event e.client.event_drawn)) h
 done_stands b acts Resume e r may asked fit tells h written =
     quiet_stands b acts (view e.client) (view (done_by Resume e).client) (recorded_by Resume e r)
     (none_told e.client.table.tally.connection e.client.table.tally.counted)

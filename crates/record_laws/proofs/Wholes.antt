@@ -1,11 +1,8 @@
 -- The whole lines of texts that end with a line feed.
-use Rattle.std.proofs.Common.{◌≡◌, ℕ, ◌+◌, ◌==◌, Bool, true, false, not, eqb, List, [], ◌∷◌, ◌++◌, length, refl, ap, sym, ◌∙◌}
-use Rattle.std.proofs.Common.{arith, inl, inr, append-nil}
-use Rattle.std.specs.List.{list_all, onto_first}
-use Rattle.std.proofs.lemmas.Bool.{and_parts, eqb-true}
+use Rattle.record_laws.proofs.Names.{[], ◌++◌, ◌+◌, ◌==◌, ◌∙◌, ◌∷◌, ◌≡◌, and_parts, ap, append-nil, AreWhole, arith, Bool, but_last, EndsLine, eqb}
+use Rattle.record_laws.proofs.Names.{eqb-true, false, inl, inr, length, List, list_all, not, onto_first, refl, sym, text_of, true, ℕ}
 use Rattle.std.proofs.lemmas.List.Splits.{length-slice_split, slice_split-cons_no}
-use Rattle.contact_ledger.specs.Lines.{text_of, but_last, whole_lines}
-use Rattle.record_keeping.specs.Beginnings.{EndsLine, AreWhole}
+use Rattle.contact_ledger.specs.Lines.{whole_lines}
 
 -- a byte before the first of lines, if there is one
 abbrev before_first : ℕ → List (List ℕ) → List (List ℕ)

@@ -1,39 +1,25 @@
 -- What was reported on each connection of a world is a prefix of what its server did there.
-use Rattle.std.proofs.Common.{◌≡◌, ℕ, suc, ◌<◌, ◌≤◌, eqb, Bool, true, false, cond, not, ◌&&◌, nat_lt}
-use Rattle.std.proofs.Common.{nat_le, List, [], ◌∷◌, ◌++◌, length, take}
-use Rattle.std.proofs.Common.{refl, sym, ap, ◌∙◌, subst, arith, append_assoc, append-nil, Some, None, Ok, Err}
-use Rattle.std.proofs.lemmas.Bool.{false≢true, eqb-true, eq-eqb, and_parts, and_from, ltb-true, lt-ltb, le-leb}
-use Rattle.std.proofs.Math.Seq.{drop-length}
-use Rattle.dme_line.specs.declared.tags.Tag.TheVariants as tag
-use Rattle.line_framing.specs.Next.{Front, next_of}
-use Rattle.contact_ledger.specs.Ledgers.{connection_most}
-use Rattle.contact_ledger.specs.declared.acts.Act.{Act}
-use Rattle.dmis_program.specs.Meaning.{Meaning}
-use Rattle.dmis_program.specs.Programs.{IsProgram}
-use Rattle.protocol_model.specs.Claims.{acts_on, Told}
+use Rattle.record_laws.proofs.Names.{[], ◌&&◌, ◌++◌, ◌<◌, ◌∙◌, ◌∷◌, ◌≡◌, ◌≤◌, Abort, aborts_view, Act, acts_on, and_from, and_parts, ap, append-nil}
+use Rattle.record_laws.proofs.Names.{append_assoc, arith, behind_call, behind_calls, Bool, Call, Client, ClientEnd, cond, Connected, connection_most}
+use Rattle.record_laws.proofs.Names.{done_by, done_here, drop-length, end_read, eq-eqb, eqb, eqb-true, Err, false, false≢true, Feed, Front}
+use Rattle.record_laws.proofs.Names.{front_served, Grows, grows_told, heard_grows, IsHere, IsProgram, le-leb, Leave, length, List, lt-ltb, ltb-true}
+use Rattle.record_laws.proofs.Names.{Meaning, nat_le, nat_lt, new_here, next_of, None, none_anew, none_told, not, numbered, numbered_done, Ok}
+use Rattle.record_laws.proofs.Names.{possible, read_all, ReadOne, refl, Restart, Resume, Send, sends_view, Sent, ServerEnd, Some, subst, suc, sym}
+use Rattle.record_laws.proofs.Names.{Tag, take, told_behind, told_between, told_by, told_to, true, View, view, with_none, ℕ}
+use Rattle.protocol_model.specs.Claims.{Told}
 use Rattle.protocol_model.specs.Client as model
-use Rattle.protocol_model.specs.Client.{Client}
-use Rattle.protocol_model.specs.Ends.{ClientEnd, ServerEnd, front_served, end_read}
 use Rattle.protocol_model.specs.Lines.{reading_of}
 use Rattle.protocol_model.specs.Readings.{command_of}
 use Rattle.protocol_model.specs.World as world
-use Rattle.protocol_model.specs.World.{World, start, can, happens, after, run_of}
+use Rattle.protocol_model.specs.World.{after, can, happens, run_of, start, World}
 use Rattle.protocol_model.specs.declared.events.Event.{Event}
-use Rattle.protocol_model.specs.declared.events.Event.TheVariants as event
 use Rattle.protocol_model.specs.declared.states.State.{State}
 use Rattle.protocol_model.proofs.each_event.ClientEvents.{told_now}
-use Rattle.protocol_model.proofs.invariant.Moves.{Moves, done_on, acts_more, acts_elsewhere, read_moves, turned_moves, machined_moves}
-use Rattle.protocol_model.proofs.whole_run.Carrying.{lined, IsCarried}
+use Rattle.protocol_model.proofs.invariant.Moves.{acts_elsewhere, acts_more, done_on, machined_moves, Moves, read_moves, turned_moves}
+use Rattle.protocol_model.proofs.whole_run.Carrying.{IsCarried, lined}
 use Rattle.protocol_model.proofs.whole_run.WholeRun.{run_carried, start_carried}
 use Rattle.client_core.specs.Clients as clients
-use Rattle.client_core.specs.Calls.{Call, Connected, Send, Feed, ReadOne, Abort, Resume, Leave}
-use Rattle.client_core.specs.Calls.{Restart, Sent, possible, done_by, behind_call}
-use Rattle.client_core.specs.Calls.{behind_calls}
-use Rattle.told_acts.specs.Told.{numbered, told_between, told_by, told_behind}
-use Rattle.told_acts.proofs.Views.{View, view, told_to, none_told, none_anew, with_none, sends_view, aborts_view, read_all}
-use Rattle.told_acts.proofs.Counts.{Grows, grows_told, heard_grows, numbered_done}
-use Rattle.told_acts.proofs.Tells.{IsHere, done_here, new_here}
-use Rattle.record_laws.specs.Worlds.{told_in, AreCalls}
+use Rattle.record_laws.specs.Worlds.{AreCalls, told_in}
 
 -- ---- prefixes
 
@@ -104,7 +90,7 @@ is_read e = read_all e.client (λ (d : Client). IsRead e.client d) (record {
 
 reads : (w : World) (told : List (ℕ × Act)) → w.client.client.on ≡ true → possible ReadOne w.client ≡ true
     → Told (end_read w.client).client.table.tally.counted w.server.server.ledger (end_read w.client).client.last → Holds w told
-    → Holds (happens event.ClientReads w) (told ++ told_between w.client (end_read w.client))
+    → Holds (happens Event.ClientReads w) (told ++ told_between w.client (end_read w.client))
 reads w told on may front h =
     let c : Client = w.client.client in
     let d : Client = (end_read w.client).client in
@@ -157,7 +143,7 @@ faulted_same State.Halted = refl
 faulted_same State.Done = refl
 faulted_same State.Faulted = refl
 
-may_connect : (w : World) → can event.Connect w ≡ true → possible (Connected (suc w.client.client.last)) w.client ≡ true
+may_connect : (w : World) → can Event.Connect w ≡ true → possible (Connected (suc w.client.client.last)) w.client ≡ true
 may_connect w may =
     let c : Client = w.client.client in
     let parts = and_parts (model.is_apart c.state) (nat_lt c.last connection_most) may in
@@ -167,7 +153,7 @@ may_connect w may =
     (and_from (nat_lt c.last (suc c.last)) (nat_le (suc c.last) connection_most) (lt-ltb c.last (suc c.last) (omega arith))
     (le-leb (suc c.last) connection_most (omega (arith, below))))
 
-may_read : (w : World) → can event.ClientReads w ≡ true → (w.client.client.on ≡ true) × (possible ReadOne w.client ≡ true)
+may_read : (w : World) → can Event.ClientReads w ≡ true → (w.client.client.on ≡ true) × (possible ReadOne w.client ≡ true)
 may_read w may =
     let c : Client = w.client.client in
     let parts = and_parts c.on (not (world.is_faulted c.state) && world.is_any (next_of w.client.input.rest)) may in
@@ -187,58 +173,58 @@ served_ledger e (Err why) = kept_ledger e.server.ledger
 
 happens_holds : (e : Event) (w : World) (told : List (ℕ × Act)) → can e w ≡ true → IsCarried (happens e w) → Holds w told
     → Holds (happens e w) (told ++ told_between w.client (happens e w).client)
-happens_holds event.Connect w told may c h =
-    quiet w (happens event.Connect w) told [] (none_anew (suc w.client.client.last) w.client.client.table.tally.counted)
+happens_holds Event.Connect w told may c h =
+    quiet w (happens Event.Connect w) told [] (none_anew (suc w.client.client.last) w.client.client.table.tally.counted)
     (done_here told (Connected (suc w.client.client.last)) w.client (may_connect w may) (Holds.here h))
     (kept_ledger w.server.server.ledger) h
-happens_holds (event.Accept n) w told may c h =
-    same_client w (happens (event.Accept n) w) told [] refl (kept_ledger w.server.server.ledger) h
-happens_holds event.ClientSends w told may c h =
-    quiet w (happens event.ClientSends w) told []
+happens_holds (Event.Accept n) w told may c h =
+    same_client w (happens (Event.Accept n) w) told [] refl (kept_ledger w.server.server.ledger) h
+happens_holds Event.ClientSends w told may c h =
+    quiet w (happens Event.ClientSends w) told []
     (ap (λ (v : View). told_to (view w.client.client) v)
     (sends_view w.client.client w.client.client.table.tally.unsent
-    (model.next_number tag.Std w.client.client.table.standard w.client.client.drawn))
+    (model.next_number Tag.Std w.client.client.table.standard w.client.client.drawn))
     ∙ none_told w.client.client.table.tally.connection w.client.client.table.tally.counted)
     (done_here told Send w.client may (Holds.here h)) (kept_ledger w.server.server.ledger) h
-happens_holds (event.Up k) w told may c h =
-    same_client w (happens (event.Up k) w) told [] refl (kept_ledger w.server.server.ledger) h
-happens_holds event.ServerReads w told may c h =
-    same_client w (happens event.ServerReads w) told [] refl (served_ledger w.server (next_of w.server.input.rest)) h
-happens_holds event.ServerTurn w told may c h =
+happens_holds (Event.Up k) w told may c h =
+    same_client w (happens (Event.Up k) w) told [] refl (kept_ledger w.server.server.ledger) h
+happens_holds Event.ServerReads w told may c h =
+    same_client w (happens Event.ServerReads w) told [] refl (served_ledger w.server (next_of w.server.input.rest)) h
+happens_holds Event.ServerTurn w told may c h =
     let m = turned_moves w.server.server in
-    same_client w (happens event.ServerTurn w) told (done_on w.server.server.last m.0) refl (Moves.ledger m.1) h
-happens_holds (event.Machine outcome) w told may c h =
+    same_client w (happens Event.ServerTurn w) told (done_on w.server.server.last m.0) refl (Moves.ledger m.1) h
+happens_holds (Event.Machine outcome) w told may c h =
     let m = machined_moves w.server.server outcome in
-    same_client w (happens (event.Machine outcome) w) told (done_on w.server.server.last m.0) refl (Moves.ledger m.1) h
-happens_holds (event.Down k) w told may c h =
-    same_client w (happens (event.Down k) w) told [] refl (kept_ledger w.server.server.ledger) h
-happens_holds event.ClientReads w told may c h =
-    let v : World = happens event.ClientReads w in
+    same_client w (happens (Event.Machine outcome) w) told (done_on w.server.server.last m.0) refl (Moves.ledger m.1) h
+happens_holds (Event.Down k) w told may c h =
+    same_client w (happens (Event.Down k) w) told [] refl (kept_ledger w.server.server.ledger) h
+happens_holds Event.ClientReads w told may c h =
+    let v : World = happens Event.ClientReads w in
     let t = told_now (lined v c.up c.down) c.inv in
     let able = may_read w may in
     reads w told able.0 able.1 (record { more = t.0; whole = t.1 }) h
-happens_holds event.ClientLeaves w told may c h =
-    quiet w (happens event.ClientLeaves w) told []
+happens_holds Event.ClientLeaves w told may c h =
+    quiet w (happens Event.ClientLeaves w) told []
     (none_told w.client.client.table.tally.connection w.client.client.table.tally.counted)
     (done_here told Leave w.client refl (Holds.here h)) (kept_ledger w.server.server.ledger) h
-happens_holds event.ServerLeaves w told may c h =
-    same_client w (happens event.ServerLeaves w) told [] refl (kept_ledger w.server.server.ledger) h
-happens_holds event.Abort w told may c h =
-    quiet w (happens event.Abort w) told []
+happens_holds Event.ServerLeaves w told may c h =
+    same_client w (happens Event.ServerLeaves w) told [] refl (kept_ledger w.server.server.ledger) h
+happens_holds Event.Abort w told may c h =
+    quiet w (happens Event.Abort w) told []
     (ap (λ (v : View). told_to (view w.client.client) v)
-    (aborts_view w.client.client (model.next_number tag.Event w.client.client.table.event w.client.client.event_drawn))
+    (aborts_view w.client.client (model.next_number Tag.Event w.client.client.table.event w.client.client.event_drawn))
     ∙ none_told w.client.client.table.tally.connection w.client.client.table.tally.counted)
     (done_here told Abort w.client may (Holds.here h)) (kept_ledger w.server.server.ledger) h
-happens_holds event.Resume w told may c h =
-    quiet w (happens event.Resume w) told []
+happens_holds Event.Resume w told may c h =
+    quiet w (happens Event.Resume w) told []
     (none_told w.client.client.table.tally.connection w.client.client.table.tally.counted)
     (done_here told Resume w.client may (Holds.here h)) (kept_ledger w.server.server.ledger) h
-happens_holds (event.ClientRestart k) w told may c h =
-    quiet w (happens (event.ClientRestart k) w) told []
+happens_holds (Event.ClientRestart k) w told may c h =
+    quiet w (happens (Event.ClientRestart k) w) told []
     (none_anew w.client.client.last w.client.client.table.tally.counted)
     (done_here told (Restart k) w.client may (Holds.here h)) (kept_ledger w.server.server.ledger) h
-happens_holds event.ServerRestart w told may c h =
-    same_client w (happens event.ServerRestart w) told [] refl (kept_ledger w.server.server.ledger) h
+happens_holds Event.ServerRestart w told may c h =
+    same_client w (happens Event.ServerRestart w) told [] refl (kept_ledger w.server.server.ledger) h
 
 after_holds : (e : Event) (w : World) (told : List (ℕ × Act)) → IsCarried (after e w) → Holds w told
     → Holds (after e w) (told ++ told_between w.client (after e w).client)
@@ -306,26 +292,26 @@ sent_call call e may =
 
 happens_calls : (e : Event) (w : World) → can e w ≡ true
     → AreCalls w.client (happens e w).client (told_between w.client (happens e w).client)
-happens_calls event.Connect w may = one_call (Connected (suc w.client.client.last)) w.client (may_connect w may)
-happens_calls (event.Accept n) w may = no_calls w.client
-happens_calls event.ClientSends w may = sent_call Send w.client may
-happens_calls (event.Up k) w may = no_calls w.client
-happens_calls event.ServerReads w may = no_calls w.client
-happens_calls event.ServerTurn w may = no_calls w.client
-happens_calls (event.Machine outcome) w may = no_calls w.client
-happens_calls (event.Down k) w may =
+happens_calls Event.Connect w may = one_call (Connected (suc w.client.client.last)) w.client (may_connect w may)
+happens_calls (Event.Accept n) w may = no_calls w.client
+happens_calls Event.ClientSends w may = sent_call Send w.client may
+happens_calls (Event.Up k) w may = no_calls w.client
+happens_calls Event.ServerReads w may = no_calls w.client
+happens_calls Event.ServerTurn w may = no_calls w.client
+happens_calls (Event.Machine outcome) w may = no_calls w.client
+happens_calls (Event.Down k) w may =
     let c : Client = w.client.client in
     let parts = and_parts c.on (not (world.is_faulted c.state) && world.has_some k (world.client_link w).down) may in
     let fine = and_parts (not (world.is_faulted c.state)) (world.has_some k (world.client_link w).down) parts.1 in
     one_call (Feed (take k (world.client_link w).down)) w.client
     (and_from c.on (not (clients.is_faulted c.state)) parts.0 (ap not (sym (faulted_same c.state)) ∙ fine.0))
-happens_calls event.ClientReads w may = one_call ReadOne w.client (may_read w may).1
-happens_calls event.ClientLeaves w may = one_call Leave w.client refl
-happens_calls event.ServerLeaves w may = no_calls w.client
-happens_calls event.Abort w may = sent_call Abort w.client may
-happens_calls event.Resume w may = one_call Resume w.client may
-happens_calls (event.ClientRestart k) w may = one_call (Restart k) w.client may
-happens_calls event.ServerRestart w may = no_calls w.client
+happens_calls Event.ClientReads w may = one_call ReadOne w.client (may_read w may).1
+happens_calls Event.ClientLeaves w may = one_call Leave w.client refl
+happens_calls Event.ServerLeaves w may = no_calls w.client
+happens_calls Event.Abort w may = sent_call Abort w.client may
+happens_calls Event.Resume w may = one_call Resume w.client may
+happens_calls (Event.ClientRestart k) w may = one_call (Restart k) w.client may
+happens_calls Event.ServerRestart w may = no_calls w.client
 
 after_calls : (e : Event) (w : World) → AreCalls w.client (after e w).client (told_between w.client (after e w).client)
 after_calls e w = go (can e w) refl

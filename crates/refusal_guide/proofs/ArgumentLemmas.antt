@@ -1,9 +1,6 @@
 -- The last apostrophe, and the last parameter.
-use Rattle.std.proofs.Common.{◌≡◌, ◌≢◌, ℕ, ◌-◌, ◌<◌, ◌≤◌, not, List, [], ◌∷◌, ◌++◌, length, take, Option, Some, refl, ap, sym, ◌∙◌, arith}
-use Rattle.std.specs.Prelude.{◌==◌, slice_index}
-use Rattle.std.specs.List.{suffix_len, last_or}
-use Rattle.std.proofs.lemmas.Bool.{ne_eqb}
-use Rattle.std.proofs.lemmas.List.{length-take-le}
+use Rattle.refusal_guide.proofs.Names.{[], ◌++◌, ◌-◌, ◌<◌, ◌==◌, ◌∙◌, ◌∷◌, ◌≡◌, ◌≢◌, ◌≤◌, ap, arith, last_or, length, length-take-le, List, ne_eqb}
+use Rattle.refusal_guide.proofs.Names.{not, Option, refl, slice_index, Some, suffix_len, sym, take, ℕ}
 use Rattle.std.proofs.lemmas.List.Sums.{suffix_len_is}
 use Rattle.refusal_guide.specs.Arguments.{last_apostrophe}
 

@@ -1,12 +1,9 @@
 -- What follows line feeds, and its lines.
-use Rattle.std.proofs.Common.{◌≡◌, ℕ, zero, suc, ◌+◌, ◌<◌, ◌≤◌, Bool, true, false, List, [], ◌∷◌, Option, Some, None, cond, eqb, ltb, length, drop, ◌-◌, length-drop, refl, sym, ◌∙◌, ap, arith}
-use Rattle.std.specs.List.{position, position_or_len}
-use Rattle.std.specs.Str.Lines.{lines}
-use Rattle.std.proofs.lemmas.Bool.{ltb-false}
+use Rattle.refusal_guide.proofs.Names.{[], ◌+◌, ◌-◌, ◌<◌, ◌∙◌, ◌∷◌, ◌≡◌, ◌≤◌, after_feeds, ap, arith, Bool, cond, drop, drop_all, eqb, false, length}
+use Rattle.refusal_guide.proofs.Names.{length-drop, lines, List, ltb, ltb-false, None, Option, position, position_or_len, refl, Some, suc, sym, true}
+use Rattle.refusal_guide.proofs.Names.{zero, ℕ}
 use Rattle.std.proofs.lemmas.Option.{cond_some}
-use Rattle.std.proofs.lemmas.List.{drop_all}
 use Rattle.dmis_text.proofs.LineEnds.{lines_at, lines_one}
-use Rattle.refusal_guide.specs.Lines.{after_feeds}
 
 more_step : (n c : ℕ) (cs : List ℕ) (b : Bool) → eqb c 10 ≡ b → after_feeds (suc n) cs ≡ after_feeds 1 (after_feeds n cs)
     → after_feeds (suc (suc n)) cs ≡ after_feeds 1 (after_feeds (suc n) cs)

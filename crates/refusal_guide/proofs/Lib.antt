@@ -1,3 +1,4 @@
+pub mod Names
 pub mod TopicLemmas
 pub mod Feeds
 pub mod LineSteps

@@ -1,7 +1,5 @@
 -- Lines that are passed one by one.
-use Rattle.std.proofs.Common.{◌≡◌, ℕ, ◌+◌, ◌-◌, ◌<◌, ◌≤◌, List, length, drop, ◌∙◌, ap, arith, length-drop}
-use Rattle.std.specs.Prelude.{min}
-use Rattle.std.proofs.lemmas.List.{drop-drop}
+use Rattle.refusal_guide.proofs.Names.{◌+◌, ◌-◌, ◌<◌, ◌∙◌, ◌≡◌, ◌≤◌, ap, arith, drop, drop-drop, length, length-drop, List, min, ℕ}
 
 -- that many lines of all are passed
 pub record IsPassed (number left : ℕ) (all rest : List (List ℕ)) : Type 0 where

@@ -1,15 +1,8 @@
 -- The fault of a component, from the reading of a direction whose other components are zero.
-use Rattle.std.proofs.Common.{◌≡◌, List, ℕ, ℤ, pos, Option, Some, None, Result, Ok, Err, codes, inl, inr, sym, ap}
-use Rattle.std.proofs.lemmas.Bool.{false≢true}
-use Rattle.std.specs.Option.{is_some}
-use Rattle.fixed_um.specs.Limits.{component_limit}
+use Rattle.refusal_guide.proofs.Names.{◌≡◌, ap, codes, component_limit, Err, false≢true, fault_in, inl, inr, is_some, List, None, NumeralFault, Ok}
+use Rattle.refusal_guide.proofs.Names.{Option, pos, Reads, ReadsDirection, Result, Some, sym, value_of, value_of-is, ℕ, ℤ}
 use Rattle.fixed_um.specs.Shapes.{Direction}
-use Rattle.fixed_um.specs.Scan.{numeral_of, exponent_of}
-use Rattle.fixed_um.specs.Computed.{value_of}
-use Rattle.fixed_um.specs.Numerals.{Reads, ReadsDirection}
-use Rattle.fixed_um.specs.declared.numerals.NumeralFault.{NumeralFault}
-use Rattle.fixed_um.proofs.ComputedLemmas.{value_of-is}
-use Rattle.refusal_guide.specs.Lengths.{fault_in}
+use Rattle.fixed_um.specs.Scan.{exponent_of, numeral_of}
 use Rattle.refusal_guide.specs.Numerals.{component_fault}
 
 -- the fault of a direction

@@ -1,9 +1,8 @@
 -- The place of a refusal, from what its parts are.
-use Rattle.std.proofs.Common.{◌≡◌, ℕ, List, ◌++◌, length, Result, Ok, Err, OnOk, is_ok, cond, ◌∙◌, ap}
-use Rattle.refusal_guide.specs.Lines.{lines_from, first_of, line_of, shown_from}
+use Rattle.refusal_guide.proofs.Names.{◌++◌, ◌∙◌, ◌≡◌, ap, Caused, cond, Err, first_of, is_ok, length, line_of, lines_from, List, Ok, OnOk, Result}
+use Rattle.refusal_guide.proofs.Names.{shown_from, ℕ}
 use Rattle.refusal_guide.specs.Windows.{shown_start}
-use Rattle.refusal_guide.specs.Words.{Caused}
-use Rattle.refusal_guide.specs.Places.{place_text, number_of, IsReason, shown_for, IsPlace, IsPlaceOf, Places}
+use Rattle.refusal_guide.specs.Places.{IsPlace, IsPlaceOf, IsReason, number_of, place_text, Places, shown_for}
 use Rattle.refusal_guide.specs.declared.places.Refused.{Refused}
 
 -- what is written of the first of the lines that begin with a number is the place of that number

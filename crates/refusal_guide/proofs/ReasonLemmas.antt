@@ -1,15 +1,10 @@
 -- The cause of a place, from that of its statement or of its line.
-use Rattle.std.proofs.Common.{◌≡◌, Option, Some, None, IfSome, refl, ap, subst}
-use Rattle.std.specs.Prelude.{slice_get}
-use Rattle.std.specs.Option.{option_map}
-use Rattle.dmis_text.specs.Reading.{text_reading}
-use Rattle.dmis_text.specs.declared.elements.Statement.{Statement}
+use Rattle.refusal_guide.proofs.Names.{◌≡◌, ap, bytes_from, Caused, caused_by, IfSome, IsOfEither, IsOfLine, IsOfPlace, IsOfStatement}
+use Rattle.refusal_guide.proofs.Names.{IsProgramReason, None, Option, option_map, refl, slice_get, Some, Spot, spot_at, spot_of, Statement, subst}
+use Rattle.refusal_guide.proofs.Names.{text_reading}
 use Rattle.dmis_program.specs.declared.faults.Refusal.{Refusal}
 use Rattle.refusal_guide.specs.declared.words.Reason.{Reason}
 use Rattle.refusal_guide.specs.declared.lines.Place.{Place}
-use Rattle.refusal_guide.specs.Lines.{bytes_from}
-use Rattle.refusal_guide.specs.Words.{Caused, caused_by}
-use Rattle.refusal_guide.specs.Reasons.{Spot, spot_at, spot_of, IsOfStatement, IsOfLine, IsOfEither, IsOfPlace, IsProgramReason}
 
 shown_given : (r : Option Reason) (g : Reason) → IfSome r (λ w. g ≡ w) → IfSome (option_map caused_by r) (λ s. caused_by g ≡ s)
 shown_given None g h = tt

@@ -1,11 +1,8 @@
 -- The topics are all in the table.
-use Rattle.std.proofs.Common.{◌≡◌, Bool, true, false, List, [], ◌∷◌, Option, Some, None, MatchOption, cond, refl, sym, ◌∙◌, find, subst}
-use Rattle.std.proofs.lemmas.Bool.{false≢true}
-use Rattle.std.proofs.Common.{ℕ}
-use Rattle.std.specs.Option.{option_or}
-use Rattle.refusal_guide.specs.Codes.{titled, is_error_number, is_code_of, topic_of}
+use Rattle.refusal_guide.proofs.Names.{[], ◌∙◌, ◌∷◌, ◌≡◌, Bool, cond, false, false≢true, find, List, MatchOption, None, Option, option_or, refl, Some}
+use Rattle.refusal_guide.proofs.Names.{subst, sym, true, ℕ}
+use Rattle.refusal_guide.specs.Codes.{is_code_of, is_error_number, titled, topic_of}
 use Rattle.refusal_guide.specs.declared.topics.Topic.{Topic}
-use Rattle.refusal_guide.specs.declared.topics.Topic.TheVariants as topic
 use Rattle.refusal_guide.specs.declared.topics.TheConstants.{TOPICS}
 
 abbrev NoneOf : (Topic → Bool) → List Topic → Type 0
@@ -26,55 +23,55 @@ found_in p (k ∷ ks) o f = found_step p k ks (p k) o refl f (λ q e. found_in p
 not_so : (b : Bool) → b ≡ false → b ≡ true → ⊥
 not_so b e h = false≢true (sym e ∙ h)
 
-each_topic : (p : Topic → Bool) → NoneOf p TOPICS → p topic.ServersOwn ≡ false → (k : Topic) → p k ≡ true → ⊥
-each_topic p h own topic.NotDmis = not_so (p topic.NotDmis) h.0
-each_topic p h own topic.Truncated = not_so (p topic.Truncated) h.1.0
-each_topic p h own topic.LineTooLong = not_so (p topic.LineTooLong) h.1.1.0
-each_topic p h own topic.BadByte = not_so (p topic.BadByte) h.1.1.1.0
-each_topic p h own topic.Unsupported = not_so (p topic.Unsupported) h.1.1.1.1.0
-each_topic p h own topic.BadArguments = not_so (p topic.BadArguments) h.1.1.1.1.1.0
-each_topic p h own topic.BadNumeral = not_so (p topic.BadNumeral) h.1.1.1.1.1.1.0
-each_topic p h own topic.OutsideBlock = not_so (p topic.OutsideBlock) h.1.1.1.1.1.1.1.0
-each_topic p h own topic.InsideBlock = not_so (p topic.InsideBlock) h.1.1.1.1.1.1.1.1.0
-each_topic p h own topic.TooFewPoints = not_so (p topic.TooFewPoints) h.1.1.1.1.1.1.1.1.1.0
-each_topic p h own topic.UnknownFrame = not_so (p topic.UnknownFrame) h.1.1.1.1.1.1.1.1.1.1.0
-each_topic p h own topic.NotMillimetres = not_so (p topic.NotMillimetres) h.1.1.1.1.1.1.1.1.1.1.1.0
-each_topic p h own topic.NoProgMode = not_so (p topic.NoProgMode) h.1.1.1.1.1.1.1.1.1.1.1.1.0
-each_topic p h own topic.ZeroVector = not_so (p topic.ZeroVector) h.1.1.1.1.1.1.1.1.1.1.1.1.1.0
-each_topic p h own topic.NoTool = not_so (p topic.NoTool) h.1.1.1.1.1.1.1.1.1.1.1.1.1.1.0
-each_topic p h own topic.TooLarge = not_so (p topic.TooLarge) h.1.1.1.1.1.1.1.1.1.1.1.1.1.1.1.0
-each_topic p h own topic.NotNumeral = not_so (p topic.NotNumeral) h.1.1.1.1.1.1.1.1.1.1.1.1.1.1.1.1.0
-each_topic p h own topic.TooManyDigits = not_so (p topic.TooManyDigits) h.1.1.1.1.1.1.1.1.1.1.1.1.1.1.1.1.1.0
-each_topic p h own topic.NumeralTooLarge = not_so (p topic.NumeralTooLarge) h.1.1.1.1.1.1.1.1.1.1.1.1.1.1.1.1.1.1.0
-each_topic p h own topic.SetupLine = not_so (p topic.SetupLine) h.1.1.1.1.1.1.1.1.1.1.1.1.1.1.1.1.1.1.1.0
-each_topic p h own topic.SetupTwice = not_so (p topic.SetupTwice) h.1.1.1.1.1.1.1.1.1.1.1.1.1.1.1.1.1.1.1.1.0
-each_topic p h own topic.SetupNumeral = not_so (p topic.SetupNumeral) h.1.1.1.1.1.1.1.1.1.1.1.1.1.1.1.1.1.1.1.1.1.0
-each_topic p h own topic.ScheduleLine = not_so (p topic.ScheduleLine) h.1.1.1.1.1.1.1.1.1.1.1.1.1.1.1.1.1.1.1.1.1.1.0
-each_topic p h own topic.Damaged = not_so (p topic.Damaged) h.1.1.1.1.1.1.1.1.1.1.1.1.1.1.1.1.1.1.1.1.1.1.1.0
-each_topic p h own topic.NotOurs = not_so (p topic.NotOurs) h.1.1.1.1.1.1.1.1.1.1.1.1.1.1.1.1.1.1.1.1.1.1.1.1.0
-each_topic p h own topic.RecordDamaged = not_so (p topic.RecordDamaged) h.1.1.1.1.1.1.1.1.1.1.1.1.1.1.1.1.1.1.1.1.1.1.1.1.1.0
-each_topic p h own topic.OtherPart = not_so (p topic.OtherPart) h.1.1.1.1.1.1.1.1.1.1.1.1.1.1.1.1.1.1.1.1.1.1.1.1.1.1.0
-each_topic p h own topic.OtherProgram = not_so (p topic.OtherProgram) h.1.1.1.1.1.1.1.1.1.1.1.1.1.1.1.1.1.1.1.1.1.1.1.1.1.1.1.0
-each_topic p h own topic.NoTag = not_so (p topic.NoTag) h.1.1.1.1.1.1.1.1.1.1.1.1.1.1.1.1.1.1.1.1.1.1.1.1.1.1.1.1.0
-each_topic p h own topic.TagInUse = not_so (p topic.TagInUse) h.1.1.1.1.1.1.1.1.1.1.1.1.1.1.1.1.1.1.1.1.1.1.1.1.1.1.1.1.1.0
-each_topic p h own topic.UnknownCommand = not_so (p topic.UnknownCommand) h.1.1.1.1.1.1.1.1.1.1.1.1.1.1.1.1.1.1.1.1.1.1.1.1.1.1.1.1.1.1.0
-each_topic p h own topic.BadCommand = not_so (p topic.BadCommand) h.1.1.1.1.1.1.1.1.1.1.1.1.1.1.1.1.1.1.1.1.1.1.1.1.1.1.1.1.1.1.1.0
-each_topic p h own topic.NoSession = not_so (p topic.NoSession) h.1.1.1.1.1.1.1.1.1.1.1.1.1.1.1.1.1.1.1.1.1.1.1.1.1.1.1.1.1.1.1.1.0
-each_topic p h own topic.SessionOpen = not_so (p topic.SessionOpen) h.1.1.1.1.1.1.1.1.1.1.1.1.1.1.1.1.1.1.1.1.1.1.1.1.1.1.1.1.1.1.1.1.1.0
-each_topic p h own topic.Aborted = not_so (p topic.Aborted) h.1.1.1.1.1.1.1.1.1.1.1.1.1.1.1.1.1.1.1.1.1.1.1.1.1.1.1.1.1.1.1.1.1.1.0
-each_topic p h own topic.ErrorState = not_so (p topic.ErrorState) h.1.1.1.1.1.1.1.1.1.1.1.1.1.1.1.1.1.1.1.1.1.1.1.1.1.1.1.1.1.1.1.1.1.1.1.0
-each_topic p h own topic.QueueFull = not_so (p topic.QueueFull) h.1.1.1.1.1.1.1.1.1.1.1.1.1.1.1.1.1.1.1.1.1.1.1.1.1.1.1.1.1.1.1.1.1.1.1.1.0
-each_topic p h own topic.NotHomed = not_so (p topic.NotHomed) h.1.1.1.1.1.1.1.1.1.1.1.1.1.1.1.1.1.1.1.1.1.1.1.1.1.1.1.1.1.1.1.1.1.1.1.1.1.0
-each_topic p h own topic.NoToolInHead = not_so (p topic.NoToolInHead) h.1.1.1.1.1.1.1.1.1.1.1.1.1.1.1.1.1.1.1.1.1.1.1.1.1.1.1.1.1.1.1.1.1.1.1.1.1.1.0
-each_topic p h own topic.UnknownTool = not_so (p topic.UnknownTool) h.1.1.1.1.1.1.1.1.1.1.1.1.1.1.1.1.1.1.1.1.1.1.1.1.1.1.1.1.1.1.1.1.1.1.1.1.1.1.1.0
-each_topic p h own topic.OutOfVolume = not_so (p topic.OutOfVolume) h.1.1.1.1.1.1.1.1.1.1.1.1.1.1.1.1.1.1.1.1.1.1.1.1.1.1.1.1.1.1.1.1.1.1.1.1.1.1.1.1.0
-each_topic p h own topic.NoSurface = not_so (p topic.NoSurface) h.1.1.1.1.1.1.1.1.1.1.1.1.1.1.1.1.1.1.1.1.1.1.1.1.1.1.1.1.1.1.1.1.1.1.1.1.1.1.1.1.1.0
-each_topic p h own topic.MachineFault = not_so (p topic.MachineFault) h.1.1.1.1.1.1.1.1.1.1.1.1.1.1.1.1.1.1.1.1.1.1.1.1.1.1.1.1.1.1.1.1.1.1.1.1.1.1.1.1.1.1.0
-each_topic p h own topic.ServersOwn = not_so (p topic.ServersOwn) own
+each_topic : (p : Topic → Bool) → NoneOf p TOPICS → p Topic.ServersOwn ≡ false → (k : Topic) → p k ≡ true → ⊥
+each_topic p h own Topic.NotDmis = not_so (p Topic.NotDmis) h.0
+each_topic p h own Topic.Truncated = not_so (p Topic.Truncated) h.1.0
+each_topic p h own Topic.LineTooLong = not_so (p Topic.LineTooLong) h.1.1.0
+each_topic p h own Topic.BadByte = not_so (p Topic.BadByte) h.1.1.1.0
+each_topic p h own Topic.Unsupported = not_so (p Topic.Unsupported) h.1.1.1.1.0
+each_topic p h own Topic.BadArguments = not_so (p Topic.BadArguments) h.1.1.1.1.1.0
+each_topic p h own Topic.BadNumeral = not_so (p Topic.BadNumeral) h.1.1.1.1.1.1.0
+each_topic p h own Topic.OutsideBlock = not_so (p Topic.OutsideBlock) h.1.1.1.1.1.1.1.0
+each_topic p h own Topic.InsideBlock = not_so (p Topic.InsideBlock) h.1.1.1.1.1.1.1.1.0
+each_topic p h own Topic.TooFewPoints = not_so (p Topic.TooFewPoints) h.1.1.1.1.1.1.1.1.1.0
+each_topic p h own Topic.UnknownFrame = not_so (p Topic.UnknownFrame) h.1.1.1.1.1.1.1.1.1.1.0
+each_topic p h own Topic.NotMillimetres = not_so (p Topic.NotMillimetres) h.1.1.1.1.1.1.1.1.1.1.1.0
+each_topic p h own Topic.NoProgMode = not_so (p Topic.NoProgMode) h.1.1.1.1.1.1.1.1.1.1.1.1.0
+each_topic p h own Topic.ZeroVector = not_so (p Topic.ZeroVector) h.1.1.1.1.1.1.1.1.1.1.1.1.1.0
+each_topic p h own Topic.NoTool = not_so (p Topic.NoTool) h.1.1.1.1.1.1.1.1.1.1.1.1.1.1.0
+each_topic p h own Topic.TooLarge = not_so (p Topic.TooLarge) h.1.1.1.1.1.1.1.1.1.1.1.1.1.1.1.0
+each_topic p h own Topic.NotNumeral = not_so (p Topic.NotNumeral) h.1.1.1.1.1.1.1.1.1.1.1.1.1.1.1.1.0
+each_topic p h own Topic.TooManyDigits = not_so (p Topic.TooManyDigits) h.1.1.1.1.1.1.1.1.1.1.1.1.1.1.1.1.1.0
+each_topic p h own Topic.NumeralTooLarge = not_so (p Topic.NumeralTooLarge) h.1.1.1.1.1.1.1.1.1.1.1.1.1.1.1.1.1.1.0
+each_topic p h own Topic.SetupLine = not_so (p Topic.SetupLine) h.1.1.1.1.1.1.1.1.1.1.1.1.1.1.1.1.1.1.1.0
+each_topic p h own Topic.SetupTwice = not_so (p Topic.SetupTwice) h.1.1.1.1.1.1.1.1.1.1.1.1.1.1.1.1.1.1.1.1.0
+each_topic p h own Topic.SetupNumeral = not_so (p Topic.SetupNumeral) h.1.1.1.1.1.1.1.1.1.1.1.1.1.1.1.1.1.1.1.1.1.0
+each_topic p h own Topic.ScheduleLine = not_so (p Topic.ScheduleLine) h.1.1.1.1.1.1.1.1.1.1.1.1.1.1.1.1.1.1.1.1.1.1.0
+each_topic p h own Topic.Damaged = not_so (p Topic.Damaged) h.1.1.1.1.1.1.1.1.1.1.1.1.1.1.1.1.1.1.1.1.1.1.1.0
+each_topic p h own Topic.NotOurs = not_so (p Topic.NotOurs) h.1.1.1.1.1.1.1.1.1.1.1.1.1.1.1.1.1.1.1.1.1.1.1.1.0
+each_topic p h own Topic.RecordDamaged = not_so (p Topic.RecordDamaged) h.1.1.1.1.1.1.1.1.1.1.1.1.1.1.1.1.1.1.1.1.1.1.1.1.1.0
+each_topic p h own Topic.OtherPart = not_so (p Topic.OtherPart) h.1.1.1.1.1.1.1.1.1.1.1.1.1.1.1.1.1.1.1.1.1.1.1.1.1.1.0
+each_topic p h own Topic.OtherProgram = not_so (p Topic.OtherProgram) h.1.1.1.1.1.1.1.1.1.1.1.1.1.1.1.1.1.1.1.1.1.1.1.1.1.1.1.0
+each_topic p h own Topic.NoTag = not_so (p Topic.NoTag) h.1.1.1.1.1.1.1.1.1.1.1.1.1.1.1.1.1.1.1.1.1.1.1.1.1.1.1.1.0
+each_topic p h own Topic.TagInUse = not_so (p Topic.TagInUse) h.1.1.1.1.1.1.1.1.1.1.1.1.1.1.1.1.1.1.1.1.1.1.1.1.1.1.1.1.1.0
+each_topic p h own Topic.UnknownCommand = not_so (p Topic.UnknownCommand) h.1.1.1.1.1.1.1.1.1.1.1.1.1.1.1.1.1.1.1.1.1.1.1.1.1.1.1.1.1.1.0
+each_topic p h own Topic.BadCommand = not_so (p Topic.BadCommand) h.1.1.1.1.1.1.1.1.1.1.1.1.1.1.1.1.1.1.1.1.1.1.1.1.1.1.1.1.1.1.1.0
+each_topic p h own Topic.NoSession = not_so (p Topic.NoSession) h.1.1.1.1.1.1.1.1.1.1.1.1.1.1.1.1.1.1.1.1.1.1.1.1.1.1.1.1.1.1.1.1.0
+each_topic p h own Topic.SessionOpen = not_so (p Topic.SessionOpen) h.1.1.1.1.1.1.1.1.1.1.1.1.1.1.1.1.1.1.1.1.1.1.1.1.1.1.1.1.1.1.1.1.1.0
+each_topic p h own Topic.Aborted = not_so (p Topic.Aborted) h.1.1.1.1.1.1.1.1.1.1.1.1.1.1.1.1.1.1.1.1.1.1.1.1.1.1.1.1.1.1.1.1.1.1.0
+each_topic p h own Topic.ErrorState = not_so (p Topic.ErrorState) h.1.1.1.1.1.1.1.1.1.1.1.1.1.1.1.1.1.1.1.1.1.1.1.1.1.1.1.1.1.1.1.1.1.1.1.0
+each_topic p h own Topic.QueueFull = not_so (p Topic.QueueFull) h.1.1.1.1.1.1.1.1.1.1.1.1.1.1.1.1.1.1.1.1.1.1.1.1.1.1.1.1.1.1.1.1.1.1.1.1.0
+each_topic p h own Topic.NotHomed = not_so (p Topic.NotHomed) h.1.1.1.1.1.1.1.1.1.1.1.1.1.1.1.1.1.1.1.1.1.1.1.1.1.1.1.1.1.1.1.1.1.1.1.1.1.0
+each_topic p h own Topic.NoToolInHead = not_so (p Topic.NoToolInHead) h.1.1.1.1.1.1.1.1.1.1.1.1.1.1.1.1.1.1.1.1.1.1.1.1.1.1.1.1.1.1.1.1.1.1.1.1.1.1.0
+each_topic p h own Topic.UnknownTool = not_so (p Topic.UnknownTool) h.1.1.1.1.1.1.1.1.1.1.1.1.1.1.1.1.1.1.1.1.1.1.1.1.1.1.1.1.1.1.1.1.1.1.1.1.1.1.1.0
+each_topic p h own Topic.OutOfVolume = not_so (p Topic.OutOfVolume) h.1.1.1.1.1.1.1.1.1.1.1.1.1.1.1.1.1.1.1.1.1.1.1.1.1.1.1.1.1.1.1.1.1.1.1.1.1.1.1.1.0
+each_topic p h own Topic.NoSurface = not_so (p Topic.NoSurface) h.1.1.1.1.1.1.1.1.1.1.1.1.1.1.1.1.1.1.1.1.1.1.1.1.1.1.1.1.1.1.1.1.1.1.1.1.1.1.1.1.1.0
+each_topic p h own Topic.MachineFault = not_so (p Topic.MachineFault) h.1.1.1.1.1.1.1.1.1.1.1.1.1.1.1.1.1.1.1.1.1.1.1.1.1.1.1.1.1.1.1.1.1.1.1.1.1.1.1.1.1.1.0
+each_topic p h own Topic.ServersOwn = not_so (p Topic.ServersOwn) own
 
 -- by whether a title begins with the code, and whether it is the number of an error
 by_number : (code : List ℕ) (found : Option Topic) (number : Bool) → found ≡ titled code → is_error_number code ≡ number
-    → MatchOption (option_or found (cond number (Some topic.ServersOwn) None)) ((k : Topic) → is_code_of k code ≡ true → ⊥)
+    → MatchOption (option_or found (cond number (Some Topic.ServersOwn) None)) ((k : Topic) → is_code_of k code ≡ true → ⊥)
     (λ k. is_code_of k code ≡ true)
 by_number code (Some k) number f e = found_in (λ t. is_code_of t code) TOPICS (Some k) f
 by_number code None true f e = rw (e, ← f) refl

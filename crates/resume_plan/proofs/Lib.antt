@@ -1,3 +1,4 @@
+pub mod Names
 pub mod PlacesBehind
 pub mod PlansMade
 pub mod SendableLemmas

@@ -1,9 +1,5 @@
 -- Definitions that only proofs use.
-use Rattle.std.specs.Prelude.{◌≡◌, ℕ, List, Option, None}
-use Rattle.fixed_um.specs.declared.frames.Frame.{Frame}
-use Rattle.fixed_um.specs.declared.frames.Frame.TheVariants.{Machine}
-use Rattle.dmis_program.specs.declared.steps.Step.{Step}
-use Rattle.protocol_model.specs.Plan.{behind, up_to, tool_behind, frame_behind}
+use Rattle.resume_plan.proofs.Names.{◌≡◌, behind, Frame, frame_behind, List, Machine, None, Option, Step, tool_behind, up_to, ℕ}
 
 -- that many features are still to be passed in the rest of the steps, where this tool and this frame are selected
 pub record IsBehind (completed : ℕ) (steps : List Step) (left : ℕ) (rest : List Step) (tool : Option (List ℕ)) (frame : Frame) : Type 0

@@ -1,12 +1,6 @@
 -- Definitions that only proofs use.
-use Rattle.std.specs.Prelude.{◌≡◌, ℕ, List, All, drop}
-use Rattle.dmis_program.specs.Meaning.{Meaning as Program}
-use Rattle.dmis_program.specs.Programs.{feature_touches}
-use Rattle.protocol_model.specs.Plan.{plan}
-use Rattle.protocol_model.specs.PlanReading.{touches_of}
-use Rattle.protocol_model.specs.declared.plans.Planned.{Planned}
-use Rattle.protocol_model.specs.declared.plans.Start.{Start}
-use Rattle.resume_plan.specs.Sendable.{IsSendable}
+use Rattle.resume_plan.proofs.Names.{◌≡◌, drop, feature_touches, IsSendable, List, Meaning as Program, plan, Planned, Start, touches_of, ℕ}
+use Rattle.std.specs.Prelude.{All}
 
 -- these commands are the plan, with what is promised of a plan
 pub record IsPlan (program : Program) (completed : ℕ) (start : Start) (commands : List Planned) : Type 0 where

@@ -1,22 +1,12 @@
 -- Every command of a plan can be written.
-use Rattle.std.proofs.Common.{◌≡◌, ℕ, zero, suc, Bool, true, false, cond, Option, Some, None, List, [], ◌∷◌, ◌++◌, refl, arith, ℤ, pos}
-use Rattle.std.proofs.Common.{negsuc, neg_ℤ}
-use Rattle.std.specs.Prelude.{unsigned_abs}
+use Rattle.resume_plan.proofs.Names.{[], ◌++◌, ◌∷◌, ◌≡◌, arith, behind, block_touches, Bool, clearing, cond, false, Frame, frame_behind, framing}
+use Rattle.resume_plan.proofs.Names.{is_empty, IsFrame, IsProgram, IsSendable, IsStep, List, Machine, Meaning as Program, measuring, neg_ℤ, negsuc}
+use Rattle.resume_plan.proofs.Names.{None, Option, Part, plan, Planned, pos, refl, Some, Start, starting, Step, stepping, suc, tooling, true}
+use Rattle.resume_plan.proofs.Names.{unsigned_abs, up_to, zero, ℕ, ℤ}
 use Rattle.std.specs.List.{All, AllByRecursion}
 use Rattle.fixed_um.specs.Points.{IsInVolume, point_opposite}
 use Rattle.fixed_um.specs.declared.lengths.Point.{Point}
-use Rattle.fixed_um.specs.declared.frames.Frame.{Frame}
-use Rattle.fixed_um.specs.declared.frames.Frame.TheVariants.{Machine, Part}
-use Rattle.dmis_program.specs.Meaning.{Meaning as Program, block_touches}
-use Rattle.dmis_program.specs.Programs.{IsFrame, IsStep, IsProgram}
-use Rattle.dmis_program.specs.declared.steps.Step.{Step}
-use Rattle.dmis_program.specs.declared.steps.Step.TheVariants as step
-use Rattle.protocol_model.specs.declared.plans.Planned.{Planned}
-use Rattle.protocol_model.specs.declared.plans.Start.{Start}
 use Rattle.protocol_model.specs.declared.plans.Start.TheVariants.{NewConnection, SameConnection}
-use Rattle.protocol_model.specs.Plan.{is_empty, frame_behind, behind, up_to, framing, tooling, stepping, measuring, clearing, starting}
-use Rattle.protocol_model.specs.Plan.{plan}
-use Rattle.resume_plan.specs.Sendable.{IsSendable}
 
 -- turning signs stays in the volume
 abs-opposite : (z : ℤ) → unsigned_abs (neg_ℤ z) ≡ unsigned_abs z
@@ -48,37 +38,37 @@ either P false xs ys h g = g
 are_up_to : (k : ℕ) (ss : List Step) → AllByRecursion IsStep ss → AllByRecursion IsStep (up_to k ss)
 are_up_to zero ss h = tt
 are_up_to (suc k) [] h = tt
-are_up_to (suc k) (step.Goto p ∷ ss) h = (h.0, are_up_to (suc k) ss h.1)
-are_up_to (suc k) (step.Begin l ∷ ss) h = (h.0, are_up_to (suc k) ss h.1)
-are_up_to (suc k) (step.Touch t ∷ ss) h = (
+are_up_to (suc k) (Step.Goto p ∷ ss) h = (h.0, are_up_to (suc k) ss h.1)
+are_up_to (suc k) (Step.Begin l ∷ ss) h = (h.0, are_up_to (suc k) ss h.1)
+are_up_to (suc k) (Step.Touch t ∷ ss) h = (
   h.0,
   either IsStep (is_empty (block_touches ss)) (up_to k ss) (up_to (suc k) ss)
       (are_up_to k ss h.1) (are_up_to (suc k) ss h.1),
 )
-are_up_to (suc k) (step.Tool n ∷ ss) h = (h.0, are_up_to (suc k) ss h.1)
-are_up_to (suc k) (step.Recall p ∷ ss) h = (h.0, are_up_to (suc k) ss h.1)
-are_up_to (suc k) (step.End ∷ ss) h = (h.0, are_up_to (suc k) ss h.1)
+are_up_to (suc k) (Step.Tool n ∷ ss) h = (h.0, are_up_to (suc k) ss h.1)
+are_up_to (suc k) (Step.Recall p ∷ ss) h = (h.0, are_up_to (suc k) ss h.1)
+are_up_to (suc k) (Step.End ∷ ss) h = (h.0, are_up_to (suc k) ss h.1)
 
 are_behind : (k : ℕ) (ss : List Step) → AllByRecursion IsStep ss → AllByRecursion IsStep (behind k ss)
 are_behind zero ss h = h
 are_behind (suc k) [] h = tt
-are_behind (suc k) (step.Goto p ∷ ss) h = are_behind (suc k) ss h.1
-are_behind (suc k) (step.Begin l ∷ ss) h = are_behind (suc k) ss h.1
-are_behind (suc k) (step.Touch t ∷ ss) h = either IsStep (is_empty (block_touches ss)) (behind k ss) (behind (suc k) ss)
+are_behind (suc k) (Step.Goto p ∷ ss) h = are_behind (suc k) ss h.1
+are_behind (suc k) (Step.Begin l ∷ ss) h = are_behind (suc k) ss h.1
+are_behind (suc k) (Step.Touch t ∷ ss) h = either IsStep (is_empty (block_touches ss)) (behind k ss) (behind (suc k) ss)
     (are_behind k ss h.1) (are_behind (suc k) ss h.1)
-are_behind (suc k) (step.Tool n ∷ ss) h = are_behind (suc k) ss h.1
-are_behind (suc k) (step.Recall p ∷ ss) h = are_behind (suc k) ss h.1
-are_behind (suc k) (step.End ∷ ss) h = are_behind (suc k) ss h.1
+are_behind (suc k) (Step.Tool n ∷ ss) h = are_behind (suc k) ss h.1
+are_behind (suc k) (Step.Recall p ∷ ss) h = are_behind (suc k) ss h.1
+are_behind (suc k) (Step.End ∷ ss) h = are_behind (suc k) ss h.1
 
 -- the frame that is selected there is one
 frame_there : (f : Frame) (ss : List Step) → IsFrame f → AllByRecursion IsStep ss → IsFrame (frame_behind f ss)
 frame_there f [] is h = is
-frame_there f (step.Goto p ∷ ss) is h = frame_there f ss is h.1
-frame_there f (step.Begin l ∷ ss) is h = frame_there f ss is h.1
-frame_there f (step.Touch t ∷ ss) is h = frame_there f ss is h.1
-frame_there f (step.Tool n ∷ ss) is h = frame_there f ss is h.1
-frame_there f (step.Recall p ∷ ss) is h = frame_there (Part p) ss h.0 h.1
-frame_there f (step.End ∷ ss) is h = frame_there f ss is h.1
+frame_there f (Step.Goto p ∷ ss) is h = frame_there f ss is h.1
+frame_there f (Step.Begin l ∷ ss) is h = frame_there f ss is h.1
+frame_there f (Step.Touch t ∷ ss) is h = frame_there f ss is h.1
+frame_there f (Step.Tool n ∷ ss) is h = frame_there f ss is h.1
+frame_there f (Step.Recall p ∷ ss) is h = frame_there (Part p) ss h.0 h.1
+frame_there f (Step.End ∷ ss) is h = frame_there f ss is h.1
 
 -- the commands of each part of a plan
 sendable_framing : (f : Frame) → IsFrame f → AllByRecursion IsSendable (framing f)
@@ -91,13 +81,13 @@ sendable_tooling (Some n) = (record { standard = refl; lengths = tt }, tt)
 
 sendable_stepping : (f : Frame) (ss : List Step) → AllByRecursion IsStep ss → AllByRecursion IsSendable (stepping f ss)
 sendable_stepping f [] h = tt
-sendable_stepping f (step.Goto p ∷ ss) h = (record { standard = refl; lengths = tt }, sendable_stepping f ss h.1)
-sendable_stepping f (step.Begin l ∷ ss) h = sendable_stepping f ss h.1
-sendable_stepping f (step.Touch t ∷ ss) h = (record { standard = refl; lengths = tt }, sendable_stepping f ss h.1)
-sendable_stepping f (step.Tool n ∷ ss) h = (record { standard = refl; lengths = tt }, sendable_stepping f ss h.1)
-sendable_stepping f (step.Recall p ∷ ss) h = both IsSendable (framing (Part p)) (stepping (Part p) ss) (sendable_framing (Part p) h.0)
+sendable_stepping f (Step.Goto p ∷ ss) h = (record { standard = refl; lengths = tt }, sendable_stepping f ss h.1)
+sendable_stepping f (Step.Begin l ∷ ss) h = sendable_stepping f ss h.1
+sendable_stepping f (Step.Touch t ∷ ss) h = (record { standard = refl; lengths = tt }, sendable_stepping f ss h.1)
+sendable_stepping f (Step.Tool n ∷ ss) h = (record { standard = refl; lengths = tt }, sendable_stepping f ss h.1)
+sendable_stepping f (Step.Recall p ∷ ss) h = both IsSendable (framing (Part p)) (stepping (Part p) ss) (sendable_framing (Part p) h.0)
     (sendable_stepping (Part p) ss h.1)
-sendable_stepping f (step.End ∷ ss) h = sendable_stepping f ss h.1
+sendable_stepping f (Step.End ∷ ss) h = sendable_stepping f ss h.1
 
 sendable_measuring : (tool : Option (List ℕ)) (f : Frame) (ss : List Step) → IsFrame f → AllByRecursion IsStep ss
     → AllByRecursion IsSendable (measuring tool f ss)

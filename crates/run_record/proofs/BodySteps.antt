@@ -1,46 +1,34 @@
 -- What a reader keeps of the entries, one more at a time.
-use Rattle.std.proofs.Common.{◌≡◌, ℕ, ◌+◌, ◌-◌, ◌<◌, ◌≤◌, List, [], ◌∷◌, ◌++◌, length, drop, refl, ap, sym, subst, ◌∙◌, arith}
-use Rattle.std.proofs.Common.{suc, length-append, Option, Some, None, Result, Ok, Err, IfOk}
-use Rattle.std.proofs.lemmas.List.{drop-append-le, drop-drop, drop_all}
+use Rattle.run_record.proofs.Names.{[], ◌++◌, ◌+◌, ◌-◌, ◌<◌, ◌∙◌, ◌∷◌, ◌≡◌, ◌≤◌, Act, ap, arith, CanComplete, Completes, cond, contact_count}
+use Rattle.run_record.proofs.Names.{contacts, drop, drop-append-le, drop-drop, drop_all, Err, errors_during, Feature, Finds, Frame, IfOk, is_contact}
+use Rattle.run_record.proofs.Names.{IsLastRun, Kept, last_frame, length, length-append, List, MadeContact, None, Ok, Option, Point, refl, Result}
+use Rattle.run_record.proofs.Names.{Serves, Some, subst, suc, sym, Touch, Wanted, ℕ}
 use Rattle.std.proofs.lemmas.List.Recursion.{is_count_by}
-use Rattle.std.specs.Prelude.{cond}
-use Rattle.fixed_um.specs.Calls.{Finds}
-use Rattle.fixed_um.specs.declared.lengths.Point.{Point}
-use Rattle.fixed_um.specs.declared.frames.Frame.{Frame}
-use Rattle.contact_ledger.specs.Ledgers.{is_contact, contact_count}
-use Rattle.contact_ledger.specs.declared.acts.Act.{Act}
-use Rattle.contact_ledger.specs.declared.acts.Act.TheVariants as act
-use Rattle.contact_ledger.specs.declared.features.Feature.{Feature}
-use Rattle.dmis_program.specs.declared.features.Touch.{Touch}
-use Rattle.dmis_program.specs.declared.features.Wanted.{Wanted}
-use Rattle.protocol_model.specs.Claims.{MadeContact, contacts, Serves}
 use Rattle.protocol_model.specs.Client.{origin_of}
-use Rattle.run_record.specs.Records.{Kept, IsLastRun, last_frame, Completes, errors_during}
 use Rattle.run_record.specs.declared.run_errors.Reported.{Reported}
 use Rattle.run_record.specs.declared.run_errors.RunError.{RunError}
-use Rattle.run_record.specs.Serving.{CanComplete}
 
 -- ---- contacts
 
 contacts_append : (l m : List (ℕ × Act)) → contacts (l ++ m) ≡ contacts l ++ contacts m
 contacts_append [] m = refl
-contacts_append ((n, act.HomedIs homed) ∷ l) m = contacts_append l m
-contacts_append ((n, act.Homed) ∷ l) m = contacts_append l m
-contacts_append ((n, act.Moved target frame) ∷ l) m = contacts_append l m
-contacts_append ((n, act.Changed tool) ∷ l) m = contacts_append l m
-contacts_append ((n, act.Framed frame) ∷ l) m = contacts_append l m
-contacts_append ((n, act.Contact t d o f p) ∷ l) m =
+contacts_append ((n, Act.HomedIs homed) ∷ l) m = contacts_append l m
+contacts_append ((n, Act.Homed) ∷ l) m = contacts_append l m
+contacts_append ((n, Act.Moved target frame) ∷ l) m = contacts_append l m
+contacts_append ((n, Act.Changed tool) ∷ l) m = contacts_append l m
+contacts_append ((n, Act.Framed frame) ∷ l) m = contacts_append l m
+contacts_append ((n, Act.Contact t d o f p) ∷ l) m =
     let made : MadeContact = record { connection = n; target = t; dir = d; tool = o; frame = f; point = p } in
     ap (λ (ms : List MadeContact). made ∷ ms) (contacts_append l m)
 
 counted_more : (entry : ℕ × Act) (acts : List (ℕ × Act)) → length (contacts (entry ∷ acts))
     ≡ cond (is_contact entry.1) (1 + length (contacts acts)) (length (contacts acts))
-counted_more (m, act.Contact t d o f p) acts = omega arith
-counted_more (m, act.HomedIs h) acts = refl
-counted_more (m, act.Homed) acts = refl
-counted_more (m, act.Moved t f) acts = refl
-counted_more (m, act.Changed o) acts = refl
-counted_more (m, act.Framed f) acts = refl
+counted_more (m, Act.Contact t d o f p) acts = omega arith
+counted_more (m, Act.HomedIs h) acts = refl
+counted_more (m, Act.Homed) acts = refl
+counted_more (m, Act.Moved t f) acts = refl
+counted_more (m, Act.Changed o) acts = refl
+counted_more (m, Act.Framed f) acts = refl
 
 -- the count of a ledger is the length of its contacts
 pub contacts_counted : (acts : List (ℕ × Act)) → length (contacts acts) ≡ contact_count acts

@@ -1,18 +1,14 @@
 -- The contacts of acts, one act after another.
-use Rattle.std.proofs.Common.{◌≡◌, ℕ, zero, suc, ◌-◌, ◌≤◌, true, false, List, [], ◌∷◌, length, drop, refl, ap, sym, ◌∙◌, arith}
-use Rattle.std.proofs.lemmas.List.{drop_all}
-use Rattle.contact_ledger.specs.Ledgers.{is_contact}
-use Rattle.contact_ledger.specs.declared.acts.Act.{Act}
-use Rattle.contact_ledger.specs.declared.acts.Act.TheVariants as act
-use Rattle.protocol_model.specs.Claims.{MadeContact, contacts}
+use Rattle.run_record.proofs.Names.{[], ◌-◌, ◌∙◌, ◌∷◌, ◌≡◌, ◌≤◌, Act, ap, arith, contacts, drop, drop_all, false, is_contact, length, List}
+use Rattle.run_record.proofs.Names.{MadeContact, refl, suc, sym, true, zero, ℕ}
 
 pub contacts_other : (n : ℕ) (a : Act) (acts : List (ℕ × Act)) → is_contact a ≡ false → contacts ((n, a) ∷ acts) ≡ contacts acts
-contacts_other n (act.HomedIs homed) acts e = refl
-contacts_other n act.Homed acts e = refl
-contacts_other n (act.Moved target frame) acts e = refl
-contacts_other n (act.Changed tool) acts e = refl
-contacts_other n (act.Framed frame) acts e = refl
-contacts_other n (act.Contact target dir tool frame point) acts e = absurd cc
+contacts_other n (Act.HomedIs homed) acts e = refl
+contacts_other n Act.Homed acts e = refl
+contacts_other n (Act.Moved target frame) acts e = refl
+contacts_other n (Act.Changed tool) acts e = refl
+contacts_other n (Act.Framed frame) acts e = refl
+contacts_other n (Act.Contact target dir tool frame point) acts e = absurd cc
 
 pub drop_other : (left n : ℕ) (a : Act) (acts : List (ℕ × Act)) → is_contact a ≡ false
     → drop left (contacts ((n, a) ∷ acts)) ≡ drop left (contacts acts)
@@ -20,12 +16,12 @@ drop_other left n a acts e = ap (λ (ms : List MadeContact). drop left ms) (cont
 
 drop_suc : (k n : ℕ) (a : Act) (acts : List (ℕ × Act)) → is_contact a ≡ true
     → drop (suc k) (contacts ((n, a) ∷ acts)) ≡ drop k (contacts acts)
-drop_suc k n (act.HomedIs homed) acts e = absurd cc
-drop_suc k n act.Homed acts e = absurd cc
-drop_suc k n (act.Moved target frame) acts e = absurd cc
-drop_suc k n (act.Changed tool) acts e = absurd cc
-drop_suc k n (act.Framed frame) acts e = absurd cc
-drop_suc k n (act.Contact target dir tool frame point) acts e = refl
+drop_suc k n (Act.HomedIs homed) acts e = absurd cc
+drop_suc k n Act.Homed acts e = absurd cc
+drop_suc k n (Act.Moved target frame) acts e = absurd cc
+drop_suc k n (Act.Changed tool) acts e = absurd cc
+drop_suc k n (Act.Framed frame) acts e = absurd cc
+drop_suc k n (Act.Contact target dir tool frame point) acts e = refl
 
 less_one : (left k : ℕ) → left ≡ suc k → left - 1 ≡ k
 less_one left k e = omega (arith, e)

@@ -1,26 +1,16 @@
 -- The text of a record, cut anywhere.
-use Rattle.std.proofs.Common.{◌≡◌, ℕ, zero, suc, ◌+◌, ◌<◌, ◌≤◌, true, nat_le, List, [], ◌∷◌, ◌++◌, length, take, drop, map, refl, ap, sym}
-use Rattle.std.proofs.Common.{subst, ◌∙◌, arith, codes, Option, Some, None, inl, inr, append-nil}
-use Rattle.std.specs.List.{list_all, AllByRecursion}
-use Rattle.std.specs.Prelude.{◌⊎◌, decimal}
-use Rattle.std.proofs.lemmas.Bool.{and_parts, and_from, leb-true, le-leb}
-use Rattle.std.proofs.lemmas.List.{take-append-drop, take-append-le}
-use Rattle.std.proofs.Math.Seq.{take-append-add}
-use Rattle.contact_ledger.specs.Lines.{text_of, whole_lines, line_of}
-use Rattle.contact_ledger.specs.ContactTexts.{act_fields}
-use Rattle.contact_ledger.proofs.PlainFields.{is_plain, ArePlain, decimal_plain, name_plain}
-use Rattle.contact_ledger.proofs.EntryLines.{entry_plain}
-use Rattle.contact_ledger.proofs.TextLines.{IsText, AreTexts, cut_text, lines_back}
-use Rattle.dmis_program.specs.declared.features.Touch.{Touch}
-use Rattle.dmis_program.specs.declared.features.Wanted.{Wanted}
-use Rattle.run_record.specs.Heads.{is_printed, IsPartGiven, IsAskedTouch, AreAsked, header, part_lines, touch_line}
-use Rattle.run_record.specs.Heads.{touch_fields, wanted_lines, asked_lines, head_lines}
-use Rattle.run_record.specs.Entries.{IsWrittenEntry, entry_line}
-use Rattle.run_record.specs.Records.{Kept, nothing_kept, Follow, record_lines, recorded}
-use Rattle.run_record.specs.Reading.{IsRecord, AreTornHead, BeginsHeader}
-use Rattle.run_record.specs.Cuts.{ReadsCut, unbegun, begun}
-use Rattle.run_record.specs.declared.entries.Entry.{Entry}
-use Rattle.run_record.specs.declared.entries.Entry.TheVariants.{Told, Refused, Completed}
+use Rattle.run_record.proofs.Names.{[], ◌++◌, ◌+◌, ◌<◌, ◌∙◌, ◌∷◌, ◌≡◌, ◌≤◌, ◌⊎◌, act_fields, AllByRecursion, ap, append-nil, AreAsked, ArePlain}
+use Rattle.run_record.proofs.Names.{AreTornHead, arith, asked_lines, BeginsHeader, codes, Completed, decimal, decimal_plain, drop, Entry, entry_line}
+use Rattle.run_record.proofs.Names.{entry_plain, Follow, head_lines, header, inl, inr, is_plain, is_printed, IsAskedTouch, IsPartGiven, IsRecord}
+use Rattle.run_record.proofs.Names.{IsWrittenEntry, Kept, le-leb, leb-true, length, line_of, List, list_all, map, name_plain, nat_le, None}
+use Rattle.run_record.proofs.Names.{nothing_kept, Option, part_lines, record_lines, recorded, refl, Refused, Some, subst, suc, sym, take}
+use Rattle.run_record.proofs.Names.{take-append-add, take-append-drop, text_of, Told, Touch, touch_fields, touch_line, true, Wanted, wanted_lines}
+use Rattle.run_record.proofs.Names.{zero, ℕ}
+use Rattle.std.proofs.lemmas.Bool.{and_from, and_parts}
+use Rattle.std.proofs.lemmas.List.{take-append-le}
+use Rattle.contact_ledger.specs.Lines.{whole_lines}
+use Rattle.contact_ledger.proofs.TextLines.{AreTexts, cut_text, IsText, lines_back}
+use Rattle.run_record.specs.Cuts.{begun, ReadsCut, unbegun}
 use Rattle.run_record.proofs.RecordFields.{touch_plain, feature_plain}
 use Rattle.run_record.proofs.StageOnes.{written_follows}
 

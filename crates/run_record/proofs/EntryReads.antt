@@ -1,20 +1,9 @@
 -- The entries that follow a head, one line more at a time.
-use Rattle.std.proofs.Common.{◌≡◌, ℕ, ◌+◌, ◌-◌, List, [], ◌∷◌, ◌++◌, take, drop, refl, ap, sym, subst, ◌∙◌, arith}
-use Rattle.std.proofs.Common.{Option, inl, Result, Ok, Err}
-use Rattle.std.proofs.lemmas.List.{take-append-drop, drop-drop}
-use Rattle.std.proofs.Math.Seq.{take-add}
-use Rattle.std.specs.Result.{IsErr, IsErrAnd}
-use Rattle.contact_ledger.specs.Lines.{whole_lines}
-use Rattle.contact_ledger.proofs.FeatureReads.{take_one_more}
-use Rattle.dmis_program.specs.declared.features.Wanted.{Wanted}
-use Rattle.run_record.specs.Entries.{IsWrittenEntry, entry_line}
-use Rattle.run_record.specs.Records.{Kept, nothing_kept, Follows, Recorded, recorded}
-use Rattle.run_record.specs.Reading.{IsRecord, IsDamagedRecord, ReadsRecord}
-use Rattle.run_record.specs.Stages.{Stage, start, body, Leads, FollowsLine, AddsEntry, StopsAfter, HasHead, LeadsNowhere}
-use Rattle.run_record.specs.Unfinished.{Asking}
-use Rattle.run_record.specs.declared.entries.Entry.{Entry}
-use Rattle.run_record.specs.declared.faults.RecordFault.{RecordFault}
-use Rattle.run_record.specs.declared.faults.RecordFault.TheVariants.{Damaged, Memory}
+use Rattle.run_record.proofs.Names.{[], ◌++◌, ◌+◌, ◌-◌, ◌∙◌, ◌∷◌, ◌≡◌, AddsEntry, ap, arith, Asking, body, Damaged, drop, drop-drop, Entry}
+use Rattle.run_record.proofs.Names.{entry_line, Err, Follows, FollowsLine, HasHead, inl, IsDamagedRecord, IsErr, IsErrAnd, IsRecord, IsWrittenEntry}
+use Rattle.run_record.proofs.Names.{Kept, Leads, LeadsNowhere, List, Memory, nothing_kept, Ok, Option, ReadsRecord, Recorded, recorded, RecordFault}
+use Rattle.run_record.proofs.Names.{refl, Result, Stage, start, StopsAfter, subst, sym, take, take-add, take-append-drop, take_one_more, Wanted}
+use Rattle.run_record.proofs.Names.{whole_lines, ℕ}
 use Rattle.run_record.proofs.StageOnes.{one_line, written_follows}
 use Rattle.run_record.proofs.StageReads.{record_read, damaged}
 use Rattle.run_record.proofs.StageRuns.{leads_more, take_whole}

@@ -1,12 +1,7 @@
 -- The pieces of the lines of a head, and what a loop over features has written.
-use Rattle.std.proofs.Common.{◌≡◌, ℕ, zero, suc, ◌+◌, ◌<◌, List, [], ◌∷◌, ◌++◌, length, drop, get_or, refl, ap, sym, ◌∙◌, arith}
-use Rattle.std.proofs.Common.{codes, append_assoc, Result, Ok, Err, OnOk, OnErr}
-use Rattle.std.specs.Prelude.{if◌then◌else◌}
-use Rattle.std.specs.Result.{is_ok}
-use Rattle.contact_ledger.specs.Lines.{text_of, line_of, spaced}
-use Rattle.contact_ledger.proofs.WrittenTexts.{spaced_more, text_more, entry_written}
-use Rattle.dmis_program.specs.declared.features.Wanted.{Wanted}
-use Rattle.run_record.specs.Heads.{header, wanted_lines, asked_lines}
+use Rattle.run_record.proofs.Names.{[], ◌++◌, ◌+◌, ◌<◌, ◌∙◌, ◌∷◌, ◌≡◌, ap, append_assoc, arith, asked_lines, codes, drop, entry_written, Err, get_or}
+use Rattle.run_record.proofs.Names.{header, if◌then◌else◌, is_ok, length, line_of, List, Ok, OnErr, OnOk, refl, Result, spaced, spaced_more, suc, sym}
+use Rattle.run_record.proofs.Names.{text_more, text_of, Wanted, wanted_lines, zero, ℕ}
 
 -- the line of a feature: its word, its label, its count, its end
 pub feature_line_written : (old a b c new label number : List ℕ) → a ≡ old ++ codes "FEATURE" → b ≡ a ++ spaced (label ∷ [])

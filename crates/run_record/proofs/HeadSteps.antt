@@ -1,14 +1,7 @@
 -- Lines that cannot follow in a head.
-use Rattle.std.proofs.Common.{◌≡◌, ℕ, List, [], Option, None, Result, Ok, Err, ap, sym, codes, inl, inr}
-use Rattle.fixed_um.specs.Names.{IsName}
-use Rattle.contact_ledger.specs.FeatureTexts.{IsPointCount}
-use Rattle.dmis_program.specs.declared.features.Touch.{Touch}
-use Rattle.dmis_program.specs.declared.features.Wanted.{Wanted}
-use Rattle.run_record.specs.Heads.{IsPart, IsAskedTouch, part_line, feature_line, touch_line}
-use Rattle.run_record.specs.Stages.{Stage, head, within, Next}
-use Rattle.run_record.specs.Unfinished.{Unfinished}
-use Rattle.run_record.specs.declared.faults.RecordFault.{RecordFault}
-use Rattle.run_record.specs.declared.faults.RecordFault.TheVariants.{Damaged}
+use Rattle.run_record.proofs.Names.{[], ◌≡◌, ap, codes, Damaged, Err, feature_line, head, inl, inr, IsAskedTouch, IsName, IsPart, IsPointCount, List}
+use Rattle.run_record.proofs.Names.{Next, None, Ok, Option, part_line, RecordFault, Result, Stage, sym, Touch, touch_line, Unfinished, Wanted, within}
+use Rattle.run_record.proofs.Names.{ℕ}
 
 abbrev line_of_fault : RecordFault → ℕ → ℕ
 line_of_fault (Damaged n) other = n

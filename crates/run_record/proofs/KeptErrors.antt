@@ -1,10 +1,7 @@
 -- What is kept of an error are its first bytes, whole, and as many as fit.
-use Rattle.std.proofs.Common.{◌≡◌, inl, inr, ℕ, suc, ◌+◌, ◌-◌, ◌<◌, ◌≤◌, Bool, true, false, cond, List, [], ◌∷◌, ◌++◌, length, take}
-use Rattle.std.proofs.Common.{refl, ap, arith, nat_le, length-append}
-use Rattle.std.proofs.lemmas.Bool.Decides.{nat_tests}
-use Rattle.std.specs.List.{flat_map}
+use Rattle.run_record.proofs.Names.{[], ◌++◌, ◌+◌, ◌-◌, ◌<◌, ◌∷◌, ◌≡◌, ◌≤◌, ap, arith, Bool, cond, false, fitting, flat_map, inl, inr, IsFitting}
+use Rattle.run_record.proofs.Names.{length, length-append, List, nat_le, nat_tests, refl, suc, take, true, ℕ}
 use Rattle.session_telling.specs.Visible.{visible}
-use Rattle.run_record.specs.Entries.{fitting, IsFitting}
 
 has_room : (n m : ℕ) → nat_le n m ≡ true → n ≤ m
 has_room n m h = grind (arith, nat_tests)

@@ -1,3 +1,4 @@
+pub mod Names
 pub mod BodySteps
 pub mod ContactRuns
 pub mod CutTexts

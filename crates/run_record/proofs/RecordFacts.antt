@@ -1,23 +1,12 @@
 -- What holds of each record: its claim is sound, and its connections ascend.
-use Rattle.std.proofs.Common.{◌≡◌, ℕ, zero, suc, ◌+◌, ◌-◌, ◌≤◌, List, [], ◌∷◌, ◌++◌, length, take, drop, refl, ap, sym, subst, ◌∙◌, arith}
-use Rattle.std.proofs.Common.{length-append, Some}
-use Rattle.std.specs.Prelude.{slice_get}
-use Rattle.std.specs.List.{AllByRecursion}
-use Rattle.std.proofs.lemmas.List.{take-append-drop, take_all}
+use Rattle.run_record.proofs.Names.{[], ◌++◌, ◌+◌, ◌-◌, ◌∙◌, ◌∷◌, ◌≡◌, ◌≤◌, Act, AllByRecursion, ap, AreAsked, AreRecordLines, arith, CanBeWritten}
+use Rattle.run_record.proofs.Names.{Completed, completed_feature, Completes, connection_most, contacts, drop, Entry, Feature, Follow, Follows}
+use Rattle.run_record.proofs.Names.{IsAsked, IsPointCount, IsRecorded, IsWrittenEntry, Kept, length, length-append, List, MadeContact, nothing_kept}
+use Rattle.run_record.proofs.Names.{Recorded, recorded, refl, Refused, Serves, slice_get, Some, subst, suc, sym, take, take-append-drop, take_all}
+use Rattle.run_record.proofs.Names.{Told, Wanted, with_completed, with_refused, with_told, zero, ℕ}
 use Rattle.std.proofs.Math.Seq.{take-append-le}
-use Rattle.contact_ledger.specs.Ledgers.{connection_most}
-use Rattle.contact_ledger.specs.FeatureTexts.{IsPointCount, CanBeWritten}
-use Rattle.contact_ledger.specs.declared.acts.Act.{Act}
-use Rattle.contact_ledger.specs.declared.features.Feature.{Feature}
-use Rattle.dmis_program.specs.declared.features.Wanted.{Wanted}
-use Rattle.protocol_model.specs.Claims.{MadeContact, contacts, Serves}
 use Rattle.protocol_model.specs.Undisturbed.{AreUpTo}
-use Rattle.protocol_model.proofs.invariant.Served.{Served, served_more, served_push, served_sound, contacts_more, up_to_more, up_to_above}
-use Rattle.run_record.specs.Heads.{IsAsked, AreAsked}
-use Rattle.run_record.specs.Entries.{IsWrittenEntry}
-use Rattle.run_record.specs.Records.{Kept, nothing_kept, with_told, with_refused, with_completed, Follows, Follow, Completes, completed_feature, IsRecorded, Recorded, AreRecordLines, recorded}
-use Rattle.run_record.specs.declared.entries.Entry.{Entry}
-use Rattle.run_record.specs.declared.entries.Entry.TheVariants.{Told, Refused, Completed}
+use Rattle.protocol_model.proofs.invariant.Served.{contacts_more, Served, served_more, served_push, served_sound, up_to_above, up_to_more}
 use Rattle.run_record.proofs.BodySteps.{serves_length}
 use Rattle.run_record.proofs.StageLines.{all_more}
 

@@ -1,30 +1,13 @@
 -- The fields of the lines of a record.
-use Rattle.std.proofs.Common.{◌≡◌, ℕ, ◌≤◌, List, [], ◌∷◌, ◌++◌, refl, ap, sym, ◌∙◌, arith, codes, append-nil, Option, Some, None}
-use Rattle.std.proofs.Common.{Result, Ok, Err, IfOk}
+use Rattle.run_record.proofs.Names.{[], ◌++◌, ◌==◌, ◌∙◌, ◌∷◌, ◌≡◌, ◌≤◌, Act, act_line, ap, append-nil, ArePlain, arith, codes, Completed}
+use Rattle.run_record.proofs.Names.{completed_line, Decides-eqb, decimal, decimal_plain, direction_fields, direction_plain, direction_tail, Entry}
+use Rattle.run_record.proofs.Names.{entry_line, Err, feature_line, fields_behind, Finds, Frame, frame_fields, frame_plain, frame_tail, IfOk}
+use Rattle.run_record.proofs.Names.{IsAskedTouch, IsConnection, IsEntry, IsFrame, IsName, IsPointCount, IsRefusal, IsWrittenEntry, line_fields, List}
+use Rattle.run_record.proofs.Names.{made_of, name_plain, None, Ok, Option, part_behind, plain_fields_append, Point, point_fields, point_plain, refl}
+use Rattle.run_record.proofs.Names.{Refused, refused_line, Result, Some, sym, Told, Touch, touch_fields, touch_line, ℕ}
 use Rattle.std.specs.Bool.{Decides}
-use Rattle.std.specs.Prelude.{◌==◌}
-use Rattle.std.proofs.lemmas.Bool.Decides.{Decides-eqb}
-use Rattle.fixed_um.specs.Calls.{Finds}
-use Rattle.contact_ledger.specs.ContactTexts.{IsEntry, act_line}
-use Rattle.contact_ledger.specs.declared.acts.Act.{Act}
-use Rattle.run_record.specs.Entries.{IsWrittenEntry, entry_line}
-use Rattle.run_record.specs.declared.entries.Entry.{Entry}
-use Rattle.run_record.specs.declared.entries.Entry.TheVariants.{Told, Refused, Completed}
-use Rattle.std.specs.Prelude.{decimal}
-use Rattle.fixed_um.specs.Names.{IsName}
 use Rattle.fixed_um.specs.Shapes.{Direction}
-use Rattle.fixed_um.specs.declared.lengths.Point.{Point}
-use Rattle.fixed_um.specs.declared.frames.Frame.{Frame}
-use Rattle.contact_ledger.specs.Ledgers.{IsConnection}
-use Rattle.contact_ledger.specs.Lines.{fields_of, fields_behind}
-use Rattle.contact_ledger.specs.Fields.{IsFrame, point_fields, frame_fields, direction_fields}
-use Rattle.contact_ledger.specs.FeatureTexts.{IsPointCount}
-use Rattle.contact_ledger.proofs.EntryLines.{frame_tail, direction_tail}
-use Rattle.contact_ledger.proofs.PlainFields.{ArePlain, plain_fields_append, decimal_plain, name_plain, point_plain, frame_plain, direction_plain}
-use Rattle.contact_ledger.proofs.LineFields.{line_fields, made_of, part_behind}
-use Rattle.dmis_program.specs.declared.features.Touch.{Touch}
-use Rattle.run_record.specs.Heads.{IsAskedTouch, touch_fields, touch_line, feature_line}
-use Rattle.run_record.specs.Entries.{IsRefusal, refused_line, completed_line}
+use Rattle.contact_ledger.specs.Lines.{fields_of}
 
 -- ---- a touch
 

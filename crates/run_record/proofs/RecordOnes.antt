@@ -1,13 +1,7 @@
 -- A text is read in one way.
-use Rattle.std.proofs.Common.{◌≡◌, ℕ, ◌<◌, List, [], ◌∷◌, ◌++◌, length, take, drop, refl, ap, sym, subst, ◌∙◌, arith}
-use Rattle.std.proofs.Common.{codes, Option, inl, inr, append_assoc}
-use Rattle.std.proofs.lemmas.List.{take-append-drop}
-use Rattle.contact_ledger.specs.Lines.{whole_lines}
-use Rattle.dmis_program.specs.declared.features.Wanted.{Wanted}
-use Rattle.run_record.specs.Heads.{header, part_lines, asked_lines}
-use Rattle.run_record.specs.Records.{Kept, Recorded, recorded, AreRecordLines, Begins}
-use Rattle.run_record.specs.Reading.{IsRecord, IsUnbegun, IsDamagedRecord}
-use Rattle.run_record.specs.Stages.{Stage, start, head, within, body, Leads}
+use Rattle.run_record.proofs.Names.{[], ◌++◌, ◌<◌, ◌∙◌, ◌∷◌, ◌≡◌, ap, append_assoc, AreRecordLines, arith, asked_lines, Begins, body, codes, drop}
+use Rattle.run_record.proofs.Names.{head, header, inl, inr, IsDamagedRecord, IsRecord, IsUnbegun, Kept, Leads, length, List, Option, part_lines}
+use Rattle.run_record.proofs.Names.{Recorded, recorded, refl, Stage, start, subst, sym, take, take-append-drop, Wanted, whole_lines, within, ℕ}
 use Rattle.run_record.proofs.StageLines.{torn_begins}
 use Rattle.run_record.proofs.StageOnes.{leads_one}
 use Rattle.run_record.proofs.StageReads.{record_leads}

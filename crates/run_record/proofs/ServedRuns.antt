@@ -1,13 +1,6 @@
 -- The contacts that serve touches, one act after another.
-use Rattle.std.proofs.Common.{◌≡◌, ℕ, ◌<◌, true, false, List, [], ◌∷◌, ◌++◌, length, sym, subst, arith}
-use Rattle.std.proofs.Common.{append_assoc, append-nil}
-use Rattle.fixed_um.specs.declared.lengths.Point.{Point}
-use Rattle.contact_ledger.specs.Ledgers.{is_contact}
-use Rattle.contact_ledger.specs.declared.acts.Act.{Act}
-use Rattle.contact_ledger.specs.declared.acts.Act.TheVariants as act
-use Rattle.dmis_program.specs.declared.features.Touch.{Touch}
-use Rattle.protocol_model.specs.Claims.{MadeContact, contacts, Serves}
-use Rattle.run_record.specs.Serving.{IsServedBy}
+use Rattle.run_record.proofs.Names.{[], ◌++◌, ◌<◌, ◌∷◌, ◌≡◌, Act, append-nil, append_assoc, arith, contacts, false, is_contact, IsServedBy, length}
+use Rattle.run_record.proofs.Names.{List, MadeContact, Point, Serves, subst, sym, Touch, true, ℕ}
 use Rattle.run_record.proofs.ContactRuns.{contacts_other}
 
 -- the touches and acts that are left, after these points were found: they serve what is left exactly if all serve all
@@ -37,12 +30,12 @@ serves_tail n t ts (p ∷ ps) m ms h = (ps, h.1)
 -- a contact that serves the next touch
 pub left_more : (n m : ℕ) (touches ts : List Touch) (t : Touch) (acts later : List (ℕ × Act)) (points : List Point) (p : Point) (a : Act)
     → IsLeft n touches acts points (t ∷ ts) ((m, a) ∷ later) → IsServedBy n t p m a → IsLeft n touches acts (points ++ p ∷ []) ts later
-left_more n m touches ts t acts later points p (act.HomedIs homed) h g = absurd g
-left_more n m touches ts t acts later points p act.Homed h g = absurd g
-left_more n m touches ts t acts later points p (act.Moved target frame) h g = absurd g
-left_more n m touches ts t acts later points p (act.Changed tool) h g = absurd g
-left_more n m touches ts t acts later points p (act.Framed frame) h g = absurd g
-left_more n m touches ts t acts later points p (act.Contact target dir tool frame point) h g = record {
+left_more n m touches ts t acts later points p (Act.HomedIs homed) h g = absurd g
+left_more n m touches ts t acts later points p Act.Homed h g = absurd g
+left_more n m touches ts t acts later points p (Act.Moved target frame) h g = absurd g
+left_more n m touches ts t acts later points p (Act.Changed tool) h g = absurd g
+left_more n m touches ts t acts later points p (Act.Framed frame) h g = absurd g
+left_more n m touches ts t acts later points p (Act.Contact target dir tool frame point) h g = record {
   ahead = λ ps k. let r = h.ahead ps k in serves_tail n t ts r.0 _ (contacts later) r.1;
   back = λ rest k. subst (λ (xs : List Point). Serves n touches xs (contacts acts)) (sym (append_assoc points (p ∷ []) rest))
       (h.back (p ∷ rest) (g, k));
@@ -52,13 +45,13 @@ left_more n m touches ts t acts later points p (act.Contact target dir tool fram
 none_serves : (n m : ℕ) (ts : List Touch) (rest : List Point) (a : Act) (later : List (ℕ × Act)) → is_contact a ≡ true → ts ≡ []
     → Serves n ts rest (contacts ((m, a) ∷ later)) → ⊥
 none_serves n m (t ∷ ts) rest a later c e h = absurd cc
-none_serves n m [] rest (act.HomedIs homed) later c e h = absurd cc
-none_serves n m [] rest act.Homed later c e h = absurd cc
-none_serves n m [] rest (act.Moved target frame) later c e h = absurd cc
-none_serves n m [] rest (act.Changed tool) later c e h = absurd cc
-none_serves n m [] rest (act.Framed frame) later c e h = absurd cc
-none_serves n m [] [] (act.Contact target dir tool frame point) later c e h = h
-none_serves n m [] (p ∷ ps) (act.Contact target dir tool frame point) later c e h = h
+none_serves n m [] rest (Act.HomedIs homed) later c e h = absurd cc
+none_serves n m [] rest Act.Homed later c e h = absurd cc
+none_serves n m [] rest (Act.Moved target frame) later c e h = absurd cc
+none_serves n m [] rest (Act.Changed tool) later c e h = absurd cc
+none_serves n m [] rest (Act.Framed frame) later c e h = absurd cc
+none_serves n m [] [] (Act.Contact target dir tool frame point) later c e h = h
+none_serves n m [] (p ∷ ps) (Act.Contact target dir tool frame point) later c e h = h
 
 pub no_touch_left : (n m : ℕ) (touches ts : List Touch) (acts later : List (ℕ × Act)) (points ps : List Point) (a : Act)
     → IsLeft n touches acts points ts ((m, a) ∷ later) → ts ≡ [] → is_contact a ≡ true → Serves n touches ps (contacts acts) → ⊥
@@ -68,13 +61,13 @@ no_touch_left n m touches ts acts later points ps a h e c g =
 
 other_serves : (n m : ℕ) (t : Touch) (ts : List Touch) (rest : List Point) (a : Act) (later : List (ℕ × Act)) → is_contact a ≡ true
     → ((p : Point) → IsServedBy n t p m a → ⊥) → Serves n (t ∷ ts) rest (contacts ((m, a) ∷ later)) → ⊥
-other_serves n m t ts rest (act.HomedIs homed) later c none h = absurd cc
-other_serves n m t ts rest act.Homed later c none h = absurd cc
-other_serves n m t ts rest (act.Moved target frame) later c none h = absurd cc
-other_serves n m t ts rest (act.Changed tool) later c none h = absurd cc
-other_serves n m t ts rest (act.Framed frame) later c none h = absurd cc
-other_serves n m t ts [] (act.Contact target dir tool frame point) later c none h = h
-other_serves n m t ts (p ∷ ps) (act.Contact target dir tool frame point) later c none h = none p h.0
+other_serves n m t ts rest (Act.HomedIs homed) later c none h = absurd cc
+other_serves n m t ts rest Act.Homed later c none h = absurd cc
+other_serves n m t ts rest (Act.Moved target frame) later c none h = absurd cc
+other_serves n m t ts rest (Act.Changed tool) later c none h = absurd cc
+other_serves n m t ts rest (Act.Framed frame) later c none h = absurd cc
+other_serves n m t ts [] (Act.Contact target dir tool frame point) later c none h = h
+other_serves n m t ts (p ∷ ps) (Act.Contact target dir tool frame point) later c none h = none p h.0
 
 pub other_contact : (n m : ℕ) (touches ts : List Touch) (t : Touch) (acts later : List (ℕ × Act)) (points ps : List Point) (a : Act)
     → IsLeft n touches acts points (t ∷ ts) ((m, a) ∷ later) → is_contact a ≡ true → ((p : Point) → IsServedBy n t p m a → ⊥)

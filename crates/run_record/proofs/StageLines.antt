@@ -1,21 +1,11 @@
 -- What the lines that lead to a stage are, and how a record that begins with them can continue.
-use Rattle.std.proofs.Common.{◌≡◌, ℕ, zero, suc, ◌+◌, ◌<◌, List, [], ◌∷◌, ◌++◌, length, map, refl, ap, sym, subst, ◌∙◌, arith}
-use Rattle.std.proofs.Common.{codes, Option, Some, None, inl, inr, append_assoc, append-nil, length-append, pos}
-use Rattle.std.specs.List.{AllByRecursion}
-use Rattle.fixed_um.specs.Names.{IsName}
+use Rattle.run_record.proofs.Names.{[], ◌++◌, ◌+◌, ◌<◌, ◌∙◌, ◌∷◌, ◌≡◌, AddsEntry, AddsTouch, AllByRecursion, ap, append-nil, append_assoc, AreAsked}
+use Rattle.run_record.proofs.Names.{AreRecordLines, AreTornHead, arith, asked_lines, Begins, body, codes, EndsFeature, EndsHead, Entry, entry_line}
+use Rattle.run_record.proofs.Names.{feature_line, Follow, Follows, head, head_lines, header, inl, inr, IsAsked, IsAskedTouch, IsName, IsPartGiven}
+use Rattle.run_record.proofs.Names.{IsPointCount, Kept, Leads, length, length-append, List, map, NamesPart, Next, None, nothing_kept, OpensFeature}
+use Rattle.run_record.proofs.Names.{Option, part_lines, pos, record_lines, recorded, refl, Some, Stage, start, subst, suc, sym, Touch, touch_line}
+use Rattle.run_record.proofs.Names.{Unfinished, Wanted, wanted_lines, wanted_with, with_touch, within, zero, ℕ}
 use Rattle.fixed_um.specs.declared.frames.Frame.TheVariants.{Machine}
-use Rattle.contact_ledger.specs.FeatureTexts.{IsPointCount}
-use Rattle.dmis_program.specs.declared.features.Touch.{Touch}
-use Rattle.dmis_program.specs.declared.features.Wanted.{Wanted}
-use Rattle.run_record.specs.Heads.{IsPartGiven, IsAskedTouch, IsAsked, AreAsked, header, part_lines, feature_line, touch_line}
-use Rattle.run_record.specs.Heads.{wanted_lines, asked_lines, head_lines}
-use Rattle.run_record.specs.Entries.{entry_line}
-use Rattle.run_record.specs.Records.{Kept, nothing_kept, Follows, Follow, record_lines, recorded, AreRecordLines, Begins}
-use Rattle.run_record.specs.Reading.{AreTornHead}
-use Rattle.run_record.specs.Stages.{Stage, start, head, within, body, Leads, Next, NamesPart, OpensFeature, EndsHead, AddsTouch, EndsFeature}
-use Rattle.run_record.specs.Stages.{AddsEntry, with_touch, wanted_with}
-use Rattle.run_record.specs.Unfinished.{Unfinished}
-use Rattle.run_record.specs.declared.entries.Entry.{Entry}
 
 -- ---- lists
 

@@ -1,32 +1,14 @@
 -- A line leads from a stage in one way, so lines lead to one stage.
-use Rattle.std.proofs.Common.{◌≡◌, ℕ, ◌-◌, List, [], ◌∷◌, ◌++◌, length, drop, refl, ap, sym, subst, ◌∙◌, arith}
-use Rattle.std.proofs.Common.{codes, Option, Some, inl, inr, append_assoc, slice_index, pos}
-use Rattle.std.specs.Prelude.{decimal}
+use Rattle.run_record.proofs.Names.{[], ◌++◌, ◌-◌, ◌∙◌, ◌∷◌, ◌≡◌, Act, act_fields, act_line, AddsEntry, ap, append_assoc, arith, body, codes}
+use Rattle.run_record.proofs.Names.{Completed, completed_line, Completes, contacts, decimal, direction_fields, drop, Entry, entry_back, entry_line}
+use Rattle.run_record.proofs.Names.{feature_line, Follows, frame_fields, head, inl, inr, IsAskedTouch, IsConnection, IsEntry, IsName, IsPointCount}
+use Rattle.run_record.proofs.Names.{IsWrittenEntry, Kept, kind, Leads, length, line_of, List, MadeContact, Next, Option, part_behind, part_line}
+use Rattle.run_record.proofs.Names.{Point, point_fields, pos, refl, Refused, refused_line, Serves, slice_index, Some, Stage, start, subst, sym, Told}
+use Rattle.run_record.proofs.Names.{Touch, touch_fields, touch_line, Unfinished, Wanted, wanted_with, with_touch, within, ℕ}
 use Rattle.std.proofs.lemmas.Fmt.{decimal_injective}
-use Rattle.fixed_um.specs.Names.{IsName}
-use Rattle.fixed_um.specs.declared.lengths.Point.{Point}
-use Rattle.contact_ledger.specs.Lines.{line_of, fields_of}
-use Rattle.contact_ledger.specs.Ledgers.{IsConnection}
-use Rattle.contact_ledger.specs.Fields.{point_fields, frame_fields, direction_fields}
-use Rattle.contact_ledger.specs.FeatureTexts.{IsPointCount}
-use Rattle.contact_ledger.specs.ContactTexts.{IsEntry, act_fields, act_line}
-use Rattle.contact_ledger.specs.declared.acts.Act.{Act}
-use Rattle.contact_ledger.specs.declared.acts.Act.TheVariants as act
-use Rattle.contact_ledger.proofs.EntryLines.{kind, entry_back}
-use Rattle.contact_ledger.proofs.LineFields.{part_behind}
+use Rattle.contact_ledger.specs.Lines.{fields_of}
 use Rattle.contact_ledger.proofs.OneEntry.{one_entry}
-use Rattle.dmis_program.specs.declared.features.Touch.{Touch}
-use Rattle.dmis_program.specs.declared.features.Wanted.{Wanted}
-use Rattle.protocol_model.specs.Claims.{MadeContact, contacts, Serves}
-use Rattle.run_record.specs.Heads.{IsAskedTouch, part_line, feature_line, touch_line, touch_fields}
-use Rattle.run_record.specs.Entries.{IsWrittenEntry, refused_line, completed_line, entry_line}
-use Rattle.run_record.specs.Records.{Kept, Follows, Completes}
 use Rattle.run_record.specs.Records as records
-use Rattle.run_record.specs.Stages.{Stage, start, head, within, body, Next, Leads}
-use Rattle.run_record.specs.Stages.{AddsEntry, with_touch, wanted_with}
-use Rattle.run_record.specs.Unfinished.{Unfinished}
-use Rattle.run_record.specs.declared.entries.Entry.{Entry}
-use Rattle.run_record.specs.declared.entries.Entry.TheVariants.{Told, Refused, Completed}
 use Rattle.run_record.proofs.RecordFields.{append_same, touch_back, feature_back, completed_back, refused_back}
 
 -- ---- a line of a head says one thing
@@ -49,7 +31,7 @@ zero_point = record { x = pos 0; y = pos 0; z = pos 0 }
 
 -- the contact that a touch asks for, with this point
 abbrev touched : Touch → Act
-touched t = act.Contact t.target t.dir t.tool t.frame zero_point
+touched t = Act.Contact t.target t.dir t.tool t.frame zero_point
 
 touched_fields : (t : Touch) → act_fields (touched t) ≡ codes "CONTACT" ∷ (touch_fields t ++ point_fields zero_point)
 touched_fields t = ap (λ (r : List (List ℕ)). codes "CONTACT" ∷ (point_fields t.target ++ r))
@@ -62,12 +44,12 @@ touched_entry t h = (
 )
 
 abbrev touch_of : Touch → Act → Touch
-touch_of other (act.HomedIs homed) = other
-touch_of other act.Homed = other
-touch_of other (act.Moved target frame) = other
-touch_of other (act.Changed tool) = other
-touch_of other (act.Framed frame) = other
-touch_of other (act.Contact target dir tool frame point) = record { target = target; dir = dir; tool = tool; frame = frame }
+touch_of other (Act.HomedIs homed) = other
+touch_of other Act.Homed = other
+touch_of other (Act.Moved target frame) = other
+touch_of other (Act.Changed tool) = other
+touch_of other (Act.Framed frame) = other
+touch_of other (Act.Contact target dir tool frame point) = record { target = target; dir = dir; tool = tool; frame = frame }
 
 one_touch : (t u : Touch) → IsAskedTouch t → IsAskedTouch u → touch_line t ≡ touch_line u → t ≡ u
 one_touch t u h g e =
@@ -83,20 +65,20 @@ one_touch t u h g e =
 -- ---- and so does the line of an entry
 
 no_refused : (a : Act) (rest : List (List ℕ)) → act_fields a ≡ codes "REFUSED" ∷ rest → ⊥
-no_refused (act.HomedIs homed) rest e = let k : 777 ≡ 707 = ap (λ (fs : List (List ℕ)). kind fs) e in omega (arith, k)
-no_refused act.Homed rest e = let k : 775 ≡ 707 = ap (λ (fs : List (List ℕ)). kind fs) e in omega (arith, k)
-no_refused (act.Moved target frame) rest e = let k : 865 ≡ 707 = ap (λ (fs : List (List ℕ)). kind fs) e in omega (arith, k)
-no_refused (act.Changed tool) rest e = let k : 657 ≡ 707 = ap (λ (fs : List (List ℕ)). kind fs) e in omega (arith, k)
-no_refused (act.Framed frame) rest e = let k : 656 ≡ 707 = ap (λ (fs : List (List ℕ)). kind fs) e in omega (arith, k)
-no_refused (act.Contact t d n f p) rest e = let k : 787 ≡ 707 = ap (λ (fs : List (List ℕ)). kind fs) e in omega (arith, k)
+no_refused (Act.HomedIs homed) rest e = let k : 777 ≡ 707 = ap (λ (fs : List (List ℕ)). kind fs) e in omega (arith, k)
+no_refused Act.Homed rest e = let k : 775 ≡ 707 = ap (λ (fs : List (List ℕ)). kind fs) e in omega (arith, k)
+no_refused (Act.Moved target frame) rest e = let k : 865 ≡ 707 = ap (λ (fs : List (List ℕ)). kind fs) e in omega (arith, k)
+no_refused (Act.Changed tool) rest e = let k : 657 ≡ 707 = ap (λ (fs : List (List ℕ)). kind fs) e in omega (arith, k)
+no_refused (Act.Framed frame) rest e = let k : 656 ≡ 707 = ap (λ (fs : List (List ℕ)). kind fs) e in omega (arith, k)
+no_refused (Act.Contact t d n f p) rest e = let k : 787 ≡ 707 = ap (λ (fs : List (List ℕ)). kind fs) e in omega (arith, k)
 
 no_completed : (a : Act) (rest : List (List ℕ)) → act_fields a ≡ codes "COMPLETED" ∷ rest → ⊥
-no_completed (act.HomedIs homed) rest e = let k : 777 ≡ 779 = ap (λ (fs : List (List ℕ)). kind fs) e in omega (arith, k)
-no_completed act.Homed rest e = let k : 775 ≡ 779 = ap (λ (fs : List (List ℕ)). kind fs) e in omega (arith, k)
-no_completed (act.Moved target frame) rest e = let k : 865 ≡ 779 = ap (λ (fs : List (List ℕ)). kind fs) e in omega (arith, k)
-no_completed (act.Changed tool) rest e = let k : 657 ≡ 779 = ap (λ (fs : List (List ℕ)). kind fs) e in omega (arith, k)
-no_completed (act.Framed frame) rest e = let k : 656 ≡ 779 = ap (λ (fs : List (List ℕ)). kind fs) e in omega (arith, k)
-no_completed (act.Contact t d n f p) rest e = let k : 787 ≡ 779 = ap (λ (fs : List (List ℕ)). kind fs) e in omega (arith, k)
+no_completed (Act.HomedIs homed) rest e = let k : 777 ≡ 779 = ap (λ (fs : List (List ℕ)). kind fs) e in omega (arith, k)
+no_completed Act.Homed rest e = let k : 775 ≡ 779 = ap (λ (fs : List (List ℕ)). kind fs) e in omega (arith, k)
+no_completed (Act.Moved target frame) rest e = let k : 865 ≡ 779 = ap (λ (fs : List (List ℕ)). kind fs) e in omega (arith, k)
+no_completed (Act.Changed tool) rest e = let k : 657 ≡ 779 = ap (λ (fs : List (List ℕ)). kind fs) e in omega (arith, k)
+no_completed (Act.Framed frame) rest e = let k : 656 ≡ 779 = ap (λ (fs : List (List ℕ)). kind fs) e in omega (arith, k)
+no_completed (Act.Contact t d n f p) rest e = let k : 787 ≡ 779 = ap (λ (fs : List (List ℕ)). kind fs) e in omega (arith, k)
 
 refused_fields : (n : ℕ) (text : List ℕ) → IsConnection n → fields_of (refused_line n text) ≡ decimal n ∷ codes "REFUSED" ∷ fields_of text
 unfolding fields_of

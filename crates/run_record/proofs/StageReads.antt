@@ -1,17 +1,9 @@
 -- What a text is, from the stages to which its lines lead.
-use Rattle.std.proofs.Common.{◌≡◌, ℕ, ◌+◌, ◌-◌, ◌≤◌, List, [], ◌∷◌, ◌++◌, take, drop, ap, sym, subst, ◌∙◌, arith}
-use Rattle.std.proofs.Common.{Option, inl, inr, append_assoc}
-use Rattle.contact_ledger.specs.Lines.{whole_lines}
+use Rattle.run_record.proofs.Names.{[], ◌++◌, ◌+◌, ◌-◌, ◌∙◌, ◌∷◌, ◌≡◌, ◌≤◌, ap, append_assoc, AreRecordLines, AreTornHead, arith, Asking, Begins}
+use Rattle.run_record.proofs.Names.{Between, body, Done, drop, HasTornHead, head, inl, inr, IsBadHead, IsDamagedRecord, IsOpen, IsRecord, IsUnbegun}
+use Rattle.run_record.proofs.Names.{Kept, Leads, LeadsNowhere, List, Next, none, Option, Place, Recorded, recorded, some, Stage, stage_of, start}
+use Rattle.run_record.proofs.Names.{subst, sym, take, take_one_more, Wanted, whole_lines, Within, within, ℕ}
 use Rattle.contact_ledger.specs.Damage.{IsDamaged}
-use Rattle.contact_ledger.proofs.FeatureReads.{take_one_more}
-use Rattle.dmis_program.specs.declared.features.Wanted.{Wanted}
-use Rattle.run_record.specs.Records.{Kept, AreRecordLines, Begins, Recorded, recorded}
-use Rattle.run_record.specs.Reading.{IsRecord, IsUnbegun, IsDamagedRecord, AreTornHead}
-use Rattle.run_record.specs.Stages.{Stage, start, head, within, body, Leads, Next, stage_of, IsOpen, LeadsNowhere, IsBadHead}
-use Rattle.run_record.specs.Stages.{HasTornHead, none, some}
-use Rattle.run_record.specs.Unfinished.{Asking}
-use Rattle.run_record.specs.declared.heads.Place.{Place}
-use Rattle.run_record.specs.declared.heads.Place.TheVariants.{Between, Within, Done}
 use Rattle.run_record.proofs.StageLines.{StageLines, stage_lines, stage_torn, stage_begins, body_record}
 use Rattle.run_record.proofs.StageOnes.{leads_one}
 use Rattle.run_record.proofs.StageShapes.{leads_split, lead_record}

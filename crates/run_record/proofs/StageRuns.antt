@@ -1,22 +1,11 @@
 -- Lines lead from stage to stage, one more at a time.
-use Rattle.std.proofs.Common.{◌≡◌, ℕ, zero, suc, ◌+◌, ◌-◌, List, [], ◌∷◌, ◌++◌, take, drop, length, refl, ap, sym, subst, ◌∙◌, arith}
-use Rattle.std.proofs.Common.{None, Result, Ok, Err, Bool, true, inl, inr}
-use Rattle.std.specs.Result.{IsErrAnd}
-use Rattle.std.specs.Prelude.{◌==◌}
+use Rattle.run_record.proofs.Names.{[], ◌++◌, ◌+◌, ◌-◌, ◌==◌, ◌∙◌, ◌∷◌, ◌≡◌, ap, arith, Asking, BeginsHeader, Between, body, Bool, Damaged, Done}
+use Rattle.run_record.proofs.Names.{drop, Err, HasTornHead, head, header, inl, inr, IsBadHead, IsErrAnd, IsOpen, IsValid, Leads, length, List, Next}
+use Rattle.run_record.proofs.Names.{None, nothing_kept, Ok, Place, RecordFault, refl, Result, some, Stage, stage_of, start, subst, suc, sym, take}
+use Rattle.run_record.proofs.Names.{take_one_more, true, whole_lines, Within, zero, ℕ}
 use Rattle.std.specs.Cmp.Lexicographic.{pointwise}
 use Rattle.std.proofs.lemmas.Slice.Eq.{starts_is}
-use Rattle.contact_ledger.specs.Lines.{whole_lines}
-use Rattle.contact_ledger.proofs.FeatureReads.{take_one_more}
-use Rattle.run_record.specs.Heads.{header}
 use Rattle.run_record.proofs.RecordFields.{byte_test}
-use Rattle.run_record.specs.Reading.{BeginsHeader}
-use Rattle.run_record.specs.Stages.{Stage, start, head, body, Next, Leads, stage_of, IsOpen, IsValid, IsBadHead, HasTornHead, some}
-use Rattle.run_record.specs.Unfinished.{Asking}
-use Rattle.run_record.specs.Records.{nothing_kept}
-use Rattle.run_record.specs.declared.heads.Place.{Place}
-use Rattle.run_record.specs.declared.heads.Place.TheVariants.{Between, Within, Done}
-use Rattle.run_record.specs.declared.faults.RecordFault.{RecordFault}
-use Rattle.run_record.specs.declared.faults.RecordFault.TheVariants.{Damaged}
 
 pub leads_more : (xs ys : List (List ℕ)) (p q r : Stage) → Leads p xs q → Leads q ys r → Leads p (xs ++ ys) r
 leads_more [] ys p q r a b = subst (λ (s : Stage). Leads s ys r) a b

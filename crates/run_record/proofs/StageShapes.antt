@@ -1,16 +1,8 @@
 -- A line leads from a stage in one way, and the lines of a record lead through its stages.
-use Rattle.std.proofs.Common.{◌≡◌, ℕ, ◌+◌, List, [], ◌∷◌, ◌++◌, length, map, refl, ap, subst, arith}
-use Rattle.std.proofs.Common.{codes, Option, Some, None, inl, inr, append_assoc, append-nil, length-append}
-use Rattle.std.specs.List.{AllByRecursion}
-use Rattle.contact_ledger.specs.FeatureTexts.{IsPointCount}
-use Rattle.dmis_program.specs.declared.features.Touch.{Touch}
-use Rattle.dmis_program.specs.declared.features.Wanted.{Wanted}
-use Rattle.run_record.specs.Heads.{IsPartGiven, IsAskedTouch, IsAsked, AreAsked, part_lines, feature_line, touch_line}
-use Rattle.run_record.specs.Heads.{header, wanted_lines, asked_lines, head_lines}
-use Rattle.run_record.specs.Entries.{entry_line}
-use Rattle.run_record.specs.Records.{Kept, nothing_kept, Follow, record_lines}
-use Rattle.run_record.specs.Stages.{Stage, start, head, within, body, Leads}
-use Rattle.run_record.specs.declared.entries.Entry.{Entry}
+use Rattle.run_record.proofs.Names.{[], ◌++◌, ◌+◌, ◌∷◌, ◌≡◌, AllByRecursion, ap, append-nil, append_assoc, AreAsked, arith, asked_lines, body, codes}
+use Rattle.run_record.proofs.Names.{Entry, entry_line, feature_line, Follow, head, head_lines, header, inl, inr, IsAsked, IsAskedTouch, IsPartGiven}
+use Rattle.run_record.proofs.Names.{IsPointCount, Kept, Leads, length, length-append, List, map, None, nothing_kept, Option, part_lines, record_lines}
+use Rattle.run_record.proofs.Names.{refl, Some, Stage, start, subst, Touch, touch_line, Wanted, wanted_lines, within, ℕ}
 use Rattle.run_record.proofs.StageRuns.{leads_more}
 
 -- ---- lines that were led through, cut in two

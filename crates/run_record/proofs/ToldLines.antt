@@ -1,16 +1,7 @@
 -- What the entries of acts add to a text, one act after another.
-use Rattle.std.proofs.Common.{◌≡◌, ℕ, ◌+◌, ◌≤◌, ◌<◌, Bool, true, false, List, [], ◌∷◌, ◌++◌, length, map, refl, ap, sym, ◌∙◌, arith}
-use Rattle.std.proofs.Common.{append_assoc, append-nil, nat_le, Some, None, slice_get}
-use Rattle.std.proofs.lemmas.Bool.{le-leb, leb-true}
-use Rattle.contact_ledger.specs.Lines.{text_of}
-use Rattle.contact_ledger.specs.Ledgers.{is_contact}
-use Rattle.contact_ledger.specs.ContactTexts.{act_line}
-use Rattle.contact_ledger.specs.declared.acts.Act.{Act}
-use Rattle.contact_ledger.proofs.WrittenTexts.{text_more}
-use Rattle.dmis_program.specs.declared.features.Wanted.{Wanted}
-use Rattle.run_record.specs.Entries.{entry_line, completed_line}
-use Rattle.run_record.specs.Tellings.{counted, entries_of, Telling, told_on, Counts}
-use Rattle.run_record.specs.declared.entries.Entry.{Entry}
+use Rattle.run_record.proofs.Names.{[], ◌++◌, ◌+◌, ◌<◌, ◌∙◌, ◌∷◌, ◌≡◌, ◌≤◌, Act, act_line, ap, append-nil, append_assoc, arith, Bool, completed_line}
+use Rattle.run_record.proofs.Names.{counted, Counts, entries_of, Entry, entry_line, false, is_contact, le-leb, leb-true, length, List, map, nat_le}
+use Rattle.run_record.proofs.Names.{None, refl, slice_get, Some, sym, Telling, text_more, text_of, told_on, true, Wanted, ℕ}
 
 -- an act that is no contact, or that follows the last wanted feature, counts for nothing
 pub counts_other : (wanted : List Wanted) (t : Telling) (act : Act) (text : List ℕ) → is_contact act ≡ false

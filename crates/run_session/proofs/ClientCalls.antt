@@ -1,17 +1,10 @@
 -- What the calls of a client leave of a run.
-use Rattle.std.proofs.Common.{◌≡◌, ℕ, List, inl, inr, Bool, true, false, cond, refl, sym, ◌∙◌, subst}
-use Rattle.std.proofs.Common.{Result, Ok, Err, OnOk, OnErr, IfErr}
-use Rattle.std.proofs.lemmas.Bool.{false≢true}
-use Rattle.client_core.specs.Calls.{Call, ReadOne, possible, done_by}
+use Rattle.run_session.proofs.Names.{◌∙◌, ◌≡◌, Bool, Call, calls, ClientEnd, cond, done_by, end_read, Err, false, false≢true, Growth, held, IfErr}
+use Rattle.run_session.proofs.Names.{inl, inr, IsFree, IsRunCall, List, Ok, OnErr, OnOk, Pair, possible, Ran, ReadOne, refl, Result, subst, sym, true}
+use Rattle.run_session.proofs.Names.{ℕ}
 use Rattle.client_core.specs.Clients.{may_read}
-use Rattle.client_core.specs.Refusals.{IsSendRefused, IsReadRefused}
+use Rattle.client_core.specs.Refusals.{IsReadRefused, IsSendRefused}
 use Rattle.client_core.specs.declared.faults.ClientFault.{ClientFault}
-use Rattle.client_core.specs.declared.faults.ClientFault.TheVariants as fault
-use Rattle.link_world.specs.Showing.{IsRunCall}
-use Rattle.protocol_model.specs.Ends.{ClientEnd, end_read}
-use Rattle.record_keeping.specs.Growths.{Growth}
-use Rattle.record_laws.specs.Recordings.{Pair}
-use Rattle.run_session.specs.Records.{Ran, calls, held, IsFree}
 
 -- from one client to another, with these pauses that are to come
 abbrev pub Moves : List ℕ → ClientEnd → ClientEnd → Growth → Type 0
@@ -40,10 +33,10 @@ leads_keeps (Err why) ps call e f g run free done same may = same_keeps ps e f g
 
 refused_keeps : (why : ClientFault) (ps : List ℕ) (call : Call) (e f : ClientEnd) (g : Growth) → IsRunCall call → IsFree (held ps) e call
     → IsSendRefused (possible call e) e f (done_by call e) why → Moves ps e f g
-refused_keeps fault.NotNow ps call e f g run free r = same_keeps ps e f g r.0
-refused_keeps (fault.Faulted cause) ps call e f g run free (inl r) = same_keeps ps e f g r.1
-refused_keeps (fault.Faulted cause) ps call e f g run free (inr r) = call_keeps ps call e f g run free r.0 r.1
-refused_keeps fault.Memory ps call e f g run free r = same_keeps ps e f g r
+refused_keeps ClientFault.NotNow ps call e f g run free r = same_keeps ps e f g r.0
+refused_keeps (ClientFault.Faulted cause) ps call e f g run free (inl r) = same_keeps ps e f g r.1
+refused_keeps (ClientFault.Faulted cause) ps call e f g run free (inr r) = call_keeps ps call e f g run free r.0 r.1
+refused_keeps ClientFault.Memory ps call e f g run free r = same_keeps ps e f g r
 
 -- one that writes a line
 pub sends_keeps : {A : Type 0} (r : Result A ClientFault) (ps : List ℕ) (call : Call) (e f : ClientEnd) (g : Growth) → IsRunCall call
@@ -53,24 +46,24 @@ sends_keeps (Ok a) ps call e f g run free done may refused = call_keeps ps call 
 sends_keeps (Err why) ps call e f g run free done may refused = refused_keeps why ps call e f g run free refused
 
 unread_keeps : (why : ClientFault) (may : Bool) (ps : List ℕ) (e f : ClientEnd) (g : Growth) → may_read e.client ≡ may → IsReadRefused e f why
-    → ((why ≡ fault.Memory → ⊥) → may ≡ true → f ≡ end_read e) → (may ≡ false → f ≡ e) → Moves ps e f g
+    → ((why ≡ ClientFault.Memory → ⊥) → may ≡ true → f ≡ end_read e) → (may ≡ false → f ≡ e) → Moves ps e f g
 unread_keeps why false ps e f g is refused met before = same_keeps ps e f g (before refl)
-unread_keeps fault.NotNow true ps e f g is refused met before = same_keeps ps e f g refused.0
-unread_keeps (fault.Faulted cause) true ps e f g is refused met before = call_keeps ps ReadOne e f g tt tt is (met (λ x. is_memory x) refl)
+unread_keeps ClientFault.NotNow true ps e f g is refused met before = same_keeps ps e f g refused.0
+unread_keeps (ClientFault.Faulted cause) true ps e f g is refused met before = call_keeps ps ReadOne e f g tt tt is (met (λ x. is_memory x) refl)
   where
-    is_memory : (fault.Faulted cause ≡ fault.Memory) → ⊥
+    is_memory : (ClientFault.Faulted cause ≡ ClientFault.Memory) → ⊥
     is_memory x = subst at x tt
       where
         at : ClientFault → Type 0
-        at (fault.Faulted c) = Unit {0}
-        at fault.NotNow = Unit {0}
-        at fault.Memory = ⊥
-unread_keeps fault.Memory true ps e f g is refused met before = same_keeps ps e f g refused
+        at (ClientFault.Faulted c) = Unit {0}
+        at ClientFault.NotNow = Unit {0}
+        at ClientFault.Memory = ⊥
+unread_keeps ClientFault.Memory true ps e f g is refused met before = same_keeps ps e f g refused
 
 -- a line is read
 pub reads_keeps : (r : Result Bool ClientFault) (ps : List ℕ) (e f : ClientEnd) (g : Growth) → OnOk r (f ≡ end_read e)
     → OnOk r (may_read e.client ≡ true) → IfErr r (λ why. IsReadRefused e f why)
-    → IfErr r (λ why. (why ≡ fault.Memory → ⊥) → may_read e.client ≡ true → f ≡ end_read e)
+    → IfErr r (λ why. (why ≡ ClientFault.Memory → ⊥) → may_read e.client ≡ true → f ≡ end_read e)
     → (may_read e.client ≡ false → f ≡ e) → Moves ps e f g
 reads_keeps (Ok line) ps e f g done may refused met before = call_keeps ps ReadOne e f g tt tt may done
 reads_keeps (Err why) ps e f g done may refused met before = unread_keeps why (may_read e.client) ps e f g refl refused met before

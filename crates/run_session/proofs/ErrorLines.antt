@@ -1,15 +1,12 @@
 -- Errors of a server, and their lines.
-use Rattle.std.proofs.Common.{◌≡◌, ℕ, suc, ◌-◌, ◌<◌, ◌≤◌, Bool, true, false, cond, ◌&&◌, List, [], ◌∷◌, ◌++◌, length, get_or, refl, ◌∙◌}
-use Rattle.std.proofs.Common.{ap₂, arith, ◌/◌, ◌%◌, nat_le, Fits, w8, length-append}
-use Rattle.std.specs.Prelude.{◌==◌, not}
-use Rattle.std.specs.List.{list_all}
-use Rattle.std.proofs.lemmas.Bool.{agree_below_at, false≢true}
+use Rattle.run_session.proofs.Names.{[], ◌%◌, ◌&&◌, ◌++◌, ◌-◌, ◌/◌, ◌<◌, ◌==◌, ◌∙◌, ◌∷◌, ◌≡◌, ◌≤◌, agree_below_at, ap₂, arith, Bool, cond, false}
+use Rattle.run_session.proofs.Names.{false≢true, fitting, get_or, is_printed, IsRefusal, kept_error, length, length-append, List, list_all, nat_le}
+use Rattle.run_session.proofs.Names.{not, refl, suc, true, w8, ℕ}
+use Rattle.std.proofs.Common.{Fits}
 use Rattle.std.proofs.lemmas.Bool.Decides.{nat_tests}
 use Rattle.std.proofs.lemmas.List.Folds.{list_all-append}
-use Rattle.session_telling.specs.Visible.{visible, hex_digit}
+use Rattle.session_telling.specs.Visible.{hex_digit, visible}
 use Rattle.run_record.proofs.KeptErrors.{fits as fits_whole}
-use Rattle.run_record.specs.Entries.{IsRefusal, fitting, kept_error}
-use Rattle.run_record.specs.Heads.{is_printed}
 
 -- a byte is shown by printed bytes
 shown : (b : ℕ) → b < 256 → list_all is_printed (visible b) ≡ true

@@ -1,15 +1,10 @@
 -- What the file of a record has during its run.
-use Rattle.std.proofs.Common.{◌≡◌, ◌⊎◌, inl, inr, ◌≤◌, ℕ, zero, suc, Bool, true, false, cond, List, [], ◌∷◌, ◌++◌, length, take, drop, refl, sym, ap, ◌∙◌, subst}
-use Rattle.std.proofs.Common.{append_assoc, append-nil, take-append-drop, Option, None, Some, is_some, Result, Ok, Err, OnOk, OnErr, arith}
-use Rattle.std.proofs.lemmas.Bool.{false≢true}
-use Rattle.std.proofs.Math.Seq.{drop-append_seam}
-use Rattle.protocol_model.specs.Ends.{ClientEnd}
-use Rattle.record_keeping.specs.Growths.{Growth, AddsErrors, new_lines, error_lines, with_acts, with_errors}
-use Rattle.record_laws.specs.Recordings.{Pair, told_now, told_unless}
-use Rattle.effects.specs.Effects.{Reply, Done, Bytes, End, Missing, Found, Nothing, At, Took, Failed, Short}
-use Rattle.run_session.specs.declared.stages.Stage.{Stage}
-use Rattle.run_session.specs.Records.{Ran, begins, calls, tells, confirms, Keeps, Book, State, Outside, lacking, writes, outcome_by, outcome}
-use Rattle.run_session.specs.Records.{IsSafe, IsKept, GoesOn, HaveLines, filed_by, filed, of_file}
+use Rattle.run_session.proofs.Names.{[], ◌++◌, ◌∙◌, ◌∷◌, ◌≡◌, ◌≤◌, ◌⊎◌, AddsErrors, ap, append-nil, append_assoc, arith, At, begins, Book, Bool}
+use Rattle.run_session.proofs.Names.{Bytes, calls, ClientEnd, cond, confirms, Done, drop, drop-append_seam, End, Err, error_lines, Failed, false}
+use Rattle.run_session.proofs.Names.{false≢true, filed, filed_by, Found, GoesOn, Growth, HaveLines, inl, inr, is_some, IsKept, IsSafe, Keeps, lacking}
+use Rattle.run_session.proofs.Names.{length, List, Missing, new_lines, None, Nothing, of_file, Ok, OnErr, OnOk, Option, outcome, outcome_by, Outside}
+use Rattle.run_session.proofs.Names.{Pair, Ran, refl, Reply, Result, Short, Some, Stage, State, subst, suc, sym, take, take-append-drop, tells}
+use Rattle.run_session.proofs.Names.{told_now, told_unless, Took, true, with_acts, with_errors, writes, zero, ℕ}
 
 -- lines are added at the end
 grown_by : (lacks : Bool) (e : ClientEnd) (errors : List (List ℕ)) (g : Growth)

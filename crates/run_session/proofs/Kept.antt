@@ -1,16 +1,12 @@
 -- What the calls of a run keep of a client, and what they report.
-use Rattle.std.proofs.Common.{◌≡◌, ℕ, Bool, true, false, cond, List, [], ◌∷◌, ◌++◌, refl, sym, ◌∙◌, ap, append-nil, append_assoc}
-use Rattle.dme_line.specs.declared.tags.Tag.TheVariants as tag
+use Rattle.run_session.proofs.Names.{[], ◌++◌, ◌∙◌, ◌∷◌, ◌≡◌, Abort, Act, ap, append-nil, append_assoc, behind_call, behind_calls, Bool, Call}
+use Rattle.run_session.proofs.Names.{ClientEnd, cond, Connected, done_by, false, Feed, IsRunCall, Leave, List, numbered, possible, ReadOne, refl}
+use Rattle.run_session.proofs.Names.{Restart, Resume, Send, Sent, sym, told_behind, true, ℕ}
 use Rattle.line_framing.specs.Next.{next_of}
-use Rattle.contact_ledger.specs.declared.acts.Act.{Act}
-use Rattle.protocol_model.specs.Client.{Client, Tally, next_number}
-use Rattle.protocol_model.specs.Ends.{ClientEnd}
-use Rattle.client_core.specs.Calls.{Call, Connected, Send, Feed, ReadOne, Abort, Resume, Leave, Restart, Sent, possible, done_by, behind_call}
-use Rattle.client_core.specs.Calls.{behind_calls}
-use Rattle.told_acts.specs.Told.{numbered, told_behind}
+use Rattle.protocol_model.specs.Client.{Client, next_number, Tally}
 use Rattle.told_acts.proofs.Counts.{Grows, grows_told, heard_grows}
-use Rattle.told_acts.proofs.Views.{View, view, sends_view, aborts_view, read_all}
-use Rattle.link_world.specs.Showing.{IsRunCall}
+use Rattle.told_acts.proofs.Views.{aborts_view, read_all, sends_view, View, view}
+use Rattle.dme_line.specs.declared.tags.Tag.{Tag}
 
 -- acts are counted after those that were, on the same connection
 pub record Stays (c d : Client) : Type 0 where
@@ -31,7 +27,7 @@ done_keeps (Connected n) e h = absurd h
 done_keeps Resume e h = absurd h
 done_keeps (Restart k) e h = absurd h
 done_keeps Send e h = keeps_same e.client (done_by Send e).client
-    (sends_view e.client e.client.table.tally.unsent (next_number tag.Std e.client.table.standard e.client.drawn))
+    (sends_view e.client e.client.table.tally.unsent (next_number Tag.Std e.client.table.standard e.client.drawn))
 done_keeps (Feed bytes) e h = keeps_same e.client e.client refl
 done_keeps ReadOne e h = read_all e.client (λ (d : Client). Stays e.client d) (record {
   same = keeps_same e.client e.client refl;
@@ -39,7 +35,7 @@ done_keeps ReadOne e h = read_all e.client (λ (d : Client). Stays e.client d) (
   reply = λ t m b s is. record { grows = heard_grows e.client.program.features e.client.table b t m is; last = refl };
 }) (next_of e.input.rest)
 done_keeps Abort e h = keeps_same e.client (done_by Abort e).client
-    (aborts_view e.client (next_number tag.Event e.client.table.event e.client.event_drawn))
+    (aborts_view e.client (next_number Tag.Event e.client.table.event e.client.event_drawn))
 done_keeps Leave e h = record { grows = none_more e.client.table.tally (done_by Leave e).client.table.tally refl refl; last = refl }
 done_keeps (Sent k) e h = keeps_same e.client e.client refl
 

@@ -1,3 +1,4 @@
+pub mod Names
 pub mod ErrorLines
 pub mod Growing
 pub mod ClientCalls

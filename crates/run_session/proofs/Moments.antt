@@ -1,27 +1,20 @@
 -- A run is a list of moments, whose record's file is what a killed run leaves.
-use Rattle.std.proofs.Common.{◌≡◌, inl, inr, ◌≤◌, ℕ, ◌+◌, Bool, true, false, cond, List, [], ◌∷◌, ◌++◌, length, take, drop, map, refl, sym, ap, ◌∙◌, subst}
-use Rattle.std.proofs.Common.{append_assoc, append-nil, length-append, Option, arith}
-use Rattle.std.proofs.lemmas.Bool.{false≢true}
-use Rattle.std.proofs.Math.Seq.{drop-length, take-append_seam}
-use Rattle.client_core.specs.Calls.{Call, Connected, Send, Feed, ReadOne, Abort, Resume, Leave, Restart, Sent, possible, done_by, behind_call, behind_calls}
-use Rattle.contact_ledger.specs.declared.acts.Act.{Act}
+use Rattle.run_session.proofs.Names.{[], ◌++◌, ◌+◌, ◌∙◌, ◌∷◌, ◌≡◌, ◌≤◌, Abort, Act, ap, append-nil, append_assoc, AreAsked, AreErrors, AreFit}
+use Rattle.run_session.proofs.Names.{AreWritten, arith, begins, behind_call, behind_calls, behind_moments, Bool, Call, Calls, calls, calls_in}
+use Rattle.run_session.proofs.Names.{ClientEnd, cond, confirms, Connected, done_by, drop, drop-length, end_connected, entry_line, false, false≢true}
+use Rattle.run_session.proofs.Names.{Feed, Fits, Growth, HaveLines, inl, inr, IsKept, IsPartGiven, IsRunCall, Leave, length, length-append, List, map}
+use Rattle.run_session.proofs.Names.{Moment, new_client_end, numbered, Option, Outside, Pair, possible, Ran, ReadOne, recorded_by, refl, Restart}
+use Rattle.run_session.proofs.Names.{Resume, Send, Sent, State, subst, sym, take, take-append_seam, Tell, tells, told_behind, told_by, told_now, true}
+use Rattle.run_session.proofs.Names.{ℕ}
 use Rattle.contact_ledger.specs.Lines.{text_of}
 use Rattle.dmis_program.specs.Meaning.{Meaning}
 use Rattle.dmis_program.specs.Programs.{IsProgram}
 use Rattle.dmis_program.specs.declared.features.Wanted.{Wanted}
-use Rattle.link_world.specs.Showing.{IsRunCall}
-use Rattle.protocol_model.specs.Ends.{ClientEnd, new_client_end, end_connected}
 use Rattle.record_keeping.specs.Beginnings.{BeginsWith}
-use Rattle.record_keeping.specs.Growths.{Growth}
 use Rattle.record_keeping.specs.declared.opening.Beginning.{Beginning}
 use Rattle.record_laws.proofs.Killed.{says_what_was_told}
-use Rattle.record_laws.specs.Recordings.{Pair, Moment, Calls, Tell, told_now, behind_moments, calls_in, recorded_by, Fits, AreErrors, AreFit, AreWritten}
-use Rattle.record_laws.specs.Runs.{run_begun, IsRecordOf, IsKilledRun}
-use Rattle.run_record.specs.Entries.{entry_line}
-use Rattle.run_record.specs.Heads.{IsPartGiven, AreAsked}
+use Rattle.record_laws.specs.Runs.{IsKilledRun, IsRecordOf, run_begun}
 use Rattle.run_record.specs.Tellings.{entries_of}
-use Rattle.told_acts.specs.Told.{numbered, told_by, told_behind}
-use Rattle.run_session.specs.Records.{Ran, begins, calls, tells, confirms, HaveLines, State, Outside, IsKept}
 use Rattle.run_session.specs.Killed.{IsBegun, IsLeft}
 use Rattle.run_session.proofs.Filing.{grows}
 use Rattle.run_session.proofs.Kept.{call_keeps, Stays, Reports, call_reports}

@@ -1,7 +1,5 @@
 -- A pause ends.
-use Rattle.std.proofs.Common.{◌≡◌, ◌≤◌, ◌+◌, ℕ, List, [], ◌∷◌, ◌++◌, length, take, drop, sym, subst}
-use Rattle.record_laws.specs.Recordings.{Pair}
-use Rattle.run_session.specs.Records.{Ran, confirms, held}
+use Rattle.run_session.proofs.Names.{[], ◌++◌, ◌+◌, ◌∷◌, ◌≡◌, ◌≤◌, confirms, drop, held, length, List, Pair, Ran, subst, sym, take, ℕ}
 
 pub pause_ends : (ps new : List ℕ) (p : Pair) → new ≡ take 0 ps ++ drop (0 + 1) ps → length p.end.client.table.tally.todo ≤ held ps
     → (first : Pair) → Ran first ps p → Ran first new p

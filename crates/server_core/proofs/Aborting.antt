@@ -1,11 +1,6 @@
 -- The lines of what waits, one command after another.
-use Rattle.std.proofs.Common.{◌≡◌, ◌++◌, ◌∷◌, ℕ, suc, [], Option, List, length, sym, ap, append_assoc, ◌∙◌}
-use Rattle.protocol_model.specs.Lines.{reply_bytes}
-use Rattle.protocol_model.specs.Server.{fails, all_fail, running_fails, kind_in}
-use Rattle.dme_line.specs.declared.tags.Tag.{Tag}
-use Rattle.protocol_model.specs.Replies.{Reply}
-use Rattle.protocol_model.specs.declared.lines.Line.{Line}
-use Rattle.protocol_model.specs.declared.lines.Waiting.{Waiting}
+use Rattle.server_core.proofs.Names.{[], ◌++◌, ◌∙◌, ◌∷◌, ◌≡◌, all_fail, ap, append_assoc, fails, kind_in, length, Line, List, Option, Reply}
+use Rattle.server_core.proofs.Names.{reply_bytes, running_fails, suc, sym, Tag, Waiting, ℕ}
 use Rattle.protocol_model.proofs.written_lines.Writable.{reply_bytes_more}
 
 pub aborted_more : (out more done : List ℕ) (ws rest : List Waiting) (w : Waiting) → ws ≡ w ∷ rest

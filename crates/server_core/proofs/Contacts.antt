@@ -1,24 +1,10 @@
 -- A contact is made by a touch that runs, as it was commanded.
-use Rattle.std.proofs.Common.{◌≡◌, ℕ, ◌+◌, List, [], ◌∷◌, ◌++◌, length, refl, sym, ap, subst, ◌∙◌, arith, Option, Some, None, append-nil}
-use Rattle.std.proofs.Common.{length-append}
+use Rattle.server_core.proofs.Names.{[], ◌++◌, ◌+◌, ◌∙◌, ◌∷◌, ◌≡◌, Act, ap, append-nil, arith, Command, contacts, Direction, finished, IsCommanded}
+use Rattle.server_core.proofs.Names.{length, length-append, Line, List, machined, MadeContact, None, offset, Option, Outcome, Point, point_difference}
+use Rattle.server_core.proofs.Names.{refl, reply_bytes, Server, server_machined, server_turned, ServerEnd, Some, subst, sym, Tag, touched, with_act}
+use Rattle.server_core.proofs.Names.{ℕ}
 use Rattle.std.proofs.lemmas.List.{append_cancel_left}
-use Rattle.fixed_um.specs.Points.{point_difference}
-use Rattle.fixed_um.specs.Shapes.{Direction}
-use Rattle.fixed_um.specs.declared.lengths.Point.{Point}
-use Rattle.dme_line.specs.declared.tags.Tag.{Tag}
-use Rattle.dme_line.specs.declared.commands.Command.{Command}
-use Rattle.dme_line.specs.declared.commands.Command.TheVariants as command
-use Rattle.contact_ledger.specs.declared.acts.Act.{Act}
-use Rattle.contact_ledger.specs.declared.acts.Act.TheVariants as act
-use Rattle.protocol_model.specs.Lines.{reply_bytes}
-use Rattle.protocol_model.specs.Claims.{MadeContact, contacts}
-use Rattle.protocol_model.specs.Server.{Server, offset, server_turned, finished, touched, machined, server_machined}
-use Rattle.protocol_model.specs.Ends.{ServerEnd}
-use Rattle.protocol_model.specs.declared.lines.Line.{Line}
-use Rattle.protocol_model.specs.declared.machine.Outcome.{Outcome}
-use Rattle.protocol_model.specs.declared.machine.Outcome.TheVariants as outcome
 use Rattle.protocol_model.proofs.invariant.Served.{contacts_more}
-use Rattle.server_core.specs.Acting.{with_act, IsCommanded}
 use Rattle.server_core.proofs.Ledgers.{IsNoContact, AddsNoContact, turned_adds}
 
 -- ---- no turn makes a contact
@@ -66,8 +52,8 @@ contact_of s at p d tool = record {
 }
 
 as_commanded : (e : ServerEnd) (at : Point) (t : Tag) (p : Point) (d : Option Direction) (tool : List ℕ)
-    → e.server.running ≡ Some (record { tag = t; command = command.PtMeas p d }) → e.server.tool ≡ Some tool
-    → IsCommanded e (outcome.Touched at) (contact_of e.server at p d tool)
+    → e.server.running ≡ Some (record { tag = t; command = Command.PtMeas p d }) → e.server.tool ≡ Some tool
+    → IsCommanded e (Outcome.Touched at) (contact_of e.server at p d tool)
 as_commanded e at t p d tool ran head = record {
   tag = t;
   at = at;
@@ -78,8 +64,8 @@ as_commanded e at t p d tool ran head = record {
   frame = refl;
   point = refl;
   said =
-      ap (λ (running : Option Line). e.out ++ reply_bytes (machined e.server (outcome.Touched at) running).said) ran
-      ∙ ap (λ (in_head : Option (List ℕ)). e.out ++ reply_bytes (touched e.server t (command.PtMeas p d) at in_head).said) head;
+      ap (λ (running : Option Line). e.out ++ reply_bytes (machined e.server (Outcome.Touched at) running).said) ran
+      ∙ ap (λ (in_head : Option (List ℕ)). e.out ++ reply_bytes (touched e.server t (Command.PtMeas p d) at in_head).said) head;
 }
 
 same : (e : ServerEnd) (ended : Outcome) (made : MadeContact) → contacts e.server.ledger ≡ contacts e.server.ledger ++ made ∷ []
@@ -87,50 +73,50 @@ same : (e : ServerEnd) (ended : Outcome) (made : MadeContact) → contacts e.ser
 same e ended made longer = absurd (not_longer _ _ longer)
 
 finished_made : (e : ServerEnd) (made : MadeContact) (t : Tag) (c : Command)
-    → contacts (finished e.server t c).server.ledger ≡ contacts e.server.ledger ++ made ∷ [] → IsCommanded e outcome.Done made
-finished_made e made t command.StartSession longer = same e outcome.Done made longer
-finished_made e made t command.EndSession longer = same e outcome.Done made longer
-finished_made e made t command.ClearAllErrors longer = same e outcome.Done made longer
-finished_made e made t command.IsHomed longer = same e outcome.Done made longer
-finished_made e made t command.Home longer = absurd (no_more e.server.last e.server.ledger act.Homed made refl longer)
-finished_made e made t command.OnPtMeasReport longer = same e outcome.Done made longer
-finished_made e made t (command.GoTo p) longer = absurd (no_more e.server.last e.server.ledger (act.Moved p e.server.frame) made refl
+    → contacts (finished e.server t c).server.ledger ≡ contacts e.server.ledger ++ made ∷ [] → IsCommanded e Outcome.Done made
+finished_made e made t Command.StartSession longer = same e Outcome.Done made longer
+finished_made e made t Command.EndSession longer = same e Outcome.Done made longer
+finished_made e made t Command.ClearAllErrors longer = same e Outcome.Done made longer
+finished_made e made t Command.IsHomed longer = same e Outcome.Done made longer
+finished_made e made t Command.Home longer = absurd (no_more e.server.last e.server.ledger Act.Homed made refl longer)
+finished_made e made t Command.OnPtMeasReport longer = same e Outcome.Done made longer
+finished_made e made t (Command.GoTo p) longer = absurd (no_more e.server.last e.server.ledger (Act.Moved p e.server.frame) made refl
     longer)
-finished_made e made t (command.PtMeas p d) longer = same e outcome.Done made longer
-finished_made e made t (command.ChangeTool n) longer = absurd (no_more e.server.last e.server.ledger (act.Changed n) made refl longer)
-finished_made e made t (command.SetCsyTransformation p) longer = same e outcome.Done made longer
-finished_made e made t (command.SetCoordSystem system) longer = same e outcome.Done made longer
-finished_made e made t command.AbortE longer = same e outcome.Done made longer
+finished_made e made t (Command.PtMeas p d) longer = same e Outcome.Done made longer
+finished_made e made t (Command.ChangeTool n) longer = absurd (no_more e.server.last e.server.ledger (Act.Changed n) made refl longer)
+finished_made e made t (Command.SetCsyTransformation p) longer = same e Outcome.Done made longer
+finished_made e made t (Command.SetCoordSystem system) longer = same e Outcome.Done made longer
+finished_made e made t Command.AbortE longer = same e Outcome.Done made longer
 
 touched_made : (e : ServerEnd) (made : MadeContact) (at : Point) (t : Tag) (c : Command) (tool : Option (List ℕ))
     → e.server.running ≡ Some (record { tag = t; command = c }) → e.server.tool ≡ tool
     → contacts (touched e.server t c at tool).server.ledger ≡ contacts e.server.ledger ++ made ∷ []
-    → IsCommanded e (outcome.Touched at) made
-touched_made e made at t command.StartSession tool ran head longer = same e (outcome.Touched at) made longer
-touched_made e made at t command.EndSession tool ran head longer = same e (outcome.Touched at) made longer
-touched_made e made at t command.ClearAllErrors tool ran head longer = same e (outcome.Touched at) made longer
-touched_made e made at t command.IsHomed tool ran head longer = same e (outcome.Touched at) made longer
-touched_made e made at t command.Home tool ran head longer = same e (outcome.Touched at) made longer
-touched_made e made at t command.OnPtMeasReport tool ran head longer = same e (outcome.Touched at) made longer
-touched_made e made at t (command.GoTo p) tool ran head longer = same e (outcome.Touched at) made longer
-touched_made e made at t (command.PtMeas p d) (Some tool) ran head longer =
+    → IsCommanded e (Outcome.Touched at) made
+touched_made e made at t Command.StartSession tool ran head longer = same e (Outcome.Touched at) made longer
+touched_made e made at t Command.EndSession tool ran head longer = same e (Outcome.Touched at) made longer
+touched_made e made at t Command.ClearAllErrors tool ran head longer = same e (Outcome.Touched at) made longer
+touched_made e made at t Command.IsHomed tool ran head longer = same e (Outcome.Touched at) made longer
+touched_made e made at t Command.Home tool ran head longer = same e (Outcome.Touched at) made longer
+touched_made e made at t Command.OnPtMeasReport tool ran head longer = same e (Outcome.Touched at) made longer
+touched_made e made at t (Command.GoTo p) tool ran head longer = same e (Outcome.Touched at) made longer
+touched_made e made at t (Command.PtMeas p d) (Some tool) ran head longer =
     let one : contact_of e.server at p d tool ≡ made =
     first_of _ made (append_cancel_left (contacts e.server.ledger) _ _ (sym (contacts_more e.server.ledger (_ ∷ [])) ∙ longer)) in
-    subst (λ (m : MadeContact). IsCommanded e (outcome.Touched at) m) one (as_commanded e at t p d tool ran head)
-touched_made e made at t (command.PtMeas p d) None ran head longer = same e (outcome.Touched at) made longer
-touched_made e made at t (command.ChangeTool n) tool ran head longer = same e (outcome.Touched at) made longer
-touched_made e made at t (command.SetCsyTransformation p) tool ran head longer = same e (outcome.Touched at) made longer
-touched_made e made at t (command.SetCoordSystem system) tool ran head longer = same e (outcome.Touched at) made longer
-touched_made e made at t command.AbortE tool ran head longer = same e (outcome.Touched at) made longer
+    subst (λ (m : MadeContact). IsCommanded e (Outcome.Touched at) m) one (as_commanded e at t p d tool ran head)
+touched_made e made at t (Command.PtMeas p d) None ran head longer = same e (Outcome.Touched at) made longer
+touched_made e made at t (Command.ChangeTool n) tool ran head longer = same e (Outcome.Touched at) made longer
+touched_made e made at t (Command.SetCsyTransformation p) tool ran head longer = same e (Outcome.Touched at) made longer
+touched_made e made at t (Command.SetCoordSystem system) tool ran head longer = same e (Outcome.Touched at) made longer
+touched_made e made at t Command.AbortE tool ran head longer = same e (Outcome.Touched at) made longer
 
 machined_made : (e : ServerEnd) (made : MadeContact) (ended : Outcome) (running : Option Line) → e.server.running ≡ running
     → contacts (machined e.server ended running).server.ledger ≡ contacts e.server.ledger ++ made ∷ [] → IsCommanded e ended made
 machined_made e made ended None ran longer = same e ended made longer
-machined_made e made outcome.Done (Some line) ran longer = finished_made e made line.tag line.command longer
-machined_made e made (outcome.Touched at) (Some line) ran longer =
+machined_made e made Outcome.Done (Some line) ran longer = finished_made e made line.tag line.command longer
+machined_made e made (Outcome.Touched at) (Some line) ran longer =
     touched_made e made at line.tag line.command e.server.tool ran refl longer
-machined_made e made outcome.Missed (Some line) ran longer = same e outcome.Missed made longer
-machined_made e made outcome.Fault (Some line) ran longer = same e outcome.Fault made longer
+machined_made e made Outcome.Missed (Some line) ran longer = same e Outcome.Missed made longer
+machined_made e made Outcome.Fault (Some line) ran longer = same e Outcome.Fault made longer
 
 pub machined_as_commanded : (ended : Outcome) (e : ServerEnd) (made : MadeContact)
     → contacts (server_machined e.server ended).server.ledger ≡ contacts e.server.ledger ++ made ∷ [] → IsCommanded e ended made

@@ -1,32 +1,15 @@
 -- Which act each call of a server completes.
-use Rattle.std.proofs.Common.{◌≡◌, ℕ, Bool, true, false, cond, not, ◌&&◌, is_none, is_some, List, [], ◌∷◌, ◌++◌, refl, sym, ◌∙◌, ap, subst}
-use Rattle.std.proofs.Common.{Option, Some, None, Result, Ok, Err}
-use Rattle.std.proofs.lemmas.Bool.{false≢true, and_parts}
-use Rattle.std.specs.List.{AllByRecursion}
-use Rattle.fixed_um.specs.Points.{point_sum}
-use Rattle.fixed_um.specs.Shapes.{Direction}
-use Rattle.fixed_um.specs.declared.lengths.Point.{Point}
+use Rattle.server_core.proofs.Names.{[], ◌&&◌, ◌++◌, ◌∙◌, ◌∷◌, ◌≡◌, Accept, acts_at_once, AllByRecursion, and_parts, Answer, ap, behind_call, Bool}
+use Rattle.server_core.proofs.Names.{Call, carried, carried_out, checks, Command, command_in, completes_act, cond, contacts, Deed, deed_at_once}
+use Rattle.server_core.proofs.Names.{deed_of, Direction, done_by, done_deed, end_deed, Err, false, false≢true, Feed, finished, first_failing, is_none}
+use Rattle.server_core.proofs.Names.{is_some, IsCommanded, IsContactOf, IsDone, IsSteady, Leave, Line, List, Machine, machined, MadeContact, may_end}
+use Rattle.server_core.proofs.Names.{may_turn, Misread, None, not, offset, Ok, ok_of, Option, Outcome, Point, point_sum, possible, ReadOne, refl}
+use Rattle.server_core.proofs.Names.{refusal, refusal_in, Reply, reply_bytes, Restart, Result, Sent, Server, server_machined, server_turned}
+use Rattle.server_core.proofs.Names.{ServerEnd, serving_accepted, serving_fed, serving_left, serving_machined, serving_restarted, serving_taken}
+use Rattle.server_core.proofs.Names.{serving_turned, Some, subst, sym, Tag, taken, touch_deed, touched, true, Turn, turn_deed, turned_to, Waiting}
+use Rattle.server_core.proofs.Names.{with_answer, ℕ}
 use Rattle.fixed_um.specs.declared.frames.Frame.{Frame}
-use Rattle.dme_line.specs.declared.tags.Tag.{Tag}
-use Rattle.dme_line.specs.declared.commands.Command.{Command}
-use Rattle.dme_line.specs.declared.commands.Command.TheVariants as command
-use Rattle.protocol_model.specs.declared.lines.Misread.{Misread}
-use Rattle.protocol_model.specs.Replies.{Reply}
-use Rattle.protocol_model.specs.Lines.{reply_bytes}
-use Rattle.protocol_model.specs.Claims.{MadeContact, contacts}
-use Rattle.protocol_model.specs.Server.{Server, Answer, offset, in_volume, first_failing, checks, refusal, carried_out, carried, taken}
-use Rattle.protocol_model.specs.Server.{turned_to, server_turned, finished, touched, machined, server_machined, may_end}
-use Rattle.protocol_model.specs.Ends.{ServerEnd, with_answer, serving_accepted, serving_fed, serving_turned, serving_machined, serving_left}
-use Rattle.protocol_model.specs.Ends.{serving_restarted, serving_taken}
-use Rattle.protocol_model.specs.declared.lines.Line.{Line}
-use Rattle.protocol_model.specs.declared.lines.Waiting.{Waiting}
-use Rattle.protocol_model.specs.declared.machine.Outcome.{Outcome}
-use Rattle.server_core.specs.Serving.{may_turn, ok_of, command_in, refusal_in}
-use Rattle.server_core.specs.Acting.{IsCommanded}
-use Rattle.server_core.specs.Steady.{IsSteady}
-use Rattle.server_core.specs.Calls.{Call, Accept, Feed, ReadOne, Turn, Machine, Leave, Restart, Sent, possible, done_by, behind_call}
-use Rattle.server_core.specs.Calls.{acts_at_once, completes_act, Deed, done_deed, touch_deed, end_deed, deed_at_once, turn_deed, deed_of}
-use Rattle.server_core.specs.Calls.{IsDone, IsContactOf}
+use Rattle.protocol_model.specs.Server.{in_volume}
 use Rattle.server_core.proofs.Ledgers.{read_keeps}
 use Rattle.server_core.proofs.Contacts.{not_longer, turned_no_contact, machined_as_commanded}
 use Rattle.server_core.proofs.Steadies.{nothing_runs}
@@ -57,18 +40,18 @@ with_bytes (Some deed) e a h = record {
 
 carried_done : (s : Server) (ws : List Waiting) (t : Tag) (c : Command) → s.running ≡ None
     → DoneBy (deed_at_once s t (Some c)) s (carried_out (record s { waiting = ws }) t c)
-carried_done s ws t command.StartSession idle = refl
-carried_done s ws t command.EndSession idle = refl
-carried_done s ws t command.ClearAllErrors idle = refl
-carried_done s ws t command.IsHomed idle = record { ledger = refl; said = refl; idle = idle }
-carried_done s ws t command.Home idle = refl
-carried_done s ws t command.OnPtMeasReport idle = refl
-carried_done s ws t (command.GoTo p) idle = refl
-carried_done s ws t (command.PtMeas p d) idle = refl
-carried_done s ws t (command.ChangeTool n) idle = refl
-carried_done s ws t (command.SetCsyTransformation p) idle = refl
-carried_done s ws t (command.SetCoordSystem system) idle = record { ledger = refl; said = refl; idle = idle }
-carried_done s ws t command.AbortE idle = refl
+carried_done s ws t Command.StartSession idle = refl
+carried_done s ws t Command.EndSession idle = refl
+carried_done s ws t Command.ClearAllErrors idle = refl
+carried_done s ws t Command.IsHomed idle = record { ledger = refl; said = refl; idle = idle }
+carried_done s ws t Command.Home idle = refl
+carried_done s ws t Command.OnPtMeasReport idle = refl
+carried_done s ws t (Command.GoTo p) idle = refl
+carried_done s ws t (Command.PtMeas p d) idle = refl
+carried_done s ws t (Command.ChangeTool n) idle = refl
+carried_done s ws t (Command.SetCsyTransformation p) idle = refl
+carried_done s ws t (Command.SetCoordSystem system) idle = record { ledger = refl; said = refl; idle = idle }
+carried_done s ws t Command.AbortE idle = refl
 
 taken_done : (s : Server) (w : Waiting) (ws : List Waiting) (number : Option ℕ) → s.running ≡ None
     → DoneBy (cond (is_none number) (deed_at_once s w.tag (ok_of w.reading)) None) s (taken s w ws number)
@@ -92,34 +75,34 @@ turn_done e true is =
 turn_done e false is = refl
 
 finished_done : (s : Server) (t : Tag) (c : Command) → DoneBy (done_deed s t c) s (finished s t c)
-finished_done s t command.StartSession = refl
-finished_done s t command.EndSession = refl
-finished_done s t command.ClearAllErrors = refl
-finished_done s t command.IsHomed = refl
-finished_done s t command.Home = record { ledger = refl; said = refl; idle = refl }
-finished_done s t command.OnPtMeasReport = refl
-finished_done s t (command.GoTo p) = record { ledger = refl; said = refl; idle = refl }
-finished_done s t (command.PtMeas p d) = refl
-finished_done s t (command.ChangeTool n) = record { ledger = refl; said = refl; idle = refl }
-finished_done s t (command.SetCsyTransformation p) = refl
-finished_done s t (command.SetCoordSystem system) = refl
-finished_done s t command.AbortE = refl
+finished_done s t Command.StartSession = refl
+finished_done s t Command.EndSession = refl
+finished_done s t Command.ClearAllErrors = refl
+finished_done s t Command.IsHomed = refl
+finished_done s t Command.Home = record { ledger = refl; said = refl; idle = refl }
+finished_done s t Command.OnPtMeasReport = refl
+finished_done s t (Command.GoTo p) = record { ledger = refl; said = refl; idle = refl }
+finished_done s t (Command.PtMeas p d) = refl
+finished_done s t (Command.ChangeTool n) = record { ledger = refl; said = refl; idle = refl }
+finished_done s t (Command.SetCsyTransformation p) = refl
+finished_done s t (Command.SetCoordSystem system) = refl
+finished_done s t Command.AbortE = refl
 
 touched_done : (s : Server) (t : Tag) (c : Command) (at : Point) (tool : Option (List ℕ))
     → DoneBy (touch_deed s t c at tool) s (touched s t c at tool)
-touched_done s t command.StartSession at tool = refl
-touched_done s t command.EndSession at tool = refl
-touched_done s t command.ClearAllErrors at tool = refl
-touched_done s t command.IsHomed at tool = refl
-touched_done s t command.Home at tool = refl
-touched_done s t command.OnPtMeasReport at tool = refl
-touched_done s t (command.GoTo p) at tool = refl
-touched_done s t (command.PtMeas p d) at (Some n) = record { ledger = refl; said = refl; idle = refl }
-touched_done s t (command.PtMeas p d) at None = refl
-touched_done s t (command.ChangeTool n) at tool = refl
-touched_done s t (command.SetCsyTransformation p) at tool = refl
-touched_done s t (command.SetCoordSystem system) at tool = refl
-touched_done s t command.AbortE at tool = refl
+touched_done s t Command.StartSession at tool = refl
+touched_done s t Command.EndSession at tool = refl
+touched_done s t Command.ClearAllErrors at tool = refl
+touched_done s t Command.IsHomed at tool = refl
+touched_done s t Command.Home at tool = refl
+touched_done s t Command.OnPtMeasReport at tool = refl
+touched_done s t (Command.GoTo p) at tool = refl
+touched_done s t (Command.PtMeas p d) at (Some n) = record { ledger = refl; said = refl; idle = refl }
+touched_done s t (Command.PtMeas p d) at None = refl
+touched_done s t (Command.ChangeTool n) at tool = refl
+touched_done s t (Command.SetCsyTransformation p) at tool = refl
+touched_done s t (Command.SetCoordSystem system) at tool = refl
+touched_done s t Command.AbortE at tool = refl
 
 machined_done : (s : Server) (ended : Outcome) (running : Option Line) → DoneBy (end_deed s ended running) s (machined s ended running)
 machined_done s Outcome.Done None = refl
@@ -167,10 +150,10 @@ record Passes (s : Server) (p : Point) (d : Option Direction) : Type 0 where
   tool : is_none s.tool ≡ false
   target : not (in_volume (point_sum p (offset s.frame))) ≡ false
 
-touch_passes : (s : Server) (p : Point) (d : Option Direction) → first_failing (checks s (command.PtMeas p d)) ≡ None → Passes s p d
+touch_passes : (s : Server) (p : Point) (d : Option Direction) → first_failing (checks s (Command.PtMeas p d)) ≡ None → Passes s p d
 touch_passes s p d e =
-    let passed : AllByRecursion (λ (test : Bool × ℕ). test.0 ≡ false) (checks s (command.PtMeas p d)) =
-    all_pass (checks s (command.PtMeas p d)) e in
+    let passed : AllByRecursion (λ (test : Bool × ℕ). test.0 ≡ false) (checks s (Command.PtMeas p d)) =
+    all_pass (checks s (Command.PtMeas p d)) e in
     record { tool = passed.1.1.1.1.0; target = passed.1.1.1.1.1.0 }
 
 not_false : (b : Bool) → not b ≡ false → b ≡ true
@@ -179,18 +162,18 @@ not_false false e = absurd (false≢true (sym e))
 
 at_once_due : (s : Server) (t : Tag) (c : Option Command) → is_some (deed_at_once s t c) ≡ acts_at_once c
 at_once_due s t None = refl
-at_once_due s t (Some command.StartSession) = refl
-at_once_due s t (Some command.EndSession) = refl
-at_once_due s t (Some command.ClearAllErrors) = refl
-at_once_due s t (Some command.IsHomed) = refl
-at_once_due s t (Some command.Home) = refl
-at_once_due s t (Some command.OnPtMeasReport) = refl
-at_once_due s t (Some (command.GoTo p)) = refl
-at_once_due s t (Some (command.PtMeas p d)) = refl
-at_once_due s t (Some (command.ChangeTool n)) = refl
-at_once_due s t (Some (command.SetCsyTransformation p)) = refl
-at_once_due s t (Some (command.SetCoordSystem system)) = refl
-at_once_due s t (Some command.AbortE) = refl
+at_once_due s t (Some Command.StartSession) = refl
+at_once_due s t (Some Command.EndSession) = refl
+at_once_due s t (Some Command.ClearAllErrors) = refl
+at_once_due s t (Some Command.IsHomed) = refl
+at_once_due s t (Some Command.Home) = refl
+at_once_due s t (Some Command.OnPtMeasReport) = refl
+at_once_due s t (Some (Command.GoTo p)) = refl
+at_once_due s t (Some (Command.PtMeas p d)) = refl
+at_once_due s t (Some (Command.ChangeTool n)) = refl
+at_once_due s t (Some (Command.SetCsyTransformation p)) = refl
+at_once_due s t (Some (Command.SetCoordSystem system)) = refl
+at_once_due s t (Some Command.AbortE) = refl
 
 taken_due : (s : Server) (t : Tag) (c : Option Command) (number : Option ℕ)
     → is_some (cond (is_none number) (deed_at_once s t c) None) ≡ (is_none number && acts_at_once c)
@@ -213,22 +196,22 @@ done_due s (Some line) = go line.command
   where
     go : (c : Command) → is_some (cond (may_end (Some (record { tag = line.tag; command = c })) Outcome.Done) (done_deed s line.tag c) None)
         ≡ may_end (Some (record { tag = line.tag; command = c })) Outcome.Done
-    go command.StartSession = refl
-    go command.EndSession = refl
-    go command.ClearAllErrors = refl
-    go command.IsHomed = refl
-    go command.Home = refl
-    go command.OnPtMeasReport = refl
-    go (command.GoTo p) = refl
-    go (command.PtMeas p d) = refl
-    go (command.ChangeTool n) = refl
-    go (command.SetCsyTransformation p) = refl
-    go (command.SetCoordSystem system) = refl
-    go command.AbortE = refl
+    go Command.StartSession = refl
+    go Command.EndSession = refl
+    go Command.ClearAllErrors = refl
+    go Command.IsHomed = refl
+    go Command.Home = refl
+    go Command.OnPtMeasReport = refl
+    go (Command.GoTo p) = refl
+    go (Command.PtMeas p d) = refl
+    go (Command.ChangeTool n) = refl
+    go (Command.SetCsyTransformation p) = refl
+    go (Command.SetCoordSystem system) = refl
+    go Command.AbortE = refl
 
 touched_due : (s : Server) (t : Tag) (p : Point) (d : Option Direction) (at : Point) (may : Bool) (tool : Option (List ℕ))
     → is_none tool ≡ false
-    → is_some (cond may (touch_deed s t (command.PtMeas p d) at tool) None) ≡ may
+    → is_some (cond may (touch_deed s t (Command.PtMeas p d) at tool) None) ≡ may
 touched_due s t p d at true (Some tool) has = refl
 touched_due s t p d at false tool has = refl
 touched_due s t p d at true None has = absurd (false≢true (sym has))
@@ -244,18 +227,18 @@ touch_due s at (Some line) passed = go line.command (passed line refl)
         → is_some (cond (may_end (Some (record { tag = line.tag; command = c })) (Outcome.Touched at)) (touch_deed s line.tag c at s.tool)
         None)
         ≡ may_end (Some (record { tag = line.tag; command = c })) (Outcome.Touched at)
-    go command.StartSession e = refl
-    go command.EndSession e = refl
-    go command.ClearAllErrors e = refl
-    go command.IsHomed e = refl
-    go command.Home e = refl
-    go command.OnPtMeasReport e = refl
-    go (command.GoTo p) e = refl
-    go (command.PtMeas p d) e = touched_due s line.tag p d at (in_volume at) s.tool (touch_passes s p d e).tool
-    go (command.ChangeTool n) e = refl
-    go (command.SetCsyTransformation p) e = refl
-    go (command.SetCoordSystem system) e = refl
-    go command.AbortE e = refl
+    go Command.StartSession e = refl
+    go Command.EndSession e = refl
+    go Command.ClearAllErrors e = refl
+    go Command.IsHomed e = refl
+    go Command.Home e = refl
+    go Command.OnPtMeasReport e = refl
+    go (Command.GoTo p) e = refl
+    go (Command.PtMeas p d) e = touched_due s line.tag p d at (in_volume at) s.tool (touch_passes s p d e).tool
+    go (Command.ChangeTool n) e = refl
+    go (Command.SetCsyTransformation p) e = refl
+    go (Command.SetCoordSystem system) e = refl
+    go Command.AbortE e = refl
 
 never_due : (may : Bool) (deed : Option Deed) → deed ≡ None → is_some (cond may deed None) ≡ false
 never_due true deed none = ap is_some none

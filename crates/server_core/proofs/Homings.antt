@@ -1,32 +1,12 @@
 -- Which calls home the machine of a server, and which end that.
-use Rattle.std.proofs.Common.{◌≡◌, ℕ, nat_le, Bool, true, false, cond, not, ◌&&◌, ◌||◌, is_none, List, [], ◌∷◌, length}
-use Rattle.std.proofs.Common.{refl, sym, ap, subst}
-use Rattle.std.proofs.Common.{Option, Some, None, Result, Ok, Err}
-use Rattle.std.proofs.lemmas.Bool.{false≢true}
-use Rattle.fixed_um.specs.declared.lengths.Point.{Point}
-use Rattle.dme_line.specs.Tags.{is_event_tag}
-use Rattle.dme_line.specs.declared.tags.Tag.{Tag}
-use Rattle.dme_line.specs.declared.commands.Command.{Command}
-use Rattle.dme_line.specs.declared.commands.Command.TheVariants as command
-use Rattle.dme_line.specs.declared.reading.LineFault.TheVariants as fault
-use Rattle.protocol_model.specs.Readings.{command_of}
-use Rattle.contact_ledger.specs.declared.acts.Act.TheVariants as act
-use Rattle.line_framing.specs.Next.{Front, next_of}
-use Rattle.protocol_model.specs.Replies.{Reading}
-use Rattle.protocol_model.specs.Lines.{reading_of}
-use Rattle.protocol_model.specs.Server.{Server, Answer, runs_under, waits_under, is_abort, is_clear, stands, fresh, tagged, server_read}
-use Rattle.protocol_model.specs.Server.{refusal, carried_out, carried, taken, turned_to, finished, touched, machined, may_end}
-use Rattle.protocol_model.specs.Ends.{ServerEnd, front_served, serving_accepted, serving_fed, serving_read, serving_turned}
-use Rattle.protocol_model.specs.Ends.{serving_machined, serving_taken}
-use Rattle.protocol_model.specs.declared.lines.Line.{Line}
-use Rattle.protocol_model.specs.declared.lines.Misread.{Misread}
-use Rattle.protocol_model.specs.declared.lines.Misread.TheVariants as misread
-use Rattle.protocol_model.specs.declared.lines.Waiting.{Waiting}
-use Rattle.protocol_model.specs.declared.machine.Outcome.{Outcome}
-use Rattle.server_core.specs.Serving.{may_turn, ok_of, command_in, refusal_in}
-use Rattle.server_core.specs.Calls.{Call, Accept, Feed, ReadOne, Turn, Machine, Leave, Restart, Sent, possible, behind_call, is_home}
-use Rattle.server_core.specs.Calls.{runs_home, homed_behind}
-use Rattle.server_core.specs.Calls.{Deed, deed_at_once, turn_deed, done_deed, touch_deed, end_deed, deed_of}
+use Rattle.server_core.proofs.Names.{[], ◌&&◌, ◌||◌, ◌∷◌, ◌≡◌, Accept, Act, Answer, ap, behind_call, Bool, Call, carried, carried_out, Command}
+use Rattle.server_core.proofs.Names.{command_in, command_of, cond, Deed, deed_at_once, deed_of, done_deed, end_deed, Err, false, false≢true, Feed}
+use Rattle.server_core.proofs.Names.{finished, fresh, Front, front_served, homed_behind, is_abort, is_clear, is_event_tag, is_home, is_none, Leave}
+use Rattle.server_core.proofs.Names.{length, Line, LineFault, List, Machine, machined, may_end, may_turn, Misread, nat_le, next_of, None, not, Ok}
+use Rattle.server_core.proofs.Names.{ok_of, Option, Outcome, Point, possible, Reading, reading_of, ReadOne, refl, refusal, refusal_in, Restart}
+use Rattle.server_core.proofs.Names.{Result, runs_home, runs_under, Sent, Server, server_read, ServerEnd, serving_accepted, serving_fed}
+use Rattle.server_core.proofs.Names.{serving_machined, serving_read, serving_taken, serving_turned, Some, stands, subst, sym, Tag, tagged, taken}
+use Rattle.server_core.proofs.Names.{touch_deed, touched, true, Turn, turn_deed, turned_to, Waiting, waits_under, ℕ}
 use Rattle.server_core.proofs.Deeds.{chosen}
 use Rattle.server_core.proofs.Steadies.{branch}
 
@@ -52,9 +32,9 @@ tagged_homed s t reading =
 
 read_homed : (s : Server) (reading : Reading) → Stays s (server_read s reading)
 read_homed s (Ok line) = tagged_homed s line.tag (Ok line.command)
-read_homed s (Err fault.NoTag) = refl
-read_homed s (Err (fault.UnknownCommand t)) = tagged_homed s t (Err misread.UnknownCommand)
-read_homed s (Err (fault.BadArguments t k)) = tagged_homed s t (Err (misread.BadArguments k))
+read_homed s (Err LineFault.NoTag) = refl
+read_homed s (Err (LineFault.UnknownCommand t)) = tagged_homed s t (Err Misread.UnknownCommand)
+read_homed s (Err (LineFault.BadArguments t k)) = tagged_homed s t (Err (Misread.BadArguments k))
 
 front_homed : (e : ServerEnd) (front : Front) → (front_served e front).server.homed ≡ e.server.homed
 front_homed e (Ok None) = refl
@@ -64,18 +44,18 @@ front_homed e (Err why) = refl
 -- ---- a turn
 
 carried_homed : (s : Server) (t : Tag) (c : Command) → (carried_out s t c).server.homed ≡ (not (is_home (Some c)) && s.homed)
-carried_homed s t command.StartSession = refl
-carried_homed s t command.EndSession = refl
-carried_homed s t command.ClearAllErrors = refl
-carried_homed s t command.IsHomed = refl
-carried_homed s t command.Home = refl
-carried_homed s t command.OnPtMeasReport = refl
-carried_homed s t (command.GoTo p) = refl
-carried_homed s t (command.PtMeas p d) = refl
-carried_homed s t (command.ChangeTool n) = refl
-carried_homed s t (command.SetCsyTransformation p) = refl
-carried_homed s t (command.SetCoordSystem system) = refl
-carried_homed s t command.AbortE = refl
+carried_homed s t Command.StartSession = refl
+carried_homed s t Command.EndSession = refl
+carried_homed s t Command.ClearAllErrors = refl
+carried_homed s t Command.IsHomed = refl
+carried_homed s t Command.Home = refl
+carried_homed s t Command.OnPtMeasReport = refl
+carried_homed s t (Command.GoTo p) = refl
+carried_homed s t (Command.PtMeas p d) = refl
+carried_homed s t (Command.ChangeTool n) = refl
+carried_homed s t (Command.SetCsyTransformation p) = refl
+carried_homed s t (Command.SetCoordSystem system) = refl
+carried_homed s t Command.AbortE = refl
 
 taken_homed : (s : Server) (w : Waiting) (ws : List Waiting) (number : Option ℕ)
     → (taken s w ws number).server.homed ≡ (not (is_none number && is_home (ok_of w.reading)) && s.homed)
@@ -104,51 +84,51 @@ done_homed s None = refl
 done_homed s (Some line) = go line.command
   where
     go : (c : Command) → (finished s line.tag c).server.homed ≡ (is_home (Some c) || s.homed)
-    go command.StartSession = refl
-    go command.EndSession = refl
-    go command.ClearAllErrors = refl
-    go command.IsHomed = refl
-    go command.Home = refl
-    go command.OnPtMeasReport = refl
-    go (command.GoTo p) = refl
-    go (command.PtMeas p d) = refl
-    go (command.ChangeTool n) = refl
-    go (command.SetCsyTransformation p) = refl
-    go (command.SetCoordSystem system) = refl
-    go command.AbortE = refl
+    go Command.StartSession = refl
+    go Command.EndSession = refl
+    go Command.ClearAllErrors = refl
+    go Command.IsHomed = refl
+    go Command.Home = refl
+    go Command.OnPtMeasReport = refl
+    go (Command.GoTo p) = refl
+    go (Command.PtMeas p d) = refl
+    go (Command.ChangeTool n) = refl
+    go (Command.SetCsyTransformation p) = refl
+    go (Command.SetCoordSystem system) = refl
+    go Command.AbortE = refl
 
 not_done : (running : Option Line) → may_end running Outcome.Done ≡ false → runs_home running ≡ false
 not_done None e = refl
 not_done (Some line) e = go line.command e
   where
     go : (c : Command) → may_end (Some (record { tag = line.tag; command = c })) Outcome.Done ≡ false → is_home (Some c) ≡ false
-    go command.StartSession e = refl
-    go command.EndSession e = refl
-    go command.ClearAllErrors e = refl
-    go command.IsHomed e = refl
-    go command.Home e = absurd (false≢true (sym e))
-    go command.OnPtMeasReport e = refl
-    go (command.GoTo p) e = refl
-    go (command.PtMeas p d) e = refl
-    go (command.ChangeTool n) e = refl
-    go (command.SetCsyTransformation p) e = refl
-    go (command.SetCoordSystem system) e = refl
-    go command.AbortE e = refl
+    go Command.StartSession e = refl
+    go Command.EndSession e = refl
+    go Command.ClearAllErrors e = refl
+    go Command.IsHomed e = refl
+    go Command.Home e = absurd (false≢true (sym e))
+    go Command.OnPtMeasReport e = refl
+    go (Command.GoTo p) e = refl
+    go (Command.PtMeas p d) e = refl
+    go (Command.ChangeTool n) e = refl
+    go (Command.SetCsyTransformation p) e = refl
+    go (Command.SetCoordSystem system) e = refl
+    go Command.AbortE e = refl
 
 touched_homed : (s : Server) (t : Tag) (c : Command) (at : Point) (tool : Option (List ℕ)) → Stays s (touched s t c at tool)
-touched_homed s t command.StartSession at tool = refl
-touched_homed s t command.EndSession at tool = refl
-touched_homed s t command.ClearAllErrors at tool = refl
-touched_homed s t command.IsHomed at tool = refl
-touched_homed s t command.Home at tool = refl
-touched_homed s t command.OnPtMeasReport at tool = refl
-touched_homed s t (command.GoTo p) at tool = refl
-touched_homed s t (command.PtMeas p d) at (Some n) = refl
-touched_homed s t (command.PtMeas p d) at None = refl
-touched_homed s t (command.ChangeTool n) at tool = refl
-touched_homed s t (command.SetCsyTransformation p) at tool = refl
-touched_homed s t (command.SetCoordSystem system) at tool = refl
-touched_homed s t command.AbortE at tool = refl
+touched_homed s t Command.StartSession at tool = refl
+touched_homed s t Command.EndSession at tool = refl
+touched_homed s t Command.ClearAllErrors at tool = refl
+touched_homed s t Command.IsHomed at tool = refl
+touched_homed s t Command.Home at tool = refl
+touched_homed s t Command.OnPtMeasReport at tool = refl
+touched_homed s t (Command.GoTo p) at tool = refl
+touched_homed s t (Command.PtMeas p d) at (Some n) = refl
+touched_homed s t (Command.PtMeas p d) at None = refl
+touched_homed s t (Command.ChangeTool n) at tool = refl
+touched_homed s t (Command.SetCsyTransformation p) at tool = refl
+touched_homed s t (Command.SetCoordSystem system) at tool = refl
+touched_homed s t Command.AbortE at tool = refl
 
 touch_homed : (s : Server) (at : Point) (running : Option Line) → Stays s (machined s (Outcome.Touched at) running)
 touch_homed s at None = refl
@@ -196,7 +176,7 @@ call_homed (Sent count) e = chosen (As (Sent count) e) (possible (Sent count) e)
 -- where a deed is an answer to IsHomed, it is this one
 abbrev Tells : Bool → Option Deed → Type 0
 Tells homed None = Unit {0}
-Tells homed (Some deed) = (told : Bool) → deed.act ≡ act.HomedIs told → told ≡ homed
+Tells homed (Some deed) = (told : Bool) → deed.act ≡ Act.HomedIs told → told ≡ homed
 
 tells_if : (homed b : Bool) (deed : Option Deed) → Tells homed deed → Tells homed (cond b deed None)
 tells_if homed true deed h = h
@@ -204,51 +184,51 @@ tells_if homed false deed h = tt
 
 told_at_once : (s : Server) (t : Tag) (c : Option Command) → Tells s.homed (deed_at_once s t c)
 told_at_once s t None = tt
-told_at_once s t (Some command.StartSession) = tt
-told_at_once s t (Some command.EndSession) = tt
-told_at_once s t (Some command.ClearAllErrors) = tt
-told_at_once s t (Some command.IsHomed) = λ told e. cc
-told_at_once s t (Some command.Home) = tt
-told_at_once s t (Some command.OnPtMeasReport) = tt
-told_at_once s t (Some (command.GoTo p)) = tt
-told_at_once s t (Some (command.PtMeas p d)) = tt
-told_at_once s t (Some (command.ChangeTool n)) = tt
-told_at_once s t (Some (command.SetCsyTransformation p)) = tt
-told_at_once s t (Some (command.SetCoordSystem system)) = λ told e. absurd (cc)
-told_at_once s t (Some command.AbortE) = tt
+told_at_once s t (Some Command.StartSession) = tt
+told_at_once s t (Some Command.EndSession) = tt
+told_at_once s t (Some Command.ClearAllErrors) = tt
+told_at_once s t (Some Command.IsHomed) = λ told e. cc
+told_at_once s t (Some Command.Home) = tt
+told_at_once s t (Some Command.OnPtMeasReport) = tt
+told_at_once s t (Some (Command.GoTo p)) = tt
+told_at_once s t (Some (Command.PtMeas p d)) = tt
+told_at_once s t (Some (Command.ChangeTool n)) = tt
+told_at_once s t (Some (Command.SetCsyTransformation p)) = tt
+told_at_once s t (Some (Command.SetCoordSystem system)) = λ told e. absurd (cc)
+told_at_once s t (Some Command.AbortE) = tt
 
 told_at_turn : (s : Server) (ws : List Waiting) → Tells s.homed (turn_deed s ws)
 told_at_turn s [] = tt
 told_at_turn s (w ∷ ws) = tells_if s.homed (is_none (refusal s w.reading)) _ (told_at_once s w.tag (ok_of w.reading))
 
 told_when_done : (s : Server) (t : Tag) (c : Command) → Tells s.homed (done_deed s t c)
-told_when_done s t command.StartSession = tt
-told_when_done s t command.EndSession = tt
-told_when_done s t command.ClearAllErrors = tt
-told_when_done s t command.IsHomed = tt
-told_when_done s t command.Home = λ told e. absurd (cc)
-told_when_done s t command.OnPtMeasReport = tt
-told_when_done s t (command.GoTo p) = λ told e. absurd (cc)
-told_when_done s t (command.PtMeas p d) = tt
-told_when_done s t (command.ChangeTool n) = λ told e. absurd (cc)
-told_when_done s t (command.SetCsyTransformation p) = tt
-told_when_done s t (command.SetCoordSystem system) = tt
-told_when_done s t command.AbortE = tt
+told_when_done s t Command.StartSession = tt
+told_when_done s t Command.EndSession = tt
+told_when_done s t Command.ClearAllErrors = tt
+told_when_done s t Command.IsHomed = tt
+told_when_done s t Command.Home = λ told e. absurd (cc)
+told_when_done s t Command.OnPtMeasReport = tt
+told_when_done s t (Command.GoTo p) = λ told e. absurd (cc)
+told_when_done s t (Command.PtMeas p d) = tt
+told_when_done s t (Command.ChangeTool n) = λ told e. absurd (cc)
+told_when_done s t (Command.SetCsyTransformation p) = tt
+told_when_done s t (Command.SetCoordSystem system) = tt
+told_when_done s t Command.AbortE = tt
 
 told_by_touch : (s : Server) (t : Tag) (c : Command) (at : Point) (tool : Option (List ℕ)) → Tells s.homed (touch_deed s t c at tool)
-told_by_touch s t command.StartSession at tool = tt
-told_by_touch s t command.EndSession at tool = tt
-told_by_touch s t command.ClearAllErrors at tool = tt
-told_by_touch s t command.IsHomed at tool = tt
-told_by_touch s t command.Home at tool = tt
-told_by_touch s t command.OnPtMeasReport at tool = tt
-told_by_touch s t (command.GoTo p) at tool = tt
-told_by_touch s t (command.PtMeas p d) at (Some n) = λ told e. absurd (cc)
-told_by_touch s t (command.PtMeas p d) at None = tt
-told_by_touch s t (command.ChangeTool n) at tool = tt
-told_by_touch s t (command.SetCsyTransformation p) at tool = tt
-told_by_touch s t (command.SetCoordSystem system) at tool = tt
-told_by_touch s t command.AbortE at tool = tt
+told_by_touch s t Command.StartSession at tool = tt
+told_by_touch s t Command.EndSession at tool = tt
+told_by_touch s t Command.ClearAllErrors at tool = tt
+told_by_touch s t Command.IsHomed at tool = tt
+told_by_touch s t Command.Home at tool = tt
+told_by_touch s t Command.OnPtMeasReport at tool = tt
+told_by_touch s t (Command.GoTo p) at tool = tt
+told_by_touch s t (Command.PtMeas p d) at (Some n) = λ told e. absurd (cc)
+told_by_touch s t (Command.PtMeas p d) at None = tt
+told_by_touch s t (Command.ChangeTool n) at tool = tt
+told_by_touch s t (Command.SetCsyTransformation p) at tool = tt
+told_by_touch s t (Command.SetCoordSystem system) at tool = tt
+told_by_touch s t Command.AbortE at tool = tt
 
 told_at_end : (s : Server) (ended : Outcome) (running : Option Line) → Tells s.homed (end_deed s ended running)
 told_at_end s Outcome.Done None = tt
@@ -270,6 +250,6 @@ told_by Leave e = tt
 told_by Restart e = tt
 told_by (Sent count) e = tt
 
-pub homed_is_told : (call : Call) (e : ServerEnd) (deed : Deed) (told : Bool) → deed_of call e ≡ Some deed → deed.act ≡ act.HomedIs told
+pub homed_is_told : (call : Call) (e : ServerEnd) (deed : Deed) (told : Bool) → deed_of call e ≡ Some deed → deed.act ≡ Act.HomedIs told
     → told ≡ e.server.homed
 homed_is_told call e deed told is = subst (Tells e.server.homed) is (told_by call e) told

@@ -1,24 +1,8 @@
 -- What each call of a server appends to its ledger.
-use Rattle.std.proofs.Common.{◌≡◌, ℕ, List, [], ◌∷◌, refl, ap, ◌∙◌, Option, Some, None, Result, Ok, Err, append-nil}
-use Rattle.fixed_um.specs.declared.lengths.Point.{Point}
-use Rattle.dme_line.specs.declared.tags.Tag.{Tag}
-use Rattle.dme_line.specs.declared.commands.Command.{Command}
-use Rattle.dme_line.specs.declared.commands.Command.TheVariants as command
-use Rattle.protocol_model.specs.Readings.{command_of}
-use Rattle.contact_ledger.specs.declared.acts.Act.{Act}
-use Rattle.contact_ledger.specs.declared.acts.Act.TheVariants as act
-use Rattle.line_framing.specs.Next.{Front, next_of}
-use Rattle.protocol_model.specs.Lines.{reading_of}
-use Rattle.protocol_model.specs.Claims.{contacts}
-use Rattle.protocol_model.specs.Server.{Server, Answer, frame_of, refusal, carried_out, carried, taken, turned_to, server_turned, finished}
-use Rattle.protocol_model.specs.Server.{touched, machined}
-use Rattle.protocol_model.specs.Ends.{ServerEnd, front_served, serving_read, serving_turned, serving_machined}
-use Rattle.protocol_model.specs.declared.lines.Line.{Line}
-use Rattle.protocol_model.specs.declared.lines.Misread.{Misread}
-use Rattle.protocol_model.specs.declared.lines.Waiting.{Waiting}
-use Rattle.protocol_model.specs.declared.machine.Outcome.{Outcome}
-use Rattle.protocol_model.proofs.invariant.Moves.{read_moves}
-use Rattle.server_core.specs.Acting.{with_act, IsOneMore}
+use Rattle.server_core.proofs.Names.{[], ◌∙◌, ◌∷◌, ◌≡◌, Act, Answer, ap, append-nil, carried, carried_out, Command, command_of, contacts, Err}
+use Rattle.server_core.proofs.Names.{finished, frame_of, Front, front_served, IsOneMore, Line, List, machined, Misread, next_of, None, Ok, Option}
+use Rattle.server_core.proofs.Names.{Outcome, Point, read_moves, reading_of, refl, refusal, Result, Server, server_turned, ServerEnd}
+use Rattle.server_core.proofs.Names.{serving_machined, serving_read, serving_turned, Some, Tag, taken, touched, turned_to, Waiting, with_act, ℕ}
 
 -- ---- a line that is read appends nothing
 
@@ -41,18 +25,18 @@ abbrev pub AddsNoContact : Server → Answer → Type 0
 AddsNoContact s a = (made : Option Act) × IsNoContact made × (a.server.ledger ≡ with_act s.last made s.ledger)
 
 carried_adds : (s : Server) (t : Tag) (c : Command) → AddsNoContact s (carried_out s t c)
-carried_adds s t command.StartSession = (None, λ n. refl, refl)
-carried_adds s t command.EndSession = (None, λ n. refl, refl)
-carried_adds s t command.ClearAllErrors = (None, λ n. refl, refl)
-carried_adds s t command.IsHomed = (Some (act.HomedIs s.homed), λ n. refl, refl)
-carried_adds s t command.Home = (None, λ n. refl, refl)
-carried_adds s t command.OnPtMeasReport = (None, λ n. refl, refl)
-carried_adds s t (command.GoTo p) = (None, λ n. refl, refl)
-carried_adds s t (command.PtMeas p d) = (None, λ n. refl, refl)
-carried_adds s t (command.ChangeTool n) = (None, λ n. refl, refl)
-carried_adds s t (command.SetCsyTransformation p) = (None, λ n. refl, refl)
-carried_adds s t (command.SetCoordSystem system) = (Some (act.Framed (frame_of system s.stored)), λ n. refl, refl)
-carried_adds s t command.AbortE = (None, λ n. refl, refl)
+carried_adds s t Command.StartSession = (None, λ n. refl, refl)
+carried_adds s t Command.EndSession = (None, λ n. refl, refl)
+carried_adds s t Command.ClearAllErrors = (None, λ n. refl, refl)
+carried_adds s t Command.IsHomed = (Some (Act.HomedIs s.homed), λ n. refl, refl)
+carried_adds s t Command.Home = (None, λ n. refl, refl)
+carried_adds s t Command.OnPtMeasReport = (None, λ n. refl, refl)
+carried_adds s t (Command.GoTo p) = (None, λ n. refl, refl)
+carried_adds s t (Command.PtMeas p d) = (None, λ n. refl, refl)
+carried_adds s t (Command.ChangeTool n) = (None, λ n. refl, refl)
+carried_adds s t (Command.SetCsyTransformation p) = (None, λ n. refl, refl)
+carried_adds s t (Command.SetCoordSystem system) = (Some (Act.Framed (frame_of system s.stored)), λ n. refl, refl)
+carried_adds s t Command.AbortE = (None, λ n. refl, refl)
 
 taken_adds : (s : Server) (w : Waiting) (ws : List Waiting) (number : Option ℕ) → AddsNoContact s (taken s w ws number)
 taken_adds s w ws (Some number) = (None, λ n. refl, refl)
@@ -78,33 +62,33 @@ abbrev pub Adds : Server → Answer → Type 0
 Adds s a = (added : Option Act) × (a.server.ledger ≡ with_act s.last added s.ledger)
 
 finished_adds : (s : Server) (t : Tag) (c : Command) → Adds s (finished s t c)
-finished_adds s t command.StartSession = (None, refl)
-finished_adds s t command.EndSession = (None, refl)
-finished_adds s t command.ClearAllErrors = (None, refl)
-finished_adds s t command.IsHomed = (None, refl)
-finished_adds s t command.Home = (Some act.Homed, refl)
-finished_adds s t command.OnPtMeasReport = (None, refl)
-finished_adds s t (command.GoTo p) = (Some (act.Moved p s.frame), refl)
-finished_adds s t (command.PtMeas p d) = (None, refl)
-finished_adds s t (command.ChangeTool n) = (Some (act.Changed n), refl)
-finished_adds s t (command.SetCsyTransformation p) = (None, refl)
-finished_adds s t (command.SetCoordSystem system) = (None, refl)
-finished_adds s t command.AbortE = (None, refl)
+finished_adds s t Command.StartSession = (None, refl)
+finished_adds s t Command.EndSession = (None, refl)
+finished_adds s t Command.ClearAllErrors = (None, refl)
+finished_adds s t Command.IsHomed = (None, refl)
+finished_adds s t Command.Home = (Some Act.Homed, refl)
+finished_adds s t Command.OnPtMeasReport = (None, refl)
+finished_adds s t (Command.GoTo p) = (Some (Act.Moved p s.frame), refl)
+finished_adds s t (Command.PtMeas p d) = (None, refl)
+finished_adds s t (Command.ChangeTool n) = (Some (Act.Changed n), refl)
+finished_adds s t (Command.SetCsyTransformation p) = (None, refl)
+finished_adds s t (Command.SetCoordSystem system) = (None, refl)
+finished_adds s t Command.AbortE = (None, refl)
 
 touched_adds : (s : Server) (t : Tag) (c : Command) (at : Point) (tool : Option (List ℕ)) → Adds s (touched s t c at tool)
-touched_adds s t command.StartSession at tool = (None, refl)
-touched_adds s t command.EndSession at tool = (None, refl)
-touched_adds s t command.ClearAllErrors at tool = (None, refl)
-touched_adds s t command.IsHomed at tool = (None, refl)
-touched_adds s t command.Home at tool = (None, refl)
-touched_adds s t command.OnPtMeasReport at tool = (None, refl)
-touched_adds s t (command.GoTo p) at tool = (None, refl)
-touched_adds s t (command.PtMeas p d) at (Some n) = (Some _, refl)
-touched_adds s t (command.PtMeas p d) at None = (None, refl)
-touched_adds s t (command.ChangeTool n) at tool = (None, refl)
-touched_adds s t (command.SetCsyTransformation p) at tool = (None, refl)
-touched_adds s t (command.SetCoordSystem system) at tool = (None, refl)
-touched_adds s t command.AbortE at tool = (None, refl)
+touched_adds s t Command.StartSession at tool = (None, refl)
+touched_adds s t Command.EndSession at tool = (None, refl)
+touched_adds s t Command.ClearAllErrors at tool = (None, refl)
+touched_adds s t Command.IsHomed at tool = (None, refl)
+touched_adds s t Command.Home at tool = (None, refl)
+touched_adds s t Command.OnPtMeasReport at tool = (None, refl)
+touched_adds s t (Command.GoTo p) at tool = (None, refl)
+touched_adds s t (Command.PtMeas p d) at (Some n) = (Some _, refl)
+touched_adds s t (Command.PtMeas p d) at None = (None, refl)
+touched_adds s t (Command.ChangeTool n) at tool = (None, refl)
+touched_adds s t (Command.SetCsyTransformation p) at tool = (None, refl)
+touched_adds s t (Command.SetCoordSystem system) at tool = (None, refl)
+touched_adds s t Command.AbortE at tool = (None, refl)
 
 machined_adds : (s : Server) (ended : Outcome) (running : Option Line) → Adds s (machined s ended running)
 machined_adds s ended None = (None, refl)

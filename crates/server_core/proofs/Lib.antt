@@ -1,3 +1,4 @@
+pub mod Names
 pub mod Aborting
 pub mod LinesRead
 pub mod Ledgers

@@ -1,38 +1,18 @@
 -- What holds of a server after every list of calls from a new one.
-use Rattle.std.proofs.Common.{◌≡◌, ℕ, ◌≤◌, nat_le, true, false, not, ◌&&◌, ◌||◌, is_some, List, [], ◌∷◌, ◌++◌, length, refl}
-use Rattle.std.proofs.Common.{sym, ◌∙◌, ap, subst, arith, append_assoc, append-nil, ◌⊎◌, inl, inr, Option, Some, None, Result, Ok, Err}
-use Rattle.std.proofs.lemmas.Bool.{false≢true, and_parts, leb-true}
-use Rattle.fixed_um.specs.declared.lengths.Point.{Point}
-use Rattle.dme_line.specs.Tags.{is_event_tag}
-use Rattle.dme_line.specs.declared.tags.Tag.{Tag}
-use Rattle.dme_line.specs.declared.commands.Command.{Command}
-use Rattle.dme_line.specs.declared.commands.Command.TheVariants as command
-use Rattle.protocol_model.specs.declared.lines.Misread.{Misread}
-use Rattle.protocol_model.specs.declared.lines.Misread.TheVariants as misread
-use Rattle.dme_line.specs.declared.reading.LineFault.TheVariants as fault
-use Rattle.protocol_model.specs.Readings.{command_of}
-use Rattle.line_framing.specs.Next.{Front, next_of}
-use Rattle.line_framing.specs.Framing.{fed_behind}
-use Rattle.line_framing.specs.declared.faults.FramingFault.{FramingFault}
-use Rattle.protocol_model.specs.Replies.{Reading}
-use Rattle.protocol_model.specs.Lines.{reading_of}
-use Rattle.protocol_model.specs.Server.{Server, Answer, runs_under, waits_under, is_abort, is_clear, stands, fresh}
-use Rattle.protocol_model.specs.Server.{tagged, server_read, refusal, carried_out, carried, taken, turned_to, server_turned, finished}
-use Rattle.protocol_model.specs.Server.{touched, machined, may_end}
-use Rattle.protocol_model.specs.Ends.{ServerEnd, new_server_end, front_served, serving_accepted, serving_fed, serving_read, serving_turned}
-use Rattle.protocol_model.specs.Ends.{serving_machined, serving_taken}
-use Rattle.protocol_model.specs.declared.lines.Line.{Line}
-use Rattle.protocol_model.specs.declared.lines.Waiting.{Waiting}
-use Rattle.protocol_model.specs.declared.machine.Outcome.{Outcome}
-use Rattle.server_core.specs.Steady.{IsSteady, IsServing, AreStandard}
-use Rattle.server_core.specs.Calls.{Call, Accept, Feed, ReadOne, Turn, Machine, Leave, Restart, Sent, possible, behind_call}
-use Rattle.server_core.specs.Calls.{behind_calls, reached, gives_up, completes_act, deed_of, IsDone, IsContactOf, RunsInError, StaysInError}
-use Rattle.server_core.specs.Calls.{IsFull, RanBefore, IsEndOfEarlier}
+use Rattle.server_core.proofs.Names.{[], ◌&&◌, ◌++◌, ◌||◌, ◌∙◌, ◌∷◌, ◌≡◌, ◌≤◌, ◌⊎◌, Accept, and_parts, Answer, ap, append-nil, append_assoc}
+use Rattle.server_core.proofs.Names.{AreStandard, arith, behind_call, behind_calls, Call, carried, carried_out, Command, command_of, completes_act}
+use Rattle.server_core.proofs.Names.{contacts, deed_of, Err, false, false≢true, fed_behind, Feed, finished, FramingFault, fresh, Front, front_served}
+use Rattle.server_core.proofs.Names.{gives_up, inl, inr, is_abort, is_clear, is_event_tag, is_some, IsContactOf, IsDone, IsEndOfEarlier, IsFull}
+use Rattle.server_core.proofs.Names.{IsServing, IsSteady, Leave, leb-true, length, Line, LineFault, List, Machine, machined, MadeContact, may_end}
+use Rattle.server_core.proofs.Names.{Misread, nat_le, new_server_end, next_of, None, not, Ok, Option, Outcome, Point, possible, RanBefore, reached}
+use Rattle.server_core.proofs.Names.{Reading, reading_of, ReadOne, refl, refusal, Restart, Result, runs_under, RunsInError, Sent, Server, server_read}
+use Rattle.server_core.proofs.Names.{server_turned, ServerEnd, serving_accepted, serving_fed, serving_machined, serving_read, serving_taken}
+use Rattle.server_core.proofs.Names.{serving_turned, Some, stands, StaysInError, subst, sym, Tag, tagged, taken, touched, true, Turn, turned_to}
+use Rattle.server_core.proofs.Names.{Waiting, waits_under, ℕ}
 use Rattle.server_core.proofs.Steadies.{branch, none_some, not_empty, nothing_runs, empty_waits, accepted_steady, fed_steady, read_steady}
 use Rattle.server_core.proofs.Steadies.{turned_steady, machined_steady, left_steady, restarted_steady, taken_steady, new_steady}
 use Rattle.server_core.proofs.Standards.{read_standard, turned_standard, machined_standard}
 use Rattle.server_core.proofs.Deeds.{chosen, call_done, act_due, contact_of_call}
-use Rattle.protocol_model.specs.Claims.{MadeContact, contacts}
 
 -- ---- what holds at any time
 
@@ -144,9 +124,9 @@ tagged_came line s t reading few =
 
 read_came : (line : Line) (s : Server) (reading : Reading) → length s.waiting ≤ 64 → Came line s (server_read s reading)
 read_came line s (Ok l) few = tagged_came line s l.tag (Ok l.command) few
-read_came line s (Err fault.NoTag) few = as_before line s
-read_came line s (Err (fault.UnknownCommand t)) few = tagged_came line s t (Err misread.UnknownCommand) few
-read_came line s (Err (fault.BadArguments t k)) few = tagged_came line s t (Err (misread.BadArguments k)) few
+read_came line s (Err LineFault.NoTag) few = as_before line s
+read_came line s (Err (LineFault.UnknownCommand t)) few = tagged_came line s t (Err Misread.UnknownCommand) few
+read_came line s (Err (LineFault.BadArguments t k)) few = tagged_came line s t (Err (Misread.BadArguments k)) few
 
 front_came : (line : Line) (e : ServerEnd) (front : Front) → length e.server.waiting ≤ 64
     → (front_served e front).server.error ≡ true → (front_served e front).server.running ≡ Some line → Before line e.server
@@ -155,18 +135,18 @@ front_came line e (Ok (Some (text, rest))) few = read_came line e.server (readin
 front_came line e (Err why) few = as_before line e.server
 
 carried_error : (s : Server) (t : Tag) (c : Command) → (carried_out s t c).server.error ≡ s.error
-carried_error s t command.StartSession = refl
-carried_error s t command.EndSession = refl
-carried_error s t command.ClearAllErrors = refl
-carried_error s t command.IsHomed = refl
-carried_error s t command.Home = refl
-carried_error s t command.OnPtMeasReport = refl
-carried_error s t (command.GoTo p) = refl
-carried_error s t (command.PtMeas p d) = refl
-carried_error s t (command.ChangeTool n) = refl
-carried_error s t (command.SetCsyTransformation p) = refl
-carried_error s t (command.SetCoordSystem system) = refl
-carried_error s t command.AbortE = refl
+carried_error s t Command.StartSession = refl
+carried_error s t Command.EndSession = refl
+carried_error s t Command.ClearAllErrors = refl
+carried_error s t Command.IsHomed = refl
+carried_error s t Command.Home = refl
+carried_error s t Command.OnPtMeasReport = refl
+carried_error s t (Command.GoTo p) = refl
+carried_error s t (Command.PtMeas p d) = refl
+carried_error s t (Command.ChangeTool n) = refl
+carried_error s t (Command.SetCsyTransformation p) = refl
+carried_error s t (Command.SetCoordSystem system) = refl
+carried_error s t Command.AbortE = refl
 
 taken_came : (line : Line) (s : Server) (w : Waiting) (ws : List Waiting) (number : Option ℕ) → s.running ≡ None → (s.error ≡ true → ⊥)
     → Stayed line s (taken s w ws number)
@@ -185,34 +165,34 @@ turned_came line s idle quiet = go s.waiting refl
     go (w ∷ ws) is = taken_came line s w ws (refusal s w.reading) idle (λ error. not_empty w ws (sym is ∙ quiet error))
 
 finished_came : (line : Line) (s : Server) (t : Tag) (c : Command) → Stayed line s (finished s t c)
-finished_came line s t command.StartSession = still_ran line s
-finished_came line s t command.EndSession = still_ran line s
-finished_came line s t command.ClearAllErrors = still_ran line s
-finished_came line s t command.IsHomed = still_ran line s
-finished_came line s t command.Home = λ error runs. absurd (none_some None line refl runs)
-finished_came line s t command.OnPtMeasReport = still_ran line s
-finished_came line s t (command.GoTo p) = λ error runs. absurd (none_some None line refl runs)
-finished_came line s t (command.PtMeas p d) = still_ran line s
-finished_came line s t (command.ChangeTool n) = λ error runs. absurd (none_some None line refl runs)
-finished_came line s t (command.SetCsyTransformation p) = still_ran line s
-finished_came line s t (command.SetCoordSystem system) = still_ran line s
-finished_came line s t command.AbortE = still_ran line s
+finished_came line s t Command.StartSession = still_ran line s
+finished_came line s t Command.EndSession = still_ran line s
+finished_came line s t Command.ClearAllErrors = still_ran line s
+finished_came line s t Command.IsHomed = still_ran line s
+finished_came line s t Command.Home = λ error runs. absurd (none_some None line refl runs)
+finished_came line s t Command.OnPtMeasReport = still_ran line s
+finished_came line s t (Command.GoTo p) = λ error runs. absurd (none_some None line refl runs)
+finished_came line s t (Command.PtMeas p d) = still_ran line s
+finished_came line s t (Command.ChangeTool n) = λ error runs. absurd (none_some None line refl runs)
+finished_came line s t (Command.SetCsyTransformation p) = still_ran line s
+finished_came line s t (Command.SetCoordSystem system) = still_ran line s
+finished_came line s t Command.AbortE = still_ran line s
 
 touched_came : (line : Line) (s : Server) (t : Tag) (c : Command) (at : Point) (tool : Option (List ℕ))
     → Stayed line s (touched s t c at tool)
-touched_came line s t command.StartSession at tool = still_ran line s
-touched_came line s t command.EndSession at tool = still_ran line s
-touched_came line s t command.ClearAllErrors at tool = still_ran line s
-touched_came line s t command.IsHomed at tool = still_ran line s
-touched_came line s t command.Home at tool = still_ran line s
-touched_came line s t command.OnPtMeasReport at tool = still_ran line s
-touched_came line s t (command.GoTo p) at tool = still_ran line s
-touched_came line s t (command.PtMeas p d) at (Some n) = λ error runs. absurd (none_some None line refl runs)
-touched_came line s t (command.PtMeas p d) at None = still_ran line s
-touched_came line s t (command.ChangeTool n) at tool = still_ran line s
-touched_came line s t (command.SetCsyTransformation p) at tool = still_ran line s
-touched_came line s t (command.SetCoordSystem system) at tool = still_ran line s
-touched_came line s t command.AbortE at tool = still_ran line s
+touched_came line s t Command.StartSession at tool = still_ran line s
+touched_came line s t Command.EndSession at tool = still_ran line s
+touched_came line s t Command.ClearAllErrors at tool = still_ran line s
+touched_came line s t Command.IsHomed at tool = still_ran line s
+touched_came line s t Command.Home at tool = still_ran line s
+touched_came line s t Command.OnPtMeasReport at tool = still_ran line s
+touched_came line s t (Command.GoTo p) at tool = still_ran line s
+touched_came line s t (Command.PtMeas p d) at (Some n) = λ error runs. absurd (none_some None line refl runs)
+touched_came line s t (Command.PtMeas p d) at None = still_ran line s
+touched_came line s t (Command.ChangeTool n) at tool = still_ran line s
+touched_came line s t (Command.SetCsyTransformation p) at tool = still_ran line s
+touched_came line s t (Command.SetCoordSystem system) at tool = still_ran line s
+touched_came line s t Command.AbortE at tool = still_ran line s
 
 machined_came : (line : Line) (s : Server) (ended : Outcome) (running : Option Line) → Stayed line s (machined s ended running)
 machined_came line s ended None = still_ran line s

@@ -1,20 +1,12 @@
 -- What holds of a server at any time, as its calls keep it.
-use Rattle.std.proofs.Common.{◌≡◌, ℕ, true, false, List, ◌++◌, sym, ◌∙◌, ap, subst, Some, Result, Ok, Err, OnOk, OnErr, is_err}
-use Rattle.std.proofs.lemmas.Bool.{false≢true}
-use Rattle.line_framing.specs.Next.{Front, next_of}
-use Rattle.line_framing.specs.Framing.{Framing}
-use Rattle.line_framing.specs.declared.faults.FramingFault.{FramingFault}
-use Rattle.protocol_model.specs.Lines.{reading_of, reply_bytes}
-use Rattle.protocol_model.specs.Server.{Server, Answer, server_read, server_turned, server_machined, may_end}
-use Rattle.protocol_model.specs.Ends.{ServerEnd, front_served, serving_accepted, serving_fed, serving_left, serving_restarted}
-use Rattle.protocol_model.specs.Ends.{serving_taken, new_server_end}
-use Rattle.protocol_model.specs.declared.machine.Outcome.{Outcome}
-use Rattle.server_core.specs.Serving.{ControllerValue, with_answered, may_accept, may_feed, may_turn}
-use Rattle.server_core.specs.Steady.{IsSteady, AreStandard, IsServing}
+use Rattle.server_core.proofs.Names.{◌++◌, ◌∙◌, ◌≡◌, Answer, ap, AreStandard, command_of, ControllerValue, Err, false, false≢true, Framing}
+use Rattle.server_core.proofs.Names.{FramingFault, Front, front_served, is_err, IsServing, IsSteady, List, may_accept, may_end, may_feed, may_turn}
+use Rattle.server_core.proofs.Names.{new_server_end, next_of, Ok, OnErr, OnOk, Outcome, reading_of, reply_bytes, Result, Server, server_machined}
+use Rattle.server_core.proofs.Names.{server_read, server_turned, ServerEnd, serving_accepted, serving_fed, serving_left, serving_restarted}
+use Rattle.server_core.proofs.Names.{serving_taken, Some, subst, sym, true, with_answered, ℕ}
 use Rattle.server_core.proofs.Steadies.{new_steady, accepted_steady, fed_steady, fault_steady, read_steady, turned_steady, machined_steady}
 use Rattle.server_core.proofs.Steadies.{left_steady, restarted_steady, taken_steady}
 use Rattle.server_core.proofs.Standards.{front_standard, turned_standard, machined_standard}
-use Rattle.protocol_model.specs.Readings.{command_of}
 
 -- a server with its bytes, of which all holds that holds at any time
 abbrev pub Holds : Server → Framing → List ℕ → Type 0

@@ -1,29 +1,10 @@
 -- What waits has standard tags, where lines are read as the interface says.
-use Rattle.std.proofs.Common.{◌≡◌, ℕ, nat_le, false, not, ◌&&◌, ◌||◌, List, [], ◌∷◌, ◌++◌, length, sym, ◌∙◌, Option, Some}
-use Rattle.std.proofs.Common.{None, Result, Ok, Err}
-use Rattle.fixed_um.specs.declared.lengths.Point.{Point}
-use Rattle.dme_line.specs.Tags.{is_event_tag}
-use Rattle.dme_line.specs.CommandText.{ReadsCommand}
-use Rattle.dme_line.specs.declared.tags.Tag.{Tag}
-use Rattle.dme_line.specs.declared.commands.Command.{Command}
-use Rattle.dme_line.specs.declared.commands.Command.TheVariants as command
-use Rattle.dme_line.specs.declared.reading.LineFault.{LineFault}
-use Rattle.protocol_model.specs.declared.lines.Misread.{Misread}
-use Rattle.protocol_model.specs.declared.lines.Misread.TheVariants as misread
-use Rattle.dme_line.specs.declared.reading.LineFault.TheVariants as fault
-use Rattle.dme_line.proofs.ReadWritable.{read_is_writable}
-use Rattle.protocol_model.specs.Readings.{command_of, reads_command}
-use Rattle.line_framing.specs.Next.{Front, next_of}
-use Rattle.protocol_model.specs.Lines.{reading_of}
-use Rattle.protocol_model.specs.Server.{Server, Answer, runs_under, waits_under, is_abort, is_clear, stands, fresh, tagged, server_read}
-use Rattle.protocol_model.specs.Server.{refusal, carried_out, carried, taken, turned_to, server_turned, finished, touched, machined}
-use Rattle.protocol_model.specs.Server.{server_machined}
-use Rattle.protocol_model.specs.Ends.{ServerEnd, front_served, serving_read}
-use Rattle.protocol_model.specs.declared.lines.Line.{Line}
-use Rattle.protocol_model.specs.declared.lines.Waiting.{Waiting}
-use Rattle.protocol_model.specs.declared.machine.Outcome.{Outcome}
+use Rattle.server_core.proofs.Names.{[], ◌&&◌, ◌++◌, ◌||◌, ◌∙◌, ◌∷◌, ◌≡◌, Answer, AreStandard, carried, carried_out, Command, command_of, Err, false}
+use Rattle.server_core.proofs.Names.{finished, fresh, Front, front_served, HasStandardTag, is_abort, is_clear, is_event_tag, length, Line, LineFault}
+use Rattle.server_core.proofs.Names.{List, machined, Misread, nat_le, next_of, None, not, Ok, Option, Outcome, Point, read_is_writable, reading_of}
+use Rattle.server_core.proofs.Names.{reads_command, ReadsCommand, refusal, Result, runs_under, Server, server_machined, server_read, server_turned}
+use Rattle.server_core.proofs.Names.{ServerEnd, serving_read, Some, stands, sym, Tag, tagged, taken, touched, turned_to, Waiting, waits_under, ℕ}
 use Rattle.protocol_model.proofs.written_lines.PlainClient.{standard_kind}
-use Rattle.server_core.specs.Steady.{HasStandardTag, AreStandard}
 use Rattle.server_core.proofs.Steadies.{branch}
 
 standard_join : (ws : List Waiting) (w : Waiting) → AreStandard ws → HasStandardTag w → AreStandard (ws ++ w ∷ [])
@@ -62,11 +43,11 @@ reading_standard : (s : Server) (line : List ℕ) (reading : Result (Tag × Comm
     → Waits (server_read s (reading_of reading))
 reading_standard s line (Ok (t, c)) reads h =
     tagged_standard s t (Ok c) (λ other. (read_is_writable line t c reads).tagged.sort ∙ sym (standard_kind c other)) h
-reading_standard s line (Err fault.NoTag) reads h = h
-reading_standard s line (Err (fault.UnknownCommand t)) reads h =
-    tagged_standard s t (Err misread.UnknownCommand) tt h
-reading_standard s line (Err (fault.BadArguments t k)) reads h =
-    tagged_standard s t (Err (misread.BadArguments k)) tt h
+reading_standard s line (Err LineFault.NoTag) reads h = h
+reading_standard s line (Err (LineFault.UnknownCommand t)) reads h =
+    tagged_standard s t (Err Misread.UnknownCommand) tt h
+reading_standard s line (Err (LineFault.BadArguments t k)) reads h =
+    tagged_standard s t (Err (Misread.BadArguments k)) tt h
 
 pub front_standard : (e : ServerEnd) (front : Front) → AreStandard e.server.waiting
     → AreStandard (front_served e front).server.waiting
@@ -79,18 +60,18 @@ pub read_standard : (e : ServerEnd) → AreStandard e.server.waiting
 read_standard e h = front_standard e (next_of e.input.rest) h
 
 carried_standard : (s : Server) (t : Tag) (c : Command) → AreStandard s.waiting → Waits (carried_out s t c)
-carried_standard s t command.StartSession h = h
-carried_standard s t command.EndSession h = h
-carried_standard s t command.ClearAllErrors h = h
-carried_standard s t command.IsHomed h = h
-carried_standard s t command.Home h = h
-carried_standard s t command.OnPtMeasReport h = h
-carried_standard s t (command.GoTo p) h = h
-carried_standard s t (command.PtMeas p d) h = h
-carried_standard s t (command.ChangeTool n) h = h
-carried_standard s t (command.SetCsyTransformation p) h = h
-carried_standard s t (command.SetCoordSystem system) h = h
-carried_standard s t command.AbortE h = h
+carried_standard s t Command.StartSession h = h
+carried_standard s t Command.EndSession h = h
+carried_standard s t Command.ClearAllErrors h = h
+carried_standard s t Command.IsHomed h = h
+carried_standard s t Command.Home h = h
+carried_standard s t Command.OnPtMeasReport h = h
+carried_standard s t (Command.GoTo p) h = h
+carried_standard s t (Command.PtMeas p d) h = h
+carried_standard s t (Command.ChangeTool n) h = h
+carried_standard s t (Command.SetCsyTransformation p) h = h
+carried_standard s t (Command.SetCoordSystem system) h = h
+carried_standard s t Command.AbortE h = h
 
 taken_standard : (s : Server) (w : Waiting) (ws : List Waiting) (number : Option ℕ) → AreStandard ws → Waits (taken s w ws number)
 taken_standard s w ws (Some number) h = tt
@@ -108,34 +89,34 @@ turned_standard s h = go s.waiting h
     go (w ∷ ws) rest = taken_standard s w ws (refusal s w.reading) rest.1
 
 finished_standard : (s : Server) (t : Tag) (c : Command) → AreStandard s.waiting → Waits (finished s t c)
-finished_standard s t command.StartSession h = h
-finished_standard s t command.EndSession h = h
-finished_standard s t command.ClearAllErrors h = h
-finished_standard s t command.IsHomed h = h
-finished_standard s t command.Home h = h
-finished_standard s t command.OnPtMeasReport h = h
-finished_standard s t (command.GoTo p) h = h
-finished_standard s t (command.PtMeas p d) h = h
-finished_standard s t (command.ChangeTool n) h = h
-finished_standard s t (command.SetCsyTransformation p) h = h
-finished_standard s t (command.SetCoordSystem system) h = h
-finished_standard s t command.AbortE h = h
+finished_standard s t Command.StartSession h = h
+finished_standard s t Command.EndSession h = h
+finished_standard s t Command.ClearAllErrors h = h
+finished_standard s t Command.IsHomed h = h
+finished_standard s t Command.Home h = h
+finished_standard s t Command.OnPtMeasReport h = h
+finished_standard s t (Command.GoTo p) h = h
+finished_standard s t (Command.PtMeas p d) h = h
+finished_standard s t (Command.ChangeTool n) h = h
+finished_standard s t (Command.SetCsyTransformation p) h = h
+finished_standard s t (Command.SetCoordSystem system) h = h
+finished_standard s t Command.AbortE h = h
 
 touched_standard : (s : Server) (t : Tag) (c : Command) (at : Point) (tool : Option (List ℕ)) → AreStandard s.waiting
     → Waits (touched s t c at tool)
-touched_standard s t command.StartSession at tool h = h
-touched_standard s t command.EndSession at tool h = h
-touched_standard s t command.ClearAllErrors at tool h = h
-touched_standard s t command.IsHomed at tool h = h
-touched_standard s t command.Home at tool h = h
-touched_standard s t command.OnPtMeasReport at tool h = h
-touched_standard s t (command.GoTo p) at tool h = h
-touched_standard s t (command.PtMeas p d) at (Some n) h = h
-touched_standard s t (command.PtMeas p d) at None h = h
-touched_standard s t (command.ChangeTool n) at tool h = h
-touched_standard s t (command.SetCsyTransformation p) at tool h = h
-touched_standard s t (command.SetCoordSystem system) at tool h = h
-touched_standard s t command.AbortE at tool h = h
+touched_standard s t Command.StartSession at tool h = h
+touched_standard s t Command.EndSession at tool h = h
+touched_standard s t Command.ClearAllErrors at tool h = h
+touched_standard s t Command.IsHomed at tool h = h
+touched_standard s t Command.Home at tool h = h
+touched_standard s t Command.OnPtMeasReport at tool h = h
+touched_standard s t (Command.GoTo p) at tool h = h
+touched_standard s t (Command.PtMeas p d) at (Some n) h = h
+touched_standard s t (Command.PtMeas p d) at None h = h
+touched_standard s t (Command.ChangeTool n) at tool h = h
+touched_standard s t (Command.SetCsyTransformation p) at tool h = h
+touched_standard s t (Command.SetCoordSystem system) at tool h = h
+touched_standard s t Command.AbortE at tool h = h
 
 machined_by_standard : (s : Server) (ended : Outcome) (running : Option Line) → AreStandard s.waiting → Waits (machined s ended running)
 machined_by_standard s ended None h = h

@@ -1,37 +1,16 @@
 -- What holds of a server at any time is kept by each of its calls.
-use Rattle.std.proofs.Common.{◌≡◌, ℕ, ◌+◌, ◌≤◌, ◌<◌, nat_le, nat_lt, Bool, true, false, cond, not, ◌&&◌, ◌||◌, is_none, List, [], ◌∷◌, ◌++◌}
-use Rattle.std.proofs.Common.{length, drop, append-nil, refl, sym, ◌∙◌, ap, subst, arith, length-append, Option, Some, None, Result, Ok}
-use Rattle.std.proofs.Common.{Err}
-use Rattle.std.proofs.lemmas.Bool.{false≢true, and_parts, leb-true, le-leb, ltb-true}
+use Rattle.server_core.proofs.Names.{[], ◌&&◌, ◌++◌, ◌+◌, ◌<◌, ◌||◌, ◌∙◌, ◌∷◌, ◌≡◌, ◌≤◌, Act, and_parts, Answer, ap, append-nil, arith, Bool, carried}
+use Rattle.server_core.proofs.Names.{carried_out, checks, Command, command_of, cond, drop, Err, false, false≢true, fed_behind, finished}
+use Rattle.server_core.proofs.Names.{first_failing, FramingFault, fresh, Front, front_served, is_abort, is_clear, is_event_tag, is_none, IsOff}
+use Rattle.server_core.proofs.Names.{IsOrderly, IsRunnable, IsSound, IsSteady, le-leb, leb-true, length, length-append, Line, LineFault, List}
+use Rattle.server_core.proofs.Names.{ltb-true, machined, machined_moves, may_accept, may_end, may_feed, may_turn, Misread, Moves, nat_le, nat_lt}
+use Rattle.server_core.proofs.Names.{new_server_end, next_of, no_bytes, None, not, Ok, Option, Outcome, Point, read_moves, Reading, reading_of, refl}
+use Rattle.server_core.proofs.Names.{refusal, Result, runs_under, Server, server_machined, server_read, server_turned, ServerEnd, serving_accepted}
+use Rattle.server_core.proofs.Names.{serving_fed, serving_left, serving_machined, serving_read, serving_restarted, serving_taken, serving_turned}
+use Rattle.server_core.proofs.Names.{Some, stands, subst, sym, Tag, tagged, taken, touched, true, turned_moves, turned_to, Waiting, waits_under, ℕ}
 use Rattle.std.proofs.Math.Seq.{drop-nil}
-use Rattle.fixed_um.specs.declared.lengths.Point.{Point}
-use Rattle.dme_line.specs.Tags.{is_event_tag}
-use Rattle.dme_line.specs.declared.tags.Tag.{Tag}
-use Rattle.dme_line.specs.declared.commands.Command.{Command}
-use Rattle.dme_line.specs.declared.commands.Command.TheVariants as command
-use Rattle.protocol_model.specs.declared.lines.Misread.{Misread}
-use Rattle.protocol_model.specs.declared.lines.Misread.TheVariants as misread
-use Rattle.dme_line.specs.declared.reading.LineFault.TheVariants as fault
-use Rattle.protocol_model.specs.Readings.{command_of}
 use Rattle.contact_ledger.specs.Ledgers.{connection_most, IsConnection}
-use Rattle.contact_ledger.specs.declared.acts.Act.{Act}
 use Rattle.protocol_model.specs.Plan.{is_empty}
-use Rattle.line_framing.specs.Next.{Front, next_of}
-use Rattle.line_framing.specs.Framing.{IsSound, no_bytes, fed_behind}
-use Rattle.line_framing.specs.declared.faults.FramingFault.{FramingFault}
-use Rattle.protocol_model.specs.Replies.{Reading}
-use Rattle.protocol_model.specs.Lines.{reading_of}
-use Rattle.protocol_model.specs.Server.{Server, Answer, runs_under, waits_under, is_abort, is_clear, stands, fresh, tagged, server_read}
-use Rattle.protocol_model.specs.Server.{refusal, first_failing, checks, carried_out, carried, taken, turned_to, server_turned, finished}
-use Rattle.protocol_model.specs.Server.{touched, machined, server_machined, may_end}
-use Rattle.protocol_model.specs.Ends.{ServerEnd, front_served, serving_accepted, serving_fed, serving_read, serving_turned}
-use Rattle.protocol_model.specs.Ends.{serving_machined, serving_left, serving_restarted, serving_taken, new_server_end}
-use Rattle.protocol_model.specs.declared.lines.Line.{Line}
-use Rattle.protocol_model.specs.declared.lines.Waiting.{Waiting}
-use Rattle.protocol_model.specs.declared.machine.Outcome.{Outcome}
-use Rattle.protocol_model.proofs.invariant.Moves.{Moves, read_moves, turned_moves, machined_moves}
-use Rattle.server_core.specs.Serving.{may_accept, may_feed, may_turn}
-use Rattle.server_core.specs.Steady.{IsOff, IsRunnable, IsOrderly, IsSteady}
 
 -- ---- tests and lists
 
@@ -106,9 +85,9 @@ tagged_orderly s t reading h =
 
 pub read_orderly : (s : Server) (reading : Reading) → IsOrderly s → IsOrderly (server_read s reading).server
 read_orderly s (Ok line) h = tagged_orderly s line.tag (Ok line.command) h
-read_orderly s (Err fault.NoTag) h = h
-read_orderly s (Err (fault.UnknownCommand t)) h = tagged_orderly s t (Err misread.UnknownCommand) h
-read_orderly s (Err (fault.BadArguments t k)) h = tagged_orderly s t (Err (misread.BadArguments k)) h
+read_orderly s (Err LineFault.NoTag) h = h
+read_orderly s (Err (LineFault.UnknownCommand t)) h = tagged_orderly s t (Err Misread.UnknownCommand) h
+read_orderly s (Err (LineFault.BadArguments t k)) h = tagged_orderly s t (Err (Misread.BadArguments k)) h
 
 -- a server on which nothing runs
 still : (s : Server) → s.running ≡ None → (s.error ≡ true → s.waiting ≡ []) → length s.waiting ≤ 64 → IsOrderly s
@@ -122,18 +101,18 @@ starts s line ran quiet few able =
 
 carried_orderly : (s : Server) (t : Tag) (c : Command) → s.running ≡ None → (s.error ≡ true → s.waiting ≡ []) → length s.waiting ≤ 64
     → first_failing (checks s c) ≡ None → IsOrderly (carried_out s t c).server
-carried_orderly s t command.StartSession idle quiet few passed = still _ idle quiet few
-carried_orderly s t command.EndSession idle quiet few passed = still _ idle quiet few
-carried_orderly s t command.ClearAllErrors idle quiet few passed = still _ idle quiet few
-carried_orderly s t command.IsHomed idle quiet few passed = still _ idle quiet few
-carried_orderly s t command.Home idle quiet few passed = starts _ _ refl quiet few (refl, passed)
-carried_orderly s t command.OnPtMeasReport idle quiet few passed = still _ idle quiet few
-carried_orderly s t (command.GoTo p) idle quiet few passed = starts _ _ refl quiet few (refl, passed)
-carried_orderly s t (command.PtMeas p d) idle quiet few passed = starts _ _ refl quiet few (refl, passed)
-carried_orderly s t (command.ChangeTool n) idle quiet few passed = starts _ _ refl quiet few (refl, passed)
-carried_orderly s t (command.SetCsyTransformation p) idle quiet few passed = still _ idle quiet few
-carried_orderly s t (command.SetCoordSystem system) idle quiet few passed = still _ idle quiet few
-carried_orderly s t command.AbortE idle quiet few passed = still _ idle quiet few
+carried_orderly s t Command.StartSession idle quiet few passed = still _ idle quiet few
+carried_orderly s t Command.EndSession idle quiet few passed = still _ idle quiet few
+carried_orderly s t Command.ClearAllErrors idle quiet few passed = still _ idle quiet few
+carried_orderly s t Command.IsHomed idle quiet few passed = still _ idle quiet few
+carried_orderly s t Command.Home idle quiet few passed = starts _ _ refl quiet few (refl, passed)
+carried_orderly s t Command.OnPtMeasReport idle quiet few passed = still _ idle quiet few
+carried_orderly s t (Command.GoTo p) idle quiet few passed = starts _ _ refl quiet few (refl, passed)
+carried_orderly s t (Command.PtMeas p d) idle quiet few passed = starts _ _ refl quiet few (refl, passed)
+carried_orderly s t (Command.ChangeTool n) idle quiet few passed = starts _ _ refl quiet few (refl, passed)
+carried_orderly s t (Command.SetCsyTransformation p) idle quiet few passed = still _ idle quiet few
+carried_orderly s t (Command.SetCoordSystem system) idle quiet few passed = still _ idle quiet few
+carried_orderly s t Command.AbortE idle quiet few passed = still _ idle quiet few
 
 one_fewer : (w : Waiting) (ws vs : List Waiting) → vs ≡ w ∷ ws → length vs ≤ 64 → length ws ≤ 64
 one_fewer w ws vs is few = let long : length vs ≡ length (w ∷ ws) = ap length is in omega arith
@@ -163,34 +142,34 @@ turned_orderly s idle h = go s.waiting refl
     go (w ∷ ws) is = taken_orderly s w ws (refusal s w.reading) refl idle is h
 
 finished_orderly : (s : Server) (t : Tag) (c : Command) → IsOrderly s → IsOrderly (finished s t c).server
-finished_orderly s t command.StartSession h = h
-finished_orderly s t command.EndSession h = h
-finished_orderly s t command.ClearAllErrors h = h
-finished_orderly s t command.IsHomed h = h
-finished_orderly s t command.Home h = still _ refl h.quiet h.few
-finished_orderly s t command.OnPtMeasReport h = h
-finished_orderly s t (command.GoTo p) h = still _ refl h.quiet h.few
-finished_orderly s t (command.PtMeas p d) h = h
-finished_orderly s t (command.ChangeTool n) h = still _ refl h.quiet h.few
-finished_orderly s t (command.SetCsyTransformation p) h = h
-finished_orderly s t (command.SetCoordSystem system) h = h
-finished_orderly s t command.AbortE h = h
+finished_orderly s t Command.StartSession h = h
+finished_orderly s t Command.EndSession h = h
+finished_orderly s t Command.ClearAllErrors h = h
+finished_orderly s t Command.IsHomed h = h
+finished_orderly s t Command.Home h = still _ refl h.quiet h.few
+finished_orderly s t Command.OnPtMeasReport h = h
+finished_orderly s t (Command.GoTo p) h = still _ refl h.quiet h.few
+finished_orderly s t (Command.PtMeas p d) h = h
+finished_orderly s t (Command.ChangeTool n) h = still _ refl h.quiet h.few
+finished_orderly s t (Command.SetCsyTransformation p) h = h
+finished_orderly s t (Command.SetCoordSystem system) h = h
+finished_orderly s t Command.AbortE h = h
 
 touched_orderly : (s : Server) (t : Tag) (c : Command) (at : Point) (tool : Option (List ℕ)) → IsOrderly s
     → IsOrderly (touched s t c at tool).server
-touched_orderly s t command.StartSession at tool h = h
-touched_orderly s t command.EndSession at tool h = h
-touched_orderly s t command.ClearAllErrors at tool h = h
-touched_orderly s t command.IsHomed at tool h = h
-touched_orderly s t command.Home at tool h = h
-touched_orderly s t command.OnPtMeasReport at tool h = h
-touched_orderly s t (command.GoTo p) at tool h = h
-touched_orderly s t (command.PtMeas p d) at (Some n) h = still _ refl h.quiet h.few
-touched_orderly s t (command.PtMeas p d) at None h = h
-touched_orderly s t (command.ChangeTool n) at tool h = h
-touched_orderly s t (command.SetCsyTransformation p) at tool h = h
-touched_orderly s t (command.SetCoordSystem system) at tool h = h
-touched_orderly s t command.AbortE at tool h = h
+touched_orderly s t Command.StartSession at tool h = h
+touched_orderly s t Command.EndSession at tool h = h
+touched_orderly s t Command.ClearAllErrors at tool h = h
+touched_orderly s t Command.IsHomed at tool h = h
+touched_orderly s t Command.Home at tool h = h
+touched_orderly s t Command.OnPtMeasReport at tool h = h
+touched_orderly s t (Command.GoTo p) at tool h = h
+touched_orderly s t (Command.PtMeas p d) at (Some n) h = still _ refl h.quiet h.few
+touched_orderly s t (Command.PtMeas p d) at None h = h
+touched_orderly s t (Command.ChangeTool n) at tool h = h
+touched_orderly s t (Command.SetCsyTransformation p) at tool h = h
+touched_orderly s t (Command.SetCoordSystem system) at tool h = h
+touched_orderly s t Command.AbortE at tool h = h
 
 machined_by_orderly : (s : Server) (ended : Outcome) (running : Option Line) → IsOrderly s → IsOrderly (machined s ended running).server
 machined_by_orderly s ended None h = h

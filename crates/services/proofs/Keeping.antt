@@ -8,34 +8,33 @@ use Rattle.contact_ledger.specs.declared.acts.Act.{Act}
 use Rattle.contact_ledger.proofs.WrittenTexts.{text_more}
 use Rattle.effects.specs.Effects.{Reply, Done}
 use Rattle.services.specs.declared.stages.Stage.{Stage}
-use Rattle.services.specs.declared.stages.Stage.TheVariants as stage
 use Rattle.services.specs.Sessions.{Core, Outside, State, GoesOn, due, due_at, outcome, is_serving, Ready, IsKept, IsBefore, HasAllBut, IsMore, kept, begun, followed}
 
 pub serving_ready : (s : Stage) (c : Core) (o : Outside) → is_serving s ≡ true → IsKept c o → Ready s c o
-serving_ready stage.Logged c o e k = absurd (true≢false (sym e))
-serving_ready stage.Looking c o e k = absurd (true≢false (sym e))
-serving_ready stage.Making c o e k = absurd (true≢false (sym e))
-serving_ready stage.Listening c o e k = absurd (true≢false (sym e))
-serving_ready stage.Discarding c o e k = absurd (true≢false (sym e))
-serving_ready stage.SettingAside c o e k = absurd (true≢false (sym e))
-serving_ready stage.Beginning c o e k = absurd (true≢false (sym e))
-serving_ready stage.Peeking c o e k = k
-serving_ready stage.Accepting c o e k = k
-serving_ready stage.Pausing c o e k = k
-serving_ready stage.Checking c o e k = k
-serving_ready stage.Timing c o e k = k
-serving_ready stage.Receiving c o e k = k
-serving_ready stage.Tracing c o e k = absurd (true≢false (sym e))
-serving_ready stage.Stamping c o e k = absurd (true≢false (sym e))
-serving_ready stage.Logging c o e k = absurd (true≢false (sym e))
-serving_ready stage.Keeping c o e k = absurd (true≢false (sym e))
-serving_ready stage.Sending c o e k = k
-serving_ready stage.Leaving c o e k = k
-serving_ready stage.Replacing c o e k = absurd (true≢false (sym e))
-serving_ready stage.Printing c o e k = absurd (true≢false (sym e))
-serving_ready stage.Saying c o e k = absurd (true≢false (sym e))
-serving_ready stage.Telling c o e k = absurd (true≢false (sym e))
-serving_ready stage.Exiting c o e k = absurd (true≢false (sym e))
+serving_ready Stage.Logged c o e k = absurd (true≢false (sym e))
+serving_ready Stage.Looking c o e k = absurd (true≢false (sym e))
+serving_ready Stage.Making c o e k = absurd (true≢false (sym e))
+serving_ready Stage.Listening c o e k = absurd (true≢false (sym e))
+serving_ready Stage.Discarding c o e k = absurd (true≢false (sym e))
+serving_ready Stage.SettingAside c o e k = absurd (true≢false (sym e))
+serving_ready Stage.Beginning c o e k = absurd (true≢false (sym e))
+serving_ready Stage.Peeking c o e k = k
+serving_ready Stage.Accepting c o e k = k
+serving_ready Stage.Pausing c o e k = k
+serving_ready Stage.Checking c o e k = k
+serving_ready Stage.Timing c o e k = k
+serving_ready Stage.Receiving c o e k = k
+serving_ready Stage.Tracing c o e k = absurd (true≢false (sym e))
+serving_ready Stage.Stamping c o e k = absurd (true≢false (sym e))
+serving_ready Stage.Logging c o e k = absurd (true≢false (sym e))
+serving_ready Stage.Keeping c o e k = absurd (true≢false (sym e))
+serving_ready Stage.Sending c o e k = k
+serving_ready Stage.Leaving c o e k = k
+serving_ready Stage.Replacing c o e k = absurd (true≢false (sym e))
+serving_ready Stage.Printing c o e k = absurd (true≢false (sym e))
+serving_ready Stage.Saying c o e k = absurd (true≢false (sym e))
+serving_ready Stage.Telling c o e k = absurd (true≢false (sym e))
+serving_ready Stage.Exiting c o e k = absurd (true≢false (sym e))
 
 -- what was to be added is in the file
 pub kept_ready : (t : State) (c : Core) (o : Outside) → is_serving (due t) ≡ true → t.core ≡ record c { text = [] } → HasAllBut c.text c o
@@ -95,32 +94,32 @@ nothing_ready c d e t o m h f k n g s = serving_ready (due t) t.core o s (subst 
 
 -- what was to be said was said
 due_same : (s : Stage) → due_at s s ≡ s
-due_same stage.Logged = refl
-due_same stage.Looking = refl
-due_same stage.Making = refl
-due_same stage.Listening = refl
-due_same stage.Discarding = refl
-due_same stage.SettingAside = refl
-due_same stage.Beginning = refl
-due_same stage.Peeking = refl
-due_same stage.Accepting = refl
-due_same stage.Pausing = refl
-due_same stage.Checking = refl
-due_same stage.Timing = refl
-due_same stage.Receiving = refl
-due_same stage.Tracing = refl
-due_same stage.Stamping = refl
-due_same stage.Logging = refl
-due_same stage.Keeping = refl
-due_same stage.Sending = refl
-due_same stage.Leaving = refl
-due_same stage.Replacing = refl
-due_same stage.Printing = refl
-due_same stage.Saying = refl
-due_same stage.Telling = refl
-due_same stage.Exiting = refl
+due_same Stage.Logged = refl
+due_same Stage.Looking = refl
+due_same Stage.Making = refl
+due_same Stage.Listening = refl
+due_same Stage.Discarding = refl
+due_same Stage.SettingAside = refl
+due_same Stage.Beginning = refl
+due_same Stage.Peeking = refl
+due_same Stage.Accepting = refl
+due_same Stage.Pausing = refl
+due_same Stage.Checking = refl
+due_same Stage.Timing = refl
+due_same Stage.Receiving = refl
+due_same Stage.Tracing = refl
+due_same Stage.Stamping = refl
+due_same Stage.Logging = refl
+due_same Stage.Keeping = refl
+due_same Stage.Sending = refl
+due_same Stage.Leaving = refl
+due_same Stage.Replacing = refl
+due_same Stage.Printing = refl
+due_same Stage.Saying = refl
+due_same Stage.Telling = refl
+due_same Stage.Exiting = refl
 
-pub said_ready : (s t : State) (reply : Reply) → s.stage ≡ stage.Saying → t ≡ record s { stage = s.next } → GoesOn s reply t
+pub said_ready : (s t : State) (reply : Reply) → s.stage ≡ Stage.Saying → t ≡ record s { stage = s.next } → GoesOn s reply t
 said_ready s t reply e f = λ o k. subst (λ (x : State). Ready (due x) x.core (outcome s.stage s.core reply o)) (sym f)
     (subst (λ (st : Stage). Ready (due_at s.next s.next) s.core (outcome st s.core reply o)) (sym e)
     (subst (λ (d : Stage). Ready d s.core o) (sym (due_same s.next))

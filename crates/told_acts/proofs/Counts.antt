@@ -1,44 +1,21 @@
 -- What a reply counts, next to the contacts reported before it.
-use Rattle.std.proofs.Common.{◌≡◌, ℕ, suc, Bool, true, false, not, ◌||◌, List, [], ◌∷◌, ◌++◌, length, drop, refl, sym, ◌∙◌, ap, subst}
-use Rattle.std.proofs.Common.{append-nil, Option, Some, None}
-use Rattle.std.proofs.Math.Seq.{drop-append_seam}
-use Rattle.std.proofs.lemmas.Bool.{false≢true}
+use Rattle.told_acts.proofs.Names.{[], ◌++◌, ◌||◌, ◌∙◌, ◌∷◌, ◌≡◌, Act, act_of, ap, append-nil, begins_session, Bool, contacts, counted_next, Datum}
+use Rattle.told_acts.proofs.Names.{done_on, drop, drop-append_seam, false, false≢true, fine, followed, HaveTouches, heard, is_empty, IsCalm, IsNext}
+use Rattle.told_acts.proofs.Names.{IsOnPlan, IsProgram, IsProgress, Kind, length, List, MadeContact, Marked, marks, marks_of, Meaning, measured}
+use Rattle.told_acts.proofs.Names.{next_touch, None, not, numbered, Option, passed_over, plan, plan_fits, Planned, Plans, program_is_plain, refl}
+use Rattle.told_acts.proofs.Names.{Some, start_behind, step_cases, subst, suc, sym, Table, Tag, tallied, Tally, tells_homed, told_homed, Touch}
+use Rattle.told_acts.proofs.Names.{touch_in, touches_in, true, Wanted, ℕ}
 use Rattle.dme_line.specs.Kinds.{kind_of}
-use Rattle.dme_line.specs.declared.tags.Tag.{Tag}
-use Rattle.dme_line.specs.declared.tags.Tag.TheVariants as tag
-use Rattle.dme_line.specs.declared.commands.Kind.{Kind}
-use Rattle.dme_line.specs.declared.commands.Kind.TheVariants as kind
-use Rattle.contact_ledger.specs.declared.acts.Act.{Act}
-use Rattle.dmis_program.specs.Meaning.{Meaning}
-use Rattle.dmis_program.specs.Programs.{IsProgram}
-use Rattle.dmis_program.specs.declared.features.Touch.{Touch}
-use Rattle.dmis_program.specs.declared.features.Wanted.{Wanted}
 use Rattle.protocol_model.specs.Replies.{Mark}
 use Rattle.protocol_model.specs.Open.{Effect}
-use Rattle.protocol_model.specs.Plan.{plan, is_empty}
-use Rattle.protocol_model.specs.Client.{Table, Tally, act_of, measured, counted_next, tallied, begins_session, tells_homed, passed_over}
-use Rattle.protocol_model.specs.Claims.{MadeContact, contacts}
-use Rattle.protocol_model.specs.Undisturbed.{followed}
-use Rattle.protocol_model.specs.declared.held.Datum.{Datum}
-use Rattle.protocol_model.specs.declared.held.Datum.TheVariants as datum
 use Rattle.protocol_model.specs.declared.held.OpenCommand.{OpenCommand}
 use Rattle.protocol_model.specs.declared.plans.Does.{Does}
-use Rattle.protocol_model.specs.declared.plans.Planned.{Planned}
-use Rattle.protocol_model.proofs.HeardTables.{heard}
-use Rattle.protocol_model.proofs.table.Replying.{fine, step_cases}
-use Rattle.protocol_model.proofs.plan.Blocks.{program_is_plain}
 use Rattle.protocol_model.proofs.plan.Fitting.{unknown}
-use Rattle.protocol_model.proofs.plan.Marks.{Marked, marks, marks_of, touch_in, touches_in, plan_fits}
 use Rattle.protocol_model.proofs.plan.PassedOver.{homing_is, passes}
-use Rattle.protocol_model.proofs.invariant.Moves.{done_on}
-use Rattle.protocol_model.proofs.invariant.Served.{HaveTouches, IsProgress, IsNext, next_touch}
-use Rattle.protocol_model.proofs.invariant.Touching.{HasDatum, Keeps, measured_keeps, Goes, does_goes}
-use Rattle.protocol_model.proofs.undisturbed_run.Following.{AreAsked, IsAskedBy, fits_asked, asked_at, kinds_of, IsGiven, has_datum}
-use Rattle.client_core.specs.Calls.{Plans, start_behind, told_homed}
-use Rattle.client_core.proofs.Fronts.{live_kinds, Fronted, fronted}
+use Rattle.protocol_model.proofs.invariant.Touching.{does_goes, Goes, HasDatum, Keeps, measured_keeps}
+use Rattle.protocol_model.proofs.undisturbed_run.Following.{AreAsked, asked_at, fits_asked, has_datum, IsAskedBy, IsGiven, kinds_of}
+use Rattle.client_core.proofs.Fronts.{Fronted, fronted, live_kinds}
 use Rattle.client_core.proofs.Homing.{followed_are_asked}
-use Rattle.client_core.proofs.Runs.{IsCalm, IsOnPlan}
-use Rattle.told_acts.specs.Told.{numbered}
 use Rattle.told_acts.proofs.Views.{View, view_by, told_to, none_told}
 
 -- ---- numbered acts
@@ -52,10 +29,10 @@ numbered_done n (a ∷ acts) = ap (λ (l : List (ℕ × Act)). (n, a) ∷ l) (nu
 
 measured_number : (ws : List Wanted) (does : Does) (given : Option Datum) (y : Tally)
     → (measured ws does given y).connection ≡ y.connection
-measured_number ws (Does.Touches t false) (Some (datum.Point p)) y = refl
-measured_number ws (Does.Touches t true) (Some (datum.Point p)) y = refl
-measured_number ws (Does.Touches t false) (Some (datum.Homed homed)) y = refl
-measured_number ws (Does.Touches t true) (Some (datum.Homed homed)) y = refl
+measured_number ws (Does.Touches t false) (Some (Datum.Point p)) y = refl
+measured_number ws (Does.Touches t true) (Some (Datum.Point p)) y = refl
+measured_number ws (Does.Touches t false) (Some (Datum.Homed homed)) y = refl
+measured_number ws (Does.Touches t true) (Some (Datum.Homed homed)) y = refl
 measured_number ws (Does.Touches t false) None y = refl
 measured_number ws (Does.Touches t true) None y = refl
 measured_number ws Does.Nothing given y = refl
@@ -125,10 +102,10 @@ pub record IsGoing (v : View) (ms : List MadeContact) : Type 0 where
   pub ended : left ≡ [] → v.points ≡ []
 
 -- commands that home the machine do no touch
-no_touch : (d : Does) (k : Kind) → IsAskedBy d k → k ≡ kind.Home → touch_in d ≡ []
+no_touch : (d : Does) (k : Kind) → IsAskedBy d k → k ≡ Kind.Home → touch_in d ≡ []
 no_touch (Does.Touches t last) k is home = absurd (apart (sym is ∙ home))
   where
-    apart : kind.PtMeas ≡ kind.Home → ⊥
+    apart : Kind.PtMeas ≡ Kind.Home → ⊥
     apart e = cc
 no_touch Does.AsksHomed k is home = refl
 no_touch Does.Nothing k is home = refl
@@ -163,11 +140,11 @@ not_empty (t ∷ ts) e none = cc
 measured_ends : (ws : List Wanted) (does : Does) (given : Option Datum) (y : Tally) (left later : List Wanted) (rest : List Marked)
     → HasDatum does given → HaveTouches left → touch_in does ++ rest ≡ marks_of left → rest ≡ marks_of later → (left ≡ [] → y.points ≡ [])
     → later ≡ [] → (measured ws does given y).points ≡ []
-measured_ends ws (Does.Touches t false) (Some (datum.Point p)) y left later rest has some e goes ended none =
+measured_ends ws (Does.Touches t false) (Some (Datum.Point p)) y left later rest has some e goes ended none =
     let next : IsNext t false rest left = next_touch t false rest left some e in
     absurd (some_marks next.ts (marks_of next.later) (not_empty next.ts next.ends) (sym next.rest_is ∙ (goes ∙ ap marks_of none)))
-measured_ends ws (Does.Touches t true) (Some (datum.Point p)) y left later rest has some e goes ended none = refl
-measured_ends ws (Does.Touches t last) (Some (datum.Homed homed)) y left later rest has some e goes ended none = absurd has
+measured_ends ws (Does.Touches t true) (Some (Datum.Point p)) y left later rest has some e goes ended none = refl
+measured_ends ws (Does.Touches t last) (Some (Datum.Homed homed)) y left later rest has some e goes ended none = absurd has
 measured_ends ws (Does.Touches t last) None y left later rest has some e goes ended none = absurd has
 measured_ends ws Does.AsksHomed given y left later rest has some e goes ended none =
     ended (none_left left some (sym e ∙ (goes ∙ ap marks_of none)))
@@ -287,5 +264,5 @@ heard_goes p on last program b c t m plans ms is f going =
     (λ zero_tag same. subst (λ (x : Table). GoesTo p on last ms b.tally x.tally) same none)
     (λ n hs e sort here after. subst (λ (x : Table). GoesTo p on last ms b.tally x.tally) (sym after)
     (effect_goes p on last program b.standard hs b.tally plans e ms f
-    (fronted (not b.tally.failed) b.standard (tag.Std n) m hs e here f.filled) going))
+    (fronted (not b.tally.failed) b.standard (Tag.Std n) m hs e here f.filled) going))
     (λ n hs e sort other here after. subst (λ (x : Table). GoesTo p on last ms b.tally x.tally) (sym after) none)

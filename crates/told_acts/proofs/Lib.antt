@@ -1,3 +1,4 @@
+pub mod Names
 pub mod Sounds
 pub mod Views
 pub mod Counts

@@ -1,17 +1,7 @@
 -- Features that are sound for a ledger are served by its contacts, and are those of the program by labels and counts.
-use Rattle.std.proofs.Common.{◌≡◌, ℕ, suc, ◌+◌, ◌-◌, ◌≤◌, ◌==◌, Bool, true, ◌&&◌, List, [], ◌∷◌, ◌++◌, length, take, drop, refl, sym}
-use Rattle.std.proofs.Common.{◌∙◌, ap, arith, eq-eqb}
-use Rattle.std.proofs.lemmas.List.{take-append-drop, drop-drop}
-use Rattle.std.specs.Prelude.{bytes_eq}
-use Rattle.fixed_um.specs.declared.lengths.Point.{Point}
-use Rattle.contact_ledger.specs.declared.acts.Act.{Act}
-use Rattle.contact_ledger.specs.declared.acts.Act.TheVariants as act
-use Rattle.contact_ledger.specs.declared.features.Feature.{Feature}
-use Rattle.dmis_program.specs.declared.features.Touch.{Touch}
-use Rattle.dmis_program.specs.declared.features.Wanted.{Wanted}
-use Rattle.protocol_model.specs.Claims.{MadeContact, contacts, Serves, IsRun, AreRuns, Sound}
-use Rattle.protocol_model.proofs.invariant.Served.{Served, HasRun}
-use Rattle.client_core.specs.Clients.{is_ours, are_ours}
+use Rattle.told_acts.proofs.Names.{[], ◌&&◌, ◌++◌, ◌+◌, ◌-◌, ◌==◌, ◌∙◌, ◌∷◌, ◌≡◌, ◌≤◌, Act, ap, are_ours, AreRuns, arith, Bool, bytes_eq, contacts}
+use Rattle.told_acts.proofs.Names.{drop, drop-drop, eq-eqb, Feature, HasRun, is_ours, IsRun, length, List, MadeContact, Point, refl, Served, Serves}
+use Rattle.told_acts.proofs.Names.{Sound, suc, sym, take, take-append-drop, Touch, true, Wanted, ℕ}
 
 -- ---- from start numbers to contacts in order
 
@@ -106,19 +96,19 @@ calm_cut x l xs ys calm c = record {
 pub cut_at : (l : List (ℕ × Act)) (xs ys : List MadeContact) → contacts l ≡ xs ++ ys → IsCut l xs ys
 cut_at l [] ys e = record { before = []; after = l; parts = refl; first = refl; then = e }
 cut_at [] (x ∷ xs) ys e = absurd (cc)
-cut_at ((n, act.Contact target dir tool frame point) ∷ l) (x ∷ xs) ys e =
+cut_at ((n, Act.Contact target dir tool frame point) ∷ l) (x ∷ xs) ys e =
     let c : IsCut l xs ys = cut_at l xs ys (cc) in
     let m : MadeContact = record { connection = n; target = target; dir = dir; tool = tool; frame = frame; point = point } in
     let head : m ≡ x = cc in
     record {
-      before = (n, act.Contact target dir tool frame point) ∷ c.before;
+      before = (n, Act.Contact target dir tool frame point) ∷ c.before;
       after = c.after;
-      parts = ap (λ (k : List (ℕ × Act)). (n, act.Contact target dir tool frame point) ∷ k) c.parts;
+      parts = ap (λ (k : List (ℕ × Act)). (n, Act.Contact target dir tool frame point) ∷ k) c.parts;
       first = ap (λ (k : List MadeContact). m ∷ k) c.first ∙ ap (λ (y : MadeContact). y ∷ xs) head;
       then = c.then;
     }
-cut_at ((n, act.HomedIs homed) ∷ l) (x ∷ xs) ys e = calm_cut (n, act.HomedIs homed) l (x ∷ xs) ys (λ k. refl) (cut_at l (x ∷ xs) ys e)
-cut_at ((n, act.Homed) ∷ l) (x ∷ xs) ys e = calm_cut (n, act.Homed) l (x ∷ xs) ys (λ k. refl) (cut_at l (x ∷ xs) ys e)
-cut_at ((n, act.Moved p f) ∷ l) (x ∷ xs) ys e = calm_cut (n, act.Moved p f) l (x ∷ xs) ys (λ k. refl) (cut_at l (x ∷ xs) ys e)
-cut_at ((n, act.Changed m) ∷ l) (x ∷ xs) ys e = calm_cut (n, act.Changed m) l (x ∷ xs) ys (λ k. refl) (cut_at l (x ∷ xs) ys e)
-cut_at ((n, act.Framed f) ∷ l) (x ∷ xs) ys e = calm_cut (n, act.Framed f) l (x ∷ xs) ys (λ k. refl) (cut_at l (x ∷ xs) ys e)
+cut_at ((n, Act.HomedIs homed) ∷ l) (x ∷ xs) ys e = calm_cut (n, Act.HomedIs homed) l (x ∷ xs) ys (λ k. refl) (cut_at l (x ∷ xs) ys e)
+cut_at ((n, Act.Homed) ∷ l) (x ∷ xs) ys e = calm_cut (n, Act.Homed) l (x ∷ xs) ys (λ k. refl) (cut_at l (x ∷ xs) ys e)
+cut_at ((n, Act.Moved p f) ∷ l) (x ∷ xs) ys e = calm_cut (n, Act.Moved p f) l (x ∷ xs) ys (λ k. refl) (cut_at l (x ∷ xs) ys e)
+cut_at ((n, Act.Changed m) ∷ l) (x ∷ xs) ys e = calm_cut (n, Act.Changed m) l (x ∷ xs) ys (λ k. refl) (cut_at l (x ∷ xs) ys e)
+cut_at ((n, Act.Framed f) ∷ l) (x ∷ xs) ys e = calm_cut (n, Act.Framed f) l (x ∷ xs) ys (λ k. refl) (cut_at l (x ∷ xs) ys e)

@@ -1,34 +1,15 @@
 -- What holds of the reported acts after every list of calls.
-use Rattle.std.proofs.Common.{◌≡◌, ℕ, zero, suc, ◌<◌, Bool, true, false, cond, List, [], ◌∷◌, ◌++◌, length, take, drop, refl, sym}
-use Rattle.std.proofs.Common.{◌∙◌, ap, subst, arith, append_assoc, append-nil, nat_lt}
-use Rattle.std.proofs.Math.Seq.{take-append_seam, drop-append_seam}
-use Rattle.std.proofs.lemmas.Bool.{false≢true, ltb-true}
-use Rattle.fixed_um.specs.declared.lengths.Point.{Point}
-use Rattle.dme_line.specs.declared.tags.Tag.TheVariants as tag
-use Rattle.line_framing.specs.Next.{next_of}
-use Rattle.contact_ledger.specs.declared.acts.Act.{Act}
-use Rattle.contact_ledger.specs.declared.features.Feature.{Feature}
-use Rattle.dmis_program.specs.Meaning.{Meaning}
-use Rattle.dmis_program.specs.Programs.{IsProgram}
-use Rattle.dmis_program.specs.declared.features.Touch.{Touch}
-use Rattle.dmis_program.specs.declared.features.Wanted.{Wanted}
-use Rattle.protocol_model.specs.Plan.{plan}
-use Rattle.protocol_model.specs.Client.{Client, Table, next_number, client_connected}
-use Rattle.protocol_model.specs.Claims.{MadeContact, contacts, acts_on, Serves, Sound}
-use Rattle.protocol_model.specs.Ends.{ClientEnd, new_client_end}
-use Rattle.protocol_model.specs.Undisturbed.{AreUpTo}
+use Rattle.told_acts.proofs.Names.{[], ◌++◌, ◌<◌, ◌∙◌, ◌∷◌, ◌≡◌, Abort, Act, acts_done, acts_more, acts_none, acts_on, ap, append-nil, append_assoc}
+use Rattle.told_acts.proofs.Names.{are_ours, AreUpTo, arith, behind_call, behind_calls, behind_holds, Bool, Call, Client, client_behind}
+use Rattle.told_acts.proofs.Names.{client_connected, ClientEnd, cond, Connected, contacts, contacts_more, done_by, done_on, drop, drop-append_seam}
+use Rattle.told_acts.proofs.Names.{EndsUnfinished, false, false≢true, Feature, Feed, first_touches, Holds, is_apart, IsProgram, Leave, length, List}
+use Rattle.told_acts.proofs.Names.{ltb-true, MadeContact, may_connect, may_read, Meaning, nat_lt, new_client_end, next_number, next_of, plan}
+use Rattle.told_acts.proofs.Names.{plan_touches, Plans, plans_begun, Point, possible, program_has, program_is_plain, progress_new, progress_served}
+use Rattle.told_acts.proofs.Names.{ReadOne, refl, Restart, Resume, Send, Sent, Served, served_sound, served_take, Serves, Sound, subst, suc, sym}
+use Rattle.told_acts.proofs.Names.{Table, Tag, take, take-append_seam, told_behind, told_by, Touch, true, up_to_above, up_to_done, up_to_join, Wanted}
+use Rattle.told_acts.proofs.Names.{with_made, zero, ℕ}
 use Rattle.protocol_model.specs.declared.plans.Start.{Start}
-use Rattle.protocol_model.proofs.plan.Blocks.{program_is_plain}
-use Rattle.protocol_model.proofs.plan.Marks.{plan_touches}
-use Rattle.protocol_model.proofs.invariant.Moves.{done_on, acts_more, acts_done, up_to_join, up_to_done}
-use Rattle.protocol_model.proofs.invariant.Served.{contacts_more, acts_none, up_to_above, Served, served_take, served_sound}
-use Rattle.protocol_model.proofs.invariant.Served.{with_made, progress_new, progress_served, program_has}
-use Rattle.client_core.specs.Calls.{Call, Connected, Send, Feed, ReadOne, Abort, Resume, Leave, Restart, Sent, possible, done_by}
-use Rattle.client_core.specs.Calls.{behind_call, behind_calls, client_behind, Plans, plans_begun}
-use Rattle.client_core.specs.Clients.{are_ours, is_apart, may_connect, may_read}
 use Rattle.client_core.proofs.Fits.{both}
-use Rattle.client_core.proofs.Runs.{Holds, behind_holds}
-use Rattle.told_acts.specs.Told.{told_by, told_behind, first_touches, EndsUnfinished}
 use Rattle.told_acts.proofs.Sounds.{sound_served, served_ours, serves_count, IsCut, cut_at}
 use Rattle.told_acts.proofs.Views.{View, view, view_by, told_to, none_told, none_anew, with_none, sends_view, aborts_view, read_all}
 use Rattle.told_acts.proofs.Counts.{IsGoing, Grows, grows_told, heard_grows, heard_goes, numbered_done}
@@ -111,11 +92,11 @@ done_here told (Connected n) e may h =
     (told_to (view e.client) (view (client_connected n e.client))) (none_anew n e.client.table.tally.counted)
     (connected_here told n e.client may h)
 done_here told Send e may h = here_same told (view e.client) (view (done_by Send e).client)
-    (sends_view e.client e.client.table.tally.unsent (next_number tag.Std e.client.table.standard e.client.drawn)) h
+    (sends_view e.client e.client.table.tally.unsent (next_number Tag.Std e.client.table.standard e.client.drawn)) h
 done_here told (Feed bytes) e may h = here_same told (view e.client) (view e.client) refl h
 done_here told ReadOne e may h = read_here told e (read_on e.client may) h
 done_here told Abort e may h = here_same told (view e.client) (view (done_by Abort e).client)
-    (aborts_view e.client (next_number tag.Event e.client.table.event e.client.event_drawn)) h
+    (aborts_view e.client (next_number Tag.Event e.client.table.event e.client.event_drawn)) h
 done_here told Resume e may h =
     with_none (λ (l : List (ℕ × Act)). IsHere l (view (done_by Resume e).client)) told
     (told_to (view e.client) (view (done_by Resume e).client)) (none_told e.client.table.tally.connection e.client.table.tally.counted)
@@ -236,11 +217,11 @@ done_tells acts (Connected n) e p plans holds may h =
     (tells_on acts (view (client_connected n e.client))
     (plan_goes e.client.program n n [] e.client.table.tally.features Start.NewConnection (contacts acts) holds.program h.served) refl)
 done_tells acts Send e p plans holds may h = tells_same acts (view e.client) (view (done_by Send e).client)
-    (sends_view e.client e.client.table.tally.unsent (next_number tag.Std e.client.table.standard e.client.drawn)) h
+    (sends_view e.client e.client.table.tally.unsent (next_number Tag.Std e.client.table.standard e.client.drawn)) h
 done_tells acts (Feed bytes) e p plans holds may h = tells_same acts (view e.client) (view e.client) refl h
 done_tells acts ReadOne e p plans holds may h = read_tells acts e p plans holds (read_on e.client may) h
 done_tells acts Abort e p plans holds may h = tells_same acts (view e.client) (view (done_by Abort e).client)
-    (aborts_view e.client (next_number tag.Event e.client.table.event e.client.event_drawn)) h
+    (aborts_view e.client (next_number Tag.Event e.client.table.event e.client.event_drawn)) h
 done_tells acts Resume e p plans holds may h =
     with_none (λ (l : List (ℕ × Act)). Tells l (view (done_by Resume e).client)) acts
     (told_to (view e.client) (view (done_by Resume e).client)) (none_told e.client.table.tally.connection e.client.table.tally.counted)

@@ -1,36 +1,18 @@
 -- What the reported acts of a client depend on, and the acts that are reported between two such views.
-use Rattle.std.proofs.Common.{◌≡◌, ℕ, Bool, true, false, cond, List, [], ◌∷◌, ◌++◌, length, drop, refl, sym, ◌∙◌, ap, subst, append-nil, Option}
-use Rattle.std.proofs.Common.{Some, None, Result, Ok, Err}
-use Rattle.std.proofs.Math.Seq.{drop-length, drop-nil}
-use Rattle.fixed_um.specs.declared.lengths.Point.{Point}
-use Rattle.dme_line.specs.declared.tags.Tag.{Tag}
-use Rattle.dme_line.specs.declared.tags.Tag.TheVariants as tag
-use Rattle.dme_line.specs.declared.commands.Kind.{Kind}
-use Rattle.dme_line.specs.declared.commands.Kind.TheVariants as kind
+use Rattle.told_acts.proofs.Names.{[], ◌++◌, ◌∙◌, ◌∷◌, ◌≡◌, Act, ap, append-nil, Bool, Client, client_hears, client_read, cond, Datum, drop}
+use Rattle.told_acts.proofs.Names.{drop-length, drop-nil, ends_abort, Err, false, faulted, Feature, fine, Front, front_read, given_for, given_homed}
+use Rattle.told_acts.proofs.Names.{given_point, given_under, heard, heard_on, held_under, Kind, length, line_read, List, Meaning, None, NotResponse}
+use Rattle.told_acts.proofs.Names.{numbered, Ok, Option, Planned, Point, refl, Response, response_read, Result, sends_abort, sends_next, Some}
+use Rattle.told_acts.proofs.Names.{state_behind, subst, sym, Table, Tag, Tally, true, ℕ}
 use Rattle.dme_line.specs.declared.homed.NotHomedText.{NotHomedText}
 use Rattle.dme_line.specs.declared.points.NotPoint.{NotPoint}
 use Rattle.dme_line.specs.declared.responses.Mark.{Mark as Marked}
-use Rattle.dme_line.specs.declared.responses.Mark.TheVariants as mark
-use Rattle.dme_line.specs.declared.responses.Response.{Response}
-use Rattle.dme_line.specs.declared.responses.NotResponse.{NotResponse}
-use Rattle.line_framing.specs.Next.{Front}
-use Rattle.line_framing.specs.declared.faults.FramingFault.TheVariants as framing
-use Rattle.contact_ledger.specs.declared.acts.Act.{Act}
-use Rattle.contact_ledger.specs.declared.features.Feature.{Feature}
-use Rattle.dmis_program.specs.Meaning.{Meaning}
-use Rattle.protocol_model.specs.Readings.{response_of, point_of, homed_of}
+use Rattle.protocol_model.specs.Readings.{homed_of, point_of, response_of}
 use Rattle.protocol_model.specs.Replies.{Mark, tag_is}
-use Rattle.protocol_model.specs.Client.{Client, Table, Tally, faulted, heard_on, client_hears, client_read, state_behind, ends_abort}
-use Rattle.protocol_model.specs.Client.{sends_next, sends_abort}
-use Rattle.protocol_model.specs.Ends.{held_under, given_point, given_homed, given_for, given_under, response_read, line_read, front_read}
 use Rattle.protocol_model.specs.declared.states.State.{State}
 use Rattle.protocol_model.specs.declared.states.Cause.{Cause}
-use Rattle.protocol_model.specs.declared.held.Datum.TheVariants as datum
-use Rattle.protocol_model.specs.declared.plans.Planned.{Planned}
-use Rattle.protocol_model.proofs.HeardTables.{heard}
 use Rattle.protocol_model.proofs.table.Basics.{if_false}
-use Rattle.protocol_model.proofs.table.Replying.{fine}
-use Rattle.told_acts.specs.Told.{numbered}
+use Rattle.line_framing.specs.declared.faults.FramingFault.{FramingFault}
 
 -- a client's program, whether it is on a connection, its last number, and its tally without what is unsent and failed
 pub record View : Type 0 where
@@ -100,38 +82,38 @@ hears_all c P h t m (Ok b) is = h.reply t m b (state_behind c.state (ends_abort 
 hears_all c P h t m (Err cause) is = h.fault cause
 
 reply_all : (c : Client) (P : Client → Type 0) → Throughout c P → (t : Tag) (m : Mark) → P (client_read c t m)
-reply_all c P h t m = go (tag_is t (tag.Event 0)) refl
+reply_all c P h t m = go (tag_is t (Tag.Event 0)) refl
   where
-    go : (b : Bool) → tag_is t (tag.Event 0) ≡ b → P (cond b c (client_hears c t m (heard_on c.program.features c.table t m)))
+    go : (b : Bool) → tag_is t (Tag.Event 0) ≡ b → P (cond b c (client_hears c t m (heard_on c.program.features c.table t m)))
     go true e = h.same
     go false e = hears_all c P h t m (heard_on c.program.features c.table t m)
-        (if_false {A = Result Table Cause} (tag_is t (tag.Event 0)) (fine c.table) (heard_on c.program.features c.table t m) e)
+        (if_false {A = Result Table Cause} (tag_is t (Tag.Event 0)) (fine c.table) (heard_on c.program.features c.table t m) e)
 
 either_all : (P : Client → Type 0) (b : Bool) (c d : Client) → P c → P d → P (cond b c d)
 either_all P true c d h g = h
 either_all P false c d h g = g
 
 point_all : (c : Client) (P : Client → Type 0) → Throughout c P → (t : Tag) (r : Result Point NotPoint) → P (given_point c t r)
-point_all c P h t (Ok q) = reply_all c P h t (Mark.Given (datum.Point q))
+point_all c P h t (Ok q) = reply_all c P h t (Mark.Given (Datum.Point q))
 point_all c P h t (Err why) = h.fault Cause.NotResponse
 
 homed_all : (c : Client) (P : Client → Type 0) → Throughout c P → (t : Tag) (r : Result Bool NotHomedText) → P (given_homed c t r)
-homed_all c P h t (Ok homed) = reply_all c P h t (Mark.Given (datum.Homed homed))
+homed_all c P h t (Ok homed) = reply_all c P h t (Mark.Given (Datum.Homed homed))
 homed_all c P h t (Err why) = h.fault Cause.NotResponse
 
 given_all : (c : Client) (P : Client → Type 0) → Throughout c P → (t : Tag) (text : List ℕ) (k : Kind) → P (given_for c t text k)
-given_all c P h t text kind.PtMeas = point_all c P h t (point_of text)
-given_all c P h t text kind.IsHomed = homed_all c P h t (homed_of text)
-given_all c P h t text kind.StartSession = h.fault Cause.OutOfOrder
-given_all c P h t text kind.EndSession = h.fault Cause.OutOfOrder
-given_all c P h t text kind.ClearAllErrors = h.fault Cause.OutOfOrder
-given_all c P h t text kind.Home = h.fault Cause.OutOfOrder
-given_all c P h t text kind.OnPtMeasReport = h.fault Cause.OutOfOrder
-given_all c P h t text kind.GoTo = h.fault Cause.OutOfOrder
-given_all c P h t text kind.ChangeTool = h.fault Cause.OutOfOrder
-given_all c P h t text kind.SetCsyTransformation = h.fault Cause.OutOfOrder
-given_all c P h t text kind.SetCoordSystem = h.fault Cause.OutOfOrder
-given_all c P h t text kind.AbortE = h.fault Cause.OutOfOrder
+given_all c P h t text Kind.PtMeas = point_all c P h t (point_of text)
+given_all c P h t text Kind.IsHomed = homed_all c P h t (homed_of text)
+given_all c P h t text Kind.StartSession = h.fault Cause.OutOfOrder
+given_all c P h t text Kind.EndSession = h.fault Cause.OutOfOrder
+given_all c P h t text Kind.ClearAllErrors = h.fault Cause.OutOfOrder
+given_all c P h t text Kind.Home = h.fault Cause.OutOfOrder
+given_all c P h t text Kind.OnPtMeasReport = h.fault Cause.OutOfOrder
+given_all c P h t text Kind.GoTo = h.fault Cause.OutOfOrder
+given_all c P h t text Kind.ChangeTool = h.fault Cause.OutOfOrder
+given_all c P h t text Kind.SetCsyTransformation = h.fault Cause.OutOfOrder
+given_all c P h t text Kind.SetCoordSystem = h.fault Cause.OutOfOrder
+given_all c P h t text Kind.AbortE = h.fault Cause.OutOfOrder
 
 under_all : (c : Client) (P : Client → Type 0) → Throughout c P → (t : Tag) (text : List ℕ) (k : Option Kind)
     → P (given_under c t text k)
@@ -139,11 +121,11 @@ under_all c P h t text None = h.fault Cause.UnknownTag
 under_all c P h t text (Some k) = given_all c P h t text k
 
 response_all : (c : Client) (P : Client → Type 0) → Throughout c P → (t : Tag) (m : Marked) → P (response_read c t m)
-response_all c P h t mark.Ack = reply_all c P h t Mark.Ack
-response_all c P h t (mark.Given text) = either_all P (tag_is t (tag.Event 0)) c (given_under c t text (held_under t c)) h.same
+response_all c P h t Marked.Ack = reply_all c P h t Mark.Ack
+response_all c P h t (Marked.Given text) = either_all P (tag_is t (Tag.Event 0)) c (given_under c t text (held_under t c)) h.same
     (under_all c P h t text (held_under t c))
-response_all c P h t mark.Done = reply_all c P h t Mark.Done
-response_all c P h t (mark.Error text) = reply_all c P h t Mark.Error
+response_all c P h t Marked.Done = reply_all c P h t Mark.Done
+response_all c P h t (Marked.Error text) = reply_all c P h t Mark.Error
 
 line_all : (c : Client) (P : Client → Type 0) → Throughout c P → (r : Result Response NotResponse) → P (line_read c r)
 line_all c P h (Ok r) = response_all c P h r.tag r.mark
@@ -153,5 +135,5 @@ line_all c P h (Err refused) = h.fault Cause.NotResponse
 pub read_all : (c : Client) (P : Client → Type 0) → Throughout c P → (f : Front) → P (front_read c f)
 read_all c P h (Ok None) = h.same
 read_all c P h (Ok (Some (line, rest))) = line_all c P h (response_of line)
-read_all c P h (Err framing.LineTooLong) = h.fault Cause.LineTooLong
-read_all c P h (Err framing.BadByte) = h.fault Cause.BadByte
+read_all c P h (Err FramingFault.LineTooLong) = h.fault Cause.LineTooLong
+read_all c P h (Err FramingFault.BadByte) = h.fault Cause.BadByte

@@ -1,7 +1,6 @@
 -- The connections of known contacts, one after another.
-use Rattle.std.proofs.Common.{◌≡◌, ℕ, true, false, List, ◌∷◌, map, refl}
-use Rattle.protocol_model.specs.Claims.{MadeContact}
-use Rattle.told_files.specs.Runs.{Part, Made, Doubtful, Ends, Passes, known_contacts, is_made}
+use Rattle.told_files.proofs.Names.{◌∷◌, ◌≡◌, Doubtful, Ends, false, is_made, known_contacts, List, Made, MadeContact, map, Passes, refl, true, ℕ}
+use Rattle.told_files.specs.Runs.{Part}
 
 pub one_more : (n : ℕ) (part : Part) (ls : List (ℕ × Part)) → true ≡ is_made part
     → map (λ (m : MadeContact). m.connection) (known_contacts ((n, part) ∷ ls)) ≡ n ∷ map (λ (m : MadeContact). m.connection) (known_contacts ls)

@@ -1,15 +1,9 @@
 -- Which of both texts a text is.
-use Rattle.std.proofs.Common.{◌≡◌, ℕ, List, [], ◌∷◌, ap, sym, ◌∙◌, arith, codes, Result, Ok, Err, slice_index}
-use Rattle.contact_ledger.specs.ContactTexts.{IsContacts, IsDamagedContacts, AreContactLines, none, some}
-use Rattle.contact_ledger.specs.Damage.{ReadsText, ReadsFault}
-use Rattle.contact_ledger.specs.Lines.{whole_lines}
-use Rattle.contact_ledger.specs.declared.acts.Act.{Act}
-use Rattle.contact_ledger.specs.declared.faults.TextFault.{TextFault}
-use Rattle.contact_ledger.specs.declared.faults.TextFault.TheVariants.{Damaged, Memory}
-use Rattle.witness.specs.declared.lines.Reported.{Reported}
-use Rattle.told_files.specs.Either.{IsToldFile, AreAudited, IsDamagedAudited, reported, acted}
-use Rattle.told_files.specs.Runs.{AreRunContacts}
-use Rattle.told_files.specs.ToldTexts.{IsToldText, IsDamagedTold}
+use Rattle.told_files.proofs.Names.{[], ◌∙◌, ◌∷◌, ◌≡◌, Act, ap, AreContactLines, AreRunContacts, arith, codes, Damaged, Err, IsContacts}
+use Rattle.told_files.proofs.Names.{IsDamagedContacts, IsDamagedTold, IsToldText, List, Memory, Ok, ReadsFault, ReadsText, Reported, Result}
+use Rattle.told_files.proofs.Names.{slice_index, sym, TextFault, whole_lines, ℕ}
+use Rattle.contact_ledger.specs.ContactTexts.{none, some}
+use Rattle.told_files.specs.Either.{acted, AreAudited, IsDamagedAudited, IsToldFile, reported}
 
 pub no_lines : (bytes : List ℕ) → whole_lines bytes ≡ [] → IsToldFile bytes → ⊥
 no_lines bytes e told = let both : ◌≡◌ {A = List (List ℕ)} [] (codes "DME-TOLD 1" ∷ told.more) = sym e ∙ told.lines in absurd cc

@@ -1,3 +1,4 @@
+pub mod Names
 pub mod Connections
 pub mod Cuts
 pub mod EitherText

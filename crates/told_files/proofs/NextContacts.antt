@@ -1,15 +1,10 @@
 -- Two contacts have one number exactly if they are next to one another.
-use Rattle.std.proofs.Common.{◌≡◌, ℕ, zero, suc, ◌+◌, ◌<◌, Bool, true, false, not, Option, Some, None, List, [], ◌∷◌, ◌++◌}
-use Rattle.std.proofs.Common.{length, map, drop, refl, ap, sym, subst, ◌∙◌, arith, append-nil}
-use Rattle.std.specs.Prelude.{◌==◌, if◌then◌else◌}
-use Rattle.std.specs.List.{list_all}
-use Rattle.std.proofs.lemmas.Bool.{and_parts, and_from, eqb-true, eq-eqb}
-use Rattle.contact_ledger.specs.declared.acts.Act.{Act}
-use Rattle.protocol_model.specs.Claims.{MadeContact, contacts}
-use Rattle.told_files.specs.Numbering.{is_joined, second_for, number_of, open_after, numbered_from}
-use Rattle.witness.specs.declared.lines.Reported.{Reported}
-use Rattle.told_files.specs.Runs.{Part, Made, Doubtful, Ends, Passes, parts_of, known_contacts, is_made, lies_between, AreNext}
-use Rattle.told_files.specs.Runs.{connection_at, unnumbered, AreRunContacts}
+use Rattle.told_files.proofs.Names.{[], ◌++◌, ◌+◌, ◌<◌, ◌==◌, ◌∙◌, ◌∷◌, ◌≡◌, Act, and_from, and_parts, ap, append-nil, AreNext, AreRunContacts, arith}
+use Rattle.told_files.proofs.Names.{Bool, connection_at, contacts, Doubtful, drop, Ends, eq-eqb, eqb-true, false, if◌then◌else◌, is_joined, is_made}
+use Rattle.told_files.proofs.Names.{known_contacts, length, lies_between, List, list_all, Made, MadeContact, map, None, not, number_of, numbered_from}
+use Rattle.told_files.proofs.Names.{open_after, Option, parts_of, Passes, refl, Reported, second_for, Some, subst, suc, sym, true, unnumbered, zero}
+use Rattle.told_files.proofs.Names.{ℕ}
+use Rattle.told_files.specs.Runs.{Part}
 
 -- the connections of numbered contacts
 abbrev numbers : Bool → Option ℕ → List (ℕ × Part) → List MadeContact

@@ -1,35 +1,18 @@
 -- What was reported has its line alone.
-use Rattle.std.proofs.Common.{◌≡◌, ◌≢◌, ℕ, ◌+◌, ◌*◌, List, [], ◌∷◌, ◌++◌, length, refl, ap, sym, subst, ◌∙◌, arith, codes, Option, Some, None}
-use Rattle.std.proofs.Common.{append-nil, slice_index}
-use Rattle.std.specs.Prelude.{decimal, ◌==◌, if◌then◌else◌}
+use Rattle.told_files.proofs.Names.{[], ◌*◌, ◌++◌, ◌+◌, ◌==◌, ◌∙◌, ◌∷◌, ◌≡◌, ◌≢◌, Act, act_fields, act_line, ap, append-nil, arith, Client, codes}
+use Rattle.told_files.proofs.Names.{decimal, Direction, direction_fields, direction_tail, fields_of, Frame, frame_fields, HasNamedTool, if◌then◌else◌}
+use Rattle.told_files.proofs.Names.{IsFrame, IsInDoubt, IsOtherTold, IsPlaced, IsToldEntry, IsToolName, IsTouch, kind, known_frame, length, List}
+use Rattle.told_files.proofs.Names.{Machine, NoData, None, NotInTurn, Option, OtherData, OutOfOrder, Point, point_fields, refl, Reported, Rule}
+use Rattle.told_files.proofs.Names.{rule_name, SecondData, Server, Side, side_field, slice_index, Some, subst, sym, Tag, TagInUse, told_line}
+use Rattle.told_files.proofs.Names.{told_parts, tool_field, TooMany, unknown_field, UnknownTag, written_component, written_tag, ℕ}
 use Rattle.std.proofs.lemmas.Fmt.{decimal_injective}
-use Rattle.fixed_um.specs.Shapes.{Direction}
-use Rattle.fixed_um.specs.Written.{written_component}
-use Rattle.fixed_um.specs.declared.lengths.Point.{Point}
-use Rattle.fixed_um.specs.declared.frames.Frame.{Frame}
-use Rattle.fixed_um.specs.declared.frames.Frame.TheVariants.{Machine, Part}
+use Rattle.fixed_um.specs.declared.frames.Frame.TheVariants.{Part}
 use Rattle.fixed_um.proofs.WrittenLemmas.{direction_reads_back}
-use Rattle.dme_line.specs.Tags.{written_tag}
-use Rattle.dme_line.specs.declared.tags.Tag.{Tag}
 use Rattle.dme_line.proofs.TagLemmas.{one_tag}
-use Rattle.contact_ledger.specs.Lines.{fields_of}
-use Rattle.contact_ledger.specs.Fields.{IsFrame, IsTouch, point_fields, frame_fields, direction_fields}
-use Rattle.contact_ledger.specs.ContactTexts.{act_fields, act_line}
-use Rattle.contact_ledger.specs.declared.acts.Act.{Act}
-use Rattle.contact_ledger.specs.declared.acts.Act.TheVariants as act
-use Rattle.contact_ledger.proofs.EntryLines.{kind, direction_tail, entry_back}
+use Rattle.contact_ledger.proofs.EntryLines.{entry_back}
 use Rattle.contact_ledger.proofs.FeatureRuns.{one_place}
 use Rattle.contact_ledger.proofs.Leaves.{direction_read}
 use Rattle.contact_ledger.proofs.OneEntry.{one_entry}
-use Rattle.witness.specs.Texts.{unknown_field, tool_field, known_frame, rule_name, side_field, told_line}
-use Rattle.witness.specs.declared.lines.Rule.{Rule}
-use Rattle.witness.specs.declared.lines.Rule.TheVariants.{UnknownTag, OutOfOrder, NoData, SecondData, OtherData, TagInUse, NotInTurn, TooMany}
-use Rattle.witness.specs.declared.lines.Side.{Side}
-use Rattle.witness.specs.declared.lines.Side.TheVariants.{Client, Server}
-use Rattle.witness.specs.declared.lines.Reported.{Reported}
-use Rattle.witness.specs.declared.lines.Reported.TheVariants as reports
-use Rattle.told_files.specs.Parts.{IsOtherTold, told_parts, IsToolName}
-use Rattle.told_files.specs.ToldTexts.{IsPlaced, IsInDoubt, HasNamedTool, IsToldEntry}
 use Rattle.told_files.proofs.OtherLines.{one_line, known_tail, doubt_name, other_back, View, acted, reported, view}
 
 -- ---- fields that are known by what they are of
@@ -95,19 +78,19 @@ one_side Client Server e = let n : 62 ≡ 60 = ap (λ (t : List ℕ). slice_inde
 one_side Server Client e = let n : 60 ≡ 62 = ap (λ (t : List ℕ). slice_index t 0) e in absurd (omega (arith, n))
 one_side Server Server e = refl
 
-same_other : {r s : Side} {k l : List ℕ} → r ≡ s → k ≡ l → reports.Other r k ≡ reports.Other s l
-same_other p q = λ n. reports.Other (p n) (q n)
+same_other : {r s : Side} {k l : List ℕ} → r ≡ s → k ≡ l → Reported.Other r k ≡ Reported.Other s l
+same_other p q = λ n. Reported.Other (p n) (q n)
 
-same_broken : {r s : Rule} {k l : Tag} → r ≡ s → k ≡ l → reports.Broken r k ≡ reports.Broken s l
-same_broken p q = λ n. reports.Broken (p n) (q n)
+same_broken : {r s : Rule} {k l : Tag} → r ≡ s → k ≡ l → Reported.Broken r k ≡ Reported.Broken s l
+same_broken p q = λ n. Reported.Broken (p n) (q n)
 
 same_touched : {t u : Point} {d e : Option Direction} {m n : Option (List ℕ)} {f g : Option Frame} {p q : Point} → t ≡ u → d ≡ e → m ≡ n
-    → f ≡ g → p ≡ q → reports.Touched t d m f p ≡ reports.Touched u e n g q
-same_touched a b c x y = λ n. reports.Touched (a n) (b n) (c n) (x n) (y n)
+    → f ≡ g → p ≡ q → Reported.Touched t d m f p ≡ Reported.Touched u e n g q
+same_touched a b c x y = λ n. Reported.Touched (a n) (b n) (c n) (x n) (y n)
 
 one_touched : (t u : Point) (d e : Option Direction) (m n : Option (List ℕ)) (f g : Option Frame) (p q : Point)
-    → IsOtherTold (reports.Touched t d m f p) → IsOtherTold (reports.Touched u e n g q)
-    → told_parts (reports.Touched t d m f p) ≡ told_parts (reports.Touched u e n g q) → reports.Touched t d m f p ≡ reports.Touched u e n g q
+    → IsOtherTold (Reported.Touched t d m f p) → IsOtherTold (Reported.Touched u e n g q)
+    → told_parts (Reported.Touched t d m f p) ≡ told_parts (Reported.Touched u e n g q) → Reported.Touched t d m f p ≡ Reported.Touched u e n g q
 one_touched t u d e m n f g p q a b same =
     let all : point_fields t ++ (direction_fields d ++ (tool_field m ∷ (known_frame f ++ point_fields p)))
     ≡ point_fields u ++ (direction_fields e ++ (tool_field n ∷ (known_frame g ++ point_fields q))) = cc in
@@ -129,8 +112,8 @@ contact_known m (Some n) f None x y named h e same = no_frame f x y same
 contact_known m (Some n) f (Some g) x y named h e same = h
 
 contact_apart : (t u : Point) (d e : Option Direction) (m : List ℕ) (n : Option (List ℕ)) (f : Frame) (g : Option Frame) (p q : Point)
-    → m ≢ unknown_field → IsOtherTold (reports.Touched u e n g q)
-    → act_fields (act.Contact t d m f p) ≡ told_parts (reports.Touched u e n g q) → ⊥
+    → m ≢ unknown_field → IsOtherTold (Reported.Touched u e n g q)
+    → act_fields (Act.Contact t d m f p) ≡ told_parts (Reported.Touched u e n g q) → ⊥
 contact_apart t u d e m n f g p q named b same =
     let all : point_fields t ++ (direction_fields d ++ (m ∷ (frame_fields f ++ point_fields p)))
     ≡ point_fields u ++ (direction_fields e ++ (tool_field n ∷ (known_frame g ++ point_fields q))) = cc in
@@ -146,111 +129,111 @@ contact_apart t u d e m n f g p q named b same =
 
 -- an act and another report have different fields
 apart : (a : Act) (t : Reported) → HasNamedTool a → IsOtherTold t → act_fields a ≡ told_parts t → ⊥
-apart (act.HomedIs ah) (reports.Did b) g h e = h
-apart (act.HomedIs ah) (reports.MovedSomewhere t2) g h e =
+apart (Act.HomedIs ah) (Reported.Did b) g h e = h
+apart (Act.HomedIs ah) (Reported.MovedSomewhere t2) g h e =
     let n : 777 ≡ 865 = ap (λ (fs : List (List ℕ)). kind fs) e in omega (arith, n)
-apart (act.HomedIs ah) reports.FramedSomehow g h e =
+apart (Act.HomedIs ah) Reported.FramedSomehow g h e =
     let n : 777 ≡ 656 = ap (λ (fs : List (List ℕ)). kind fs) e in omega (arith, n)
-apart (act.HomedIs ah) (reports.Touched t2 bd bn bf p2) g h e =
+apart (Act.HomedIs ah) (Reported.Touched t2 bd bn bf p2) g h e =
     let n : 777 ≡ 787 = ap (λ (fs : List (List ℕ)). kind fs) e in omega (arith, n)
-apart (act.HomedIs ah) (reports.Other bs bl) g h e =
+apart (Act.HomedIs ah) (Reported.Other bs bl) g h e =
     let n : 777 ≡ 725 = ap (λ (fs : List (List ℕ)). kind fs) e in omega (arith, n)
-apart (act.HomedIs ah) (reports.Unasked bl) g h e =
+apart (Act.HomedIs ah) (Reported.Unasked bl) g h e =
     let n : 777 ≡ 657 = ap (λ (fs : List (List ℕ)). kind fs) e in omega (arith, n)
-apart (act.HomedIs ah) (reports.Broken br bg) g h e =
+apart (Act.HomedIs ah) (Reported.Broken br bg) g h e =
     let n : 777 ≡ 796 = ap (λ (fs : List (List ℕ)). kind fs) e in omega (arith, n)
-apart (act.HomedIs ah) reports.Opened g h e =
+apart (Act.HomedIs ah) Reported.Opened g h e =
     let n : 777 ≡ 696 = ap (λ (fs : List (List ℕ)). kind fs) e in omega (arith, n)
-apart (act.HomedIs ah) reports.Left g h e =
+apart (Act.HomedIs ah) Reported.Left g h e =
     let n : 777 ≡ 704 = ap (λ (fs : List (List ℕ)). kind fs) e in omega (arith, n)
-apart act.Homed (reports.Did b) g h e = h
-apart act.Homed (reports.MovedSomewhere t2) g h e =
+apart Act.Homed (Reported.Did b) g h e = h
+apart Act.Homed (Reported.MovedSomewhere t2) g h e =
     let n : 775 ≡ 865 = ap (λ (fs : List (List ℕ)). kind fs) e in omega (arith, n)
-apart act.Homed reports.FramedSomehow g h e =
+apart Act.Homed Reported.FramedSomehow g h e =
     let n : 775 ≡ 656 = ap (λ (fs : List (List ℕ)). kind fs) e in omega (arith, n)
-apart act.Homed (reports.Touched t2 bd bn bf p2) g h e =
+apart Act.Homed (Reported.Touched t2 bd bn bf p2) g h e =
     let n : 775 ≡ 787 = ap (λ (fs : List (List ℕ)). kind fs) e in omega (arith, n)
-apart act.Homed (reports.Other bs bl) g h e =
+apart Act.Homed (Reported.Other bs bl) g h e =
     let n : 775 ≡ 725 = ap (λ (fs : List (List ℕ)). kind fs) e in omega (arith, n)
-apart act.Homed (reports.Unasked bl) g h e =
+apart Act.Homed (Reported.Unasked bl) g h e =
     let n : 775 ≡ 657 = ap (λ (fs : List (List ℕ)). kind fs) e in omega (arith, n)
-apart act.Homed (reports.Broken br bg) g h e =
+apart Act.Homed (Reported.Broken br bg) g h e =
     let n : 775 ≡ 796 = ap (λ (fs : List (List ℕ)). kind fs) e in omega (arith, n)
-apart act.Homed reports.Opened g h e =
+apart Act.Homed Reported.Opened g h e =
     let n : 775 ≡ 696 = ap (λ (fs : List (List ℕ)). kind fs) e in omega (arith, n)
-apart act.Homed reports.Left g h e =
+apart Act.Homed Reported.Left g h e =
     let n : 775 ≡ 704 = ap (λ (fs : List (List ℕ)). kind fs) e in omega (arith, n)
-apart (act.Moved t1 af) (reports.Did b) g h e = h
-apart (act.Moved t1 af) (reports.MovedSomewhere t2) g h e =
+apart (Act.Moved t1 af) (Reported.Did b) g h e = h
+apart (Act.Moved t1 af) (Reported.MovedSomewhere t2) g h e =
     let all : point_fields t1 ++ frame_fields af ≡ point_fields t2 ++ unknown_field ∷ [] = cc in
     let frame : frame_fields af ≡ unknown_field ∷ [] = cc in
     no_frame af [] [] (append-nil (frame_fields af) ∙ frame)
-apart (act.Moved t1 af) reports.FramedSomehow g h e =
+apart (Act.Moved t1 af) Reported.FramedSomehow g h e =
     let n : 865 ≡ 656 = ap (λ (fs : List (List ℕ)). kind fs) e in omega (arith, n)
-apart (act.Moved t1 af) (reports.Touched t2 bd bn bf p2) g h e =
+apart (Act.Moved t1 af) (Reported.Touched t2 bd bn bf p2) g h e =
     let n : 865 ≡ 787 = ap (λ (fs : List (List ℕ)). kind fs) e in omega (arith, n)
-apart (act.Moved t1 af) (reports.Other bs bl) g h e =
+apart (Act.Moved t1 af) (Reported.Other bs bl) g h e =
     let n : 865 ≡ 725 = ap (λ (fs : List (List ℕ)). kind fs) e in omega (arith, n)
-apart (act.Moved t1 af) (reports.Unasked bl) g h e =
+apart (Act.Moved t1 af) (Reported.Unasked bl) g h e =
     let n : 865 ≡ 657 = ap (λ (fs : List (List ℕ)). kind fs) e in omega (arith, n)
-apart (act.Moved t1 af) (reports.Broken br bg) g h e =
+apart (Act.Moved t1 af) (Reported.Broken br bg) g h e =
     let n : 865 ≡ 796 = ap (λ (fs : List (List ℕ)). kind fs) e in omega (arith, n)
-apart (act.Moved t1 af) reports.Opened g h e =
+apart (Act.Moved t1 af) Reported.Opened g h e =
     let n : 865 ≡ 696 = ap (λ (fs : List (List ℕ)). kind fs) e in omega (arith, n)
-apart (act.Moved t1 af) reports.Left g h e =
+apart (Act.Moved t1 af) Reported.Left g h e =
     let n : 865 ≡ 704 = ap (λ (fs : List (List ℕ)). kind fs) e in omega (arith, n)
-apart (act.Changed an) (reports.Did b) g h e = h
-apart (act.Changed an) (reports.MovedSomewhere t2) g h e =
+apart (Act.Changed an) (Reported.Did b) g h e = h
+apart (Act.Changed an) (Reported.MovedSomewhere t2) g h e =
     let n : 657 ≡ 865 = ap (λ (fs : List (List ℕ)). kind fs) e in omega (arith, n)
-apart (act.Changed an) reports.FramedSomehow g h e =
+apart (Act.Changed an) Reported.FramedSomehow g h e =
     let n : 657 ≡ 656 = ap (λ (fs : List (List ℕ)). kind fs) e in omega (arith, n)
-apart (act.Changed an) (reports.Touched t2 bd bn bf p2) g h e =
+apart (Act.Changed an) (Reported.Touched t2 bd bn bf p2) g h e =
     let n : 657 ≡ 787 = ap (λ (fs : List (List ℕ)). kind fs) e in omega (arith, n)
-apart (act.Changed an) (reports.Other bs bl) g h e =
+apart (Act.Changed an) (Reported.Other bs bl) g h e =
     let n : 657 ≡ 725 = ap (λ (fs : List (List ℕ)). kind fs) e in omega (arith, n)
-apart (act.Changed an) (reports.Unasked bl) g h e =
+apart (Act.Changed an) (Reported.Unasked bl) g h e =
     let word : codes "CHANGED" ≡ codes "UNASKED" = cc in
     let n : 67 ≡ 85 = ap (λ (t : List ℕ). slice_index t 0) word in
     omega (arith, n)
-apart (act.Changed an) (reports.Broken br bg) g h e =
+apart (Act.Changed an) (Reported.Broken br bg) g h e =
     let n : 657 ≡ 796 = ap (λ (fs : List (List ℕ)). kind fs) e in omega (arith, n)
-apart (act.Changed an) reports.Opened g h e =
+apart (Act.Changed an) Reported.Opened g h e =
     let n : 657 ≡ 696 = ap (λ (fs : List (List ℕ)). kind fs) e in omega (arith, n)
-apart (act.Changed an) reports.Left g h e =
+apart (Act.Changed an) Reported.Left g h e =
     let n : 657 ≡ 704 = ap (λ (fs : List (List ℕ)). kind fs) e in omega (arith, n)
-apart (act.Framed af) (reports.Did b) g h e = h
-apart (act.Framed af) (reports.MovedSomewhere t2) g h e =
+apart (Act.Framed af) (Reported.Did b) g h e = h
+apart (Act.Framed af) (Reported.MovedSomewhere t2) g h e =
     let n : 656 ≡ 865 = ap (λ (fs : List (List ℕ)). kind fs) e in omega (arith, n)
-apart (act.Framed af) reports.FramedSomehow g h e =
+apart (Act.Framed af) Reported.FramedSomehow g h e =
     let frame : frame_fields af ≡ unknown_field ∷ [] = cc in
     no_frame af [] [] (append-nil (frame_fields af) ∙ frame)
-apart (act.Framed af) (reports.Touched t2 bd bn bf p2) g h e =
+apart (Act.Framed af) (Reported.Touched t2 bd bn bf p2) g h e =
     let n : 656 ≡ 787 = ap (λ (fs : List (List ℕ)). kind fs) e in omega (arith, n)
-apart (act.Framed af) (reports.Other bs bl) g h e =
+apart (Act.Framed af) (Reported.Other bs bl) g h e =
     let n : 656 ≡ 725 = ap (λ (fs : List (List ℕ)). kind fs) e in omega (arith, n)
-apart (act.Framed af) (reports.Unasked bl) g h e =
+apart (Act.Framed af) (Reported.Unasked bl) g h e =
     let n : 656 ≡ 657 = ap (λ (fs : List (List ℕ)). kind fs) e in omega (arith, n)
-apart (act.Framed af) (reports.Broken br bg) g h e =
+apart (Act.Framed af) (Reported.Broken br bg) g h e =
     let n : 656 ≡ 796 = ap (λ (fs : List (List ℕ)). kind fs) e in omega (arith, n)
-apart (act.Framed af) reports.Opened g h e =
+apart (Act.Framed af) Reported.Opened g h e =
     let n : 656 ≡ 696 = ap (λ (fs : List (List ℕ)). kind fs) e in omega (arith, n)
-apart (act.Framed af) reports.Left g h e =
+apart (Act.Framed af) Reported.Left g h e =
     let n : 656 ≡ 704 = ap (λ (fs : List (List ℕ)). kind fs) e in omega (arith, n)
-apart (act.Contact t1 ad an af p1) (reports.Did b) g h e = h
-apart (act.Contact t1 ad an af p1) (reports.MovedSomewhere t2) g h e =
+apart (Act.Contact t1 ad an af p1) (Reported.Did b) g h e = h
+apart (Act.Contact t1 ad an af p1) (Reported.MovedSomewhere t2) g h e =
     let n : 787 ≡ 865 = ap (λ (fs : List (List ℕ)). kind fs) e in omega (arith, n)
-apart (act.Contact t1 ad an af p1) reports.FramedSomehow g h e =
+apart (Act.Contact t1 ad an af p1) Reported.FramedSomehow g h e =
     let n : 787 ≡ 656 = ap (λ (fs : List (List ℕ)). kind fs) e in omega (arith, n)
-apart (act.Contact t1 ad an af p1) (reports.Touched t2 bd bn bf p2) g h e = contact_apart t1 t2 ad bd an bn af bf p1 p2 g h e
-apart (act.Contact t1 ad an af p1) (reports.Other bs bl) g h e =
+apart (Act.Contact t1 ad an af p1) (Reported.Touched t2 bd bn bf p2) g h e = contact_apart t1 t2 ad bd an bn af bf p1 p2 g h e
+apart (Act.Contact t1 ad an af p1) (Reported.Other bs bl) g h e =
     let n : 787 ≡ 725 = ap (λ (fs : List (List ℕ)). kind fs) e in omega (arith, n)
-apart (act.Contact t1 ad an af p1) (reports.Unasked bl) g h e =
+apart (Act.Contact t1 ad an af p1) (Reported.Unasked bl) g h e =
     let n : 787 ≡ 657 = ap (λ (fs : List (List ℕ)). kind fs) e in omega (arith, n)
-apart (act.Contact t1 ad an af p1) (reports.Broken br bg) g h e =
+apart (Act.Contact t1 ad an af p1) (Reported.Broken br bg) g h e =
     let n : 787 ≡ 796 = ap (λ (fs : List (List ℕ)). kind fs) e in omega (arith, n)
-apart (act.Contact t1 ad an af p1) reports.Opened g h e =
+apart (Act.Contact t1 ad an af p1) Reported.Opened g h e =
     let n : 787 ≡ 696 = ap (λ (fs : List (List ℕ)). kind fs) e in omega (arith, n)
-apart (act.Contact t1 ad an af p1) reports.Left g h e =
+apart (Act.Contact t1 ad an af p1) Reported.Left g h e =
     let n : 787 ≡ 704 = ap (λ (fs : List (List ℕ)). kind fs) e in omega (arith, n)
 
 -- a number for each name of a rule
@@ -278,147 +261,147 @@ one_rule r s e = sym (rule_back r) ∙ (ap (λ (name : List ℕ). rule_at (rule_
 
 -- what was reported other than acts is known by its fields
 one_parts : (a b : Reported) → IsOtherTold a → IsOtherTold b → told_parts a ≡ told_parts b → a ≡ b
-one_parts (reports.Did a) b g h e = absurd g
-one_parts (reports.MovedSomewhere t1) (reports.Did b) g h e = absurd h
-one_parts (reports.MovedSomewhere t1) (reports.MovedSomewhere t2) g h e =
+one_parts (Reported.Did a) b g h e = absurd g
+one_parts (Reported.MovedSomewhere t1) (Reported.Did b) g h e = absurd h
+one_parts (Reported.MovedSomewhere t1) (Reported.MovedSomewhere t2) g h e =
     let all : point_fields t1 ++ unknown_field ∷ [] ≡ point_fields t2 ++ unknown_field ∷ [] = cc in
     let same : point_fields t1 ≡ point_fields t2 = cc in
-    ap (λ (p : Point). reports.MovedSomewhere p) (one_place t1 t2 g h same)
-one_parts (reports.MovedSomewhere t1) reports.FramedSomehow g h e =
+    ap (λ (p : Point). Reported.MovedSomewhere p) (one_place t1 t2 g h same)
+one_parts (Reported.MovedSomewhere t1) Reported.FramedSomehow g h e =
     let n : 865 ≡ 656 = ap (λ (fs : List (List ℕ)). kind fs) e in absurd (omega (arith, n))
-one_parts (reports.MovedSomewhere t1) (reports.Touched t2 bd bn bf p2) g h e =
+one_parts (Reported.MovedSomewhere t1) (Reported.Touched t2 bd bn bf p2) g h e =
     let n : 865 ≡ 787 = ap (λ (fs : List (List ℕ)). kind fs) e in absurd (omega (arith, n))
-one_parts (reports.MovedSomewhere t1) (reports.Other bs bl) g h e =
+one_parts (Reported.MovedSomewhere t1) (Reported.Other bs bl) g h e =
     let n : 865 ≡ 725 = ap (λ (fs : List (List ℕ)). kind fs) e in absurd (omega (arith, n))
-one_parts (reports.MovedSomewhere t1) (reports.Unasked bl) g h e =
+one_parts (Reported.MovedSomewhere t1) (Reported.Unasked bl) g h e =
     let n : 865 ≡ 657 = ap (λ (fs : List (List ℕ)). kind fs) e in absurd (omega (arith, n))
-one_parts (reports.MovedSomewhere t1) (reports.Broken br bg) g h e =
+one_parts (Reported.MovedSomewhere t1) (Reported.Broken br bg) g h e =
     let n : 865 ≡ 796 = ap (λ (fs : List (List ℕ)). kind fs) e in absurd (omega (arith, n))
-one_parts (reports.MovedSomewhere t1) reports.Opened g h e =
+one_parts (Reported.MovedSomewhere t1) Reported.Opened g h e =
     let n : 865 ≡ 696 = ap (λ (fs : List (List ℕ)). kind fs) e in absurd (omega (arith, n))
-one_parts (reports.MovedSomewhere t1) reports.Left g h e =
+one_parts (Reported.MovedSomewhere t1) Reported.Left g h e =
     let n : 865 ≡ 704 = ap (λ (fs : List (List ℕ)). kind fs) e in absurd (omega (arith, n))
-one_parts reports.FramedSomehow (reports.Did b) g h e = absurd h
-one_parts reports.FramedSomehow (reports.MovedSomewhere t2) g h e =
+one_parts Reported.FramedSomehow (Reported.Did b) g h e = absurd h
+one_parts Reported.FramedSomehow (Reported.MovedSomewhere t2) g h e =
     let n : 656 ≡ 865 = ap (λ (fs : List (List ℕ)). kind fs) e in absurd (omega (arith, n))
-one_parts reports.FramedSomehow reports.FramedSomehow g h e = refl
-one_parts reports.FramedSomehow (reports.Touched t2 bd bn bf p2) g h e =
+one_parts Reported.FramedSomehow Reported.FramedSomehow g h e = refl
+one_parts Reported.FramedSomehow (Reported.Touched t2 bd bn bf p2) g h e =
     let n : 656 ≡ 787 = ap (λ (fs : List (List ℕ)). kind fs) e in absurd (omega (arith, n))
-one_parts reports.FramedSomehow (reports.Other bs bl) g h e =
+one_parts Reported.FramedSomehow (Reported.Other bs bl) g h e =
     let n : 656 ≡ 725 = ap (λ (fs : List (List ℕ)). kind fs) e in absurd (omega (arith, n))
-one_parts reports.FramedSomehow (reports.Unasked bl) g h e =
+one_parts Reported.FramedSomehow (Reported.Unasked bl) g h e =
     let n : 656 ≡ 657 = ap (λ (fs : List (List ℕ)). kind fs) e in absurd (omega (arith, n))
-one_parts reports.FramedSomehow (reports.Broken br bg) g h e =
+one_parts Reported.FramedSomehow (Reported.Broken br bg) g h e =
     let n : 656 ≡ 796 = ap (λ (fs : List (List ℕ)). kind fs) e in absurd (omega (arith, n))
-one_parts reports.FramedSomehow reports.Opened g h e =
+one_parts Reported.FramedSomehow Reported.Opened g h e =
     let n : 656 ≡ 696 = ap (λ (fs : List (List ℕ)). kind fs) e in absurd (omega (arith, n))
-one_parts reports.FramedSomehow reports.Left g h e =
+one_parts Reported.FramedSomehow Reported.Left g h e =
     let n : 656 ≡ 704 = ap (λ (fs : List (List ℕ)). kind fs) e in absurd (omega (arith, n))
-one_parts (reports.Touched t1 ad an af p1) (reports.Did b) g h e = absurd h
-one_parts (reports.Touched t1 ad an af p1) (reports.MovedSomewhere t2) g h e =
+one_parts (Reported.Touched t1 ad an af p1) (Reported.Did b) g h e = absurd h
+one_parts (Reported.Touched t1 ad an af p1) (Reported.MovedSomewhere t2) g h e =
     let n : 787 ≡ 865 = ap (λ (fs : List (List ℕ)). kind fs) e in absurd (omega (arith, n))
-one_parts (reports.Touched t1 ad an af p1) reports.FramedSomehow g h e =
+one_parts (Reported.Touched t1 ad an af p1) Reported.FramedSomehow g h e =
     let n : 787 ≡ 656 = ap (λ (fs : List (List ℕ)). kind fs) e in absurd (omega (arith, n))
-one_parts (reports.Touched t1 ad an af p1) (reports.Touched t2 bd bn bf p2) g h e = one_touched t1 t2 ad bd an bn af bf p1 p2 g h e
-one_parts (reports.Touched t1 ad an af p1) (reports.Other bs bl) g h e =
+one_parts (Reported.Touched t1 ad an af p1) (Reported.Touched t2 bd bn bf p2) g h e = one_touched t1 t2 ad bd an bn af bf p1 p2 g h e
+one_parts (Reported.Touched t1 ad an af p1) (Reported.Other bs bl) g h e =
     let n : 787 ≡ 725 = ap (λ (fs : List (List ℕ)). kind fs) e in absurd (omega (arith, n))
-one_parts (reports.Touched t1 ad an af p1) (reports.Unasked bl) g h e =
+one_parts (Reported.Touched t1 ad an af p1) (Reported.Unasked bl) g h e =
     let n : 787 ≡ 657 = ap (λ (fs : List (List ℕ)). kind fs) e in absurd (omega (arith, n))
-one_parts (reports.Touched t1 ad an af p1) (reports.Broken br bg) g h e =
+one_parts (Reported.Touched t1 ad an af p1) (Reported.Broken br bg) g h e =
     let n : 787 ≡ 796 = ap (λ (fs : List (List ℕ)). kind fs) e in absurd (omega (arith, n))
-one_parts (reports.Touched t1 ad an af p1) reports.Opened g h e =
+one_parts (Reported.Touched t1 ad an af p1) Reported.Opened g h e =
     let n : 787 ≡ 696 = ap (λ (fs : List (List ℕ)). kind fs) e in absurd (omega (arith, n))
-one_parts (reports.Touched t1 ad an af p1) reports.Left g h e =
+one_parts (Reported.Touched t1 ad an af p1) Reported.Left g h e =
     let n : 787 ≡ 704 = ap (λ (fs : List (List ℕ)). kind fs) e in absurd (omega (arith, n))
-one_parts (reports.Other aside al) (reports.Did b) g h e = absurd h
-one_parts (reports.Other aside al) (reports.MovedSomewhere t2) g h e =
+one_parts (Reported.Other aside al) (Reported.Did b) g h e = absurd h
+one_parts (Reported.Other aside al) (Reported.MovedSomewhere t2) g h e =
     let n : 725 ≡ 865 = ap (λ (fs : List (List ℕ)). kind fs) e in absurd (omega (arith, n))
-one_parts (reports.Other aside al) reports.FramedSomehow g h e =
+one_parts (Reported.Other aside al) Reported.FramedSomehow g h e =
     let n : 725 ≡ 656 = ap (λ (fs : List (List ℕ)). kind fs) e in absurd (omega (arith, n))
-one_parts (reports.Other aside al) (reports.Touched t2 bd bn bf p2) g h e =
+one_parts (Reported.Other aside al) (Reported.Touched t2 bd bn bf p2) g h e =
     let n : 725 ≡ 787 = ap (λ (fs : List (List ℕ)). kind fs) e in absurd (omega (arith, n))
-one_parts (reports.Other aside al) (reports.Other bs bl) g h e =
+one_parts (Reported.Other aside al) (Reported.Other bs bl) g h e =
     let side : side_field aside ≡ side_field bs = cc in
     let line : fields_of al ≡ fields_of bl = cc in
     same_other (one_side aside bs side) (one_line al bl line)
-one_parts (reports.Other aside al) (reports.Unasked bl) g h e =
+one_parts (Reported.Other aside al) (Reported.Unasked bl) g h e =
     let n : 725 ≡ 657 = ap (λ (fs : List (List ℕ)). kind fs) e in absurd (omega (arith, n))
-one_parts (reports.Other aside al) (reports.Broken br bg) g h e =
+one_parts (Reported.Other aside al) (Reported.Broken br bg) g h e =
     let n : 725 ≡ 796 = ap (λ (fs : List (List ℕ)). kind fs) e in absurd (omega (arith, n))
-one_parts (reports.Other aside al) reports.Opened g h e =
+one_parts (Reported.Other aside al) Reported.Opened g h e =
     let n : 725 ≡ 696 = ap (λ (fs : List (List ℕ)). kind fs) e in absurd (omega (arith, n))
-one_parts (reports.Other aside al) reports.Left g h e =
+one_parts (Reported.Other aside al) Reported.Left g h e =
     let n : 725 ≡ 704 = ap (λ (fs : List (List ℕ)). kind fs) e in absurd (omega (arith, n))
-one_parts (reports.Unasked al) (reports.Did b) g h e = absurd h
-one_parts (reports.Unasked al) (reports.MovedSomewhere t2) g h e =
+one_parts (Reported.Unasked al) (Reported.Did b) g h e = absurd h
+one_parts (Reported.Unasked al) (Reported.MovedSomewhere t2) g h e =
     let n : 657 ≡ 865 = ap (λ (fs : List (List ℕ)). kind fs) e in absurd (omega (arith, n))
-one_parts (reports.Unasked al) reports.FramedSomehow g h e =
+one_parts (Reported.Unasked al) Reported.FramedSomehow g h e =
     let n : 657 ≡ 656 = ap (λ (fs : List (List ℕ)). kind fs) e in absurd (omega (arith, n))
-one_parts (reports.Unasked al) (reports.Touched t2 bd bn bf p2) g h e =
+one_parts (Reported.Unasked al) (Reported.Touched t2 bd bn bf p2) g h e =
     let n : 657 ≡ 787 = ap (λ (fs : List (List ℕ)). kind fs) e in absurd (omega (arith, n))
-one_parts (reports.Unasked al) (reports.Other bs bl) g h e =
+one_parts (Reported.Unasked al) (Reported.Other bs bl) g h e =
     let n : 657 ≡ 725 = ap (λ (fs : List (List ℕ)). kind fs) e in absurd (omega (arith, n))
-one_parts (reports.Unasked al) (reports.Unasked bl) g h e =
+one_parts (Reported.Unasked al) (Reported.Unasked bl) g h e =
     let line : fields_of al ≡ fields_of bl = cc in
-    ap (λ (l : List ℕ). reports.Unasked l) (one_line al bl line)
-one_parts (reports.Unasked al) (reports.Broken br bg) g h e =
+    ap (λ (l : List ℕ). Reported.Unasked l) (one_line al bl line)
+one_parts (Reported.Unasked al) (Reported.Broken br bg) g h e =
     let n : 657 ≡ 796 = ap (λ (fs : List (List ℕ)). kind fs) e in absurd (omega (arith, n))
-one_parts (reports.Unasked al) reports.Opened g h e =
+one_parts (Reported.Unasked al) Reported.Opened g h e =
     let n : 657 ≡ 696 = ap (λ (fs : List (List ℕ)). kind fs) e in absurd (omega (arith, n))
-one_parts (reports.Unasked al) reports.Left g h e =
+one_parts (Reported.Unasked al) Reported.Left g h e =
     let n : 657 ≡ 704 = ap (λ (fs : List (List ℕ)). kind fs) e in absurd (omega (arith, n))
-one_parts (reports.Broken ar ag) (reports.Did b) g h e = absurd h
-one_parts (reports.Broken ar ag) (reports.MovedSomewhere t2) g h e =
+one_parts (Reported.Broken ar ag) (Reported.Did b) g h e = absurd h
+one_parts (Reported.Broken ar ag) (Reported.MovedSomewhere t2) g h e =
     let n : 796 ≡ 865 = ap (λ (fs : List (List ℕ)). kind fs) e in absurd (omega (arith, n))
-one_parts (reports.Broken ar ag) reports.FramedSomehow g h e =
+one_parts (Reported.Broken ar ag) Reported.FramedSomehow g h e =
     let n : 796 ≡ 656 = ap (λ (fs : List (List ℕ)). kind fs) e in absurd (omega (arith, n))
-one_parts (reports.Broken ar ag) (reports.Touched t2 bd bn bf p2) g h e =
+one_parts (Reported.Broken ar ag) (Reported.Touched t2 bd bn bf p2) g h e =
     let n : 796 ≡ 787 = ap (λ (fs : List (List ℕ)). kind fs) e in absurd (omega (arith, n))
-one_parts (reports.Broken ar ag) (reports.Other bs bl) g h e =
+one_parts (Reported.Broken ar ag) (Reported.Other bs bl) g h e =
     let n : 796 ≡ 725 = ap (λ (fs : List (List ℕ)). kind fs) e in absurd (omega (arith, n))
-one_parts (reports.Broken ar ag) (reports.Unasked bl) g h e =
+one_parts (Reported.Broken ar ag) (Reported.Unasked bl) g h e =
     let n : 796 ≡ 657 = ap (λ (fs : List (List ℕ)). kind fs) e in absurd (omega (arith, n))
-one_parts (reports.Broken ar ag) (reports.Broken br bg) g h e =
+one_parts (Reported.Broken ar ag) (Reported.Broken br bg) g h e =
     let rule : rule_name ar ≡ rule_name br = cc in
     let tag : written_tag ag ≡ written_tag bg = cc in
     same_broken (one_rule ar br rule)
     (one_tag ag bg [] [] g h (append-nil (written_tag ag) ∙ tag ∙ sym (append-nil (written_tag bg)))).tag
-one_parts (reports.Broken ar ag) reports.Opened g h e =
+one_parts (Reported.Broken ar ag) Reported.Opened g h e =
     let n : 796 ≡ 696 = ap (λ (fs : List (List ℕ)). kind fs) e in absurd (omega (arith, n))
-one_parts (reports.Broken ar ag) reports.Left g h e =
+one_parts (Reported.Broken ar ag) Reported.Left g h e =
     let n : 796 ≡ 704 = ap (λ (fs : List (List ℕ)). kind fs) e in absurd (omega (arith, n))
-one_parts reports.Opened (reports.Did b) g h e = absurd h
-one_parts reports.Opened (reports.MovedSomewhere t2) g h e =
+one_parts Reported.Opened (Reported.Did b) g h e = absurd h
+one_parts Reported.Opened (Reported.MovedSomewhere t2) g h e =
     let n : 696 ≡ 865 = ap (λ (fs : List (List ℕ)). kind fs) e in absurd (omega (arith, n))
-one_parts reports.Opened reports.FramedSomehow g h e =
+one_parts Reported.Opened Reported.FramedSomehow g h e =
     let n : 696 ≡ 656 = ap (λ (fs : List (List ℕ)). kind fs) e in absurd (omega (arith, n))
-one_parts reports.Opened (reports.Touched t2 bd bn bf p2) g h e =
+one_parts Reported.Opened (Reported.Touched t2 bd bn bf p2) g h e =
     let n : 696 ≡ 787 = ap (λ (fs : List (List ℕ)). kind fs) e in absurd (omega (arith, n))
-one_parts reports.Opened (reports.Other bs bl) g h e =
+one_parts Reported.Opened (Reported.Other bs bl) g h e =
     let n : 696 ≡ 725 = ap (λ (fs : List (List ℕ)). kind fs) e in absurd (omega (arith, n))
-one_parts reports.Opened (reports.Unasked bl) g h e =
+one_parts Reported.Opened (Reported.Unasked bl) g h e =
     let n : 696 ≡ 657 = ap (λ (fs : List (List ℕ)). kind fs) e in absurd (omega (arith, n))
-one_parts reports.Opened (reports.Broken br bg) g h e =
+one_parts Reported.Opened (Reported.Broken br bg) g h e =
     let n : 696 ≡ 796 = ap (λ (fs : List (List ℕ)). kind fs) e in absurd (omega (arith, n))
-one_parts reports.Opened reports.Opened g h e = refl
-one_parts reports.Opened reports.Left g h e =
+one_parts Reported.Opened Reported.Opened g h e = refl
+one_parts Reported.Opened Reported.Left g h e =
     let n : 696 ≡ 704 = ap (λ (fs : List (List ℕ)). kind fs) e in absurd (omega (arith, n))
-one_parts reports.Left (reports.Did b) g h e = absurd h
-one_parts reports.Left (reports.MovedSomewhere t2) g h e =
+one_parts Reported.Left (Reported.Did b) g h e = absurd h
+one_parts Reported.Left (Reported.MovedSomewhere t2) g h e =
     let n : 704 ≡ 865 = ap (λ (fs : List (List ℕ)). kind fs) e in absurd (omega (arith, n))
-one_parts reports.Left reports.FramedSomehow g h e =
+one_parts Reported.Left Reported.FramedSomehow g h e =
     let n : 704 ≡ 656 = ap (λ (fs : List (List ℕ)). kind fs) e in absurd (omega (arith, n))
-one_parts reports.Left (reports.Touched t2 bd bn bf p2) g h e =
+one_parts Reported.Left (Reported.Touched t2 bd bn bf p2) g h e =
     let n : 704 ≡ 787 = ap (λ (fs : List (List ℕ)). kind fs) e in absurd (omega (arith, n))
-one_parts reports.Left (reports.Other bs bl) g h e =
+one_parts Reported.Left (Reported.Other bs bl) g h e =
     let n : 704 ≡ 725 = ap (λ (fs : List (List ℕ)). kind fs) e in absurd (omega (arith, n))
-one_parts reports.Left (reports.Unasked bl) g h e =
+one_parts Reported.Left (Reported.Unasked bl) g h e =
     let n : 704 ≡ 657 = ap (λ (fs : List (List ℕ)). kind fs) e in absurd (omega (arith, n))
-one_parts reports.Left (reports.Broken br bg) g h e =
+one_parts Reported.Left (Reported.Broken br bg) g h e =
     let n : 704 ≡ 796 = ap (λ (fs : List (List ℕ)). kind fs) e in absurd (omega (arith, n))
-one_parts reports.Left reports.Opened g h e =
+one_parts Reported.Left Reported.Opened g h e =
     let n : 704 ≡ 696 = ap (λ (fs : List (List ℕ)). kind fs) e in absurd (omega (arith, n))
-one_parts reports.Left reports.Left g h e = refl
+one_parts Reported.Left Reported.Left g h e = refl
 
 abbrev SameEntry : ℕ → ℕ → Reported → Reported → Type 0
 SameEntry m n t u = ◌≡◌ {A = ℕ × Reported} (m, t) (n, u)
@@ -427,16 +410,16 @@ same_entry : (e f : ℕ × Reported) → e.0 ≡ f.0 → e.1 ≡ f.1 → e ≡ f
 same_entry e f p q = λ n. (p n, q n)
 
 one_act : (m n : ℕ) (t u : Reported) (a b : Act) → IsToldEntry (m, t) → IsToldEntry (n, u) → told_line (m, t) ≡ told_line (n, u)
-    → t ≡ reports.Did a → u ≡ reports.Did b → SameEntry m n t u
+    → t ≡ Reported.Did a → u ≡ Reported.Did b → SameEntry m n t u
 one_act m n t u a b g h same p q =
     let as_a = subst (λ (x : Reported). IsToldEntry (m, x)) p g in
     let as_b = subst (λ (x : Reported). IsToldEntry (n, x)) q h in
     let lines : act_line (m, a) ≡ act_line (n, b) = ap (λ (x : Reported). told_line (m, x)) (sym p) ∙ same ∙ ap (λ (x : Reported). told_line (n, x)) q in
     let both = one_entry (m, a) (n, b) as_a.0 as_b.0 lines in
-    same_entry (m, t) (n, u) (ap (λ (x : ℕ × Act). x.0) both) (p ∙ ap (λ (x : ℕ × Act). reports.Did x.1) both ∙ sym q)
+    same_entry (m, t) (n, u) (ap (λ (x : ℕ × Act). x.0) both) (p ∙ ap (λ (x : ℕ × Act). Reported.Did x.1) both ∙ sym q)
 
 not_one : (m n : ℕ) (t u : Reported) (a : Act) → IsToldEntry (m, t) → IsToldEntry (n, u) → told_line (m, t) ≡ told_line (n, u)
-    → t ≡ reports.Did a → IsOtherTold u → ⊥
+    → t ≡ Reported.Did a → IsOtherTold u → ⊥
 not_one m n t u a g h same p other =
     let as_a = subst (λ (x : Reported). IsToldEntry (m, x)) p g in
     let line : act_line (m, a) ≡ told_line (n, u) = ap (λ (x : Reported). told_line (m, x)) (sym p) ∙ same in

@@ -1,39 +1,19 @@
 -- The lines of what was reported other than acts, and the fields after their words.
-use Rattle.std.proofs.Common.{◌≡◌, ℕ, ◌/◌, ◌≤◌, Bool, true, false, eqb, List, [], ◌∷◌, ◌++◌, length, refl, ap, sym, subst, ◌∙◌}
-use Rattle.std.proofs.Common.{arith, codes, Option, Some, None, append-nil, slice_index}
-use Rattle.std.specs.Prelude.{decimal}
-use Rattle.std.specs.List.{list_all, slice_split}
-use Rattle.std.specs.Str.{bytes_eq}
-use Rattle.std.proofs.lemmas.Bool.{and_from, le-leb}
+use Rattle.told_files.proofs.Names.{[], ◌++◌, ◌/◌, ◌∙◌, ◌∷◌, ◌≡◌, ◌≤◌, Act, act_line, and_from, ap, append-nil, ArePlain, arith, Bool, bytes_eq}
+use Rattle.told_files.proofs.Names.{bytes_eq-Decides, Client, codes, decimal, decimal_plain, Direction, direction_fields, direction_plain}
+use Rattle.told_files.proofs.Names.{direction_tail, eqb, false, fields_behind, four_digits, Frame, frame_plain, frame_tail, is_plain, IsEntry}
+use Rattle.told_files.proofs.Names.{IsInDoubt, IsLineText, IsNamed, IsOnWire, IsOtherTold, IsPlaced, IsPlain, IsReadTold, IsToldEntry, IsToolName}
+use Rattle.told_files.proofs.Names.{IsWrittenTold, kind, known_frame, last_digit, le-leb, length, line_of, List, list_all, Machine, name_plain}
+use Rattle.told_files.proofs.Names.{NoData, None, NotInTurn, Option, OtherData, OutOfOrder, plain_fields_append, Point, point_fields, point_plain}
+use Rattle.told_files.proofs.Names.{read_act, refl, Reported, Rule, rule_name, SecondData, Server, Side, side_field, slice_index, slice_split, Some}
+use Rattle.told_files.proofs.Names.{subst, sym, Tag, TagInUse, told_fields, told_line, told_parts, tool_field, TooMany, true, unknown_field}
+use Rattle.told_files.proofs.Names.{UnknownTag, written_tag, ℕ}
 use Rattle.std.proofs.lemmas.List.Splits.{length-slice_split}
-use Rattle.std.proofs.lemmas.Slice.Eq.{bytes_eq-Decides}
-use Rattle.fixed_um.specs.Shapes.{Direction}
-use Rattle.fixed_um.specs.Written.{last_digit}
-use Rattle.fixed_um.specs.declared.lengths.Point.{Point}
-use Rattle.fixed_um.specs.declared.frames.Frame.{Frame}
-use Rattle.fixed_um.specs.declared.frames.Frame.TheVariants.{Machine, Part}
-use Rattle.dme_line.specs.Tags.{written_tag, four_digits}
-use Rattle.dme_line.specs.declared.tags.Tag.{Tag}
-use Rattle.dme_line.specs.declared.tags.Tag.TheVariants.{Std, Event}
-use Rattle.contact_ledger.specs.Lines.{fields_of, fields_behind, line_of}
-use Rattle.contact_ledger.specs.Fields.{IsOnWire, point_fields, direction_fields}
+use Rattle.fixed_um.specs.declared.frames.Frame.TheVariants.{Part}
+use Rattle.dme_line.specs.declared.tags.Tag.TheVariants.{Event, Std}
+use Rattle.contact_ledger.specs.Lines.{fields_of}
 use Rattle.contact_ledger.specs.Ledgers.{IsConnection}
-use Rattle.contact_ledger.specs.ContactTexts.{IsEntry, act_line}
-use Rattle.contact_ledger.specs.declared.acts.Act.{Act}
-use Rattle.contact_ledger.specs.declared.acts.Act.TheVariants as act
-use Rattle.contact_ledger.proofs.EntryLines.{kind, frame_tail, direction_tail}
-use Rattle.contact_ledger.proofs.LineFields.{line_fields, part_behind, made_of}
-use Rattle.contact_ledger.proofs.PlainFields.{is_plain, IsPlain, ArePlain, plain_fields_append, decimal_plain, name_plain, point_plain, frame_plain}
-use Rattle.contact_ledger.proofs.PlainFields.{direction_plain}
-use Rattle.witness.specs.Texts.{unknown_field, tool_field, known_frame, rule_name, side_field, told_fields, told_line}
-use Rattle.witness.specs.declared.lines.Rule.{Rule}
-use Rattle.witness.specs.declared.lines.Rule.TheVariants.{UnknownTag, OutOfOrder, NoData, SecondData, OtherData, TagInUse, NotInTurn, TooMany}
-use Rattle.witness.specs.declared.lines.Side.{Side}
-use Rattle.witness.specs.declared.lines.Side.TheVariants.{Client, Server}
-use Rattle.witness.specs.declared.lines.Reported.{Reported}
-use Rattle.witness.specs.declared.lines.Reported.TheVariants as reports
-use Rattle.told_files.specs.Parts.{IsOtherTold, told_parts, IsToolName}
-use Rattle.told_files.specs.ToldTexts.{IsNamed, IsPlaced, IsInDoubt, IsLineText, IsWrittenTold, IsReadTold, IsToldEntry, read_act}
+use Rattle.contact_ledger.proofs.LineFields.{line_fields, made_of, part_behind}
 
 -- ---- parts of a line
 
@@ -90,7 +70,7 @@ record TouchParts (target : Point) (dir : Option Direction) (tool : Option (List
 
 touch_parts : (fields r s t u : List (List ℕ)) (word : List ℕ) (p target point : Point) (d dir : Option Direction) (f frame : Option Frame)
     (tool : Option (List ℕ)) → fields ≡ point_fields p ++ r → r ≡ direction_fields d ++ s → s ≡ word ∷ t → t ≡ known_frame f ++ u
-    → codes "CONTACT" ∷ fields ≡ told_parts (reports.Touched target dir tool frame point)
+    → codes "CONTACT" ∷ fields ≡ told_parts (Reported.Touched target dir tool frame point)
     → TouchParts target dir tool frame point word u
 touch_parts fields r s t u word p target point d dir f frame tool i j k l e =
     let all : fields ≡ point_fields target ++ (direction_fields dir ++ (tool_field tool ∷ (known_frame frame ++ point_fields point))) = cc in
@@ -106,60 +86,60 @@ touch_parts fields r s t u word p target point d dir f frame tool i j k l e =
 pub no_last_point : (fields r s t u : List (List ℕ)) (p : Point) (d : Option Direction) (word : List ℕ) (f : Option Frame) (a : Reported)
     → fields ≡ point_fields p ++ r → r ≡ direction_fields d ++ s → s ≡ word ∷ t → t ≡ known_frame f ++ u → NoPoint u → IsOtherTold a
     → codes "CONTACT" ∷ fields ≡ told_parts a → ⊥
-no_last_point fields r s t u p d word f (reports.Did x) i j k l none h e = h
-no_last_point fields r s t u p d word f (reports.MovedSomewhere target) i j k l none h e =
+no_last_point fields r s t u p d word f (Reported.Did x) i j k l none h e = h
+no_last_point fields r s t u p d word f (Reported.MovedSomewhere target) i j k l none h e =
     let n : 787 ≡ 865 = ap (λ (fs : List (List ℕ)). kind fs) e in omega (arith, n)
-no_last_point fields r s t u p d word f reports.FramedSomehow i j k l none h e =
+no_last_point fields r s t u p d word f Reported.FramedSomehow i j k l none h e =
     let n : 787 ≡ 656 = ap (λ (fs : List (List ℕ)). kind fs) e in omega (arith, n)
-no_last_point fields r s t u p d word f (reports.Touched target dir tool frame point) i j k l none h e =
+no_last_point fields r s t u p d word f (Reported.Touched target dir tool frame point) i j k l none h e =
     let parts = touch_parts fields r s t u word p target point d dir f frame tool i j k l e in
     none point [] h.4 (parts.ended ∙ sym (append-nil (point_fields point)))
-no_last_point fields r s t u p d word f (reports.Other side line) i j k l none h e =
+no_last_point fields r s t u p d word f (Reported.Other side line) i j k l none h e =
     let n : 787 ≡ 725 = ap (λ (fs : List (List ℕ)). kind fs) e in omega (arith, n)
-no_last_point fields r s t u p d word f (reports.Unasked line) i j k l none h e =
+no_last_point fields r s t u p d word f (Reported.Unasked line) i j k l none h e =
     let n : 787 ≡ 657 = ap (λ (fs : List (List ℕ)). kind fs) e in omega (arith, n)
-no_last_point fields r s t u p d word f (reports.Broken rule tag) i j k l none h e =
+no_last_point fields r s t u p d word f (Reported.Broken rule tag) i j k l none h e =
     let n : 787 ≡ 796 = ap (λ (fs : List (List ℕ)). kind fs) e in omega (arith, n)
-no_last_point fields r s t u p d word f reports.Opened i j k l none h e =
+no_last_point fields r s t u p d word f Reported.Opened i j k l none h e =
     let n : 787 ≡ 696 = ap (λ (fs : List (List ℕ)). kind fs) e in omega (arith, n)
-no_last_point fields r s t u p d word f reports.Left i j k l none h e =
+no_last_point fields r s t u p d word f Reported.Left i j k l none h e =
     let n : 787 ≡ 704 = ap (λ (fs : List (List ℕ)). kind fs) e in omega (arith, n)
 
 pub no_tool : (fields r s t u : List (List ℕ)) (p : Point) (d : Option Direction) (word : List ℕ) (f : Option Frame) (a : Reported)
     → fields ≡ point_fields p ++ r → r ≡ direction_fields d ++ s → s ≡ word ∷ t → t ≡ known_frame f ++ u → NoTool word → IsOtherTold a
     → codes "CONTACT" ∷ fields ≡ told_parts a → ⊥
-no_tool fields r s t u p d word f (reports.Did x) i j k l none h e = h
-no_tool fields r s t u p d word f (reports.MovedSomewhere target) i j k l none h e =
+no_tool fields r s t u p d word f (Reported.Did x) i j k l none h e = h
+no_tool fields r s t u p d word f (Reported.MovedSomewhere target) i j k l none h e =
     let n : 787 ≡ 865 = ap (λ (fs : List (List ℕ)). kind fs) e in omega (arith, n)
-no_tool fields r s t u p d word f reports.FramedSomehow i j k l none h e =
+no_tool fields r s t u p d word f Reported.FramedSomehow i j k l none h e =
     let n : 787 ≡ 656 = ap (λ (fs : List (List ℕ)). kind fs) e in omega (arith, n)
-no_tool fields r s t u p d word f (reports.Touched target dir tool frame point) i j k l none h e =
+no_tool fields r s t u p d word f (Reported.Touched target dir tool frame point) i j k l none h e =
     let parts = touch_parts fields r s t u word p target point d dir f frame tool i j k l e in
     none tool (h.2, doubt_name tool frame h.5, parts.named)
-no_tool fields r s t u p d word f (reports.Other side line) i j k l none h e =
+no_tool fields r s t u p d word f (Reported.Other side line) i j k l none h e =
     let n : 787 ≡ 725 = ap (λ (fs : List (List ℕ)). kind fs) e in omega (arith, n)
-no_tool fields r s t u p d word f (reports.Unasked line) i j k l none h e =
+no_tool fields r s t u p d word f (Reported.Unasked line) i j k l none h e =
     let n : 787 ≡ 657 = ap (λ (fs : List (List ℕ)). kind fs) e in omega (arith, n)
-no_tool fields r s t u p d word f (reports.Broken rule tag) i j k l none h e =
+no_tool fields r s t u p d word f (Reported.Broken rule tag) i j k l none h e =
     let n : 787 ≡ 796 = ap (λ (fs : List (List ℕ)). kind fs) e in omega (arith, n)
-no_tool fields r s t u p d word f reports.Opened i j k l none h e =
+no_tool fields r s t u p d word f Reported.Opened i j k l none h e =
     let n : 787 ≡ 696 = ap (λ (fs : List (List ℕ)). kind fs) e in omega (arith, n)
-no_tool fields r s t u p d word f reports.Left i j k l none h e =
+no_tool fields r s t u p d word f Reported.Left i j k l none h e =
     let n : 787 ≡ 704 = ap (λ (fs : List (List ℕ)). kind fs) e in omega (arith, n)
 
 -- the parts of a line that is not known
 other_parts : (fields : List (List ℕ)) (t : Reported) → IsOtherTold t → codes "OTHER" ∷ fields ≡ told_parts t
     → (side : Side) × (line : List ℕ) × IsLineText line × (fields ≡ side_field side ∷ fields_of line)
-other_parts fields (reports.Did x) h e = absurd h
-other_parts fields (reports.MovedSomewhere target) h e = let n : 725 ≡ 865 = ap (λ (fs : List (List ℕ)). kind fs) e in absurd (omega (arith, n))
-other_parts fields reports.FramedSomehow h e = let n : 725 ≡ 656 = ap (λ (fs : List (List ℕ)). kind fs) e in absurd (omega (arith, n))
-other_parts fields (reports.Touched target dir tool frame point) h e =
+other_parts fields (Reported.Did x) h e = absurd h
+other_parts fields (Reported.MovedSomewhere target) h e = let n : 725 ≡ 865 = ap (λ (fs : List (List ℕ)). kind fs) e in absurd (omega (arith, n))
+other_parts fields Reported.FramedSomehow h e = let n : 725 ≡ 656 = ap (λ (fs : List (List ℕ)). kind fs) e in absurd (omega (arith, n))
+other_parts fields (Reported.Touched target dir tool frame point) h e =
     let n : 725 ≡ 787 = ap (λ (fs : List (List ℕ)). kind fs) e in absurd (omega (arith, n))
-other_parts fields (reports.Other side line) h e = let same : fields ≡ side_field side ∷ fields_of line = cc in (side, line, h, same)
-other_parts fields (reports.Unasked line) h e = let n : 725 ≡ 657 = ap (λ (fs : List (List ℕ)). kind fs) e in absurd (omega (arith, n))
-other_parts fields (reports.Broken rule tag) h e = let n : 725 ≡ 796 = ap (λ (fs : List (List ℕ)). kind fs) e in absurd (omega (arith, n))
-other_parts fields reports.Opened h e = let n : 725 ≡ 696 = ap (λ (fs : List (List ℕ)). kind fs) e in absurd (omega (arith, n))
-other_parts fields reports.Left h e = let n : 725 ≡ 704 = ap (λ (fs : List (List ℕ)). kind fs) e in absurd (omega (arith, n))
+other_parts fields (Reported.Other side line) h e = let same : fields ≡ side_field side ∷ fields_of line = cc in (side, line, h, same)
+other_parts fields (Reported.Unasked line) h e = let n : 725 ≡ 657 = ap (λ (fs : List (List ℕ)). kind fs) e in absurd (omega (arith, n))
+other_parts fields (Reported.Broken rule tag) h e = let n : 725 ≡ 796 = ap (λ (fs : List (List ℕ)). kind fs) e in absurd (omega (arith, n))
+other_parts fields Reported.Opened h e = let n : 725 ≡ 696 = ap (λ (fs : List (List ℕ)). kind fs) e in absurd (omega (arith, n))
+other_parts fields Reported.Left h e = let n : 725 ≡ 704 = ap (λ (fs : List (List ℕ)). kind fs) e in absurd (omega (arith, n))
 
 -- fields that are not those of a line
 abbrev NoLine : List (List ℕ) → Type 0
@@ -174,16 +154,16 @@ no_line fields more word t p none h e =
     none parts.1 (parts.2, same)
 
 pub no_unasked : (fields : List (List ℕ)) (t : Reported) → NoLine fields → IsOtherTold t → codes "UNASKED" ∷ fields ≡ told_parts t → ⊥
-no_unasked fields (reports.Did x) none h e = h
-no_unasked fields (reports.MovedSomewhere target) none h e = let n : 657 ≡ 865 = ap (λ (fs : List (List ℕ)). kind fs) e in omega (arith, n)
-no_unasked fields reports.FramedSomehow none h e = let n : 657 ≡ 656 = ap (λ (fs : List (List ℕ)). kind fs) e in omega (arith, n)
-no_unasked fields (reports.Touched target dir tool frame point) none h e =
+no_unasked fields (Reported.Did x) none h e = h
+no_unasked fields (Reported.MovedSomewhere target) none h e = let n : 657 ≡ 865 = ap (λ (fs : List (List ℕ)). kind fs) e in omega (arith, n)
+no_unasked fields Reported.FramedSomehow none h e = let n : 657 ≡ 656 = ap (λ (fs : List (List ℕ)). kind fs) e in omega (arith, n)
+no_unasked fields (Reported.Touched target dir tool frame point) none h e =
     let n : 657 ≡ 787 = ap (λ (fs : List (List ℕ)). kind fs) e in omega (arith, n)
-no_unasked fields (reports.Other side line) none h e = let n : 657 ≡ 725 = ap (λ (fs : List (List ℕ)). kind fs) e in omega (arith, n)
-no_unasked fields (reports.Unasked line) none h e = let same : fields ≡ fields_of line = cc in none line (h, same)
-no_unasked fields (reports.Broken rule tag) none h e = let n : 657 ≡ 796 = ap (λ (fs : List (List ℕ)). kind fs) e in omega (arith, n)
-no_unasked fields reports.Opened none h e = let n : 657 ≡ 696 = ap (λ (fs : List (List ℕ)). kind fs) e in omega (arith, n)
-no_unasked fields reports.Left none h e = let n : 657 ≡ 704 = ap (λ (fs : List (List ℕ)). kind fs) e in omega (arith, n)
+no_unasked fields (Reported.Other side line) none h e = let n : 657 ≡ 725 = ap (λ (fs : List (List ℕ)). kind fs) e in omega (arith, n)
+no_unasked fields (Reported.Unasked line) none h e = let same : fields ≡ fields_of line = cc in none line (h, same)
+no_unasked fields (Reported.Broken rule tag) none h e = let n : 657 ≡ 796 = ap (λ (fs : List (List ℕ)). kind fs) e in omega (arith, n)
+no_unasked fields Reported.Opened none h e = let n : 657 ≡ 696 = ap (λ (fs : List (List ℕ)). kind fs) e in omega (arith, n)
+no_unasked fields Reported.Left none h e = let n : 657 ≡ 704 = ap (λ (fs : List (List ℕ)). kind fs) e in omega (arith, n)
 
 -- ---- the fields of a line
 
@@ -222,7 +202,7 @@ placed_plain None h = (record { plain = refl }, tt)
 placed_plain (Some frame) h = frame_plain frame h
 
 pub touch_plain : (target : Point) (dir : Option Direction) (tool : Option (List ℕ)) (frame : Option Frame) (point : Point)
-    → IsWrittenTold (reports.Touched target dir tool frame point) → ArePlain (told_fields (reports.Touched target dir tool frame point))
+    → IsWrittenTold (Reported.Touched target dir tool frame point) → ArePlain (told_fields (Reported.Touched target dir tool frame point))
 touch_plain target dir tool frame point h = (
   record { plain = refl },
   plain_fields_append (point_fields target) _ (point_plain target h.0) (plain_fields_append (direction_fields dir) _
@@ -232,18 +212,18 @@ touch_plain target dir tool frame point h = (
       )),
 )
 
-pub moved_plain : (target : Point) → IsOnWire target → ArePlain (told_fields (reports.MovedSomewhere target))
+pub moved_plain : (target : Point) → IsOnWire target → ArePlain (told_fields (Reported.MovedSomewhere target))
 moved_plain target h = (
   record { plain = refl },
   plain_fields_append (point_fields target) (unknown_field ∷ []) (point_plain target h) (record { plain = refl }, tt),
 )
 
-pub broken_plain : (rule : Rule) (tag : Tag) → ArePlain (told_fields (reports.Broken rule tag))
+pub broken_plain : (rule : Rule) (tag : Tag) → ArePlain (told_fields (Reported.Broken rule tag))
 broken_plain rule tag = (record { plain = refl }, (rule_plain rule, (tag_plain tag, tt)))
 
 -- a line of another maker after its connection and the way that it went
 foreign_back : (n : ℕ) (side : Side) (line : List ℕ) → IsConnection n
-    → fields_of (told_line (n, reports.Other side line)) ≡ decimal n ∷ told_parts (reports.Other side line)
+    → fields_of (told_line (n, Reported.Other side line)) ≡ decimal n ∷ told_parts (Reported.Other side line)
 unfolding fields_of
 foreign_back n side line h =
     part_behind 32 (decimal n) (line_of (codes "OTHER" ∷ side_field side ∷ line ∷ [])) (omega arith)
@@ -252,7 +232,7 @@ foreign_back n side line h =
     ∙ ap (λ (fs : List (List ℕ)). codes "OTHER" ∷ fs) (part_behind 32 (side_field side) line (omega arith) (side_plain side)))
 
 unasked_back : (n : ℕ) (line : List ℕ) → IsConnection n
-    → fields_of (told_line (n, reports.Unasked line)) ≡ decimal n ∷ told_parts (reports.Unasked line)
+    → fields_of (told_line (n, Reported.Unasked line)) ≡ decimal n ∷ told_parts (Reported.Unasked line)
 unfolding fields_of
 unasked_back n line h =
     part_behind 32 (decimal n) (line_of (codes "UNASKED" ∷ line ∷ [])) (omega arith) (decimal_plain n (omega (arith, h.1))).plain
@@ -263,31 +243,31 @@ plain_back : (n : ℕ) (fields : List (List ℕ)) → IsConnection n → ArePlai
 plain_back n fields h all = line_fields (decimal n) fields (decimal_plain n (omega (arith, h.1)), all)
 
 pub other_back : (n : ℕ) (t : Reported) → IsConnection n → IsOtherTold t → fields_of (told_line (n, t)) ≡ decimal n ∷ told_parts t
-other_back n (reports.Did x) c h = absurd h
-other_back n (reports.MovedSomewhere target) c h = plain_back n (told_fields (reports.MovedSomewhere target)) c (moved_plain target h)
-other_back n reports.FramedSomehow c h = plain_back n (told_fields reports.FramedSomehow) c (record { plain = refl }, (record { plain = refl }, tt))
-other_back n (reports.Touched target dir tool frame point) c h =
-    plain_back n (told_fields (reports.Touched target dir tool frame point)) c
+other_back n (Reported.Did x) c h = absurd h
+other_back n (Reported.MovedSomewhere target) c h = plain_back n (told_fields (Reported.MovedSomewhere target)) c (moved_plain target h)
+other_back n Reported.FramedSomehow c h = plain_back n (told_fields Reported.FramedSomehow) c (record { plain = refl }, (record { plain = refl }, tt))
+other_back n (Reported.Touched target dir tool frame point) c h =
+    plain_back n (told_fields (Reported.Touched target dir tool frame point)) c
     (touch_plain target dir tool frame point (h.0, h.1, h.2, h.3, h.4))
-other_back n (reports.Other side line) c h = foreign_back n side line c
-other_back n (reports.Unasked line) c h = unasked_back n line c
-other_back n (reports.Broken rule tag) c h = plain_back n (told_fields (reports.Broken rule tag)) c (broken_plain rule tag)
-other_back n reports.Opened c h = plain_back n (told_fields reports.Opened) c (record { plain = refl }, tt)
-other_back n reports.Left c h = plain_back n (told_fields reports.Left) c (record { plain = refl }, tt)
+other_back n (Reported.Other side line) c h = foreign_back n side line c
+other_back n (Reported.Unasked line) c h = unasked_back n line c
+other_back n (Reported.Broken rule tag) c h = plain_back n (told_fields (Reported.Broken rule tag)) c (broken_plain rule tag)
+other_back n Reported.Opened c h = plain_back n (told_fields Reported.Opened) c (record { plain = refl }, tt)
+other_back n Reported.Left c h = plain_back n (told_fields Reported.Left) c (record { plain = refl }, tt)
 
 -- ---- the line of an act
 
 act_of_contact : (n : ℕ) (target point : Point) (dir : Option Direction) (tool : List ℕ) (frame : Frame) (line : List ℕ)
-    → IsEntry (n, act.Contact target dir tool frame point) → line ≡ act_line (n, act.Contact target dir tool frame point)
-    → IsToldEntry (n, read_act (act.Contact target dir tool frame point))
-    × (line ≡ told_line (n, read_act (act.Contact target dir tool frame point)))
+    → IsEntry (n, Act.Contact target dir tool frame point) → line ≡ act_line (n, Act.Contact target dir tool frame point)
+    → IsToldEntry (n, read_act (Act.Contact target dir tool frame point))
+    × (line ≡ told_line (n, read_act (Act.Contact target dir tool frame point)))
 act_of_contact n target point dir tool frame line h e = go (bytes_eq tool unknown_field) refl
   where
     entry : Bool → Reported
-    entry true = reports.Touched target dir None (Some frame) point
-    entry false = reports.Did (act.Contact target dir tool frame point)
+    entry true = Reported.Touched target dir None (Some frame) point
+    entry false = Reported.Did (Act.Contact target dir tool frame point)
 
-    read_as : (b : Bool) → bytes_eq tool unknown_field ≡ b → read_act (act.Contact target dir tool frame point) ≡ entry b
+    read_as : (b : Bool) → bytes_eq tool unknown_field ≡ b → read_act (Act.Contact target dir tool frame point) ≡ entry b
     read_as true t = rw t refl
     read_as false t = rw t refl
 
@@ -297,47 +277,47 @@ act_of_contact n target point dir tool frame line h e = go (bytes_eq tool unknow
     of : (b : Bool) → bytes_eq tool unknown_field ≡ b → IsToldEntry (n, entry b) × (line ≡ told_line (n, entry b))
     of true t = (
       ((h.0, (h.1.0, h.1.1, tt, h.1.3, h.1.4)), tt),
-      e ∙ ap (λ (name : List ℕ). act_line (n, act.Contact target dir name frame point)) ((bytes_eq-Decides tool unknown_field).0 t),
+      e ∙ ap (λ (name : List ℕ). act_line (n, Act.Contact target dir name frame point)) ((bytes_eq-Decides tool unknown_field).0 t),
     )
     of false t = (
       ((h.0, h.1), λ same. let yes = (bytes_eq-Decides tool unknown_field).1 same in absurd cc),
       e,
     )
 
-    go : (b : Bool) → bytes_eq tool unknown_field ≡ b → IsToldEntry (n, read_act (act.Contact target dir tool frame point))
-        × (line ≡ told_line (n, read_act (act.Contact target dir tool frame point)))
+    go : (b : Bool) → bytes_eq tool unknown_field ≡ b → IsToldEntry (n, read_act (Act.Contact target dir tool frame point))
+        × (line ≡ told_line (n, read_act (Act.Contact target dir tool frame point)))
     go b t = subst goal (sym (read_as b t)) (of b t)
 
 pub act_read : (n : ℕ) (a : Act) (line : List ℕ) → IsEntry (n, a) → line ≡ act_line (n, a)
     → IsToldEntry (n, read_act a) × (line ≡ told_line (n, read_act a))
-act_read n (act.HomedIs homed) line h e = (((h.0, h.1), tt), e)
-act_read n act.Homed line h e = (((h.0, h.1), tt), e)
-act_read n (act.Moved target frame) line h e = (((h.0, h.1), tt), e)
-act_read n (act.Changed tool) line h e = (((h.0, h.1), tt), e)
-act_read n (act.Framed frame) line h e = (((h.0, h.1), tt), e)
-act_read n (act.Contact target dir tool frame point) line h e = act_of_contact n target point dir tool frame line h e
+act_read n (Act.HomedIs homed) line h e = (((h.0, h.1), tt), e)
+act_read n Act.Homed line h e = (((h.0, h.1), tt), e)
+act_read n (Act.Moved target frame) line h e = (((h.0, h.1), tt), e)
+act_read n (Act.Changed tool) line h e = (((h.0, h.1), tt), e)
+act_read n (Act.Framed frame) line h e = (((h.0, h.1), tt), e)
+act_read n (Act.Contact target dir tool frame point) line h e = act_of_contact n target point dir tool frame line h e
 
 -- ---- lines without an entry
 
 pub data View (t : Reported) : Type 0 where
-  acted : (a : Act) → t ≡ reports.Did a → View t
+  acted : (a : Act) → t ≡ Reported.Did a → View t
   reported : IsOtherTold t → View t
 
 pub view : (t : Reported) → IsWrittenTold t → IsReadTold t → View t
-view (reports.Did a) h k = acted a refl
-view (reports.MovedSomewhere target) h k = reported h
-view reports.FramedSomehow h k = reported tt
-view (reports.Touched target dir tool frame point) h k = reported (h.0, h.1, h.2, h.3, h.4, k)
-view (reports.Other side line) h k = reported h
-view (reports.Unasked line) h k = reported h
-view (reports.Broken rule tag) h k = reported h
-view reports.Opened h k = reported tt
-view reports.Left h k = reported tt
+view (Reported.Did a) h k = acted a refl
+view (Reported.MovedSomewhere target) h k = reported h
+view Reported.FramedSomehow h k = reported tt
+view (Reported.Touched target dir tool frame point) h k = reported (h.0, h.1, h.2, h.3, h.4, k)
+view (Reported.Other side line) h k = reported h
+view (Reported.Unasked line) h k = reported h
+view (Reported.Broken rule tag) h k = reported h
+view Reported.Opened h k = reported tt
+view Reported.Left h k = reported tt
 
 abbrev NoEntry : List ℕ → Type 0
 NoEntry line = (e : ℕ × Act) → IsEntry e × (line ≡ act_line e) → ⊥
 
-no_act_line : (line : List ℕ) (n : ℕ) (t : Reported) (a : Act) → NoEntry line → IsToldEntry (n, t) → line ≡ told_line (n, t) → t ≡ reports.Did a → ⊥
+no_act_line : (line : List ℕ) (n : ℕ) (t : Reported) (a : Act) → NoEntry line → IsToldEntry (n, t) → line ≡ told_line (n, t) → t ≡ Reported.Did a → ⊥
 no_act_line line n t a none h e same =
     let written = subst (λ (x : Reported). IsWrittenTold x) same h.0.1 in
     none (n, a) ((h.0.0, written), e ∙ ap (λ (x : Reported). told_line (n, x)) same)
@@ -367,15 +347,15 @@ no_told line word rest n t acts p none h e = go (view t h.0.1 h.1)
         none t (other, same)
 
 as_told : (t : Reported) → IsOtherTold t → IsWrittenTold t × IsReadTold t
-as_told (reports.Did a) h = absurd h
-as_told (reports.MovedSomewhere target) h = (h, tt)
-as_told reports.FramedSomehow h = (tt, tt)
-as_told (reports.Touched target dir tool frame point) h = ((h.0, h.1, h.2, h.3, h.4), h.5)
-as_told (reports.Other side line) h = (h, tt)
-as_told (reports.Unasked line) h = (h, tt)
-as_told (reports.Broken rule tag) h = (h, tt)
-as_told reports.Opened h = (tt, tt)
-as_told reports.Left h = (tt, tt)
+as_told (Reported.Did a) h = absurd h
+as_told (Reported.MovedSomewhere target) h = (h, tt)
+as_told Reported.FramedSomehow h = (tt, tt)
+as_told (Reported.Touched target dir tool frame point) h = ((h.0, h.1, h.2, h.3, h.4), h.5)
+as_told (Reported.Other side line) h = (h, tt)
+as_told (Reported.Unasked line) h = (h, tt)
+as_told (Reported.Broken rule tag) h = (h, tt)
+as_told Reported.Opened h = (tt, tt)
+as_told Reported.Left h = (tt, tt)
 
 pub told_found : (line word rest : List ℕ) (n : ℕ) (t : Reported) → fields_of line ≡ word ∷ fields_behind rest
     → (1 ≤ n) × (n ≤ 4000000000) × (word ≡ decimal n) → IsOtherTold t × (fields_behind rest ≡ told_parts t)

@@ -1,20 +1,14 @@
 -- A run in the numbered ledger is one in what was reported.
-use Rattle.std.proofs.Common.{◌≡◌, ℕ, zero, suc, ◌+◌, ◌<◌, ◌≤◌, Some, None, List, [], ◌∷◌, length, map, take, drop, refl, ap, sym, subst, ◌∙◌}
-use Rattle.std.proofs.Common.{arith, Result, Ok, Err}
-use Rattle.std.specs.Prelude.{IfOk}
-use Rattle.std.proofs.lemmas.List.{drop-map, take-map, length-map}
-use Rattle.fixed_um.specs.declared.lengths.Point.{Point}
-use Rattle.contact_ledger.specs.declared.acts.Act.{Act}
+use Rattle.told_files.proofs.Names.{[], ◌+◌, ◌<◌, ◌∙◌, ◌∷◌, ◌≡◌, ◌≤◌, Act, ap, AreFewestUnsoundTold, AreLeastTold, AreNext, AreRunContacts, AreRuns}
+use Rattle.told_files.proofs.Names.{AreToldRuns, arith, connection_at, contacts, drop, Err, IfOk, IsRun, IsServed, IsToldRun, known_contacts, length}
+use Rattle.told_files.proofs.Names.{List, MadeContact, map, None, Ok, parts_of, Point, refl, Reported, Result, Serves, Some, Sound, SoundByTold}
+use Rattle.told_files.proofs.Names.{subst, suc, sym, take, unnumbered, zero, ℕ}
+use Rattle.std.proofs.lemmas.List.{drop-map, length-map, take-map}
 use Rattle.contact_ledger.specs.declared.features.Feature.{Feature}
 use Rattle.dmis_program.specs.declared.features.Touch.{Touch}
 use Rattle.dmis_program.specs.declared.features.Wanted.{Wanted}
-use Rattle.protocol_model.specs.Claims.{MadeContact, contacts, IsServed, Serves, IsRun, AreRuns, Sound}
-use Rattle.ledger_audit.specs.Verdicts.{AreLeast, AreFewestUnsound, IfStarts, IfNoRun}
+use Rattle.ledger_audit.specs.Verdicts.{AreFewestUnsound, AreLeast, IfNoRun, IfStarts}
 use Rattle.ledger_audit.specs.declared.verdicts.Verdict.{Verdict}
-use Rattle.ledger_audit.specs.declared.verdicts.Verdict.TheVariants as verdict
-use Rattle.witness.specs.declared.lines.Reported.{Reported}
-use Rattle.told_files.specs.Runs.{known_contacts, parts_of, AreNext, IsToldRun, AreToldRuns, SoundByTold, AreLeastTold, AreFewestUnsoundTold}
-use Rattle.told_files.specs.Runs.{connection_at, unnumbered, AreRunContacts}
 use Rattle.told_files.proofs.NextContacts.{next_known}
 
 plus_one : (n : ℕ) → n + 1 ≡ suc n
@@ -236,18 +230,18 @@ told_sound entries ledger ws fs made h = record { starts = h.starts; runs = told
 
 pub starts_told : (entries : List (ℕ × Reported)) (ledger : List (ℕ × Act)) (ws : List Wanted) (fs : List Feature) (v : Verdict)
     → AreRunContacts entries ledger → IfStarts v (λ s. AreRuns ws fs s 0 (contacts ledger)) → IfStarts v (λ s. AreToldRuns ws fs s 0 entries)
-starts_told entries ledger ws fs (verdict.Starts starts) made h = runs_told entries ledger ws fs starts 0 made h
-starts_told entries ledger ws fs (verdict.NoRun count) made h = tt
+starts_told entries ledger ws fs (Verdict.Starts starts) made h = runs_told entries ledger ws fs starts 0 made h
+starts_told entries ledger ws fs (Verdict.NoRun count) made h = tt
 
 pub least_told : (entries : List (ℕ × Reported)) (ledger : List (ℕ × Act)) (ws : List Wanted) (fs : List Feature) (v : Verdict)
     → AreRunContacts entries ledger → IfStarts v (AreLeast ws fs (contacts ledger)) → IfStarts v (AreLeastTold ws fs entries)
-least_told entries ledger ws fs (verdict.Starts starts) made h = λ others runs. h others (told_runs entries ledger ws fs others 0 made runs)
-least_told entries ledger ws fs (verdict.NoRun count) made h = tt
+least_told entries ledger ws fs (Verdict.Starts starts) made h = λ others runs. h others (told_runs entries ledger ws fs others 0 made runs)
+least_told entries ledger ws fs (Verdict.NoRun count) made h = tt
 
 pub fewest_told : (entries : List (ℕ × Reported)) (ledger : List (ℕ × Act)) (ws : List Wanted) (fs : List Feature) (v : Verdict)
     → AreRunContacts entries ledger → IfNoRun v (AreFewestUnsound ws fs ledger) → IfNoRun v (AreFewestUnsoundTold ws fs entries)
-fewest_told entries ledger ws fs (verdict.Starts starts) made h = tt
-fewest_told entries ledger ws fs (verdict.NoRun count) made h = record {
+fewest_told entries ledger ws fs (Verdict.Starts starts) made h = tt
+fewest_told entries ledger ws fs (Verdict.NoRun count) made h = record {
   some = h.some;
   held = h.held;
   before = λ fewer less. sound_told entries ledger ws (take fewer fs) made (h.before fewer less);

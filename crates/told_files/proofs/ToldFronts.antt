@@ -1,14 +1,10 @@
 -- A prefix of a written text is read as what its whole lines say.
-use Rattle.std.proofs.Common.{◌≡◌, ℕ, zero, suc, ◌+◌, ◌-◌, ◌<◌, ◌≤◌, Bool, true}
-use Rattle.std.proofs.Common.{false, not, eqb, List, [], ◌∷◌, ◌++◌, length, take, map, refl}
-use Rattle.std.proofs.Common.{ap, sym, subst, ◌∙◌, arith, codes, append_assoc, length-append}
-use Rattle.std.specs.List.{list_all, slice_split, AllByRecursion}
-use Rattle.std.proofs.lemmas.Bool.{and_parts, and_from}
-use Rattle.contact_ledger.specs.Lines.{text_of, but_last, whole_lines}
-use Rattle.contact_ledger.proofs.ContactLaws.{is_inner, IsInner, line_first}
-use Rattle.witness.specs.Texts.{told_line, told_text}
-use Rattle.witness.specs.declared.lines.Reported.{Reported}
-use Rattle.told_files.specs.ToldTexts.{AreWrittenEntries, NeverFall, told_file_lines, IsToldText, none, some, entry_back}
+use Rattle.told_files.proofs.Names.{[], ◌++◌, ◌+◌, ◌-◌, ◌<◌, ◌∙◌, ◌∷◌, ◌≡◌, ◌≤◌, AllByRecursion, and_from, and_parts, ap, append_assoc}
+use Rattle.told_files.proofs.Names.{AreWrittenEntries, arith, Bool, but_last, codes, eqb, false, is_inner, IsInner, IsToldText, length, length-append}
+use Rattle.told_files.proofs.Names.{line_first, List, list_all, map, NeverFall, not, refl, Reported, slice_split, subst, suc, sym, take, text_of}
+use Rattle.told_files.proofs.Names.{told_file_lines, told_line, told_text, true, zero, ℕ}
+use Rattle.contact_ledger.specs.Lines.{whole_lines}
+use Rattle.told_files.specs.ToldTexts.{entry_back, none, some}
 use Rattle.told_files.proofs.ToldLaws.{file_inner, take_lines, take_up, entries_back, back_up, file_lines_back}
 
 -- lines, and after them what has no line end

@@ -1,33 +1,17 @@
 -- A text is read in one way, and a written one is read back.
-use Rattle.std.proofs.Common.{◌≡◌, ◌≢◌, ℕ, zero, suc, ◌≤◌, Bool, true, false, not, eqb, List, [], ◌∷◌, ◌++◌, length, take, map, refl}
-use Rattle.std.proofs.Common.{ap, sym, subst, ◌∙◌, arith, codes, Option, Some, None}
-use Rattle.std.specs.Prelude.{decimal}
-use Rattle.std.specs.List.{list_all, slice_split, AllByRecursion}
-use Rattle.std.specs.Str.{bytes_eq}
-use Rattle.std.proofs.lemmas.Bool.{and_parts, and_from, leb-true, ne_eqb}
+use Rattle.told_files.proofs.Names.{[], ◌++◌, ◌∙◌, ◌∷◌, ◌≡◌, ◌≢◌, ◌≤◌, Act, act_fields, AllByRecursion, and_from, and_parts, ap, ArePlain}
+use Rattle.told_files.proofs.Names.{AreToldEntries, AreToldLines, AreWrittenEntries, arith, Bool, bytes_eq, bytes_eq-Decides, Client, codes, decimal}
+use Rattle.told_files.proofs.Names.{decimal_plain, Direction, entry_plain, eqb, false, Frame, is_content, is_inner, is_plain, IsDamagedTold, IsInner}
+use Rattle.told_files.proofs.Names.{IsPlain, IsReadTold, IsToldText, IsWrittenAct, IsWrittenEntry, IsWrittenTold, leb-true, length, line_first}
+use Rattle.told_files.proofs.Names.{line_of, List, list_all, map, ne_eqb, NeverFall, None, not, Option, Point, read_act, read_back, read_tool, refl}
+use Rattle.told_files.proofs.Names.{Reported, Server, Side, side_field, slice_split, Some, spaced, subst, suc, sym, take, text_of, told_fields}
+use Rattle.told_files.proofs.Names.{told_file_lines, told_line, told_text, true, unknown_field, without_last, zero, ℕ}
 use Rattle.std.proofs.lemmas.List.Folds.{list_all-append}
-use Rattle.std.proofs.lemmas.Slice.Eq.{bytes_eq-Decides}
-use Rattle.fixed_um.specs.Shapes.{Direction}
-use Rattle.fixed_um.specs.declared.lengths.Point.{Point}
-use Rattle.fixed_um.specs.declared.frames.Frame.{Frame}
-use Rattle.line_framing.specs.Content.{is_content}
-use Rattle.contact_ledger.specs.Lines.{text_of, whole_lines, line_of, spaced}
-use Rattle.contact_ledger.specs.ContactTexts.{IsWrittenAct, act_fields}
-use Rattle.contact_ledger.specs.declared.acts.Act.{Act}
-use Rattle.contact_ledger.specs.declared.acts.Act.TheVariants as act
-use Rattle.contact_ledger.proofs.ContactLaws.{is_inner, IsInner, line_first, without_last}
-use Rattle.contact_ledger.proofs.EntryLines.{entry_plain}
-use Rattle.contact_ledger.proofs.PlainFields.{is_plain, IsPlain, ArePlain, decimal_plain}
+use Rattle.contact_ledger.specs.Lines.{whole_lines}
 use Rattle.contact_ledger.proofs.WrittenTexts.{line_spaced}
 use Rattle.witness.specs.Dialogues.{touched}
-use Rattle.witness.specs.Texts.{unknown_field, told_fields, told_line, told_text, side_field}
-use Rattle.witness.specs.declared.lines.Side.{Side}
-use Rattle.witness.specs.declared.lines.Side.TheVariants.{Client, Server}
-use Rattle.witness.specs.declared.lines.Reported.{Reported}
-use Rattle.witness.specs.declared.lines.Reported.TheVariants as reports
-use Rattle.told_files.specs.ToldTexts.{IsWrittenTold, IsWrittenEntry, AreWrittenEntries, IsReadTold, AreToldEntries, NeverFall}
-use Rattle.told_files.specs.ToldTexts.{told_file_lines, AreToldLines, IsToldText, IsDamagedTold, none, some}
-use Rattle.told_files.specs.ToldTexts.{read_tool, read_act, read_back, entry_back}
+use Rattle.told_files.specs.ToldTexts.{none, some}
+use Rattle.told_files.specs.ToldTexts.{entry_back}
 use Rattle.told_files.proofs.OneTold.{one_told}
 use Rattle.told_files.proofs.OtherLines.{touch_plain, moved_plain, broken_plain}
 
@@ -99,12 +83,12 @@ record IsBack (t back : Reported) : Type 0 where
   fields : told_fields back ≡ told_fields t
 
 tool_back : (tool : List ℕ) (frame : Option Frame) (target point : Point) (dir : Option Direction)
-    → IsWrittenTold (reports.Touched target dir (Some tool) frame point)
-    → IsBack (reports.Touched target dir (Some tool) frame point) (touched (read_tool tool) frame target dir point)
+    → IsWrittenTold (Reported.Touched target dir (Some tool) frame point)
+    → IsBack (Reported.Touched target dir (Some tool) frame point) (touched (read_tool tool) frame target dir point)
 tool_back tool frame target point dir h = go (bytes_eq tool unknown_field) refl frame h
   where
     goal : Option Frame → Option (List ℕ) → Type 0
-    goal frame read = IsBack (reports.Touched target dir (Some tool) frame point) (touched read frame target dir point)
+    goal frame read = IsBack (Reported.Touched target dir (Some tool) frame point) (touched read frame target dir point)
 
     is_unknown : bytes_eq tool unknown_field ≡ true → read_tool tool ≡ None
     is_unknown t = rw t refl
@@ -116,45 +100,45 @@ tool_back tool frame target point dir h = go (bytes_eq tool unknown_field) refl 
     other t same = let yes = (bytes_eq-Decides tool unknown_field).1 same in absurd cc
 
     of_unknown : (frame : Option Frame) → bytes_eq tool unknown_field ≡ true
-        → IsWrittenTold (reports.Touched target dir (Some tool) frame point) → goal frame None
+        → IsWrittenTold (Reported.Touched target dir (Some tool) frame point) → goal frame None
     of_unknown frame t h = record {
       written = (h.0, h.1, tt, h.3, h.4);
       known = tt;
-      fields = ap (λ (name : List ℕ). told_fields (reports.Touched target dir (Some name) frame point))
+      fields = ap (λ (name : List ℕ). told_fields (Reported.Touched target dir (Some name) frame point))
           (sym ((bytes_eq-Decides tool unknown_field).0 t));
     }
 
     of_known : (frame : Option Frame) → bytes_eq tool unknown_field ≡ false
-        → IsWrittenTold (reports.Touched target dir (Some tool) frame point) → goal frame (Some tool)
+        → IsWrittenTold (Reported.Touched target dir (Some tool) frame point) → goal frame (Some tool)
     of_known None t h = record { written = h; known = other t; fields = refl }
     of_known (Some frame) t h = record { written = h; known = other t; fields = refl }
 
     go : (b : Bool) → bytes_eq tool unknown_field ≡ b → (frame : Option Frame)
-        → IsWrittenTold (reports.Touched target dir (Some tool) frame point) → goal frame (read_tool tool)
+        → IsWrittenTold (Reported.Touched target dir (Some tool) frame point) → goal frame (read_tool tool)
     go true t frame h = subst (goal frame) (sym (is_unknown t)) (of_unknown frame t h)
     go false t frame h = subst (goal frame) (sym (is_known t)) (of_known frame t h)
 
-act_back : (a : Act) → IsWrittenAct a → IsBack (reports.Did a) (read_act a)
-act_back (act.HomedIs homed) h = record { written = h; known = tt; fields = refl }
-act_back act.Homed h = record { written = h; known = tt; fields = refl }
-act_back (act.Moved target frame) h = record { written = h; known = tt; fields = refl }
-act_back (act.Changed tool) h = record { written = h; known = tt; fields = refl }
-act_back (act.Framed frame) h = record { written = h; known = tt; fields = refl }
-act_back (act.Contact target dir tool frame point) h =
+act_back : (a : Act) → IsWrittenAct a → IsBack (Reported.Did a) (read_act a)
+act_back (Act.HomedIs homed) h = record { written = h; known = tt; fields = refl }
+act_back Act.Homed h = record { written = h; known = tt; fields = refl }
+act_back (Act.Moved target frame) h = record { written = h; known = tt; fields = refl }
+act_back (Act.Changed tool) h = record { written = h; known = tt; fields = refl }
+act_back (Act.Framed frame) h = record { written = h; known = tt; fields = refl }
+act_back (Act.Contact target dir tool frame point) h =
     let back = tool_back tool (Some frame) target point dir h in
     record { written = back.written; known = back.known; fields = back.fields }
 
 told_back : (t : Reported) → IsWrittenTold t → IsBack t (read_back t)
-told_back (reports.Did a) h = act_back a h
-told_back (reports.MovedSomewhere target) h = record { written = h; known = tt; fields = refl }
-told_back reports.FramedSomehow h = record { written = h; known = tt; fields = refl }
-told_back (reports.Touched target dir None frame point) h = record { written = h; known = tt; fields = refl }
-told_back (reports.Touched target dir (Some tool) frame point) h = tool_back tool frame target point dir h
-told_back (reports.Other side line) h = record { written = h; known = tt; fields = refl }
-told_back (reports.Unasked line) h = record { written = h; known = tt; fields = refl }
-told_back (reports.Broken rule tag) h = record { written = h; known = tt; fields = refl }
-told_back reports.Opened h = record { written = h; known = tt; fields = refl }
-told_back reports.Left h = record { written = h; known = tt; fields = refl }
+told_back (Reported.Did a) h = act_back a h
+told_back (Reported.MovedSomewhere target) h = record { written = h; known = tt; fields = refl }
+told_back Reported.FramedSomehow h = record { written = h; known = tt; fields = refl }
+told_back (Reported.Touched target dir None frame point) h = record { written = h; known = tt; fields = refl }
+told_back (Reported.Touched target dir (Some tool) frame point) h = tool_back tool frame target point dir h
+told_back (Reported.Other side line) h = record { written = h; known = tt; fields = refl }
+told_back (Reported.Unasked line) h = record { written = h; known = tt; fields = refl }
+told_back (Reported.Broken rule tag) h = record { written = h; known = tt; fields = refl }
+told_back Reported.Opened h = record { written = h; known = tt; fields = refl }
+told_back Reported.Left h = record { written = h; known = tt; fields = refl }
 
 pub entries_back : (es : List (ℕ × Reported)) → AreWrittenEntries es → AreToldEntries (map entry_back es)
 entries_back [] h = tt
@@ -183,24 +167,24 @@ known_same tool other = go (bytes_eq tool unknown_field) refl
     go false t = rw t refl
 
 told_same : (t : Reported) → IsReadTold t → read_back t ≡ t
-told_same (reports.Did (act.HomedIs homed)) h = refl
-told_same (reports.Did act.Homed) h = refl
-told_same (reports.Did (act.Moved target frame)) h = refl
-told_same (reports.Did (act.Changed tool)) h = refl
-told_same (reports.Did (act.Framed frame)) h = refl
-told_same (reports.Did (act.Contact target dir tool frame point)) h =
+told_same (Reported.Did (Act.HomedIs homed)) h = refl
+told_same (Reported.Did Act.Homed) h = refl
+told_same (Reported.Did (Act.Moved target frame)) h = refl
+told_same (Reported.Did (Act.Changed tool)) h = refl
+told_same (Reported.Did (Act.Framed frame)) h = refl
+told_same (Reported.Did (Act.Contact target dir tool frame point)) h =
     ap (λ (m : Option (List ℕ)). touched m (Some frame) target dir point) (known_same tool h)
-told_same (reports.MovedSomewhere target) h = refl
-told_same reports.FramedSomehow h = refl
-told_same (reports.Touched target dir None frame point) h = refl
-told_same (reports.Touched target dir (Some tool) None point) h =
+told_same (Reported.MovedSomewhere target) h = refl
+told_same Reported.FramedSomehow h = refl
+told_same (Reported.Touched target dir None frame point) h = refl
+told_same (Reported.Touched target dir (Some tool) None point) h =
     ap (λ (m : Option (List ℕ)). touched m None target dir point) (known_same tool h)
-told_same (reports.Touched target dir (Some tool) (Some frame) point) h = absurd h
-told_same (reports.Other side line) h = refl
-told_same (reports.Unasked line) h = refl
-told_same (reports.Broken rule tag) h = refl
-told_same reports.Opened h = refl
-told_same reports.Left h = refl
+told_same (Reported.Touched target dir (Some tool) (Some frame) point) h = absurd h
+told_same (Reported.Other side line) h = refl
+told_same (Reported.Unasked line) h = refl
+told_same (Reported.Broken rule tag) h = refl
+told_same Reported.Opened h = refl
+told_same Reported.Left h = refl
 
 pub entries_same : (es : List (ℕ × Reported)) → AreToldEntries es → map entry_back es ≡ es
 entries_same [] h = refl
@@ -262,21 +246,21 @@ told_inner e h = go e.1 h.1
     number = decimal_plain e.0 (omega (arith, h.0.1))
 
     go : (t : Reported) → IsWrittenTold t → IsInner (told_line (e.0, t))
-    go (reports.Did a) w = line_inner (decimal e.0) (act_fields a) (entry_plain (e.0, a) (h.0, w))
-    go (reports.MovedSomewhere target) w = line_inner (decimal e.0) (told_fields (reports.MovedSomewhere target))
+    go (Reported.Did a) w = line_inner (decimal e.0) (act_fields a) (entry_plain (e.0, a) (h.0, w))
+    go (Reported.MovedSomewhere target) w = line_inner (decimal e.0) (told_fields (Reported.MovedSomewhere target))
         (number, moved_plain target w)
-    go reports.FramedSomehow w = line_inner (decimal e.0) (told_fields reports.FramedSomehow)
+    go Reported.FramedSomehow w = line_inner (decimal e.0) (told_fields Reported.FramedSomehow)
         (number, (record { plain = refl }, (record { plain = refl }, tt)))
-    go (reports.Touched target dir tool frame point) w = line_inner (decimal e.0) (told_fields (reports.Touched target dir tool frame point))
+    go (Reported.Touched target dir tool frame point) w = line_inner (decimal e.0) (told_fields (Reported.Touched target dir tool frame point))
         (number, touch_plain target dir tool frame point w)
-    go (reports.Other side line) w =
+    go (Reported.Other side line) w =
         foreign_inner (decimal e.0) side line (plain_inner (decimal e.0) number.plain) (content_inner line w.free)
-    go (reports.Unasked line) w = unasked_inner (decimal e.0) line (plain_inner (decimal e.0) number.plain) (content_inner line w.free)
-    go (reports.Broken rule tag) w = line_inner (decimal e.0) (told_fields (reports.Broken rule tag))
+    go (Reported.Unasked line) w = unasked_inner (decimal e.0) line (plain_inner (decimal e.0) number.plain) (content_inner line w.free)
+    go (Reported.Broken rule tag) w = line_inner (decimal e.0) (told_fields (Reported.Broken rule tag))
         (number, broken_plain rule tag)
-    go reports.Opened w = line_inner (decimal e.0) (told_fields reports.Opened)
+    go Reported.Opened w = line_inner (decimal e.0) (told_fields Reported.Opened)
         (number, (record { plain = refl }, tt))
-    go reports.Left w = line_inner (decimal e.0) (told_fields reports.Left)
+    go Reported.Left w = line_inner (decimal e.0) (told_fields Reported.Left)
         (number, (record { plain = refl }, tt))
 
 entries_inner : (es : List (ℕ × Reported)) → AreWrittenEntries es → AllByRecursion IsInner (map told_line es)

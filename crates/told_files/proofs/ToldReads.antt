@@ -1,15 +1,9 @@
 -- What reading a text line by line comes to.
-use Rattle.std.proofs.Common.{◌≡◌, ℕ, zero, suc, ◌+◌, ◌-◌, ◌<◌, ◌≤◌, List, [], ◌∷◌, ◌++◌, take, drop, map, refl, ap, sym, subst, ◌∙◌}
-use Rattle.std.proofs.Common.{arith, codes, length, slice_get}
+use Rattle.told_files.proofs.Names.{[], ◌++◌, ◌+◌, ◌-◌, ◌<◌, ◌∙◌, ◌∷◌, ◌≡◌, ◌≤◌, ap, AreToldEntries, AreToldLines, arith, codes, Damaged, drop}
+use Rattle.told_files.proofs.Names.{IsDamagedTold, IsToldEntry, IsToldText, last_number, length, List, map, Memory, NeverFall, ReadsFault, refl}
+use Rattle.told_files.proofs.Names.{Reported, slice_get, subst, suc, sym, take, TextFault, told_file_lines, told_line, whole_lines, zero, ℕ}
 use Rattle.std.specs.Option.{option_map_or}
-use Rattle.contact_ledger.specs.Lines.{whole_lines}
-use Rattle.contact_ledger.specs.Damage.{ReadsFault}
-use Rattle.contact_ledger.specs.declared.faults.TextFault.{TextFault}
-use Rattle.contact_ledger.specs.declared.faults.TextFault.TheVariants.{Damaged, Memory}
-use Rattle.witness.specs.declared.lines.Reported.{Reported}
-use Rattle.told_files.specs.ToldTexts.{IsToldEntry, AreToldEntries, NeverFall, last_number, told_file_lines, AreToldLines, none, some}
-use Rattle.told_files.specs.ToldTexts.{IsToldText, IsDamagedTold}
-use Rattle.witness.specs.Texts.{told_line}
+use Rattle.told_files.specs.ToldTexts.{none, some}
 use Rattle.contact_ledger.proofs.FeatureReads.{take_one_more}
 use Rattle.contact_ledger.proofs.FeatureShapes.{all_more}
 use Rattle.told_files.proofs.OneTold.{one_told}

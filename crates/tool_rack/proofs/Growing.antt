@@ -17,7 +17,6 @@ use Rattle.tool_rack.specs.Setups.{setup_of, IsSetup}
 use Rattle.tool_rack.specs.Carrying.{setup_more, line_more}
 use Rattle.tool_rack.proofs.SetupRuns.{setup_behind}
 use Rattle.tool_rack.specs.declared.entries.Entry.{Entry}
-use Rattle.tool_rack.specs.declared.entries.Entry.TheVariants as entry
 use Rattle.tool_rack.specs.declared.faults.SetupFault.{SetupFault}
 
 -- ---- what a setup is stays so
@@ -63,26 +62,26 @@ setup_empty = record { tools_once = tt; frames = record { once = tt; within = tt
 -- ---- the lines above, and one more
 
 pub setup_with_more : (above : List Entry) (e : Entry) → setup_with (above ++ e ∷ []) ≡ setup_more (setup_with above) e
-setup_with_more above entry.Nothing = rw (
-  filter_map-append tool_in above (entry.Nothing ∷ []),
-  filter_map-append frame_in above (entry.Nothing ∷ []),
-  filter_map-append shift_in above (entry.Nothing ∷ []),
+setup_with_more above Entry.Nothing = rw (
+  filter_map-append tool_in above (Entry.Nothing ∷ []),
+  filter_map-append frame_in above (Entry.Nothing ∷ []),
+  filter_map-append shift_in above (Entry.Nothing ∷ []),
 ) (simp append-nil)
-setup_with_more above (entry.Tool name) = rw (
-  filter_map-append tool_in above (entry.Tool name ∷ []),
-  filter_map-append frame_in above (entry.Tool name ∷ []),
-  filter_map-append shift_in above (entry.Tool name ∷ []),
+setup_with_more above (Entry.Tool name) = rw (
+  filter_map-append tool_in above (Entry.Tool name ∷ []),
+  filter_map-append frame_in above (Entry.Tool name ∷ []),
+  filter_map-append shift_in above (Entry.Tool name ∷ []),
 ) (simp append-nil)
-setup_with_more above (entry.Frame name offset) = rw (
-  filter_map-append tool_in above (entry.Frame name offset ∷ []),
-  filter_map-append frame_in above (entry.Frame name offset ∷ []),
-  filter_map-append shift_in above (entry.Frame name offset ∷ []),
+setup_with_more above (Entry.Frame name offset) = rw (
+  filter_map-append tool_in above (Entry.Frame name offset ∷ []),
+  filter_map-append frame_in above (Entry.Frame name offset ∷ []),
+  filter_map-append shift_in above (Entry.Frame name offset ∷ []),
 )
     (simp append-nil)
-setup_with_more above (entry.Shift shift) = rw (
-  filter_map-append tool_in above (entry.Shift shift ∷ []),
-  filter_map-append frame_in above (entry.Shift shift ∷ []),
-  filter_map-append shift_in above (entry.Shift shift ∷ []),
+setup_with_more above (Entry.Shift shift) = rw (
+  filter_map-append tool_in above (Entry.Shift shift ∷ []),
+  filter_map-append frame_in above (Entry.Shift shift ∷ []),
+  filter_map-append shift_in above (Entry.Shift shift ∷ []),
 ) (simp append-nil)
 
 -- all entries together

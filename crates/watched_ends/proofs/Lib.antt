@@ -1,3 +1,4 @@
+pub mod Names
 pub mod PlaceLemmas
 pub mod TurnLemmas
 pub mod LimitLemmas

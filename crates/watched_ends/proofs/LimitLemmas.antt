@@ -1,11 +1,9 @@
 -- A relay reads as far as it may.
-use Rattle.std.proofs.Common.{◌≡◌, ℕ, true, false, inl, inr, List, [], ◌++◌, drop, Option, Some, None, refl, sym, subst}
-use Rattle.dme_line.specs.declared.tags.Tag.TheVariants.{Event}
-use Rattle.witness.specs.Relaying.{Reads, IsClientRead, IsServerRead, untold}
+use Rattle.watched_ends.proofs.Names.{[], ◌++◌, ◌≡◌, all, are_too_many, down_of, down_sent, drop, due_of, Event, false, inl, inr, IsFirstPast, IsRead}
+use Rattle.watched_ends.proofs.Names.{IsStop, KeepsFew, last_tag, Limited, limited, List, None, none, Option, refl, Some, some, subst, sym, too_many}
+use Rattle.watched_ends.proofs.Names.{true, up_of, up_sent, Watching, without_due, ℕ}
+use Rattle.witness.specs.Relaying.{IsClientRead, IsServerRead, Reads, untold}
 use Rattle.witness.specs.Texts.{told_lines}
-use Rattle.witness.specs.Watching.{Watching, IsFirstPast, KeepsFew}
-use Rattle.watched_ends.specs.Limits.{Limited, limited, are_too_many, too_many, last_tag, IsStop, IsRead, all, some, none, due_of, up_of, down_of}
-use Rattle.watched_ends.specs.Limits.{without_due, up_sent, down_sent}
 
 pub stop_first : (old w : Watching) → IsFirstPast 10000 old w → IsStop old w
 stop_first old w first = inl first

@@ -1,12 +1,7 @@
 -- Bytes that come in an order.
-use Rattle.std.proofs.Common.{◌≡◌, ℕ, ◌+◌, List, [], ◌∷◌, ◌++◌, length, take, drop, map, ap, sym, subst, ◌∙◌}
-use Rattle.std.specs.List.{AllByRecursion}
-use Rattle.contact_ledger.specs.Lines.{whole_lines}
-use Rattle.std.proofs.Math.Seq.{take-add}
-use Rattle.watched_ends.specs.Limits.{Limited, client_came, server_came, IsRead}
-use Rattle.witness.specs.declared.lines.Side.{Side}
-use Rattle.witness_judge.specs.Orders.{Pieces}
-use Rattle.watched_ends.specs.Pieces.{header, piece_line, IsPiece, IsNoOrder, with_up, with_down, Relayed, begun, client, server}
+use Rattle.watched_ends.proofs.Names.{[], ◌++◌, ◌+◌, ◌∙◌, ◌∷◌, ◌≡◌, AllByRecursion, ap, begun, client, client_came, drop, header, IsNoOrder, IsPiece}
+use Rattle.watched_ends.proofs.Names.{IsRead, length, Limited, List, map, piece_line, Pieces, Relayed, server, server_came, Side, subst, sym, take}
+use Rattle.watched_ends.proofs.Names.{take-add, whole_lines, with_down, with_up, ℕ}
 
 pub none_came : (first : Limited) → Relayed first [] [] [] first
 none_came first = begun

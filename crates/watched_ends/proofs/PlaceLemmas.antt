@@ -1,18 +1,11 @@
 -- Where the client uses each tag last.
-use Rattle.std.proofs.Common.{◌≡◌, ℕ, zero, suc, ◌+◌, ◌<◌, ◌≤◌, ◌==◌, Bool, true, false, if◌then◌else◌, List, [], ◌∷◌, length, drop, get_or}
-use Rattle.std.proofs.Common.{Option, Some, None, refl, ap, sym, ◌∙◌, subst, arith, length-drop}
-use Rattle.std.proofs.lemmas.Bool.{false≢true, eqb-true, eq-eqb}
-use Rattle.std.proofs.lemmas.List.{get_or-drop}
-use Rattle.std.specs.List.{list_any}
-use Rattle.dme_line.specs.declared.tags.Tag.{Tag}
-use Rattle.protocol_model.specs.Readings.{command_of}
+use Rattle.watched_ends.proofs.Names.{[], ◌+◌, ◌<◌, ◌==◌, ◌∙◌, ◌∷◌, ◌≡◌, ◌≤◌, ap, AreLast, AreQuiet, arith, at_once_line, Bool, command_of, drop}
+use Rattle.watched_ends.proofs.Names.{eq-eqb, eqb-true, false, get_or, get_or-drop, if◌then◌else◌, is_under, IsBefore, length, length-drop, List}
+use Rattle.watched_ends.proofs.Names.{list_any, None, Option, refl, sends, sent, Some, some_sends, subst, suc, sym, Tag, true, zero, ℕ}
+use Rattle.std.proofs.lemmas.Bool.{false≢true}
 use Rattle.protocol_model.specs.Replies.{tag_is}
-use Rattle.witness.specs.Asking.{sent}
 use Rattle.witness.specs.declared.lines.SentCommand.{SentCommand}
-use Rattle.witness_laws.specs.Orders.{is_under, sends, some_sends}
-use Rattle.witness_laws.specs.Orders.{at_once_line}
 use Rattle.witness_judge.specs.Uses.{found}
-use Rattle.watched_ends.specs.Turns.{AreLast, AreQuiet, IsBefore}
 
 same_eqb : (n : ℕ) → (n == n) ≡ true
 same_eqb n = eq-eqb n n refl

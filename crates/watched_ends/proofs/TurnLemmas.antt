@@ -1,24 +1,19 @@
 -- Lines of the client are read when a response needs them.
-use Rattle.std.proofs.Common.{◌≡◌, ℕ, ◌+◌, ◌<◌, ◌≤◌, true, false, List, [], ◌∷◌, ◌++◌, length, take, drop, map, get_or}
-use Rattle.std.proofs.Common.{Ok, Err, refl, ap, sym, ◌∙◌, subst, arith, append_assoc, append-nil, length-drop}
-use Rattle.std.proofs.Math.Seq.{take-length, drop-length}
-use Rattle.std.proofs.lemmas.List.{drop_more, take_more, get_or-drop}
+use Rattle.watched_ends.proofs.Names.{[], ◌++◌, ◌+◌, ◌<◌, ◌∙◌, ◌∷◌, ◌≡◌, ◌≤◌, ap, append-nil, append_assoc, AreQuiet, AreTaken, arith, at_once_line}
+use Rattle.watched_ends.proofs.Names.{client_line, Down, downs, drop, drop-length, Err, false, get_or, get_or-drop, has_failed_under, is_open}
+use Rattle.watched_ends.proofs.Names.{IsAnswer, IsBehind, IsCausal, IsClear, IsSure, ledger, length, length-drop, Line, List, map, Ok, refl}
+use Rattle.watched_ends.proofs.Names.{response_of, said, said_all, server_line, signal_of, some_at_once, some_sends, subst, sym, Tag, take}
+use Rattle.watched_ends.proofs.Names.{take-length, true, Up, ups, ℕ}
+use Rattle.std.proofs.lemmas.List.{drop_more, take_more}
 use Rattle.dme_line.specs.Responses.{ReadsResponse}
 use Rattle.dme_line.specs.declared.responses.Mark.{Mark}
-use Rattle.dme_line.specs.declared.tags.Tag.{Tag}
 use Rattle.dme_line.specs.declared.responses.NotResponse.{NotResponse}
-use Rattle.protocol_model.specs.Readings.{response_of}
 use Rattle.witness.proofs.Readings.{one_response}
-use Rattle.witness.specs.Asking.{client_line, server_line, signal_of}
-use Rattle.witness.specs.Dialogues.{Dialogue, silence, after}
+use Rattle.witness.specs.Dialogues.{after, Dialogue, silence}
 use Rattle.witness.specs.Marks.{is_end}
-use Rattle.witness.specs.Watching.{ledger}
-use Rattle.witness_laws.specs.Orders.{Line, Up, Down, said, said_all, ups, downs, is_open, some_sends, at_once_line, some_at_once}
-use Rattle.witness_laws.specs.Orders.{has_failed_under, IsBehind, IsCausal, IsSure, IsClear}
-use Rattle.witness_laws.proofs.orders.Claimed.{ups_append, downs_append}
+use Rattle.witness_laws.proofs.orders.Claimed.{downs_append, ups_append}
 use Rattle.witness_laws.proofs.orders.Commands.{ups_are_causal}
 use Rattle.witness_laws.proofs.orders.Sorting.{all_append, same_told}
-use Rattle.watched_ends.specs.Turns.{AreQuiet, AreTaken, IsAnswer}
 use Rattle.watched_ends.proofs.PlaceLemmas.{none_any}
 
 -- ---- a line of the client

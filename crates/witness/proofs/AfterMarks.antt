@@ -1,18 +1,10 @@
 -- What may be known for a line after a mark for it, and below a line that this profile does not know.
-use Rattle.std.proofs.Common.{◌≡◌, ℕ, ◌==◌, Bool, true, false, ◌&&◌, if◌then◌else◌, Option, refl, ap, ◌∙◌}
-use Rattle.std.proofs.lemmas.Bool.{false≢true, eq-eqb}
-use Rattle.witness.specs.Dialogues.{Dialogue, use_heard, use_renewed, unknowing, answered_known, after_mark, without_rival, is_out_of_turn, heard_at, hearing, faulting}
-use Rattle.witness.specs.Known.{nothing, all_renewed, is_rival, below}
-use Rattle.witness.specs.Marks.{is_error, is_foreign}
-use Rattle.witness.specs.declared.lines.Heard.{Heard}
-use Rattle.witness.specs.declared.lines.Renewal.TheVariants.{Fault, Mark}
-use Rattle.witness.specs.declared.lines.Known.{Known}
+use Rattle.witness.proofs.Names.{◌&&◌, ◌==◌, ◌∙◌, ◌≡◌, after_mark, all_renewed, answered_known, ap, below, Bool, Dialogue, eq-eqb, false, Fault}
+use Rattle.witness.proofs.Names.{faulting, Heard, heard_at, hearing, if◌then◌else◌, is_error, is_foreign, is_out_of_turn, is_rival, Known, Mark}
+use Rattle.witness.proofs.Names.{nothing, NotInTurn, Option, refl, SentCommand, Standing, true, unknowing, Use, use_heard, use_renewed, without_rival}
+use Rattle.witness.proofs.Names.{ℕ}
+use Rattle.std.proofs.lemmas.Bool.{false≢true}
 use Rattle.witness.specs.declared.lines.Reported.TheVariants.{Broken}
-use Rattle.witness.specs.declared.lines.Rule.TheVariants.{NotInTurn}
-use Rattle.witness.specs.declared.lines.SentCommand.{SentCommand}
-use Rattle.witness.specs.declared.lines.SentCommand.TheVariants as sends
-use Rattle.witness.specs.declared.lines.Standing.{Standing}
-use Rattle.witness.specs.declared.lines.Use.{Use}
 
 known_if : (refused : Bool) (u : Use) → (if refused then unknowing u else u).known ≡ (if refused then nothing else u.known)
 known_if true u = refl
@@ -35,9 +27,9 @@ pub fault_heard : (h : Heard) (u : Use) → (use_heard u.line h (use_renewed (al
 fault_heard h u = known_heard h (use_renewed (all_renewed Fault) u)
 
 pub foreign_below : (s : Option Standing) (what : SentCommand) (k : Known) → is_foreign what ≡ true → below s what k ≡ nothing
-foreign_below s (sends.Known c) k e = absurd (false≢true e)
-foreign_below s sends.Asking k e = absurd (false≢true e)
-foreign_below s (sends.Foreign line) k e = refl
+foreign_below s (SentCommand.Known c) k e = absurd (false≢true e)
+foreign_below s SentCommand.Asking k e = absurd (false≢true e)
+foreign_below s (SentCommand.Foreign line) k e = refl
 
 pub either_nothing : (b : Bool) → (if b then nothing else nothing) ≡ nothing
 either_nothing true = refl

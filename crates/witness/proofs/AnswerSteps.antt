@@ -1,28 +1,15 @@
 -- A witness reads a line of the server: it then keeps and reports what the rules say of the lines that came.
-use Rattle.std.proofs.Common.{◌≡◌, ℕ, zero, suc, ◌+◌, Bool, true, false, cond, ◌&&◌, ◌||◌, not, if◌then◌else◌, nat_lt, List, [], ◌∷◌, ◌++◌, length, map, take, drop}
-use Rattle.std.proofs.Common.{Option, Some, None, refl, ap, sym, ◌∙◌, subst, append_assoc, append-nil}
-use Rattle.std.specs.Prelude.{position, remove, slice_get, option_map}
-use Rattle.std.specs.List.{list_any, prefix_len, position_or_len}
-use Rattle.std.proofs.lemmas.List.{map-append, take-map, drop-map}
-use Rattle.std.proofs.lemmas.Option.{slice_get-map}
-use Rattle.dme_line.specs.declared.tags.Tag.{Tag}
-use Rattle.protocol_model.specs.Replies.{tag_is}
+use Rattle.witness.proofs.Names.{[], ◌&&◌, ◌++◌, ◌+◌, ◌||◌, ◌∙◌, ◌∷◌, ◌≡◌, after, all_renewed, all_reported, Answers, ap, append-nil, append_assoc}
+use Rattle.witness.proofs.Names.{at_use, Bool, by_answer, by_owner, comes_early, cond, count_sent, Dialogue, drop, drop-map, early, early_at}
+use Rattle.witness.proofs.Names.{events_of, false, Fault, fault_of, faulting, first_of, for_line, has_turn, Heard, heard_as, heard_under, hearing}
+use Rattle.witness.proofs.Names.{if◌then◌else◌, is_crossed, is_end, is_fault, is_out_of_turn, is_report, Known, known_below, known_for, length, Line}
+use Rattle.witness.proofs.Names.{line_at, List, map, map-append, mark_in, marks, may_not_come, nat_lt, None, not, NotInTurn, open_lines, Option}
+use Rattle.witness.proofs.Names.{option_map, place, position, refl, remove, Reported, reported_by, seen, Signal, slice_get, slice_get-map, Some}
+use Rattle.witness.proofs.Names.{stage_of, subst, suc, sym, Tag, tag_is, take, take-map, true, unless_crossed, unless_report, Use, use_heard}
+use Rattle.witness.proofs.Names.{use_renewed, waits, without, witnessed, zero, ℕ}
+use Rattle.std.specs.List.{list_any, position_or_len, prefix_len}
 use Rattle.witness.proofs.KnownForUses.{known_fault, known_mark, use_fault, use_mark, seen_more, below_more}
-use Rattle.witness.specs.Asking.{Line, Answers, Signal}
-use Rattle.witness.specs.Dialogues.{Dialogue, use_renewed, use_heard, waits, is_report, reported_by, unless_crossed}
-use Rattle.witness.specs.Dialogues.{faulting, at_use, hearing, is_out_of_turn, may_not_come, heard_under, after}
-use Rattle.witness.specs.Histories.{Sent, count_sent, place, open_lines, first_of, line_at, without, for_line, mark_in, marks, stage_of}
-use Rattle.witness.specs.Known.{all_renewed}
-use Rattle.witness.specs.Marks.{heard_as, is_end, has_turn}
-use Rattle.witness.specs.Rules.{comes_early, early_at, fault_of, is_fault, events_of, is_crossed, known_for, known_below, seen, witnessed}
-use Rattle.witness.specs.Rules.{early, by_owner, by_answer, unless_report, all_reported}
-use Rattle.witness.specs.declared.lines.Heard.{Heard}
-use Rattle.witness.specs.declared.lines.Known.{Known}
-use Rattle.witness.specs.declared.lines.Renewal.TheVariants.{Fault}
-use Rattle.witness.specs.declared.lines.Reported.{Reported}
-use Rattle.witness.specs.declared.lines.Reported.TheVariants as reports
-use Rattle.witness.specs.declared.lines.Rule.TheVariants.{NotInTurn}
-use Rattle.witness.specs.declared.lines.Use.{Use}
+use Rattle.witness.specs.Histories.{Sent}
 
 -- ---- lists
 
@@ -117,7 +104,7 @@ result o h line tag signal at = parted o (events_of h) (is_crossed o h) (count_s
 
 -- no line has that tag
 none_step : (o : Bool) (h : List Line) (line : List ℕ) (b is_last : Bool)
-    → (if b then witnessed o h else faulting (witnessed o h) (reports.Unasked line))
+    → (if b then witnessed o h else faulting (witnessed o h) (Reported.Unasked line))
     ≡ parted o (events_of h) (is_crossed o h) (count_sent h)
     (map (λ u. use_mark None (use_fault (not b) u)) (map (seen h) (if is_last then open_lines h else open_lines h)))
     (known_mark None (known_fault (not b) (known_below h))) (all_reported o h ++ unless_report line b)
@@ -136,7 +123,7 @@ heard_twice n e us =
 
 turn_step : (o : Bool) (h : List Line) (at : ℕ) (s : Sent) (e : Heard) (b is_last : Bool)
     → (if b
-    then hearing (faulting (witnessed o h) (reports.Broken NotInTurn s.tag)) at (use_renewed (all_renewed Fault) (seen h s)) e is_last
+    then hearing (faulting (witnessed o h) (Reported.Broken NotInTurn s.tag)) at (use_renewed (all_renewed Fault) (seen h s)) e is_last
     else hearing (witnessed o h) at (seen h s) e is_last)
     ≡ parted o (events_of h) (is_crossed o h) (count_sent h)
     (map (λ u. use_mark (Some (place s, e)) (use_fault b u)) (map (seen h) (if is_last then remove (open_lines h) at else open_lines h)))
@@ -149,10 +136,10 @@ turn_step o h at s e true true =
     (ap (λ us. remove us at) (heard_twice (place s) e (map (seen h) (open_lines h)))
     ∙ remove_map (λ u. use_mark (Some (place s, e)) (use_fault true u)) (map (seen h) (open_lines h)) at
     ∙ ap (map (λ u. use_mark (Some (place s, e)) (use_fault true u))) (remove_map (seen h) (open_lines h) at))
-    refl (append_assoc (all_reported o h) (reports.Broken NotInTurn s.tag ∷ []) _)
+    refl (append_assoc (all_reported o h) (Reported.Broken NotInTurn s.tag ∷ []) _)
 turn_step o h at s e true false =
     four_parts o (events_of h) (is_crossed o h) refl (heard_twice (place s) e (map (seen h) (open_lines h)))
-    refl (append_assoc (all_reported o h) (reports.Broken NotInTurn s.tag ∷ []) _)
+    refl (append_assoc (all_reported o h) (Reported.Broken NotInTurn s.tag ∷ []) _)
 turn_step o h at s e false true =
     four_parts o (events_of h) (is_crossed o h) refl
     (remove_map (use_heard (place s) e) (map (seen h) (open_lines h)) at
@@ -184,7 +171,7 @@ slot_step o h signal at None e =
     refl (sym (append-nil (all_reported o h)))
 slot_step o h signal at (Some s) e =
     ap (λ b. (if b
-    then hearing (faulting (witnessed o h) (reports.Broken NotInTurn s.tag)) at (use_renewed (all_renewed Fault) (seen h s))
+    then hearing (faulting (witnessed o h) (Reported.Broken NotInTurn s.tag)) at (use_renewed (all_renewed Fault) (seen h s))
     (heard_as s.command signal) (is_end signal)
     else hearing (witnessed o h) at (seen h s) (heard_as s.command signal) (is_end signal)))
     (same_turn h at s (heard_as s.command signal))

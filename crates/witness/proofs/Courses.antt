@@ -1,22 +1,13 @@
 -- What follows for the whole course of a relay.
-use Rattle.std.proofs.Common.{◌≡◌, ◌≤◌, ℕ, zero, suc, length, Bool, true, List, [], ◌++◌, take, drop, map, Result, Ok, Err}
-use Rattle.std.proofs.Common.{OnOk, OnErr, refl, ap, sym, ◌∙◌, subst, append_assoc, append-nil}
-use Rattle.std.proofs.lemmas.List.{take-append-drop}
-use Rattle.std.proofs.lemmas.List.{map-append}
-use Rattle.contact_ledger.specs.Lines.{text_of}
-use Rattle.contact_ledger.proofs.WrittenTexts.{text_more}
-use Rattle.line_framing.specs.Framing.{Framing, IsLineDue}
-use Rattle.line_framing.specs.Next.{next_of}
+use Rattle.witness.proofs.Names.{[], ◌++◌, ◌∙◌, ◌≡◌, ◌≤◌, ap, append-nil, append_assoc, AreAllRead, Bool, came, client_read, client_times, Dialogue}
+use Rattle.witness.proofs.Names.{drop, Err, Framing, IsFew, IsLineDue, length, List, map, map-append, next_of, numbered, Ok, OnErr, OnOk, ReadsClient}
+use Rattle.witness.proofs.Names.{ReadsServer, ReadsWithin, refl, Reported, Result, server_read, server_times, subst, suc, sym, take, take-append-drop}
+use Rattle.witness.proofs.Names.{text_more, text_of, then_one, told_line, told_lines, true, unwatched, Watching, zero, ℕ}
 use Rattle.witness.proofs.Prefixes.{prefixed, client_after, server_after}
-use Rattle.witness.specs.Dialogues.{Dialogue}
-use Rattle.witness.specs.Relaying.{Relaying, Move, FromClient, FromServer, Read, MakeDue, Write, ToServer, ToClient, Did}
-use Rattle.witness.specs.Relaying.{Course, with_move, Relays, begun, moved, untold}
-use Rattle.witness.specs.Relaying.{Reads, none, client, server, IsClientRead, IsAllTold, IsToldOf}
-use Rattle.witness.specs.Relaying.{IsHeard, silent, came_up, came_down, read}
-use Rattle.witness.specs.Texts.{told_line, told_lines, numbered}
-use Rattle.witness.specs.Watching.{Watching, unwatched, client_read, server_read, client_times, server_times}
-use Rattle.witness.specs.Watching.{ReadsClient, ReadsServer, ReadsWithin, then_one, AreAllRead, IsFew, came}
-use Rattle.witness.specs.declared.lines.Reported.{Reported}
+use Rattle.witness.specs.Relaying.{Did, FromClient, FromServer, MakeDue, Move, Read, Relaying, ToClient, ToServer, Write}
+use Rattle.witness.specs.Relaying.{begun, Course, moved, Relays, untold, with_move}
+use Rattle.witness.specs.Relaying.{client, IsAllTold, IsClientRead, IsToldOf, none, Reads, server}
+use Rattle.witness.specs.Relaying.{came_down, came_up, IsHeard, read, silent}
 
 -- ---- reading
 

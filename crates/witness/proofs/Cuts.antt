@@ -1,11 +1,8 @@
 -- Lines that are cut off bytes.
-use Rattle.std.proofs.Common.{◌≡◌, ℕ, ◌<◌, List, [], ◌∷◌, ◌++◌, length, Option, Some, None, Ok, Err, IfOk, IsNone}
-use Rattle.std.proofs.Common.{refl, ap, sym, ◌∙◌, subst, arith, append_assoc, append-nil, length-append}
-use Rattle.line_framing.specs.Next.{Front, next_of}
-use Rattle.line_framing.specs.Stream.{IsStream, fault_in}
-use Rattle.line_framing.specs.declared.faults.FramingFault.{FramingFault}
+use Rattle.witness.proofs.Names.{[], ◌++◌, ◌<◌, ◌∙◌, ◌∷◌, ◌≡◌, ap, append-nil, append_assoc, arith, Err, fault_in, FramingFault, Front, IfOk, IsNone}
+use Rattle.witness.proofs.Names.{IsStream, length, length-append, List, next_of, None, Ok, Option, refl, Some, subst, sym, ℕ}
 use Rattle.line_framing.proofs.FirstLine.{found}
-use Rattle.line_framing.proofs.Streams.{stream_more, stream_end}
+use Rattle.line_framing.proofs.Streams.{stream_end, stream_more}
 
 -- what is left after a line is shorter
 pub shorter : (bytes line rest : List ℕ) → next_of bytes ≡ Ok (Some (line, rest)) → length rest < length bytes

@@ -1,10 +1,7 @@
 -- After any lines, a witness keeps and reports what the rules say.
-use Rattle.std.proofs.Common.{◌≡◌, Bool, List, [], ◌∷◌, refl, ap, ◌∙◌}
+use Rattle.witness.proofs.Names.{[], ◌∙◌, ◌∷◌, ◌≡◌, after, after_all, all_reported, Answers, ap, Bool, Line, List, refl, Sends, witnessed}
 use Rattle.witness.proofs.AnswerSteps.{answers_more}
 use Rattle.witness.proofs.SendSteps.{sends_more}
-use Rattle.witness.specs.Asking.{Line, Sends, Answers}
-use Rattle.witness.specs.Dialogues.{after, after_all}
-use Rattle.witness.specs.Rules.{all_reported, witnessed}
 
 pub exact : (o : Bool) (h : List Line) → after_all o h ≡ witnessed o h
 exact o [] = refl

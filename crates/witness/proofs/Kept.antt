@@ -1,13 +1,8 @@
 -- How many bytes of an end are kept after its lines were read.
-use Rattle.std.proofs.Common.{◌≡◌, ℕ, ◌+◌, ◌≤◌, ◌==◌, Bool, true, false, ◌&&◌, if◌then◌else◌, List, [], ◌∷◌, ◌++◌, length, take, drop}
-use Rattle.std.proofs.Common.{Some, None, Ok, Err, refl, ap, sym, subst, arith, length-append}
-use Rattle.std.specs.Prelude.{nat_lt}
-use Rattle.std.proofs.lemmas.Bool.{ltb-false}
-use Rattle.std.proofs.lemmas.List.{take-append-drop}
-use Rattle.line_framing.specs.Framing.{Framing, IsLineDue}
-use Rattle.line_framing.specs.Next.{Front, next_of, verdict, ending, content_len, content_of, behind_content}
-use Rattle.line_framing.specs.declared.faults.FramingFault.TheVariants.{LineTooLong, BadByte}
-use Rattle.witness.specs.Watching.{after_first, left_after}
+use Rattle.witness.proofs.Names.{[], ◌&&◌, ◌++◌, ◌+◌, ◌==◌, ◌∷◌, ◌≡◌, ◌≤◌, after_first, ap, arith, behind_content, Bool, content_len, content_of}
+use Rattle.witness.proofs.Names.{drop, ending, Err, false, Framing, Front, if◌then◌else◌, IsLineDue, left_after, length, length-append, List}
+use Rattle.witness.proofs.Names.{ltb-false, nat_lt, next_of, None, Ok, refl, Some, subst, sym, take, take-append-drop, true, verdict, ℕ}
+use Rattle.line_framing.specs.declared.faults.FramingFault.TheVariants.{BadByte, LineTooLong}
 
 abbrev closed : Bool → List ℕ → List ℕ → Front
 closed b c more = if b then Ok (Some (c, more)) else Err BadByte

@@ -1,26 +1,14 @@
 -- What a line of the server makes of what is known, for the next line and for those that are open.
-use Rattle.std.proofs.Common.{◌≡◌, ℕ, ◌==◌, Bool, true, false, ◌&&◌, ◌||◌, not, if◌then◌else◌, List, ◌∷◌, Option, Some, None, refl, ap, sym, ◌∙◌}
-use Rattle.std.proofs.Math.Bool.{or-false}
-use Rattle.fixed_um.specs.declared.lengths.Point.{Point}
-use Rattle.dme_line.specs.declared.commands.Csy.{Csy}
-use Rattle.dme_line.specs.declared.tags.Tag.{Tag}
+use Rattle.witness.proofs.Names.{◌&&◌, ◌==◌, ◌||◌, ◌∙◌, ◌∷◌, ◌≡◌, after_mark, all_for, all_renewed, Answer, answered_known, Answers, ap}
+use Rattle.witness.proofs.Names.{at_once_below, Begun, Bool, by_progress, Csy, Done, done_before, error_at, false, Fault, fault_since, Heard}
+use Rattle.witness.proofs.Names.{if◌then◌else◌, is_answer, is_done, is_doubtful, is_error, is_fault, is_for, is_rival, Known, known_below, known_for}
+use Rattle.witness.proofs.Names.{last_csy, last_part, last_tool, last_zero, Line, List, Mark, mark_in, marks, may_hold, may_hold_for, None, not}
+use Rattle.witness.proofs.Names.{nothing, one_renewed, Option, or-false, place, Point, Progress, progress_of, refl, rival_of, seen, SentCommand}
+use Rattle.witness.proofs.Names.{Signal, so_far, Some, Stage, stage_of, stage_with, Standing, standing, standing_of, sym, Tag, true, unknowing, Use}
+use Rattle.witness.proofs.Names.{use_heard, use_renewed, ℕ}
 use Rattle.witness.proofs.Standings.{fault_on, mark_on, rival_hit, same, standing_more, one_error}
-use Rattle.witness.specs.Asking.{Line, Answers, Signal}
-use Rattle.witness.specs.Dialogues.{use_renewed, use_heard, unknowing, after_mark, answered_known}
-use Rattle.witness.specs.Histories.{Sent, place, rival_of, mark_in, is_for, with_mark, marks, error_at, stage_of}
-use Rattle.witness.specs.Known.{nothing, standing, one_renewed, all_renewed, is_rival}
-use Rattle.witness.specs.Marks.{is_error, is_answer, stage_with}
-use Rattle.witness.specs.Rules.{is_fault, at_once_below, fault_since, is_doubtful, progress_of, so_far, by_progress, standing_of}
-use Rattle.witness.specs.Rules.{is_done, done_before, may_hold, may_hold_for, known_below, all_for, known_for, last_tool, last_csy, last_part, last_zero, seen}
-use Rattle.witness.specs.declared.lines.Heard.{Heard}
-use Rattle.witness.specs.declared.lines.Known.{Known}
-use Rattle.witness.specs.declared.lines.Progress.{Progress}
-use Rattle.witness.specs.declared.lines.Progress.TheVariants.{Sent as SentOnly, Begun, Done}
-use Rattle.witness.specs.declared.lines.Renewal.TheVariants.{Fault, Mark, Answer}
-use Rattle.witness.specs.declared.lines.SentCommand.{SentCommand}
-use Rattle.witness.specs.declared.lines.Stage.{Stage}
-use Rattle.witness.specs.declared.lines.Standing.{Standing}
-use Rattle.witness.specs.declared.lines.Use.{Use}
+use Rattle.witness.specs.Histories.{Sent, with_mark}
+use Rattle.witness.specs.declared.lines.Progress.TheVariants.{Sent as SentOnly}
 
 -- ---- one change, with what it selects
 

@@ -1,3 +1,4 @@
+pub mod Names
 pub mod Items
 pub mod Cuts
 pub mod Readings

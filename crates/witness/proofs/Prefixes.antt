@@ -1,23 +1,10 @@
 -- What was reported before stays before what is reported.
-use Rattle.std.proofs.Common.{◌≡◌, ℕ, Bool, true, false, if◌then◌else◌, List, [], ◌∷◌, ◌++◌, Option, Some, None, Ok, Err, refl, ap, ◌∙◌, append_assoc}
-use Rattle.std.specs.Prelude.{slice_get}
-use Rattle.dme_line.specs.declared.tags.Tag.{Tag}
-use Rattle.line_framing.specs.Next.{Front}
-use Rattle.protocol_model.specs.Readings.{command_of, response_of}
-use Rattle.witness.specs.Asking.{Signal, sent, answered}
-use Rattle.witness.specs.Dialogues.{Dialogue, at_once, sending, one_more, foreign_event, sent_tagged, client_sent, faulting, hearing, heard_at, at_use, use_renewed, is_out_of_turn}
-use Rattle.witness.specs.Dialogues.{is_report, unasked, heard_under, first_under, server_answered, reported_by, unless_crossed, use_heard}
-use Rattle.witness.specs.Known.{all_renewed}
-use Rattle.witness.specs.Marks.{heard_as, is_end}
-use Rattle.witness.specs.Watching.{client_front, server_front}
-use Rattle.witness.specs.declared.lines.Heard.{Heard}
-use Rattle.witness.specs.declared.lines.Renewal.TheVariants.{Fault}
-use Rattle.witness.specs.declared.lines.Reported.{Reported}
-use Rattle.witness.specs.declared.lines.Reported.TheVariants as reports
-use Rattle.witness.specs.declared.lines.Rule.TheVariants.{NotInTurn}
-use Rattle.witness.specs.declared.lines.SentCommand.{SentCommand}
+use Rattle.witness.proofs.Names.{[], ◌++◌, ◌∙◌, ◌∷◌, ◌≡◌, all_renewed, answered, ap, append_assoc, at_once, at_use, Bool, client_front, client_sent}
+use Rattle.witness.proofs.Names.{command_of, Dialogue, Err, false, Fault, faulting, first_under, foreign_event, Front, Heard, heard_as, heard_at}
+use Rattle.witness.proofs.Names.{heard_under, hearing, if◌then◌else◌, is_end, is_out_of_turn, is_report, List, None, NotInTurn, Ok, one_more, Option}
+use Rattle.witness.proofs.Names.{refl, Reported, reported_by, response_of, sending, sent, sent_tagged, SentCommand, server_answered, server_front}
+use Rattle.witness.proofs.Names.{Signal, slice_get, Some, Tag, true, unasked, unless_crossed, Use, use_heard, use_renewed, ℕ}
 use Rattle.witness.specs.declared.lines.Side.TheVariants.{Client, Server}
-use Rattle.witness.specs.declared.lines.Use.{Use}
 
 abbrev pub with_reports : Dialogue → List Reported → Dialogue
 with_reports d rs = record {
@@ -36,7 +23,7 @@ prefixed before d = with_reports d (before ++ d.reported)
 -- ---- a line of the client
 
 once_after : (before : List Reported) (d : Dialogue) (line : List ℕ) → at_once (prefixed before d) line ≡ prefixed before (at_once d line)
-once_after before d line = ap (with_reports (at_once d line)) (append_assoc before d.reported (reports.Other Client line ∷ []))
+once_after before d line = ap (with_reports (at_once d line)) (append_assoc before d.reported (Reported.Other Client line ∷ []))
 
 tagged_after : (before : List Reported) (d : Dialogue) (line : List ℕ) (tag : Tag) (what : SentCommand)
     → sent_tagged (prefixed before d) line tag what ≡ prefixed before (sent_tagged d line tag what)
@@ -70,12 +57,12 @@ heard_after : (before : List Reported) (d : Dialogue) (at : ℕ) (u : Use) (h : 
     → heard_at (prefixed before d) at u h e ≡ prefixed before (heard_at d at u h e)
 heard_after before d at u h e = by (is_out_of_turn d.uses at u h) where
   by : (b : Bool) → (if b
-      then hearing (faulting (prefixed before d) (reports.Broken NotInTurn u.tag)) at (use_renewed (all_renewed Fault) u) h e
+      then hearing (faulting (prefixed before d) (Reported.Broken NotInTurn u.tag)) at (use_renewed (all_renewed Fault) u) h e
       else hearing (prefixed before d) at u h e)
-      ≡ prefixed before (if b then hearing (faulting d (reports.Broken NotInTurn u.tag)) at (use_renewed (all_renewed Fault) u) h e
+      ≡ prefixed before (if b then hearing (faulting d (Reported.Broken NotInTurn u.tag)) at (use_renewed (all_renewed Fault) u) h e
       else hearing d at u h e)
-  by true = ap (λ x. hearing x at (use_renewed (all_renewed Fault) u) h e) (fault_after before d (reports.Broken NotInTurn u.tag))
-      ∙ hearing_after before (faulting d (reports.Broken NotInTurn u.tag)) at (use_renewed (all_renewed Fault) u) h e
+  by true = ap (λ x. hearing x at (use_renewed (all_renewed Fault) u) h e) (fault_after before d (Reported.Broken NotInTurn u.tag))
+      ∙ hearing_after before (faulting d (Reported.Broken NotInTurn u.tag)) at (use_renewed (all_renewed Fault) u) h e
   by false = hearing_after before d at u h e
 
 use_after : (before : List Reported) (d : Dialogue) (at : ℕ) (signal : Signal) (u : Option Use)
@@ -86,10 +73,10 @@ use_after before d at signal (Some u) = heard_after before d at u (heard_as u.co
 unasked_after : (before : List Reported) (d : Dialogue) (line : List ℕ) (tag : Tag) (signal : Signal)
     → unasked (prefixed before d) line tag signal ≡ prefixed before (unasked d line tag signal)
 unasked_after before d line tag signal = by (is_report tag signal d.events) where
-  by : (b : Bool) → (if b then prefixed before d else faulting (prefixed before d) (reports.Unasked line))
-      ≡ prefixed before (if b then d else faulting d (reports.Unasked line))
+  by : (b : Bool) → (if b then prefixed before d else faulting (prefixed before d) (Reported.Unasked line))
+      ≡ prefixed before (if b then d else faulting d (Reported.Unasked line))
   by true = refl
-  by false = fault_after before d (reports.Unasked line)
+  by false = fault_after before d (Reported.Unasked line)
 
 under_after : (before : List Reported) (d : Dialogue) (line : List ℕ) (tag : Tag) (signal : Signal) (at : Option ℕ)
     → heard_under (prefixed before d) line tag signal at ≡ prefixed before (heard_under d line tag signal at)
@@ -98,7 +85,7 @@ under_after before d line tag signal (Some at) = use_after before d at signal (s
 
 answered_after : (before : List Reported) (d : Dialogue) (line : List ℕ) (what : Option (Tag × Signal))
     → server_answered (prefixed before d) line what ≡ prefixed before (server_answered d line what)
-answered_after before d line None = fault_after before d (reports.Other Server line)
+answered_after before d line None = fault_after before d (Reported.Other Server line)
 answered_after before d line (Some (tag, signal)) = under_after before d line tag signal (first_under tag d.uses)
 
 pub server_after : (before : List Reported) (d : Dialogue) (f : Front) → server_front (prefixed before d) f ≡ prefixed before (server_front d f)

@@ -1,39 +1,22 @@
 -- A witness reads a line of the client: it then keeps and reports what the rules say of the lines that came.
-use Rattle.std.proofs.Common.{◌≡◌, ℕ, zero, suc, ◌+◌, ◌<◌, ◌≤◌, ◌==◌, Bool, true, false, ◌&&◌, ◌||◌, not, if◌then◌else◌, nat_lt, List, [], ◌∷◌, ◌++◌, map}
-use Rattle.std.proofs.Common.{Option, Some, None, is_some, refl, ap, sym, ◌∙◌, subst, append-nil, add-one, arith}
-use Rattle.std.specs.Prelude.{remove, slice_get}
-use Rattle.std.proofs.Math.Bool.{and-false, or-false}
-use Rattle.std.proofs.lemmas.Bool.{lt-ltb, ne_eqb}
-use Rattle.std.proofs.lemmas.List.{map-append}
+use Rattle.witness.proofs.Names.{[], ◌&&◌, ◌++◌, ◌+◌, ◌<◌, ◌==◌, ◌||◌, ◌∙◌, ◌∷◌, ◌≡◌, ◌≤◌, add-one, after, all_for, all_reported, and-false, Answers}
+use Rattle.witness.proofs.Names.{ap, append-nil, arith, at_once, at_once_below, below, below_sent, Bool, by_progress, Command, count_sent, Csy}
+use Rattle.witness.proofs.Names.{csy_after, Dialogue, done_before, error_at, error_of, events_of, false, fault_since, first_of, for_line}
+use Rattle.witness.proofs.Names.{foreign_event, fresh, Heard, heard_as, if◌then◌else◌, is_answer, is_at_once, is_crossed, is_done, is_doubtful}
+use Rattle.witness.proofs.Names.{is_end, is_error, is_for, is_some, Known, known_below, known_for, last_csy, last_of, last_part, last_tool}
+use Rattle.witness.proofs.Names.{last_under, last_zero, later as later_line, Line, line_at, List, lt-ltb, map, map-append, mark_in, marks, may_hold}
+use Rattle.witness.proofs.Names.{may_hold_for, nat_lt, ne_eqb, None, not, nothing, open_lines, Option, or-false, owner, part_after, place, Point}
+use Rattle.witness.proofs.Names.{progress_of, refl, remove, Reported, reported_at_once, rival_of, seen, sending, sending_after, Sends, SentCommand}
+use Rattle.witness.proofs.Names.{Signal, slice_get, Some, Stage, stage_of, Standing, standing, standing_of, subst, suc, sym, Tag, tag_is, tool_after}
+use Rattle.witness.proofs.Names.{true, unknowing, Use, with_event, without, witnessed, zero, zero_after, ℕ}
 use Rattle.fixed_um.specs.Points.{point_opposite}
-use Rattle.fixed_um.specs.declared.lengths.Point.{Point}
-use Rattle.dme_line.specs.declared.commands.Command.{Command}
-use Rattle.dme_line.specs.declared.commands.Command.TheVariants as command
-use Rattle.dme_line.specs.declared.commands.Csy.{Csy}
 use Rattle.dme_line.specs.declared.commands.Csy.TheVariants.{MachineCsy, PartCsy}
-use Rattle.dme_line.specs.declared.tags.Tag.{Tag}
-use Rattle.dme_line.specs.declared.tags.Tag.TheVariants.{Std, Event}
-use Rattle.protocol_model.specs.Replies.{tag_is}
+use Rattle.dme_line.specs.declared.tags.Tag.TheVariants.{Event, Std}
 use Rattle.witness.proofs.KnownForUses.{four, built, three}
 use Rattle.witness.proofs.Standings.{same}
-use Rattle.witness.specs.Asking.{Line, Sends, Answers, Signal}
-use Rattle.witness.specs.Dialogues.{Dialogue, unknowing, at_once, sending, sending_after, foreign_event, last_under, with_event, after}
-use Rattle.witness.specs.Histories.{Sent, count_sent, place, open_lines, first_of, line_at, without, owner, for_line, mark_in, is_for, with_mark, marks, error_at, last_of, rival_of, stage_of}
-use Rattle.witness.specs.Histories.{later as later_line}
-use Rattle.witness.specs.Known.{nothing, standing, fresh, below, unless_part as unless_part_holds}
-use Rattle.witness.specs.Marks.{heard_as, is_end, is_error, is_answer}
-use Rattle.witness.specs.Rules.{is_at_once, at_once_below, fault_since, is_doubtful, error_of, progress_of, by_progress, standing_of}
-use Rattle.witness.specs.Rules.{tool_after, csy_after, zero_after, part_after, unless_part, below_sent, last_tool, last_csy, last_zero, last_part}
-use Rattle.witness.specs.Rules.{is_done, done_before, may_hold, may_hold_for, known_below, all_for, known_for}
-use Rattle.witness.specs.Rules.{is_crossed, events_of, all_reported, reported_at_once, seen, witnessed}
-use Rattle.witness.specs.declared.lines.Heard.{Heard}
-use Rattle.witness.specs.declared.lines.Known.{Known}
-use Rattle.witness.specs.declared.lines.Reported.{Reported}
-use Rattle.witness.specs.declared.lines.SentCommand.{SentCommand}
-use Rattle.witness.specs.declared.lines.SentCommand.TheVariants as sends
-use Rattle.witness.specs.declared.lines.Stage.TheVariants as stage
-use Rattle.witness.specs.declared.lines.Standing.{Standing}
-use Rattle.witness.specs.declared.lines.Use.{Use}
+use Rattle.witness.specs.Histories.{Sent, with_mark}
+use Rattle.witness.specs.Known.{unless_part as unless_part_holds}
+use Rattle.witness.specs.Rules.{unless_part}
 
 -- ---- open lines stand above what comes
 
@@ -166,69 +149,69 @@ unless_bound n (Some (MachineCsy, s)) u = u
 unless_bound n (Some (PartCsy, s)) u = tt
 
 tool_bound : (n : ℕ) (s : Sent) (c : Command) (x : Option (List ℕ × Sent)) → Bound n x → place s < n → Bound n (tool_after s c x)
-tool_bound n s command.StartSession x u q = tt
-tool_bound n s command.EndSession x u q = tt
-tool_bound n s command.ClearAllErrors x u q = u
-tool_bound n s command.IsHomed x u q = u
-tool_bound n s command.Home x u q = tt
-tool_bound n s command.OnPtMeasReport x u q = u
-tool_bound n s (command.GoTo p) x u q = u
-tool_bound n s (command.PtMeas p d) x u q = u
-tool_bound n s (command.ChangeTool t) x u q = q
-tool_bound n s (command.SetCsyTransformation p) x u q = u
-tool_bound n s (command.SetCoordSystem c) x u q = u
-tool_bound n s command.AbortE x u q = u
+tool_bound n s Command.StartSession x u q = tt
+tool_bound n s Command.EndSession x u q = tt
+tool_bound n s Command.ClearAllErrors x u q = u
+tool_bound n s Command.IsHomed x u q = u
+tool_bound n s Command.Home x u q = tt
+tool_bound n s Command.OnPtMeasReport x u q = u
+tool_bound n s (Command.GoTo p) x u q = u
+tool_bound n s (Command.PtMeas p d) x u q = u
+tool_bound n s (Command.ChangeTool t) x u q = q
+tool_bound n s (Command.SetCsyTransformation p) x u q = u
+tool_bound n s (Command.SetCoordSystem c) x u q = u
+tool_bound n s Command.AbortE x u q = u
 
 csy_bound : (n : ℕ) (s : Sent) (c : Command) (x : Option (Csy × Sent)) → Bound n x → place s < n → Bound n (csy_after s c x)
-csy_bound n s command.StartSession x u q = tt
-csy_bound n s command.EndSession x u q = tt
-csy_bound n s command.ClearAllErrors x u q = u
-csy_bound n s command.IsHomed x u q = u
-csy_bound n s command.Home x u q = u
-csy_bound n s command.OnPtMeasReport x u q = u
-csy_bound n s (command.GoTo p) x u q = u
-csy_bound n s (command.PtMeas p d) x u q = u
-csy_bound n s (command.ChangeTool t) x u q = u
-csy_bound n s (command.SetCsyTransformation p) x u q = unless_bound n x u
-csy_bound n s (command.SetCoordSystem c) x u q = q
-csy_bound n s command.AbortE x u q = u
+csy_bound n s Command.StartSession x u q = tt
+csy_bound n s Command.EndSession x u q = tt
+csy_bound n s Command.ClearAllErrors x u q = u
+csy_bound n s Command.IsHomed x u q = u
+csy_bound n s Command.Home x u q = u
+csy_bound n s Command.OnPtMeasReport x u q = u
+csy_bound n s (Command.GoTo p) x u q = u
+csy_bound n s (Command.PtMeas p d) x u q = u
+csy_bound n s (Command.ChangeTool t) x u q = u
+csy_bound n s (Command.SetCsyTransformation p) x u q = unless_bound n x u
+csy_bound n s (Command.SetCoordSystem c) x u q = q
+csy_bound n s Command.AbortE x u q = u
 
 zero_bound : (n : ℕ) (s : Sent) (c : Command) (x : Option (Point × Sent)) → Bound n x → place s < n → Bound n (zero_after s c x)
-zero_bound n s command.StartSession x u q = tt
-zero_bound n s command.EndSession x u q = tt
-zero_bound n s command.ClearAllErrors x u q = u
-zero_bound n s command.IsHomed x u q = u
-zero_bound n s command.Home x u q = u
-zero_bound n s command.OnPtMeasReport x u q = u
-zero_bound n s (command.GoTo p) x u q = u
-zero_bound n s (command.PtMeas p d) x u q = u
-zero_bound n s (command.ChangeTool t) x u q = u
-zero_bound n s (command.SetCsyTransformation p) x u q = q
-zero_bound n s (command.SetCoordSystem c) x u q = u
-zero_bound n s command.AbortE x u q = u
+zero_bound n s Command.StartSession x u q = tt
+zero_bound n s Command.EndSession x u q = tt
+zero_bound n s Command.ClearAllErrors x u q = u
+zero_bound n s Command.IsHomed x u q = u
+zero_bound n s Command.Home x u q = u
+zero_bound n s Command.OnPtMeasReport x u q = u
+zero_bound n s (Command.GoTo p) x u q = u
+zero_bound n s (Command.PtMeas p d) x u q = u
+zero_bound n s (Command.ChangeTool t) x u q = u
+zero_bound n s (Command.SetCsyTransformation p) x u q = q
+zero_bound n s (Command.SetCoordSystem c) x u q = u
+zero_bound n s Command.AbortE x u q = u
 
 part_bound : (n : ℕ) (c : Command) (z x : Option (Point × Sent)) → Bound n z → Bound n x → Bound n (part_after c z x)
-part_bound n command.StartSession z x v u = tt
-part_bound n command.EndSession z x v u = tt
-part_bound n command.ClearAllErrors z x v u = u
-part_bound n command.IsHomed z x v u = u
-part_bound n command.Home z x v u = u
-part_bound n command.OnPtMeasReport z x v u = u
-part_bound n (command.GoTo p) z x v u = u
-part_bound n (command.PtMeas p d) z x v u = u
-part_bound n (command.ChangeTool t) z x v u = u
-part_bound n (command.SetCsyTransformation p) z x v u = u
-part_bound n (command.SetCoordSystem c) z x v u = v
-part_bound n command.AbortE z x v u = u
+part_bound n Command.StartSession z x v u = tt
+part_bound n Command.EndSession z x v u = tt
+part_bound n Command.ClearAllErrors z x v u = u
+part_bound n Command.IsHomed z x v u = u
+part_bound n Command.Home z x v u = u
+part_bound n Command.OnPtMeasReport z x v u = u
+part_bound n (Command.GoTo p) z x v u = u
+part_bound n (Command.PtMeas p d) z x v u = u
+part_bound n (Command.ChangeTool t) z x v u = u
+part_bound n (Command.SetCsyTransformation p) z x v u = u
+part_bound n (Command.SetCoordSystem c) z x v u = v
+part_bound n Command.AbortE z x v u = u
 
 sent_bound : {A : Type 0} (f : Sent → Command → Option (A × Sent) → Option (A × Sent)) (h : List Line)
     → ((s : Sent) (c : Command) (x : Option (A × Sent)) → Bound (suc (count_sent h)) x → place s < suc (count_sent h) → Bound (suc (count_sent h)) (f s c x))
     → (what : Option (Tag × SentCommand)) (x : Option (A × Sent)) → Bound (count_sent h) x → Bound (suc (count_sent h)) (below_sent f None h what x)
 sent_bound f h e None x u = tt
-sent_bound f h e (Some (tag, sends.Known c)) x u =
-    e (record { above = h; tag = tag; command = sends.Known c }) c x (bound_wider (count_sent h) x u) (omega arith)
-sent_bound f h e (Some (tag, sends.Asking)) x u = bound_wider (count_sent h) x u
-sent_bound f h e (Some (tag, sends.Foreign line)) x u = tt
+sent_bound f h e (Some (tag, SentCommand.Known c)) x u =
+    e (record { above = h; tag = tag; command = SentCommand.Known c }) c x (bound_wider (count_sent h) x u) (omega arith)
+sent_bound f h e (Some (tag, SentCommand.Asking)) x u = bound_wider (count_sent h) x u
+sent_bound f h e (Some (tag, SentCommand.Foreign line)) x u = tt
 
 tool_under : (h : List Line) → Bound (count_sent h) (last_tool h)
 tool_under [] = tt
@@ -379,42 +362,42 @@ unless_hold (Some (PartCsy, s)) line what h e = part (standing_of s h) where
 
 below_known : (line : List ℕ) (tag : Tag) (c : SentCommand) (h : List Line) → is_at_once (Some (tag, c)) ≡ false
     → known_below (Sends line (Some (tag, c)) ∷ h) ≡ below (fresh (count_sent h) (rival_of tag h) (error_of (rival_of tag h) h)) c (known_below h)
-below_known line tag (sends.Foreign text) h e = refl
-below_known line tag sends.Asking h e =
-    four (same_hold (last_tool h) line (Some (tag, sends.Asking)) h e) (same_hold (last_csy h) line (Some (tag, sends.Asking)) h e)
-    (same_hold (last_part h) line (Some (tag, sends.Asking)) h e) (same_hold (last_zero h) line (Some (tag, sends.Asking)) h e)
-below_known line tag (sends.Known command.StartSession) h e = refl
-below_known line tag (sends.Known command.EndSession) h e = refl
-below_known line tag (sends.Known command.ClearAllErrors) h e =
-    four (same_hold (last_tool h) line (Some (tag, (sends.Known command.ClearAllErrors))) h e) (same_hold (last_csy h) line (Some (tag, (sends.Known command.ClearAllErrors))) h e)
-    (same_hold (last_part h) line (Some (tag, (sends.Known command.ClearAllErrors))) h e) (same_hold (last_zero h) line (Some (tag, (sends.Known command.ClearAllErrors))) h e)
-below_known line tag (sends.Known command.IsHomed) h e =
-    four (same_hold (last_tool h) line (Some (tag, (sends.Known command.IsHomed))) h e) (same_hold (last_csy h) line (Some (tag, (sends.Known command.IsHomed))) h e)
-    (same_hold (last_part h) line (Some (tag, (sends.Known command.IsHomed))) h e) (same_hold (last_zero h) line (Some (tag, (sends.Known command.IsHomed))) h e)
-below_known line tag (sends.Known command.Home) h e =
-    four refl (same_hold (last_csy h) line (Some (tag, (sends.Known command.Home))) h e)
-    (same_hold (last_part h) line (Some (tag, (sends.Known command.Home))) h e) (same_hold (last_zero h) line (Some (tag, (sends.Known command.Home))) h e)
-below_known line tag (sends.Known command.OnPtMeasReport) h e =
-    four (same_hold (last_tool h) line (Some (tag, (sends.Known command.OnPtMeasReport))) h e) (same_hold (last_csy h) line (Some (tag, (sends.Known command.OnPtMeasReport))) h e)
-    (same_hold (last_part h) line (Some (tag, (sends.Known command.OnPtMeasReport))) h e) (same_hold (last_zero h) line (Some (tag, (sends.Known command.OnPtMeasReport))) h e)
-below_known line tag (sends.Known (command.GoTo p)) h e =
-    four (same_hold (last_tool h) line (Some (tag, (sends.Known (command.GoTo p)))) h e) (same_hold (last_csy h) line (Some (tag, (sends.Known (command.GoTo p)))) h e)
-    (same_hold (last_part h) line (Some (tag, (sends.Known (command.GoTo p)))) h e) (same_hold (last_zero h) line (Some (tag, (sends.Known (command.GoTo p)))) h e)
-below_known line tag (sends.Known (command.PtMeas p d)) h e =
-    four (same_hold (last_tool h) line (Some (tag, (sends.Known (command.PtMeas p d)))) h e) (same_hold (last_csy h) line (Some (tag, (sends.Known (command.PtMeas p d)))) h e)
-    (same_hold (last_part h) line (Some (tag, (sends.Known (command.PtMeas p d)))) h e) (same_hold (last_zero h) line (Some (tag, (sends.Known (command.PtMeas p d)))) h e)
-below_known line tag (sends.Known (command.ChangeTool t)) h e =
-    four (ap (standing t) (new_standing line tag (sends.Known (command.ChangeTool t)) h e)) (same_hold (last_csy h) line (Some (tag, (sends.Known (command.ChangeTool t)))) h e)
-    (same_hold (last_part h) line (Some (tag, (sends.Known (command.ChangeTool t)))) h e) (same_hold (last_zero h) line (Some (tag, (sends.Known (command.ChangeTool t)))) h e)
-below_known line tag (sends.Known (command.SetCsyTransformation p)) h e =
-    four (same_hold (last_tool h) line (Some (tag, (sends.Known (command.SetCsyTransformation p)))) h e) (unless_hold (last_csy h) line (Some (tag, (sends.Known (command.SetCsyTransformation p)))) h e)
-    (same_hold (last_part h) line (Some (tag, (sends.Known (command.SetCsyTransformation p)))) h e) (ap (standing (point_opposite p)) (new_standing line tag (sends.Known (command.SetCsyTransformation p)) h e))
-below_known line tag (sends.Known (command.SetCoordSystem c)) h e =
-    four (same_hold (last_tool h) line (Some (tag, (sends.Known (command.SetCoordSystem c)))) h e) (ap (standing c) (new_standing line tag (sends.Known (command.SetCoordSystem c)) h e))
-    (same_hold (last_zero h) line (Some (tag, (sends.Known (command.SetCoordSystem c)))) h e) (same_hold (last_zero h) line (Some (tag, (sends.Known (command.SetCoordSystem c)))) h e)
-below_known line tag (sends.Known command.AbortE) h e =
-    four (same_hold (last_tool h) line (Some (tag, (sends.Known command.AbortE))) h e) (same_hold (last_csy h) line (Some (tag, (sends.Known command.AbortE))) h e)
-    (same_hold (last_part h) line (Some (tag, (sends.Known command.AbortE))) h e) (same_hold (last_zero h) line (Some (tag, (sends.Known command.AbortE))) h e)
+below_known line tag (SentCommand.Foreign text) h e = refl
+below_known line tag SentCommand.Asking h e =
+    four (same_hold (last_tool h) line (Some (tag, SentCommand.Asking)) h e) (same_hold (last_csy h) line (Some (tag, SentCommand.Asking)) h e)
+    (same_hold (last_part h) line (Some (tag, SentCommand.Asking)) h e) (same_hold (last_zero h) line (Some (tag, SentCommand.Asking)) h e)
+below_known line tag (SentCommand.Known Command.StartSession) h e = refl
+below_known line tag (SentCommand.Known Command.EndSession) h e = refl
+below_known line tag (SentCommand.Known Command.ClearAllErrors) h e =
+    four (same_hold (last_tool h) line (Some (tag, (SentCommand.Known Command.ClearAllErrors))) h e) (same_hold (last_csy h) line (Some (tag, (SentCommand.Known Command.ClearAllErrors))) h e)
+    (same_hold (last_part h) line (Some (tag, (SentCommand.Known Command.ClearAllErrors))) h e) (same_hold (last_zero h) line (Some (tag, (SentCommand.Known Command.ClearAllErrors))) h e)
+below_known line tag (SentCommand.Known Command.IsHomed) h e =
+    four (same_hold (last_tool h) line (Some (tag, (SentCommand.Known Command.IsHomed))) h e) (same_hold (last_csy h) line (Some (tag, (SentCommand.Known Command.IsHomed))) h e)
+    (same_hold (last_part h) line (Some (tag, (SentCommand.Known Command.IsHomed))) h e) (same_hold (last_zero h) line (Some (tag, (SentCommand.Known Command.IsHomed))) h e)
+below_known line tag (SentCommand.Known Command.Home) h e =
+    four refl (same_hold (last_csy h) line (Some (tag, (SentCommand.Known Command.Home))) h e)
+    (same_hold (last_part h) line (Some (tag, (SentCommand.Known Command.Home))) h e) (same_hold (last_zero h) line (Some (tag, (SentCommand.Known Command.Home))) h e)
+below_known line tag (SentCommand.Known Command.OnPtMeasReport) h e =
+    four (same_hold (last_tool h) line (Some (tag, (SentCommand.Known Command.OnPtMeasReport))) h e) (same_hold (last_csy h) line (Some (tag, (SentCommand.Known Command.OnPtMeasReport))) h e)
+    (same_hold (last_part h) line (Some (tag, (SentCommand.Known Command.OnPtMeasReport))) h e) (same_hold (last_zero h) line (Some (tag, (SentCommand.Known Command.OnPtMeasReport))) h e)
+below_known line tag (SentCommand.Known (Command.GoTo p)) h e =
+    four (same_hold (last_tool h) line (Some (tag, (SentCommand.Known (Command.GoTo p)))) h e) (same_hold (last_csy h) line (Some (tag, (SentCommand.Known (Command.GoTo p)))) h e)
+    (same_hold (last_part h) line (Some (tag, (SentCommand.Known (Command.GoTo p)))) h e) (same_hold (last_zero h) line (Some (tag, (SentCommand.Known (Command.GoTo p)))) h e)
+below_known line tag (SentCommand.Known (Command.PtMeas p d)) h e =
+    four (same_hold (last_tool h) line (Some (tag, (SentCommand.Known (Command.PtMeas p d)))) h e) (same_hold (last_csy h) line (Some (tag, (SentCommand.Known (Command.PtMeas p d)))) h e)
+    (same_hold (last_part h) line (Some (tag, (SentCommand.Known (Command.PtMeas p d)))) h e) (same_hold (last_zero h) line (Some (tag, (SentCommand.Known (Command.PtMeas p d)))) h e)
+below_known line tag (SentCommand.Known (Command.ChangeTool t)) h e =
+    four (ap (standing t) (new_standing line tag (SentCommand.Known (Command.ChangeTool t)) h e)) (same_hold (last_csy h) line (Some (tag, (SentCommand.Known (Command.ChangeTool t)))) h e)
+    (same_hold (last_part h) line (Some (tag, (SentCommand.Known (Command.ChangeTool t)))) h e) (same_hold (last_zero h) line (Some (tag, (SentCommand.Known (Command.ChangeTool t)))) h e)
+below_known line tag (SentCommand.Known (Command.SetCsyTransformation p)) h e =
+    four (same_hold (last_tool h) line (Some (tag, (SentCommand.Known (Command.SetCsyTransformation p)))) h e) (unless_hold (last_csy h) line (Some (tag, (SentCommand.Known (Command.SetCsyTransformation p)))) h e)
+    (same_hold (last_part h) line (Some (tag, (SentCommand.Known (Command.SetCsyTransformation p)))) h e) (ap (standing (point_opposite p)) (new_standing line tag (SentCommand.Known (Command.SetCsyTransformation p)) h e))
+below_known line tag (SentCommand.Known (Command.SetCoordSystem c)) h e =
+    four (same_hold (last_tool h) line (Some (tag, (SentCommand.Known (Command.SetCoordSystem c)))) h e) (ap (standing c) (new_standing line tag (SentCommand.Known (Command.SetCoordSystem c)) h e))
+    (same_hold (last_zero h) line (Some (tag, (SentCommand.Known (Command.SetCoordSystem c)))) h e) (same_hold (last_zero h) line (Some (tag, (SentCommand.Known (Command.SetCoordSystem c)))) h e)
+below_known line tag (SentCommand.Known Command.AbortE) h e =
+    four (same_hold (last_tool h) line (Some (tag, (SentCommand.Known Command.AbortE))) h e) (same_hold (last_csy h) line (Some (tag, (SentCommand.Known Command.AbortE))) h e)
+    (same_hold (last_part h) line (Some (tag, (SentCommand.Known Command.AbortE))) h e) (same_hold (last_zero h) line (Some (tag, (SentCommand.Known Command.AbortE))) h e)
 
 -- ---- the parts of a witness
 
@@ -456,7 +439,7 @@ sent_after : (o cr : Bool) (h : List Line) (line : List ℕ) (tag : Tag) (c : Se
       tag = tag;
       command = c;
       line = count_sent h;
-      stage = stage.Sent;
+      stage = Stage.Sent;
       has_failed = false;
       rival = r;
       known = if error_of r h then nothing else k;
@@ -467,7 +450,7 @@ sent_after o cr h line tag c us k rs (Some n) = refl
 
 new_use : (line : List ℕ) (tag : Tag) (c : SentCommand) (h : List Line) (k : Known)
     → known_for (newest h tag c) (Sends line (Some (tag, c)) ∷ h) ≡ k
-    → built (newest h tag c) stage.Sent false k ≡ seen (Sends line (Some (tag, c)) ∷ h) (newest h tag c)
+    → built (newest h tag c) Stage.Sent false k ≡ seen (Sends line (Some (tag, c)) ∷ h) (newest h tag c)
 new_use line tag c h k e = sym (three (newest h tag c)
     (ap (stage_of c) (no_marks (count_sent h) h (omega arith))) (no_error (count_sent h) h (omega arith)) e)
 
@@ -492,9 +475,9 @@ sent_step o h line tag c k rs known_is below_is rs_is =
 foreign_known : (line : List ℕ) (tag : Tag) (c : SentCommand) (h : List Line) → is_at_once (Some (tag, c)) ≡ true
     → below (fresh (count_sent h) (rival_of tag h) (error_of (rival_of tag h) h)) c nothing ≡ known_below (Sends line (Some (tag, c)) ∷ h)
 foreign_known line (Std n) c h e = absurd (false_true e)
-foreign_known line (Event n) (sends.Known c) h e = absurd (false_true e)
-foreign_known line (Event n) sends.Asking h e = absurd (false_true e)
-foreign_known line (Event n) (sends.Foreign text) h e = refl
+foreign_known line (Event n) (SentCommand.Known c) h e = absurd (false_true e)
+foreign_known line (Event n) SentCommand.Asking h e = absurd (false_true e)
+foreign_known line (Event n) (SentCommand.Foreign text) h e = refl
 
 tagged_more : (o : Bool) (h : List Line) (line : List ℕ) (tag : Tag) (c : SentCommand) (b : Bool) → is_at_once (Some (tag, c)) ≡ b
     → (if b then sending (at_once (witnessed o h) line) tag c else sending (witnessed o h) tag c) ≡ witnessed o (Sends line (Some (tag, c)) ∷ h)

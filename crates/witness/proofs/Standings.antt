@@ -1,17 +1,11 @@
 -- What a line of the server makes of a change that may hold.
-use Rattle.std.proofs.Common.{◌≡◌, ℕ, ◌==◌, Bool, true, false, ◌&&◌, ◌||◌, if◌then◌else◌, List, ◌∷◌, Option, Some, None, refl, ap, sym, ◌∙◌}
-use Rattle.dme_line.specs.declared.tags.Tag.{Tag}
-use Rattle.witness.specs.Asking.{Line, Answers, Signal}
-use Rattle.witness.specs.Histories.{Sent, place, rival_of, mark_in, is_for, with_mark, marks, error_at}
-use Rattle.witness.specs.Known.{renewed, is_rival, with_mark as marked_standing}
-use Rattle.witness.specs.Marks.{is_error, is_received}
-use Rattle.witness.specs.Rules.{is_fault, at_once_below, fault_since, is_doubtful, error_of, progress_with, progress_of, by_progress, standing_of}
-use Rattle.witness.specs.declared.lines.Heard.{Heard}
-use Rattle.witness.specs.declared.lines.Heard.TheVariants as heard
-use Rattle.witness.specs.declared.lines.Progress.{Progress}
-use Rattle.witness.specs.declared.lines.Progress.TheVariants.{Sent as SentOnly, Begun, Done}
-use Rattle.witness.specs.declared.lines.Renewal.TheVariants.{Fault, Mark}
-use Rattle.witness.specs.declared.lines.Standing.{Standing}
+use Rattle.witness.proofs.Names.{◌&&◌, ◌==◌, ◌||◌, ◌∙◌, ◌∷◌, ◌≡◌, Answers, ap, at_once_below, Begun, Bool, by_progress, Done, error_at, error_of}
+use Rattle.witness.proofs.Names.{false, Fault, fault_since, Heard, if◌then◌else◌, is_doubtful, is_error, is_fault, is_for, is_received, is_rival}
+use Rattle.witness.proofs.Names.{Line, List, Mark, mark_in, marks, None, Option, place, Progress, progress_of, progress_with, refl, renewed, rival_of}
+use Rattle.witness.proofs.Names.{Signal, Some, Standing, standing_of, sym, Tag, true, ℕ}
+use Rattle.witness.specs.Histories.{Sent, with_mark}
+use Rattle.witness.specs.Known.{with_mark as marked_standing}
+use Rattle.witness.specs.declared.lines.Progress.TheVariants.{Sent as SentOnly}
 
 -- ---- one mark of the line itself
 
@@ -28,56 +22,56 @@ own_mark e (Some s) = marked_standing s s.progress e
 own_step : (s : Sent) (e : Heard) (f faulty : Bool) (p : Option Progress)
     → by_progress s (if is_received e then false else f || faulty) (progress_with p e) ≡ own_mark e (fault_on f (by_progress s faulty p))
 own_step s e f faulty None = refl
-own_step s heard.Received true faulty (Some SentOnly) = refl
-own_step s heard.Received false faulty (Some SentOnly) = refl
-own_step s (heard.Given d) true faulty (Some SentOnly) = refl
-own_step s (heard.Given d) false faulty (Some SentOnly) = refl
-own_step s heard.Unread true faulty (Some SentOnly) = refl
-own_step s heard.Unread false faulty (Some SentOnly) = refl
-own_step s heard.Complete true faulty (Some SentOnly) = refl
-own_step s heard.Complete false faulty (Some SentOnly) = refl
-own_step s heard.Failed true faulty (Some SentOnly) = refl
-own_step s heard.Failed false faulty (Some SentOnly) = refl
-own_step s heard.Received true true (Some Begun) = refl
-own_step s heard.Received true false (Some Begun) = refl
-own_step s heard.Received false true (Some Begun) = refl
-own_step s heard.Received false false (Some Begun) = refl
-own_step s (heard.Given d) true true (Some Begun) = refl
-own_step s (heard.Given d) true false (Some Begun) = refl
-own_step s (heard.Given d) false true (Some Begun) = refl
-own_step s (heard.Given d) false false (Some Begun) = refl
-own_step s heard.Unread true true (Some Begun) = refl
-own_step s heard.Unread true false (Some Begun) = refl
-own_step s heard.Unread false true (Some Begun) = refl
-own_step s heard.Unread false false (Some Begun) = refl
-own_step s heard.Complete true true (Some Begun) = refl
-own_step s heard.Complete true false (Some Begun) = refl
-own_step s heard.Complete false true (Some Begun) = refl
-own_step s heard.Complete false false (Some Begun) = refl
-own_step s heard.Failed true true (Some Begun) = refl
-own_step s heard.Failed true false (Some Begun) = refl
-own_step s heard.Failed false true (Some Begun) = refl
-own_step s heard.Failed false false (Some Begun) = refl
-own_step s heard.Received true true (Some Done) = refl
-own_step s heard.Received true false (Some Done) = refl
-own_step s heard.Received false true (Some Done) = refl
-own_step s heard.Received false false (Some Done) = refl
-own_step s (heard.Given d) true true (Some Done) = refl
-own_step s (heard.Given d) true false (Some Done) = refl
-own_step s (heard.Given d) false true (Some Done) = refl
-own_step s (heard.Given d) false false (Some Done) = refl
-own_step s heard.Unread true true (Some Done) = refl
-own_step s heard.Unread true false (Some Done) = refl
-own_step s heard.Unread false true (Some Done) = refl
-own_step s heard.Unread false false (Some Done) = refl
-own_step s heard.Complete true true (Some Done) = refl
-own_step s heard.Complete true false (Some Done) = refl
-own_step s heard.Complete false true (Some Done) = refl
-own_step s heard.Complete false false (Some Done) = refl
-own_step s heard.Failed true true (Some Done) = refl
-own_step s heard.Failed true false (Some Done) = refl
-own_step s heard.Failed false true (Some Done) = refl
-own_step s heard.Failed false false (Some Done) = refl
+own_step s Heard.Received true faulty (Some SentOnly) = refl
+own_step s Heard.Received false faulty (Some SentOnly) = refl
+own_step s (Heard.Given d) true faulty (Some SentOnly) = refl
+own_step s (Heard.Given d) false faulty (Some SentOnly) = refl
+own_step s Heard.Unread true faulty (Some SentOnly) = refl
+own_step s Heard.Unread false faulty (Some SentOnly) = refl
+own_step s Heard.Complete true faulty (Some SentOnly) = refl
+own_step s Heard.Complete false faulty (Some SentOnly) = refl
+own_step s Heard.Failed true faulty (Some SentOnly) = refl
+own_step s Heard.Failed false faulty (Some SentOnly) = refl
+own_step s Heard.Received true true (Some Begun) = refl
+own_step s Heard.Received true false (Some Begun) = refl
+own_step s Heard.Received false true (Some Begun) = refl
+own_step s Heard.Received false false (Some Begun) = refl
+own_step s (Heard.Given d) true true (Some Begun) = refl
+own_step s (Heard.Given d) true false (Some Begun) = refl
+own_step s (Heard.Given d) false true (Some Begun) = refl
+own_step s (Heard.Given d) false false (Some Begun) = refl
+own_step s Heard.Unread true true (Some Begun) = refl
+own_step s Heard.Unread true false (Some Begun) = refl
+own_step s Heard.Unread false true (Some Begun) = refl
+own_step s Heard.Unread false false (Some Begun) = refl
+own_step s Heard.Complete true true (Some Begun) = refl
+own_step s Heard.Complete true false (Some Begun) = refl
+own_step s Heard.Complete false true (Some Begun) = refl
+own_step s Heard.Complete false false (Some Begun) = refl
+own_step s Heard.Failed true true (Some Begun) = refl
+own_step s Heard.Failed true false (Some Begun) = refl
+own_step s Heard.Failed false true (Some Begun) = refl
+own_step s Heard.Failed false false (Some Begun) = refl
+own_step s Heard.Received true true (Some Done) = refl
+own_step s Heard.Received true false (Some Done) = refl
+own_step s Heard.Received false true (Some Done) = refl
+own_step s Heard.Received false false (Some Done) = refl
+own_step s (Heard.Given d) true true (Some Done) = refl
+own_step s (Heard.Given d) true false (Some Done) = refl
+own_step s (Heard.Given d) false true (Some Done) = refl
+own_step s (Heard.Given d) false false (Some Done) = refl
+own_step s Heard.Unread true true (Some Done) = refl
+own_step s Heard.Unread true false (Some Done) = refl
+own_step s Heard.Unread false true (Some Done) = refl
+own_step s Heard.Unread false false (Some Done) = refl
+own_step s Heard.Complete true true (Some Done) = refl
+own_step s Heard.Complete true false (Some Done) = refl
+own_step s Heard.Complete false true (Some Done) = refl
+own_step s Heard.Complete false false (Some Done) = refl
+own_step s Heard.Failed true true (Some Done) = refl
+own_step s Heard.Failed true false (Some Done) = refl
+own_step s Heard.Failed false true (Some Done) = refl
+own_step s Heard.Failed false false (Some Done) = refl
 
 pub same : {A : Type 0} (b : Bool) (x : A) → (if b then x else x) ≡ x
 same true x = refl
@@ -87,14 +81,14 @@ same false x = refl
 own_error : (s : Sent) (e : Heard) (r faulty : Bool) (p : Option Progress)
     → (if r && is_error e then None else by_progress s faulty (progress_with p e)) ≡ by_progress s faulty (progress_with p e)
 own_error s e false faulty p = refl
-own_error s heard.Received true faulty p = refl
-own_error s (heard.Given d) true faulty p = refl
-own_error s heard.Unread true faulty p = refl
-own_error s heard.Complete true faulty p = refl
-own_error s heard.Failed true faulty None = refl
-own_error s heard.Failed true faulty (Some SentOnly) = refl
-own_error s heard.Failed true faulty (Some Begun) = refl
-own_error s heard.Failed true faulty (Some Done) = refl
+own_error s Heard.Received true faulty p = refl
+own_error s (Heard.Given d) true faulty p = refl
+own_error s Heard.Unread true faulty p = refl
+own_error s Heard.Complete true faulty p = refl
+own_error s Heard.Failed true faulty None = refl
+own_error s Heard.Failed true faulty (Some SentOnly) = refl
+own_error s Heard.Failed true faulty (Some Begun) = refl
+own_error s Heard.Failed true faulty (Some Done) = refl
 
 -- ---- a mark of another line
 

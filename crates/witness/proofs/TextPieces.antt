@@ -1,10 +1,6 @@
 -- What the writers of texts add, one piece after another.
-use Rattle.std.proofs.Common.{◌≡◌, ℕ, List, [], ◌∷◌, ◌++◌, refl, ap, sym, ◌∙◌, append_assoc}
-use Rattle.std.specs.Prelude.{decimal}
-use Rattle.contact_ledger.specs.Lines.{text_of, spaced}
-use Rattle.contact_ledger.proofs.WrittenTexts.{line_spaced, spaced_more}
-use Rattle.witness.specs.Texts.{told_fields, told_line}
-use Rattle.witness.specs.declared.lines.Reported.{Reported}
+use Rattle.witness.proofs.Names.{[], ◌++◌, ◌∙◌, ◌∷◌, ◌≡◌, ap, append_assoc, decimal, line_spaced, List, refl, Reported, spaced, spaced_more, sym}
+use Rattle.witness.proofs.Names.{text_of, told_fields, told_line, ℕ}
 
 pub ruleset pieces = (append_assoc, spaced_more)
 

@@ -1,12 +1,8 @@
 -- The uses of each tag above a line of the client, with a line more.
-use Rattle.std.proofs.Common.{◌≡◌, ℕ, ◌+◌, ◌<◌, ◌≤◌, Bool, true, false, if◌then◌else◌, List, [], ◌∷◌, length, Option, Some, None, refl, ap, sym, subst, ◌∙◌, arith}
-use Rattle.std.specs.Prelude.{IfSome}
-use Rattle.std.proofs.lemmas.Option.{none-some}
-use Rattle.dme_line.specs.declared.tags.Tag.{Tag}
-use Rattle.protocol_model.specs.Replies.{tag_is}
+use Rattle.witness_judge.proofs.Names.{[], ◌+◌, ◌<◌, ◌∙◌, ◌∷◌, ◌≡◌, ◌≤◌, ap, arith, before_previous, Bool, false, found, IfSome, if◌then◌else◌}
+use Rattle.witness_judge.proofs.Names.{is_under, is_use, latest, length, List, None, none-some, Option, previous, refl, Sent, Some, subst, sym, Tag}
+use Rattle.witness_judge.proofs.Names.{tag_is, tag_of, true, ℕ}
 use Rattle.witness_judge.proofs.TagTables.{same_tag}
-use Rattle.witness_judge.specs.Uses.{found, is_under, is_use, tag_of, latest, previous, before_previous}
-use Rattle.witness_judge.specs.declared.lines.Sent.{Sent}
 
 within_by : (n count : ℕ) (b : Bool) (x y : Option ℕ) → (x ≡ Some n → n < count) → (y ≡ Some n → n < count) → (if b then x else y) ≡ Some n → n < count
 within_by n count true x y one two e = one e

@@ -1,12 +1,8 @@
 -- What is found is the first line that breaks a rule.
-use Rattle.std.proofs.Common.{◌≡◌, ℕ, zero, suc, ◌+◌, ◌-◌, ◌≤◌, List, [], ◌∷◌, ◌++◌, length, take, reverse, Option, Some, None}
-use Rattle.std.proofs.Common.{refl, ap, sym, ◌∙◌, subst, arith, append_assoc, append-nil}
-use Rattle.std.specs.Prelude.{slice_get}
+use Rattle.witness_judge.proofs.Names.{[], ◌++◌, ◌+◌, ◌-◌, ◌∙◌, ◌∷◌, ◌≡◌, ◌≤◌, ap, append-nil, append_assoc, arith, BreaksAt, first_break, Found}
+use Rattle.witness_judge.proofs.Names.{found_at, length, List, None, none-some, Option, refl, reverse, Rule, slice_get, Some, subst, suc, sym, take}
+use Rattle.witness_judge.proofs.Names.{zero, ℕ}
 use Rattle.std.proofs.lemmas.Grind.{reverse_onto}
-use Rattle.std.proofs.lemmas.Option.{none-some}
-use Rattle.witness_judge.specs.Judging.{BreaksAt, found_at, first_break}
-use Rattle.witness_judge.specs.declared.rules.Found.{Found}
-use Rattle.witness_judge.specs.declared.rules.Rule.{Rule}
 
 -- a line breaks a rule, with other lines above all of these
 record BreaksUnder {X : Type 0} (rule : List X → X → Option Rule) (above xs : List X) (at : ℕ) (broken : Rule) : Type 0 where

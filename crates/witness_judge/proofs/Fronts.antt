@@ -1,20 +1,9 @@
 -- The first lines of each sort that is looked for, with a line of the server more.
-use Rattle.std.proofs.Common.{◌≡◌, ℕ, zero, suc, ◌+◌, ◌-◌, ◌<◌, ◌≤◌, ◌==◌, Bool, true, false, ◌&&◌, ◌||◌, not, if◌then◌else◌, List, [], ◌∷◌, length, drop, get_or}
-use Rattle.std.proofs.Common.{Option, Some, None, refl, ap, sym, ◌∙◌, subst, arith}
-use Rattle.std.specs.Prelude.{nat_lt, nat_le, is_some}
-use Rattle.std.specs.Option.{option_or}
-use Rattle.std.proofs.lemmas.Bool.{false≢true, eqb-true, ltb-true, ltb-false, leb-true, leb-false, lt-ltb, le-leb, eq-eqb}
-use Rattle.std.proofs.lemmas.List.{drop_all}
-use Rattle.witness_judge.specs.ServerRules.{first_from, is_sought, is_sought_after, is_queued, is_clear, is_open, is_ended, front}
-use Rattle.witness_judge.specs.Uses.{stage_by, stage_of, noted, answers, moment, has_come}
-use Rattle.witness_judge.specs.declared.lines.Heard.{Heard}
-use Rattle.witness_judge.specs.declared.lines.Mark.{Mark}
-use Rattle.witness_judge.specs.declared.lines.Mark.TheVariants as mark
-use Rattle.witness_judge.specs.declared.lines.Sent.{Sent}
-use Rattle.witness_judge.specs.declared.rules.Moment.{Moment}
-use Rattle.witness_judge.specs.declared.rules.Sought.{Sought}
-use Rattle.witness_judge.specs.declared.rules.Sought.TheVariants as sought
-use Rattle.witness_judge.specs.declared.rules.Stage.{Stage}
+use Rattle.witness_judge.proofs.Names.{[], ◌&&◌, ◌+◌, ◌-◌, ◌<◌, ◌==◌, ◌||◌, ◌∙◌, ◌∷◌, ◌≡◌, ◌≤◌, answers, ap, arith, Bool, drop, drop_all, eq-eqb}
+use Rattle.witness_judge.proofs.Names.{eqb-true, false, false≢true, first_from, front, get_or, has_come, Heard, if◌then◌else◌, is_clear, is_ended}
+use Rattle.witness_judge.proofs.Names.{is_open, is_queued, is_some, is_sought, is_sought_after, le-leb, leb-false, leb-true, length, List, lt-ltb}
+use Rattle.witness_judge.proofs.Names.{ltb-false, ltb-true, Mark, Moment, moment, nat_le, nat_lt, None, not, noted, Option, option_or, refl, Sent}
+use Rattle.witness_judge.proofs.Names.{Some, Sought, Stage, stage_by, stage_of, subst, suc, sym, true, zero, ℕ}
 
 -- ---- the first of some lines
 
@@ -91,7 +80,7 @@ some_or None p is = absurd (false≢true is)
 some_or (Some a) p is = refl
 
 still : (m : Mark) (up : List Sent) (h : Heard) (above : List Heard) (at : ℕ) → has_come m up above at ≡ true → has_come m up (h ∷ above) at ≡ true
-still m up h above at is = some_or (noted mark.Complete m up above at) _ is
+still m up h above at is = some_or (noted Mark.Complete m up above at) _ is
 
 open_before : (e f g r e' f' g' r' : Bool) → (e ≡ true → e' ≡ true) → (f ≡ true → f' ≡ true) → is_open (stage_by e' f' g' r') ≡ true
     → is_open (stage_by e f g r) ≡ true
@@ -119,15 +108,15 @@ both false a b e is = absurd (false≢true is)
 
 sought_before : (w : Sought) (up : List Sent) (h : Heard) (above : List Heard) (at : ℕ) (s : Sent) → is_sought_after w up (h ∷ above) at s ≡ true
     → is_sought_after w up above at s ≡ true
-sought_before sought.Open up h above at s is = both (is_queued s) _ _
-    (open_before (has_come mark.Complete up above at) (has_come mark.Error up above at) (has_come mark.Data up above at) (has_come mark.Received up above at) _ _ _ _
-    (still mark.Complete up h above at) (still mark.Error up h above at)) is
-sought_before sought.Unended up h above at s is = both (is_queued s) _ _
-    (unended_before (has_come mark.Complete up above at) (has_come mark.Error up above at) (has_come mark.Data up above at) (has_come mark.Received up above at)
-    _ _ _ _ (still mark.Complete up h above at)) is
-sought_before sought.Clearing up h above at s is = both (is_clear s) _ _
-    (open_before (has_come mark.Complete up above at) (has_come mark.Error up above at) (has_come mark.Data up above at) (has_come mark.Received up above at) _ _ _ _
-    (still mark.Complete up h above at) (still mark.Error up h above at)) is
+sought_before Sought.Open up h above at s is = both (is_queued s) _ _
+    (open_before (has_come Mark.Complete up above at) (has_come Mark.Error up above at) (has_come Mark.Data up above at) (has_come Mark.Received up above at) _ _ _ _
+    (still Mark.Complete up h above at) (still Mark.Error up h above at)) is
+sought_before Sought.Unended up h above at s is = both (is_queued s) _ _
+    (unended_before (has_come Mark.Complete up above at) (has_come Mark.Error up above at) (has_come Mark.Data up above at) (has_come Mark.Received up above at)
+    _ _ _ _ (still Mark.Complete up h above at)) is
+sought_before Sought.Clearing up h above at s is = both (is_clear s) _ _
+    (open_before (has_come Mark.Complete up above at) (has_come Mark.Error up above at) (has_come Mark.Data up above at) (has_come Mark.Received up above at) _ _ _ _
+    (still Mark.Complete up h above at) (still Mark.Error up h above at)) is
 
 -- ---- the fronts
 

@@ -1,3 +1,4 @@
+pub mod Names
 pub mod Readings
 pub mod Lists
 pub mod TextLemmas

@@ -1,18 +1,10 @@
 -- Which use of each tag is next, with a line of the server more.
-use Rattle.std.proofs.Common.{◌≡◌, ℕ, zero, suc, ◌+◌, ◌-◌, ◌==◌, Bool, true, false, ◌&&◌, cond, if◌then◌else◌, List, [], ◌∷◌, length, get_or, Option, Some, None, refl, ap, sym, ◌∙◌, arith}
-use Rattle.std.proofs.lemmas.Bool.{false≢true}
-use Rattle.std.proofs.lemmas.Option.{none-some}
-use Rattle.dme_line.specs.declared.tags.Tag.{Tag}
-use Rattle.protocol_model.specs.Replies.{tag_is}
+use Rattle.witness_judge.proofs.Names.{[], ◌&&◌, ◌+◌, ◌-◌, ◌==◌, ◌∙◌, ◌∷◌, ◌≡◌, ap, AreFirst, AreLinked, AreNext, arith, Bool, cond, false}
+use Rattle.witness_judge.proofs.Names.{false≢true, found, get_or, has_mark, Heard, if◌then◌else◌, is_use, last_end, length, List, Mark, marks_of}
+use Rattle.witness_judge.proofs.Names.{next_of, None, none-some, Option, place_from, place_of, refl, Reply, Sent, Some, suc, sym, Tag, tag_is, true}
+use Rattle.witness_judge.proofs.Names.{use_after, zero, ℕ}
 use Rattle.witness_judge.proofs.TagTables.{same_tag}
-use Rattle.witness_judge.specs.Uses.{found, has_mark, marks_of, last_end, is_use, place_from, place_of, use_after, next_of, AreFirst, AreNext, AreLinked}
-use Rattle.witness_judge.specs.declared.lines.Heard.{Heard}
 use Rattle.witness_judge.specs.declared.lines.Heard.TheVariants.{Response}
-use Rattle.witness_judge.specs.declared.lines.Mark.{Mark}
-use Rattle.witness_judge.specs.declared.lines.Mark.TheVariants as mark
-use Rattle.witness_judge.specs.declared.lines.Reply.{Reply}
-use Rattle.witness_judge.specs.declared.lines.Reply.TheVariants as reply
-use Rattle.witness_judge.specs.declared.lines.Sent.{Sent}
 
 -- with no n-th use there is none after it
 neither : (b : Bool) (x y x' y' : Option ℕ) → (x ≡ None → x' ≡ None) → (y ≡ None → y' ≡ None) → (if b then x else y) ≡ None
@@ -80,13 +72,13 @@ not_closed false c n o is = refl
 
 pub closed_more : (above : List Heard) (u : Tag) (old new : List (Option ℕ)) (n : ℕ) → ((t : Tag) → found old t ≡ last_end t above)
     → n ≡ length above → ((t : Tag) → found new t ≡ (if tag_is u t then Some n else found old t))
-    → (t : Tag) → found new t ≡ last_end t (Response u reply.Complete ∷ above)
+    → (t : Tag) → found new t ≡ last_end t (Response u Reply.Complete ∷ above)
 closed_more above u old new n are count put t = put t ∙ ap (λ (o : Option ℕ). if tag_is u t then Some n else o) (are t)
     ∙ ap (λ (k : ℕ). if tag_is u t then Some k else last_end t above) count ∙ closed_by (tag_is u t) true (length above) (last_end t above) refl
 
 pub still_closed : (above : List Heard) (u : Tag) (r : Reply) (table : List (Option ℕ)) → ((t : Tag) → found table t ≡ last_end t above)
-    → has_mark mark.Complete r ≡ false → (t : Tag) → found table t ≡ last_end t (Response u r ∷ above)
-still_closed above u r table are has t = are t ∙ not_closed (tag_is u t) (has_mark mark.Complete r) (length above) (last_end t above) has
+    → has_mark Mark.Complete r ≡ false → (t : Tag) → found table t ≡ last_end t (Response u r ∷ above)
+still_closed above u r table are has t = are t ∙ not_closed (tag_is u t) (has_mark Mark.Complete r) (length above) (last_end t above) has
 
 pub first_linked : (m : Mark) (up : List Sent) (table : List (Option ℕ)) → AreFirst up 0 table → AreLinked m up [] table
 first_linked m up table are = λ t. are t

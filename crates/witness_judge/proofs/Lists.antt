@@ -1,11 +1,7 @@
 -- The lines above a line, the nearest first.
-use Rattle.std.proofs.Common.{◌≡◌, ℕ, ◌+◌, ◌<◌, List, [], ◌∷◌, length, take, drop, get_or, reverse, Option, Some, None, refl}
-use Rattle.std.proofs.Common.{ap, sym, ◌∙◌, arith}
-use Rattle.std.proofs.lemmas.List.{take_more, drop_more, reverse-append, length-reverse, length-take-le}
-use Rattle.std.specs.Option.{option_or}
-use Rattle.witness_judge.specs.Judging.{found_at, first_break}
-use Rattle.witness_judge.specs.declared.rules.Found.{Found}
-use Rattle.witness_judge.specs.declared.rules.Rule.{Rule}
+use Rattle.witness_judge.proofs.Names.{[], ◌+◌, ◌<◌, ◌∙◌, ◌∷◌, ◌≡◌, ap, arith, drop, drop_more, first_break, Found, found_at, get_or, length}
+use Rattle.witness_judge.proofs.Names.{length-reverse, length-take-le, List, None, Option, option_or, refl, reverse, reverse-append, Rule, Some, sym}
+use Rattle.witness_judge.proofs.Names.{take, take_more, ℕ}
 
 -- one line more is above
 pub above_more : {X : Type 0} (xs : List X) (at : ℕ) (d : X) → at < length xs

@@ -1,22 +1,17 @@
 -- What a server has done is counted by its lines.
-use Rattle.std.proofs.Common.{◌≡◌, ℕ, zero, suc, ◌+◌, ◌-◌, ◌≤◌, Bool, true, false, if◌then◌else◌, List, [], ◌∷◌, length, reverse, refl, arith}
-use Rattle.std.proofs.lemmas.List.{length-reverse}
-use Rattle.dme_line.specs.declared.tags.Tag.TheVariants.{Std, Event}
-use Rattle.witness_judge.specs.Uses.{busy, busy_after, refuses, refusals}
-use Rattle.witness_judge.specs.declared.lines.Heard.{Heard}
-use Rattle.witness_judge.specs.declared.lines.Heard.TheVariants as heard
-use Rattle.witness_judge.specs.declared.lines.Reply.TheVariants as reply
+use Rattle.witness_judge.proofs.Names.{[], ◌+◌, ◌-◌, ◌∷◌, ◌≡◌, ◌≤◌, arith, Bool, busy, busy_after, Event, false, Heard, if◌then◌else◌, length}
+use Rattle.witness_judge.proofs.Names.{length-reverse, List, refl, refusals, refuses, Reply, reverse, Std, suc, true, zero, ℕ}
 
 busy_more : (n : ℕ) (h : Heard) → busy_after n h ≤ n + 1
-busy_more n heard.Other = omega arith
-busy_more n (heard.Response (Std t) reply.Received) = omega arith
-busy_more n (heard.Response (Std t) (reply.Given d)) = omega arith
-busy_more n (heard.Response (Std t) reply.Complete) = omega arith
-busy_more n (heard.Response (Std t) (reply.Error s)) = omega arith
-busy_more n (heard.Response (Event t) reply.Received) = omega arith
-busy_more n (heard.Response (Event t) (reply.Given d)) = omega arith
-busy_more n (heard.Response (Event t) reply.Complete) = omega arith
-busy_more n (heard.Response (Event t) (reply.Error s)) = omega arith
+busy_more n Heard.Other = omega arith
+busy_more n (Heard.Response (Std t) Reply.Received) = omega arith
+busy_more n (Heard.Response (Std t) (Reply.Given d)) = omega arith
+busy_more n (Heard.Response (Std t) Reply.Complete) = omega arith
+busy_more n (Heard.Response (Std t) (Reply.Error s)) = omega arith
+busy_more n (Heard.Response (Event t) Reply.Received) = omega arith
+busy_more n (Heard.Response (Event t) (Reply.Given d)) = omega arith
+busy_more n (Heard.Response (Event t) Reply.Complete) = omega arith
+busy_more n (Heard.Response (Event t) (Reply.Error s)) = omega arith
 
 pub busy_within : (above : List Heard) → busy above ≤ length above
 busy_within [] = omega arith

@@ -1,16 +1,8 @@
 -- What came for each command, with a line of the server more.
-use Rattle.std.proofs.Common.{◌≡◌, ℕ, zero, suc, ◌<◌, Bool, true, false, ◌&&◌, if◌then◌else◌, List, [], ◌∷◌, length, get_or, Option, Some, None, refl, ap, sym, subst, ◌∙◌}
-use Rattle.std.proofs.lemmas.List.{length-replicate}
-use Rattle.std.specs.Prelude.{replicate}
-use Rattle.std.specs.Option.{option_or}
-use Rattle.dme_line.specs.declared.tags.Tag.{Tag}
-use Rattle.witness_judge.specs.Uses.{has_mark, is_at, use_after, noted, moment, AreNoted}
-use Rattle.witness_judge.specs.declared.lines.Heard.{Heard}
+use Rattle.witness_judge.proofs.Names.{[], ◌&&◌, ◌<◌, ◌∙◌, ◌∷◌, ◌≡◌, ap, AreNoted, Bool, false, get_or, has_mark, Heard, if◌then◌else◌, is_at, length}
+use Rattle.witness_judge.proofs.Names.{length-replicate, List, Mark, Moment, moment, None, noted, Option, option_or, refl, replicate, Reply, Sent}
+use Rattle.witness_judge.proofs.Names.{Some, subst, suc, sym, Tag, true, use_after, zero, ℕ}
 use Rattle.witness_judge.specs.declared.lines.Heard.TheVariants.{Response}
-use Rattle.witness_judge.specs.declared.lines.Mark.{Mark}
-use Rattle.witness_judge.specs.declared.lines.Reply.{Reply}
-use Rattle.witness_judge.specs.declared.lines.Sent.{Sent}
-use Rattle.witness_judge.specs.declared.rules.Moment.{Moment}
 
 or_none : {A : Type 0} (o : Option A) → o ≡ option_or o None
 or_none None = refl

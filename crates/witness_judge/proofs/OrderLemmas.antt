@@ -1,9 +1,7 @@
 -- Places in the bytes of an end.
-use Rattle.std.proofs.Common.{◌≡◌, ℕ, zero, suc, ◌+◌, ◌-◌, ◌<◌, ◌≤◌, Bool, true, false, if◌then◌else◌, List, [], ◌∷◌, length, drop, get_or, refl, ap, sym, subst, ◌∙◌, arith}
-use Rattle.std.specs.Prelude.{nat_le}
-use Rattle.std.proofs.lemmas.Bool.{le-leb, leb-true}
-use Rattle.std.proofs.lemmas.List.{drop_more, drop_all}
-use Rattle.witness_judge.specs.Orders.{whole_in, IsOn, IsAt}
+use Rattle.witness_judge.proofs.Names.{[], ◌+◌, ◌-◌, ◌<◌, ◌∙◌, ◌∷◌, ◌≡◌, ◌≤◌, ap, arith, Bool, drop, drop_all, drop_more, false, get_or}
+use Rattle.witness_judge.proofs.Names.{if◌then◌else◌, IsAt, IsOn, le-leb, leb-true, length, List, nat_le, refl, subst, suc, sym, true, whole_in, zero}
+use Rattle.witness_judge.proofs.Names.{ℕ}
 
 regroup : (a b n : ℕ) → a + b + n ≡ a + (b + n)
 regroup a b n = omega arith

@@ -1,11 +1,10 @@
 -- All that read as the interface says read a line and a data text in one way.
-use Rattle.std.proofs.Common.{◌≡◌, ℕ, Bool, List, Result}
+use Rattle.witness_judge.proofs.Names.{◌≡◌, Bool, List, Result, Tag, ℕ}
 use Rattle.fixed_um.specs.declared.lengths.Point.{Point}
 use Rattle.dme_line.specs.CommandText.{ReadsCommand}
 use Rattle.dme_line.specs.Points.{ReadsPoint}
 use Rattle.dme_line.specs.Homed.{ReadsHomed}
 use Rattle.dme_line.specs.Responses.{ReadsResponse}
-use Rattle.dme_line.specs.declared.tags.Tag.{Tag}
 use Rattle.dme_line.specs.declared.commands.Command.{Command}
 use Rattle.dme_line.specs.declared.reading.LineFault.{LineFault}
 use Rattle.dme_line.specs.declared.homed.NotHomedText.{NotHomedText}
@@ -16,8 +15,8 @@ use Rattle.dme_line.proofs.HomedLemmas.{one_homed_reading}
 use Rattle.dme_line.proofs.OneCommand.{one_command_reading}
 use Rattle.dme_line.proofs.OneResponse.{one_response_reading}
 use Rattle.dme_line.proofs.PointLemmas.{one_point_reading}
-use Rattle.protocol_model.specs.Readings.{command_of, response_of, point_of, homed_of}
-use Rattle.protocol_model.specs.Readings.{reads_command, reads_response, reads_point, reads_homed}
+use Rattle.protocol_model.specs.Readings.{command_of, homed_of, point_of, response_of}
+use Rattle.protocol_model.specs.Readings.{reads_command, reads_homed, reads_point, reads_response}
 
 pub one_command : (line : List ℕ) (r : Result (Tag × Command) LineFault) → ReadsCommand line r → command_of line ≡ r
 one_command line r read = one_command_reading line (command_of line) r (reads_command line) read

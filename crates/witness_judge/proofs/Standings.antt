@@ -1,23 +1,13 @@
 -- How far all commands are, with a line more, and which rule the end of a command breaks.
-use Rattle.std.proofs.Common.{◌≡◌, ℕ, ◌+◌, ◌<◌, ◌≤◌, ◌==◌, Bool, true, false, ◌&&◌, ◌||◌, not, if◌then◌else◌, List, [], ◌∷◌, length, get_or}
-use Rattle.std.proofs.Common.{Option, Some, None, refl, ap, sym, ◌∙◌, subst, arith}
-use Rattle.std.specs.Prelude.{nat_lt, nat_le, slice_get}
-use Rattle.std.proofs.lemmas.Option.{get_or_from_slice_get}
-use Rattle.std.proofs.lemmas.Bool.{false≢true, eqb-true, ltb-true, ltb-false, leb-true, leb-false, lt-ltb, eq-eqb}
-use Rattle.dme_line.specs.declared.tags.Tag.{Tag}
+use Rattle.witness_judge.proofs.Names.{[], ◌&&◌, ◌+◌, ◌<◌, ◌==◌, ◌||◌, ◌∙◌, ◌∷◌, ◌≡◌, ◌≤◌, ap, arith, asks_data, asks_under, bars, Bool, command_rule}
+use Rattle.witness_judge.proofs.Names.{complete_rule, end_rule, eq-eqb, eqb-true, false, false≢true, first_barred, front, get_or}
+use Rattle.witness_judge.proofs.Names.{get_or_from_slice_get, halts, has_refused, Heard, if◌then◌else◌, is_abort, is_barred, is_clear, is_doubtful}
+use Rattle.witness_judge.proofs.Names.{is_halted, is_in_turn, is_open, is_queued, is_sought_after, IsStanding, leaves_some, leb-false, leb-true}
+use Rattle.witness_judge.proofs.Names.{length, List, lt-ltb, ltb-false, ltb-true, mark_rule, nat_le, nat_lt, None, not, Option, reach_after, refl}
+use Rattle.witness_judge.proofs.Names.{Reply, Sent, slice_get, Some, Sought, Stage, stage_of, subst, sym, Tag, true, ℕ}
 use Rattle.witness_judge.proofs.Fronts.{front_grows, front_least}
 use Rattle.witness_judge.specs.ServerRules as rules
-use Rattle.witness_judge.specs.ServerRules.{IsStanding, is_barred, halts, bars, front, reach_after, first_barred, mark_rule, end_rule, complete_rule, is_open, asks_data}
-use Rattle.witness_judge.specs.ServerRules.{is_halted, is_in_turn, leaves_some, is_doubtful, asks_under, command_rule, is_queued, is_abort, is_clear, is_sought_after}
-use Rattle.witness_judge.specs.Uses.{stage_of, has_refused}
-use Rattle.witness_judge.specs.declared.lines.Heard.{Heard}
-use Rattle.witness_judge.specs.declared.lines.Reply.{Reply}
-use Rattle.witness_judge.specs.declared.lines.Reply.TheVariants as reply
-use Rattle.witness_judge.specs.declared.lines.Sent.{Sent}
 use Rattle.witness_judge.specs.declared.rules.Asks.{Asks}
-use Rattle.witness_judge.specs.declared.rules.Sought.TheVariants as sought
-use Rattle.witness_judge.specs.declared.rules.Stage.{Stage}
-use Rattle.witness_judge.specs.declared.rules.Stage.TheVariants as stage
 use Rattle.witness_judge.specs.declared.rules.Standing.{Standing}
 
 at_false : (b : Bool) → (b ≡ true → ⊥) → b ≡ false
@@ -47,7 +37,7 @@ runs true o w c = ap (λ (b : Bool). (b && nat_le w c) || o) (not_below w)
 bars_by : (up : List Sent) (h : Heard) (above : List Heard) (s : Standing) (at : ℕ) → IsStanding up above s
     → is_barred up (h ∷ above) at ≡ ((halts h && (nat_lt s.waiting at && nat_le at s.clearing)) || is_barred up above at)
 bars_by up h above s at are =
-    ap (λ (n : ℕ). (halts h && (nat_lt n at && nat_le at (front sought.Clearing up above))) || is_barred up above at) (sym are.waits)
+    ap (λ (n : ℕ). (halts h && (nat_lt n at && nat_le at (front Sought.Clearing up above))) || is_barred up above at) (sym are.waits)
     ∙ ap (λ (n : ℕ). (halts h && (nat_lt s.waiting at && nat_le at n)) || is_barred up above at) (sym are.clearing)
 
 barred_later : (up : List Sent) (h : Heard) (above : List Heard) (s : Standing) (at : ℕ) → IsStanding up above s → s.waiting < at
@@ -74,11 +64,11 @@ later_than : (a b c : ℕ) → a ≤ b → b < c → a < c
 later_than a b c low short = omega (arith, low, short)
 
 pub stands : (up : List Sent) (h : Heard) (above : List Heard) (s new : Standing) → IsStanding up above s
-    → new.waiting ≡ front sought.Open up (h ∷ above) → new.unended ≡ front sought.Unended up (h ∷ above)
-    → new.clearing ≡ front sought.Clearing up (h ∷ above) → new.reach ≡ reach_after (halts h) s.clearing s.reach
+    → new.waiting ≡ front Sought.Open up (h ∷ above) → new.unended ≡ front Sought.Unended up (h ∷ above)
+    → new.clearing ≡ front Sought.Clearing up (h ∷ above) → new.reach ≡ reach_after (halts h) s.clearing s.reach
     → new.barred ≡ first_barred new.waiting s.waiting new.reach s.barred → IsStanding up (h ∷ above) new
 stands up h above s new are waits unended clearing reach barred =
-    let low : s.waiting ≤ new.waiting = omega (arith, front_grows sought.Open up h above, are.waits, waits) in
+    let low : s.waiting ≤ new.waiting = omega (arith, front_grows Sought.Open up h above, are.waits, waits) in
     record {
       waits = waits;
       unended = unended;
@@ -95,18 +85,18 @@ end_alike false b c left same = refl
 
 complete_alike : (s : Stage) (a : Asks) (turn b c left : Bool) → (is_open s ≡ true → turn ≡ true → b ≡ c)
     → complete_rule s a (end_rule turn b left) ≡ complete_rule s a (end_rule turn c left)
-complete_alike stage.Sent a turn b c left same = refl
-complete_alike stage.Received a turn b c left same = ap (complete_rule stage.Received a) (end_alike turn b c left (same refl))
-complete_alike stage.Given a turn b c left same = end_alike turn b c left (same refl)
-complete_alike stage.Failed a turn b c left same = refl
-complete_alike stage.Ended a turn b c left same = refl
+complete_alike Stage.Sent a turn b c left same = refl
+complete_alike Stage.Received a turn b c left same = ap (complete_rule Stage.Received a) (end_alike turn b c left (same refl))
+complete_alike Stage.Given a turn b c left same = end_alike turn b c left (same refl)
+complete_alike Stage.Failed a turn b c left same = refl
+complete_alike Stage.Ended a turn b c left same = refl
 
 alike : (s : Stage) (a : Asks) (turn b c left : Bool) (r : Reply) → (is_open s ≡ true → turn ≡ true → b ≡ c)
     → mark_rule s a turn (end_rule turn b left) r ≡ mark_rule s a turn (end_rule turn c left) r
-alike s a turn b c left reply.Received same = refl
-alike s a turn b c left (reply.Given d) same = refl
-alike s a turn b c left reply.Complete same = complete_alike s a turn b c left same
-alike s a turn b c left (reply.Error w) same = refl
+alike s a turn b c left Reply.Received same = refl
+alike s a turn b c left (Reply.Given d) same = refl
+alike s a turn b c left Reply.Complete same = complete_alike s a turn b c left same
+alike s a turn b c left (Reply.Error w) same = refl
 
 not_over : (f at : ℕ) → not (nat_lt f at) ≡ true → at ≤ f
 not_over f at is = go (nat_lt f at) refl is
@@ -132,20 +122,20 @@ both false b one two = absurd (false≢true one)
 -- an error that bars the first command that is open bars the one that ends
 first_ends_at : (up : List Sent) (above : List Heard) (t : Tag) (r : Reply) (at : ℕ) (d : Sent) → at < length up
     → mark_rule (stage_of up above at) (asks_under (is_doubtful above t) (get_or up at d)) (is_in_turn up above at (get_or up at d))
-    (end_rule (is_in_turn up above at (get_or up at d)) (is_halted up above (front sought.Open up above) (get_or up at d)) (leaves_some up above at (get_or up at d))) r
+    (end_rule (is_in_turn up above at (get_or up at d)) (is_halted up above (front Sought.Open up above) (get_or up at d)) (leaves_some up above at (get_or up at d))) r
     ≡ command_rule up above t r at (get_or up at d)
 first_ends_at up above t r at d short =
     alike (stage_of up above at) (asks_under (is_doubtful above t) (get_or up at d)) (is_in_turn up above at (get_or up at d)) _ _
     (leaves_some up above at (get_or up at d)) r
     (λ still turn. barred_alike (is_queued (get_or up at d)) (is_abort (get_or up at d)) (is_clear (get_or up at d)) (has_refused above)
-    (front sought.Open up above) at (is_barred up above)
-    (λ queued. front_least sought.Open up above at d short (both (is_queued (get_or up at d)) (is_open (stage_of up above at)) queued still)) turn)
+    (front Sought.Open up above) at (is_barred up above)
+    (λ queued. front_least Sought.Open up above at d short (both (is_queued (get_or up at d)) (is_open (stage_of up above at)) queued still)) turn)
 
 pub first_ends : (up : List Sent) (above : List Heard) (t : Tag) (r : Reply) (at : ℕ) (line : Sent) → slice_get up at ≡ Some line → at < length up
     → mark_rule (stage_of up above at) (asks_under (is_doubtful above t) line) (is_in_turn up above at line)
-    (end_rule (is_in_turn up above at line) (is_halted up above (front sought.Open up above) line) (leaves_some up above at line)) r
+    (end_rule (is_in_turn up above at line) (is_halted up above (front Sought.Open up above) line) (leaves_some up above at line)) r
     ≡ command_rule up above t r at line
 first_ends up above t r at line there short =
     subst (λ (s : Sent). mark_rule (stage_of up above at) (asks_under (is_doubtful above t) s) (is_in_turn up above at s)
-    (end_rule (is_in_turn up above at s) (is_halted up above (front sought.Open up above) s) (leaves_some up above at s)) r
+    (end_rule (is_in_turn up above at s) (is_halted up above (front Sought.Open up above) s) (leaves_some up above at s)) r
     ≡ command_rule up above t r at s) (get_or_from_slice_get up at line line there) (first_ends_at up above t r at line short)

@@ -1,14 +1,8 @@
 -- Tables by tag.
-use Rattle.std.proofs.Common.{◌≡◌, ℕ, zero, suc, ◌+◌, ◌-◌, ◌<◌, ◌≤◌, ◌==◌, Bool, true, false, if◌then◌else◌, List, [], ◌∷◌, length, drop, get_or}
-use Rattle.std.proofs.Common.{Option, Some, None, refl, ap, sym, ◌∙◌, subst, arith}
-use Rattle.std.proofs.lemmas.Bool.{eqb-true, eq-eqb, false≢true}
-use Rattle.std.proofs.lemmas.List.{drop_more, drop_all}
-use Rattle.std.proofs.lemmas.Option.{none-some}
-use Rattle.dme_line.specs.declared.tags.Tag.{Tag}
-use Rattle.dme_line.specs.declared.tags.Tag.TheVariants.{Std, Event}
-use Rattle.protocol_model.specs.Replies.{tag_is}
-use Rattle.witness_judge.specs.Uses.{code_of, found, is_use, is_under, tag_of, place_from, AreFirst, AreNext}
-use Rattle.witness_judge.specs.declared.lines.Sent.{Sent}
+use Rattle.witness_judge.proofs.Names.{[], ◌+◌, ◌-◌, ◌<◌, ◌==◌, ◌∙◌, ◌∷◌, ◌≡◌, ◌≤◌, ap, AreFirst, AreNext, arith, Bool, code_of, drop, drop_all}
+use Rattle.witness_judge.proofs.Names.{drop_more, eq-eqb, eqb-true, Event, false, false≢true, found, get_or, if◌then◌else◌, is_under, is_use, length}
+use Rattle.witness_judge.proofs.Names.{List, None, none-some, Option, place_from, refl, Sent, Some, Std, subst, suc, sym, Tag, tag_is, tag_of, true}
+use Rattle.witness_judge.proofs.Names.{zero, ℕ}
 
 pub same_tag : (t u : Tag) → tag_is t u ≡ true → t ≡ u
 same_tag (Std n) (Std m) is = ap Std (eqb-true n m is)

@@ -1,7 +1,6 @@
 -- What is printed of a judgement is never empty.
-use Rattle.std.proofs.Common.{◌<◌, length, Option, Some, None, arith}
+use Rattle.witness_judge.proofs.Names.{◌<◌, arith, ends_text, judgement_text, length, None, Option, Some}
 use Rattle.witness_judge.specs.declared.judgement.Judgement.{Judgement}
-use Rattle.witness_judge.specs.Texts.{ends_text, judgement_text}
 use Rattle.witness_judge.specs.declared.judgement.Break.{Break}
 
 some_ends : (client server : Option Break) (j : Judgement) → 0 < length (ends_text client server j)

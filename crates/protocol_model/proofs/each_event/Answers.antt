@@ -1,23 +1,14 @@
 -- Events of the server: what its answers leave true.
-use Rattle.std.proofs.Common.{◌≡◌, ℕ, ◌<◌, ◌≤◌, ◌⊎◌, inl, inr, true, false, cond, List, [], ◌∷◌, ◌++◌, sym, ◌∙◌, ap, subst, arith}
-use Rattle.std.proofs.Common.{append-nil, Option, Some, None, eq-eqb, ne_eqb, eqb}
-use Rattle.std.proofs.lemmas.Bool.{false≢true}
-use Rattle.contact_ledger.specs.declared.acts.Act.{Act}
-use Rattle.dmis_program.specs.declared.features.Wanted.{Wanted}
-use Rattle.protocol_model.specs.Replies.{Reply}
-use Rattle.dme_line.specs.declared.tags.Tag.{Tag}
-use Rattle.protocol_model.specs.Client.{Table}
-use Rattle.protocol_model.specs.Server.{Server, Answer}
-use Rattle.protocol_model.specs.Claims.{MadeContact, contacts, acts_on}
-use Rattle.protocol_model.specs.Typed.{World, answered}
+use Rattle.protocol_model.proofs.Names.{[], ◌++◌, ◌<◌, ◌∙◌, ◌∷◌, ◌≡◌, ◌≤◌, ◌⊎◌, Act, acts_on, Answer, answered, ap, append-nil, AreUpTo, arith, cond}
+use Rattle.protocol_model.proofs.Names.{contacts, eq-eqb, eqb, false, false≢true, inl, inr, Line, List, MadeContact, ne_eqb, None, Option, Reply}
+use Rattle.protocol_model.proofs.Names.{Server, Some, subst, sym, Table, Tag, true, Wanted, ℕ}
+use Rattle.protocol_model.specs.Typed.{World}
 use Rattle.protocol_model.proofs.table.Basics.{if_true, if_false}
 use Rattle.protocol_model.proofs.table.Replying.{Reads, reads_more, IsFront, front_trans, front_more}
-use Rattle.protocol_model.specs.Undisturbed.{AreUpTo}
 use Rattle.protocol_model.proofs.invariant.Served.{Served, served_more, IsProgress, no_points, progress_other, contacts_more}
 use Rattle.protocol_model.proofs.invariant.Served.{made_up_to}
 use Rattle.protocol_model.proofs.invariant.Moves.{done_on, acts_more, acts_done, acts_elsewhere, up_to_join, up_to_done, Moves}
 use Rattle.protocol_model.proofs.invariant.Holding.{IsNear, IsTidy, IsLive, IsOff, IsHere, IsAhead, IsGone, IsIdle, Inv, know_of}
-use Rattle.protocol_model.specs.declared.lines.Line.{Line}
 
 -- ---- what needs no look at the answer
 

@@ -1,20 +1,10 @@
 -- The events of the client, but for what it reads, keep all that holds.
-use Rattle.std.proofs.Common.{◌≡◌, ℕ, suc, ◌<◌, ◌≤◌, ◌⊎◌, inl, inr, Bool, true, false, cond, List, [], ◌∷◌, ◌++◌, length, drop, refl, sym}
-use Rattle.std.proofs.Common.{◌∙◌, ap, subst, arith, append_assoc, append-nil, Option, None, Ok}
-use Rattle.std.proofs.lemmas.Bool.{false≢true}
-use Rattle.dme_line.specs.Kinds.{kind_of}
-use Rattle.dme_line.specs.declared.tags.Tag.{Tag}
-use Rattle.dme_line.specs.declared.tags.Tag.TheVariants.{Std}
-use Rattle.dme_line.specs.declared.commands.Command.{Command}
-use Rattle.contact_ledger.specs.declared.features.Feature.{Feature}
-use Rattle.dmis_program.specs.declared.features.Wanted.{Wanted}
-use Rattle.protocol_model.specs.Replies.{tag_is}
-use Rattle.protocol_model.specs.Plan.{plan}
-use Rattle.protocol_model.specs.Open.{is_failed, count_open, is_asking, is_held}
-use Rattle.protocol_model.specs.Client.{Client, Table, client_connected, held_now, is_clearing, client_left, left_state, client_restarted}
-use Rattle.protocol_model.specs.Server.{is_abort}
-use Rattle.protocol_model.specs.Claims.{contacts, acts_on}
-use Rattle.protocol_model.specs.Typed.{World, connected}
+use Rattle.protocol_model.proofs.Names.{[], ◌++◌, ◌<◌, ◌∙◌, ◌∷◌, ◌≡◌, ◌≤◌, ◌⊎◌, acts_on, ap, append-nil, append_assoc, arith, Bool, Client}
+use Rattle.protocol_model.proofs.Names.{client_connected, client_left, client_restarted, Command, cond, contacts, count_open, drop, false, false≢true}
+use Rattle.protocol_model.proofs.Names.{Feature, held_now, inl, inr, is_abort, is_asking, is_clearing, is_failed, is_held, kind_of, left_state}
+use Rattle.protocol_model.proofs.Names.{length, Line, List, None, Ok, OpenCommand, Option, plan, Planned, refl, Stage, Start, State, Std, subst, suc}
+use Rattle.protocol_model.proofs.Names.{sym, Table, Tag, tag_is, true, Waiting, Wanted, ℕ}
+use Rattle.protocol_model.specs.Typed.{connected, World}
 use Rattle.protocol_model.proofs.table.Basics.{if_cases, if_false}
 use Rattle.protocol_model.proofs.table.Walks.{AreDistinct}
 use Rattle.protocol_model.proofs.table.Counts.{AreFailed, failed_tags}
@@ -27,13 +17,6 @@ use Rattle.protocol_model.proofs.invariant.Holding.{AreStandard, IsClearFirst, I
 use Rattle.protocol_model.proofs.table.Asking.{with_unsent}
 use Rattle.protocol_model.proofs.invariant.LineFacts.{asked_more}
 use Rattle.protocol_model.proofs.invariant.LineFacts.{tag_is_false, standard_join, no_clears_join, sent_more, commands_more, steps_more}
-use Rattle.protocol_model.specs.declared.lines.Line.{Line}
-use Rattle.protocol_model.specs.declared.plans.Planned.{Planned}
-use Rattle.protocol_model.specs.declared.plans.Start.{Start}
-use Rattle.protocol_model.specs.declared.held.Stage.{Stage}
-use Rattle.protocol_model.specs.declared.held.OpenCommand.{OpenCommand}
-use Rattle.protocol_model.specs.declared.states.State.{State}
-use Rattle.protocol_model.specs.declared.lines.Waiting.{Waiting}
 
 -- ---- what always follows
 

@@ -1,18 +1,11 @@
 -- An abort, and a plan that continues after a failure, keep all that holds.
-use Rattle.std.proofs.Common.{◌≡◌, ℕ, zero, suc, ◌-◌, ◌≤◌, ◌⊎◌, inl, inr, Bool, true, false, List, [], ◌∷◌, ◌++◌, length, drop, refl, sym}
-use Rattle.std.proofs.Common.{◌∙◌, ap, subst, arith, append_assoc, append-nil, Option, Some, None}
-use Rattle.std.proofs.lemmas.Bool.{false≢true}
+use Rattle.protocol_model.proofs.Names.{[], ◌++◌, ◌-◌, ◌∙◌, ◌∷◌, ◌≡◌, ◌≤◌, ◌⊎◌, ap, append-nil, append_assoc, arith, Bool, Client, client_aborted}
+use Rattle.protocol_model.proofs.Names.{client_resumed, contacts, count_open, drop, false, false≢true, Feature, inl, inr, length, Line, List}
+use Rattle.protocol_model.proofs.Names.{may_abort, may_resume, Meaning as Program, next_number, None, OpenCommand, Option, plan, Planned, refl}
+use Rattle.protocol_model.proofs.Names.{sends_abort, sent, Some, Start, State, subst, suc, sym, Table, Tally, true, Waiting, Wanted, zero, ℕ}
 use Rattle.dme_line.specs.declared.tags.Tag.TheVariants.{Event}
-use Rattle.contact_ledger.specs.declared.features.Feature.{Feature}
-use Rattle.dmis_program.specs.declared.features.Wanted.{Wanted}
-use Rattle.dmis_program.specs.Meaning.{Meaning as Program}
 use Rattle.protocol_model.proofs.plan.Blocks.{IsPlain}
-use Rattle.protocol_model.specs.Plan.{plan}
-use Rattle.protocol_model.specs.Open.{count_open}
-use Rattle.protocol_model.specs.Client.{Client, Table, Tally, next_number, client_aborted, sends_abort, may_abort, may_resume}
-use Rattle.protocol_model.specs.Client.{client_resumed}
-use Rattle.protocol_model.specs.Claims.{contacts}
-use Rattle.protocol_model.specs.Typed.{World, sent}
+use Rattle.protocol_model.specs.Typed.{World}
 use Rattle.protocol_model.proofs.table.Counts.{AreFailed, all_failed}
 use Rattle.protocol_model.proofs.table.Replying.{with_event, reads_with_event, with_tally, OnlyCloses, only_closes, reads_no_event}
 use Rattle.protocol_model.proofs.plan.Fitting.{Know, unknown}
@@ -23,12 +16,6 @@ use Rattle.protocol_model.proofs.invariant.Holding.{listed, abort_line, abort_li
 use Rattle.protocol_model.proofs.invariant.Holding.{IsNear}
 use Rattle.protocol_model.proofs.invariant.Holding.{HasEvents, HasState, IsLive, IsOff, IsAtRest, IsHere, IsAhead, IsGone, Inv, know_of}
 use Rattle.protocol_model.proofs.each_event.ClientEvents.{no_aborts, none_received}
-use Rattle.protocol_model.specs.declared.lines.Line.{Line}
-use Rattle.protocol_model.specs.declared.plans.Planned.{Planned}
-use Rattle.protocol_model.specs.declared.plans.Start.{Start}
-use Rattle.protocol_model.specs.declared.held.OpenCommand.{OpenCommand}
-use Rattle.protocol_model.specs.declared.states.State.{State}
-use Rattle.protocol_model.specs.declared.lines.Waiting.{Waiting}
 
 -- ---- an abort
 

@@ -1,16 +1,10 @@
 -- What the client writes keeps all that holds: commands, aborts, and a plan that continues.
-use Rattle.std.proofs.Common.{◌≡◌, ℕ, ◌-◌, ◌<◌, ◌≤◌, ◌⊎◌, inl, inr, Bool, true, false, cond, not, ◌&&◌, ◌||◌, List, [], ◌∷◌, length, refl}
-use Rattle.std.proofs.Common.{sym, ◌∙◌, ap, subst, arith, Option, Some, None, is_some, Ok, eqb, eqb-true, le_trans}
-use Rattle.std.proofs.lemmas.Bool.{false≢true, and_parts, ltb-true}
-use Rattle.dme_line.specs.Kinds.{kind_of}
-use Rattle.dme_line.specs.declared.tags.Tag.{Tag}
-use Rattle.dme_line.specs.declared.tags.Tag.TheVariants.{Std}
-use Rattle.dmis_program.specs.declared.features.Wanted.{Wanted}
-use Rattle.protocol_model.specs.Open.{count_open, is_asking, is_held}
-use Rattle.protocol_model.specs.Client.{Client, Table, Tally, client_sent, sends_next, held_now, next_number, due, first_due, may_go}
-use Rattle.protocol_model.specs.Client.{is_running, is_clearing}
-use Rattle.protocol_model.specs.Server.{is_abort}
-use Rattle.protocol_model.specs.Typed.{World, sent}
+use Rattle.protocol_model.proofs.Names.{[], ◌&&◌, ◌-◌, ◌<◌, ◌||◌, ◌∙◌, ◌∷◌, ◌≡◌, ◌≤◌, ◌⊎◌, and_parts, ap, arith, Bool, Client, client_sent, cond}
+use Rattle.protocol_model.proofs.Names.{count_open, due, eqb, eqb-true, false, false≢true, first_due, held_now, inl, inr, is_abort, is_asking}
+use Rattle.protocol_model.proofs.Names.{is_clearing, is_held, is_running, is_some, kind_of, le_trans, length, List, ltb-true, may_go, next_number}
+use Rattle.protocol_model.proofs.Names.{None, not, Ok, OpenCommand, Option, Planned, refl, sends_next, sent, Some, State, Std, subst, sym, Table, Tag}
+use Rattle.protocol_model.proofs.Names.{Tally, true, Wanted, ℕ}
+use Rattle.protocol_model.specs.Typed.{World}
 use Rattle.protocol_model.proofs.table.Counts.{AreFailed, all_failed, failed_tags}
 use Rattle.protocol_model.proofs.table.Replying.{with_standard, reads_with_standard, OnlyCloses, only_closes, reads_no_event}
 use Rattle.protocol_model.proofs.table.Asking.{with_unsent, AreUnasked, reads_unasked}
@@ -20,9 +14,6 @@ use Rattle.protocol_model.proofs.table.Drawing.{IsDrawn, drawn, none_drawn, stan
 use Rattle.protocol_model.proofs.invariant.Holding.{HasEvents, HasState, tags_of, IsLive, IsOff, IsAtRest, IsHere, IsAhead, IsGone}
 use Rattle.protocol_model.proofs.invariant.Holding.{Inv, know_of}
 use Rattle.protocol_model.proofs.each_event.ClientEvents.{failed_tags_more, count_more, distinct_more, near_sends}
-use Rattle.protocol_model.specs.declared.plans.Planned.{Planned}
-use Rattle.protocol_model.specs.declared.held.OpenCommand.{OpenCommand}
-use Rattle.protocol_model.specs.declared.states.State.{State}
 
 -- ---- a command is sent
 

@@ -1,15 +1,11 @@
 -- No event changes the program of a client or the tools of a server.
-use Rattle.std.proofs.Common.{◌≡◌, ℕ, Bool, true, false, cond, List, [], ◌∷◌, refl, ◌∙◌, Option, Some, None, Result, Ok, Err}
-use Rattle.dme_line.specs.declared.tags.Tag.{Tag}
-use Rattle.dme_line.specs.declared.tags.Tag.TheVariants as tag
-use Rattle.protocol_model.specs.Replies.{Mark, Reply, tag_of, mark_of, tag_is}
-use Rattle.protocol_model.specs.Client.{Client, Table, sends_next, sends_abort, next_number, client_hears, client_read, heard_on}
-use Rattle.protocol_model.specs.Typed.{World, Event, Connect, Accept, ClientSends, ServerReads, ServerReadsOld, ServerTurn, Machine}
-use Rattle.protocol_model.specs.Typed.{ClientReads, ClientLeaves, ServerLeaves, Abort, Resume, ClientRestart, ServerRestart, can, happens}
-use Rattle.protocol_model.specs.Typed.{after, run_of, server_reads, client_reads}
-use Rattle.protocol_model.specs.declared.lines.Line.{Line}
-use Rattle.protocol_model.specs.declared.plans.Planned.{Planned}
-use Rattle.protocol_model.specs.declared.states.Cause.{Cause}
+use Rattle.protocol_model.proofs.Names.{[], ◌∙◌, ◌∷◌, ◌≡◌, Bool, Cause, Client, client_hears, client_read, client_reads, cond, Err, false, heard_on}
+use Rattle.protocol_model.proofs.Names.{Line, List, mark_of, next_number, None, Ok, Option, Planned, refl, Reply, Result, sends_abort, sends_next}
+use Rattle.protocol_model.proofs.Names.{server_reads, ServerReadsOld, Some, Table, Tag, tag_is, tag_of, true, ℕ}
+use Rattle.protocol_model.specs.Replies.{Mark}
+use Rattle.protocol_model.specs.Typed.{Accept, ClientSends, Connect, Event, Machine, ServerReads, ServerTurn, World}
+use Rattle.protocol_model.specs.Typed.{Abort, can, ClientLeaves, ClientReads, ClientRestart, happens, Resume, ServerLeaves, ServerRestart}
+use Rattle.protocol_model.specs.Typed.{after, run_of}
 
 -- the next command of a plan is sent, or finds no free tag: the client's program is the same
 pub sends_program : (c : Client) (ps : List Planned) (n : Option ℕ) → (sends_next c ps n).client.program ≡ c.program
@@ -28,7 +24,7 @@ hears_program c t m (Err cause) = refl
 
 -- a reply is read, expected or not: the client's program is the same
 pub read_program : (c : Client) (t : Tag) (m : Mark) → (client_read c t m).program ≡ c.program
-read_program c t m = go (tag_is t (tag.Event 0))
+read_program c t m = go (tag_is t (Tag.Event 0))
   where
     go : (b : Bool) → (cond b c (client_hears c t m (heard_on c.program.features c.table t m))).program ≡ c.program
     go true = refl
@@ -46,7 +42,7 @@ happens_program : (e : Event) (w : World) → (happens e w).client.program ≡ w
 happens_program Connect w = refl
 happens_program (Accept n) w = refl
 happens_program ClientSends w = sends_program w.client w.client.table.tally.unsent
-    (next_number tag.Std w.client.table.standard w.client.drawn)
+    (next_number Tag.Std w.client.table.standard w.client.drawn)
 happens_program ServerReads w = server_reads_program w w.up
 happens_program (ServerReadsOld reading) w = refl
 happens_program ServerTurn w = refl
@@ -54,7 +50,7 @@ happens_program (Machine outcome) w = refl
 happens_program ClientReads w = client_reads_program w w.down
 happens_program ClientLeaves w = refl
 happens_program ServerLeaves w = refl
-happens_program Abort w = aborts_program w.client (next_number tag.Event w.client.table.event w.client.event_drawn)
+happens_program Abort w = aborts_program w.client (next_number Tag.Event w.client.table.event w.client.event_drawn)
 happens_program Resume w = refl
 happens_program (ClientRestart k) w = refl
 happens_program ServerRestart w = refl

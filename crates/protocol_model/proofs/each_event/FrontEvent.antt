@@ -1,14 +1,8 @@
 -- The command at the start of what a server has to do: it fails, or it is done.
-use Rattle.std.proofs.Common.{◌≡◌, ℕ, suc, Bool, true, false, ◌||◌, List, [], ◌∷◌, ◌++◌, refl, sym, ◌∙◌, ap, subst, append_assoc, Option}
-use Rattle.std.proofs.Common.{Some, None}
-use Rattle.std.proofs.lemmas.Bool.{false≢true}
-use Rattle.dme_line.specs.Kinds.{kind_of}
-use Rattle.dmis_program.specs.declared.features.Wanted.{Wanted}
-use Rattle.protocol_model.specs.Replies.{Reply}
-use Rattle.protocol_model.specs.Client.{Table, Tally, act_of, begins_session, measured, counted_next, tells_homed, passed_over}
-use Rattle.protocol_model.specs.Open.{asks_homed}
-use Rattle.protocol_model.specs.Server.{Server, answers, fails, all_fail}
-use Rattle.protocol_model.specs.Claims.{contacts}
+use Rattle.protocol_model.proofs.Names.{[], ◌++◌, ◌||◌, ◌∙◌, ◌∷◌, ◌≡◌, act_of, all_fail, answers, ap, append_assoc, asks_homed, begins_session, Bool}
+use Rattle.protocol_model.proofs.Names.{contacts, counted_next, Datum, Does, fails, false, false≢true, kind_of, Line, List, measured, None}
+use Rattle.protocol_model.proofs.Names.{OpenCommand, Option, passed_over, Planned, refl, Reply, Server, Some, subst, suc, sym, Table, Tally}
+use Rattle.protocol_model.proofs.Names.{tells_homed, true, Wanted, ℕ}
 use Rattle.protocol_model.specs.Typed.{World}
 use Rattle.protocol_model.proofs.table.Replying.{tabled, Reads}
 use Rattle.protocol_model.proofs.plan.Fitting.{known_by, KnowsMore, FitsOne, Fits, fits_more, IsSane}
@@ -26,11 +20,6 @@ use Rattle.protocol_model.proofs.invariant.Holding.{commands_of, commands_in, Ar
 use Rattle.protocol_model.proofs.invariant.Holding.{IsAskedLast, IsTidy, know_of}
 use Rattle.protocol_model.proofs.invariant.LineFacts.{standard_before, standard_behind, clear_first_none, no_clears_behind, IsFirstStep}
 use Rattle.protocol_model.proofs.invariant.LineFacts.{asked_behind, first_step, no_steps}
-use Rattle.protocol_model.specs.declared.lines.Line.{Line}
-use Rattle.protocol_model.specs.declared.plans.Planned.{Planned}
-use Rattle.protocol_model.specs.declared.plans.Does.{Does}
-use Rattle.protocol_model.specs.declared.held.Datum.{Datum}
-use Rattle.protocol_model.specs.declared.held.OpenCommand.{OpenCommand}
 
 -- the first command that the server has to do, on its client's connection, with those that wait and those that come
 pub record IsAtFront (w : World) (table : Table) (left : List Wanted) (x : Line) (queued coming : List Line) (aborts : List ℕ) : Type 0

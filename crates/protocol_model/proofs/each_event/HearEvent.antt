@@ -1,21 +1,13 @@
 -- The client reads a reply, and all that holds is kept.
-use Rattle.std.proofs.Common.{◌≡◌, ◌≤◌, Bool, true, false, cond, ◌&&◌, List, [], ◌∷◌, refl, sym, ◌∙◌, ap, subst, arith, Option, Some, None}
-use Rattle.std.proofs.Common.{eqb, eqb-true}
-use Rattle.std.proofs.lemmas.Bool.{false≢true}
-use Rattle.dme_line.specs.Tags.{is_event_tag}
-use Rattle.dme_line.specs.declared.tags.Tag.{Tag}
-use Rattle.dme_line.specs.declared.tags.Tag.TheVariants.{Std, Event}
-use Rattle.protocol_model.specs.Replies.{Mark, tag_is}
-use Rattle.protocol_model.specs.Open.{Effect, Becomes, Closes, Counts, judged, judged_ack, judged_given, heard_in, is_failed, asks_data}
-use Rattle.protocol_model.specs.Open.{fits, count_open}
-use Rattle.protocol_model.specs.Client.{Table, ends_abort, first_state, last_state, is_whole, state_behind}
+use Rattle.protocol_model.proofs.Names.{[], ◌&&◌, ◌∙◌, ◌∷◌, ◌≡◌, ◌≤◌, ap, arith, asks_data, Becomes, Bool, Closes, cond, count_open, Counts, Datum}
+use Rattle.protocol_model.proofs.Names.{Effect, ends_abort, eqb, eqb-true, false, false≢true, first_state, fits, heard_in, is_event_tag, is_failed}
+use Rattle.protocol_model.proofs.Names.{is_whole, judged, judged_ack, judged_given, last_state, List, None, OpenCommand, Option, refl, Some, Stage}
+use Rattle.protocol_model.proofs.Names.{State, state_behind, Std, subst, sym, Table, Tag, tag_is, true}
+use Rattle.dme_line.specs.declared.tags.Tag.TheVariants.{Event}
+use Rattle.protocol_model.specs.Replies.{Mark}
 use Rattle.protocol_model.proofs.table.Walks.{two, staged, heard_cases}
 use Rattle.protocol_model.proofs.table.Counts.{is_error, no_break, done_moves}
 use Rattle.protocol_model.proofs.invariant.Holding.{HasEvents, HasState}
-use Rattle.protocol_model.specs.declared.held.Datum.{Datum}
-use Rattle.protocol_model.specs.declared.held.Stage.{Stage}
-use Rattle.protocol_model.specs.declared.held.OpenCommand.{OpenCommand}
-use Rattle.protocol_model.specs.declared.states.State.{State}
 
 -- ---- states
 

@@ -1,17 +1,12 @@
 -- The client reads a reply: all that holds is kept.
-use Rattle.std.proofs.Common.{◌≡◌, ◌≤◌, ◌⊎◌, inl, inr, Bool, true, false, not, List, [], ◌∷◌, refl, sym, ◌∙◌, ap, subst, Option, Some, None}
-use Rattle.std.proofs.Common.{Result, le_trans}
-use Rattle.std.proofs.lemmas.Bool.{false≢true}
-use Rattle.dme_line.specs.Tags.{is_event_tag}
-use Rattle.dme_line.specs.declared.tags.Tag.{Tag}
-use Rattle.dme_line.specs.declared.tags.Tag.TheVariants.{Std, Event}
-use Rattle.dmis_program.specs.declared.features.Wanted.{Wanted}
-use Rattle.protocol_model.specs.Replies.{Mark, Reply, tag_of, mark_of, tag_is}
-use Rattle.protocol_model.specs.Open.{Effect, heard_in, count_open}
-use Rattle.protocol_model.specs.Client.{Client, Table, heard_on, ends_abort, first_state, last_state, is_whole, state_behind}
+use Rattle.protocol_model.proofs.Names.{[], ◌∙◌, ◌∷◌, ◌≡◌, ◌≤◌, ◌⊎◌, ap, Bool, Cause, Client, client_hears, client_read, client_reads, count_open}
+use Rattle.protocol_model.proofs.Names.{Effect, ends_abort, false, false≢true, first_state, heard_in, heard_on, inl, inr, is_event_tag, is_whole}
+use Rattle.protocol_model.proofs.Names.{last_state, le_trans, List, mark_of, None, not, OpenCommand, Option, refl, Reply, Result, Some, State}
+use Rattle.protocol_model.proofs.Names.{state_behind, Std, subst, sym, Table, Tag, tag_is, tag_of, true, Wanted}
+use Rattle.dme_line.specs.declared.tags.Tag.TheVariants.{Event}
+use Rattle.protocol_model.specs.Replies.{Mark}
 use Rattle.protocol_model.proofs.HeardTables.{heard}
-use Rattle.protocol_model.specs.Client.{client_hears, client_read}
-use Rattle.protocol_model.specs.Typed.{World, client_reads}
+use Rattle.protocol_model.specs.Typed.{World}
 use Rattle.protocol_model.proofs.table.Basics.{if_true, if_false}
 use Rattle.protocol_model.proofs.table.Walks.{two, staged, AreDistinct}
 use Rattle.protocol_model.proofs.table.Counts.{failed_tags, is_error, none_fails, one_fails, none_left}
@@ -19,12 +14,9 @@ use Rattle.protocol_model.proofs.table.Replying.{fine, step_cases, Reads, step_c
 use Rattle.protocol_model.proofs.invariant.Holding.{IsAborting, HasEvents, IsTidy, tags_of, IsLive, IsOff, IsHere, IsAhead, IsGone, Inv}
 use Rattle.protocol_model.proofs.each_event.HearEvent.{has_state, standard_events, failing_events, AbortLeft, there, gone, IsAbortReply}
 use Rattle.protocol_model.proofs.each_event.HearEvent.{abort_reply}
-use Rattle.protocol_model.specs.declared.states.Cause.{Cause}
-use Rattle.protocol_model.specs.declared.held.OpenCommand.{OpenCommand}
 use Rattle.protocol_model.proofs.plan.Marks.{HasNoAbort}
 use Rattle.protocol_model.proofs.plan.PassedOver.{passed_no_abort}
 use Rattle.protocol_model.proofs.table.Asking.{step_leaves}
-use Rattle.protocol_model.specs.declared.states.State.{State}
 
 event_events : (state : State) (abort : Option Tag) (event hs : List OpenCommand) (t : Tag) (m : Mark) (e : Effect) (b : Table)
     → HasEvents state abort event → heard_in true event t m ≡ two hs e → is_error m ≡ false

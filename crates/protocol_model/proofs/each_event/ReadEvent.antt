@@ -1,20 +1,9 @@
 -- The server reads a line of its client.
-use Rattle.std.proofs.Common.{◌≡◌, ℕ, ◌≤◌, Bool, true, false, not, ◌&&◌, ◌||◌, List, [], ◌∷◌, ◌++◌, length, refl, sym, ◌∙◌, ap, subst}
-use Rattle.std.proofs.Common.{arith, append_assoc, append-nil, Option, Some, None, Ok, nat_le}
-use Rattle.std.proofs.lemmas.Bool.{false≢true, lt-leb}
-use Rattle.fixed_um.specs.declared.lengths.Point.{Point}
-use Rattle.dme_line.specs.Kinds.{kind_of}
-use Rattle.dme_line.specs.Tags.{is_event_tag}
-use Rattle.dme_line.specs.declared.tags.Tag.{Tag}
-use Rattle.dme_line.specs.declared.commands.Kind.{Kind}
-use Rattle.contact_ledger.specs.declared.features.Feature.{Feature}
-use Rattle.dmis_program.specs.declared.features.Wanted.{Wanted}
-use Rattle.protocol_model.specs.Replies.{Reply}
-use Rattle.protocol_model.specs.Open.{count_open, is_held}
-use Rattle.protocol_model.specs.Client.{Table, Tally, is_clearing}
-use Rattle.protocol_model.specs.Server.{Server, Answer, answers, fails, all_fail, queued, runs_under, waits_under, is_abort, is_clear}
-use Rattle.protocol_model.specs.Server.{running_fails, aborted, stands, server_read}
-use Rattle.protocol_model.specs.Claims.{MadeContact, contacts}
+use Rattle.protocol_model.proofs.Names.{[], ◌&&◌, ◌++◌, ◌||◌, ◌∙◌, ◌∷◌, ◌≡◌, ◌≤◌, aborted, all_fail, Answer, answers, ap, append-nil, append_assoc}
+use Rattle.protocol_model.proofs.Names.{arith, Bool, contacts, count_open, fails, false, false≢true, Feature, is_abort, is_clear, is_clearing}
+use Rattle.protocol_model.proofs.Names.{is_event_tag, is_held, Kind, kind_of, length, Line, List, lt-leb, MadeContact, nat_le, None, not, Ok}
+use Rattle.protocol_model.proofs.Names.{OpenCommand, Option, Planned, Point, queued, refl, Reply, running_fails, runs_under, Server, server_read}
+use Rattle.protocol_model.proofs.Names.{Some, stands, subst, sym, Table, Tag, Tally, true, Waiting, waits_under, Wanted, ℕ}
 use Rattle.protocol_model.specs.Typed.{World}
 use Rattle.protocol_model.proofs.table.Basics.{if_true, if_false}
 use Rattle.protocol_model.proofs.table.Walks.{AreDistinct}
@@ -30,10 +19,6 @@ use Rattle.protocol_model.proofs.invariant.Holding.{IsClearFirst, IsAskedLast, I
 use Rattle.protocol_model.proofs.invariant.LineFacts.{apart_from, not_in_use, event_not_in_use, standard_behind, clear_first_none}
 use Rattle.protocol_model.proofs.invariant.LineFacts.{wait_more, one_behind, received_behind, few_wait, wait_long, clear_same, no_steps}
 use Rattle.protocol_model.proofs.invariant.LineFacts.{IsFirstStep, first_step}
-use Rattle.protocol_model.specs.declared.lines.Line.{Line}
-use Rattle.protocol_model.specs.declared.plans.Planned.{Planned}
-use Rattle.protocol_model.specs.declared.held.OpenCommand.{OpenCommand}
-use Rattle.protocol_model.specs.declared.lines.Waiting.{Waiting}
 
 -- ---- an answer that says no act
 

@@ -1,16 +1,10 @@
 -- The events of the server keep all that holds.
-use Rattle.std.proofs.Common.{◌≡◌, ℕ, ◌<◌, ◌≤◌, ◌⊎◌, inl, inr, Bool, true, false, not, ◌&&◌, List, [], ◌∷◌, ◌++◌, refl, sym, ◌∙◌, ap, subst}
-use Rattle.std.proofs.Common.{arith, Option, Some, None, Ok, eqb, eqb-true, nat_lt, nat_le, is_none, le_trans}
-use Rattle.std.proofs.lemmas.Bool.{false≢true, and_parts, ltb-true, leb-true, eqb-false}
-use Rattle.contact_ledger.specs.declared.acts.Act.{Act}
-use Rattle.dmis_program.specs.declared.features.Wanted.{Wanted}
-use Rattle.protocol_model.specs.Replies.{Reading}
-use Rattle.protocol_model.specs.Plan.{is_empty}
-use Rattle.protocol_model.specs.Open.{count_open}
-use Rattle.protocol_model.specs.Client.{Table}
-use Rattle.protocol_model.specs.Server.{Answer, server_accepted, server_read, server_turned, server_machined, server_left, server_restarted}
-use Rattle.protocol_model.specs.Server.{may_end}
-use Rattle.protocol_model.specs.Typed.{World, answered, server_reads}
+use Rattle.protocol_model.proofs.Names.{[], ◌&&◌, ◌++◌, ◌<◌, ◌∙◌, ◌∷◌, ◌≡◌, ◌≤◌, ◌⊎◌, Act, and_parts, Answer, answered, ap, arith, Bool, count_open}
+use Rattle.protocol_model.proofs.Names.{eqb, eqb-false, eqb-true, false, false≢true, inl, inr, is_empty, is_none, le_trans, leb-true, Line, List}
+use Rattle.protocol_model.proofs.Names.{ltb-true, may_end, nat_le, nat_lt, None, not, Ok, Option, Outcome, Reading, refl, server_accepted}
+use Rattle.protocol_model.proofs.Names.{server_left, server_machined, server_read, server_reads, server_restarted, server_turned, Some, subst, sym}
+use Rattle.protocol_model.proofs.Names.{Table, true, Waiting, Wanted, ℕ}
+use Rattle.protocol_model.specs.Typed.{World}
 use Rattle.protocol_model.proofs.table.Replying.{reads_counts, reads_distinct}
 use Rattle.protocol_model.proofs.plan.Fitting.{Know, unknown, KnowsMore, more_than_nothing, fits_more}
 use Rattle.protocol_model.proofs.invariant.Served.{up_to_above}
@@ -20,9 +14,6 @@ use Rattle.protocol_model.proofs.each_event.ReadEvent.{reads_standard, reads_abo
 use Rattle.protocol_model.proofs.each_event.WorkEvent.{turned_here, machined_here}
 use Rattle.protocol_model.proofs.invariant.Holding.{abort_line, abort_lines, IsNearBy, IsNear, IsLive, IsOff, IsHere, IsAhead, IsGone}
 use Rattle.protocol_model.proofs.invariant.Holding.{IsIdle, Inv, know_of}
-use Rattle.protocol_model.specs.declared.lines.Line.{Line}
-use Rattle.protocol_model.specs.declared.lines.Waiting.{Waiting}
-use Rattle.protocol_model.specs.declared.machine.Outcome.{Outcome}
 
 -- ---- a line is read
 

@@ -1,13 +1,10 @@
 -- Every event keeps what always holds, and so does every list of events.
-use Rattle.std.proofs.Common.{◌≡◌, ℕ, ◌≤◌, inl, Bool, true, false, cond, not, List, [], ◌∷◌, refl, subst, arith}
-use Rattle.std.proofs.lemmas.Bool.{false≢true, and_parts}
-use Rattle.dmis_program.specs.Meaning.{Meaning as Program}
-use Rattle.dmis_program.specs.Programs.{IsProgram}
+use Rattle.protocol_model.proofs.Names.{[], ◌∷◌, ◌≡◌, ◌≢◌, ◌≤◌, and_parts, arith, Bool, cond, false, false≢true, inl, IsProgram, List}
+use Rattle.protocol_model.proofs.Names.{Meaning as Program, not, refl, ServerReadsOld, Sound, State, subst, Told, true, ℕ}
 use Rattle.protocol_model.proofs.plan.Blocks.{IsPlain, program_is_plain}
-use Rattle.protocol_model.specs.Claims.{Sound, Told}
-use Rattle.protocol_model.specs.Typed.{World, Event, Connect, Accept, ClientSends, ServerReads, ServerReadsOld, ServerTurn, Machine}
-use Rattle.protocol_model.specs.Typed.{ClientReads, ClientLeaves, ServerLeaves, Abort, Resume, ClientRestart, ServerRestart, start, can}
-use Rattle.protocol_model.specs.Typed.{happens, after, run_of}
+use Rattle.protocol_model.specs.Typed.{Accept, ClientSends, Connect, Event, Machine, ServerReads, ServerTurn, World}
+use Rattle.protocol_model.specs.Typed.{Abort, can, ClientLeaves, ClientReads, ClientRestart, Resume, ServerLeaves, ServerRestart, start}
+use Rattle.protocol_model.specs.Typed.{after, happens, run_of}
 use Rattle.protocol_model.proofs.invariant.Served.{served_sound}
 use Rattle.protocol_model.proofs.invariant.Holding.{Inv}
 use Rattle.protocol_model.proofs.each_event.ServerEvents.{reads_event, reads_old_event, turn_event, machine_event, accept_event, left_event}
@@ -18,8 +15,6 @@ use Rattle.protocol_model.proofs.each_event.ClientWrites.{sends_event}
 use Rattle.protocol_model.proofs.each_event.ClientResumes.{abort_event, resume_event}
 use Rattle.protocol_model.proofs.each_event.Hearing.{hear_event}
 use Rattle.protocol_model.proofs.each_event.Constant.{run_program}
-use Rattle.std.proofs.Common.{◌≢◌}
-use Rattle.protocol_model.specs.declared.states.State.{State}
 
 not_true : (b : Bool) → not b ≡ true → b ≡ false
 not_true false e = refl

@@ -1,26 +1,9 @@
 -- The first waiting command is processed, and the machine is done with what runs.
-use Rattle.std.proofs.Common.{◌≡◌, ℕ, Bool, true, false, List, [], ◌∷◌, ◌++◌, refl, sym, ◌∙◌, ap, subst, append-nil, Option, Some, None, Ok}
-use Rattle.std.proofs.lemmas.Bool.{false≢true}
-use Rattle.fixed_um.specs.Shapes.{Direction}
-use Rattle.fixed_um.specs.Points.{point_difference}
-use Rattle.fixed_um.specs.declared.lengths.Point.{Point}
-use Rattle.fixed_um.specs.declared.frames.Frame.{Frame}
-use Rattle.dme_line.specs.Kinds.{kind_of}
-use Rattle.dme_line.specs.declared.tags.Tag.{Tag}
-use Rattle.dme_line.specs.declared.commands.Csy.{Csy}
-use Rattle.dme_line.specs.declared.commands.Csy.TheVariants.{MachineCsy, PartCsy}
-use Rattle.dme_line.specs.declared.commands.Command.{Command}
-use Rattle.dme_line.specs.declared.commands.Command.TheVariants as command
-use Rattle.contact_ledger.specs.declared.acts.Act.{Act}
-use Rattle.contact_ledger.specs.declared.acts.Act.TheVariants as act
-use Rattle.dmis_program.specs.declared.features.Wanted.{Wanted}
-use Rattle.protocol_model.specs.Replies.{Reply}
-use Rattle.fixed_um.specs.Points.{point_opposite}
-use Rattle.protocol_model.specs.Client.{Table, act_of, counted_next}
-use Rattle.protocol_model.specs.Server.{Server, answers, fails, all_fail, in_error, acted, refusal, frame_of, carried_out, taken, turned_to}
-use Rattle.protocol_model.specs.Server.{server_turned, offset, stopped, idle, finished, touched, machined, server_machined, has_outcome}
-use Rattle.protocol_model.specs.Server.{may_end}
-use Rattle.protocol_model.specs.Claims.{contacts}
+use Rattle.protocol_model.proofs.Names.{[], ◌++◌, ◌∙◌, ◌∷◌, ◌≡◌, Act, act_of, acted, all_fail, answers, ap, append-nil, Bool, carried_out, Command}
+use Rattle.protocol_model.proofs.Names.{contacts, counted_next, Csy, Datum, Direction, Does, fails, false, false≢true, finished, Frame, frame_of}
+use Rattle.protocol_model.proofs.Names.{has_outcome, idle, in_error, kind_of, Line, List, MachineCsy, machined, may_end, None, offset, Ok, Option}
+use Rattle.protocol_model.proofs.Names.{Outcome, PartCsy, Point, point_difference, point_opposite, refl, refusal, Reply, Server, server_machined}
+use Rattle.protocol_model.proofs.Names.{server_turned, Some, stopped, subst, sym, Table, Tag, taken, touched, true, turned_to, Waiting, Wanted, ℕ}
 use Rattle.protocol_model.specs.Typed.{World}
 use Rattle.protocol_model.proofs.table.Replying.{tabled, Reads}
 use Rattle.protocol_model.proofs.plan.Fitting.{known_by, known_frame, KnowsMore, more_refl, more_than_nothing, FitsTouch, FitsFrame}
@@ -34,12 +17,6 @@ use Rattle.protocol_model.proofs.invariant.Touching.{HasDatum}
 use Rattle.protocol_model.proofs.each_event.FrontEvent.{IsAtFront, at_front, front_fails, front_done}
 use Rattle.protocol_model.proofs.invariant.Holding.{listed, received, all_received, all_sent, waits, all_wait, commands_in, AreStandard}
 use Rattle.protocol_model.proofs.invariant.Holding.{IsClearFirst, IsAskedLast, IsNearBy, know_of}
-use Rattle.protocol_model.specs.declared.lines.Line.{Line}
-use Rattle.protocol_model.specs.declared.held.Datum.{Datum}
-use Rattle.protocol_model.specs.declared.held.Datum.TheVariants as datum
-use Rattle.protocol_model.specs.declared.plans.Does.{Does}
-use Rattle.protocol_model.specs.declared.lines.Waiting.{Waiting}
-use Rattle.protocol_model.specs.declared.machine.Outcome.{Outcome}
 
 -- ---- a turn
 
@@ -111,42 +88,42 @@ turns : (w : World) (table : Table) (left : List Wanted) (t : Tag) (c : Command)
     → IsAtFront w table left (record { tag = t; command = c }) queued coming aborts → w.server.last ≡ w.client.last
     → w.server.running ≡ None → w.server.error ≡ false
     → IsAnswered w table w.up (carried_out (record (w.server) { waiting = all_wait queued }) t c)
-turns w table left t command.StartSession queued coming aborts f same no_run error =
-    turn_quiet w table left (record { tag = t; command = command.StartSession }) queued coming aborts
+turns w table left t Command.StartSession queued coming aborts f same no_run error =
+    turn_quiet w table left (record { tag = t; command = Command.StartSession }) queued coming aborts
     (record (w.server) { waiting = all_wait queued; session = true }) f f.one
     (record { on = refl; last = refl; ledger = sym (append-nil w.server.ledger) }) same no_run refl error (more_refl (know_of w.server))
-    (done_first w.client.program.features (record { tag = t; command = command.StartSession }) (all_received queued ++ all_sent coming)
+    (done_first w.client.program.features (record { tag = t; command = Command.StartSession }) (all_received queued ++ all_sent coming)
     table.event table.tally f.standard.0 f.calm refl)
-turns w table left t command.EndSession queued coming aborts f same no_run error =
-    turn_quiet w table left (record { tag = t; command = command.EndSession }) queued coming aborts
+turns w table left t Command.EndSession queued coming aborts f same no_run error =
+    turn_quiet w table left (record { tag = t; command = Command.EndSession }) queued coming aborts
     (record (w.server) { waiting = all_wait queued; session = false }) f f.one
     (record { on = refl; last = refl; ledger = sym (append-nil w.server.ledger) }) same no_run refl error (more_refl (know_of w.server))
-    (done_first w.client.program.features (record { tag = t; command = command.EndSession }) (all_received queued ++ all_sent coming)
+    (done_first w.client.program.features (record { tag = t; command = Command.EndSession }) (all_received queued ++ all_sent coming)
     table.event table.tally f.standard.0 f.calm refl)
-turns w table left t command.ClearAllErrors queued coming aborts f same no_run error =
-    turn_quiet w table left (record { tag = t; command = command.ClearAllErrors }) queued coming aborts
+turns w table left t Command.ClearAllErrors queued coming aborts f same no_run error =
+    turn_quiet w table left (record { tag = t; command = Command.ClearAllErrors }) queued coming aborts
     (record (w.server) { waiting = all_wait queued }) f f.one
     (record { on = refl; last = refl; ledger = sym (append-nil w.server.ledger) }) same no_run refl error
     (more_than_nothing (know_of w.server))
-    (done_first w.client.program.features (record { tag = t; command = command.ClearAllErrors }) (all_received queued ++ all_sent coming)
+    (done_first w.client.program.features (record { tag = t; command = Command.ClearAllErrors }) (all_received queued ++ all_sent coming)
     table.event table.tally f.standard.0 f.calm refl)
-turns w table left t command.OnPtMeasReport queued coming aborts f same no_run error =
-    turn_quiet w table left (record { tag = t; command = command.OnPtMeasReport }) queued coming aborts
+turns w table left t Command.OnPtMeasReport queued coming aborts f same no_run error =
+    turn_quiet w table left (record { tag = t; command = Command.OnPtMeasReport }) queued coming aborts
     (record (w.server) { waiting = all_wait queued }) f f.one
     (record { on = refl; last = refl; ledger = sym (append-nil w.server.ledger) }) same no_run refl error (more_refl (know_of w.server))
-    (done_first w.client.program.features (record { tag = t; command = command.OnPtMeasReport }) (all_received queued ++ all_sent coming)
+    (done_first w.client.program.features (record { tag = t; command = Command.OnPtMeasReport }) (all_received queued ++ all_sent coming)
     table.event table.tally f.standard.0 f.calm refl)
-turns w table left t (command.SetCsyTransformation p) queued coming aborts f same no_run error =
+turns w table left t (Command.SetCsyTransformation p) queued coming aborts f same no_run error =
     let s : Server = record (w.server) { waiting = all_wait queued; stored = point_opposite p } in
-    turn_quiet w table left (record { tag = t; command = command.SetCsyTransformation p }) queued coming aborts s f f.one
+    turn_quiet w table left (record { tag = t; command = Command.SetCsyTransformation p }) queued coming aborts s f f.one
     (record { on = refl; last = refl; ledger = sym (append-nil w.server.ledger) }) same no_run refl error (more_refl (know_of s))
-    (done_first w.client.program.features (record { tag = t; command = command.SetCsyTransformation p }) (all_received queued
+    (done_first w.client.program.features (record { tag = t; command = Command.SetCsyTransformation p }) (all_received queued
     ++ all_sent coming) table.event table.tally f.standard.0 f.calm refl)
-turns w table left t (command.SetCoordSystem system) queued coming aborts f same no_run error =
-    let x : Line = record { tag = t; command = command.SetCoordSystem system } in
+turns w table left t (Command.SetCoordSystem system) queued coming aborts f same no_run error =
+    let x : Line = record { tag = t; command = Command.SetCoordSystem system } in
     let selects : FitsFrame (know_of w.server) system f.does = f.one in
     let frame : Frame = frame_of system w.server.stored in
-    let s : Server = acted (act.Framed frame) (record (w.server) { waiting = all_wait queued; frame = frame }) in
+    let s : Server = acted (Act.Framed frame) (record (w.server) { waiting = all_wait queued; frame = frame }) in
     let does : f.does ≡ Does.Frames frame = selects.is ∙ ap (λ (g : Frame). Does.Frames g)
     (sym (frame_selected system w.server.stored selects.frame selects.known)) in
     front_done w table left x queued coming aborts s (Reply.Done t ∷ []) None f
@@ -155,33 +132,33 @@ turns w table left t (command.SetCoordSystem system) queued coming aborts f same
     (knows_frame w.server.tool system w.server.stored)
     (subst (λ (d : Does). HasDatum d None) (sym does) tt)
     (done_first w.client.program.features x (all_received queued ++ all_sent coming) table.event table.tally f.standard.0 f.calm refl) tt
-turns w table left t command.IsHomed queued coming aborts f same no_run error =
-    let x : Line = record { tag = t; command = command.IsHomed } in
-    let homed : Datum = datum.Homed w.server.homed in
-    let s : Server = acted (act.HomedIs w.server.homed) (record (w.server) { waiting = all_wait queued }) in
+turns w table left t Command.IsHomed queued coming aborts f same no_run error =
+    let x : Line = record { tag = t; command = Command.IsHomed } in
+    let homed : Datum = Datum.Homed w.server.homed in
+    let s : Server = acted (Act.HomedIs w.server.homed) (record (w.server) { waiting = all_wait queued }) in
     front_done w table left x queued coming aborts s (Reply.Given t homed ∷ Reply.Done t ∷ []) (Some homed) f
     (subst (λ (d : Does). Moves w.server s (act_of d (Some homed))) (sym f.one) (record { on = refl; last = refl; ledger = refl })) same
     no_run refl error (more_refl (know_of w.server))
     (subst (λ (d : Does). HasDatum d (Some homed)) (sym f.one) tt)
     (given_first w.client.program.features x homed (all_received queued ++ all_sent coming) table.event table.tally f.standard.0 f.calm
     refl) tt
-turns w table left t command.Home queued coming aborts f same no_run error =
-    let x : Line = record { tag = t; command = command.Home } in
+turns w table left t Command.Home queued coming aborts f same no_run error =
+    let x : Line = record { tag = t; command = Command.Home } in
     turn_runs w table left x queued coming aborts (record (w.server) { waiting = all_wait queued; homed = false; running = Some x }) f
     (record { on = refl; last = refl; ledger = sym (append-nil w.server.ledger) }) refl refl error (f.one, f.rest)
-turns w table left t (command.ChangeTool n) queued coming aborts f same no_run error =
-    let x : Line = record { tag = t; command = command.ChangeTool n } in
+turns w table left t (Command.ChangeTool n) queued coming aborts f same no_run error =
+    let x : Line = record { tag = t; command = Command.ChangeTool n } in
     turn_runs w table left x queued coming aborts (record (w.server) { waiting = all_wait queued; tool = None; running = Some x }) f
     (record { on = refl; last = refl; ledger = sym (append-nil w.server.ledger) }) refl refl error (f.one, f.rest)
-turns w table left t (command.GoTo p) queued coming aborts f same no_run error =
-    let x : Line = record { tag = t; command = command.GoTo p } in
+turns w table left t (Command.GoTo p) queued coming aborts f same no_run error =
+    let x : Line = record { tag = t; command = Command.GoTo p } in
     turn_runs w table left x queued coming aborts (record (w.server) { waiting = all_wait queued; running = Some x }) f
     (record { on = refl; last = refl; ledger = sym (append-nil w.server.ledger) }) refl refl error (f.one, f.rest)
-turns w table left t (command.PtMeas p d) queued coming aborts f same no_run error =
-    let x : Line = record { tag = t; command = command.PtMeas p d } in
+turns w table left t (Command.PtMeas p d) queued coming aborts f same no_run error =
+    let x : Line = record { tag = t; command = Command.PtMeas p d } in
     turn_runs w table left x queued coming aborts (record (w.server) { waiting = all_wait queued; running = Some x }) f
     (record { on = refl; last = refl; ledger = sym (append-nil w.server.ledger) }) refl refl error (f.one, f.rest)
-turns w table left t command.AbortE queued coming aborts f same no_run error = absurd f.one
+turns w table left t Command.AbortE queued coming aborts f same no_run error = absurd f.one
 
 -- the turn of the first that waits
 pub turned_here : (w : World) (table : Table) (left : List Wanted) (now coming : List Line) (aborts : List ℕ)
@@ -232,62 +209,62 @@ finishes : (w : World) (table : Table) (left : List Wanted) (t : Tag) (c : Comma
     → IsAtFront w table left (record { tag = t; command = c }) queued coming aborts → w.server.last ≡ w.client.last
     → w.server.waiting ≡ all_wait queued → w.server.error ≡ false
     → has_outcome c Outcome.Done ≡ true → IsAnswered w table w.up (finished w.server t c)
-finishes w table left t command.Home queued coming aborts f same waiting error can =
-    machine_done w table left (record { tag = t; command = command.Home }) queued coming aborts
-    (acted act.Homed (record (idle w.server) { homed = true })) Does.Homes (act.Homed ∷ []) f f.one refl tt
+finishes w table left t Command.Home queued coming aborts f same waiting error can =
+    machine_done w table left (record { tag = t; command = Command.Home }) queued coming aborts
+    (acted Act.Homed (record (idle w.server) { homed = true })) Does.Homes (Act.Homed ∷ []) f f.one refl tt
     (record { on = refl; last = refl; ledger = refl }) same refl waiting error (more_refl (know_of w.server))
-    (done_first w.client.program.features (record { tag = t; command = command.Home }) (all_received queued ++ all_sent coming) table.event
+    (done_first w.client.program.features (record { tag = t; command = Command.Home }) (all_received queued ++ all_sent coming) table.event
     table.tally f.standard.0 f.calm refl)
-finishes w table left t (command.ChangeTool n) queued coming aborts f same waiting error can =
-    machine_done w table left (record { tag = t; command = command.ChangeTool n }) queued coming aborts
-    (acted (act.Changed n) (record (idle w.server) { tool = Some n })) (Does.Changes n) (act.Changed n ∷ []) f f.one refl tt
+finishes w table left t (Command.ChangeTool n) queued coming aborts f same waiting error can =
+    machine_done w table left (record { tag = t; command = Command.ChangeTool n }) queued coming aborts
+    (acted (Act.Changed n) (record (idle w.server) { tool = Some n })) (Does.Changes n) (Act.Changed n ∷ []) f f.one refl tt
     (record { on = refl; last = refl; ledger = refl }) same refl waiting error
     (more_refl (record { tool = Some n; frame = Some w.server.frame; stored = Some w.server.stored }))
-    (done_first w.client.program.features (record { tag = t; command = command.ChangeTool n }) (all_received queued ++ all_sent coming)
+    (done_first w.client.program.features (record { tag = t; command = Command.ChangeTool n }) (all_received queued ++ all_sent coming)
     table.event table.tally f.standard.0 f.calm refl)
-finishes w table left t (command.GoTo p) queued coming aborts f same waiting error can =
+finishes w table left t (Command.GoTo p) queued coming aborts f same waiting error can =
     let moves : FitsMove (know_of w.server) p f.does = f.one in
     let frame : w.server.frame ≡ moves.frame = some_is w.server.frame moves.frame moves.known in
-    machine_done w table left (record { tag = t; command = command.GoTo p }) queued coming aborts
-    (acted (act.Moved p w.server.frame) (idle w.server)) (Does.Moves p w.server.frame) (act.Moved p w.server.frame ∷ []) f
+    machine_done w table left (record { tag = t; command = Command.GoTo p }) queued coming aborts
+    (acted (Act.Moved p w.server.frame) (idle w.server)) (Does.Moves p w.server.frame) (Act.Moved p w.server.frame ∷ []) f
     (moves.is ∙ ap (λ (g : Frame). Does.Moves p g) (sym frame)) refl tt
     (record { on = refl; last = refl; ledger = refl }) same refl waiting error (more_refl (know_of w.server))
-    (done_first w.client.program.features (record { tag = t; command = command.GoTo p }) (all_received queued ++ all_sent coming)
+    (done_first w.client.program.features (record { tag = t; command = Command.GoTo p }) (all_received queued ++ all_sent coming)
     table.event table.tally f.standard.0 f.calm refl)
-finishes w table left t command.IsHomed queued coming aborts f same waiting error can = absurd (false≢true can)
-finishes w table left t command.StartSession queued coming aborts f same waiting error can = absurd (false≢true can)
-finishes w table left t command.EndSession queued coming aborts f same waiting error can = absurd (false≢true can)
-finishes w table left t command.ClearAllErrors queued coming aborts f same waiting error can = absurd (false≢true can)
-finishes w table left t command.OnPtMeasReport queued coming aborts f same waiting error can = absurd (false≢true can)
-finishes w table left t (command.PtMeas p d) queued coming aborts f same waiting error can = absurd (false≢true can)
-finishes w table left t (command.SetCsyTransformation p) queued coming aborts f same waiting error can = absurd (false≢true can)
-finishes w table left t (command.SetCoordSystem system) queued coming aborts f same waiting error can = absurd (false≢true can)
-finishes w table left t command.AbortE queued coming aborts f same waiting error can = absurd (false≢true can)
+finishes w table left t Command.IsHomed queued coming aborts f same waiting error can = absurd (false≢true can)
+finishes w table left t Command.StartSession queued coming aborts f same waiting error can = absurd (false≢true can)
+finishes w table left t Command.EndSession queued coming aborts f same waiting error can = absurd (false≢true can)
+finishes w table left t Command.ClearAllErrors queued coming aborts f same waiting error can = absurd (false≢true can)
+finishes w table left t Command.OnPtMeasReport queued coming aborts f same waiting error can = absurd (false≢true can)
+finishes w table left t (Command.PtMeas p d) queued coming aborts f same waiting error can = absurd (false≢true can)
+finishes w table left t (Command.SetCsyTransformation p) queued coming aborts f same waiting error can = absurd (false≢true can)
+finishes w table left t (Command.SetCoordSystem system) queued coming aborts f same waiting error can = absurd (false≢true can)
+finishes w table left t Command.AbortE queued coming aborts f same waiting error can = absurd (false≢true can)
 
 -- a touch
 touch_by : (w : World) (table : Table) (left : List Wanted) (t : Tag) (p : Point) (d : Option Direction) (queued coming : List Line)
     (aborts : List ℕ) (at : Point) (tool : Option (List ℕ))
-    → IsAtFront w table left (record { tag = t; command = command.PtMeas p d }) queued coming aborts → w.server.last ≡ w.client.last
+    → IsAtFront w table left (record { tag = t; command = Command.PtMeas p d }) queued coming aborts → w.server.last ≡ w.client.last
     → w.server.waiting ≡ all_wait queued → w.server.error ≡ false
-    → w.server.tool ≡ tool → IsAnswered w table w.up (touched w.server t (command.PtMeas p d) at tool)
+    → w.server.tool ≡ tool → IsAnswered w table w.up (touched w.server t (Command.PtMeas p d) at tool)
 touch_by w table left t p d queued coming aborts at None f same waiting error tool_is =
     let fits : FitsTouch (know_of w.server) p d f.does = f.one in
     let none : None ≡ Some fits.touch.tool = sym tool_is ∙ fits.tool in absurd (cc)
 touch_by w table left t p d queued coming aborts at (Some n) f same waiting error tool_is =
     let fits : FitsTouch (know_of w.server) p d f.does = f.one in
-    let x : Line = record { tag = t; command = command.PtMeas p d } in
+    let x : Line = record { tag = t; command = Command.PtMeas p d } in
     let point : Point = point_difference at (offset w.server.frame) in
     let tool : Some n ≡ Some fits.touch.tool = sym tool_is ∙ fits.tool in
     let name : n ≡ fits.touch.tool = cc in
     let frame : w.server.frame ≡ fits.touch.frame = some_is w.server.frame fits.touch.frame fits.frame in
     let target : p ≡ fits.touch.target = fits.target in
     let dir : d ≡ fits.touch.dir = fits.dir in
-    let stands_for : act.Contact p d n w.server.frame point ≡ act.Contact fits.touch.target fits.touch.dir fits.touch.tool fits.touch.frame
+    let stands_for : Act.Contact p d n w.server.frame point ≡ Act.Contact fits.touch.target fits.touch.dir fits.touch.tool fits.touch.frame
     point = cc in
-    let given : Datum = datum.Point point in
-    let acts : act_of f.does (Some given) ≡ act.Contact p d n w.server.frame point ∷ [] =
+    let given : Datum = Datum.Point point in
+    let acts : act_of f.does (Some given) ≡ Act.Contact p d n w.server.frame point ∷ [] =
     ap (λ (does : Does). act_of does (Some given)) fits.is ∙ ap (λ (a : Act). a ∷ []) (sym stands_for) in
-    let s : Server = acted (act.Contact p d n w.server.frame point) (idle w.server) in
+    let s : Server = acted (Act.Contact p d n w.server.frame point) (idle w.server) in
     front_done w table left x queued coming aborts s (Reply.Given t given ∷ Reply.Done t ∷ []) (Some given) f
     (subst (λ (l : List Act). Moves w.server s l) (sym acts) (record { on = refl; last = refl; ledger = refl })) same refl waiting error
     (more_refl (know_of w.server))
@@ -300,19 +277,19 @@ touches_now : (w : World) (table : Table) (left : List Wanted) (t : Tag) (c : Co
     → IsAtFront w table left (record { tag = t; command = c }) queued coming aborts → w.server.last ≡ w.client.last
     → w.server.waiting ≡ all_wait queued → w.server.error ≡ false
     → has_outcome c (Outcome.Touched at) ≡ true → IsAnswered w table w.up (touched w.server t c at w.server.tool)
-touches_now w table left t (command.PtMeas p d) queued coming aborts at f same waiting error can =
+touches_now w table left t (Command.PtMeas p d) queued coming aborts at f same waiting error can =
     touch_by w table left t p d queued coming aborts at w.server.tool f same waiting error refl
-touches_now w table left t command.IsHomed queued coming aborts at f same waiting error can = absurd (false≢true can)
-touches_now w table left t command.Home queued coming aborts at f same waiting error can = absurd (false≢true can)
-touches_now w table left t (command.ChangeTool n) queued coming aborts at f same waiting error can = absurd (false≢true can)
-touches_now w table left t (command.GoTo p) queued coming aborts at f same waiting error can = absurd (false≢true can)
-touches_now w table left t command.StartSession queued coming aborts at f same waiting error can = absurd (false≢true can)
-touches_now w table left t command.EndSession queued coming aborts at f same waiting error can = absurd (false≢true can)
-touches_now w table left t command.ClearAllErrors queued coming aborts at f same waiting error can = absurd (false≢true can)
-touches_now w table left t command.OnPtMeasReport queued coming aborts at f same waiting error can = absurd (false≢true can)
-touches_now w table left t (command.SetCsyTransformation p) queued coming aborts at f same waiting error can = absurd (false≢true can)
-touches_now w table left t (command.SetCoordSystem system) queued coming aborts at f same waiting error can = absurd (false≢true can)
-touches_now w table left t command.AbortE queued coming aborts at f same waiting error can = absurd (false≢true can)
+touches_now w table left t Command.IsHomed queued coming aborts at f same waiting error can = absurd (false≢true can)
+touches_now w table left t Command.Home queued coming aborts at f same waiting error can = absurd (false≢true can)
+touches_now w table left t (Command.ChangeTool n) queued coming aborts at f same waiting error can = absurd (false≢true can)
+touches_now w table left t (Command.GoTo p) queued coming aborts at f same waiting error can = absurd (false≢true can)
+touches_now w table left t Command.StartSession queued coming aborts at f same waiting error can = absurd (false≢true can)
+touches_now w table left t Command.EndSession queued coming aborts at f same waiting error can = absurd (false≢true can)
+touches_now w table left t Command.ClearAllErrors queued coming aborts at f same waiting error can = absurd (false≢true can)
+touches_now w table left t Command.OnPtMeasReport queued coming aborts at f same waiting error can = absurd (false≢true can)
+touches_now w table left t (Command.SetCsyTransformation p) queued coming aborts at f same waiting error can = absurd (false≢true can)
+touches_now w table left t (Command.SetCoordSystem system) queued coming aborts at f same waiting error can = absurd (false≢true can)
+touches_now w table left t Command.AbortE queued coming aborts at f same waiting error can = absurd (false≢true can)
 
 -- the machine is done with what runs
 pub machined_here : (w : World) (table : Table) (left : List Wanted) (queued coming : List Line) (aborts : List ℕ) (outcome : Outcome)

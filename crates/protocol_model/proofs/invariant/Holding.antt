@@ -1,35 +1,18 @@
 -- What always holds of a client and a server: the facts that every event keeps.
 -- The idea: let the client read, in thought, all that is on its way. The table that this leaves fits the server as it is now, command by
 -- command.
-use Rattle.std.proofs.Common.{◌≡◌, ℕ, suc, ◌<◌, ◌≤◌, ◌⊎◌, Bool, true, false, List, [], ◌∷◌, ◌++◌, Option, Some, None, Ok}
-use Rattle.dme_line.specs.Kinds.{kind_of}
-use Rattle.dme_line.specs.Tags.{is_event_tag}
-use Rattle.dme_line.specs.declared.tags.Tag.{Tag}
+use Rattle.protocol_model.proofs.Names.{[], ◌++◌, ◌<◌, ◌∷◌, ◌≡◌, ◌≤◌, ◌⊎◌, acts_on, AreUpTo, asks_homed, Bool, Command, contacts, count_open, false}
+use Rattle.protocol_model.proofs.Names.{is_abort, is_clearing, is_event_tag, Kind, kind_of, Line, List, None, Ok, OpenCommand, Option, Planned, Reply}
+use Rattle.protocol_model.proofs.Names.{Server, Some, Stage, State, suc, Table, Tag, Tally, true, Waiting, Wanted, ℕ}
 use Rattle.dme_line.specs.declared.tags.Tag.TheVariants.{Event}
-use Rattle.dme_line.specs.declared.commands.Command.{Command}
-use Rattle.dme_line.specs.declared.commands.Command.TheVariants as command
-use Rattle.dme_line.specs.declared.commands.Kind.TheVariants as kind
-use Rattle.dmis_program.specs.declared.features.Wanted.{Wanted}
 use Rattle.protocol_model.proofs.plan.Blocks.{IsPlain}
-use Rattle.protocol_model.specs.Replies.{Reply}
-use Rattle.protocol_model.specs.Open.{count_open, asks_homed}
-use Rattle.protocol_model.specs.Client.{Table, Tally, is_clearing}
-use Rattle.protocol_model.specs.Server.{Server, is_abort}
-use Rattle.protocol_model.specs.Claims.{contacts, acts_on}
 use Rattle.protocol_model.specs.Typed.{World}
 use Rattle.protocol_model.proofs.table.Walks.{AreDistinct}
 use Rattle.protocol_model.proofs.table.Counts.{failed_tags}
 use Rattle.protocol_model.proofs.table.Replying.{Reads, IsFront}
 use Rattle.protocol_model.proofs.plan.Fitting.{Know, unknown, Fits, IsSane}
 use Rattle.protocol_model.proofs.plan.Marks.{marks_of, touches_in, HasNoAbort}
-use Rattle.protocol_model.specs.Undisturbed.{AreUpTo}
 use Rattle.protocol_model.proofs.invariant.Served.{Served, IsProgress}
-use Rattle.protocol_model.specs.declared.lines.Line.{Line}
-use Rattle.protocol_model.specs.declared.held.Stage.{Stage}
-use Rattle.protocol_model.specs.declared.held.OpenCommand.{OpenCommand}
-use Rattle.protocol_model.specs.declared.plans.Planned.{Planned}
-use Rattle.protocol_model.specs.declared.states.State.{State}
-use Rattle.protocol_model.specs.declared.lines.Waiting.{Waiting}
 
 -- ---- lines as open commands and as what waits
 
@@ -71,7 +54,7 @@ abort_tag k = Event (suc k)
 
 -- the line of an abort under the event tag after this number
 abbrev pub abort_line : ℕ → Line
-abort_line k = record { tag = abort_tag k; command = command.AbortE }
+abort_line k = record { tag = abort_tag k; command = Command.AbortE }
 
 -- the lines of aborts under the event tags after these numbers
 abbrev pub abort_lines : List ℕ → List Line
@@ -80,7 +63,7 @@ abort_lines (k ∷ ks) = abort_line k ∷ abort_lines ks
 
 -- such an abort as an open command that was just sent
 abbrev pub abort_held : ℕ → OpenCommand
-abort_held k = record { tag = abort_tag k; kind = kind.AbortE; stage = Stage.Sent }
+abort_held k = record { tag = abort_tag k; kind = Kind.AbortE; stage = Stage.Sent }
 
 -- such aborts as open commands that were just sent, in order
 abbrev pub abort_helds : List ℕ → List OpenCommand

@@ -1,26 +1,14 @@
 -- Small facts on lines that run, wait and come.
-use Rattle.std.proofs.Common.{◌≡◌, suc, ◌≤◌, Bool, true, false, ◌&&◌, ◌||◌, List, [], ◌∷◌, ◌++◌, length, refl, sym, ◌∙◌, ap, subst, arith}
-use Rattle.std.proofs.Common.{append_assoc, length-append, Option, Some, None, Ok}
-use Rattle.std.proofs.lemmas.Bool.{false≢true}
-use Rattle.dme_line.specs.Kinds.{kind_of}
-use Rattle.dme_line.specs.Tags.{is_event_tag}
-use Rattle.dme_line.specs.declared.tags.Tag.{Tag}
-use Rattle.dme_line.specs.declared.tags.Tag.TheVariants.{Std, Event}
-use Rattle.dme_line.specs.declared.commands.Command.{Command}
-use Rattle.dme_line.specs.declared.commands.Command.TheVariants as command
-use Rattle.protocol_model.specs.Replies.{tag_is}
-use Rattle.protocol_model.specs.Open.{count_open, asks_homed, is_asking, is_held}
-use Rattle.protocol_model.specs.Client.{is_clearing}
-use Rattle.protocol_model.specs.Server.{is_clear, runs_under, waits_under}
+use Rattle.protocol_model.proofs.Names.{[], ◌&&◌, ◌++◌, ◌||◌, ◌∙◌, ◌∷◌, ◌≡◌, ◌≤◌, ap, append_assoc, arith, asks_homed, Bool, Command, count_open}
+use Rattle.protocol_model.proofs.Names.{Does, false, false≢true, is_asking, is_clear, is_clearing, is_event_tag, is_held, kind_of, length}
+use Rattle.protocol_model.proofs.Names.{length-append, Line, List, None, Ok, OpenCommand, Option, Planned, refl, runs_under, Some, Std, subst, suc}
+use Rattle.protocol_model.proofs.Names.{sym, Tag, tag_is, true, waits_under}
+use Rattle.dme_line.specs.declared.tags.Tag.TheVariants.{Event}
 use Rattle.protocol_model.proofs.table.Basics.{if_cases, if_false, tag_is-refl, tag_is-true}
 use Rattle.protocol_model.proofs.table.Walks.{AreDistinct}
 use Rattle.protocol_model.proofs.invariant.Holding.{listed, received, sent_now, all_received, all_sent, all_wait, AreStandard, AreNoClears}
 use Rattle.protocol_model.proofs.invariant.Holding.{IsClearFirst, IsAskedLast, commands_of, commands_in}
 use Rattle.protocol_model.proofs.table.Asking.{AskNothing, ask_nothing}
-use Rattle.protocol_model.specs.declared.lines.Line.{Line}
-use Rattle.protocol_model.specs.declared.held.OpenCommand.{OpenCommand}
-use Rattle.protocol_model.specs.declared.plans.Planned.{Planned}
-use Rattle.protocol_model.specs.declared.plans.Does.{Does}
 
 -- if one tag differs from another, the other differs from the one
 pub tag_is_false : (t u : Tag) → tag_is t u ≡ false → tag_is u t ≡ false
@@ -189,18 +177,18 @@ few_wait busy queued hs = omega (arith, count_received (busy ++ queued) hs, leng
 
 -- a server and a client take the same commands for ClearAllErrors
 pub clear_same : (c : Command) → is_clear (Ok c) ≡ is_clearing c
-clear_same command.StartSession = refl
-clear_same command.EndSession = refl
-clear_same command.ClearAllErrors = refl
-clear_same command.IsHomed = refl
-clear_same command.Home = refl
-clear_same command.OnPtMeasReport = refl
-clear_same (command.GoTo p) = refl
-clear_same (command.PtMeas p d) = refl
-clear_same (command.ChangeTool n) = refl
-clear_same (command.SetCsyTransformation p) = refl
-clear_same (command.SetCoordSystem system) = refl
-clear_same command.AbortE = refl
+clear_same Command.StartSession = refl
+clear_same Command.EndSession = refl
+clear_same Command.ClearAllErrors = refl
+clear_same Command.IsHomed = refl
+clear_same Command.Home = refl
+clear_same Command.OnPtMeasReport = refl
+clear_same (Command.GoTo p) = refl
+clear_same (Command.PtMeas p d) = refl
+clear_same (Command.ChangeTool n) = refl
+clear_same (Command.SetCsyTransformation p) = refl
+clear_same (Command.SetCoordSystem system) = refl
+clear_same Command.AbortE = refl
 
 -- the commands of two lists of lines: those of the first, then those of the second
 pub commands_more : (xs ys : List Line) → commands_in (xs ++ ys) ≡ commands_in xs ++ commands_in ys

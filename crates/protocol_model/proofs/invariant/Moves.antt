@@ -1,26 +1,10 @@
 -- What the calls of a server leave unchanged, and what they add to its ledger.
-use Rattle.std.proofs.Common.{◌≡◌, ℕ, Bool, true, false, cond, not, ◌&&◌, ◌||◌, List, [], ◌∷◌, ◌++◌, length, refl, sym, ◌∙◌, ap, arith}
-use Rattle.std.proofs.Common.{append-nil, Option, Some, None, Result, Ok, Err, eq-eqb, ne_eqb, nat_le}
-use Rattle.fixed_um.specs.declared.lengths.Point.{Point}
-use Rattle.dme_line.specs.Tags.{is_event_tag}
-use Rattle.dme_line.specs.declared.tags.Tag.{Tag}
-use Rattle.dme_line.specs.declared.commands.Command.{Command}
-use Rattle.dme_line.specs.declared.commands.Command.TheVariants as command
-use Rattle.contact_ledger.specs.declared.acts.Act.{Act}
-use Rattle.contact_ledger.specs.declared.acts.Act.TheVariants as act
-use Rattle.protocol_model.specs.Replies.{Reading}
-use Rattle.dme_line.specs.declared.reading.LineFault.TheVariants as fault
-use Rattle.protocol_model.specs.Server.{Server, Answer, in_error, queued, runs_under, waits_under, is_abort, is_clear, stands, fresh}
-use Rattle.protocol_model.specs.Server.{tagged, server_read, refusal, frame_of, carried_out, carried, taken, turned_to, server_turned}
-use Rattle.protocol_model.specs.Server.{finished, touched, machined, server_machined}
-use Rattle.protocol_model.specs.Claims.{acts_on}
+use Rattle.protocol_model.proofs.Names.{[], ◌&&◌, ◌++◌, ◌||◌, ◌∙◌, ◌∷◌, ◌≡◌, Act, acts_on, Answer, ap, append-nil, AreUpTo, arith, Bool, carried}
+use Rattle.protocol_model.proofs.Names.{carried_out, Command, cond, eq-eqb, Err, false, finished, frame_of, fresh, in_error, is_abort, is_clear}
+use Rattle.protocol_model.proofs.Names.{is_event_tag, length, Line, LineFault, List, machined, Misread, nat_le, ne_eqb, None, not, Ok, Option}
+use Rattle.protocol_model.proofs.Names.{Outcome, Point, queued, Reading, refl, refusal, Result, runs_under, Server, server_machined, server_read}
+use Rattle.protocol_model.proofs.Names.{server_turned, Some, stands, sym, Tag, tagged, taken, touched, true, turned_to, Waiting, waits_under, ℕ}
 use Rattle.protocol_model.proofs.table.Basics.{if_true, if_false}
-use Rattle.protocol_model.specs.Undisturbed.{AreUpTo}
-use Rattle.protocol_model.specs.declared.lines.Line.{Line}
-use Rattle.protocol_model.specs.declared.lines.Misread.{Misread}
-use Rattle.protocol_model.specs.declared.lines.Misread.TheVariants as misread
-use Rattle.protocol_model.specs.declared.lines.Waiting.{Waiting}
-use Rattle.protocol_model.specs.declared.machine.Outcome.{Outcome}
 
 -- these acts as a ledger has them, each next to the number of this connection
 abbrev pub done_on : ℕ → List Act → List (ℕ × Act)
@@ -96,26 +80,26 @@ tagged_stays s t reading = either (Stays s) (runs_under t s.running || waits_und
 -- a server that reads a line does no act
 pub read_moves : (s : Server) (reading : Reading) → Moves s (server_read s reading).server []
 read_moves s (Ok line) = tagged_stays s line.tag (Ok line.command)
-read_moves s (Err fault.NoTag) = stays s s refl refl refl
-read_moves s (Err (fault.UnknownCommand t)) = tagged_stays s t (Err misread.UnknownCommand)
-read_moves s (Err (fault.BadArguments t k)) = tagged_stays s t (Err (misread.BadArguments k))
+read_moves s (Err LineFault.NoTag) = stays s s refl refl refl
+read_moves s (Err (LineFault.UnknownCommand t)) = tagged_stays s t (Err Misread.UnknownCommand)
+read_moves s (Err (LineFault.BadArguments t k)) = tagged_stays s t (Err (Misread.BadArguments k))
 
 carried_moves : (s : Server) (t : Tag) (c : Command) → (acts : List Act) × Moves s (carried_out s t c).server acts
-carried_moves s t command.StartSession = ([], stays s _ refl refl refl)
-carried_moves s t command.EndSession = ([], stays s _ refl refl refl)
-carried_moves s t command.ClearAllErrors = ([], stays s _ refl refl refl)
-carried_moves s t command.IsHomed = (act.HomedIs s.homed ∷ [], record { on = refl; last = refl; ledger = refl })
-carried_moves s t command.Home = ([], stays s _ refl refl refl)
-carried_moves s t command.OnPtMeasReport = ([], stays s _ refl refl refl)
-carried_moves s t (command.GoTo p) = ([], stays s _ refl refl refl)
-carried_moves s t (command.PtMeas p d) = ([], stays s _ refl refl refl)
-carried_moves s t (command.ChangeTool n) = ([], stays s _ refl refl refl)
-carried_moves s t (command.SetCsyTransformation p) = ([], stays s _ refl refl refl)
-carried_moves s t (command.SetCoordSystem system) = (
-  act.Framed (frame_of system s.stored) ∷ [],
+carried_moves s t Command.StartSession = ([], stays s _ refl refl refl)
+carried_moves s t Command.EndSession = ([], stays s _ refl refl refl)
+carried_moves s t Command.ClearAllErrors = ([], stays s _ refl refl refl)
+carried_moves s t Command.IsHomed = (Act.HomedIs s.homed ∷ [], record { on = refl; last = refl; ledger = refl })
+carried_moves s t Command.Home = ([], stays s _ refl refl refl)
+carried_moves s t Command.OnPtMeasReport = ([], stays s _ refl refl refl)
+carried_moves s t (Command.GoTo p) = ([], stays s _ refl refl refl)
+carried_moves s t (Command.PtMeas p d) = ([], stays s _ refl refl refl)
+carried_moves s t (Command.ChangeTool n) = ([], stays s _ refl refl refl)
+carried_moves s t (Command.SetCsyTransformation p) = ([], stays s _ refl refl refl)
+carried_moves s t (Command.SetCoordSystem system) = (
+  Act.Framed (frame_of system s.stored) ∷ [],
   record { on = refl; last = refl; ledger = refl },
 )
-carried_moves s t command.AbortE = ([], stays s _ refl refl refl)
+carried_moves s t Command.AbortE = ([], stays s _ refl refl refl)
 
 taken_moves : (s : Server) (w : Waiting) (ws : List Waiting) (number : Option ℕ) → (acts : List Act)
     × Moves s (taken s w ws number).server acts
@@ -136,36 +120,36 @@ pub turned_moves : (s : Server) → (acts : List Act) × Moves s (server_turned 
 turned_moves s = turned_to_moves s s.waiting
 
 finished_moves : (s : Server) (t : Tag) (c : Command) → (acts : List Act) × Moves s (finished s t c).server acts
-finished_moves s t command.StartSession = ([], stays s _ refl refl refl)
-finished_moves s t command.EndSession = ([], stays s _ refl refl refl)
-finished_moves s t command.ClearAllErrors = ([], stays s _ refl refl refl)
-finished_moves s t command.IsHomed = ([], stays s _ refl refl refl)
-finished_moves s t command.Home = (act.Homed ∷ [], record { on = refl; last = refl; ledger = refl })
-finished_moves s t command.OnPtMeasReport = ([], stays s _ refl refl refl)
-finished_moves s t (command.GoTo p) = (act.Moved p s.frame ∷ [], record { on = refl; last = refl; ledger = refl })
-finished_moves s t (command.PtMeas p d) = ([], stays s _ refl refl refl)
-finished_moves s t (command.ChangeTool n) = (act.Changed n ∷ [], record { on = refl; last = refl; ledger = refl })
-finished_moves s t (command.SetCsyTransformation p) = ([], stays s _ refl refl refl)
-finished_moves s t (command.SetCoordSystem system) = ([], stays s _ refl refl refl)
-finished_moves s t command.AbortE = ([], stays s _ refl refl refl)
+finished_moves s t Command.StartSession = ([], stays s _ refl refl refl)
+finished_moves s t Command.EndSession = ([], stays s _ refl refl refl)
+finished_moves s t Command.ClearAllErrors = ([], stays s _ refl refl refl)
+finished_moves s t Command.IsHomed = ([], stays s _ refl refl refl)
+finished_moves s t Command.Home = (Act.Homed ∷ [], record { on = refl; last = refl; ledger = refl })
+finished_moves s t Command.OnPtMeasReport = ([], stays s _ refl refl refl)
+finished_moves s t (Command.GoTo p) = (Act.Moved p s.frame ∷ [], record { on = refl; last = refl; ledger = refl })
+finished_moves s t (Command.PtMeas p d) = ([], stays s _ refl refl refl)
+finished_moves s t (Command.ChangeTool n) = (Act.Changed n ∷ [], record { on = refl; last = refl; ledger = refl })
+finished_moves s t (Command.SetCsyTransformation p) = ([], stays s _ refl refl refl)
+finished_moves s t (Command.SetCoordSystem system) = ([], stays s _ refl refl refl)
+finished_moves s t Command.AbortE = ([], stays s _ refl refl refl)
 
 abbrev MovesBy : Server → Answer → Type 0
 MovesBy s a = (acts : List Act) × Moves s a.server acts
 
 touched_moves : (s : Server) (t : Tag) (c : Command) (at : Point) (tool : Option (List ℕ)) → MovesBy s (touched s t c at tool)
-touched_moves s t command.StartSession at tool = ([], stays s _ refl refl refl)
-touched_moves s t command.EndSession at tool = ([], stays s _ refl refl refl)
-touched_moves s t command.ClearAllErrors at tool = ([], stays s _ refl refl refl)
-touched_moves s t command.IsHomed at tool = ([], stays s _ refl refl refl)
-touched_moves s t command.Home at tool = ([], stays s _ refl refl refl)
-touched_moves s t command.OnPtMeasReport at tool = ([], stays s _ refl refl refl)
-touched_moves s t (command.GoTo p) at tool = ([], stays s _ refl refl refl)
-touched_moves s t (command.PtMeas p d) at (Some n) = (_ ∷ [], record { on = refl; last = refl; ledger = refl })
-touched_moves s t (command.PtMeas p d) at None = ([], stays s _ refl refl refl)
-touched_moves s t (command.ChangeTool n) at tool = ([], stays s _ refl refl refl)
-touched_moves s t (command.SetCsyTransformation p) at tool = ([], stays s _ refl refl refl)
-touched_moves s t (command.SetCoordSystem system) at tool = ([], stays s _ refl refl refl)
-touched_moves s t command.AbortE at tool = ([], stays s _ refl refl refl)
+touched_moves s t Command.StartSession at tool = ([], stays s _ refl refl refl)
+touched_moves s t Command.EndSession at tool = ([], stays s _ refl refl refl)
+touched_moves s t Command.ClearAllErrors at tool = ([], stays s _ refl refl refl)
+touched_moves s t Command.IsHomed at tool = ([], stays s _ refl refl refl)
+touched_moves s t Command.Home at tool = ([], stays s _ refl refl refl)
+touched_moves s t Command.OnPtMeasReport at tool = ([], stays s _ refl refl refl)
+touched_moves s t (Command.GoTo p) at tool = ([], stays s _ refl refl refl)
+touched_moves s t (Command.PtMeas p d) at (Some n) = (_ ∷ [], record { on = refl; last = refl; ledger = refl })
+touched_moves s t (Command.PtMeas p d) at None = ([], stays s _ refl refl refl)
+touched_moves s t (Command.ChangeTool n) at tool = ([], stays s _ refl refl refl)
+touched_moves s t (Command.SetCsyTransformation p) at tool = ([], stays s _ refl refl refl)
+touched_moves s t (Command.SetCoordSystem system) at tool = ([], stays s _ refl refl refl)
+touched_moves s t Command.AbortE at tool = ([], stays s _ refl refl refl)
 
 machined_by : (s : Server) (outcome : Outcome) (running : Option Line) → MovesBy s (machined s outcome running)
 machined_by s outcome None = ([], stays s _ refl refl refl)

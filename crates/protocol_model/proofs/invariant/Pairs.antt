@@ -1,28 +1,15 @@
 -- What the answers of a server do to the table of its client.
-use Rattle.std.proofs.Common.{◌≡◌, ℕ, suc, Bool, true, false, not, ◌&&◌, List, [], ◌∷◌, ◌++◌, refl, sym, ◌∙◌, ap, subst, append_assoc}
-use Rattle.std.proofs.Common.{Option, Some, None}
-use Rattle.std.proofs.lemmas.Bool.{false≢true}
-use Rattle.std.proofs.Common.{ne_eqb, suc-ne-zero}
-use Rattle.dme_line.specs.Kinds.{kind_of}
-use Rattle.dme_line.specs.Tags.{is_event_tag}
-use Rattle.dme_line.specs.declared.tags.Tag.{Tag}
-use Rattle.dme_line.specs.declared.tags.Tag.TheVariants.{Std, Event}
-use Rattle.dme_line.specs.declared.commands.Kind.{Kind}
-use Rattle.dme_line.specs.declared.commands.Kind.TheVariants as kind
-use Rattle.dmis_program.specs.declared.features.Wanted.{Wanted}
-use Rattle.protocol_model.specs.Replies.{Mark, Reply, tag_is}
-use Rattle.protocol_model.specs.Open.{Effect, judged, judged_given, judged_done, settled, put_before, heard_in, asks_data, fits, is_held}
-use Rattle.protocol_model.specs.Client.{Tally, Table, counted_next, tallied}
+use Rattle.protocol_model.proofs.Names.{[], ◌&&◌, ◌++◌, ◌∙◌, ◌∷◌, ◌≡◌, all_fail, ap, append_assoc, asks_data, Bool, counted_next, Datum, Effect}
+use Rattle.protocol_model.proofs.Names.{fails, false, false≢true, fits, heard_in, is_event_tag, is_held, judged, judged_done, judged_given, Kind}
+use Rattle.protocol_model.proofs.Names.{kind_of, Line, List, ne_eqb, None, not, OpenCommand, Option, put_before, refl, Reply, running_fails, settled}
+use Rattle.protocol_model.proofs.Names.{Some, Stage, Std, subst, suc, suc-ne-zero, sym, Table, Tag, tag_is, tallied, Tally, true, Wanted, ℕ}
+use Rattle.dme_line.specs.declared.tags.Tag.TheVariants.{Event}
+use Rattle.protocol_model.specs.Replies.{Mark}
 use Rattle.protocol_model.proofs.HeardTables.{heard}
-use Rattle.protocol_model.specs.Server.{fails, all_fail, running_fails}
 use Rattle.protocol_model.proofs.table.Basics.{if_cases, tag_is-refl}
 use Rattle.protocol_model.proofs.table.Walks.{two, heard_at, heard_past}
 use Rattle.protocol_model.proofs.table.Replying.{tabled, fine, standard_step, event_step, Reads, reads_more}
 use Rattle.protocol_model.proofs.invariant.Holding.{listed, received, sent_now, all_received, all_wait, abort_tag, abort_held, AreStandard}
-use Rattle.protocol_model.specs.declared.lines.Line.{Line}
-use Rattle.protocol_model.specs.declared.held.Datum.{Datum}
-use Rattle.protocol_model.specs.declared.held.Stage.{Stage}
-use Rattle.protocol_model.specs.declared.held.OpenCommand.{OpenCommand}
 
 -- a reply on a standard tag
 pub standard_hears : (ws : List Wanted) (b : Table) (t : Tag) (m : Mark) (hs : List OpenCommand) (e : Effect) → is_event_tag t ≡ false
@@ -151,7 +138,7 @@ not_zero k = ne_eqb (suc k) 0 (λ (e : suc k ≡ 0). suc-ne-zero k e)
 
 -- an abort as an open command that was received
 abbrev pub abort_received : ℕ → OpenCommand
-abort_received k = record { tag = abort_tag k; kind = kind.AbortE; stage = Stage.Received }
+abort_received k = record { tag = abort_tag k; kind = Kind.AbortE; stage = Stage.Received }
 
 -- the receipt of an abort that was just sent, the first event command, makes it a received one
 pub abort_acked : (ws : List Wanted) (k : ℕ) (st hs : List OpenCommand) (y : Tally)
@@ -162,7 +149,7 @@ abort_acked ws k st hs y = event_step ws (tabled st (abort_held k ∷ hs) y) (su
 -- the end of a received abort, the first event command, takes it off the open commands and counts nothing
 pub abort_ended : (ws : List Wanted) (k : ℕ) (st hs : List OpenCommand) (y : Tally)
     → heard ws (tabled st (abort_received k ∷ hs) y) (abort_tag k) Mark.Done ≡ fine (tabled st hs y)
-abort_ended ws k st hs y = event_step ws (tabled st (abort_received k ∷ hs) y) (suc k) Mark.Done hs (Effect.Count kind.AbortE None)
+abort_ended ws k st hs y = event_step ws (tabled st (abort_received k ∷ hs) y) (suc k) Mark.Done hs (Effect.Count Kind.AbortE None)
     (not_zero k) (heard_at true (abort_received k) hs (abort_tag k) Mark.Done (tag_is-refl (abort_tag k)))
 
 -- all that runs and waits fails between the two

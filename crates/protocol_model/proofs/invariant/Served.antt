@@ -1,22 +1,9 @@
 -- Features that contacts serve, with the contacts left out between them; and the contacts of an unfinished feature.
-use Rattle.std.proofs.Common.{◌≡◌, ℕ, zero, suc, ◌+◌, ◌<◌, ◌≤◌, Bool, true, false, cond, List, [], ◌∷◌, ◌++◌, length, take, drop, refl, sym}
-use Rattle.std.proofs.Common.{◌∙◌, ap, subst, arith, append_assoc, append-nil, length-append, Option}
-use Rattle.std.proofs.Common.{eq-eqb, ne_eqb}
-use Rattle.fixed_um.specs.declared.lengths.Point.{Point}
-use Rattle.contact_ledger.specs.declared.acts.Act.{Act}
-use Rattle.contact_ledger.specs.declared.acts.Act.TheVariants as act
-use Rattle.contact_ledger.specs.declared.features.Origin.{Origin}
-use Rattle.contact_ledger.specs.declared.features.Feature.{Feature}
-use Rattle.dmis_program.specs.declared.features.Touch.{Touch}
-use Rattle.dmis_program.specs.declared.features.Wanted.{Wanted}
-use Rattle.dmis_program.specs.Meaning.{Meaning as Program, features_of}
-use Rattle.dmis_program.specs.declared.steps.Step.{Step}
-use Rattle.dmis_program.specs.declared.steps.Step.TheVariants as step
+use Rattle.protocol_model.proofs.Names.{[], ◌++◌, ◌+◌, ◌<◌, ◌∙◌, ◌∷◌, ◌≡◌, ◌≤◌, Act, acts_on, ap, append-nil, append_assoc, AreRuns, AreUpTo, arith}
+use Rattle.protocol_model.proofs.Names.{Bool, cond, contacts, drop, eq-eqb, false, Feature, features_of, is_empty, IsRun, IsServed, joined, length}
+use Rattle.protocol_model.proofs.Names.{length-append, List, MadeContact, Meaning as Program, ne_eqb, Option, Origin, Point, refl, Serves, Sound}
+use Rattle.protocol_model.proofs.Names.{Step, subst, suc, sym, take, Touch, true, Wanted, zero, ℕ}
 use Rattle.protocol_model.proofs.plan.Blocks.{AreBlocks, IsPlain}
-use Rattle.protocol_model.specs.Undisturbed.{AreUpTo}
-use Rattle.protocol_model.specs.Claims.{MadeContact, contacts, acts_on, IsServed, Serves, IsRun, AreRuns, Sound}
-use Rattle.protocol_model.specs.Client.{joined}
-use Rattle.protocol_model.specs.Plan.{is_empty}
 use Rattle.protocol_model.proofs.table.Basics.{if_true, if_false}
 use Rattle.protocol_model.proofs.plan.Marks.{Marked, marks, marks_of}
 
@@ -25,14 +12,14 @@ use Rattle.protocol_model.proofs.plan.Marks.{Marked, marks, marks_of}
 -- the contacts in two ledgers together: those in the first, then those in the second
 pub contacts_more : (l m : List (ℕ × Act)) → contacts (l ++ m) ≡ contacts l ++ contacts m
 contacts_more [] m = refl
-contacts_more ((n, act.Contact target dir tool frame point) ∷ l) m =
+contacts_more ((n, Act.Contact target dir tool frame point) ∷ l) m =
     let first : MadeContact = record { connection = n; target = target; dir = dir; tool = tool; frame = frame; point = point } in
     ap (λ (ms : List MadeContact). first ∷ ms) (contacts_more l m)
-contacts_more ((n, act.HomedIs homed) ∷ l) m = contacts_more l m
-contacts_more ((n, act.Homed) ∷ l) m = contacts_more l m
-contacts_more ((n, act.Moved p f) ∷ l) m = contacts_more l m
-contacts_more ((n, act.Changed k) ∷ l) m = contacts_more l m
-contacts_more ((n, act.Framed f) ∷ l) m = contacts_more l m
+contacts_more ((n, Act.HomedIs homed) ∷ l) m = contacts_more l m
+contacts_more ((n, Act.Homed) ∷ l) m = contacts_more l m
+contacts_more ((n, Act.Moved p f) ∷ l) m = contacts_more l m
+contacts_more ((n, Act.Changed k) ∷ l) m = contacts_more l m
+contacts_more ((n, Act.Framed f) ∷ l) m = contacts_more l m
 
 acts_step : (t : Bool) (b : Act) (l m : List Act) (more : List Act) → l ≡ m ++ more → cond t (b ∷ l) l ≡ cond t (b ∷ m) m ++ more
 acts_step true b l m more e = ap (λ (k : List Act). b ∷ k) e
@@ -75,12 +62,12 @@ AreMadeUpTo n (m ∷ ms) = (m.connection ≤ n) × AreMadeUpTo n ms
 -- if no act of a ledger is above a connection, none of its contacts is
 pub made_up_to : (n : ℕ) (l : List (ℕ × Act)) → AreUpTo n l → AreMadeUpTo n (contacts l)
 made_up_to n [] h = tt
-made_up_to n ((m, act.Contact target dir tool frame point) ∷ l) h = (h.0, made_up_to n l h.1)
-made_up_to n ((m, act.HomedIs homed) ∷ l) h = made_up_to n l h.1
-made_up_to n ((m, act.Homed) ∷ l) h = made_up_to n l h.1
-made_up_to n ((m, act.Moved p f) ∷ l) h = made_up_to n l h.1
-made_up_to n ((m, act.Changed k) ∷ l) h = made_up_to n l h.1
-made_up_to n ((m, act.Framed f) ∷ l) h = made_up_to n l h.1
+made_up_to n ((m, Act.Contact target dir tool frame point) ∷ l) h = (h.0, made_up_to n l h.1)
+made_up_to n ((m, Act.HomedIs homed) ∷ l) h = made_up_to n l h.1
+made_up_to n ((m, Act.Homed) ∷ l) h = made_up_to n l h.1
+made_up_to n ((m, Act.Moved p f) ∷ l) h = made_up_to n l h.1
+made_up_to n ((m, Act.Changed k) ∷ l) h = made_up_to n l h.1
+made_up_to n ((m, Act.Framed f) ∷ l) h = made_up_to n l h.1
 
 -- if no contact of two lists is above a connection, none of the second is
 pub made_behind : (n : ℕ) (xs ys : List MadeContact) → AreMadeUpTo n (xs ++ ys) → AreMadeUpTo n ys
@@ -330,12 +317,12 @@ next_touch t last rest (w ∷ later) some is = next_by t last rest w later w.tou
 -- if the blocks of steps are well made, each of their features has a touch
 pub features_have : (inside : Bool) (ss : List Step) → AreBlocks inside ss → HaveTouches (features_of ss)
 features_have inside [] h = tt
-features_have inside (step.Goto p ∷ ss) h = features_have inside ss h
-features_have inside (step.Begin l ∷ ss) h = (h.1, features_have true ss h.2)
-features_have inside (step.Touch t ∷ ss) h = features_have inside ss h.1
-features_have inside (step.Tool n ∷ ss) h = features_have inside ss h
-features_have inside (step.Recall p ∷ ss) h = features_have inside ss h
-features_have inside (step.End ∷ ss) h = features_have false ss h.1
+features_have inside (Step.Goto p ∷ ss) h = features_have inside ss h
+features_have inside (Step.Begin l ∷ ss) h = (h.1, features_have true ss h.2)
+features_have inside (Step.Touch t ∷ ss) h = features_have inside ss h.1
+features_have inside (Step.Tool n ∷ ss) h = features_have inside ss h
+features_have inside (Step.Recall p ∷ ss) h = features_have inside ss h
+features_have inside (Step.End ∷ ss) h = features_have false ss h.1
 
 -- each feature of a plain program has a touch
 pub program_has : (p : Program) → IsPlain p → HaveTouches p.features

@@ -1,28 +1,17 @@
 -- A counted command and the contacts of the unfinished feature.
-use Rattle.std.proofs.Common.{◌≡◌, ℕ, ◌+◌, true, false, List, [], ◌∷◌, ◌++◌, refl, sym, ◌∙◌, ap, subst, append_assoc, append-nil}
-use Rattle.std.proofs.Common.{length-append, Option, Some, None}
-use Rattle.std.proofs.lemmas.Bool.{false≢true}
-use Rattle.fixed_um.specs.declared.lengths.Point.{Point}
-use Rattle.contact_ledger.specs.declared.features.Origin.{Origin}
-use Rattle.contact_ledger.specs.declared.features.Feature.{Feature}
-use Rattle.dmis_program.specs.declared.features.Touch.{Touch}
-use Rattle.dmis_program.specs.declared.features.Wanted.{Wanted}
-use Rattle.protocol_model.specs.Claims.{MadeContact, contacts, IsServed}
-use Rattle.protocol_model.specs.Plan.{is_empty}
-use Rattle.protocol_model.specs.Client.{Tally, act_of, origin_of, joined, measured}
+use Rattle.protocol_model.proofs.Names.{[], ◌++◌, ◌+◌, ◌∙◌, ◌∷◌, ◌≡◌, act_of, ap, append-nil, append_assoc, contacts, Datum, Does, false, false≢true}
+use Rattle.protocol_model.proofs.Names.{Feature, is_empty, IsServed, joined, length-append, List, MadeContact, measured, None, Option, Origin}
+use Rattle.protocol_model.proofs.Names.{origin_of, Point, refl, Some, subst, sym, Tally, Touch, true, Wanted, ℕ}
 use Rattle.protocol_model.proofs.plan.Marks.{Marked, marks, marks_of, touch_in}
 use Rattle.protocol_model.proofs.invariant.Served.{Served, served_push, joined_is, serves_more, HaveTouches, with_made, IsProgress, IsNext}
 use Rattle.protocol_model.proofs.invariant.Served.{next_touch}
 use Rattle.protocol_model.proofs.invariant.Moves.{done_on}
-use Rattle.protocol_model.specs.declared.held.Datum.{Datum}
-use Rattle.protocol_model.specs.declared.held.Datum.TheVariants as datum
-use Rattle.protocol_model.specs.declared.plans.Does.{Does}
 
 -- a command is counted with what it asks for: a touch with its point, and the question whether the machine is homed with its answer
 abbrev pub HasDatum : Does → Option Datum → Type 0
-HasDatum (Does.Touches t last) (Some (datum.Point p)) = Unit {0}
+HasDatum (Does.Touches t last) (Some (Datum.Point p)) = Unit {0}
 HasDatum (Does.Touches t last) _ = ⊥
-HasDatum Does.AsksHomed (Some (datum.Homed homed)) = Unit {0}
+HasDatum Does.AsksHomed (Some (Datum.Homed homed)) = Unit {0}
 HasDatum Does.AsksHomed _ = ⊥
 HasDatum Does.Nothing given = Unit {0}
 HasDatum Does.Homes given = Unit {0}
@@ -42,10 +31,10 @@ keeps_all y = record { failed = refl; todo = refl; unsent = refl; counted = refl
 
 -- what is measured of a command, whatever it does, changes neither failures nor the plan nor the counted acts
 pub measured_keeps : (ws : List Wanted) (does : Does) (given : Option Datum) (y : Tally) → Keeps y (measured ws does given y)
-measured_keeps ws (Does.Touches t false) (Some (datum.Point p)) y = record { failed = refl; todo = refl; unsent = refl; counted = refl }
-measured_keeps ws (Does.Touches t true) (Some (datum.Point p)) y = record { failed = refl; todo = refl; unsent = refl; counted = refl }
-measured_keeps ws (Does.Touches t false) (Some (datum.Homed homed)) y = keeps_all y
-measured_keeps ws (Does.Touches t true) (Some (datum.Homed homed)) y = keeps_all y
+measured_keeps ws (Does.Touches t false) (Some (Datum.Point p)) y = record { failed = refl; todo = refl; unsent = refl; counted = refl }
+measured_keeps ws (Does.Touches t true) (Some (Datum.Point p)) y = record { failed = refl; todo = refl; unsent = refl; counted = refl }
+measured_keeps ws (Does.Touches t false) (Some (Datum.Homed homed)) y = keeps_all y
+measured_keeps ws (Does.Touches t true) (Some (Datum.Homed homed)) y = keeps_all y
 measured_keeps ws (Does.Touches t false) None y = keeps_all y
 measured_keeps ws (Does.Touches t true) None y = keeps_all y
 measured_keeps ws Does.Nothing given y = keeps_all y
@@ -165,22 +154,22 @@ calm_goes ws n y ms left h = subst (λ (l : List MadeContact). IsProgress ws n y
 pub does_goes : (ws : List Wanted) (n : ℕ) (y : Tally) (ms : List MadeContact) (left : List Wanted) (does : Does) (given : Option Datum)
     (rest : List Marked) → IsProgress ws n y.features y.points ms left → HasDatum does given → touch_in does ++ rest ≡ marks_of left
     → Goes ws n y ms does given rest
-does_goes ws n y ms left (Does.Touches t false) (Some (datum.Point p)) rest h has e =
+does_goes ws n y ms left (Does.Touches t false) (Some (Datum.Point p)) rest h has e =
     let next : IsNext t false rest left = next_touch t false rest left h.some e in
     let goes = touch_goes ws n y.features y.points ms left t p rest h next in
     record { left = goes.0; touches = goes.1; progress = goes.2 }
-does_goes ws n y ms left (Does.Touches t true) (Some (datum.Point p)) rest h has e =
+does_goes ws n y ms left (Does.Touches t true) (Some (Datum.Point p)) rest h has e =
     let next : IsNext t true rest left = next_touch t true rest left h.some e in
     let goes = touch_ends ws n y.features y.points ms left t p (origin_of y.connection t.frame) rest h next in
     record { left = goes.0; touches = goes.1; progress = goes.2 }
-does_goes ws n y ms left (Does.Touches t last) (Some (datum.Homed homed)) rest h has e = absurd has
+does_goes ws n y ms left (Does.Touches t last) (Some (Datum.Homed homed)) rest h has e = absurd has
 does_goes ws n y ms left (Does.Touches t last) None rest h has e = absurd has
-does_goes ws n y ms left Does.AsksHomed (Some (datum.Homed homed)) rest h has e = record {
+does_goes ws n y ms left Does.AsksHomed (Some (Datum.Homed homed)) rest h has e = record {
   left = left;
   touches = e;
   progress = calm_goes ws n y ms left h;
 }
-does_goes ws n y ms left Does.AsksHomed (Some (datum.Point p)) rest h has e = absurd has
+does_goes ws n y ms left Does.AsksHomed (Some (Datum.Point p)) rest h has e = absurd has
 does_goes ws n y ms left Does.AsksHomed None rest h has e = absurd has
 does_goes ws n y ms left Does.Nothing given rest h has e = record { left = left; touches = e; progress = calm_goes ws n y ms left h }
 does_goes ws n y ms left Does.Homes given rest h has e = record { left = left; touches = e; progress = calm_goes ws n y ms left h }

@@ -1,18 +1,7 @@
 -- A server that knows its tool, frame and stored offset does what is planned, command by command.
-use Rattle.std.proofs.Common.{◌≡◌, ℕ, Bool, true, false, List, [], ◌∷◌, ◌++◌, refl, sym, ◌∙◌, ap, Option, Some, None}
-use Rattle.fixed_um.specs.Shapes.{Direction}
-use Rattle.fixed_um.specs.declared.lengths.Point.{Point}
-use Rattle.fixed_um.specs.declared.frames.Frame.{Frame}
-use Rattle.fixed_um.specs.declared.frames.Frame.TheVariants.{Machine, Part}
-use Rattle.dme_line.specs.declared.commands.Csy.{Csy}
-use Rattle.dme_line.specs.declared.commands.Csy.TheVariants.{MachineCsy, PartCsy}
-use Rattle.dme_line.specs.declared.commands.Command.{Command}
-use Rattle.dme_line.specs.declared.commands.Command.TheVariants as command
-use Rattle.dmis_program.specs.declared.features.Touch.{Touch}
-use Rattle.fixed_um.specs.Points.{point_opposite}
-use Rattle.protocol_model.specs.Client.{is_clearing}
-use Rattle.protocol_model.specs.declared.plans.Planned.{Planned}
-use Rattle.protocol_model.specs.declared.plans.Does.{Does}
+use Rattle.protocol_model.proofs.Names.{[], ◌++◌, ◌∙◌, ◌∷◌, ◌≡◌, ap, Bool, Command, Csy, Direction, Does, false, Frame, is_clearing, List, MachineCsy}
+use Rattle.protocol_model.proofs.Names.{None, Option, Part, PartCsy, Planned, Point, point_opposite, refl, Some, sym, Touch, true, ℕ}
+use Rattle.fixed_um.specs.declared.frames.Frame.TheVariants.{Machine}
 
 -- what is known of a server: its tool, its frame and its stored offset, each perhaps not
 pub record Know : Type 0 where
@@ -32,18 +21,18 @@ known_frame PartCsy (Some p) = Some (Part p)
 
 -- what is known after a command; after ClearAllErrors nothing, so that what follows it is independent
 abbrev pub known_by : Know → Command → Know
-known_by k command.StartSession = k
-known_by k command.EndSession = k
-known_by k command.ClearAllErrors = unknown
-known_by k command.IsHomed = k
-known_by k command.Home = k
-known_by k command.OnPtMeasReport = k
-known_by k (command.GoTo p) = k
-known_by k (command.PtMeas p d) = k
-known_by k (command.ChangeTool n) = record k { tool = Some n }
-known_by k (command.SetCsyTransformation p) = record k { stored = Some (point_opposite p) }
-known_by k (command.SetCoordSystem system) = record k { frame = known_frame system k.stored }
-known_by k command.AbortE = k
+known_by k Command.StartSession = k
+known_by k Command.EndSession = k
+known_by k Command.ClearAllErrors = unknown
+known_by k Command.IsHomed = k
+known_by k Command.Home = k
+known_by k Command.OnPtMeasReport = k
+known_by k (Command.GoTo p) = k
+known_by k (Command.PtMeas p d) = k
+known_by k (Command.ChangeTool n) = record k { tool = Some n }
+known_by k (Command.SetCsyTransformation p) = record k { stored = Some (point_opposite p) }
+known_by k (Command.SetCoordSystem system) = record k { frame = known_frame system k.stored }
+known_by k Command.AbortE = k
 
 -- a move does what it is planned to do, in the frame that is known
 pub record FitsMove (k : Know) (p : Point) (does : Does) : Type 0 where
@@ -69,18 +58,18 @@ pub record FitsFrame (k : Know) (system : Csy) (does : Does) : Type 0 where
 
 -- a command does what it is planned to do
 abbrev pub FitsOne : Know → Command → Does → Type 0
-FitsOne k command.StartSession does = does ≡ Does.Nothing
-FitsOne k command.EndSession does = does ≡ Does.Nothing
-FitsOne k command.ClearAllErrors does = does ≡ Does.Nothing
-FitsOne k command.IsHomed does = does ≡ Does.AsksHomed
-FitsOne k command.Home does = does ≡ Does.Homes
-FitsOne k command.OnPtMeasReport does = does ≡ Does.Nothing
-FitsOne k (command.GoTo p) does = FitsMove k p does
-FitsOne k (command.PtMeas p d) does = FitsTouch k p d does
-FitsOne k (command.ChangeTool n) does = does ≡ Does.Changes n
-FitsOne k (command.SetCsyTransformation p) does = does ≡ Does.Nothing
-FitsOne k (command.SetCoordSystem system) does = FitsFrame k system does
-FitsOne k command.AbortE does = ⊥
+FitsOne k Command.StartSession does = does ≡ Does.Nothing
+FitsOne k Command.EndSession does = does ≡ Does.Nothing
+FitsOne k Command.ClearAllErrors does = does ≡ Does.Nothing
+FitsOne k Command.IsHomed does = does ≡ Does.AsksHomed
+FitsOne k Command.Home does = does ≡ Does.Homes
+FitsOne k Command.OnPtMeasReport does = does ≡ Does.Nothing
+FitsOne k (Command.GoTo p) does = FitsMove k p does
+FitsOne k (Command.PtMeas p d) does = FitsTouch k p d does
+FitsOne k (Command.ChangeTool n) does = does ≡ Does.Changes n
+FitsOne k (Command.SetCsyTransformation p) does = does ≡ Does.Nothing
+FitsOne k (Command.SetCoordSystem system) does = FitsFrame k system does
+FitsOne k Command.AbortE does = ⊥
 
 -- so do those of a plan, one after another
 abbrev pub Fits : Know → List Planned → Type 0
@@ -110,32 +99,32 @@ frame_more PartCsy None r more f e = absurd (cc)
 frame_more PartCsy (Some p) r more f e = ap (known_frame PartCsy) (more p refl) ∙ e
 
 pub knows_by : (k l : Know) (c : Command) → KnowsMore k l → KnowsMore (known_by k c) (known_by l c)
-knows_by k l command.StartSession more = more
-knows_by k l command.EndSession more = more
-knows_by k l command.ClearAllErrors more = more_refl unknown
-knows_by k l command.IsHomed more = more
-knows_by k l command.Home more = more
-knows_by k l command.OnPtMeasReport more = more
-knows_by k l (command.GoTo p) more = more
-knows_by k l (command.PtMeas p d) more = more
-knows_by k l (command.ChangeTool n) more = record { tool = λ m e. e; frame = more.frame; stored = more.stored }
-knows_by k l (command.SetCsyTransformation p) more = record { tool = more.tool; frame = more.frame; stored = λ q e. e }
-knows_by k l (command.SetCoordSystem system) more = record {
+knows_by k l Command.StartSession more = more
+knows_by k l Command.EndSession more = more
+knows_by k l Command.ClearAllErrors more = more_refl unknown
+knows_by k l Command.IsHomed more = more
+knows_by k l Command.Home more = more
+knows_by k l Command.OnPtMeasReport more = more
+knows_by k l (Command.GoTo p) more = more
+knows_by k l (Command.PtMeas p d) more = more
+knows_by k l (Command.ChangeTool n) more = record { tool = λ m e. e; frame = more.frame; stored = more.stored }
+knows_by k l (Command.SetCsyTransformation p) more = record { tool = more.tool; frame = more.frame; stored = λ q e. e }
+knows_by k l (Command.SetCoordSystem system) more = record {
   tool = more.tool;
   frame = frame_more system k.stored l.stored more.stored;
   stored = more.stored;
 }
-knows_by k l command.AbortE more = more
+knows_by k l Command.AbortE more = more
 
 one_more : (k l : Know) (c : Command) (d : Does) → KnowsMore k l → FitsOne k c d → FitsOne l c d
-one_more k l command.StartSession d more h = h
-one_more k l command.EndSession d more h = h
-one_more k l command.ClearAllErrors d more h = h
-one_more k l command.IsHomed d more h = h
-one_more k l command.Home d more h = h
-one_more k l command.OnPtMeasReport d more h = h
-one_more k l (command.GoTo p) d more h = record { frame = h.frame; known = more.frame h.frame h.known; is = h.is }
-one_more k l (command.PtMeas p dir) d more h = record {
+one_more k l Command.StartSession d more h = h
+one_more k l Command.EndSession d more h = h
+one_more k l Command.ClearAllErrors d more h = h
+one_more k l Command.IsHomed d more h = h
+one_more k l Command.Home d more h = h
+one_more k l Command.OnPtMeasReport d more h = h
+one_more k l (Command.GoTo p) d more h = record { frame = h.frame; known = more.frame h.frame h.known; is = h.is }
+one_more k l (Command.PtMeas p dir) d more h = record {
   touch = h.touch;
   last = h.last;
   tool = more.tool h.touch.tool h.tool;
@@ -144,14 +133,14 @@ one_more k l (command.PtMeas p dir) d more h = record {
   dir = h.dir;
   is = h.is;
 }
-one_more k l (command.ChangeTool n) d more h = h
-one_more k l (command.SetCsyTransformation p) d more h = h
-one_more k l (command.SetCoordSystem system) d more h = record {
+one_more k l (Command.ChangeTool n) d more h = h
+one_more k l (Command.SetCsyTransformation p) d more h = h
+one_more k l (Command.SetCoordSystem system) d more h = record {
   frame = h.frame;
   known = frame_more system k.stored l.stored more.stored h.frame h.known;
   is = h.is;
 }
-one_more k l command.AbortE d more h = h
+one_more k l Command.AbortE d more h = h
 
 -- a plan fits where more is known
 pub fits_more : (ps : List Planned) (k l : Know) → KnowsMore k l → Fits k ps → Fits l ps

@@ -1,29 +1,13 @@
 -- The touches of plans and of wanted features, each with whether it is the last of its feature.
-use Rattle.std.proofs.Common.{◌≡◌, ℕ, zero, suc, Bool, true, false, cond, List, [], ◌∷◌, ◌++◌, drop, refl, sym, ◌∙◌, ap, subst}
-use Rattle.std.proofs.Common.{append_assoc, append-nil, Option, Some, None}
-use Rattle.std.proofs.lemmas.Bool.{false≢true}
+use Rattle.protocol_model.proofs.Names.{[], ◌++◌, ◌∙◌, ◌∷◌, ◌≡◌, ap, append-nil, append_assoc, behind, block_touches, Bool, Command, cond, Does, drop}
+use Rattle.protocol_model.proofs.Names.{false, false≢true, features_of, Frame, frame_behind, framing, is_abort, is_empty, List, Meaning as Program}
+use Rattle.protocol_model.proofs.Names.{measuring, NewConnection, None, Ok, Option, Part, plan, Planned, planned, Point, point_opposite, refl}
+use Rattle.protocol_model.proofs.Names.{SameConnection, Some, Start, starting, Step, stepping, subst, suc, sym, tool_behind, tooling, Touch, true}
+use Rattle.protocol_model.proofs.Names.{up_to, Wanted, zero, ℕ}
 use Rattle.std.proofs.Math.IntN.{neg_ℤ-neg_ℤ}
-use Rattle.fixed_um.specs.declared.lengths.Point.{Point}
-use Rattle.fixed_um.specs.declared.frames.Frame.{Frame}
-use Rattle.fixed_um.specs.declared.frames.Frame.TheVariants.{Machine, Part}
-use Rattle.dme_line.specs.declared.commands.Command.TheVariants as command
-use Rattle.dmis_program.specs.declared.features.Touch.{Touch}
-use Rattle.dmis_program.specs.declared.features.Wanted.{Wanted}
-use Rattle.dmis_program.specs.Meaning.{Meaning as Program, features_of, block_touches}
-use Rattle.dmis_program.specs.declared.steps.Step.{Step}
-use Rattle.dmis_program.specs.declared.steps.Step.TheVariants as step
+use Rattle.fixed_um.specs.declared.frames.Frame.TheVariants.{Machine}
 use Rattle.protocol_model.proofs.plan.Blocks.{AreBlocks, AreSelected, IsPlain}
-use Rattle.protocol_model.specs.Plan.{tool_behind, frame_behind, is_empty, behind, up_to, planned, framing, tooling, stepping, measuring}
-use Rattle.protocol_model.specs.Plan.{starting, plan}
-use Rattle.fixed_um.specs.Points.{point_opposite}
-use Rattle.std.proofs.Common.{Ok}
-use Rattle.protocol_model.specs.Server.{is_abort}
 use Rattle.protocol_model.proofs.plan.Fitting.{Know, unknown, Fits, IsSane, HasNoClear, sane_without, no_clear_more}
-use Rattle.protocol_model.specs.declared.plans.Planned.{Planned}
-use Rattle.protocol_model.specs.declared.plans.Does.{Does}
-use Rattle.protocol_model.specs.declared.plans.Start.{Start}
-use Rattle.protocol_model.specs.declared.plans.Start.TheVariants.{NewConnection}
-use Rattle.protocol_model.specs.declared.plans.Start.TheVariants.{SameConnection}
 
 -- a touch, and whether it is the last of its feature
 abbrev pub Marked : Type 0
@@ -83,18 +67,18 @@ marks_left (t ∷ ts) ws = refl
 pub touches_left : (inside : Bool) (frame : Frame) (ss : List Step) → AreBlocks inside ss
     → touches_in (stepping frame ss) ≡ marks_of (left_of inside ss)
 touches_left inside frame [] h = sym (ap marks_of (left_none inside []))
-touches_left inside frame (step.Goto p ∷ ss) h = touches_left inside frame ss h
-touches_left inside frame (step.Begin l ∷ ss) h =
+touches_left inside frame (Step.Goto p ∷ ss) h = touches_left inside frame ss h
+touches_left inside frame (Step.Begin l ∷ ss) h =
     touches_left true frame ss h.2 ∙ (marks_left (block_touches ss) (features_of ss)
     ∙ sym (ap (λ (b : Bool). marks_of (left_with b (block_touches ss)
     (record { label = l; touches = block_touches ss } ∷ features_of ss))) h.0))
-touches_left inside frame (step.Touch t ∷ ss) h =
+touches_left inside frame (Step.Touch t ∷ ss) h =
     ap (λ (l : List Marked). (t, is_empty (block_touches ss)) ∷ l) (touches_left inside frame ss h.1
     ∙ (ap (λ (b : Bool). marks_of (left_of b ss)) h.0 ∙ marks_left (block_touches ss) (features_of ss)))
-    ∙ sym (ap (λ (b : Bool). marks_of (left_of b (step.Touch t ∷ ss))) h.0)
-touches_left inside frame (step.Tool n ∷ ss) h = touches_left inside frame ss h
-touches_left inside frame (step.Recall p ∷ ss) h = touches_left inside (Part p) ss h
-touches_left inside frame (step.End ∷ ss) h = touches_left false frame ss h.1 ∙ sym (ap marks_of (left_none inside (features_of ss)))
+    ∙ sym (ap (λ (b : Bool). marks_of (left_of b (Step.Touch t ∷ ss))) h.0)
+touches_left inside frame (Step.Tool n ∷ ss) h = touches_left inside frame ss h
+touches_left inside frame (Step.Recall p ∷ ss) h = touches_left inside (Part p) ss h
+touches_left inside frame (Step.End ∷ ss) h = touches_left false frame ss h.1 ∙ sym (ap marks_of (left_none inside (features_of ss)))
 
 -- a position in steps, after that many features
 pub record IsPlace (inside : Bool) (ss : List Step) (k : ℕ) (rest : List Step) : Type 0 where
@@ -116,25 +100,25 @@ drop_none false k = refl
 
 touch_place : (inside : Bool) (k : ℕ) (t : Touch) (ss : List Step) (b : Bool) → is_empty (block_touches ss) ≡ b → inside ≡ true
     → IsPlace inside ss k (behind k ss) → IsPlace inside ss (suc k) (behind (suc k) ss)
-    → IsPlace inside (step.Touch t ∷ ss) (suc k) (cond b (behind k ss) (behind (suc k) ss))
+    → IsPlace inside (Step.Touch t ∷ ss) (suc k) (cond b (behind k ss) (behind (suc k) ss))
 touch_place inside k t ss true e i here there = record {
   within = here.within;
   blocks = here.blocks;
   left = here.left ∙ (ap (λ (a : Bool). marks_of (drop k (left_of a ss))) i
       ∙ (ap (λ (ts : List Touch). marks_of (drop k (left_with true ts (features_of ss)))) (empty_is (block_touches ss) e)
-      ∙ sym (ap (λ (a : Bool). marks_of (drop (suc k) (left_of a (step.Touch t ∷ ss)))) i)));
+      ∙ sym (ap (λ (a : Bool). marks_of (drop (suc k) (left_of a (Step.Touch t ∷ ss)))) i)));
 }
 touch_place inside k t ss false e i here there = record {
   within = there.within;
   blocks = there.blocks;
   left = there.left ∙ (ap (λ (a : Bool). marks_of (drop (suc k) (left_of a ss))) i
       ∙ (ap marks_of (drop_more (block_touches ss) (features_of ss) k e)
-      ∙ sym (ap (λ (a : Bool). marks_of (drop (suc k) (left_of a (step.Touch t ∷ ss)))) i)));
+      ∙ sym (ap (λ (a : Bool). marks_of (drop (suc k) (left_of a (Step.Touch t ∷ ss)))) i)));
 }
 
 begin_is : (inside : Bool) (l : List ℕ) (ss : List Step) (k : ℕ) → inside ≡ false → (block_touches ss ≡ [] → ⊥)
-    → drop (suc k) (left_of true ss) ≡ drop (suc k) (left_of inside (step.Begin l ∷ ss))
-begin_is inside l ss k i some = go (block_touches ss) refl ∙ sym (ap (λ (a : Bool). drop (suc k) (left_of a (step.Begin l ∷ ss))) i)
+    → drop (suc k) (left_of true ss) ≡ drop (suc k) (left_of inside (Step.Begin l ∷ ss))
+begin_is inside l ss k i some = go (block_touches ss) refl ∙ sym (ap (λ (a : Bool). drop (suc k) (left_of a (Step.Begin l ∷ ss))) i)
   where
     go : (ts : List Touch) → block_touches ss ≡ ts → drop (suc k) (left_of true ss) ≡ drop k (features_of ss)
     go [] e = absurd (some e)
@@ -148,17 +132,17 @@ place_at inside (suc k) [] h = record {
   left = ap marks_of (left_none inside [])
       ∙ sym (ap marks_of (drop_none inside k));
 }
-place_at inside (suc k) (step.Goto p ∷ ss) h = let at = place_at inside (suc k) ss h
+place_at inside (suc k) (Step.Goto p ∷ ss) h = let at = place_at inside (suc k) ss h
     in record { within = at.within; blocks = at.blocks; left = at.left }
-place_at inside (suc k) (step.Begin l ∷ ss) h = let at = place_at true (suc k) ss h.2
+place_at inside (suc k) (Step.Begin l ∷ ss) h = let at = place_at true (suc k) ss h.2
     in record { within = at.within; blocks = at.blocks; left = at.left ∙ ap marks_of (begin_is inside l ss k h.0 h.1) }
-place_at inside (suc k) (step.Touch t ∷ ss) h = touch_place inside k t ss (is_empty (block_touches ss)) refl h.0 (place_at inside k ss h.1)
+place_at inside (suc k) (Step.Touch t ∷ ss) h = touch_place inside k t ss (is_empty (block_touches ss)) refl h.0 (place_at inside k ss h.1)
     (place_at inside (suc k) ss h.1)
-place_at inside (suc k) (step.Tool n ∷ ss) h = let at = place_at inside (suc k) ss h
+place_at inside (suc k) (Step.Tool n ∷ ss) h = let at = place_at inside (suc k) ss h
     in record { within = at.within; blocks = at.blocks; left = at.left }
-place_at inside (suc k) (step.Recall p ∷ ss) h = let at = place_at inside (suc k) ss h
+place_at inside (suc k) (Step.Recall p ∷ ss) h = let at = place_at inside (suc k) ss h
     in record { within = at.within; blocks = at.blocks; left = at.left }
-place_at inside (suc k) (step.End ∷ ss) h =
+place_at inside (suc k) (Step.End ∷ ss) h =
     let at = place_at false (suc k) ss h.1 in
     record {
       within = at.within;
@@ -171,8 +155,8 @@ place_at inside (suc k) (step.End ∷ ss) h =
 touch_selected : (k : ℕ) (tool : Option (List ℕ)) (frame : Frame) (t : Touch) (ss : List Step) (b : Bool)
     → AreSelected (tool_behind tool (up_to k ss)) (frame_behind frame (up_to k ss)) (behind k ss)
     → AreSelected (tool_behind tool (up_to (suc k) ss)) (frame_behind frame (up_to (suc k) ss)) (behind (suc k) ss)
-    → AreSelected (tool_behind tool (step.Touch t ∷ cond b (up_to k ss) (up_to (suc k) ss)))
-    (frame_behind frame (step.Touch t ∷ cond b (up_to k ss) (up_to (suc k) ss))) (cond b (behind k ss) (behind (suc k) ss))
+    → AreSelected (tool_behind tool (Step.Touch t ∷ cond b (up_to k ss) (up_to (suc k) ss)))
+    (frame_behind frame (Step.Touch t ∷ cond b (up_to k ss) (up_to (suc k) ss))) (cond b (behind k ss) (behind (suc k) ss))
 touch_selected k tool frame t ss true here there = here
 touch_selected k tool frame t ss false here there = there
 
@@ -180,18 +164,18 @@ pub selected_at : (k : ℕ) (tool : Option (List ℕ)) (frame : Frame) (ss : Lis
     → AreSelected (tool_behind tool (up_to k ss)) (frame_behind frame (up_to k ss)) (behind k ss)
 selected_at zero tool frame ss h = h
 selected_at (suc k) tool frame [] h = tt
-selected_at (suc k) tool frame (step.Goto p ∷ ss) h = selected_at (suc k) tool frame ss h
-selected_at (suc k) tool frame (step.Begin l ∷ ss) h = selected_at (suc k) tool frame ss h
-selected_at (suc k) tool frame (step.Touch t ∷ ss) h = touch_selected k tool frame t ss (is_empty (block_touches ss))
+selected_at (suc k) tool frame (Step.Goto p ∷ ss) h = selected_at (suc k) tool frame ss h
+selected_at (suc k) tool frame (Step.Begin l ∷ ss) h = selected_at (suc k) tool frame ss h
+selected_at (suc k) tool frame (Step.Touch t ∷ ss) h = touch_selected k tool frame t ss (is_empty (block_touches ss))
     (selected_at k tool frame ss h.2) (selected_at (suc k) tool frame ss h.2)
-selected_at (suc k) tool frame (step.Tool n ∷ ss) h = selected_at (suc k) (Some n) frame ss h
-selected_at (suc k) tool frame (step.Recall p ∷ ss) h = selected_at (suc k) tool (Part p) ss h
-selected_at (suc k) tool frame (step.End ∷ ss) h = selected_at (suc k) tool frame ss h
+selected_at (suc k) tool frame (Step.Tool n ∷ ss) h = selected_at (suc k) (Some n) frame ss h
+selected_at (suc k) tool frame (Step.Recall p ∷ ss) h = selected_at (suc k) tool (Part p) ss h
+selected_at (suc k) tool frame (Step.End ∷ ss) h = selected_at (suc k) tool frame ss h
 
 -- ---- plans
 
 abbrev finish : List Planned
-finish = planned command.EndSession Does.Nothing ∷ []
+finish = planned Command.EndSession Does.Nothing ∷ []
 
 pub turned_twice : (p : Point) → point_opposite (point_opposite p) ≡ p
 turned_twice p = λ i. record { x = neg_ℤ-neg_ℤ p.x i; y = neg_ℤ-neg_ℤ p.y i; z = neg_ℤ-neg_ℤ p.z i }
@@ -215,9 +199,9 @@ fits_framing tool f stored (Part p) ps h =
 fits_steps : (tool : Option (List ℕ)) (frame : Frame) (stored : Option Point) (ss : List Step) → AreSelected tool frame ss
     → Fits (knows tool frame stored) (stepping frame ss ++ finish)
 fits_steps tool frame stored [] h = (refl, tt)
-fits_steps tool frame stored (step.Goto p ∷ ss) h = (record { frame = frame; known = refl; is = refl }, fits_steps tool frame stored ss h)
-fits_steps tool frame stored (step.Begin l ∷ ss) h = fits_steps tool frame stored ss h
-fits_steps tool frame stored (step.Touch t ∷ ss) h = (
+fits_steps tool frame stored (Step.Goto p ∷ ss) h = (record { frame = frame; known = refl; is = refl }, fits_steps tool frame stored ss h)
+fits_steps tool frame stored (Step.Begin l ∷ ss) h = fits_steps tool frame stored ss h
+fits_steps tool frame stored (Step.Touch t ∷ ss) h = (
   record {
     touch = t;
     last = is_empty (block_touches ss);
@@ -229,10 +213,10 @@ fits_steps tool frame stored (step.Touch t ∷ ss) h = (
   },
   fits_steps tool frame stored ss h.2,
 )
-fits_steps tool frame stored (step.Tool n ∷ ss) h = (refl, fits_steps (Some n) frame stored ss h)
-fits_steps tool frame stored (step.Recall p ∷ ss) h =
+fits_steps tool frame stored (Step.Tool n ∷ ss) h = (refl, fits_steps (Some n) frame stored ss h)
+fits_steps tool frame stored (Step.Recall p ∷ ss) h =
     fits_framing tool (Some frame) stored (Part p) (stepping (Part p) ss ++ finish) (λ s. fits_steps tool (Part p) s ss h)
-fits_steps tool frame stored (step.End ∷ ss) h = fits_steps tool frame stored ss h
+fits_steps tool frame stored (Step.End ∷ ss) h = fits_steps tool frame stored ss h
 
 fits_measuring : (tool : Option (List ℕ)) (frame : Frame) (ss : List Step) → AreSelected tool frame ss
     → Fits unknown (measuring tool frame ss)
@@ -262,12 +246,12 @@ no_clear_tooling (Some n) = (refl, tt)
 
 no_clear_steps : (frame : Frame) (ss : List Step) → HasNoClear (stepping frame ss)
 no_clear_steps frame [] = tt
-no_clear_steps frame (step.Goto p ∷ ss) = (refl, no_clear_steps frame ss)
-no_clear_steps frame (step.Begin l ∷ ss) = no_clear_steps frame ss
-no_clear_steps frame (step.Touch t ∷ ss) = (refl, no_clear_steps frame ss)
-no_clear_steps frame (step.Tool n ∷ ss) = (refl, no_clear_steps frame ss)
-no_clear_steps frame (step.Recall p ∷ ss) = (refl, (refl, no_clear_steps (Part p) ss))
-no_clear_steps frame (step.End ∷ ss) = no_clear_steps frame ss
+no_clear_steps frame (Step.Goto p ∷ ss) = (refl, no_clear_steps frame ss)
+no_clear_steps frame (Step.Begin l ∷ ss) = no_clear_steps frame ss
+no_clear_steps frame (Step.Touch t ∷ ss) = (refl, no_clear_steps frame ss)
+no_clear_steps frame (Step.Tool n ∷ ss) = (refl, no_clear_steps frame ss)
+no_clear_steps frame (Step.Recall p ∷ ss) = (refl, (refl, no_clear_steps (Part p) ss))
+no_clear_steps frame (Step.End ∷ ss) = no_clear_steps frame ss
 
 no_clear_measuring : (tool : Option (List ℕ)) (frame : Frame) (ss : List Step) → HasNoClear (measuring tool frame ss)
 no_clear_measuring tool frame ss =
@@ -338,12 +322,12 @@ no_abort_tooling (Some n) = (refl, tt)
 
 no_abort_steps : (frame : Frame) (ss : List Step) → HasNoAbort (stepping frame ss)
 no_abort_steps frame [] = tt
-no_abort_steps frame (step.Goto p ∷ ss) = (refl, no_abort_steps frame ss)
-no_abort_steps frame (step.Begin l ∷ ss) = no_abort_steps frame ss
-no_abort_steps frame (step.Touch t ∷ ss) = (refl, no_abort_steps frame ss)
-no_abort_steps frame (step.Tool n ∷ ss) = (refl, no_abort_steps frame ss)
-no_abort_steps frame (step.Recall p ∷ ss) = (refl, (refl, no_abort_steps (Part p) ss))
-no_abort_steps frame (step.End ∷ ss) = no_abort_steps frame ss
+no_abort_steps frame (Step.Goto p ∷ ss) = (refl, no_abort_steps frame ss)
+no_abort_steps frame (Step.Begin l ∷ ss) = no_abort_steps frame ss
+no_abort_steps frame (Step.Touch t ∷ ss) = (refl, no_abort_steps frame ss)
+no_abort_steps frame (Step.Tool n ∷ ss) = (refl, no_abort_steps frame ss)
+no_abort_steps frame (Step.Recall p ∷ ss) = (refl, (refl, no_abort_steps (Part p) ss))
+no_abort_steps frame (Step.End ∷ ss) = no_abort_steps frame ss
 
 no_abort_measuring : (tool : Option (List ℕ)) (frame : Frame) (ss : List Step) → HasNoAbort (measuring tool frame ss)
 no_abort_measuring tool frame ss =

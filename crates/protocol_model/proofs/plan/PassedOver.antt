@@ -1,29 +1,24 @@
 -- A plan whose homing is skipped: it fits as before, and has the same touches.
-use Rattle.std.proofs.Common.{◌≡◌, Bool, true, false, List, [], ◌∷◌, ◌++◌, refl, sym, ◌∙◌, ap, subst}
-use Rattle.std.proofs.lemmas.Bool.{false≢true}
-use Rattle.dme_line.specs.declared.commands.Command.{Command}
-use Rattle.dme_line.specs.declared.commands.Command.TheVariants as command
-use Rattle.protocol_model.specs.Client.{is_homing, without_homing, passed_over}
-use Rattle.protocol_model.specs.declared.plans.Does.{Does}
-use Rattle.protocol_model.specs.declared.plans.Planned.{Planned}
+use Rattle.protocol_model.proofs.Names.{[], ◌++◌, ◌∙◌, ◌∷◌, ◌≡◌, ap, Bool, Command, Does, false, false≢true, is_homing, List, passed_over, Planned}
+use Rattle.protocol_model.proofs.Names.{refl, subst, sym, true, without_homing}
 use Rattle.protocol_model.proofs.table.Basics.{if_true, if_false}
 use Rattle.protocol_model.proofs.plan.Fitting.{Know, known_by, FitsOne, Fits, IsSane}
 use Rattle.protocol_model.proofs.plan.Marks.{touch_in, touches_in, HasNoAbort}
 
 -- the command that homes the machine
-pub homing_is : (c : Command) → is_homing c ≡ true → c ≡ command.Home
-homing_is command.Home e = refl
-homing_is command.StartSession e = absurd (false≢true e)
-homing_is command.EndSession e = absurd (false≢true e)
-homing_is command.ClearAllErrors e = absurd (false≢true e)
-homing_is command.IsHomed e = absurd (false≢true e)
-homing_is command.OnPtMeasReport e = absurd (false≢true e)
-homing_is (command.GoTo p) e = absurd (false≢true e)
-homing_is (command.PtMeas p d) e = absurd (false≢true e)
-homing_is (command.ChangeTool n) e = absurd (false≢true e)
-homing_is (command.SetCsyTransformation p) e = absurd (false≢true e)
-homing_is (command.SetCoordSystem system) e = absurd (false≢true e)
-homing_is command.AbortE e = absurd (false≢true e)
+pub homing_is : (c : Command) → is_homing c ≡ true → c ≡ Command.Home
+homing_is Command.Home e = refl
+homing_is Command.StartSession e = absurd (false≢true e)
+homing_is Command.EndSession e = absurd (false≢true e)
+homing_is Command.ClearAllErrors e = absurd (false≢true e)
+homing_is Command.IsHomed e = absurd (false≢true e)
+homing_is Command.OnPtMeasReport e = absurd (false≢true e)
+homing_is (Command.GoTo p) e = absurd (false≢true e)
+homing_is (Command.PtMeas p d) e = absurd (false≢true e)
+homing_is (Command.ChangeTool n) e = absurd (false≢true e)
+homing_is (Command.SetCsyTransformation p) e = absurd (false≢true e)
+homing_is (Command.SetCoordSystem system) e = absurd (false≢true e)
+homing_is Command.AbortE e = absurd (false≢true e)
 
 -- what holds of each suffix of a plan holds of it with the next homing skipped
 pub passes : (P : List Planned → Type 0) → ((p : Planned) (ps : List Planned) → is_homing p.command ≡ true → P (p ∷ ps) → P ps)

@@ -1,39 +1,19 @@
 -- What a plan measures, and in which order: the laws of plans.
-use Rattle.std.proofs.Common.{◌≡◌, ℕ, ◌≤◌, Bool, true, false, List, [], ◌∷◌, ◌++◌, drop, refl, sym, ◌∙◌, ap, arith, append_assoc, Option}
-use Rattle.std.proofs.Common.{Some, None}
-use Rattle.std.specs.List.{list_all, flat_map}
-use Rattle.fixed_um.specs.Shapes.{Direction}
-use Rattle.fixed_um.specs.Points.{point_opposite}
-use Rattle.fixed_um.specs.declared.lengths.Point.{Point}
-use Rattle.fixed_um.specs.declared.frames.Frame.{Frame}
-use Rattle.fixed_um.specs.declared.frames.Frame.TheVariants.{Machine, Part}
-use Rattle.dme_line.specs.Written.{HasVolumeLengths, HasArguments}
-use Rattle.dme_line.specs.declared.tags.Tag.TheVariants.{Std}
-use Rattle.dme_line.specs.declared.commands.Csy.{Csy}
-use Rattle.dme_line.specs.declared.commands.Csy.TheVariants.{MachineCsy, PartCsy}
-use Rattle.dme_line.specs.declared.commands.Command.{Command}
-use Rattle.dme_line.specs.declared.commands.Command.TheVariants as command
-use Rattle.dmis_program.specs.Meaning.{Meaning as Program}
-use Rattle.dmis_program.specs.Programs.{IsProgram, feature_touches}
-use Rattle.dmis_program.specs.declared.features.Touch.{Touch}
-use Rattle.dmis_program.specs.declared.features.Wanted.{Wanted}
-use Rattle.dmis_program.specs.declared.steps.Step.{Step}
-use Rattle.dmis_program.specs.declared.steps.Step.TheVariants as step
-use Rattle.protocol_model.specs.Plan.{tool_behind, frame_behind, behind, up_to, planned, framing, tooling, stepping, measuring, plan}
-use Rattle.protocol_model.specs.PlanReading.{touch_of, touches_of, end_of, ends_of, touch_ends, feature_ends, commands_of, Selection}
-use Rattle.protocol_model.specs.PlanReading.{nothing_selected, selected_frame, selected_by, read_touch, read_move, read_frame, read_as}
-use Rattle.protocol_model.specs.PlanReading.{is_last, ReadAsPlanned, touch_made, touches_made_by, touches_made, all_known, opening}
-use Rattle.protocol_model.specs.PlanReading.{is_measuring, IsInOrder, step_commands, whole_commands, CanBeWritten}
+use Rattle.protocol_model.proofs.Names.{[], ◌++◌, ◌∙◌, ◌∷◌, ◌≡◌, ◌≤◌, all_known, ap, append_assoc, arith, behind, Bool, CanBeWritten, Command}
+use Rattle.protocol_model.proofs.Names.{commands_of, Csy, Direction, Does, drop, end_of, ends_of, false, feature_ends, feature_touches, flat_map}
+use Rattle.protocol_model.proofs.Names.{Frame, frame_behind, framing, HasArguments, HasVolumeLengths, is_last, is_measuring, IsInOrder, IsProgram}
+use Rattle.protocol_model.proofs.Names.{List, list_all, MachineCsy, Meaning as Program, measuring, NewConnection, None, nothing_selected, opening}
+use Rattle.protocol_model.proofs.Names.{Option, Part, PartCsy, plan, Planned, planned, Point, point_opposite, read_as, read_frame, read_move}
+use Rattle.protocol_model.proofs.Names.{read_touch, ReadAsPlanned, refl, SameConnection, selected_by, selected_frame, Selection, Some, Start, Std}
+use Rattle.protocol_model.proofs.Names.{Step, step_commands, stepping, sym, tool_behind, tooling, Touch, touch_ends, touch_made, touch_of}
+use Rattle.protocol_model.proofs.Names.{touches_made, touches_made_by, true, up_to, Wanted, whole_commands, ℕ}
+use Rattle.fixed_um.specs.declared.frames.Frame.TheVariants.{Machine}
+use Rattle.protocol_model.specs.PlanReading.{touches_of}
 use Rattle.protocol_model.proofs.plan.Blocks.{program_is_plain}
 use Rattle.protocol_model.proofs.plan.Fitting.{Know, unknown, known_frame, known_by, FitsMove, FitsTouch, FitsFrame, FitsOne, Fits}
 use Rattle.protocol_model.proofs.plan.Marks.{Marked, marks, marks_of, touch_in, touches_in, HasNoAbort, plan_touches, plan_fits}
 use Rattle.protocol_model.proofs.plan.Marks.{plan_no_abort}
 use Rattle.protocol_model.proofs.written_lines.PlainClient.{HaveArguments, plan_arguments, standard_kind}
-use Rattle.protocol_model.specs.declared.plans.Planned.{Planned}
-use Rattle.protocol_model.specs.declared.plans.Does.{Does}
-use Rattle.protocol_model.specs.declared.plans.Start.{Start}
-use Rattle.protocol_model.specs.declared.plans.Start.TheVariants.{NewConnection}
-use Rattle.protocol_model.specs.declared.plans.Start.TheVariants.{SameConnection}
 
 -- ---- touches
 
@@ -131,48 +111,48 @@ frame_is_selected PartCsy None r more f e = absurd (cc)
 frame_is_selected PartCsy (Some p) r more f e = ap (selected_frame PartCsy) (more p refl) ∙ e
 
 selects : (k : Know) (s : Selection) (c : Command) → IsSelected k s → IsSelected (known_by k c) (selected_by s c)
-selects k s command.StartSession h = h
-selects k s command.EndSession h = h
-selects k s command.ClearAllErrors h = nothing_known s
-selects k s command.IsHomed h = h
-selects k s command.Home h = h
-selects k s command.OnPtMeasReport h = h
-selects k s (command.GoTo p) h = h
-selects k s (command.PtMeas p d) h = h
-selects k s (command.ChangeTool n) h = record { tool = λ m e. e; frame = h.frame; stored = h.stored }
-selects k s (command.SetCsyTransformation p) h = record { tool = h.tool; frame = h.frame; stored = λ q e. e }
-selects k s (command.SetCoordSystem system) h = record {
+selects k s Command.StartSession h = h
+selects k s Command.EndSession h = h
+selects k s Command.ClearAllErrors h = nothing_known s
+selects k s Command.IsHomed h = h
+selects k s Command.Home h = h
+selects k s Command.OnPtMeasReport h = h
+selects k s (Command.GoTo p) h = h
+selects k s (Command.PtMeas p d) h = h
+selects k s (Command.ChangeTool n) h = record { tool = λ m e. e; frame = h.frame; stored = h.stored }
+selects k s (Command.SetCsyTransformation p) h = record { tool = h.tool; frame = h.frame; stored = λ q e. e }
+selects k s (Command.SetCoordSystem system) h = record {
   tool = h.tool;
   frame = frame_is_selected system k.stored s.stored h.stored;
   stored = h.stored;
 }
-selects k s command.AbortE h = h
+selects k s Command.AbortE h = h
 
 -- a command that fits what is known does what it is planned for
 fits_as : (k : Know) (s : Selection) (c : Command) (d : Does) → IsSelected k s → FitsOne k c d → read_as s (is_last d) c ≡ Some d
-fits_as k s command.StartSession d h fits = ap (λ (x : Does). Some x) (sym fits)
-fits_as k s command.EndSession d h fits = ap (λ (x : Does). Some x) (sym fits)
-fits_as k s command.ClearAllErrors d h fits = ap (λ (x : Does). Some x) (sym fits)
-fits_as k s command.IsHomed d h fits = ap (λ (x : Does). Some x) (sym fits)
-fits_as k s command.Home d h fits = ap (λ (x : Does). Some x) (sym fits)
-fits_as k s command.OnPtMeasReport d h fits = ap (λ (x : Does). Some x) (sym fits)
-fits_as k s (command.GoTo p) d h fits =
+fits_as k s Command.StartSession d h fits = ap (λ (x : Does). Some x) (sym fits)
+fits_as k s Command.EndSession d h fits = ap (λ (x : Does). Some x) (sym fits)
+fits_as k s Command.ClearAllErrors d h fits = ap (λ (x : Does). Some x) (sym fits)
+fits_as k s Command.IsHomed d h fits = ap (λ (x : Does). Some x) (sym fits)
+fits_as k s Command.Home d h fits = ap (λ (x : Does). Some x) (sym fits)
+fits_as k s Command.OnPtMeasReport d h fits = ap (λ (x : Does). Some x) (sym fits)
+fits_as k s (Command.GoTo p) d h fits =
     let f : FitsMove k p d = fits in
-    ap (λ (o : Option Frame). read_as (record s { frame = o }) (is_last d) (command.GoTo p)) (h.frame f.frame f.known)
+    ap (λ (o : Option Frame). read_as (record s { frame = o }) (is_last d) (Command.GoTo p)) (h.frame f.frame f.known)
     ∙ ap (λ (x : Does). Some x) (sym f.is)
-fits_as k s (command.PtMeas p dir) d h fits =
+fits_as k s (Command.PtMeas p dir) d h fits =
     let f : FitsTouch k p dir d = fits in
     touched p dir d f.touch f.last (h.tool f.touch.tool f.tool) (h.frame f.touch.frame f.frame) f.target f.dir f.is
   where
     touched : (q : Point) (e : Option Direction) (d : Does) (t : Touch) (last : Bool) → s.tool ≡ Some t.tool → s.frame ≡ Some t.frame
-        → q ≡ t.target → e ≡ t.dir → d ≡ Does.Touches t last → read_as s (is_last d) (command.PtMeas q e) ≡ Some d
+        → q ≡ t.target → e ≡ t.dir → d ≡ Does.Touches t last → read_as s (is_last d) (Command.PtMeas q e) ≡ Some d
     touched q e d t last tool frame target dir is = rw (is, tool, frame, target, dir) refl
-fits_as k s (command.ChangeTool n) d h fits = ap (λ (x : Does). Some x) (sym fits)
-fits_as k s (command.SetCsyTransformation p) d h fits = ap (λ (x : Does). Some x) (sym fits)
-fits_as k s (command.SetCoordSystem system) d h fits =
+fits_as k s (Command.ChangeTool n) d h fits = ap (λ (x : Does). Some x) (sym fits)
+fits_as k s (Command.SetCsyTransformation p) d h fits = ap (λ (x : Does). Some x) (sym fits)
+fits_as k s (Command.SetCoordSystem system) d h fits =
     let f : FitsFrame k system d = fits in
     ap read_frame (frame_is_selected system k.stored s.stored h.stored f.frame f.known) ∙ ap (λ (x : Does). Some x) (sym f.is)
-fits_as k s command.AbortE d h fits = absurd fits
+fits_as k s Command.AbortE d h fits = absurd fits
 
 as_planned : (ps : List Planned) (k : Know) (s : Selection) → IsSelected k s → Fits k ps → ReadAsPlanned s ps
 as_planned [] k s h fits = tt
@@ -196,7 +176,7 @@ made_as d e is = ap touch_made is
 
 -- a touch that is read as the last of its feature is the same touch as one that is not
 made_same : (s : Selection) (p : Point) (d : Option Direction) (last : Bool)
-    → touch_made (read_as s false (command.PtMeas p d)) ≡ touch_made (read_as s last (command.PtMeas p d))
+    → touch_made (read_as s false (Command.PtMeas p d)) ≡ touch_made (read_as s last (Command.PtMeas p d))
 made_same s p d last = go s.tool s.frame
   where
     go : (tool : Option (List ℕ)) (frame : Option Frame) → touch_made (read_touch p d false tool frame)
@@ -231,19 +211,19 @@ no_touch_frame (Some f) does e = ap (λ (x : Does). all_known (touch_of x)) (som
 no_touch_frame None does e = absurd (cc)
 
 makes : (s : Selection) (c : Command) (d : Does) → read_as s (is_last d) c ≡ Some d → touches_made_by s c ≡ all_known (touch_of d)
-makes s command.StartSession d e = ap (λ (x : Does). all_known (touch_of x)) (some_does Does.Nothing d e)
-makes s command.EndSession d e = ap (λ (x : Does). all_known (touch_of x)) (some_does Does.Nothing d e)
-makes s command.ClearAllErrors d e = ap (λ (x : Does). all_known (touch_of x)) (some_does Does.Nothing d e)
-makes s command.IsHomed d e = ap (λ (x : Does). all_known (touch_of x)) (some_does Does.AsksHomed d e)
-makes s command.Home d e = ap (λ (x : Does). all_known (touch_of x)) (some_does Does.Homes d e)
-makes s command.OnPtMeasReport d e = ap (λ (x : Does). all_known (touch_of x)) (some_does Does.Nothing d e)
-makes s (command.GoTo p) d e = no_touch_move p s.frame d e
-makes s (command.PtMeas p dir) d e = ap (λ (o : Option Touch). o ∷ []) (made_same s p dir (is_last d)
-    ∙ made_as (read_as s (is_last d) (command.PtMeas p dir)) d e) ∙ is_touch p dir s.tool s.frame (is_last d) d e
-makes s (command.ChangeTool n) d e = ap (λ (x : Does). all_known (touch_of x)) (some_does (Does.Changes n) d e)
-makes s (command.SetCsyTransformation p) d e = ap (λ (x : Does). all_known (touch_of x)) (some_does Does.Nothing d e)
-makes s (command.SetCoordSystem system) d e = no_touch_frame (selected_frame system s.stored) d e
-makes s command.AbortE d e = absurd (cc)
+makes s Command.StartSession d e = ap (λ (x : Does). all_known (touch_of x)) (some_does Does.Nothing d e)
+makes s Command.EndSession d e = ap (λ (x : Does). all_known (touch_of x)) (some_does Does.Nothing d e)
+makes s Command.ClearAllErrors d e = ap (λ (x : Does). all_known (touch_of x)) (some_does Does.Nothing d e)
+makes s Command.IsHomed d e = ap (λ (x : Does). all_known (touch_of x)) (some_does Does.AsksHomed d e)
+makes s Command.Home d e = ap (λ (x : Does). all_known (touch_of x)) (some_does Does.Homes d e)
+makes s Command.OnPtMeasReport d e = ap (λ (x : Does). all_known (touch_of x)) (some_does Does.Nothing d e)
+makes s (Command.GoTo p) d e = no_touch_move p s.frame d e
+makes s (Command.PtMeas p dir) d e = ap (λ (o : Option Touch). o ∷ []) (made_same s p dir (is_last d)
+    ∙ made_as (read_as s (is_last d) (Command.PtMeas p dir)) d e) ∙ is_touch p dir s.tool s.frame (is_last d) d e
+makes s (Command.ChangeTool n) d e = ap (λ (x : Does). all_known (touch_of x)) (some_does (Does.Changes n) d e)
+makes s (Command.SetCsyTransformation p) d e = ap (λ (x : Does). all_known (touch_of x)) (some_does Does.Nothing d e)
+makes s (Command.SetCoordSystem system) d e = no_touch_frame (selected_frame system s.stored) d e
+makes s Command.AbortE d e = absurd (cc)
 
 known_more : (ts us : List Touch) → all_known (ts ++ us) ≡ all_known ts ++ all_known us
 known_more [] us = refl
@@ -292,16 +272,16 @@ tooling_measures (Some n) = (refl, tt)
 
 stepping_measures : (frame : Frame) (ss : List Step) → Measure (commands_of (stepping frame ss))
 stepping_measures frame [] = tt
-stepping_measures frame (step.Goto p ∷ ss) = (refl, stepping_measures frame ss)
-stepping_measures frame (step.Begin l ∷ ss) = stepping_measures frame ss
-stepping_measures frame (step.Touch t ∷ ss) = (refl, stepping_measures frame ss)
-stepping_measures frame (step.Tool n ∷ ss) = (refl, stepping_measures frame ss)
-stepping_measures frame (step.Recall p ∷ ss) = (refl, (refl, stepping_measures (Part p) ss))
-stepping_measures frame (step.End ∷ ss) = stepping_measures frame ss
+stepping_measures frame (Step.Goto p ∷ ss) = (refl, stepping_measures frame ss)
+stepping_measures frame (Step.Begin l ∷ ss) = stepping_measures frame ss
+stepping_measures frame (Step.Touch t ∷ ss) = (refl, stepping_measures frame ss)
+stepping_measures frame (Step.Tool n ∷ ss) = (refl, stepping_measures frame ss)
+stepping_measures frame (Step.Recall p ∷ ss) = (refl, (refl, stepping_measures (Part p) ss))
+stepping_measures frame (Step.End ∷ ss) = stepping_measures frame ss
 
 record IsMeasured (commands : List Command) : Type 0 where
   pub body : List Command
-  pub parts : commands ≡ body ++ command.EndSession ∷ []
+  pub parts : commands ≡ body ++ Command.EndSession ∷ []
   pub measures : Measure body
 
 measured_of : (tool : Option (List ℕ)) (frame : Frame) (ss : List Step) → IsMeasured (commands_of (measuring tool frame ss))
@@ -340,43 +320,43 @@ plan_in_order p k start = go start
 -- the commands of steps are those of each step
 pub steps_commands : (frame : Frame) (ss : List Step) → commands_of (stepping frame ss) ≡ flat_map step_commands ss
 steps_commands frame [] = refl
-steps_commands frame (step.Goto p ∷ ss) = ap (λ (l : List Command). command.GoTo p ∷ l) (steps_commands frame ss)
-steps_commands frame (step.Begin l ∷ ss) = steps_commands frame ss
-steps_commands frame (step.Touch t ∷ ss) = ap (λ (l : List Command). command.PtMeas t.target t.dir ∷ l) (steps_commands frame ss)
-steps_commands frame (step.Tool n ∷ ss) = ap (λ (l : List Command). command.ChangeTool n ∷ l) (steps_commands frame ss)
-steps_commands frame (step.Recall p ∷ ss) = ap (λ (l : List Command). command.SetCsyTransformation (point_opposite p)
-    ∷ command.SetCoordSystem PartCsy ∷ l) (steps_commands (Part p) ss)
-steps_commands frame (step.End ∷ ss) = steps_commands frame ss
+steps_commands frame (Step.Goto p ∷ ss) = ap (λ (l : List Command). Command.GoTo p ∷ l) (steps_commands frame ss)
+steps_commands frame (Step.Begin l ∷ ss) = steps_commands frame ss
+steps_commands frame (Step.Touch t ∷ ss) = ap (λ (l : List Command). Command.PtMeas t.target t.dir ∷ l) (steps_commands frame ss)
+steps_commands frame (Step.Tool n ∷ ss) = ap (λ (l : List Command). Command.ChangeTool n ∷ l) (steps_commands frame ss)
+steps_commands frame (Step.Recall p ∷ ss) = ap (λ (l : List Command). Command.SetCsyTransformation (point_opposite p)
+    ∷ Command.SetCoordSystem PartCsy ∷ l) (steps_commands (Part p) ss)
+steps_commands frame (Step.End ∷ ss) = steps_commands frame ss
 
 -- from the start the commands are those of all steps
 pub plan_whole : (p : Program) (start : Start) → commands_of (plan p 0 start) ≡ whole_commands start p.steps
 plan_whole p start = go start
   where
-    body : commands_of (stepping Machine p.steps ++ planned command.EndSession Does.Nothing ∷ []) ≡ flat_map step_commands p.steps
-        ++ command.EndSession ∷ []
-    body = commands_more (stepping Machine p.steps) _ ∙ ap (λ (l : List Command). l ++ command.EndSession ∷ [])
+    body : commands_of (stepping Machine p.steps ++ planned Command.EndSession Does.Nothing ∷ []) ≡ flat_map step_commands p.steps
+        ++ Command.EndSession ∷ []
+    body = commands_more (stepping Machine p.steps) _ ∙ ap (λ (l : List Command). l ++ Command.EndSession ∷ [])
         (steps_commands Machine p.steps)
 
     go : (s : Start) → commands_of (plan p 0 s) ≡ whole_commands s p.steps
-    go NewConnection = ap (λ (l : List Command). opening NewConnection ++ command.SetCoordSystem MachineCsy ∷ l) body
-    go SameConnection = ap (λ (l : List Command). opening SameConnection ++ command.SetCoordSystem MachineCsy ∷ l) body
+    go NewConnection = ap (λ (l : List Command). opening NewConnection ++ Command.SetCoordSystem MachineCsy ∷ l) body
+    go SameConnection = ap (λ (l : List Command). opening SameConnection ++ Command.SetCoordSystem MachineCsy ∷ l) body
 
 -- ---- lines
 
 -- arguments that can be written are lengths in the volume, where a command asks for those
 pub in_volume : (c : Command) → HasArguments c → HasVolumeLengths c
-in_volume command.StartSession h = tt
-in_volume command.EndSession h = tt
-in_volume command.ClearAllErrors h = tt
-in_volume command.IsHomed h = tt
-in_volume command.Home h = tt
-in_volume command.OnPtMeasReport h = tt
-in_volume (command.GoTo p) h = tt
-in_volume (command.PtMeas p d) h = tt
-in_volume (command.ChangeTool n) h = tt
-in_volume (command.SetCsyTransformation p) h = h
-in_volume (command.SetCoordSystem s) h = tt
-in_volume command.AbortE h = tt
+in_volume Command.StartSession h = tt
+in_volume Command.EndSession h = tt
+in_volume Command.ClearAllErrors h = tt
+in_volume Command.IsHomed h = tt
+in_volume Command.Home h = tt
+in_volume Command.OnPtMeasReport h = tt
+in_volume (Command.GoTo p) h = tt
+in_volume (Command.PtMeas p d) h = tt
+in_volume (Command.ChangeTool n) h = tt
+in_volume (Command.SetCsyTransformation p) h = h
+in_volume (Command.SetCoordSystem s) h = tt
+in_volume Command.AbortE h = tt
 
 can_be_written : (ps : List Planned) (n : ℕ) → 1 ≤ n → n ≤ 9999 → HaveArguments ps → HasNoAbort ps → CanBeWritten (Std n) ps
 can_be_written [] n from to h g = tt

@@ -1,75 +1,60 @@
 -- A plan continues after the last touch of the last completed feature: the laws of its position.
-use Rattle.std.proofs.Common.{◌≡◌, ℕ, zero, suc, ◌<◌, ◌≤◌, Bool, true, false, cond, List, [], ◌∷◌, ◌++◌, take, drop, length, refl, sym, ◌∙◌}
-use Rattle.std.proofs.Common.{ap, arith, Option, Some, None}
-use Rattle.std.proofs.lemmas.Bool.{false≢true}
-use Rattle.std.proofs.lemmas.List.{append_cancel_right, take-append-drop}
+use Rattle.protocol_model.proofs.Names.{[], ◌++◌, ◌<◌, ◌∙◌, ◌∷◌, ◌≡◌, ◌≤◌, ap, append_cancel_right, arith, behind, block_touches, Bool, Command}
+use Rattle.protocol_model.proofs.Names.{commands_of, cond, Does, drop, false, false≢true, feature_touches, features_of, flat_map, Frame, frame_behind}
+use Rattle.protocol_model.proofs.Names.{framing, is_empty, IsProgram, length, List, Meaning as Program, measuring, NewConnection, None, opening}
+use Rattle.protocol_model.proofs.Names.{Option, Part, plan, Planned, planned, refl, SameConnection, Some, Start, Step, step_commands, stepping, suc}
+use Rattle.protocol_model.proofs.Names.{sym, take, take-append-drop, tool_behind, tooling, Touch, true, up_to, Wanted, zero, ℕ}
 use Rattle.std.proofs.lemmas.Grind.{flat_map-append}
-use Rattle.std.specs.List.{flat_map}
-use Rattle.fixed_um.specs.declared.frames.Frame.{Frame}
-use Rattle.fixed_um.specs.declared.frames.Frame.TheVariants.{Machine, Part}
-use Rattle.dme_line.specs.declared.commands.Command.{Command}
-use Rattle.dme_line.specs.declared.commands.Command.TheVariants as command
-use Rattle.dmis_program.specs.Meaning.{Meaning as Program, features_of, block_touches}
-use Rattle.dmis_program.specs.Programs.{IsProgram, feature_touches}
+use Rattle.fixed_um.specs.declared.frames.Frame.TheVariants.{Machine}
 use Rattle.dmis_program.specs.Programs.{touches_of as step_touches}
-use Rattle.dmis_program.specs.declared.features.Touch.{Touch}
-use Rattle.dmis_program.specs.declared.features.Wanted.{Wanted}
-use Rattle.dmis_program.specs.declared.steps.Step.{Step}
-use Rattle.dmis_program.specs.declared.steps.Step.TheVariants as step
-use Rattle.protocol_model.specs.Plan.{tool_behind, frame_behind, is_empty, behind, up_to, planned, framing, tooling, stepping, measuring}
-use Rattle.protocol_model.specs.Plan.{plan}
-use Rattle.protocol_model.specs.PlanReading.{touches_of, commands_of, opening, step_commands}
-use Rattle.protocol_model.specs.Positions.{EndInTouch, tool_commands, frame_commands, commands_from}
+use Rattle.protocol_model.specs.PlanReading.{touches_of}
+use Rattle.protocol_model.specs.Positions.{commands_from, EndInTouch, frame_commands, tool_commands}
 use Rattle.protocol_model.proofs.plan.Blocks.{AreBlocks, IsPlain, program_is_plain}
 use Rattle.protocol_model.proofs.plan.Marks.{left_of, left_with}
 use Rattle.protocol_model.proofs.plan.PlanLaws.{plan_touches_left, commands_more, steps_commands}
-use Rattle.protocol_model.specs.declared.plans.Planned.{Planned}
-use Rattle.protocol_model.specs.declared.plans.Does.{Does}
-use Rattle.protocol_model.specs.declared.plans.Start.{Start}
-use Rattle.protocol_model.specs.declared.plans.Start.TheVariants.{NewConnection, SameConnection}
 
 -- ---- both parts are all
 
 touch_parts : (b : Bool) (t : Touch) (here there here_behind there_behind ss : List Step) → here ++ here_behind ≡ ss
     → there ++ there_behind ≡ ss
-    → step.Touch t ∷ (cond b here there ++ cond b here_behind there_behind) ≡ step.Touch t ∷ ss
-touch_parts true t here there a b ss e f = ap (λ (l : List Step). step.Touch t ∷ l) e
-touch_parts false t here there a b ss e f = ap (λ (l : List Step). step.Touch t ∷ l) f
+    → Step.Touch t ∷ (cond b here there ++ cond b here_behind there_behind) ≡ Step.Touch t ∷ ss
+touch_parts true t here there a b ss e f = ap (λ (l : List Step). Step.Touch t ∷ l) e
+touch_parts false t here there a b ss e f = ap (λ (l : List Step). Step.Touch t ∷ l) f
 
 -- the steps up to a position and those after it are all of them
 pub all_steps : (k : ℕ) (ss : List Step) → up_to k ss ++ behind k ss ≡ ss
 all_steps zero ss = refl
 all_steps (suc k) [] = refl
-all_steps (suc k) (step.Goto p ∷ ss) = ap (λ (l : List Step). step.Goto p ∷ l) (all_steps (suc k) ss)
-all_steps (suc k) (step.Begin l ∷ ss) = ap (λ (m : List Step). step.Begin l ∷ m) (all_steps (suc k) ss)
-all_steps (suc k) (step.Touch t ∷ ss) = touch_parts (is_empty (block_touches ss)) t (up_to k ss) (up_to (suc k) ss) (behind k ss)
+all_steps (suc k) (Step.Goto p ∷ ss) = ap (λ (l : List Step). Step.Goto p ∷ l) (all_steps (suc k) ss)
+all_steps (suc k) (Step.Begin l ∷ ss) = ap (λ (m : List Step). Step.Begin l ∷ m) (all_steps (suc k) ss)
+all_steps (suc k) (Step.Touch t ∷ ss) = touch_parts (is_empty (block_touches ss)) t (up_to k ss) (up_to (suc k) ss) (behind k ss)
     (behind (suc k) ss) ss (all_steps k ss) (all_steps (suc k) ss)
-all_steps (suc k) (step.Tool n ∷ ss) = ap (λ (l : List Step). step.Tool n ∷ l) (all_steps (suc k) ss)
-all_steps (suc k) (step.Recall p ∷ ss) = ap (λ (l : List Step). step.Recall p ∷ l) (all_steps (suc k) ss)
-all_steps (suc k) (step.End ∷ ss) = ap (λ (l : List Step). step.End ∷ l) (all_steps (suc k) ss)
+all_steps (suc k) (Step.Tool n ∷ ss) = ap (λ (l : List Step). Step.Tool n ∷ l) (all_steps (suc k) ss)
+all_steps (suc k) (Step.Recall p ∷ ss) = ap (λ (l : List Step). Step.Recall p ∷ l) (all_steps (suc k) ss)
+all_steps (suc k) (Step.End ∷ ss) = ap (λ (l : List Step). Step.End ∷ l) (all_steps (suc k) ss)
 
 -- ---- the touches of the front
 
 touches_more : (ss rs : List Step) → step_touches (ss ++ rs) ≡ step_touches ss ++ step_touches rs
 touches_more [] rs = refl
-touches_more (step.Goto p ∷ ss) rs = touches_more ss rs
-touches_more (step.Begin l ∷ ss) rs = touches_more ss rs
-touches_more (step.Touch t ∷ ss) rs = ap (λ (l : List Touch). t ∷ l) (touches_more ss rs)
-touches_more (step.Tool n ∷ ss) rs = touches_more ss rs
-touches_more (step.Recall p ∷ ss) rs = touches_more ss rs
-touches_more (step.End ∷ ss) rs = touches_more ss rs
+touches_more (Step.Goto p ∷ ss) rs = touches_more ss rs
+touches_more (Step.Begin l ∷ ss) rs = touches_more ss rs
+touches_more (Step.Touch t ∷ ss) rs = ap (λ (l : List Touch). t ∷ l) (touches_more ss rs)
+touches_more (Step.Tool n ∷ ss) rs = touches_more ss rs
+touches_more (Step.Recall p ∷ ss) rs = touches_more ss rs
+touches_more (Step.End ∷ ss) rs = touches_more ss rs
 
 abbrev finish : List Planned
-finish = planned command.EndSession Does.Nothing ∷ []
+finish = planned Command.EndSession Does.Nothing ∷ []
 
 stepping_touches : (frame : Frame) (ss : List Step) → touches_of (stepping frame ss ++ finish) ≡ step_touches ss
 stepping_touches frame [] = refl
-stepping_touches frame (step.Goto p ∷ ss) = stepping_touches frame ss
-stepping_touches frame (step.Begin l ∷ ss) = stepping_touches frame ss
-stepping_touches frame (step.Touch t ∷ ss) = ap (λ (l : List Touch). t ∷ l) (stepping_touches frame ss)
-stepping_touches frame (step.Tool n ∷ ss) = stepping_touches frame ss
-stepping_touches frame (step.Recall p ∷ ss) = stepping_touches (Part p) ss
-stepping_touches frame (step.End ∷ ss) = stepping_touches frame ss
+stepping_touches frame (Step.Goto p ∷ ss) = stepping_touches frame ss
+stepping_touches frame (Step.Begin l ∷ ss) = stepping_touches frame ss
+stepping_touches frame (Step.Touch t ∷ ss) = ap (λ (l : List Touch). t ∷ l) (stepping_touches frame ss)
+stepping_touches frame (Step.Tool n ∷ ss) = stepping_touches frame ss
+stepping_touches frame (Step.Recall p ∷ ss) = stepping_touches (Part p) ss
+stepping_touches frame (Step.End ∷ ss) = stepping_touches frame ss
 
 framing_touches : (frame : Frame) (ps : List Planned) → touches_of (framing frame ++ ps) ≡ touches_of ps
 framing_touches Machine ps = refl
@@ -106,7 +91,7 @@ front_touches p k h =
 one_more : (s : Step) (ss : List Step) → EndInTouch ss → EndInTouch (s ∷ ss)
 one_more s ss h = record { before = s ∷ h.before; touch = h.touch; parts = ap (λ (l : List Step). s ∷ l) h.parts }
 
-one_touch : (t : Touch) → EndInTouch (step.Touch t ∷ [])
+one_touch : (t : Touch) → EndInTouch (Step.Touch t ∷ [])
 one_touch t = record { before = []; touch = t; parts = refl }
 
 none_left : (inside : Bool) (ws : List Wanted) → length (left_with inside [] ws) ≡ length ws
@@ -134,37 +119,37 @@ left_true t ts ws false e = absurd (false≢true e)
 touch_ends_by : (b : Bool) (k : ℕ) (t : Touch) (ss : List Step) → is_empty (block_touches ss) ≡ b → suc k ≤ suc (length (features_of ss))
     → ((j : ℕ) → k ≡ suc j → suc j ≤ length (left_of true ss) → EndInTouch (up_to (suc j) ss))
     → (suc k ≤ length (left_of true ss) → EndInTouch (up_to (suc k) ss))
-    → EndInTouch (step.Touch t ∷ cond b (up_to k ss) (up_to (suc k) ss))
+    → EndInTouch (Step.Touch t ∷ cond b (up_to k ss) (up_to (suc k) ss))
 touch_ends_by true zero t ss e long here there = one_touch t
 touch_ends_by true (suc j) t ss e long here there =
     let same : length (left_of true ss) ≡ length (features_of ss) = none_by (block_touches ss) e in
-    one_more (step.Touch t) (up_to (suc j) ss) (here j refl (omega (arith, same, long)))
+    one_more (Step.Touch t) (up_to (suc j) ss) (here j refl (omega (arith, same, long)))
   where
     none_by : (ts : List Touch) → is_empty ts ≡ true → length (left_with true ts (features_of ss)) ≡ length (features_of ss)
     none_by [] e = refl
     none_by (u ∷ ts) e = absurd (false≢true e)
 touch_ends_by false k t ss e long here there =
     let same : length (left_of true ss) ≡ suc (length (features_of ss)) = some_left (block_touches ss) (features_of ss) e in
-    one_more (step.Touch t) (up_to (suc k) ss) (there (omega (arith, same, long)))
+    one_more (Step.Touch t) (up_to (suc k) ss) (there (omega (arith, same, long)))
 
 ends_by : (inside : Bool) (k : ℕ) (ss : List Step) → AreBlocks inside ss → suc k ≤ length (left_of inside ss)
     → EndInTouch (up_to (suc k) ss)
 ends_by inside k [] h long = let none : length (left_of inside []) ≡ 0 = none_left inside [] in absurd (omega (arith, none, long))
-ends_by inside k (step.Goto p ∷ ss) h long = one_more (step.Goto p) _ (ends_by inside k ss h long)
-ends_by inside k (step.Begin l ∷ ss) h long =
-    let before : length (left_of inside (step.Begin l ∷ ss)) ≡ suc (length (features_of ss)) =
+ends_by inside k (Step.Goto p ∷ ss) h long = one_more (Step.Goto p) _ (ends_by inside k ss h long)
+ends_by inside k (Step.Begin l ∷ ss) h long =
+    let before : length (left_of inside (Step.Begin l ∷ ss)) ≡ suc (length (features_of ss)) =
     left_false (block_touches ss) (record { label = l; touches = block_touches ss } ∷ features_of ss) inside h.0 in
     let after : length (left_of true ss) ≡ suc (length (features_of ss)) =
     some_left (block_touches ss) (features_of ss) (not_empty (block_touches ss) h.1) in
-    one_more (step.Begin l) _ (ends_by true k ss h.2 (omega (arith, before, after, long)))
-ends_by inside zero (step.Touch t ∷ ss) h long = touch_ends_by (is_empty (block_touches ss)) zero t ss refl (omega arith)
+    one_more (Step.Begin l) _ (ends_by true k ss h.2 (omega (arith, before, after, long)))
+ends_by inside zero (Step.Touch t ∷ ss) h long = touch_ends_by (is_empty (block_touches ss)) zero t ss refl (omega arith)
     (λ j e l. absurd (cc)) (λ l. ends_by inside zero ss h.1 (same_long l))
   where
     same_long : suc zero ≤ length (left_of true ss) → suc zero ≤ length (left_of inside ss)
     same_long l = let e : length (left_of inside ss) ≡ length (left_of true ss) = ap (λ (b : Bool). length (left_of b ss)) h.0
         in omega (arith, e, l)
-ends_by inside (suc j) (step.Touch t ∷ ss) h long =
-    let all : length (left_of inside (step.Touch t ∷ ss)) ≡ suc (length (features_of ss)) =
+ends_by inside (suc j) (Step.Touch t ∷ ss) h long =
+    let all : length (left_of inside (Step.Touch t ∷ ss)) ≡ suc (length (features_of ss)) =
     left_true t (block_touches ss) (features_of ss) inside h.0 in
     touch_ends_by (is_empty (block_touches ss)) (suc j) t ss refl (omega (arith, all, long))
     (λ i e l. same_index i e (λ m. ends_by inside j ss h.1 (same_long (suc j) m)) l)
@@ -177,11 +162,11 @@ ends_by inside (suc j) (step.Touch t ∷ ss) h long =
     same_index : (i : ℕ) → suc j ≡ suc i → (suc j ≤ length (left_of true ss) → EndInTouch (up_to (suc j) ss))
         → suc i ≤ length (left_of true ss) → EndInTouch (up_to (suc i) ss)
     same_index i e run l = rw (sym e) (run (omega (arith, e, l)))
-ends_by inside k (step.Tool n ∷ ss) h long = one_more (step.Tool n) _ (ends_by inside k ss h long)
-ends_by inside k (step.Recall p ∷ ss) h long = one_more (step.Recall p) _ (ends_by inside k ss h long)
-ends_by inside k (step.End ∷ ss) h long =
-    let before : length (left_of inside (step.End ∷ ss)) ≡ length (features_of ss) = none_left inside (features_of ss) in
-    one_more step.End _ (ends_by false k ss h.1 (omega (arith, before, long)))
+ends_by inside k (Step.Tool n ∷ ss) h long = one_more (Step.Tool n) _ (ends_by inside k ss h long)
+ends_by inside k (Step.Recall p ∷ ss) h long = one_more (Step.Recall p) _ (ends_by inside k ss h long)
+ends_by inside k (Step.End ∷ ss) h long =
+    let before : length (left_of inside (Step.End ∷ ss)) ≡ length (features_of ss) = none_left inside (features_of ss) in
+    one_more Step.End _ (ends_by false k ss h.1 (omega (arith, before, long)))
 
 -- the steps up to it end in a touch
 pub front_ends : (p : Program) (k : ℕ) → IsProgram p → 0 < k → k ≤ length p.features → EndInTouch (up_to k p.steps)
@@ -203,11 +188,11 @@ framing_commands (Part p) ps = refl
 
 measuring_commands : (tool : Option (List ℕ)) (frame : Frame) (ss : List Step)
     → commands_of (measuring tool frame ss) ≡ tool_commands tool
-    ++ (frame_commands frame ++ (flat_map step_commands ss ++ command.EndSession ∷ []))
+    ++ (frame_commands frame ++ (flat_map step_commands ss ++ Command.EndSession ∷ []))
 measuring_commands tool frame ss =
     tooling_commands tool _ ∙ ap (λ (l : List Command). tool_commands tool ++ l)
     (framing_commands frame _ ∙ ap (λ (l : List Command). frame_commands frame ++ l)
-    (commands_more (stepping frame ss) finish ∙ ap (λ (l : List Command). l ++ command.EndSession ∷ []) (steps_commands frame ss)))
+    (commands_more (stepping frame ss) finish ∙ ap (λ (l : List Command). l ++ Command.EndSession ∷ []) (steps_commands frame ss)))
 
 -- a plan is that of the steps after its position
 pub plan_commands : (p : Program) (k : ℕ) (start : Start) → commands_of (plan p k start)
@@ -216,7 +201,7 @@ plan_commands p k start = go start
   where
     body : commands_of (measuring (tool_behind None (up_to k p.steps)) (frame_behind Machine (up_to k p.steps)) (behind k p.steps))
         ≡ tool_commands (tool_behind None (up_to k p.steps)) ++ (frame_commands (frame_behind Machine (up_to k p.steps))
-        ++ (flat_map step_commands (behind k p.steps) ++ command.EndSession ∷ []))
+        ++ (flat_map step_commands (behind k p.steps) ++ Command.EndSession ∷ []))
     body = measuring_commands (tool_behind None (up_to k p.steps)) (frame_behind Machine (up_to k p.steps)) (behind k p.steps)
 
     go : (s : Start) → commands_of (plan p k s) ≡ commands_from s (up_to k p.steps) (behind k p.steps)

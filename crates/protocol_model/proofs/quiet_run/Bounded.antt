@@ -1,26 +1,14 @@
 -- Each round that does something sends a command, and none is sent twice.
-use Rattle.std.proofs.Common.{◌≡◌, ◌≢◌, ℕ, suc, ◌+◌, ◌≤◌, Bool, true, false, cond, List, [], ◌∷◌, ◌++◌, length, refl, sym, ◌∙◌, ap, subst}
-use Rattle.std.proofs.Common.{arith}
-use Rattle.std.proofs.Common.{Option, Some, None, Ok, Err, le_refl, le_trans}
-use Rattle.std.specs.List.{All}
-use Rattle.std.proofs.lemmas.Bool.{false≢true}
+use Rattle.protocol_model.proofs.Names.{[], ◌++◌, ◌+◌, ◌∙◌, ◌∷◌, ◌≡◌, ◌≢◌, ◌≤◌, All, all_down, all_of, all_up, ap, AreBusy, AreRounds, AreWhile}
+use Rattle.protocol_model.proofs.Names.{AreWork, arith, Bool, CanFinish, Client, cond, Down, Err, false, false≢true, IsOne, IsProgram, IsRound, Job}
+use Rattle.protocol_model.proofs.Names.{le_refl, le_trans, length, List, Meaning, next_number, next_of, None, Ok, Option, Outcome, plan_left, Planned}
+use Rattle.protocol_model.proofs.Names.{refl, rejoined, sends_next, Some, State, Std, subst, suc, sym, Table, Then, true, Up, ℕ}
 use Rattle.std.proofs.lemmas.List.Elements.{All-head, All-tail}
-use Rattle.dmis_program.specs.Meaning.{Meaning}
-use Rattle.dmis_program.specs.Programs.{IsProgram}
-use Rattle.dme_line.specs.declared.tags.Tag.TheVariants.{Std}
-use Rattle.line_framing.specs.Next.{next_of}
-use Rattle.protocol_model.specs.Client.{Client, Table, sends_next, next_number}
-use Rattle.protocol_model.specs.World.{World, start, can, happens, after, run_of}
-use Rattle.protocol_model.specs.Rounds.{IsOne, AreWhile, Then, all_up, all_down, AreWork, IsRound, AreRounds, all_of, AreBusy}
-use Rattle.protocol_model.specs.Finishing.{CanFinish, rejoined, plan_left}
+use Rattle.protocol_model.specs.World.{after, can, happens, run_of, start, World}
 use Rattle.protocol_model.specs.declared.events.Event.{Event}
-use Rattle.protocol_model.specs.declared.events.Event.TheVariants.{Connect, Accept, ClientSends, Up, ServerReads, ServerTurn, Machine, Down}
-use Rattle.protocol_model.specs.declared.events.Event.TheVariants.{ClientReads, ClientLeaves, ServerLeaves, Abort, Resume, ClientRestart}
+use Rattle.protocol_model.specs.declared.events.Event.TheVariants.{Accept, ClientSends, Connect, Machine, ServerReads, ServerTurn}
+use Rattle.protocol_model.specs.declared.events.Event.TheVariants.{Abort, ClientLeaves, ClientReads, ClientRestart, Resume, ServerLeaves}
 use Rattle.protocol_model.specs.declared.events.Event.TheVariants.{ServerRestart}
-use Rattle.protocol_model.specs.declared.machine.Job.{Job}
-use Rattle.protocol_model.specs.declared.machine.Outcome.{Outcome}
-use Rattle.protocol_model.specs.declared.plans.Planned.{Planned}
-use Rattle.protocol_model.specs.declared.states.State.{State}
 use Rattle.protocol_model.proofs.each_event.ClientEvents.{never_faulted}
 use Rattle.protocol_model.proofs.each_event.ClientWrites.{IsDue, due_is}
 use Rattle.protocol_model.proofs.whole_run.Carrying.{lined, IsCarried}

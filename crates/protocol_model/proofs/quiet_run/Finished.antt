@@ -1,40 +1,17 @@
 -- Quiet rounds from both ends, connected again: the client is Done, and holds what the program plainly measures.
-use Rattle.std.proofs.Common.{◌≡◌, ◌⊎◌, inl, inr, ℕ, suc, ◌<◌, ◌≤◌, Bool, true, false, cond, not, ◌&&◌, ◌||◌, List, [], ◌∷◌, ◌++◌, length}
-use Rattle.std.proofs.Common.{drop, refl, sym, ◌∙◌, ap, subst, arith, append-nil, Option, Some, None, Ok, is_some, nat_lt, eqb}
-use Rattle.std.proofs.lemmas.Bool.{false≢true, le-leb}
-use Rattle.std.proofs.lemmas.List.{append_cancel_left}
-use Rattle.dmis_program.specs.Meaning.{Meaning}
-use Rattle.dmis_program.specs.Programs.{IsProgram}
-use Rattle.dmis_program.specs.declared.features.Wanted.{Wanted}
-use Rattle.dme_line.specs.declared.commands.Command.{Command}
-use Rattle.protocol_model.specs.Readings.{command_of}
-use Rattle.contact_ledger.specs.Ledgers.{contact_count}
-use Rattle.contact_ledger.specs.declared.acts.Act.{Act}
-use Rattle.contact_ledger.specs.declared.features.Feature.{Feature}
-use Rattle.line_framing.specs.Next.{next_of}
-use Rattle.line_framing.proofs.Streams.{none_left}
-use Rattle.protocol_model.specs.Replies.{Reply}
-use Rattle.protocol_model.specs.Lines.{reply_bytes, reply_texts, command_bytes, command_texts, reading_of}
-use Rattle.protocol_model.specs.Open.{is_asking, count_open}
-use Rattle.protocol_model.specs.Plan.{is_empty}
-use Rattle.protocol_model.specs.Client.{Client, Table, first_due, may_go, is_running, is_clearing}
-use Rattle.protocol_model.specs.Server.{may_end}
-use Rattle.protocol_model.specs.Ends.{front_served}
-use Rattle.protocol_model.specs.World.{World, link_of, client_link, start, can, happens, after, run_of}
-use Rattle.protocol_model.specs.PlainExecution.{MeasuredFeature, plain_execution, as_measured}
-use Rattle.protocol_model.specs.Finishing.{CanFinish, rejoined, plan_left, AreInReach, AreObeyed, CanMeasure, HasMeasured}
-use Rattle.protocol_model.specs.Rounds.{AreWhile, IsRound, all_of, AreAllBusy}
+use Rattle.protocol_model.proofs.Names.{[], ◌&&◌, ◌++◌, ◌<◌, ◌||◌, ◌∙◌, ◌∷◌, ◌≡◌, ◌≤◌, ◌⊎◌, Act, all_of, ap, append-nil, append_cancel_left}
+use Rattle.protocol_model.proofs.Names.{AreAllBusy, AreInReach, AreObeyed, AreWhile, arith, as_measured, Bool, CanFinish, CanMeasure, Client}
+use Rattle.protocol_model.proofs.Names.{client_link, Command, command_bytes, command_of, command_texts, cond, contact_count, count_open, Down, drop}
+use Rattle.protocol_model.proofs.Names.{eqb, false, false≢true, Feature, first_due, front_served, HasMeasured, inl, inr, is_asking, is_clearing}
+use Rattle.protocol_model.proofs.Names.{is_empty, is_running, is_some, IsProgram, IsRound, Job, le-leb, length, Line, link_of, List, may_end, may_go}
+use Rattle.protocol_model.proofs.Names.{Meaning, MeasuredFeature, nat_lt, next_of, None, none_left, not, Ok, OpenCommand, Option, Outcome}
+use Rattle.protocol_model.proofs.Names.{plain_execution, plan_left, Planned, reading_of, refl, rejoined, Reply, reply_bytes, reply_texts, Some, Start}
+use Rattle.protocol_model.proofs.Names.{State, subst, suc, sym, Table, true, Up, Wanted, ℕ}
+use Rattle.protocol_model.specs.World.{after, can, happens, run_of, start, World}
 use Rattle.protocol_model.specs.declared.events.Event.{Event}
-use Rattle.protocol_model.specs.declared.events.Event.TheVariants.{Connect, Accept, ClientSends, Up, ServerReads, ServerTurn, Machine, Down}
-use Rattle.protocol_model.specs.declared.events.Event.TheVariants.{ClientReads, ClientLeaves, ServerLeaves, Abort, Resume, ClientRestart}
+use Rattle.protocol_model.specs.declared.events.Event.TheVariants.{Accept, ClientSends, Connect, Machine, ServerReads, ServerTurn}
+use Rattle.protocol_model.specs.declared.events.Event.TheVariants.{Abort, ClientLeaves, ClientReads, ClientRestart, Resume, ServerLeaves}
 use Rattle.protocol_model.specs.declared.events.Event.TheVariants.{ServerRestart}
-use Rattle.protocol_model.specs.declared.held.OpenCommand.{OpenCommand}
-use Rattle.protocol_model.specs.declared.lines.Line.{Line}
-use Rattle.protocol_model.specs.declared.machine.Job.{Job}
-use Rattle.protocol_model.specs.declared.machine.Outcome.{Outcome}
-use Rattle.protocol_model.specs.declared.plans.Planned.{Planned}
-use Rattle.protocol_model.specs.declared.plans.Start.{Start}
-use Rattle.protocol_model.specs.declared.states.State.{State}
 use Rattle.protocol_model.proofs.table.Replying.{Reads, front_refl}
 use Rattle.protocol_model.proofs.plan.Marks.{touches_in, plan_touches}
 use Rattle.protocol_model.proofs.invariant.Served.{have_drop, program_has}

@@ -1,37 +1,17 @@
 -- An undisturbed round keeps that nothing fails, and that what is held and still to be measured are the features that are wanted.
-use Rattle.std.proofs.Common.{◌≡◌, ◌⊎◌, inl, inr, ℕ, suc, Bool, true, false, cond, not, ◌&&◌, List, [], ◌∷◌, ◌++◌, refl, sym, ◌∙◌, ap}
-use Rattle.std.proofs.Common.{subst}
-use Rattle.std.proofs.Common.{Option, Some, None, is_none, Result, Ok, Err, arith, eqb, eq-eqb}
-use Rattle.std.proofs.lemmas.Bool.{false≢true, and_parts}
-use Rattle.dme_line.specs.Kinds.{kind_of}
-use Rattle.dme_line.specs.declared.tags.Tag.{Tag}
-use Rattle.dme_line.specs.declared.tags.Tag.TheVariants.{Std, Event}
-use Rattle.dme_line.specs.declared.commands.Kind.{Kind}
-use Rattle.contact_ledger.specs.declared.features.Feature.{Feature}
-use Rattle.dmis_program.specs.declared.features.Wanted.{Wanted}
-use Rattle.line_framing.specs.Next.{next_of}
-use Rattle.protocol_model.specs.Replies.{Reply, Mark, tag_of, mark_of, tag_is}
-use Rattle.protocol_model.specs.Open.{Effect, Becomes, Breaks, Closes, Counts, judged_ack, heard_in, is_asking, count_open}
-use Rattle.protocol_model.specs.Plan.{is_empty}
-use Rattle.protocol_model.specs.Client.{Client, Table, Tally, counted_next, tallied, heard_on, client_hears, sends_next}
+use Rattle.protocol_model.proofs.Names.{[], ◌&&◌, ◌++◌, ◌∙◌, ◌∷◌, ◌≡◌, ◌⊎◌, and_parts, Answer, answers, ap, arith, Becomes, Bool, Breaks, Cause}
+use Rattle.protocol_model.proofs.Names.{Client, client_hears, Closes, cond, count_open, counted_next, Counts, Datum, Effect, ends_abort, eq-eqb, eqb}
+use Rattle.protocol_model.proofs.Names.{Err, false, false≢true, Feature, first_state, heard_in, heard_on, held_now, inl, inr, is_asking, is_empty}
+use Rattle.protocol_model.proofs.Names.{is_none, is_whole, Job, job_run, judged_ack, Kind, kind_of, last_state, Line, List, machined, mark_of}
+use Rattle.protocol_model.proofs.Names.{MeasuredFeature, next_number, next_of, None, not, Ok, OpenCommand, Option, Outcome, Planned, queued, refl}
+use Rattle.protocol_model.proofs.Names.{Reply, Result, sends_next, Server, server_machined, server_read, server_turned, Some, Stage, State}
+use Rattle.protocol_model.proofs.Names.{state_behind, Std, subst, suc, sym, Table, Tag, tag_is, tag_of, tallied, Tally, true, turned_to, Waiting}
+use Rattle.protocol_model.proofs.Names.{Wanted, ℕ}
+use Rattle.dme_line.specs.declared.tags.Tag.TheVariants.{Event}
+use Rattle.protocol_model.specs.Replies.{Mark}
 use Rattle.protocol_model.proofs.HeardTables.{heard}
-use Rattle.protocol_model.specs.Client.{next_number, held_now, state_behind, last_state, first_state, is_whole, ends_abort}
-use Rattle.protocol_model.specs.Server.{Server, Answer, answers, queued, server_read, server_turned, server_machined, turned_to, machined}
-use Rattle.protocol_model.specs.Server.{job_run}
-use Rattle.protocol_model.specs.World.{World, can, happens, after}
-use Rattle.protocol_model.specs.PlainExecution.{MeasuredFeature}
+use Rattle.protocol_model.specs.World.{after, can, happens, World}
 use Rattle.protocol_model.specs.declared.events.Event.{Event as OneEvent}
-use Rattle.protocol_model.specs.declared.events.Event.TheVariants as event
-use Rattle.protocol_model.specs.declared.held.Datum.{Datum}
-use Rattle.protocol_model.specs.declared.held.OpenCommand.{OpenCommand}
-use Rattle.protocol_model.specs.declared.held.Stage.{Stage}
-use Rattle.protocol_model.specs.declared.lines.Line.{Line}
-use Rattle.protocol_model.specs.declared.lines.Waiting.{Waiting}
-use Rattle.protocol_model.specs.declared.machine.Job.{Job}
-use Rattle.protocol_model.specs.declared.machine.Outcome.{Outcome}
-use Rattle.protocol_model.specs.declared.plans.Planned.{Planned}
-use Rattle.protocol_model.specs.declared.states.State.{State}
-use Rattle.protocol_model.specs.declared.states.Cause.{Cause}
 use Rattle.protocol_model.proofs.table.Basics.{if_true, if_false}
 use Rattle.protocol_model.proofs.table.Walks.{two, heard_cases}
 use Rattle.protocol_model.proofs.table.Replying.{fine, same_table, step_cases, Reads, with_standard, reads_with_standard}
@@ -221,9 +201,9 @@ answered_good answer goal kept b j g live v carried a client server down succeed
 
 -- the first that waits is processed
 turn_good : (answer : Job → ℕ → Outcome) (goal : List MeasuredFeature) (kept : List Feature) (b : World) → IsJoined b
-    → IsGood answer goal kept b → can event.ServerTurn b ≡ true → IsGood answer goal kept (happens event.ServerTurn b)
+    → IsGood answer goal kept b → can OneEvent.ServerTurn b ≡ true → IsGood answer goal kept (happens OneEvent.ServerTurn b)
 turn_good answer goal kept b j g may =
-    answered_good answer goal kept b j g here.live (happens event.ServerTurn b) (turn_carried b g.carried j.on may)
+    answered_good answer goal kept b j g here.live (happens OneEvent.ServerTurn b) (turn_carried b g.carried j.on may)
     (server_turned b.server.server) refl refl refl (go here.near.queued here.near.by)
   where
     here : Here b g.carried
@@ -253,10 +233,10 @@ turn_good answer goal kept b j g may =
 
 -- what runs ends
 end_good : (answer : Job → ℕ → Outcome) (goal : List MeasuredFeature) (kept : List Feature) (b : World) (outcome : Outcome)
-    → IsJoined b → IsGood answer goal kept b → IsEnd answer b.server.server outcome → can (event.Machine outcome) b ≡ true
-    → IsGood answer goal kept (happens (event.Machine outcome) b)
+    → IsJoined b → IsGood answer goal kept b → IsEnd answer b.server.server outcome → can (OneEvent.Machine outcome) b ≡ true
+    → IsGood answer goal kept (happens (OneEvent.Machine outcome) b)
 end_good answer goal kept b outcome j g end may =
-    answered_good answer goal kept b j g here.live (happens (event.Machine outcome) b)
+    answered_good answer goal kept b j g here.live (happens (OneEvent.Machine outcome) b)
     (machine_carried b outcome g.carried j.on may)
     (server_machined b.server.server outcome) refl refl refl (go b.server.server.running refl)
   where
@@ -356,13 +336,13 @@ line_succeeds answer goal kept b j g here x up up_is = go here.near.coming refl
         }) g.error)
 
 read_good : (answer : Job → ℕ → Outcome) (goal : List MeasuredFeature) (kept : List Feature) (b : World)
-    → IsJoined b → IsGood answer goal kept b → can event.ServerReads b ≡ true
-    → IsGood answer goal kept (happens event.ServerReads b)
+    → IsJoined b → IsGood answer goal kept b → can OneEvent.ServerReads b ≡ true
+    → IsGood answer goal kept (happens OneEvent.ServerReads b)
 read_good answer goal kept b j g may =
     let parts = and_parts _ _ (and_parts _ _ may).1 in
-    let r : ReadsFirst b g.carried (happens event.ServerReads b) = reads_first b g.carried j.on j.same parts.1 in
+    let r : ReadsFirst b g.carried (happens OneEvent.ServerReads b) = reads_first b g.carried j.on j.same parts.1 in
     let here : Here b g.carried = here_of b g.carried j.client_on j.on j.same in
-    answered_good answer goal kept b j g here.live (happens event.ServerReads b) r.carried
+    answered_good answer goal kept b j g here.live (happens OneEvent.ServerReads b) r.carried
     (server_read b.server.server (Ok r.first)) r.client_is r.server_is r.down_is
     (line_succeeds answer goal kept b j g here r.first r.others r.up_is)
 
@@ -387,8 +367,8 @@ with_others answer goal kept ws s y ps r = record {
 }
 
 sends_good : (answer : Job → ℕ → Outcome) (goal : List MeasuredFeature) (kept : List Feature)
-    (b : World) → IsJoined b → IsGood answer goal kept b → can event.ClientSends b ≡ true
-    → IsGood answer goal kept (happens event.ClientSends b)
+    (b : World) → IsJoined b → IsGood answer goal kept b → can OneEvent.ClientSends b ≡ true
+    → IsGood answer goal kept (happens OneEvent.ClientSends b)
 sends_good answer goal kept b j g may =
     let f : IsFine answer goal kept b.server.server g.carried.down
     (sends_next c c.table.tally.unsent (next_number Std c.table.standard c.drawn)).client =
@@ -404,11 +384,11 @@ sends_good answer goal kept b j g may =
     d : IsDue c
     d = due_is c may
 
-    later : IsCarried (happens event.ClientSends b)
-    later = happens_carried event.ClientSends b g.carried may
+    later : IsCarried (happens OneEvent.ClientSends b)
+    later = happens_carried OneEvent.ClientSends b g.carried may
 
     fine_now : (sends_next c c.table.tally.unsent (next_number Std c.table.standard c.drawn)).client.state ≡ State.Faulted → ⊥
-    fine_now = never_faulted (lined (happens event.ClientSends b) later.up later.down) later.inv
+    fine_now = never_faulted (lined (happens OneEvent.ClientSends b) later.up later.down) later.inv
 
     sent_so : (n : ℕ) → IsFine answer goal kept b.server.server g.carried.down (sends_next c (d.planned ∷ d.others) (Some n)).client
     sent_so n =
@@ -478,8 +458,8 @@ heard_going c t m mid is failed events (inr done) = inr (
 )
 
 hears_good : (answer : Job → ℕ → Outcome) (goal : List MeasuredFeature) (kept : List Feature)
-    (b : World) → IsJoined b → IsGood answer goal kept b → can event.ClientReads b ≡ true
-    → IsGood answer goal kept (happens event.ClientReads b)
+    (b : World) → IsJoined b → IsGood answer goal kept b → can OneEvent.ClientReads b ≡ true
+    → IsGood answer goal kept (happens OneEvent.ClientReads b)
 hears_good answer goal kept b j g may =
     let f : IsFine answer goal kept b.server.server h.others c_now =
     subst (IsFine answer goal kept b.server.server h.others) (sym h.client_is) (go (tag_is t (Event 0)) refl) in
@@ -499,14 +479,14 @@ hears_good answer goal kept b j g may =
     parts : (fault ≡ true) × (there ≡ true)
     parts = and_parts fault there (and_parts b.client.client.on (fault && there) may).1
 
-    h : HearsFirst b g.carried (happens event.ClientReads b)
+    h : HearsFirst b g.carried (happens OneEvent.ClientReads b)
     h = hears_first b g.carried j.client_on parts.1
 
     c : Client
     c = b.client.client
 
     c_now : Client
-    c_now = (happens event.ClientReads b).client.client
+    c_now = (happens OneEvent.ClientReads b).client.client
 
     t : Tag
     t = tag_of h.first
@@ -551,23 +531,23 @@ pub keeps_good : (answer : Job → ℕ → Outcome) (goal : List MeasuredFeature
 keeps_good answer goal kept e b of j g = go (can e b) refl
   where
     happened : (e : OneEvent) → IsOfRound answer b e → can e b ≡ true → IsGood answer goal kept (happens e b)
-    happened event.ClientSends of may = sends_good answer goal kept b j g may
-    happened (event.Up k) of may =
+    happened OneEvent.ClientSends of may = sends_good answer goal kept b j g may
+    happened (OneEvent.Up k) of may =
         record { carried = up_carried b k g.carried j.on; going = g.going; error = g.error; ready = g.ready }
-    happened event.ServerReads of may = read_good answer goal kept b j g may
-    happened event.ServerTurn of may = turn_good answer goal kept b j g may
-    happened (event.Machine outcome) of may = end_good answer goal kept b outcome j g of may
-    happened (event.Down k) of may =
+    happened OneEvent.ServerReads of may = read_good answer goal kept b j g may
+    happened OneEvent.ServerTurn of may = turn_good answer goal kept b j g may
+    happened (OneEvent.Machine outcome) of may = end_good answer goal kept b outcome j g of may
+    happened (OneEvent.Down k) of may =
         record { carried = down_carried b k g.carried j.client_on; going = g.going; error = g.error; ready = g.ready }
-    happened event.ClientReads of may = hears_good answer goal kept b j g may
-    happened event.Connect of may = absurd of
-    happened (event.Accept n) of may = absurd of
-    happened event.ClientLeaves of may = absurd of
-    happened event.ServerLeaves of may = absurd of
-    happened event.Abort of may = absurd of
-    happened event.Resume of may = absurd of
-    happened (event.ClientRestart k) of may = absurd of
-    happened event.ServerRestart of may = absurd of
+    happened OneEvent.ClientReads of may = hears_good answer goal kept b j g may
+    happened OneEvent.Connect of may = absurd of
+    happened (OneEvent.Accept n) of may = absurd of
+    happened OneEvent.ClientLeaves of may = absurd of
+    happened OneEvent.ServerLeaves of may = absurd of
+    happened OneEvent.Abort of may = absurd of
+    happened OneEvent.Resume of may = absurd of
+    happened (OneEvent.ClientRestart k) of may = absurd of
+    happened OneEvent.ServerRestart of may = absurd of
 
     go : (t : Bool) → can e b ≡ t → IsGood answer goal kept (cond t (happens e b) b)
     go true may = happened e of may

@@ -1,32 +1,16 @@
 -- What a client becomes by what it reads: itself, Faulted, or what one reply makes of it.
-use Rattle.std.proofs.Common.{◌≡◌, ℕ, ◌≤◌, Bool, true, false, cond, List, length, refl, arith, Option, Some, None}
-use Rattle.std.proofs.Common.{Result, Ok, Err}
-use Rattle.fixed_um.specs.declared.lengths.Point.{Point}
-use Rattle.dme_line.specs.declared.tags.Tag.{Tag}
+use Rattle.protocol_model.proofs.Names.{◌≡◌, ◌≤◌, arith, Bool, Cause, Client, client_hears, client_read, cond, Datum, Err, false, faulted}
+use Rattle.protocol_model.proofs.Names.{FramingFault, Front, front_read, given_for, given_homed, given_point, given_under, heard_on, held_under}
+use Rattle.protocol_model.proofs.Names.{homed_of, Kind, length, line_read, List, None, NotHomedText, NotPoint, NotResponse, Ok, Option, Planned}
+use Rattle.protocol_model.proofs.Names.{Point, point_of, refl, Response, response_of, response_read, Result, Some, Table, Tag, tag_is, true, ℕ}
 use Rattle.dme_line.specs.declared.tags.Tag.TheVariants.{Event}
-use Rattle.dme_line.specs.declared.commands.Kind.{Kind}
-use Rattle.dme_line.specs.declared.commands.Kind.TheVariants as kind
-use Rattle.dme_line.specs.declared.homed.NotHomedText.{NotHomedText}
-use Rattle.dme_line.specs.declared.points.NotPoint.{NotPoint}
 use Rattle.dme_line.specs.declared.responses.Mark.{Mark as Marked}
-use Rattle.dme_line.specs.declared.responses.Mark.TheVariants as mark
-use Rattle.dme_line.specs.declared.responses.Response.{Response}
-use Rattle.dme_line.specs.declared.responses.NotResponse.{NotResponse}
-use Rattle.protocol_model.specs.Readings.{response_of, point_of, homed_of}
-use Rattle.line_framing.specs.Next.{Front}
-use Rattle.line_framing.specs.declared.faults.FramingFault.TheVariants as framing
-use Rattle.protocol_model.specs.Replies.{Mark, tag_is}
-use Rattle.protocol_model.specs.Client.{Client, Table, faulted, client_hears, client_read, heard_on}
+use Rattle.protocol_model.specs.Replies.{Mark}
 use Rattle.protocol_model.proofs.HeardTables.{heard}
-use Rattle.protocol_model.specs.Ends.{held_under, given_point, given_homed, given_for, given_under, response_read, line_read}
-use Rattle.protocol_model.specs.Ends.{front_read}
 use Rattle.protocol_model.proofs.table.Basics.{if_false}
 use Rattle.protocol_model.proofs.table.Replying.{fine}
 use Rattle.protocol_model.proofs.table.Asking.{step_leaves}
 use Rattle.protocol_model.proofs.plan.PassedOver.{passes}
-use Rattle.protocol_model.specs.declared.held.Datum.TheVariants as datum
-use Rattle.protocol_model.specs.declared.plans.Planned.{Planned}
-use Rattle.protocol_model.specs.declared.states.Cause.{Cause}
 
 -- what holds of a client, of the client when Faulted, and of the client after each expected reply
 pub record Closed (c : Client) (P : Client → Type 0) : Type 0 where
@@ -51,27 +35,27 @@ either P true x y p q = p
 either P false x y p q = q
 
 point_cases : (c : Client) (t : Tag) (r : Result Point NotPoint) (P : Client → Type 0) → Closed c P → P (given_point c t r)
-point_cases c t (Ok p) P k = read_cases c t (Mark.Given (datum.Point p)) P k
+point_cases c t (Ok p) P k = read_cases c t (Mark.Given (Datum.Point p)) P k
 point_cases c t (Err why) P k = k.fault Cause.NotResponse
 
 homed_cases : (c : Client) (t : Tag) (r : Result Bool NotHomedText) (P : Client → Type 0) → Closed c P → P (given_homed c t r)
-homed_cases c t (Ok homed) P k = read_cases c t (Mark.Given (datum.Homed homed)) P k
+homed_cases c t (Ok homed) P k = read_cases c t (Mark.Given (Datum.Homed homed)) P k
 homed_cases c t (Err why) P k = k.fault Cause.NotResponse
 
 for_cases : (c : Client) (t : Tag) (text : List ℕ) (x : Kind) (P : Client → Type 0) → Closed c P
     → P (given_for c t text x)
-for_cases c t text kind.PtMeas P k = point_cases c t (point_of text) P k
-for_cases c t text kind.IsHomed P k = homed_cases c t (homed_of text) P k
-for_cases c t text kind.StartSession P k = k.fault Cause.OutOfOrder
-for_cases c t text kind.EndSession P k = k.fault Cause.OutOfOrder
-for_cases c t text kind.ClearAllErrors P k = k.fault Cause.OutOfOrder
-for_cases c t text kind.Home P k = k.fault Cause.OutOfOrder
-for_cases c t text kind.OnPtMeasReport P k = k.fault Cause.OutOfOrder
-for_cases c t text kind.GoTo P k = k.fault Cause.OutOfOrder
-for_cases c t text kind.ChangeTool P k = k.fault Cause.OutOfOrder
-for_cases c t text kind.SetCsyTransformation P k = k.fault Cause.OutOfOrder
-for_cases c t text kind.SetCoordSystem P k = k.fault Cause.OutOfOrder
-for_cases c t text kind.AbortE P k = k.fault Cause.OutOfOrder
+for_cases c t text Kind.PtMeas P k = point_cases c t (point_of text) P k
+for_cases c t text Kind.IsHomed P k = homed_cases c t (homed_of text) P k
+for_cases c t text Kind.StartSession P k = k.fault Cause.OutOfOrder
+for_cases c t text Kind.EndSession P k = k.fault Cause.OutOfOrder
+for_cases c t text Kind.ClearAllErrors P k = k.fault Cause.OutOfOrder
+for_cases c t text Kind.Home P k = k.fault Cause.OutOfOrder
+for_cases c t text Kind.OnPtMeasReport P k = k.fault Cause.OutOfOrder
+for_cases c t text Kind.GoTo P k = k.fault Cause.OutOfOrder
+for_cases c t text Kind.ChangeTool P k = k.fault Cause.OutOfOrder
+for_cases c t text Kind.SetCsyTransformation P k = k.fault Cause.OutOfOrder
+for_cases c t text Kind.SetCoordSystem P k = k.fault Cause.OutOfOrder
+for_cases c t text Kind.AbortE P k = k.fault Cause.OutOfOrder
 
 under_cases : (c : Client) (t : Tag) (text : List ℕ) (held : Option Kind) (P : Client → Type 0) → Closed c P
     → P (given_under c t text held)
@@ -80,11 +64,11 @@ under_cases c t text (Some x) P k = for_cases c t text x P k
 
 response_cases : (c : Client) (t : Tag) (m : Marked) (P : Client → Type 0) → Closed c P
     → P (response_read c t m)
-response_cases c t mark.Ack P k = read_cases c t Mark.Ack P k
-response_cases c t (mark.Given text) P k = either P (tag_is t (Event 0)) c (given_under c t text (held_under t c)) k.same
+response_cases c t Marked.Ack P k = read_cases c t Mark.Ack P k
+response_cases c t (Marked.Given text) P k = either P (tag_is t (Event 0)) c (given_under c t text (held_under t c)) k.same
     (under_cases c t text (held_under t c) P k)
-response_cases c t mark.Done P k = read_cases c t Mark.Done P k
-response_cases c t (mark.Error text) P k = read_cases c t Mark.Error P k
+response_cases c t Marked.Done P k = read_cases c t Mark.Done P k
+response_cases c t (Marked.Error text) P k = read_cases c t Mark.Error P k
 
 line_cases : (c : Client) (r : Result Response NotResponse) (P : Client → Type 0) → Closed c P
     → P (line_read c r)
@@ -95,8 +79,8 @@ line_cases c (Err refused) P k = k.fault Cause.NotResponse
 pub front_cases : (c : Client) (f : Front) (P : Client → Type 0) → Closed c P → P (front_read c f)
 front_cases c (Ok None) P k = k.same
 front_cases c (Ok (Some (line, rest))) P k = line_cases c (response_of line) P k
-front_cases c (Err framing.LineTooLong) P k = k.fault Cause.LineTooLong
-front_cases c (Err framing.BadByte) P k = k.fault Cause.BadByte
+front_cases c (Err FramingFault.LineTooLong) P k = k.fault Cause.LineTooLong
+front_cases c (Err FramingFault.BadByte) P k = k.fault Cause.BadByte
 
 -- ---- what a client that reads has not sent
 

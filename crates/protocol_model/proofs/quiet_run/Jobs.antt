@@ -1,38 +1,24 @@
 -- What runs at a server is a job of its machine.
-use Rattle.std.proofs.Common.{◌≡◌, ℕ, Bool, true, false, cond, not, ◌&&◌, ◌||◌, List, [], ◌∷◌, length, refl, nat_le, Option, Some, None}
-use Rattle.std.proofs.Common.{Ok, Err}
-use Rattle.std.proofs.Common.{Result}
-use Rattle.fixed_um.specs.declared.lengths.Point.{Point}
-use Rattle.fixed_um.specs.declared.frames.Frame.{Frame}
-use Rattle.dme_line.specs.Tags.{is_event_tag}
-use Rattle.dme_line.specs.declared.tags.Tag.{Tag}
-use Rattle.dme_line.specs.declared.commands.Command.{Command}
-use Rattle.dme_line.specs.declared.commands.Command.TheVariants as command
-use Rattle.dme_line.specs.declared.reading.LineFault.TheVariants as fault
-use Rattle.protocol_model.specs.Replies.{Reading}
-use Rattle.protocol_model.specs.Server.{Server, Answer, runs_under, waits_under, is_abort, is_clear, stands, fresh, tagged, server_read}
-use Rattle.protocol_model.specs.Server.{refusal, carried_out, carried, taken, turned_to, server_turned, finished, touched, machined}
-use Rattle.protocol_model.specs.Server.{server_machined, job_of, job_run}
-use Rattle.protocol_model.specs.declared.lines.Line.{Line}
-use Rattle.protocol_model.specs.declared.lines.Misread.{Misread}
-use Rattle.protocol_model.specs.declared.lines.Misread.TheVariants as misread
-use Rattle.protocol_model.specs.declared.lines.Waiting.{Waiting}
-use Rattle.protocol_model.specs.declared.machine.Outcome.{Outcome}
+use Rattle.protocol_model.proofs.Names.{[], ◌&&◌, ◌||◌, ◌∷◌, ◌≡◌, Answer, Bool, carried, carried_out, Command, cond, Err, false, finished, Frame}
+use Rattle.protocol_model.proofs.Names.{fresh, is_abort, is_clear, is_event_tag, job_of, job_run, length, Line, LineFault, List, machined, Misread}
+use Rattle.protocol_model.proofs.Names.{nat_le, None, not, Ok, Option, Outcome, Point, Reading, refl, refusal, Result, runs_under, Server}
+use Rattle.protocol_model.proofs.Names.{server_machined, server_read, server_turned, Some, stands, Tag, tagged, taken, touched, true, turned_to}
+use Rattle.protocol_model.proofs.Names.{Waiting, waits_under, ℕ}
 
 -- a command that the machine carries out
 abbrev pub IsJob : Command → Type 0
-IsJob command.Home = Unit {0}
-IsJob (command.ChangeTool n) = Unit {0}
-IsJob (command.GoTo p) = Unit {0}
-IsJob (command.PtMeas p d) = Unit {0}
-IsJob command.StartSession = ⊥
-IsJob command.EndSession = ⊥
-IsJob command.ClearAllErrors = ⊥
-IsJob command.IsHomed = ⊥
-IsJob command.OnPtMeasReport = ⊥
-IsJob (command.SetCsyTransformation p) = ⊥
-IsJob (command.SetCoordSystem system) = ⊥
-IsJob command.AbortE = ⊥
+IsJob Command.Home = Unit {0}
+IsJob (Command.ChangeTool n) = Unit {0}
+IsJob (Command.GoTo p) = Unit {0}
+IsJob (Command.PtMeas p d) = Unit {0}
+IsJob Command.StartSession = ⊥
+IsJob Command.EndSession = ⊥
+IsJob Command.ClearAllErrors = ⊥
+IsJob Command.IsHomed = ⊥
+IsJob Command.OnPtMeasReport = ⊥
+IsJob (Command.SetCsyTransformation p) = ⊥
+IsJob (Command.SetCoordSystem system) = ⊥
+IsJob Command.AbortE = ⊥
 
 -- what runs is one, if anything does
 abbrev pub RunsJob : Option Line → Type 0
@@ -45,18 +31,18 @@ nothing_runs frame None h e = refl
 nothing_runs frame (Some line) h e = absurd (go line.command h e)
   where
     go : (c : Command) → IsJob c → job_of frame c ≡ None → ⊥
-    go command.Home h e = cc
-    go (command.ChangeTool n) h e = cc
-    go (command.GoTo p) h e = cc
-    go (command.PtMeas p d) h e = cc
-    go command.StartSession h e = h
-    go command.EndSession h e = h
-    go command.ClearAllErrors h e = h
-    go command.IsHomed h e = h
-    go command.OnPtMeasReport h e = h
-    go (command.SetCsyTransformation p) h e = h
-    go (command.SetCoordSystem system) h e = h
-    go command.AbortE h e = h
+    go Command.Home h e = cc
+    go (Command.ChangeTool n) h e = cc
+    go (Command.GoTo p) h e = cc
+    go (Command.PtMeas p d) h e = cc
+    go Command.StartSession h e = h
+    go Command.EndSession h e = h
+    go Command.ClearAllErrors h e = h
+    go Command.IsHomed h e = h
+    go Command.OnPtMeasReport h e = h
+    go (Command.SetCsyTransformation p) h e = h
+    go (Command.SetCoordSystem system) h e = h
+    go Command.AbortE h e = h
 
 abbrev AnswersJob : Answer → Type 0
 AnswersJob a = RunsJob a.server.running
@@ -79,23 +65,23 @@ tagged_job s t reading h = either (runs_under t s.running || waits_under t s.wai
 -- a line that is read begins no other
 pub read_job : (s : Server) (reading : Reading) → RunsJob s.running → RunsJob (server_read s reading).server.running
 read_job s (Ok line) h = tagged_job s line.tag (Ok line.command) h
-read_job s (Err fault.NoTag) h = h
-read_job s (Err (fault.UnknownCommand t)) h = tagged_job s t (Err misread.UnknownCommand) h
-read_job s (Err (fault.BadArguments t k)) h = tagged_job s t (Err (misread.BadArguments k)) h
+read_job s (Err LineFault.NoTag) h = h
+read_job s (Err (LineFault.UnknownCommand t)) h = tagged_job s t (Err Misread.UnknownCommand) h
+read_job s (Err (LineFault.BadArguments t k)) h = tagged_job s t (Err (Misread.BadArguments k)) h
 
 carried_job : (s : Server) (t : Tag) (c : Command) → RunsJob s.running → AnswersJob (carried_out s t c)
-carried_job s t command.StartSession h = h
-carried_job s t command.EndSession h = h
-carried_job s t command.ClearAllErrors h = h
-carried_job s t command.IsHomed h = h
-carried_job s t command.Home h = tt
-carried_job s t command.OnPtMeasReport h = h
-carried_job s t (command.GoTo p) h = tt
-carried_job s t (command.PtMeas p d) h = tt
-carried_job s t (command.ChangeTool n) h = tt
-carried_job s t (command.SetCsyTransformation p) h = h
-carried_job s t (command.SetCoordSystem system) h = h
-carried_job s t command.AbortE h = h
+carried_job s t Command.StartSession h = h
+carried_job s t Command.EndSession h = h
+carried_job s t Command.ClearAllErrors h = h
+carried_job s t Command.IsHomed h = h
+carried_job s t Command.Home h = tt
+carried_job s t Command.OnPtMeasReport h = h
+carried_job s t (Command.GoTo p) h = tt
+carried_job s t (Command.PtMeas p d) h = tt
+carried_job s t (Command.ChangeTool n) h = tt
+carried_job s t (Command.SetCsyTransformation p) h = h
+carried_job s t (Command.SetCoordSystem system) h = h
+carried_job s t Command.AbortE h = h
 
 taken_job : (s : Server) (w : Waiting) (ws : List Waiting) (number : Option ℕ) → RunsJob s.running → AnswersJob (taken s w ws number)
 taken_job s w ws (Some number) h = h
@@ -114,34 +100,34 @@ turned_job s h = go s.waiting
     go (w ∷ ws) = taken_job s w ws (refusal s w.reading) h
 
 finished_job : (s : Server) (t : Tag) (c : Command) → RunsJob s.running → AnswersJob (finished s t c)
-finished_job s t command.StartSession h = h
-finished_job s t command.EndSession h = h
-finished_job s t command.ClearAllErrors h = h
-finished_job s t command.IsHomed h = h
-finished_job s t command.Home h = tt
-finished_job s t command.OnPtMeasReport h = h
-finished_job s t (command.GoTo p) h = tt
-finished_job s t (command.PtMeas p d) h = h
-finished_job s t (command.ChangeTool n) h = tt
-finished_job s t (command.SetCsyTransformation p) h = h
-finished_job s t (command.SetCoordSystem system) h = h
-finished_job s t command.AbortE h = h
+finished_job s t Command.StartSession h = h
+finished_job s t Command.EndSession h = h
+finished_job s t Command.ClearAllErrors h = h
+finished_job s t Command.IsHomed h = h
+finished_job s t Command.Home h = tt
+finished_job s t Command.OnPtMeasReport h = h
+finished_job s t (Command.GoTo p) h = tt
+finished_job s t (Command.PtMeas p d) h = h
+finished_job s t (Command.ChangeTool n) h = tt
+finished_job s t (Command.SetCsyTransformation p) h = h
+finished_job s t (Command.SetCoordSystem system) h = h
+finished_job s t Command.AbortE h = h
 
 touched_job : (s : Server) (t : Tag) (c : Command) (at : Point) (tool : Option (List ℕ)) → RunsJob s.running
     → AnswersJob (touched s t c at tool)
-touched_job s t command.StartSession at tool h = h
-touched_job s t command.EndSession at tool h = h
-touched_job s t command.ClearAllErrors at tool h = h
-touched_job s t command.IsHomed at tool h = h
-touched_job s t command.Home at tool h = h
-touched_job s t command.OnPtMeasReport at tool h = h
-touched_job s t (command.GoTo p) at tool h = h
-touched_job s t (command.PtMeas p d) at (Some n) h = tt
-touched_job s t (command.PtMeas p d) at None h = h
-touched_job s t (command.ChangeTool n) at tool h = h
-touched_job s t (command.SetCsyTransformation p) at tool h = h
-touched_job s t (command.SetCoordSystem system) at tool h = h
-touched_job s t command.AbortE at tool h = h
+touched_job s t Command.StartSession at tool h = h
+touched_job s t Command.EndSession at tool h = h
+touched_job s t Command.ClearAllErrors at tool h = h
+touched_job s t Command.IsHomed at tool h = h
+touched_job s t Command.Home at tool h = h
+touched_job s t Command.OnPtMeasReport at tool h = h
+touched_job s t (Command.GoTo p) at tool h = h
+touched_job s t (Command.PtMeas p d) at (Some n) h = tt
+touched_job s t (Command.PtMeas p d) at None h = h
+touched_job s t (Command.ChangeTool n) at tool h = h
+touched_job s t (Command.SetCsyTransformation p) at tool h = h
+touched_job s t (Command.SetCoordSystem system) at tool h = h
+touched_job s t Command.AbortE at tool h = h
 
 -- nor does the end of what runs
 pub machined_job : (s : Server) (outcome : Outcome) → RunsJob s.running → RunsJob (server_machined s outcome).server.running

@@ -1,22 +1,12 @@
 -- Both ends on one connection, and the events of a round: they stay there.
-use Rattle.std.proofs.Common.{◌≡◌, ℕ, Bool, true, false, cond, refl, sym, ◌∙◌, ap, subst, Option}
-use Rattle.std.proofs.Common.{Some, None, Ok, Err}
-use Rattle.contact_ledger.specs.Ledgers.{contact_count}
-use Rattle.line_framing.specs.Next.{Front, next_of}
-use Rattle.dme_line.specs.declared.tags.Tag.TheVariants.{Std}
-use Rattle.protocol_model.specs.Readings.{command_of}
-use Rattle.protocol_model.specs.Lines.{reading_of}
-use Rattle.protocol_model.specs.Client.{next_number}
-use Rattle.protocol_model.specs.Server.{Server, running_job}
-use Rattle.protocol_model.specs.Ends.{ServerEnd, front_served}
-use Rattle.protocol_model.specs.World.{World, can, happens, after, server_writes}
-use Rattle.protocol_model.specs.Rounds.{ended, ending, working}
+use Rattle.protocol_model.proofs.Names.{◌∙◌, ◌≡◌, ap, Bool, command_of, cond, contact_count, Down, ended, ending, Err, false, Front, front_served}
+use Rattle.protocol_model.proofs.Names.{Job, next_number, next_of, None, Ok, Option, Outcome, reading_of, refl, running_job, Server, server_writes}
+use Rattle.protocol_model.proofs.Names.{ServerEnd, Some, Std, subst, sym, true, Up, working, ℕ}
+use Rattle.protocol_model.specs.World.{after, can, happens, World}
 use Rattle.protocol_model.specs.declared.events.Event.{Event}
-use Rattle.protocol_model.specs.declared.events.Event.TheVariants.{Connect, Accept, ClientSends, Up, ServerReads, ServerTurn, Machine, Down}
-use Rattle.protocol_model.specs.declared.events.Event.TheVariants.{ClientReads, ClientLeaves, ServerLeaves, Abort, Resume, ClientRestart}
+use Rattle.protocol_model.specs.declared.events.Event.TheVariants.{Accept, ClientSends, Connect, Machine, ServerReads, ServerTurn}
+use Rattle.protocol_model.specs.declared.events.Event.TheVariants.{Abort, ClientLeaves, ClientReads, ClientRestart, Resume, ServerLeaves}
 use Rattle.protocol_model.specs.declared.events.Event.TheVariants.{ServerRestart}
-use Rattle.protocol_model.specs.declared.machine.Job.{Job}
-use Rattle.protocol_model.specs.declared.machine.Outcome.{Outcome}
 use Rattle.protocol_model.proofs.table.Basics.{if_true}
 use Rattle.protocol_model.proofs.invariant.Moves.{read_moves, turned_moves, machined_moves}
 use Rattle.protocol_model.proofs.whole_run.Carrying.{IsCarried}

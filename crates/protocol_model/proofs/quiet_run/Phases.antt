@@ -1,23 +1,14 @@
 -- A quiet round, part by part: after it no byte and no command is on its way.
-use Rattle.std.proofs.Common.{◌≡◌, ◌⊎◌, inl, inr, ℕ, suc, ◌≤◌, Bool, true, false, cond, not, ◌&&◌, List, [], ◌∷◌, ◌++◌, length, drop}
-use Rattle.std.proofs.Common.{refl, sym, ◌∙◌, ap, subst, arith, Option, Some, None, is_none, Ok, Err, nat_le, append-nil}
-use Rattle.std.proofs.lemmas.Bool.{false≢true, le-leb}
-use Rattle.line_framing.specs.Next.{Front, next_of}
-use Rattle.line_framing.proofs.Streams.{none_left}
-use Rattle.protocol_model.specs.Lines.{command_bytes, command_texts, reply_bytes, reply_texts, reading_of}
-use Rattle.protocol_model.specs.Plan.{is_empty}
-use Rattle.protocol_model.specs.Server.{Server, running_job}
-use Rattle.protocol_model.specs.Ends.{ServerEnd, front_served, serving_turned, serving_machined}
-use Rattle.protocol_model.specs.World.{World, Link, link_of, client_link, server_link, can, happens, after, run_of, server_writes}
-use Rattle.protocol_model.specs.World.{moved_down, has_some, is_line, is_any, is_faulted}
-use Rattle.protocol_model.specs.Rounds.{IsOne, AreWhile, Then, possible, all_up, all_down, ended, ending, working, AreWork, IsRound}
+use Rattle.protocol_model.proofs.Names.{[], ◌&&◌, ◌++◌, ◌∙◌, ◌∷◌, ◌≡◌, ◌≤◌, ◌⊎◌, all_down, all_up, ap, append-nil, AreWhile, AreWork, arith, Bool}
+use Rattle.protocol_model.proofs.Names.{client_link, command_bytes, command_of, command_texts, cond, Down, drop, ended, ending, Err, false}
+use Rattle.protocol_model.proofs.Names.{false≢true, Front, front_served, has_some, inl, inr, is_any, is_empty, is_faulted, is_line, is_none, IsOne}
+use Rattle.protocol_model.proofs.Names.{IsRound, Job, le-leb, length, Line, Link, link_of, List, moved_down, nat_le, next_of, None, none_left, not}
+use Rattle.protocol_model.proofs.Names.{Ok, Option, Outcome, possible, reading_of, refl, reply_bytes, reply_texts, running_job, Server, server_link}
+use Rattle.protocol_model.proofs.Names.{server_writes, ServerEnd, serving_machined, serving_turned, Some, State, subst, suc, sym, Then, true, Up}
+use Rattle.protocol_model.proofs.Names.{Waiting, working, ℕ}
+use Rattle.protocol_model.specs.World.{after, can, happens, run_of, World}
 use Rattle.protocol_model.specs.declared.events.Event.{Event}
-use Rattle.protocol_model.specs.declared.events.Event.TheVariants.{ClientSends, Up, ServerReads, ServerTurn, Machine, Down, ClientReads}
-use Rattle.protocol_model.specs.declared.lines.Line.{Line}
-use Rattle.protocol_model.specs.declared.lines.Waiting.{Waiting}
-use Rattle.protocol_model.specs.declared.machine.Job.{Job}
-use Rattle.protocol_model.specs.declared.machine.Outcome.{Outcome}
-use Rattle.protocol_model.specs.declared.states.State.{State}
+use Rattle.protocol_model.specs.declared.events.Event.TheVariants.{ClientReads, ClientSends, Machine, ServerReads, ServerTurn}
 use Rattle.protocol_model.proofs.invariant.Moves.{read_moves, turned_moves, machined_moves}
 use Rattle.protocol_model.proofs.each_event.ClientEvents.{never_faulted}
 use Rattle.protocol_model.proofs.written_lines.Writable.{command_lines, reply_lines}
@@ -25,7 +16,6 @@ use Rattle.protocol_model.proofs.whole_run.Carrying.{lined}
 use Rattle.protocol_model.proofs.whole_run.Links.{link_same}
 use Rattle.protocol_model.proofs.quiet_run.Jobs.{nothing_runs}
 use Rattle.protocol_model.proofs.quiet_run.Joining.{IsOfRound, IsJoined, after_is, after_joined, IsWork, work_is, work_of}
-use Rattle.protocol_model.specs.Readings.{command_of}
 
 -- ---- lists of events, and what they keep
 

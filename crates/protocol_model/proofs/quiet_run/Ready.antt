@@ -1,33 +1,12 @@
 -- What is to be done succeeds: the session is open, the machine is homed where that is wanted, all is in reach, and the machine obeys; and
 -- what is held, with what is still to be measured, are the features that are wanted.
-use Rattle.std.proofs.Common.{◌≡◌, ℕ, suc, ◌+◌, ◌||◌, Bool, true, false, List, [], ◌∷◌, ◌++◌, length, drop, refl, sym, ◌∙◌, ap, subst}
-use Rattle.std.proofs.Common.{append_assoc}
-use Rattle.std.proofs.Common.{Option, Some, None, append-nil}
-use Rattle.fixed_um.specs.declared.lengths.Point.{Point}
-use Rattle.fixed_um.specs.declared.frames.Frame.{Frame}
-use Rattle.fixed_um.specs.declared.frames.Frame.TheVariants.{Machine, Part}
-use Rattle.dme_line.specs.declared.commands.Command.{Command}
-use Rattle.dme_line.specs.declared.commands.Command.TheVariants as command
-use Rattle.dme_line.specs.declared.commands.Kind.{Kind}
-use Rattle.contact_ledger.specs.declared.features.Feature.{Feature}
-use Rattle.contact_ledger.specs.declared.features.Origin.{Origin}
-use Rattle.dmis_program.specs.Meaning.{Meaning as Program}
-use Rattle.dmis_program.specs.declared.features.Touch.{Touch}
-use Rattle.dmis_program.specs.declared.features.Wanted.{Wanted}
-use Rattle.dmis_program.specs.declared.steps.Step.{Step}
-use Rattle.dmis_program.specs.declared.steps.Step.TheVariants as step
-use Rattle.protocol_model.specs.Client.{Tally, is_homing, passed_over, measured, counted_next, tells_homed, begins_session}
-use Rattle.protocol_model.specs.Client.{act_of, joined, origin_of}
-use Rattle.protocol_model.specs.Plan.{planned, framing, tooling, stepping, plan, tool_behind, frame_behind, up_to, behind}
-use Rattle.protocol_model.specs.PlainExecution.{MeasuredFeature, plain_point, plain_points, plain_execution, as_measured}
-use Rattle.protocol_model.specs.Finishing.{AreInReach, AreObeyed, number_behind}
-use Rattle.protocol_model.specs.declared.held.Datum.{Datum}
-use Rattle.protocol_model.specs.declared.held.Datum.TheVariants as datum
-use Rattle.protocol_model.specs.declared.machine.Job.{Job}
-use Rattle.protocol_model.specs.declared.machine.Outcome.{Outcome}
-use Rattle.protocol_model.specs.declared.plans.Does.{Does}
-use Rattle.protocol_model.specs.declared.plans.Planned.{Planned}
-use Rattle.protocol_model.specs.declared.plans.Start.{Start}
+use Rattle.protocol_model.proofs.Names.{[], ◌++◌, ◌+◌, ◌||◌, ◌∙◌, ◌∷◌, ◌≡◌, act_of, ap, append-nil, append_assoc, AreInReach, AreObeyed, as_measured}
+use Rattle.protocol_model.proofs.Names.{begins_session, behind, Bool, Command, counted_next, Datum, Does, drop, false, Feature, Frame, frame_behind}
+use Rattle.protocol_model.proofs.Names.{framing, is_homing, Job, joined, Kind, length, List, Meaning as Program, measured, MeasuredFeature, None}
+use Rattle.protocol_model.proofs.Names.{number_behind, Option, Origin, origin_of, Outcome, Part, passed_over, plain_execution, plain_point}
+use Rattle.protocol_model.proofs.Names.{plain_points, plan, Planned, planned, Point, refl, Some, Start, Step, stepping, subst, suc, sym, Tally}
+use Rattle.protocol_model.proofs.Names.{tells_homed, tool_behind, tooling, Touch, true, up_to, Wanted, ℕ}
+use Rattle.fixed_um.specs.declared.frames.Frame.TheVariants.{Machine}
 use Rattle.protocol_model.proofs.table.Replying.{IsFront, front_trans}
 use Rattle.protocol_model.proofs.plan.Fitting.{Know, known_by, FitsOne, Fits}
 use Rattle.protocol_model.proofs.plan.Marks.{Marked, marks, marks_of, touch_in, touches_in}
@@ -38,47 +17,47 @@ use Rattle.protocol_model.proofs.invariant.Served.{HaveTouches}
 
 -- whether a command may be processed, by session and homing
 abbrev pub Allowed : Bool → Bool → Command → Type 0
-Allowed session homed command.StartSession = session ≡ false
-Allowed session homed command.EndSession = session ≡ true
-Allowed session homed command.ClearAllErrors = Unit {0}
-Allowed session homed command.IsHomed = session ≡ true
-Allowed session homed command.Home = session ≡ true
-Allowed session homed command.OnPtMeasReport = session ≡ true
-Allowed session homed (command.GoTo p) = (session ≡ true) × (homed ≡ true)
-Allowed session homed (command.PtMeas p d) = (session ≡ true) × (homed ≡ true)
-Allowed session homed (command.ChangeTool n) = (session ≡ true) × (homed ≡ true)
-Allowed session homed (command.SetCsyTransformation p) = session ≡ true
-Allowed session homed (command.SetCoordSystem system) = session ≡ true
-Allowed session homed command.AbortE = ⊥
+Allowed session homed Command.StartSession = session ≡ false
+Allowed session homed Command.EndSession = session ≡ true
+Allowed session homed Command.ClearAllErrors = Unit {0}
+Allowed session homed Command.IsHomed = session ≡ true
+Allowed session homed Command.Home = session ≡ true
+Allowed session homed Command.OnPtMeasReport = session ≡ true
+Allowed session homed (Command.GoTo p) = (session ≡ true) × (homed ≡ true)
+Allowed session homed (Command.PtMeas p d) = (session ≡ true) × (homed ≡ true)
+Allowed session homed (Command.ChangeTool n) = (session ≡ true) × (homed ≡ true)
+Allowed session homed (Command.SetCsyTransformation p) = session ≡ true
+Allowed session homed (Command.SetCoordSystem system) = session ≡ true
+Allowed session homed Command.AbortE = ⊥
 
 -- the session after a command, and the homing
 abbrev pub session_by : Bool → Command → Bool
-session_by session command.StartSession = true
-session_by session command.EndSession = false
-session_by session command.ClearAllErrors = session
-session_by session command.IsHomed = session
-session_by session command.Home = session
-session_by session command.OnPtMeasReport = session
-session_by session (command.GoTo p) = session
-session_by session (command.PtMeas p d) = session
-session_by session (command.ChangeTool n) = session
-session_by session (command.SetCsyTransformation p) = session
-session_by session (command.SetCoordSystem system) = session
-session_by session command.AbortE = session
+session_by session Command.StartSession = true
+session_by session Command.EndSession = false
+session_by session Command.ClearAllErrors = session
+session_by session Command.IsHomed = session
+session_by session Command.Home = session
+session_by session Command.OnPtMeasReport = session
+session_by session (Command.GoTo p) = session
+session_by session (Command.PtMeas p d) = session
+session_by session (Command.ChangeTool n) = session
+session_by session (Command.SetCsyTransformation p) = session
+session_by session (Command.SetCoordSystem system) = session
+session_by session Command.AbortE = session
 
 abbrev pub homed_by : Bool → Command → Bool
-homed_by homed command.Home = true
-homed_by homed command.StartSession = homed
-homed_by homed command.EndSession = homed
-homed_by homed command.ClearAllErrors = homed
-homed_by homed command.IsHomed = homed
-homed_by homed command.OnPtMeasReport = homed
-homed_by homed (command.GoTo p) = homed
-homed_by homed (command.PtMeas p d) = homed
-homed_by homed (command.ChangeTool n) = homed
-homed_by homed (command.SetCsyTransformation p) = homed
-homed_by homed (command.SetCoordSystem system) = homed
-homed_by homed command.AbortE = homed
+homed_by homed Command.Home = true
+homed_by homed Command.StartSession = homed
+homed_by homed Command.EndSession = homed
+homed_by homed Command.ClearAllErrors = homed
+homed_by homed Command.IsHomed = homed
+homed_by homed Command.OnPtMeasReport = homed
+homed_by homed (Command.GoTo p) = homed
+homed_by homed (Command.PtMeas p d) = homed
+homed_by homed (Command.ChangeTool n) = homed
+homed_by homed (Command.SetCsyTransformation p) = homed
+homed_by homed (Command.SetCoordSystem system) = homed
+homed_by homed Command.AbortE = homed
 
 -- each command of a plan may, one after another
 abbrev pub Opened : Bool → Bool → List Planned → Type 0
@@ -89,7 +68,7 @@ Opened session homed (p ∷ ps) = Allowed session homed p.command × Opened (ses
 opened_homed : (session told : Bool) (ps : List Planned) → Opened session told ps → Opened session told (passed_over told ps)
 opened_homed session false ps h = h
 opened_homed session true ps h = passes (Opened session true) (λ p qs e f.
-    let same : p.command ≡ command.Home = homing_is p.command e in
+    let same : p.command ≡ Command.Home = homing_is p.command e in
     subst (λ (c : Command). Opened (session_by session c) (homed_by true c) qs) same f.1) true ps h
 
 pub opened_passed : (session homed told : Bool) (ps : List Planned) → told ≡ homed → Opened session homed ps
@@ -108,15 +87,15 @@ opened_tooling (Some n) ps h = ((refl, refl), h)
 
 opened_steps : (f : Frame) (ss : List Step) (ps : List Planned) → Opened true true ps → Opened true true (stepping f ss ++ ps)
 opened_steps f [] ps h = h
-opened_steps f (step.Goto p ∷ ss) ps h = ((refl, refl), opened_steps f ss ps h)
-opened_steps f (step.Begin l ∷ ss) ps h = opened_steps f ss ps h
-opened_steps f (step.Touch t ∷ ss) ps h = ((refl, refl), opened_steps f ss ps h)
-opened_steps f (step.Tool n ∷ ss) ps h = ((refl, refl), opened_steps f ss ps h)
-opened_steps f (step.Recall p ∷ ss) ps h = (refl, (refl, opened_steps (Part p) ss ps h))
-opened_steps f (step.End ∷ ss) ps h = opened_steps f ss ps h
+opened_steps f (Step.Goto p ∷ ss) ps h = ((refl, refl), opened_steps f ss ps h)
+opened_steps f (Step.Begin l ∷ ss) ps h = opened_steps f ss ps h
+opened_steps f (Step.Touch t ∷ ss) ps h = ((refl, refl), opened_steps f ss ps h)
+opened_steps f (Step.Tool n ∷ ss) ps h = ((refl, refl), opened_steps f ss ps h)
+opened_steps f (Step.Recall p ∷ ss) ps h = (refl, (refl, opened_steps (Part p) ss ps h))
+opened_steps f (Step.End ∷ ss) ps h = opened_steps f ss ps h
 
 abbrev closing : List Planned
-closing = planned command.EndSession Does.Nothing ∷ []
+closing = planned Command.EndSession Does.Nothing ∷ []
 
 -- a plan on a new connection may, whether the machine is homed or not
 pub plan_opened : (p : Program) (k : ℕ) (homed : Bool) → Opened false homed (plan p k Start.NewConnection)
@@ -332,14 +311,14 @@ pub touch_ready : (answer : Job → ℕ → Outcome) (goal : List MeasuredFeatur
     (session homed : Bool) (rack : List (List ℕ)) (n : ℕ) (y : Tally) (k : Kind) (t : Touch) (last : Bool) (p : Planned)
     (whole : List Planned)
     → IsReady answer goal kept ws session homed rack n y → y.todo ≡ p ∷ whole → p.does ≡ Does.Touches t last
-    → tells_homed k (Some (datum.Point (plain_point answer n t))) ≡ false → Opened session homed whole
+    → tells_homed k (Some (Datum.Point (plain_point answer n t))) ≡ false → Opened session homed whole
     → IsReady answer goal kept ws session homed rack (suc n)
-    (counted_next ws k (Some (datum.Point (plain_point answer n t))) y.todo y)
+    (counted_next ws k (Some (Datum.Point (plain_point answer n t))) y.todo y)
 touch_ready answer goal kept ws session homed rack n y k t last p whole r todo does quiet opened =
     subst (IsReady answer goal kept ws session homed rack (suc n)) (sym is) (go last does_is)
   where
     given : Option Datum
-    given = Some (datum.Point (plain_point answer n t))
+    given = Some (Datum.Point (plain_point answer n t))
 
     mid : Tally
     mid = counted_mid k given p whole y

@@ -1,20 +1,11 @@
 -- Both ends leave, connect and accept: nothing is on its way, and the client has the plan for what is left.
-use Rattle.std.proofs.Common.{◌≡◌, ◌⊎◌, inl, inr, ℕ, suc, ◌≤◌, Bool, true, false, cond, not, ◌&&◌, List, [], ◌∷◌, ◌++◌, length}
-use Rattle.std.proofs.Common.{refl, sym, ◌∙◌, ap, subst, arith, nat_lt, nat_le}
-use Rattle.std.proofs.lemmas.Bool.{false≢true, le-leb}
-use Rattle.contact_ledger.specs.Ledgers.{connection_most}
-use Rattle.line_framing.specs.Framing.{Framing}
-use Rattle.contact_ledger.specs.declared.features.Feature.{Feature}
-use Rattle.dmis_program.specs.Meaning.{Meaning}
-use Rattle.protocol_model.specs.Plan.{plan}
-use Rattle.protocol_model.specs.declared.plans.Start.{Start}
-use Rattle.protocol_model.specs.Client.{Table, client_connected, left_state, no_tally, is_apart}
-use Rattle.protocol_model.specs.Ends.{ServerEnd, end_left, serving_left, serving_accepted}
-use Rattle.protocol_model.specs.World.{World, Link, no_link, link_of, can, after, connected}
-use Rattle.protocol_model.specs.Finishing.{CanFinish, rejoined, plan_left}
-use Rattle.protocol_model.specs.declared.events.Event.TheVariants.{Connect, Accept}
+use Rattle.protocol_model.proofs.Names.{[], ◌&&◌, ◌++◌, ◌∙◌, ◌∷◌, ◌≡◌, ◌≤◌, ◌⊎◌, ap, arith, Bool, CanFinish, client_connected, cond, connection_most}
+use Rattle.protocol_model.proofs.Names.{end_left, false, false≢true, Feature, Framing, inl, inr, is_apart, le-leb, left_state, length, Link, link_of}
+use Rattle.protocol_model.proofs.Names.{List, Meaning, nat_le, nat_lt, no_link, no_tally, not, plan, plan_left, refl, rejoined, ServerEnd}
+use Rattle.protocol_model.proofs.Names.{serving_accepted, serving_left, Start, State, subst, suc, sym, Table, true, ℕ}
+use Rattle.protocol_model.specs.World.{after, can, connected, World}
+use Rattle.protocol_model.specs.declared.events.Event.TheVariants.{Accept, Connect}
 use Rattle.protocol_model.specs.declared.events.Event.TheVariants.{ClientLeaves, ServerLeaves}
-use Rattle.protocol_model.specs.declared.states.State.{State}
 use Rattle.protocol_model.proofs.invariant.Holding.{IsOff, IsLive, IsAtRest, IsIdle}
 use Rattle.protocol_model.proofs.whole_run.Carrying.{lined, IsCarried}
 use Rattle.protocol_model.proofs.whole_run.CarryingClient.{client_left_carried, server_left_carried}

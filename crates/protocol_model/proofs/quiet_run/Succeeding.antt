@@ -1,43 +1,14 @@
 -- A server whose next command is ready does it: no turn is refused, and what runs is done.
-use Rattle.std.proofs.Common.{◌≡◌, ℕ, suc, ◌+◌, Bool, true, false, not, ◌&&◌, List, [], ◌∷◌, ◌++◌, length, drop, refl, sym, ◌∙◌, ap, subst}
-use Rattle.std.proofs.Common.{Option, Some, None, is_none, Ok, cond, arith, length-append}
+use Rattle.protocol_model.proofs.Names.{[], ◌&&◌, ◌++◌, ◌+◌, ◌∙◌, ◌∷◌, ◌≡◌, Act, acted, Answer, answers, ap, AreInReach, AreObeyed, arith}
+use Rattle.protocol_model.proofs.Names.{as_measured, asks_data, Bool, bytes_eq, carried_out, Command, cond, contact_count, contacts, counted_next}
+use Rattle.protocol_model.proofs.Names.{Datum, Direction, Does, drop, false, false≢true, Feature, first_failing, Frame, frame_of, has_no_tool, idle}
+use Rattle.protocol_model.proofs.Names.{in_volume, is_contact, is_none, IsInReach, IsObeyed, IsTouched, Job, job_of, kind_of, lacks_tool}
+use Rattle.protocol_model.proofs.Names.{leaves_volume, length, length-append, Line, List, list_any, machined, MadeContact, MeasuredFeature, met_at}
+use Rattle.protocol_model.proofs.Names.{None, not, offset, Ok, OpenCommand, opens, Option, Outcome, passed_over, plain_point, Planned, Point}
+use Rattle.protocol_model.proofs.Names.{point_difference, point_sum, refl, refusal, Reply, Server, Some, subst, suc, sym, Table, Tag, taken, Tally}
+use Rattle.protocol_model.proofs.Names.{tells_homed, touch_job, touched, true, Wanted, wants_home, wants_session, ℕ}
 use Rattle.std.proofs.lemmas.List.Recursion.{is_count_by}
-use Rattle.std.proofs.lemmas.Bool.{false≢true}
-use Rattle.std.specs.Prelude.{bytes_eq}
-use Rattle.std.specs.List.{list_any}
-use Rattle.fixed_um.specs.Points.{point_sum, point_difference}
-use Rattle.fixed_um.specs.Shapes.{Direction}
-use Rattle.fixed_um.specs.declared.lengths.Point.{Point}
-use Rattle.fixed_um.specs.declared.frames.Frame.{Frame}
-use Rattle.dme_line.specs.Kinds.{kind_of}
-use Rattle.dme_line.specs.declared.tags.Tag.{Tag}
-use Rattle.dme_line.specs.declared.commands.Command.{Command}
-use Rattle.dme_line.specs.declared.commands.Command.TheVariants as command
-use Rattle.contact_ledger.specs.Ledgers.{is_contact, contact_count}
-use Rattle.contact_ledger.specs.declared.acts.Act.{Act}
-use Rattle.contact_ledger.specs.declared.acts.Act.TheVariants as act
-use Rattle.contact_ledger.specs.declared.features.Feature.{Feature}
-use Rattle.dmis_program.specs.declared.features.Wanted.{Wanted}
-use Rattle.protocol_model.specs.Replies.{Reply}
-use Rattle.protocol_model.specs.Open.{asks_data}
-use Rattle.protocol_model.specs.Client.{Table, Tally, counted_next, tells_homed, passed_over}
-use Rattle.protocol_model.specs.Server.{Server, Answer, answers, acted, idle, refusal, first_failing, carried_out, taken, touched}
-use Rattle.protocol_model.specs.Server.{machined, offset, in_volume, frame_of, job_of, wants_session, opens, wants_home, lacks_tool}
-use Rattle.protocol_model.specs.Server.{has_no_tool}
-use Rattle.protocol_model.specs.Server.{leaves_volume}
-use Rattle.protocol_model.specs.Claims.{MadeContact, contacts}
 use Rattle.protocol_model.specs.Typed.{World}
-use Rattle.protocol_model.specs.PlainExecution.{MeasuredFeature, touch_job, met_at, plain_point, as_measured}
-use Rattle.protocol_model.specs.Finishing.{IsInReach, AreInReach, IsTouched, IsObeyed, AreObeyed}
-use Rattle.protocol_model.specs.declared.held.Datum.{Datum}
-use Rattle.protocol_model.specs.declared.held.Datum.TheVariants as datum
-use Rattle.protocol_model.specs.declared.held.OpenCommand.{OpenCommand}
-use Rattle.protocol_model.specs.declared.lines.Line.{Line}
-use Rattle.protocol_model.specs.declared.machine.Job.{Job}
-use Rattle.protocol_model.specs.declared.machine.Job.TheVariants as job
-use Rattle.protocol_model.specs.declared.machine.Outcome.{Outcome}
-use Rattle.protocol_model.specs.declared.plans.Does.{Does}
-use Rattle.protocol_model.specs.declared.plans.Planned.{Planned}
 use Rattle.protocol_model.proofs.table.Basics.{if_false}
 use Rattle.protocol_model.proofs.table.Replying.{tabled, Reads}
 use Rattle.protocol_model.proofs.plan.Fitting.{known_by, FitsOne, FitsMove, FitsTouch, FitsFrame}
@@ -87,44 +58,44 @@ no_session s e = ap not e
 
 pub refused_none : (s : Server) (c : Command) (d : Does) → Allowed s.session s.homed c → IsInReach s.rack d → FitsOne (know_of s) c d
     → refusal s (Ok c) ≡ None
-refused_none s command.StartSession d a r f = checks_pass s command.StartSession refl a refl refl refl refl
-refused_none s command.EndSession d a r f = checks_pass s command.EndSession (no_session s.session a) refl refl refl refl refl
-refused_none s command.ClearAllErrors d a r f = checks_pass s command.ClearAllErrors refl refl refl refl refl refl
-refused_none s command.IsHomed d a r f = checks_pass s command.IsHomed (no_session s.session a) refl refl refl refl refl
-refused_none s command.Home d a r f = checks_pass s command.Home (no_session s.session a) refl refl refl refl refl
-refused_none s command.OnPtMeasReport d a r f = checks_pass s command.OnPtMeasReport (no_session s.session a) refl refl refl refl refl
-refused_none s (command.GoTo p) d a r f =
+refused_none s Command.StartSession d a r f = checks_pass s Command.StartSession refl a refl refl refl refl
+refused_none s Command.EndSession d a r f = checks_pass s Command.EndSession (no_session s.session a) refl refl refl refl refl
+refused_none s Command.ClearAllErrors d a r f = checks_pass s Command.ClearAllErrors refl refl refl refl refl refl
+refused_none s Command.IsHomed d a r f = checks_pass s Command.IsHomed (no_session s.session a) refl refl refl refl refl
+refused_none s Command.Home d a r f = checks_pass s Command.Home (no_session s.session a) refl refl refl refl refl
+refused_none s Command.OnPtMeasReport d a r f = checks_pass s Command.OnPtMeasReport (no_session s.session a) refl refl refl refl refl
+refused_none s (Command.GoTo p) d a r f =
     let moves : FitsMove (know_of s) p d = f in
     let frame : s.frame ≡ moves.frame = some_is s.frame moves.frame moves.known in
     let there : in_volume (point_sum p (offset moves.frame)) ≡ true = subst (IsInReach s.rack) moves.is r in
-    checks_pass s (command.GoTo p) (no_session s.session a.0) refl (no_session s.homed a.1) refl refl
+    checks_pass s (Command.GoTo p) (no_session s.session a.0) refl (no_session s.homed a.1) refl refl
     (ap not (ap (λ (g : Frame). in_volume (point_sum p (offset g))) frame ∙ there))
-refused_none s (command.PtMeas p dir) d a r f =
+refused_none s (Command.PtMeas p dir) d a r f =
     let touches : FitsTouch (know_of s) p dir d = f in
     let frame : s.frame ≡ touches.touch.frame = some_is s.frame touches.touch.frame touches.frame in
     let there : in_volume (point_sum touches.touch.target (offset touches.touch.frame)) ≡ true = subst (IsInReach s.rack) touches.is r in
-    checks_pass s (command.PtMeas p dir) (no_session s.session a.0) refl (no_session s.homed a.1) refl (ap is_none touches.tool)
+    checks_pass s (Command.PtMeas p dir) (no_session s.session a.0) refl (no_session s.homed a.1) refl (ap is_none touches.tool)
     (ap not (ap (λ (g : Frame). in_volume (point_sum p (offset g))) frame
     ∙ (ap (λ (q : Point). in_volume (point_sum q (offset touches.touch.frame))) touches.target ∙ there)))
-refused_none s (command.ChangeTool n) d a r f =
+refused_none s (Command.ChangeTool n) d a r f =
     let there : list_any (λ m. bytes_eq m n) s.rack ≡ true = subst (IsInReach s.rack) f r in
-    checks_pass s (command.ChangeTool n) (no_session s.session a.0) refl (no_session s.homed a.1) (ap not there) refl refl
-refused_none s (command.SetCsyTransformation p) d a r f =
-    checks_pass s (command.SetCsyTransformation p) (no_session s.session a) refl refl refl refl refl
-refused_none s (command.SetCoordSystem system) d a r f =
-    checks_pass s (command.SetCoordSystem system) (no_session s.session a) refl refl refl refl refl
-refused_none s command.AbortE d a r f = absurd a
+    checks_pass s (Command.ChangeTool n) (no_session s.session a.0) refl (no_session s.homed a.1) (ap not there) refl refl
+refused_none s (Command.SetCsyTransformation p) d a r f =
+    checks_pass s (Command.SetCsyTransformation p) (no_session s.session a) refl refl refl refl refl
+refused_none s (Command.SetCoordSystem system) d a r f =
+    checks_pass s (Command.SetCoordSystem system) (no_session s.session a) refl refl refl refl refl
+refused_none s Command.AbortE d a r f = absurd a
 
 -- ---- the count of contacts
 
 counted_more : (entry : ℕ × Act) (acts : List (ℕ × Act)) → length (contacts (entry ∷ acts))
     ≡ cond (is_contact entry.1) (1 + length (contacts acts)) (length (contacts acts))
-counted_more (m, act.Contact t d o f p) acts = omega arith
-counted_more (m, act.HomedIs h) acts = refl
-counted_more (m, act.Homed) acts = refl
-counted_more (m, act.Moved t f) acts = refl
-counted_more (m, act.Changed o) acts = refl
-counted_more (m, act.Framed f) acts = refl
+counted_more (m, Act.Contact t d o f p) acts = omega arith
+counted_more (m, Act.HomedIs h) acts = refl
+counted_more (m, Act.Homed) acts = refl
+counted_more (m, Act.Moved t f) acts = refl
+counted_more (m, Act.Changed o) acts = refl
+counted_more (m, Act.Framed f) acts = refl
 
 counted : (acts : List (ℕ × Act)) → length (contacts acts) ≡ contact_count acts
 counted acts =
@@ -143,19 +114,19 @@ count_other l m a e =
     omega (arith, more, none)
   where
     go : (x : Act) → is_contact x ≡ false → length (contacts ((m, x) ∷ [])) ≡ 0
-    go (act.Contact t d o f p) e = absurd (false≢true (sym e))
-    go (act.HomedIs h) e = refl
-    go act.Homed e = refl
-    go (act.Moved t f) e = refl
-    go (act.Changed o) e = refl
-    go (act.Framed f) e = refl
+    go (Act.Contact t d o f p) e = absurd (false≢true (sym e))
+    go (Act.HomedIs h) e = refl
+    go Act.Homed e = refl
+    go (Act.Moved t f) e = refl
+    go (Act.Changed o) e = refl
+    go (Act.Framed f) e = refl
 
 -- a contact adds one
 pub count_one : (l : List (ℕ × Act)) (m : ℕ) (target : Point) (dir : Option Direction) (tool : List ℕ) (frame : Frame) (point : Point)
-    → contact_count (l ++ (m, act.Contact target dir tool frame point) ∷ []) ≡ suc (contact_count l)
+    → contact_count (l ++ (m, Act.Contact target dir tool frame point) ∷ []) ≡ suc (contact_count l)
 count_one l m target dir tool frame point =
-    let more : contact_count (l ++ (m, act.Contact target dir tool frame point) ∷ []) ≡ contact_count l + 1 =
-    count_more l ((m, act.Contact target dir tool frame point) ∷ []) in
+    let more : contact_count (l ++ (m, Act.Contact target dir tool frame point) ∷ []) ≡ contact_count l + 1 =
+    count_more l ((m, Act.Contact target dir tool frame point) ∷ []) in
     omega (arith, more)
 
 -- ---- a command succeeds
@@ -249,70 +220,70 @@ turn_ok : (answer : Job → ℕ → Outcome) (goal : List MeasuredFeature) (kept
     (t : Tag) (c : Command) (queued coming : List Line) (aborts : List ℕ)
     → AtFront answer goal kept w table left (record { tag = t; command = c }) queued coming aborts
     → Succeeds answer goal kept w table (carried_out (record (w.server) { waiting = all_wait queued }) t c)
-turn_ok answer goal kept w table left t command.StartSession queued coming aborts h =
+turn_ok answer goal kept w table left t Command.StartSession queued coming aborts h =
     done_ok answer goal kept w table left _ queued coming aborts (record (w.server) { waiting = all_wait queued; session = true }) h
     Does.Nothing h.front.one tt refl refl (opened_front answer goal kept w table left _ queued coming aborts h).1 refl refl h.error
-turn_ok answer goal kept w table left t command.EndSession queued coming aborts h =
+turn_ok answer goal kept w table left t Command.EndSession queued coming aborts h =
     done_ok answer goal kept w table left _ queued coming aborts (record (w.server) { waiting = all_wait queued; session = false }) h
     Does.Nothing h.front.one tt refl refl (opened_front answer goal kept w table left _ queued coming aborts h).1 refl refl h.error
-turn_ok answer goal kept w table left t command.ClearAllErrors queued coming aborts h =
+turn_ok answer goal kept w table left t Command.ClearAllErrors queued coming aborts h =
     done_ok answer goal kept w table left _ queued coming aborts (record (w.server) { waiting = all_wait queued }) h
     Does.Nothing h.front.one tt refl refl (opened_front answer goal kept w table left _ queued coming aborts h).1 refl refl h.error
-turn_ok answer goal kept w table left t command.OnPtMeasReport queued coming aborts h =
+turn_ok answer goal kept w table left t Command.OnPtMeasReport queued coming aborts h =
     done_ok answer goal kept w table left _ queued coming aborts (record (w.server) { waiting = all_wait queued }) h
     Does.Nothing h.front.one tt refl refl (opened_front answer goal kept w table left _ queued coming aborts h).1 refl refl h.error
-turn_ok answer goal kept w table left t (command.SetCsyTransformation p) queued coming aborts h =
+turn_ok answer goal kept w table left t (Command.SetCsyTransformation p) queued coming aborts h =
     done_ok answer goal kept w table left _ queued coming aborts
     (record (w.server) { waiting = all_wait queued; stored = Rattle.fixed_um.specs.Points.point_opposite p }) h
     Does.Nothing h.front.one tt refl refl (opened_front answer goal kept w table left _ queued coming aborts h).1 refl refl h.error
-turn_ok answer goal kept w table left t (command.SetCoordSystem system) queued coming aborts h =
+turn_ok answer goal kept w table left t (Command.SetCoordSystem system) queued coming aborts h =
     let g : Frame = frame_of system w.server.stored in
     let frames : FitsFrame (know_of w.server) system h.front.does = h.front.one in
     done_ok answer goal kept w table left _ queued coming aborts
-    (acted (act.Framed g) (record (w.server) { waiting = all_wait queued; frame = g })) h
+    (acted (Act.Framed g) (record (w.server) { waiting = all_wait queued; frame = g })) h
     (Does.Frames frames.frame) frames.is tt refl refl (opened_front answer goal kept w table left _ queued coming aborts h).1 refl
-    (count_other w.server.ledger w.server.last (act.Framed g) refl) h.error
-turn_ok answer goal kept w table left t command.IsHomed queued coming aborts h =
+    (count_other w.server.ledger w.server.last (Act.Framed g) refl) h.error
+turn_ok answer goal kept w table left t Command.IsHomed queued coming aborts h =
     let ws : List Wanted = w.client.program.features in
-    let x : Line = record { tag = t; command = command.IsHomed } in
+    let x : Line = record { tag = t; command = Command.IsHomed } in
     let f : IsAtFront w table left x queued coming aborts = h.front in
     let hs : List OpenCommand = all_received queued ++ all_sent coming in
-    let d : Datum = datum.Homed w.server.homed in
+    let d : Datum = Datum.Homed w.server.homed in
     let k : Option Datum = Some d in
-    let next : Tally = counted_next ws (kind_of command.IsHomed) k table.tally.todo table.tally in
-    let s : Server = acted (act.HomedIs w.server.homed) (record (w.server) { waiting = all_wait queued }) in
+    let next : Tally = counted_next ws (kind_of Command.IsHomed) k table.tally.todo table.tally in
+    let s : Server = acted (Act.HomedIs w.server.homed) (record (w.server) { waiting = all_wait queued }) in
     record {
       next = tabled hs table.event next;
       reads = subst (λ (l : List OpenCommand). Reads ws (tabled l table.event table.tally) (Reply.Given t d ∷ Reply.Done t ∷ [])
           (tabled hs table.event next)) (sym f.standard_is)
           (given_first ws x d hs table.event table.tally f.standard.0 f.calm refl);
       ready = subst (λ (i : ℕ). IsReady answer goal kept ws w.server.session w.server.homed w.server.rack i next)
-          (sym (count_other w.server.ledger w.server.last (act.HomedIs w.server.homed) refl))
+          (sym (count_other w.server.ledger w.server.last (Act.HomedIs w.server.homed) refl))
           (counts_ready answer goal kept ws w.server.session w.server.homed w.server.session w.server.homed w.server.rack
-          (contact_count w.server.ledger) table.tally (kind_of command.IsHomed) k (first_of h) (whole_of h) (know_of w.server) h.ready
+          (contact_count w.server.ledger) table.tally (kind_of Command.IsHomed) k (first_of h) (whole_of h) (know_of w.server) h.ready
           f.todo
           (subst IsNoTouch (sym f.one) tt) f.rest
-          (opened_passed w.server.session w.server.homed (tells_homed (kind_of command.IsHomed) k) (whole_of h) (tells_is w.server.homed)
+          (opened_passed w.server.session w.server.homed (tells_homed (kind_of Command.IsHomed) k) (whole_of h) (tells_is w.server.homed)
           (opened_front answer goal kept w table left x queued coming aborts h).1));
       error = h.error;
     }
-turn_ok answer goal kept w table left t command.Home queued coming aborts h =
+turn_ok answer goal kept w table left t Command.Home queued coming aborts h =
     runs_ok answer goal kept w table left _ queued coming aborts
-    (record (w.server) { waiting = all_wait queued; homed = false; running = Some (record { tag = t; command = command.Home }) }) h
+    (record (w.server) { waiting = all_wait queued; homed = false; running = Some (record { tag = t; command = Command.Home }) }) h
     (opened_front answer goal kept w table left _ queued coming aborts h) refl refl h.error
-turn_ok answer goal kept w table left t (command.ChangeTool n) queued coming aborts h =
+turn_ok answer goal kept w table left t (Command.ChangeTool n) queued coming aborts h =
     runs_ok answer goal kept w table left _ queued coming aborts
-    (record (w.server) { waiting = all_wait queued; tool = None; running = Some (record { tag = t; command = command.ChangeTool n }) }) h
+    (record (w.server) { waiting = all_wait queued; tool = None; running = Some (record { tag = t; command = Command.ChangeTool n }) }) h
     (opened_front answer goal kept w table left _ queued coming aborts h) refl refl h.error
-turn_ok answer goal kept w table left t (command.GoTo p) queued coming aborts h =
+turn_ok answer goal kept w table left t (Command.GoTo p) queued coming aborts h =
     runs_ok answer goal kept w table left _ queued coming aborts
-    (record (w.server) { waiting = all_wait queued; running = Some (record { tag = t; command = command.GoTo p }) }) h
+    (record (w.server) { waiting = all_wait queued; running = Some (record { tag = t; command = Command.GoTo p }) }) h
     (opened_front answer goal kept w table left _ queued coming aborts h) refl refl h.error
-turn_ok answer goal kept w table left t (command.PtMeas p d) queued coming aborts h =
+turn_ok answer goal kept w table left t (Command.PtMeas p d) queued coming aborts h =
     runs_ok answer goal kept w table left _ queued coming aborts
-    (record (w.server) { waiting = all_wait queued; running = Some (record { tag = t; command = command.PtMeas p d }) }) h
+    (record (w.server) { waiting = all_wait queued; running = Some (record { tag = t; command = Command.PtMeas p d }) }) h
     (opened_front answer goal kept w table left _ queued coming aborts h) refl refl h.error
-turn_ok answer goal kept w table left t command.AbortE queued coming aborts h = absurd h.front.one
+turn_ok answer goal kept w table left t Command.AbortE queued coming aborts h = absurd h.front.one
 
 -- the turn of a command that is ready succeeds
 pub turn_succeeds : (answer : Job → ℕ → Outcome) (goal : List MeasuredFeature) (kept : List Feature) (w : World) (table : Table)
@@ -348,32 +319,32 @@ done_end answer goal kept w table x outcome e h =
 
 touch_ok : (answer : Job → ℕ → Outcome) (goal : List MeasuredFeature) (kept : List Feature) (w : World) (table : Table) (left : List Wanted)
     (t : Tag) (p : Point) (d : Option Direction) (queued coming : List Line) (aborts : List ℕ)
-    (h : AtFront answer goal kept w table left (record { tag = t; command = command.PtMeas p d }) queued coming aborts)
+    (h : AtFront answer goal kept w table left (record { tag = t; command = Command.PtMeas p d }) queued coming aborts)
     (fits : FitsTouch (know_of w.server) p d h.front.does) (at : Point) (tool : Option (List ℕ)) → w.server.tool ≡ tool
     → point_difference at (offset w.server.frame) ≡ plain_point answer (contact_count w.server.ledger) fits.touch
-    → Succeeds answer goal kept w table (touched w.server t (command.PtMeas p d) at tool)
+    → Succeeds answer goal kept w table (touched w.server t (Command.PtMeas p d) at tool)
 touch_ok answer goal kept w table left t p d queued coming aborts h fits at None tool point =
     let none : None ≡ Some fits.touch.tool = sym tool ∙ fits.tool in absurd (cc)
 touch_ok answer goal kept w table left t p d queued coming aborts h fits at (Some name) tool point =
     let ws : List Wanted = w.client.program.features in
-    let x : Line = record { tag = t; command = command.PtMeas p d } in
+    let x : Line = record { tag = t; command = Command.PtMeas p d } in
     let f : IsAtFront w table left x queued coming aborts = h.front in
     let hs : List OpenCommand = all_received queued ++ all_sent coming in
     let q : Point = point_difference at (offset w.server.frame) in
-    let k : Option Datum = Some (datum.Point q) in
+    let k : Option Datum = Some (Datum.Point q) in
     let n : ℕ = contact_count w.server.ledger in
-    let next : Tally = counted_next ws (kind_of (command.PtMeas p d)) k table.tally.todo table.tally in
+    let next : Tally = counted_next ws (kind_of (Command.PtMeas p d)) k table.tally.todo table.tally in
     record {
       next = tabled hs table.event next;
       reads = subst (λ (l : List OpenCommand). Reads ws (tabled l table.event table.tally)
-          (Reply.Given t (datum.Point q) ∷ Reply.Done t ∷ [])
+          (Reply.Given t (Datum.Point q) ∷ Reply.Done t ∷ [])
           (tabled hs table.event next)) (sym f.standard_is)
-          (given_first ws x (datum.Point q) hs table.event table.tally f.standard.0 f.calm refl);
+          (given_first ws x (Datum.Point q) hs table.event table.tally f.standard.0 f.calm refl);
       ready = subst (λ (i : ℕ). IsReady answer goal kept ws w.server.session w.server.homed w.server.rack i next)
           (sym (count_one w.server.ledger w.server.last p d name w.server.frame q))
           (subst (λ (r : Point). IsReady answer goal kept ws w.server.session w.server.homed w.server.rack (suc n)
-          (counted_next ws (kind_of (command.PtMeas p d)) (Some (datum.Point r)) table.tally.todo table.tally)) (sym point)
-          (touch_ready answer goal kept ws w.server.session w.server.homed w.server.rack n table.tally (kind_of (command.PtMeas p d))
+          (counted_next ws (kind_of (Command.PtMeas p d)) (Some (Datum.Point r)) table.tally.todo table.tally)) (sym point)
+          (touch_ready answer goal kept ws w.server.session w.server.homed w.server.rack n table.tally (kind_of (Command.PtMeas p d))
           fits.touch fits.last (first_of h) (whole_of h) h.ready f.todo fits.is refl
           (opened_front answer goal kept w table left x queued coming aborts h).1));
       error = h.error;
@@ -385,43 +356,43 @@ end_ok : (answer : Job → ℕ → Outcome) (goal : List MeasuredFeature) (kept 
     → w.server.waiting ≡ all_wait queued → (k : Job) → job_of w.server.frame c ≡ Some k → (outcome : Outcome)
     → outcome ≡ answer k (contact_count w.server.ledger)
     → Succeeds answer goal kept w table (machined w.server outcome (Some (record { tag = t; command = c })))
-end_ok answer goal kept w table left t command.Home queued coming aborts h j waiting k asked outcome is =
-    let x : Line = record { tag = t; command = command.Home } in
+end_ok answer goal kept w table left t Command.Home queued coming aborts h j waiting k asked outcome is =
+    let x : Line = record { tag = t; command = Command.Home } in
     let n : ℕ = contact_count w.server.ledger in
     done_end answer goal kept w table x outcome
-    (job_outcome answer n job.Home k outcome Outcome.Done asked is
+    (job_outcome answer n Job.Home k outcome Outcome.Done asked is
     (subst (IsObeyed answer n) h.front.one (obeyed answer goal kept w table left x queued coming aborts h)))
-    (done_ok answer goal kept w table left x queued coming aborts (acted act.Homed (record (idle w.server) { homed = true })) h
+    (done_ok answer goal kept w table left x queued coming aborts (acted Act.Homed (record (idle w.server) { homed = true })) h
     Does.Homes h.front.one tt refl refl (opened_front answer goal kept w table left x queued coming aborts h).1 refl
-    (count_other w.server.ledger w.server.last act.Homed refl) h.error)
-end_ok answer goal kept w table left t (command.ChangeTool name) queued coming aborts h j waiting k asked outcome is =
-    let x : Line = record { tag = t; command = command.ChangeTool name } in
+    (count_other w.server.ledger w.server.last Act.Homed refl) h.error)
+end_ok answer goal kept w table left t (Command.ChangeTool name) queued coming aborts h j waiting k asked outcome is =
+    let x : Line = record { tag = t; command = Command.ChangeTool name } in
     let n : ℕ = contact_count w.server.ledger in
     done_end answer goal kept w table x outcome
-    (job_outcome answer n (job.Change name) k outcome Outcome.Done asked is
+    (job_outcome answer n (Job.Change name) k outcome Outcome.Done asked is
     (subst (IsObeyed answer n) h.front.one (obeyed answer goal kept w table left x queued coming aborts h)))
     (done_ok answer goal kept w table left x queued coming aborts
-    (acted (act.Changed name) (record (idle w.server) { tool = Some name })) h
+    (acted (Act.Changed name) (record (idle w.server) { tool = Some name })) h
     (Does.Changes name) h.front.one tt refl refl (opened_front answer goal kept w table left x queued coming aborts h).1 refl
-    (count_other w.server.ledger w.server.last (act.Changed name) refl) h.error)
-end_ok answer goal kept w table left t (command.GoTo p) queued coming aborts h j waiting k asked outcome is =
-    let x : Line = record { tag = t; command = command.GoTo p } in
+    (count_other w.server.ledger w.server.last (Act.Changed name) refl) h.error)
+end_ok answer goal kept w table left t (Command.GoTo p) queued coming aborts h j waiting k asked outcome is =
+    let x : Line = record { tag = t; command = Command.GoTo p } in
     let n : ℕ = contact_count w.server.ledger in
     let moves : FitsMove (know_of w.server) p h.front.does = h.front.one in
     let frame : w.server.frame ≡ moves.frame = some_is w.server.frame moves.frame moves.known in
-    let does : answer (job.Move (point_sum p (offset moves.frame))) n ≡ Outcome.Done =
+    let does : answer (Job.Move (point_sum p (offset moves.frame))) n ≡ Outcome.Done =
     subst (IsObeyed answer n) moves.is (obeyed answer goal kept w table left x queued coming aborts h) in
     done_end answer goal kept w table x outcome
-    (job_outcome answer n (job.Move (point_sum p (offset w.server.frame))) k outcome Outcome.Done asked is
-    (ap (λ (g : Frame). answer (job.Move (point_sum p (offset g))) n) frame ∙ does))
-    (done_ok answer goal kept w table left x queued coming aborts (acted (act.Moved p w.server.frame) (idle w.server)) h
+    (job_outcome answer n (Job.Move (point_sum p (offset w.server.frame))) k outcome Outcome.Done asked is
+    (ap (λ (g : Frame). answer (Job.Move (point_sum p (offset g))) n) frame ∙ does))
+    (done_ok answer goal kept w table left x queued coming aborts (acted (Act.Moved p w.server.frame) (idle w.server)) h
     (Does.Moves p moves.frame) moves.is tt refl refl (opened_front answer goal kept w table left x queued coming aborts h).1 refl
-    (count_other w.server.ledger w.server.last (act.Moved p w.server.frame) refl) h.error)
-end_ok answer goal kept w table left t (command.PtMeas p d) queued coming aborts h j waiting k asked outcome is =
+    (count_other w.server.ledger w.server.last (Act.Moved p w.server.frame) refl) h.error)
+end_ok answer goal kept w table left t (Command.PtMeas p d) queued coming aborts h j waiting k asked outcome is =
     ends outcome refl
   where
     x : Line
-    x = record { tag = t; command = command.PtMeas p d }
+    x = record { tag = t; command = Command.PtMeas p d }
 
     n : ℕ
     n = contact_count w.server.ledger
@@ -432,13 +403,13 @@ end_ok answer goal kept w table left t (command.PtMeas p d) queued coming aborts
     frame : w.server.frame ≡ fits.touch.frame
     frame = some_is w.server.frame fits.touch.frame fits.frame
 
-    same : job.Touch (point_sum p (offset w.server.frame)) d ≡ touch_job fits.touch
-    same = ap (λ (g : Frame). job.Touch (point_sum p (offset g)) d) frame
-        ∙ (ap (λ (q : Point). job.Touch (point_sum q (offset fits.touch.frame)) d) fits.target
-        ∙ ap (λ (e : Option Direction). job.Touch (point_sum fits.touch.target (offset fits.touch.frame)) e) fits.dir)
+    same : Job.Touch (point_sum p (offset w.server.frame)) d ≡ touch_job fits.touch
+    same = ap (λ (g : Frame). Job.Touch (point_sum p (offset g)) d) frame
+        ∙ (ap (λ (q : Point). Job.Touch (point_sum q (offset fits.touch.frame)) d) fits.target
+        ∙ ap (λ (e : Option Direction). Job.Touch (point_sum fits.touch.target (offset fits.touch.frame)) e) fits.dir)
 
     answered : outcome ≡ answer (touch_job fits.touch) n
-    answered = job_outcome answer n (job.Touch (point_sum p (offset w.server.frame)) d) k outcome (answer (touch_job fits.touch) n) asked is
+    answered = job_outcome answer n (Job.Touch (point_sum p (offset w.server.frame)) d) k outcome (answer (touch_job fits.touch) n) asked is
         (ap (λ (i : Job). answer i n) same)
 
     touched_is : IsTouched outcome
@@ -456,14 +427,14 @@ end_ok answer goal kept w table left t (command.PtMeas p d) queued coming aborts
     ends Outcome.Done e = absurd (subst IsTouched e touched_is)
     ends Outcome.Missed e = absurd (subst IsTouched e touched_is)
     ends Outcome.Fault e = absurd (subst IsTouched e touched_is)
-end_ok answer goal kept w table left t command.StartSession queued coming aborts h j waiting k asked outcome is = absurd j
-end_ok answer goal kept w table left t command.EndSession queued coming aborts h j waiting k asked outcome is = absurd j
-end_ok answer goal kept w table left t command.ClearAllErrors queued coming aborts h j waiting k asked outcome is = absurd j
-end_ok answer goal kept w table left t command.IsHomed queued coming aborts h j waiting k asked outcome is = absurd j
-end_ok answer goal kept w table left t command.OnPtMeasReport queued coming aborts h j waiting k asked outcome is = absurd j
-end_ok answer goal kept w table left t (command.SetCsyTransformation p) queued coming aborts h j waiting k asked outcome is = absurd j
-end_ok answer goal kept w table left t (command.SetCoordSystem system) queued coming aborts h j waiting k asked outcome is = absurd j
-end_ok answer goal kept w table left t command.AbortE queued coming aborts h j waiting k asked outcome is = absurd j
+end_ok answer goal kept w table left t Command.StartSession queued coming aborts h j waiting k asked outcome is = absurd j
+end_ok answer goal kept w table left t Command.EndSession queued coming aborts h j waiting k asked outcome is = absurd j
+end_ok answer goal kept w table left t Command.ClearAllErrors queued coming aborts h j waiting k asked outcome is = absurd j
+end_ok answer goal kept w table left t Command.IsHomed queued coming aborts h j waiting k asked outcome is = absurd j
+end_ok answer goal kept w table left t Command.OnPtMeasReport queued coming aborts h j waiting k asked outcome is = absurd j
+end_ok answer goal kept w table left t (Command.SetCsyTransformation p) queued coming aborts h j waiting k asked outcome is = absurd j
+end_ok answer goal kept w table left t (Command.SetCoordSystem system) queued coming aborts h j waiting k asked outcome is = absurd j
+end_ok answer goal kept w table left t Command.AbortE queued coming aborts h j waiting k asked outcome is = absurd j
 
 -- the end of a job that is ready and that the machine obeys succeeds
 pub end_succeeds : (answer : Job → ℕ → Outcome) (goal : List MeasuredFeature) (kept : List Feature) (w : World) (table : Table)

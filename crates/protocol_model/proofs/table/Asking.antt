@@ -1,25 +1,12 @@
 -- Where no IsHomed is open, replies pass nothing over: what is unsent stays as it is, whatever it is.
-use Rattle.std.proofs.Common.{◌≡◌, suc, Bool, true, false, ◌&&◌, ◌||◌, not, List, [], ◌∷◌, ◌++◌, refl, sym, ◌∙◌, ap, subst, Option, Some}
-use Rattle.std.proofs.Common.{None}
-use Rattle.std.proofs.Common.{◌⊎◌, inl, inr, Result}
-use Rattle.std.proofs.lemmas.Bool.{false≢true}
-use Rattle.dme_line.specs.declared.tags.Tag.{Tag}
-use Rattle.dme_line.specs.declared.tags.Tag.TheVariants.{Std, Event}
-use Rattle.dme_line.specs.declared.commands.Kind.{Kind}
-use Rattle.dme_line.specs.declared.commands.Kind.TheVariants as kind
-use Rattle.dmis_program.specs.declared.features.Wanted.{Wanted}
-use Rattle.protocol_model.specs.Replies.{Mark, Reply, tag_of, mark_of, tag_is}
-use Rattle.protocol_model.specs.Open.{Effect, Becomes, Counts, judged, heard_in, is_failed, asks_homed, is_asking}
-use Rattle.protocol_model.specs.Client.{Tally, Table, act_of, measured, begins_session, counted_next, tallied, tells_homed}
-use Rattle.protocol_model.specs.Client.{passed_over, heard_on}
+use Rattle.protocol_model.proofs.Names.{[], ◌&&◌, ◌++◌, ◌||◌, ◌∙◌, ◌∷◌, ◌≡◌, ◌⊎◌, act_of, ap, asks_homed, Becomes, begins_session, Bool, Cause}
+use Rattle.protocol_model.proofs.Names.{counted_next, Counts, Datum, Does, Effect, false, false≢true, heard_in, heard_on, inl, inr, is_asking}
+use Rattle.protocol_model.proofs.Names.{is_failed, judged, Kind, List, mark_of, measured, None, not, OpenCommand, Option, passed_over, Planned, refl}
+use Rattle.protocol_model.proofs.Names.{Reply, Result, Some, Stage, Std, subst, suc, sym, Table, Tag, tag_is, tag_of, tallied, Tally, tells_homed}
+use Rattle.protocol_model.proofs.Names.{true, Wanted}
+use Rattle.dme_line.specs.declared.tags.Tag.TheVariants.{Event}
+use Rattle.protocol_model.specs.Replies.{Mark}
 use Rattle.protocol_model.proofs.HeardTables.{heard}
-use Rattle.protocol_model.specs.declared.held.Datum.{Datum}
-use Rattle.protocol_model.specs.declared.held.Datum.TheVariants as datum
-use Rattle.protocol_model.specs.declared.held.OpenCommand.{OpenCommand}
-use Rattle.protocol_model.specs.declared.held.Stage.{Stage}
-use Rattle.protocol_model.specs.declared.plans.Does.{Does}
-use Rattle.protocol_model.specs.declared.plans.Planned.{Planned}
-use Rattle.protocol_model.specs.declared.states.Cause.{Cause}
 use Rattle.protocol_model.proofs.table.Basics.{if_true}
 use Rattle.protocol_model.proofs.table.Walks.{two, staged, heard_cases}
 use Rattle.protocol_model.proofs.table.Counts.{failed_stays, is_failed-true, never_counts}
@@ -107,18 +94,18 @@ counts_unasked front (h ∷ hs) t m gs k given is none =
 
 -- what does not ask says nothing
 pub tells_unasked : (k : Kind) (given : Option Datum) → asks_homed k ≡ false → tells_homed k given ≡ false
-tells_unasked kind.IsHomed given e = absurd (false≢true (sym e))
-tells_unasked kind.StartSession given e = refl
-tells_unasked kind.EndSession given e = refl
-tells_unasked kind.ClearAllErrors given e = refl
-tells_unasked kind.Home given e = refl
-tells_unasked kind.OnPtMeasReport given e = refl
-tells_unasked kind.GoTo given e = refl
-tells_unasked kind.PtMeas given e = refl
-tells_unasked kind.ChangeTool given e = refl
-tells_unasked kind.SetCsyTransformation given e = refl
-tells_unasked kind.SetCoordSystem given e = refl
-tells_unasked kind.AbortE given e = refl
+tells_unasked Kind.IsHomed given e = absurd (false≢true (sym e))
+tells_unasked Kind.StartSession given e = refl
+tells_unasked Kind.EndSession given e = refl
+tells_unasked Kind.ClearAllErrors given e = refl
+tells_unasked Kind.Home given e = refl
+tells_unasked Kind.OnPtMeasReport given e = refl
+tells_unasked Kind.GoTo given e = refl
+tells_unasked Kind.PtMeas given e = refl
+tells_unasked Kind.ChangeTool given e = refl
+tells_unasked Kind.SetCsyTransformation given e = refl
+tells_unasked Kind.SetCoordSystem given e = refl
+tells_unasked Kind.AbortE given e = refl
 
 -- what says that the machine is homed was asked
 pub tells_asks : (k : Kind) (given : Option Datum) → tells_homed k given ≡ true → asks_homed k ≡ true
@@ -136,10 +123,10 @@ unsent_in ps y = record y { unsent = ps }
 
 measured_unsent : (ws : List Wanted) (does : Does) (given : Option Datum) (ps : List Planned) (y : Tally)
     → measured ws does given (unsent_in ps y) ≡ unsent_in ps (measured ws does given y)
-measured_unsent ws (Does.Touches t false) (Some (datum.Point p)) ps y = refl
-measured_unsent ws (Does.Touches t true) (Some (datum.Point p)) ps y = refl
-measured_unsent ws (Does.Touches t false) (Some (datum.Homed homed)) ps y = refl
-measured_unsent ws (Does.Touches t true) (Some (datum.Homed homed)) ps y = refl
+measured_unsent ws (Does.Touches t false) (Some (Datum.Point p)) ps y = refl
+measured_unsent ws (Does.Touches t true) (Some (Datum.Point p)) ps y = refl
+measured_unsent ws (Does.Touches t false) (Some (Datum.Homed homed)) ps y = refl
+measured_unsent ws (Does.Touches t true) (Some (Datum.Homed homed)) ps y = refl
 measured_unsent ws (Does.Touches t false) None ps y = refl
 measured_unsent ws (Does.Touches t true) None ps y = refl
 measured_unsent ws Does.Nothing given ps y = refl

@@ -1,10 +1,6 @@
 -- Small facts on tests, tags and lists.
-use Rattle.std.proofs.Common.{◌≡◌, Bool, true, false, cond, ◌&&◌, refl, ap}
-use Rattle.std.proofs.lemmas.Bool.{false≢true, eqb-true}
-use Rattle.dme_line.specs.declared.tags.Tag.{Tag}
-use Rattle.dme_line.specs.declared.tags.Tag.TheVariants.{Std, Event}
-use Rattle.protocol_model.specs.Replies.{tag_is}
-use Rattle.std.proofs.Common.{eq-eqb}
+use Rattle.protocol_model.proofs.Names.{◌&&◌, ◌≡◌, ap, Bool, cond, eq-eqb, eqb-true, false, false≢true, refl, Std, Tag, tag_is, true}
+use Rattle.dme_line.specs.declared.tags.Tag.TheVariants.{Event}
 
 -- a test goes one way or the other
 pub if_cases : {A : Type 0} (b : Bool) (x y z : A) (P : Type 0) → cond b x y ≡ z → (b ≡ true → x ≡ z → P) → (b ≡ false → y ≡ z → P) → P

@@ -1,17 +1,11 @@
 -- How many open commands there are after a reply, and which of them have failed.
-use Rattle.std.proofs.Common.{◌≡◌, ℕ, suc, ◌≤◌, Bool, true, false, cond, ◌&&◌, List, [], ◌∷◌, refl, sym, ◌∙◌, ap, subst, arith, Option}
-use Rattle.std.proofs.lemmas.Bool.{false≢true}
-use Rattle.dme_line.specs.declared.tags.Tag.{Tag}
-use Rattle.dme_line.specs.declared.commands.Kind.{Kind}
-use Rattle.protocol_model.specs.Replies.{Mark, tag_is}
-use Rattle.protocol_model.specs.Open.{Effect, Becomes, Breaks, Closes, Counts, Refused, judged, judged_ack, judged_given, judged_error}
-use Rattle.protocol_model.specs.Open.{judged_done, settled, put_before, heard_in, is_failed, asks_data, fits, count_open, is_held}
+use Rattle.protocol_model.proofs.Names.{[], ◌&&◌, ◌∙◌, ◌∷◌, ◌≡◌, ◌≤◌, ap, arith, asks_data, Becomes, Bool, Breaks, Cause, Closes, cond, count_open}
+use Rattle.protocol_model.proofs.Names.{Counts, Datum, Effect, false, false≢true, fits, heard_in, is_failed, is_held, judged, judged_ack, judged_done}
+use Rattle.protocol_model.proofs.Names.{judged_error, judged_given, Kind, List, OpenCommand, Option, put_before, refl, Refused, settled, Stage, subst}
+use Rattle.protocol_model.proofs.Names.{suc, sym, Tag, tag_is, true, ℕ}
+use Rattle.protocol_model.specs.Replies.{Mark}
 use Rattle.protocol_model.proofs.table.Basics.{if_cases, if_true, if_false, tag_is-refl, tag_is-true}
 use Rattle.protocol_model.proofs.table.Walks.{two, heard_at, heard_past, staged, heard_cases, AreDistinct}
-use Rattle.protocol_model.specs.declared.states.Cause.{Cause}
-use Rattle.protocol_model.specs.declared.held.Datum.{Datum}
-use Rattle.protocol_model.specs.declared.held.Stage.{Stage}
-use Rattle.protocol_model.specs.declared.held.OpenCommand.{OpenCommand}
 
 -- ---- what has failed stays so
 

@@ -1,15 +1,10 @@
 -- Tags that are drawn: a drawn one is not held, and there is one where fewer are held than there are.
-use Rattle.std.proofs.Common.{◌≡◌, ℕ, zero, suc, ◌+◌, ◌<◌, ◌≤◌, Bool, true, false, cond, List, [], ◌∷◌, length, refl, sym, ◌∙◌, ap, subst}
-use Rattle.std.proofs.Common.{arith, Option, Some, None, eqb, ne_eqb, le_refl}
-use Rattle.std.proofs.lemmas.Bool.{false≢true, eqb-true, eqb-false}
-use Rattle.dme_line.specs.declared.tags.Tag.{Tag}
-use Rattle.dme_line.specs.declared.tags.Tag.TheVariants.{Std, Event}
-use Rattle.protocol_model.specs.Replies.{tag_is}
-use Rattle.protocol_model.specs.Open.{is_failed, count_open, is_held}
-use Rattle.protocol_model.specs.Client.{first_free, or_else}
+use Rattle.protocol_model.proofs.Names.{[], ◌+◌, ◌<◌, ◌∙◌, ◌∷◌, ◌≡◌, ◌≤◌, ap, arith, Bool, cond, count_open, eqb, eqb-false, eqb-true, false}
+use Rattle.protocol_model.proofs.Names.{false≢true, first_free, is_failed, is_held, le_refl, length, List, ne_eqb, None, OpenCommand, Option, or_else}
+use Rattle.protocol_model.proofs.Names.{refl, Some, Std, subst, suc, sym, Tag, tag_is, true, zero, ℕ}
+use Rattle.dme_line.specs.declared.tags.Tag.TheVariants.{Event}
 use Rattle.protocol_model.proofs.table.Basics.{if_cases, if_true, if_false, tag_is-true}
 use Rattle.protocol_model.proofs.table.Counts.{failed_tags}
-use Rattle.protocol_model.specs.declared.held.OpenCommand.{OpenCommand}
 
 -- a number that is found is free, and none is found only if all are held
 pub record IsFound (sort : ℕ → Tag) (hs : List OpenCommand) (n left m : ℕ) : Type 0 where

@@ -1,12 +1,7 @@
 -- The number that is drawn next is the first that is not held.
-use Rattle.std.proofs.Common.{◌≡◌, ℕ, zero, suc, ◌+◌, ◌-◌, ◌<◌, ◌≤◌, Bool, true, false, List, refl, sym, ◌∙◌, subst, arith, Option, Some}
-use Rattle.std.proofs.Common.{None, eqb}
-use Rattle.std.proofs.lemmas.Bool.{false≢true, eqb-true, eqb-false}
-use Rattle.dme_line.specs.declared.tags.Tag.{Tag}
-use Rattle.protocol_model.specs.Open.{is_held}
-use Rattle.protocol_model.specs.Client.{first_free, or_else, next_number}
+use Rattle.protocol_model.proofs.Names.{◌+◌, ◌-◌, ◌<◌, ◌∙◌, ◌≡◌, ◌≤◌, arith, Bool, eqb, eqb-false, eqb-true, false, false≢true, first_free, is_held}
+use Rattle.protocol_model.proofs.Names.{List, next_number, None, OpenCommand, Option, or_else, refl, Some, subst, suc, sym, Tag, true, zero, ℕ}
 use Rattle.protocol_model.proofs.table.Drawing.{IsFound, found, none_free}
-use Rattle.protocol_model.specs.declared.held.OpenCommand.{OpenCommand}
 
 -- ---- before the first free number all are held
 

@@ -1,28 +1,15 @@
 -- A client that reads a list of replies, one after another.
-use Rattle.std.proofs.Common.{◌≡◌, ℕ, suc, ◌≤◌, true, false, not, ◌||◌, List, [], ◌∷◌, ◌++◌, refl, sym, ◌∙◌, ap, subst, append_assoc}
-use Rattle.std.proofs.Common.{append-nil, Option, Some, None, Result, Ok, Err, le_trans, le_refl}
-use Rattle.fixed_um.specs.declared.lengths.Point.{Point}
-use Rattle.dme_line.specs.declared.tags.Tag.{Tag}
-use Rattle.dme_line.specs.declared.tags.Tag.TheVariants.{Std, Event}
-use Rattle.dme_line.specs.declared.commands.Kind.{Kind}
-use Rattle.contact_ledger.specs.declared.features.Origin.{Origin}
-use Rattle.contact_ledger.specs.declared.features.Feature.{Feature}
-use Rattle.dmis_program.specs.declared.features.Wanted.{Wanted}
-use Rattle.protocol_model.specs.Replies.{Mark, Reply, tag_of, mark_of, tag_is}
-use Rattle.protocol_model.specs.Open.{Effect, Heard, heard_in, count_open, is_held}
-use Rattle.protocol_model.specs.Client.{Tally, Table, act_of, origin_of, joined, measured, begins_session, counted_next, tallied}
-use Rattle.protocol_model.specs.Client.{passed_over, tells_homed}
-use Rattle.protocol_model.specs.Client.{heard_standard, heard_event, heard_on}
+use Rattle.protocol_model.proofs.Names.{[], ◌++◌, ◌||◌, ◌∙◌, ◌∷◌, ◌≡◌, ◌≤◌, act_of, ap, append-nil, append_assoc, begins_session, Cause, count_open}
+use Rattle.protocol_model.proofs.Names.{counted_next, Datum, Does, Effect, Err, false, Feature, Heard, heard_event, heard_in, heard_on}
+use Rattle.protocol_model.proofs.Names.{heard_standard, is_held, joined, Kind, le_refl, le_trans, List, mark_of, measured, None, not, Ok, OpenCommand}
+use Rattle.protocol_model.proofs.Names.{Option, Origin, origin_of, passed_over, Planned, Point, refl, Reply, Result, Some, Std, subst, suc, sym}
+use Rattle.protocol_model.proofs.Names.{Table, Tag, tag_is, tag_of, tallied, Tally, tells_homed, true, Wanted, ℕ}
+use Rattle.dme_line.specs.declared.tags.Tag.TheVariants.{Event}
+use Rattle.protocol_model.specs.Replies.{Mark}
 use Rattle.protocol_model.proofs.HeardTables.{heard}
 use Rattle.protocol_model.proofs.table.Basics.{if_cases, if_true, if_false}
 use Rattle.protocol_model.proofs.table.Walks.{two, heard_more, not_held_keeps, AreDistinct, distinct_keeps}
 use Rattle.protocol_model.proofs.table.Counts.{AreFailed, OnlyEnds, only_ends, count_keeps}
-use Rattle.protocol_model.specs.declared.held.Datum.{Datum}
-use Rattle.protocol_model.specs.declared.held.Datum.TheVariants as datum
-use Rattle.protocol_model.specs.declared.plans.Planned.{Planned}
-use Rattle.protocol_model.specs.declared.plans.Does.{Does}
-use Rattle.protocol_model.specs.declared.states.Cause.{Cause}
-use Rattle.protocol_model.specs.declared.held.OpenCommand.{OpenCommand}
 
 -- a table of these open commands and this tally
 abbrev pub tabled : List OpenCommand → List OpenCommand → Tally → Table
@@ -244,14 +231,14 @@ joined_front (w ∷ ws) [] ps origin = front_more [] _
 joined_front (w ∷ ws) (f ∷ fs) ps origin = let rest = joined_front ws fs ps origin in (rest.0, ap (λ (l : List Feature). f ∷ l) rest.1)
 
 measured_grows : (ws : List Wanted) (does : Does) (given : Option Datum) (y : Tally) → Grows y (measured ws does given y)
-measured_grows ws (Does.Touches t false) (Some (datum.Point p)) y =
+measured_grows ws (Does.Touches t false) (Some (Datum.Point p)) y =
     record { counted = front_refl y.counted; features = front_refl y.features }
-measured_grows ws (Does.Touches t true) (Some (datum.Point p)) y = record {
+measured_grows ws (Does.Touches t true) (Some (Datum.Point p)) y = record {
   counted = front_refl y.counted;
   features = joined_front ws y.features (y.points ++ p ∷ []) (origin_of y.connection t.frame);
 }
-measured_grows ws (Does.Touches t false) (Some (datum.Homed homed)) y = grows_refl y
-measured_grows ws (Does.Touches t true) (Some (datum.Homed homed)) y = grows_refl y
+measured_grows ws (Does.Touches t false) (Some (Datum.Homed homed)) y = grows_refl y
+measured_grows ws (Does.Touches t true) (Some (Datum.Homed homed)) y = grows_refl y
 measured_grows ws (Does.Touches t false) None y = grows_refl y
 measured_grows ws (Does.Touches t true) None y = grows_refl y
 measured_grows ws Does.Nothing given y = grows_refl y

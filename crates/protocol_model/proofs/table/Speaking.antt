@@ -1,15 +1,8 @@
 -- The table of marks against stages accepts exactly the prefixes of the language of replies.
-use Rattle.std.proofs.Common.{◌≡◌, ◌⊎◌, inl, inr, Bool, true, false, ◌&&◌, List, [], ◌∷◌, ◌++◌, refl, sym, ◌∙◌, ap, subst, append-nil}
-use Rattle.std.proofs.lemmas.Bool.{false≢true, and_parts}
-use Rattle.fixed_um.specs.Points.{zero_point}
-use Rattle.dme_line.specs.declared.commands.Kind.{Kind}
+use Rattle.protocol_model.proofs.Names.{[], ◌&&◌, ◌++◌, ◌∙◌, ◌∷◌, ◌≡◌, ◌⊎◌, and_parts, ap, append-nil, asks_data, Bool, Datum, false, false≢true}
+use Rattle.protocol_model.proofs.Names.{fits, inl, inr, judged_done, judged_given, Kind, List, refl, Stage, subst, sym, true, zero_point}
 use Rattle.protocol_model.specs.Replies.{Mark}
-use Rattle.dme_line.specs.declared.commands.Kind.TheVariants as kind
-use Rattle.protocol_model.specs.Open.{judged_given, judged_done, asks_data, fits}
-use Rattle.protocol_model.specs.Language.{Placed, marks_of, IsCounted, AreErrors, IsReplies, IsRepliesFront, AreAtFront, Goes, Accepts}
-use Rattle.protocol_model.specs.declared.held.Datum.{Datum}
-use Rattle.protocol_model.specs.declared.held.Datum.TheVariants as datum
-use Rattle.protocol_model.specs.declared.held.Stage.{Stage}
+use Rattle.protocol_model.specs.Language.{Accepts, AreAtFront, AreErrors, Goes, IsCounted, IsReplies, IsRepliesFront, marks_of, Placed}
 
 -- how marks may continue after a stage, wherever the front is
 abbrev Goes_on : Bool → (Datum → Bool) → Stage → List Mark → Type 0
@@ -35,36 +28,36 @@ Goes_on asks asked Stage.Failed (Mark.Done ∷ ms) = ms ≡ []
 
 -- what fits a command is asked for by it
 pub fits_asks : (k : Kind) (d : Datum) → fits k d ≡ true → asks_data k ≡ true
-fits_asks kind.StartSession d e = absurd (false≢true e)
-fits_asks kind.EndSession d e = absurd (false≢true e)
-fits_asks kind.ClearAllErrors d e = absurd (false≢true e)
-fits_asks kind.IsHomed d e = refl
-fits_asks kind.Home d e = absurd (false≢true e)
-fits_asks kind.OnPtMeasReport d e = absurd (false≢true e)
-fits_asks kind.GoTo d e = absurd (false≢true e)
-fits_asks kind.PtMeas d e = refl
-fits_asks kind.ChangeTool d e = absurd (false≢true e)
-fits_asks kind.SetCsyTransformation d e = absurd (false≢true e)
-fits_asks kind.SetCoordSystem d e = absurd (false≢true e)
-fits_asks kind.AbortE d e = absurd (false≢true e)
+fits_asks Kind.StartSession d e = absurd (false≢true e)
+fits_asks Kind.EndSession d e = absurd (false≢true e)
+fits_asks Kind.ClearAllErrors d e = absurd (false≢true e)
+fits_asks Kind.IsHomed d e = refl
+fits_asks Kind.Home d e = absurd (false≢true e)
+fits_asks Kind.OnPtMeasReport d e = absurd (false≢true e)
+fits_asks Kind.GoTo d e = absurd (false≢true e)
+fits_asks Kind.PtMeas d e = refl
+fits_asks Kind.ChangeTool d e = absurd (false≢true e)
+fits_asks Kind.SetCsyTransformation d e = absurd (false≢true e)
+fits_asks Kind.SetCoordSystem d e = absurd (false≢true e)
+fits_asks Kind.AbortE d e = absurd (false≢true e)
 
 -- for each command that asks for data there are some that fit
 abbrev IsFit : (Datum → Bool) → Type 0
 IsFit asked = (d : Datum) × (asked d ≡ true)
 
 some_fit : (k : Kind) → asks_data k ≡ true → IsFit (fits k)
-some_fit kind.StartSession e = absurd (false≢true e)
-some_fit kind.EndSession e = absurd (false≢true e)
-some_fit kind.ClearAllErrors e = absurd (false≢true e)
-some_fit kind.IsHomed e = (datum.Homed true, refl)
-some_fit kind.Home e = absurd (false≢true e)
-some_fit kind.OnPtMeasReport e = absurd (false≢true e)
-some_fit kind.GoTo e = absurd (false≢true e)
-some_fit kind.PtMeas e = (datum.Point zero_point, refl)
-some_fit kind.ChangeTool e = absurd (false≢true e)
-some_fit kind.SetCsyTransformation e = absurd (false≢true e)
-some_fit kind.SetCoordSystem e = absurd (false≢true e)
-some_fit kind.AbortE e = absurd (false≢true e)
+some_fit Kind.StartSession e = absurd (false≢true e)
+some_fit Kind.EndSession e = absurd (false≢true e)
+some_fit Kind.ClearAllErrors e = absurd (false≢true e)
+some_fit Kind.IsHomed e = (Datum.Homed true, refl)
+some_fit Kind.Home e = absurd (false≢true e)
+some_fit Kind.OnPtMeasReport e = absurd (false≢true e)
+some_fit Kind.GoTo e = absurd (false≢true e)
+some_fit Kind.PtMeas e = (Datum.Point zero_point, refl)
+some_fit Kind.ChangeTool e = absurd (false≢true e)
+some_fit Kind.SetCsyTransformation e = absurd (false≢true e)
+some_fit Kind.SetCoordSystem e = absurd (false≢true e)
+some_fit Kind.AbortE e = absurd (false≢true e)
 
 -- ---- the table against how marks continue
 

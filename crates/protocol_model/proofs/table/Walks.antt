@@ -1,13 +1,9 @@
 -- What a reply does to a list of open commands.
-use Rattle.std.proofs.Common.{◌≡◌, Bool, true, false, ◌&&◌, List, [], ◌∷◌, ◌++◌, refl, sym, ◌∙◌, ap, Option, Ok, Err}
-use Rattle.dme_line.specs.declared.tags.Tag.{Tag}
-use Rattle.protocol_model.specs.Replies.{Mark, tag_is}
-use Rattle.protocol_model.specs.Open.{Verdict, Effect, Heard, Becomes, Breaks, Closes, Counts, Refused, judged, settled, put_before}
-use Rattle.protocol_model.specs.Open.{heard_in, is_failed, is_held}
+use Rattle.protocol_model.proofs.Names.{[], ◌&&◌, ◌++◌, ◌∙◌, ◌∷◌, ◌≡◌, ap, Becomes, Bool, Breaks, Closes, Counts, Datum, Effect, Err, false, Heard}
+use Rattle.protocol_model.proofs.Names.{heard_in, is_failed, is_held, judged, List, Ok, OpenCommand, Option, put_before, refl, Refused, settled}
+use Rattle.protocol_model.proofs.Names.{Stage, sym, Tag, tag_is, true, Verdict}
+use Rattle.protocol_model.specs.Replies.{Mark}
 use Rattle.protocol_model.proofs.table.Basics.{if_cases, if_true, if_false}
-use Rattle.protocol_model.specs.declared.held.Datum.{Datum}
-use Rattle.protocol_model.specs.declared.held.Stage.{Stage}
-use Rattle.protocol_model.specs.declared.held.OpenCommand.{OpenCommand}
 
 -- an expected reply: what is held then, and the effect
 abbrev pub two : List OpenCommand → Effect → Heard

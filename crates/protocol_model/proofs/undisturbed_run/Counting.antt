@@ -1,20 +1,11 @@
 -- What a client has counted follows its plan, and so do the commands that are open: kept by every reply.
-use Rattle.std.proofs.Common.{◌≡◌, ℕ, suc, ◌+◌, ◌⊎◌, inl, inr, Bool, true, false, ◌||◌, not, List, [], ◌∷◌, ◌++◌, length, refl, sym, ◌∙◌}
-use Rattle.std.proofs.Common.{ap, subst, arith, append_assoc, append-nil, length-append, Option, Some}
-use Rattle.std.proofs.lemmas.Bool.{false≢true}
-use Rattle.dme_line.specs.Kinds.{kind_of}
-use Rattle.dme_line.specs.declared.tags.Tag.{Tag}
-use Rattle.dme_line.specs.declared.tags.Tag.TheVariants.{Std}
-use Rattle.dme_line.specs.declared.commands.Kind.{Kind}
-use Rattle.dme_line.specs.declared.commands.Kind.TheVariants as kind
-use Rattle.contact_ledger.specs.declared.acts.Act.{Act}
-use Rattle.dmis_program.specs.declared.features.Wanted.{Wanted}
-use Rattle.protocol_model.specs.Replies.{Mark, Reply, tag_of, mark_of}
-use Rattle.protocol_model.specs.Open.{Effect, Becomes, judged, heard_in, is_failed, asks_homed}
-use Rattle.protocol_model.specs.Client.{Tally, Table, act_of, begins_session, measured, counted_next, tallied, tells_homed, passed_over}
-use Rattle.protocol_model.specs.Client.{is_homing, without_homing}
+use Rattle.protocol_model.proofs.Names.{[], ◌++◌, ◌+◌, ◌||◌, ◌∙◌, ◌∷◌, ◌≡◌, ◌⊎◌, Act, act_in, act_of, acts_planned, ap, append-nil, append_assoc}
+use Rattle.protocol_model.proofs.Names.{AreActs, arith, asks_homed, Becomes, begins_session, Bool, counted_next, Datum, Does, Effect, false}
+use Rattle.protocol_model.proofs.Names.{false≢true, followed, heard_in, inl, inr, is_failed, is_homing, judged, Kind, kind_of, length, length-append}
+use Rattle.protocol_model.proofs.Names.{List, mark_of, measured, not, OpenCommand, Option, passed_over, Planned, refl, Reply, Some, Stage, Std, subst}
+use Rattle.protocol_model.proofs.Names.{suc, sym, Table, Tag, tag_of, tallied, Tally, tells_homed, true, Wanted, without_homing, ℕ}
+use Rattle.protocol_model.specs.Replies.{Mark}
 use Rattle.protocol_model.proofs.HeardTables.{heard}
-use Rattle.protocol_model.specs.Undisturbed.{act_in, acts_planned, AreActs, followed}
 use Rattle.protocol_model.proofs.table.Basics.{if_true}
 use Rattle.protocol_model.proofs.table.Walks.{two, staged, heard_cases}
 use Rattle.protocol_model.proofs.table.Replying.{fine, step_cases, Reads, IsFront, Grows, reads_grows}
@@ -28,12 +19,6 @@ use Rattle.protocol_model.proofs.undisturbed_run.Following.{becomes_filled, no_c
 use Rattle.protocol_model.proofs.undisturbed_run.Homing.{FirstTells, first_tells_front, HasNoHoming, HasNoQuestion, followed_cons}
 use Rattle.protocol_model.proofs.undisturbed_run.Homing.{followed_passed, AreQuiet, IsQuestion, IsLeft, Asked, Unasked, IsBefore}
 use Rattle.protocol_model.proofs.undisturbed_run.Homing.{IsBehind, answer_of, tells_is}
-use Rattle.protocol_model.specs.declared.held.Datum.{Datum}
-use Rattle.protocol_model.specs.declared.held.Datum.TheVariants as datum
-use Rattle.protocol_model.specs.declared.held.Stage.{Stage}
-use Rattle.protocol_model.specs.declared.held.OpenCommand.{OpenCommand}
-use Rattle.protocol_model.specs.declared.plans.Planned.{Planned}
-use Rattle.protocol_model.specs.declared.plans.Does.{Does}
 
 -- ---- what a reply does to open commands that have not failed
 
@@ -159,11 +144,11 @@ nothing_told told h gs given p todo unsent acts asks homes kinds phase =
 question_told : (told : Bool) (h : OpenCommand) (gs : List OpenCommand) (given : Option Datum) (ask home : Planned)
     (rest unsent : List Planned)
     (question : IsQuestion ask home rest) (acts : List Act)
-    → h.kind ≡ kind.IsHomed → gs ≡ [] → unsent ≡ home ∷ rest → (homed : Bool) → given ≡ Some (datum.Homed homed) → homed ≡ told
+    → h.kind ≡ Kind.IsHomed → gs ≡ [] → unsent ≡ home ∷ rest → (homed : Bool) → given ≡ Some (Datum.Homed homed) → homed ≡ told
     → IsCounted told h gs given ask (home ∷ rest) unsent acts
 question_told told h gs given ask home rest unsent question acts kind_is none left homed is same =
     let tells : tells_homed h.kind given ≡ told = ap (λ (k : Kind). tells_homed k given) kind_is
-    ∙ (ap (λ (o : Option Datum). tells_homed kind.IsHomed o) is ∙ (tells_is homed ∙ same)) in
+    ∙ (ap (λ (o : Option Datum). tells_homed Kind.IsHomed o) is ∙ (tells_is homed ∙ same)) in
     record {
       told_so = λ e. sym tells ∙ e;
       no_homing = λ e. ap is_homing question.asks;
@@ -249,11 +234,11 @@ counted_before told h gs given p todo unsent acts [] ask home rest question q_qu
     others : todo ≡ home ∷ rest
     others = ap others_of is
 
-    same : h.kind ≡ kind.IsHomed
+    same : h.kind ≡ Kind.IsHomed
     same = ap (λ (l : List Kind). first_kind l h.kind) kinds
         ∙ (ap (λ (x : Planned). kind_of x.command) first ∙ ap kind_of question.asks)
 
-    answer : (homed : Bool) × (given ≡ Some (datum.Homed homed))
+    answer : (homed : Bool) × (given ≡ Some (Datum.Homed homed))
     answer = answer_of given (subst (λ (k : Kind). IsGiven k given) same fit)
 
     told_is : answer.0 ≡ told

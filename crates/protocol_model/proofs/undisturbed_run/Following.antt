@@ -1,33 +1,18 @@
 -- What is planned against what is counted, and what a mark does to a command that has not failed.
-use Rattle.std.proofs.Common.{◌≡◌, ℕ, suc, Bool, true, false, ◌&&◌, List, [], ◌∷◌, ◌++◌, refl, sym, ◌∙◌, ap, subst}
-use Rattle.std.proofs.Common.{append_assoc, Option, Some, None}
-use Rattle.std.proofs.lemmas.Bool.{false≢true}
-use Rattle.dme_line.specs.Kinds.{kind_of}
-use Rattle.dme_line.specs.declared.commands.Kind.{Kind}
-use Rattle.dme_line.specs.declared.commands.Kind.TheVariants as kind
-use Rattle.dme_line.specs.declared.commands.Command.{Command}
-use Rattle.dme_line.specs.declared.commands.Command.TheVariants as command
-use Rattle.contact_ledger.specs.declared.acts.Act.{Act}
+use Rattle.protocol_model.proofs.Names.{[], ◌&&◌, ◌++◌, ◌∙◌, ◌∷◌, ◌≡◌, Act, act_in, act_of, acts_planned, ap, append_assoc, AreActs, AreFirstActs}
+use Rattle.protocol_model.proofs.Names.{asks_data, Becomes, Bool, Closes, Command, Counts, Datum, Does, false, false≢true, fits, is_failed, judged}
+use Rattle.protocol_model.proofs.Names.{judged_done, judged_given, Kind, kind_of, List, None, OpenCommand, Option, Planned, refl, Some, Stage, subst}
+use Rattle.protocol_model.proofs.Names.{suc, sym, tag_at, true, ℕ}
 use Rattle.protocol_model.specs.Replies.{Mark}
-use Rattle.protocol_model.specs.Open.{Becomes, Closes, Counts, judged, judged_given, judged_done, is_failed, asks_data}
-use Rattle.protocol_model.specs.Open.{fits}
-use Rattle.protocol_model.specs.Client.{act_of}
-use Rattle.protocol_model.specs.Undisturbed.{tag_at, act_in, acts_planned, AreActs, AreFirstActs}
 use Rattle.protocol_model.proofs.invariant.Touching.{HasDatum}
 use Rattle.protocol_model.proofs.plan.Fitting.{Know, known_by, FitsMove, FitsTouch, FitsFrame, FitsOne, Fits}
-use Rattle.protocol_model.specs.declared.held.Datum.{Datum}
-use Rattle.protocol_model.specs.declared.held.Datum.TheVariants as datum
-use Rattle.protocol_model.specs.declared.held.Stage.{Stage}
-use Rattle.protocol_model.specs.declared.held.OpenCommand.{OpenCommand}
-use Rattle.protocol_model.specs.declared.plans.Planned.{Planned}
-use Rattle.protocol_model.specs.declared.plans.Does.{Does}
 
 -- ---- plans whose touches and questions are commands that ask for data
 
 -- a touch is measured by a PtMeas, an IsHomed asks whether the machine is homed, and what is for nothing of both asks for no data
 abbrev pub IsAskedBy : Does → Kind → Type 0
-IsAskedBy (Does.Touches t last) k = k ≡ kind.PtMeas
-IsAskedBy Does.AsksHomed k = k ≡ kind.IsHomed
+IsAskedBy (Does.Touches t last) k = k ≡ Kind.PtMeas
+IsAskedBy Does.AsksHomed k = k ≡ Kind.IsHomed
 IsAskedBy Does.Nothing k = asks_data k ≡ false
 IsAskedBy Does.Homes k = asks_data k ≡ false
 IsAskedBy (Does.Moves p f) k = asks_data k ≡ false
@@ -47,19 +32,19 @@ asked_as : (d e : Does) (k : Kind) → d ≡ e → IsAskedBy e k → IsAskedBy d
 asked_as d e k same h = subst (λ (x : Does). IsAskedBy x k) (sym same) h
 
 one_asked : (k : Know) (c : Command) (d : Does) → FitsOne k c d → IsAskedBy d (kind_of c)
-one_asked k command.StartSession d h = asked_as d Does.Nothing _ h refl
-one_asked k command.EndSession d h = asked_as d Does.Nothing _ h refl
-one_asked k command.ClearAllErrors d h = asked_as d Does.Nothing _ h refl
-one_asked k command.IsHomed d h = asked_as d Does.AsksHomed _ h refl
-one_asked k command.Home d h = asked_as d Does.Homes _ h refl
-one_asked k command.OnPtMeasReport d h = asked_as d Does.Nothing _ h refl
-one_asked k (command.GoTo p) d h = let f : FitsMove k p d = h in asked_as d (Does.Moves p f.frame) _ f.is refl
-one_asked k (command.PtMeas p dir) d h = let f : FitsTouch k p dir d = h in asked_as d (Does.Touches f.touch f.last) _ f.is refl
-one_asked k (command.ChangeTool n) d h = asked_as d (Does.Changes n) _ h refl
-one_asked k (command.SetCsyTransformation p) d h = asked_as d Does.Nothing _ h refl
-one_asked k (command.SetCoordSystem system) d h = let f : FitsFrame k system d = h
+one_asked k Command.StartSession d h = asked_as d Does.Nothing _ h refl
+one_asked k Command.EndSession d h = asked_as d Does.Nothing _ h refl
+one_asked k Command.ClearAllErrors d h = asked_as d Does.Nothing _ h refl
+one_asked k Command.IsHomed d h = asked_as d Does.AsksHomed _ h refl
+one_asked k Command.Home d h = asked_as d Does.Homes _ h refl
+one_asked k Command.OnPtMeasReport d h = asked_as d Does.Nothing _ h refl
+one_asked k (Command.GoTo p) d h = let f : FitsMove k p d = h in asked_as d (Does.Moves p f.frame) _ f.is refl
+one_asked k (Command.PtMeas p dir) d h = let f : FitsTouch k p dir d = h in asked_as d (Does.Touches f.touch f.last) _ f.is refl
+one_asked k (Command.ChangeTool n) d h = asked_as d (Does.Changes n) _ h refl
+one_asked k (Command.SetCsyTransformation p) d h = asked_as d Does.Nothing _ h refl
+one_asked k (Command.SetCoordSystem system) d h = let f : FitsFrame k system d = h
     in asked_as d (Does.Frames f.frame) _ f.is refl
-one_asked k command.AbortE d h = absurd h
+one_asked k Command.AbortE d h = absurd h
 
 -- in a plan that fits each does
 pub fits_asked : (ps : List Planned) (k : Know) → Fits k ps → AreAsked ps
@@ -96,15 +81,15 @@ planned_more (p ∷ ps) qs = ap (λ (l : List Does). act_in p.does ++ l) (planne
 pub act_stands : (d : Does) (given : Option Datum) → HasDatum d given → AreActs (act_of d given) (act_in d)
 act_stands Does.Nothing given h = tt
 act_stands Does.AsksHomed None h = absurd h
-act_stands Does.AsksHomed (Some (datum.Point p)) h = absurd h
-act_stands Does.AsksHomed (Some (datum.Homed homed)) h = (tt, tt)
+act_stands Does.AsksHomed (Some (Datum.Point p)) h = absurd h
+act_stands Does.AsksHomed (Some (Datum.Homed homed)) h = (tt, tt)
 act_stands Does.Homes given h = (tt, tt)
 act_stands (Does.Moves p f) given h = ((refl, refl), tt)
 act_stands (Does.Changes n) given h = (refl, tt)
 act_stands (Does.Frames f) given h = (refl, tt)
 act_stands (Does.Touches t last) None h = absurd h
-act_stands (Does.Touches t last) (Some (datum.Homed homed)) h = absurd h
-act_stands (Does.Touches t last) (Some (datum.Point p)) h = ((refl, refl, refl, refl), tt)
+act_stands (Does.Touches t last) (Some (Datum.Homed homed)) h = absurd h
+act_stands (Does.Touches t last) (Some (Datum.Point p)) h = ((refl, refl, refl, refl), tt)
 
 -- ---- data that fit
 
@@ -128,12 +113,12 @@ AreFilled (h ∷ hs) = IsFilled h.kind h.stage × AreFilled hs
 -- what is counted with data that fit has what it was planned for
 pub has_datum : (d : Does) (k : Kind) (given : Option Datum) → IsAskedBy d k → IsGiven k given → HasDatum d given
 has_datum (Does.Touches t last) k None asked g = absurd (false≢true (sym (ap asks_data (sym asked) ∙ g)))
-has_datum (Does.Touches t last) k (Some (datum.Point p)) asked g = tt
-has_datum (Does.Touches t last) k (Some (datum.Homed homed)) asked g =
-    false≢true (ap (λ (x : Kind). fits x (datum.Homed homed)) (sym asked) ∙ g)
+has_datum (Does.Touches t last) k (Some (Datum.Point p)) asked g = tt
+has_datum (Does.Touches t last) k (Some (Datum.Homed homed)) asked g =
+    false≢true (ap (λ (x : Kind). fits x (Datum.Homed homed)) (sym asked) ∙ g)
 has_datum Does.AsksHomed k None asked g = absurd (false≢true (sym (ap asks_data (sym asked) ∙ g)))
-has_datum Does.AsksHomed k (Some (datum.Homed homed)) asked g = tt
-has_datum Does.AsksHomed k (Some (datum.Point p)) asked g = false≢true (ap (λ (x : Kind). fits x (datum.Point p)) (sym asked) ∙ g)
+has_datum Does.AsksHomed k (Some (Datum.Homed homed)) asked g = tt
+has_datum Does.AsksHomed k (Some (Datum.Point p)) asked g = false≢true (ap (λ (x : Kind). fits x (Datum.Point p)) (sym asked) ∙ g)
 has_datum Does.Nothing k given asked g = tt
 has_datum Does.Homes k given asked g = tt
 has_datum (Does.Moves p f) k given asked g = tt

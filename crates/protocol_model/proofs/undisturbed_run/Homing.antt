@@ -1,64 +1,39 @@
 -- Plans as they are followed on a machine that is homed or not, and where the question whether it is is in them.
-use Rattle.std.proofs.Common.{◌≡◌, ℕ, Bool, true, false, ◌&&◌, not, List, [], ◌∷◌, ◌++◌, refl, sym, ◌∙◌, ap, subst, Option, Some, None}
-use Rattle.std.proofs.lemmas.Bool.{false≢true}
-use Rattle.fixed_um.specs.Points.{point_opposite}
-use Rattle.fixed_um.specs.Shapes.{Direction}
-use Rattle.fixed_um.specs.declared.lengths.Point.{Point}
-use Rattle.fixed_um.specs.declared.frames.Frame.{Frame}
-use Rattle.fixed_um.specs.declared.frames.Frame.TheVariants.{Machine, Part}
-use Rattle.dme_line.specs.Kinds.{kind_of}
-use Rattle.dme_line.specs.declared.commands.Csy.{Csy}
-use Rattle.dme_line.specs.declared.commands.Csy.TheVariants.{MachineCsy, PartCsy}
-use Rattle.dmis_program.specs.declared.steps.Step.{Step}
-use Rattle.dmis_program.specs.declared.steps.Step.TheVariants as step
-use Rattle.protocol_model.specs.Plan.{framing, tooling, stepping, measuring}
-use Rattle.dme_line.specs.declared.commands.Kind.{Kind}
-use Rattle.dme_line.specs.declared.commands.Kind.TheVariants as kind
-use Rattle.dme_line.specs.declared.commands.Command.{Command}
-use Rattle.dme_line.specs.declared.commands.Command.TheVariants as command
-use Rattle.contact_ledger.specs.declared.acts.Act.{Act}
-use Rattle.contact_ledger.specs.declared.acts.Act.TheVariants as act
-use Rattle.dme_line.specs.declared.tags.Tag.{Tag}
-use Rattle.dme_line.specs.declared.tags.Tag.TheVariants.{Std}
-use Rattle.dmis_program.specs.declared.features.Wanted.{Wanted}
+use Rattle.protocol_model.proofs.Names.{[], ◌&&◌, ◌++◌, ◌∙◌, ◌∷◌, ◌≡◌, Act, ap, asks_homed, Bool, Command, Csy, Datum, Direction, Does, Effect, false}
+use Rattle.protocol_model.proofs.Names.{false≢true, followed, Frame, framing, heard_in, is_failed, is_homing, Kind, kind_of, Line, List, MachineCsy}
+use Rattle.protocol_model.proofs.Names.{measuring, None, not, OpenCommand, Option, Part, PartCsy, passed_over, Planned, Point, point_opposite, refl}
+use Rattle.protocol_model.proofs.Names.{Some, Std, Step, stepping, subst, sym, Table, Tag, Tally, tells_homed, tooling, true, Wanted, without_homing}
+use Rattle.protocol_model.proofs.Names.{without_homings, ℕ}
+use Rattle.fixed_um.specs.declared.frames.Frame.TheVariants.{Machine}
 use Rattle.protocol_model.specs.Replies.{Mark}
-use Rattle.protocol_model.specs.Open.{Effect, heard_in, is_failed, asks_homed}
-use Rattle.protocol_model.specs.Client.{Tally, Table, is_homing, without_homing, passed_over, tells_homed}
 use Rattle.protocol_model.proofs.HeardTables.{heard}
-use Rattle.protocol_model.specs.Undisturbed.{without_homings, followed}
 use Rattle.protocol_model.proofs.table.Basics.{if_true, if_false}
 use Rattle.protocol_model.proofs.table.Walks.{two, heard_cases}
 use Rattle.protocol_model.proofs.table.Replying.{fine, step_cases}
 use Rattle.protocol_model.proofs.invariant.Holding.{all_received}
 use Rattle.protocol_model.proofs.undisturbed_run.Following.{kinds_held, kinds_of, IsGiven}
-use Rattle.protocol_model.specs.declared.lines.Line.{Line}
-use Rattle.protocol_model.specs.declared.held.Datum.{Datum}
-use Rattle.protocol_model.specs.declared.held.Datum.TheVariants as datum
-use Rattle.protocol_model.specs.declared.held.OpenCommand.{OpenCommand}
-use Rattle.protocol_model.specs.declared.plans.Does.{Does}
-use Rattle.protocol_model.specs.declared.plans.Planned.{Planned}
 
 -- ---- what is reported
 
 -- if the first act says whether the machine is homed, it says this
 abbrev pub FirstTells : Bool → List Act → Type 0
 FirstTells homed [] = Unit {0}
-FirstTells homed (act.HomedIs told ∷ acts) = told ≡ homed
-FirstTells homed (act.Homed ∷ acts) = Unit {0}
-FirstTells homed (act.Moved p f ∷ acts) = Unit {0}
-FirstTells homed (act.Changed n ∷ acts) = Unit {0}
-FirstTells homed (act.Framed f ∷ acts) = Unit {0}
-FirstTells homed (act.Contact target dir tool frame point ∷ acts) = Unit {0}
+FirstTells homed (Act.HomedIs told ∷ acts) = told ≡ homed
+FirstTells homed (Act.Homed ∷ acts) = Unit {0}
+FirstTells homed (Act.Moved p f ∷ acts) = Unit {0}
+FirstTells homed (Act.Changed n ∷ acts) = Unit {0}
+FirstTells homed (Act.Framed f ∷ acts) = Unit {0}
+FirstTells homed (Act.Contact target dir tool frame point ∷ acts) = Unit {0}
 
 -- so it does in each front
 pub first_tells_front : (homed : Bool) (xs ys : List Act) → FirstTells homed (xs ++ ys) → FirstTells homed xs
 first_tells_front homed [] ys h = tt
-first_tells_front homed (act.HomedIs told ∷ acts) ys h = h
-first_tells_front homed (act.Homed ∷ acts) ys h = tt
-first_tells_front homed (act.Moved p f ∷ acts) ys h = tt
-first_tells_front homed (act.Changed n ∷ acts) ys h = tt
-first_tells_front homed (act.Framed f ∷ acts) ys h = tt
-first_tells_front homed (act.Contact target dir tool frame point ∷ acts) ys h = tt
+first_tells_front homed (Act.HomedIs told ∷ acts) ys h = h
+first_tells_front homed (Act.Homed ∷ acts) ys h = tt
+first_tells_front homed (Act.Moved p f ∷ acts) ys h = tt
+first_tells_front homed (Act.Changed n ∷ acts) ys h = tt
+first_tells_front homed (Act.Framed f ∷ acts) ys h = tt
+first_tells_front homed (Act.Contact target dir tool frame point ∷ acts) ys h = tt
 
 -- ---- a plan as it is followed
 
@@ -114,7 +89,7 @@ AreQuiet (p ∷ ps) = IsQuiet p × AreQuiet ps
 
 -- the question, the homing after it, and what is left then
 pub record IsQuestion (ask home : Planned) (rest : List Planned) : Type 0 where
-  pub asks : ask.command ≡ command.IsHomed
+  pub asks : ask.command ≡ Command.IsHomed
   pub does : ask.does ≡ Does.AsksHomed
   pub homes : is_homing home.command ≡ true
   pub no_homing : HasNoHoming rest
@@ -123,7 +98,7 @@ pub record IsQuestion (ask home : Planned) (rest : List Planned) : Type 0 where
 
 -- what is unsent before the question is counted: the question was sent, and is the last that is open; or it was not
 pub data IsLeft (hs : List OpenCommand) (quiet : List Planned) (ask home : Planned) (rest unsent : List Planned) : Type 0 where
-  Asked : unsent ≡ home ∷ rest → kinds_held hs ≡ kinds_of quiet ++ kind.IsHomed ∷ [] → IsLeft hs quiet ask home rest unsent
+  Asked : unsent ≡ home ∷ rest → kinds_held hs ≡ kinds_of quiet ++ Kind.IsHomed ∷ [] → IsLeft hs quiet ask home rest unsent
   Unasked : (later : List Planned) → AreQuiet later → unsent ≡ later ++ ask ∷ home ∷ rest → IsLeft hs quiet ask home rest unsent
 
 -- the question is not counted, and so nothing that means an act
@@ -145,13 +120,13 @@ pub record IsBehind (told : Bool) (y : Tally) : Type 0 where
   pub unsent : told ≡ true → HasNoHoming y.unsent
 
 -- the answer that fits the question
-pub answer_of : (given : Option Datum) → IsGiven kind.IsHomed given → (homed : Bool) × (given ≡ Some (datum.Homed homed))
+pub answer_of : (given : Option Datum) → IsGiven Kind.IsHomed given → (homed : Bool) × (given ≡ Some (Datum.Homed homed))
 answer_of None h = absurd (false≢true (sym h))
-answer_of (Some (datum.Point p)) h = absurd (false≢true h)
-answer_of (Some (datum.Homed homed)) h = (homed, refl)
+answer_of (Some (Datum.Point p)) h = absurd (false≢true h)
+answer_of (Some (Datum.Homed homed)) h = (homed, refl)
 
 -- what it says
-pub tells_is : (homed : Bool) → tells_homed kind.IsHomed (Some (datum.Homed homed)) ≡ homed
+pub tells_is : (homed : Bool) → tells_homed Kind.IsHomed (Some (Datum.Homed homed)) ≡ homed
 tells_is true = refl
 tells_is false = refl
 
@@ -159,12 +134,12 @@ tells_is false = refl
 
 -- such commands do not measure, and are not the end of the session
 record IsOther (such : Command → Bool) : Type 0 where
-  goes : (p : Point) → such (command.GoTo p) ≡ false
-  touches : (p : Point) (d : Option Direction) → such (command.PtMeas p d) ≡ false
-  changes : (n : List ℕ) → such (command.ChangeTool n) ≡ false
-  transforms : (p : Point) → such (command.SetCsyTransformation p) ≡ false
-  selects : (system : Csy) → such (command.SetCoordSystem system) ≡ false
-  ends : such command.EndSession ≡ false
+  goes : (p : Point) → such (Command.GoTo p) ≡ false
+  touches : (p : Point) (d : Option Direction) → such (Command.PtMeas p d) ≡ false
+  changes : (n : List ℕ) → such (Command.ChangeTool n) ≡ false
+  transforms : (p : Point) → such (Command.SetCsyTransformation p) ≡ false
+  selects : (system : Csy) → such (Command.SetCoordSystem system) ≡ false
+  ends : such Command.EndSession ≡ false
 
 none_more : (such : Command → Bool) (ps qs : List Planned) → HasNone such ps → HasNone such qs → HasNone such (ps ++ qs)
 none_more such [] qs h g = g
@@ -180,15 +155,15 @@ none_tooling such o (Some n) = (o.changes n, tt)
 
 none_steps : (such : Command → Bool) → IsOther such → (frame : Frame) (ss : List Step) → HasNone such (stepping frame ss)
 none_steps such o frame [] = tt
-none_steps such o frame (step.Goto p ∷ ss) = (o.goes p, none_steps such o frame ss)
-none_steps such o frame (step.Begin l ∷ ss) = none_steps such o frame ss
-none_steps such o frame (step.Touch t ∷ ss) = (o.touches t.target t.dir, none_steps such o frame ss)
-none_steps such o frame (step.Tool n ∷ ss) = (o.changes n, none_steps such o frame ss)
-none_steps such o frame (step.Recall p ∷ ss) = (
+none_steps such o frame (Step.Goto p ∷ ss) = (o.goes p, none_steps such o frame ss)
+none_steps such o frame (Step.Begin l ∷ ss) = none_steps such o frame ss
+none_steps such o frame (Step.Touch t ∷ ss) = (o.touches t.target t.dir, none_steps such o frame ss)
+none_steps such o frame (Step.Tool n ∷ ss) = (o.changes n, none_steps such o frame ss)
+none_steps such o frame (Step.Recall p ∷ ss) = (
   o.transforms (point_opposite p),
   (o.selects PartCsy, none_steps such o (Part p) ss),
 )
-none_steps such o frame (step.End ∷ ss) = none_steps such o frame ss
+none_steps such o frame (Step.End ∷ ss) = none_steps such o frame ss
 
 none_measuring : (such : Command → Bool) → IsOther such → (tool : Option (List ℕ)) (frame : Frame) (ss : List Step)
     → HasNone such (measuring tool frame ss)
@@ -222,23 +197,23 @@ measuring_asks_not tool frame ss = none_measuring is_question (record {
 
 -- the kind of the command that does
 abbrev pub homes : Kind → Bool
-homes kind.Home = true
+homes Kind.Home = true
 homes _ = false
 
 -- it is the kind of that command
 pub homes_is : (c : Command) → homes (kind_of c) ≡ is_homing c
-homes_is command.StartSession = refl
-homes_is command.EndSession = refl
-homes_is command.ClearAllErrors = refl
-homes_is command.IsHomed = refl
-homes_is command.Home = refl
-homes_is command.OnPtMeasReport = refl
-homes_is (command.GoTo p) = refl
-homes_is (command.PtMeas p d) = refl
-homes_is (command.ChangeTool n) = refl
-homes_is (command.SetCsyTransformation p) = refl
-homes_is (command.SetCoordSystem system) = refl
-homes_is command.AbortE = refl
+homes_is Command.StartSession = refl
+homes_is Command.EndSession = refl
+homes_is Command.ClearAllErrors = refl
+homes_is Command.IsHomed = refl
+homes_is Command.Home = refl
+homes_is Command.OnPtMeasReport = refl
+homes_is (Command.GoTo p) = refl
+homes_is (Command.PtMeas p d) = refl
+homes_is (Command.ChangeTool n) = refl
+homes_is (Command.SetCsyTransformation p) = refl
+homes_is (Command.SetCoordSystem system) = refl
+homes_is Command.AbortE = refl
 
 abbrev pub HoldsNoHoming : List OpenCommand → Type 0
 HoldsNoHoming [] = Unit {0}

@@ -1,18 +1,9 @@
 -- If few commands are open, each next one is sent under the tag of its place in the plan.
-use Rattle.std.proofs.Common.{◌≡◌, ℕ, zero, suc, ◌+◌, ◌-◌, ◌<◌, ◌≤◌, ◌%◌, ◌⊎◌, inl, inr, Bool, true, false, List, [], ◌∷◌, ◌++◌, length}
-use Rattle.std.proofs.Common.{refl, sym, ◌∙◌, ap, subst, arith, Option, Some, None, eqb, ne_eqb}
-use Rattle.std.proofs.lemmas.Bool.{eqb-true, eqb-false}
-use Rattle.dme_line.specs.declared.tags.Tag.{Tag}
-use Rattle.dme_line.specs.declared.tags.Tag.TheVariants.{Std}
-use Rattle.protocol_model.specs.Replies.{tag_is}
-use Rattle.protocol_model.specs.Open.{count_open, is_failed, is_held}
-use Rattle.protocol_model.specs.Client.{first_free, or_else, next_number}
-use Rattle.protocol_model.specs.Undisturbed.{tag_at, lines_from}
+use Rattle.protocol_model.proofs.Names.{[], ◌%◌, ◌++◌, ◌+◌, ◌-◌, ◌<◌, ◌∙◌, ◌∷◌, ◌≡◌, ◌≤◌, ◌⊎◌, ap, arith, Bool, count_open, eqb, eqb-false, eqb-true}
+use Rattle.protocol_model.proofs.Names.{false, first_free, inl, inr, is_failed, is_held, length, Line, lines_from, List, ne_eqb, next_number, None}
+use Rattle.protocol_model.proofs.Names.{OpenCommand, Option, or_else, Planned, refl, Some, Std, subst, suc, sym, Tag, tag_at, tag_is, true, zero, ℕ}
 use Rattle.protocol_model.proofs.table.Basics.{if_false}
 use Rattle.protocol_model.proofs.undisturbed_run.Following.{AreCalm, HaveTags}
-use Rattle.protocol_model.specs.declared.lines.Line.{Line}
-use Rattle.protocol_model.specs.declared.held.OpenCommand.{OpenCommand}
-use Rattle.protocol_model.specs.declared.plans.Planned.{Planned}
 
 -- the number of the tag at a place of the plan
 abbrev pub number_at : ℕ → ℕ

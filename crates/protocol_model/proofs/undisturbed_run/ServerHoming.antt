@@ -1,27 +1,11 @@
 -- The homing that a server answers: the homing at that moment, and while no act is done, what it was.
-use Rattle.std.proofs.Common.{◌≡◌, ℕ, Bool, true, false, cond, not, ◌&&◌, ◌||◌, List, [], ◌∷◌, ◌++◌, length, refl, sym, ◌∙◌}
-use Rattle.std.proofs.Common.{append-nil, nat_le, Option, Some, None, Result, Ok, Err}
-use Rattle.std.proofs.lemmas.Bool.{false≢true}
-use Rattle.fixed_um.specs.declared.lengths.Point.{Point}
-use Rattle.dme_line.specs.Tags.{is_event_tag}
-use Rattle.dme_line.specs.declared.tags.Tag.{Tag}
-use Rattle.dme_line.specs.declared.commands.Command.{Command}
-use Rattle.dme_line.specs.declared.commands.Command.TheVariants as command
-use Rattle.dme_line.specs.declared.reading.LineFault.TheVariants as fault
-use Rattle.contact_ledger.specs.declared.acts.Act.{Act}
-use Rattle.contact_ledger.specs.declared.acts.Act.TheVariants as act
-use Rattle.protocol_model.specs.Replies.{Reading}
-use Rattle.protocol_model.specs.Client.{is_homing}
-use Rattle.protocol_model.specs.Server.{Server, Answer, runs_under, waits_under, is_abort, is_clear, stands, fresh}
-use Rattle.protocol_model.specs.Server.{tagged, server_read, refusal, frame_of, carried_out, carried, taken, turned_to, server_turned}
-use Rattle.protocol_model.specs.Server.{finished, touched, machined, server_machined}
+use Rattle.protocol_model.proofs.Names.{[], ◌&&◌, ◌++◌, ◌||◌, ◌∙◌, ◌∷◌, ◌≡◌, Act, Answer, append-nil, Bool, carried, carried_out, Command, cond, Err}
+use Rattle.protocol_model.proofs.Names.{false, false≢true, finished, frame_of, fresh, is_abort, is_clear, is_event_tag, is_homing, length, Line}
+use Rattle.protocol_model.proofs.Names.{LineFault, List, machined, Misread, nat_le, None, not, Ok, Option, Outcome, Point, Reading, refl, refusal}
+use Rattle.protocol_model.proofs.Names.{Result, runs_under, Server, server_machined, server_read, server_turned, Some, stands, sym, Tag, tagged}
+use Rattle.protocol_model.proofs.Names.{taken, touched, true, turned_to, Waiting, waits_under, ℕ}
 use Rattle.protocol_model.proofs.invariant.Moves.{Moves}
 use Rattle.protocol_model.proofs.undisturbed_run.Homing.{FirstTells}
-use Rattle.protocol_model.specs.declared.lines.Line.{Line}
-use Rattle.protocol_model.specs.declared.lines.Misread.{Misread}
-use Rattle.protocol_model.specs.declared.lines.Misread.TheVariants as misread
-use Rattle.protocol_model.specs.declared.lines.Waiting.{Waiting}
-use Rattle.protocol_model.specs.declared.machine.Outcome.{Outcome}
 
 -- a call of a server does these acts; where it was homed so, its first answer says that, and if it does no act, it still is
 pub record Tells (told : Bool) (s t : Server) : Type 0 where
@@ -73,9 +57,9 @@ tagged_same s t reading = either (Same s) (runs_under t s.running || waits_under
 -- a line that is read leaves the homing
 pub read_same : (s : Server) (reading : Reading) → (server_read s reading).server.homed ≡ s.homed
 read_same s (Ok line) = tagged_same s line.tag (Ok line.command)
-read_same s (Err fault.NoTag) = refl
-read_same s (Err (fault.UnknownCommand t)) = tagged_same s t (Err misread.UnknownCommand)
-read_same s (Err (fault.BadArguments t k)) = tagged_same s t (Err (misread.BadArguments k))
+read_same s (Err LineFault.NoTag) = refl
+read_same s (Err (LineFault.UnknownCommand t)) = tagged_same s t (Err Misread.UnknownCommand)
+read_same s (Err (LineFault.BadArguments t k)) = tagged_same s t (Err (Misread.BadArguments k))
 
 -- ---- a turn
 
@@ -86,28 +70,28 @@ HomesNot told (w ∷ ws) = (c : Command) → w.reading ≡ Ok c → told ≡ tru
 
 carried_tells : (told : Bool) (s : Server) (t : Tag) (c : Command) → (told ≡ true → is_homing c ≡ false)
     → Tells told s (carried_out s t c).server
-carried_tells told s t command.StartSession h = keeps told s _ refl refl refl refl
-carried_tells told s t command.EndSession h = keeps told s _ refl refl refl refl
-carried_tells told s t command.ClearAllErrors h = keeps told s _ refl refl refl refl
-carried_tells told s t command.IsHomed h = does_one told s _ (act.HomedIs s.homed) refl refl refl (λ e. e)
-carried_tells told s t command.Home h = record {
+carried_tells told s t Command.StartSession h = keeps told s _ refl refl refl refl
+carried_tells told s t Command.EndSession h = keeps told s _ refl refl refl refl
+carried_tells told s t Command.ClearAllErrors h = keeps told s _ refl refl refl refl
+carried_tells told s t Command.IsHomed h = does_one told s _ (Act.HomedIs s.homed) refl refl refl (λ e. e)
+carried_tells told s t Command.Home h = record {
   acts = [];
   moves = record { on = refl; last = refl; ledger = sym (append-nil s.ledger) };
   tells = λ e. tt;
   still = λ none e. go told h;
 }
   where
-    go : (b : Bool) → (b ≡ true → is_homing command.Home ≡ false) → false ≡ b
+    go : (b : Bool) → (b ≡ true → is_homing Command.Home ≡ false) → false ≡ b
     go false h = refl
     go true h = absurd (false≢true (sym (h refl)))
-carried_tells told s t command.OnPtMeasReport h = keeps told s _ refl refl refl refl
-carried_tells told s t (command.GoTo p) h = keeps told s _ refl refl refl refl
-carried_tells told s t (command.PtMeas p d) h = keeps told s _ refl refl refl refl
-carried_tells told s t (command.ChangeTool n) h = keeps told s _ refl refl refl refl
-carried_tells told s t (command.SetCsyTransformation p) h = keeps told s _ refl refl refl refl
-carried_tells told s t (command.SetCoordSystem system) h =
-    does_one told s _ (act.Framed (frame_of system s.stored)) refl refl refl (λ e. tt)
-carried_tells told s t command.AbortE h = keeps told s _ refl refl refl refl
+carried_tells told s t Command.OnPtMeasReport h = keeps told s _ refl refl refl refl
+carried_tells told s t (Command.GoTo p) h = keeps told s _ refl refl refl refl
+carried_tells told s t (Command.PtMeas p d) h = keeps told s _ refl refl refl refl
+carried_tells told s t (Command.ChangeTool n) h = keeps told s _ refl refl refl refl
+carried_tells told s t (Command.SetCsyTransformation p) h = keeps told s _ refl refl refl refl
+carried_tells told s t (Command.SetCoordSystem system) h =
+    does_one told s _ (Act.Framed (frame_of system s.stored)) refl refl refl (λ e. tt)
+carried_tells told s t Command.AbortE h = keeps told s _ refl refl refl refl
 
 taken_tells : (told : Bool) (s : Server) (w : Waiting) (ws : List Waiting) (number : Option ℕ) → HomesNot told (w ∷ ws)
     → Tells told s (taken s w ws number).server
@@ -137,34 +121,34 @@ turned_tells told s h = turned_by told s s.waiting h
 -- ---- the machine
 
 finished_tells : (told : Bool) (s : Server) (t : Tag) (c : Command) → Tells told s (finished s t c).server
-finished_tells told s t command.StartSession = keeps told s _ refl refl refl refl
-finished_tells told s t command.EndSession = keeps told s _ refl refl refl refl
-finished_tells told s t command.ClearAllErrors = keeps told s _ refl refl refl refl
-finished_tells told s t command.IsHomed = keeps told s _ refl refl refl refl
-finished_tells told s t command.Home = does_one told s _ act.Homed refl refl refl (λ e. tt)
-finished_tells told s t command.OnPtMeasReport = keeps told s _ refl refl refl refl
-finished_tells told s t (command.GoTo p) = does_one told s _ (act.Moved p s.frame) refl refl refl (λ e. tt)
-finished_tells told s t (command.PtMeas p d) = keeps told s _ refl refl refl refl
-finished_tells told s t (command.ChangeTool n) = does_one told s _ (act.Changed n) refl refl refl (λ e. tt)
-finished_tells told s t (command.SetCsyTransformation p) = keeps told s _ refl refl refl refl
-finished_tells told s t (command.SetCoordSystem system) = keeps told s _ refl refl refl refl
-finished_tells told s t command.AbortE = keeps told s _ refl refl refl refl
+finished_tells told s t Command.StartSession = keeps told s _ refl refl refl refl
+finished_tells told s t Command.EndSession = keeps told s _ refl refl refl refl
+finished_tells told s t Command.ClearAllErrors = keeps told s _ refl refl refl refl
+finished_tells told s t Command.IsHomed = keeps told s _ refl refl refl refl
+finished_tells told s t Command.Home = does_one told s _ Act.Homed refl refl refl (λ e. tt)
+finished_tells told s t Command.OnPtMeasReport = keeps told s _ refl refl refl refl
+finished_tells told s t (Command.GoTo p) = does_one told s _ (Act.Moved p s.frame) refl refl refl (λ e. tt)
+finished_tells told s t (Command.PtMeas p d) = keeps told s _ refl refl refl refl
+finished_tells told s t (Command.ChangeTool n) = does_one told s _ (Act.Changed n) refl refl refl (λ e. tt)
+finished_tells told s t (Command.SetCsyTransformation p) = keeps told s _ refl refl refl refl
+finished_tells told s t (Command.SetCoordSystem system) = keeps told s _ refl refl refl refl
+finished_tells told s t Command.AbortE = keeps told s _ refl refl refl refl
 
 touched_tells : (told : Bool) (s : Server) (t : Tag) (c : Command) (at : Point) (tool : Option (List ℕ))
     → Tells told s (touched s t c at tool).server
-touched_tells told s t command.StartSession at tool = keeps told s _ refl refl refl refl
-touched_tells told s t command.EndSession at tool = keeps told s _ refl refl refl refl
-touched_tells told s t command.ClearAllErrors at tool = keeps told s _ refl refl refl refl
-touched_tells told s t command.IsHomed at tool = keeps told s _ refl refl refl refl
-touched_tells told s t command.Home at tool = keeps told s _ refl refl refl refl
-touched_tells told s t command.OnPtMeasReport at tool = keeps told s _ refl refl refl refl
-touched_tells told s t (command.GoTo p) at tool = keeps told s _ refl refl refl refl
-touched_tells told s t (command.PtMeas p d) at (Some n) = does_one told s _ _ refl refl refl (λ e. tt)
-touched_tells told s t (command.PtMeas p d) at None = keeps told s _ refl refl refl refl
-touched_tells told s t (command.ChangeTool n) at tool = keeps told s _ refl refl refl refl
-touched_tells told s t (command.SetCsyTransformation p) at tool = keeps told s _ refl refl refl refl
-touched_tells told s t (command.SetCoordSystem system) at tool = keeps told s _ refl refl refl refl
-touched_tells told s t command.AbortE at tool = keeps told s _ refl refl refl refl
+touched_tells told s t Command.StartSession at tool = keeps told s _ refl refl refl refl
+touched_tells told s t Command.EndSession at tool = keeps told s _ refl refl refl refl
+touched_tells told s t Command.ClearAllErrors at tool = keeps told s _ refl refl refl refl
+touched_tells told s t Command.IsHomed at tool = keeps told s _ refl refl refl refl
+touched_tells told s t Command.Home at tool = keeps told s _ refl refl refl refl
+touched_tells told s t Command.OnPtMeasReport at tool = keeps told s _ refl refl refl refl
+touched_tells told s t (Command.GoTo p) at tool = keeps told s _ refl refl refl refl
+touched_tells told s t (Command.PtMeas p d) at (Some n) = does_one told s _ _ refl refl refl (λ e. tt)
+touched_tells told s t (Command.PtMeas p d) at None = keeps told s _ refl refl refl refl
+touched_tells told s t (Command.ChangeTool n) at tool = keeps told s _ refl refl refl refl
+touched_tells told s t (Command.SetCsyTransformation p) at tool = keeps told s _ refl refl refl refl
+touched_tells told s t (Command.SetCoordSystem system) at tool = keeps told s _ refl refl refl refl
+touched_tells told s t Command.AbortE at tool = keeps told s _ refl refl refl refl
 
 machined_by : (told : Bool) (s : Server) (outcome : Outcome) (running : Option Line) → Tells told s (machined s outcome running).server
 machined_by told s outcome None = keeps told s _ refl refl refl refl

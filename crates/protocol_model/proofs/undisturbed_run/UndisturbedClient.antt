@@ -1,38 +1,17 @@
 -- A client that follows one plan from its first command on: what it has sent are the first lines of the plan.
-use Rattle.std.proofs.Common.{◌≡◌, ℕ, suc, ◌⊎◌, inl, inr, Bool, true, false, cond, not, ◌&&◌, ◌||◌, List, [], ◌∷◌, ◌++◌, length, refl, sym}
-use Rattle.std.proofs.Common.{◌∙◌, ap, subst, arith, append_assoc, length-append, Option, Some, None, Result, Ok, Err, eqb}
-use Rattle.std.proofs.lemmas.Bool.{false≢true}
-use Rattle.std.proofs.lemmas.List.{append_cancel_right}
-use Rattle.fixed_um.specs.declared.lengths.Point.{Point}
-use Rattle.fixed_um.specs.declared.frames.Frame.{Frame}
+use Rattle.protocol_model.proofs.Names.{[], ◌&&◌, ◌++◌, ◌||◌, ◌∙◌, ◌∷◌, ◌≡◌, ◌⊎◌, ap, append_assoc, append_cancel_right, arith, asks_homed, behind}
+use Rattle.protocol_model.proofs.Names.{Bool, Cause, Client, client_connected, client_hears, client_read, Command, command_bytes, cond, count_open}
+use Rattle.protocol_model.proofs.Names.{Datum, Does, ends_abort, eqb, Err, false, false≢true, faulted, first_state, followed, Frame, frame_behind}
+use Rattle.protocol_model.proofs.Names.{FramingFault, Front, front_read, given_for, given_homed, given_point, given_under, heard_on, held_now}
+use Rattle.protocol_model.proofs.Names.{held_under, homed_of, inl, inr, is_apart, is_asking, is_failed, is_homing, is_whole, Kind, kind_of}
+use Rattle.protocol_model.proofs.Names.{last_state, length, length-append, Line, line_read, lines_from, List, measuring, None, not, NotHomedText}
+use Rattle.protocol_model.proofs.Names.{NotPoint, NotResponse, Ok, OpenCommand, Option, plan, Planned, planned, Point, point_of, refl, Response}
+use Rattle.protocol_model.proofs.Names.{response_of, response_read, Result, sends_next, Some, Start, State, Step, subst, suc, sym, Table, Tag, tag_at}
+use Rattle.protocol_model.proofs.Names.{tag_is, Tally, tool_behind, true, up_to, ℕ}
 use Rattle.fixed_um.specs.declared.frames.Frame.TheVariants.{Machine}
-use Rattle.dmis_program.specs.declared.steps.Step.{Step}
-use Rattle.dme_line.specs.Kinds.{kind_of}
-use Rattle.dme_line.specs.declared.tags.Tag.{Tag}
-use Rattle.dme_line.specs.declared.tags.Tag.TheVariants as tag
-use Rattle.dme_line.specs.declared.commands.Kind.{Kind}
-use Rattle.dme_line.specs.declared.commands.Kind.TheVariants as kind
-use Rattle.dme_line.specs.declared.commands.Command.TheVariants as command
-use Rattle.dme_line.specs.declared.homed.NotHomedText.{NotHomedText}
-use Rattle.dme_line.specs.declared.points.NotPoint.{NotPoint}
 use Rattle.dme_line.specs.declared.responses.Mark.{Mark as Marked}
-use Rattle.dme_line.specs.declared.responses.Mark.TheVariants as mark
-use Rattle.dme_line.specs.declared.responses.Response.{Response}
-use Rattle.dme_line.specs.declared.responses.NotResponse.{NotResponse}
-use Rattle.protocol_model.specs.Readings.{response_of, point_of, homed_of}
-use Rattle.line_framing.specs.Next.{Front}
-use Rattle.line_framing.specs.declared.faults.FramingFault.TheVariants as framing
-use Rattle.protocol_model.specs.Replies.{Mark, tag_is}
-use Rattle.protocol_model.specs.Lines.{command_bytes}
-use Rattle.protocol_model.specs.Open.{is_failed, asks_homed, is_asking, count_open}
-use Rattle.protocol_model.specs.Client.{Client, Tally, Table, is_homing, faulted, is_apart, held_now, sends_next, client_hears, client_read}
-use Rattle.protocol_model.specs.Client.{heard_on}
+use Rattle.protocol_model.specs.Replies.{Mark}
 use Rattle.protocol_model.proofs.HeardTables.{heard}
-use Rattle.protocol_model.specs.Client.{first_state, last_state, is_whole, ends_abort, client_connected}
-use Rattle.protocol_model.specs.Ends.{held_under, given_point, given_homed, given_for, given_under, response_read, line_read}
-use Rattle.protocol_model.specs.Ends.{front_read}
-use Rattle.protocol_model.specs.Plan.{tool_behind, frame_behind, behind, up_to, planned, measuring, plan}
-use Rattle.protocol_model.specs.Undisturbed.{tag_at, lines_from, followed}
 use Rattle.protocol_model.proofs.table.Basics.{if_false}
 use Rattle.protocol_model.proofs.table.Replying.{fine}
 use Rattle.protocol_model.proofs.written_lines.Writable.{command_bytes_more}
@@ -42,14 +21,6 @@ use Rattle.protocol_model.proofs.undisturbed_run.Homing.{IsBefore, IsBehind, Hol
 use Rattle.protocol_model.proofs.undisturbed_run.Homing.{measuring_homes_not, measuring_asks_not}
 use Rattle.protocol_model.proofs.undisturbed_run.Counting.{IsCalm, Follows, heard_follows}
 use Rattle.protocol_model.proofs.undisturbed_run.PlaceTags.{number_at, drawn_at, tags_more, calm_more, lines_start}
-use Rattle.protocol_model.specs.declared.held.Datum.TheVariants as datum
-use Rattle.protocol_model.specs.declared.plans.Does.{Does}
-use Rattle.protocol_model.specs.declared.states.State.{State}
-use Rattle.protocol_model.specs.declared.states.Cause.{Cause}
-use Rattle.protocol_model.specs.declared.lines.Line.{Line}
-use Rattle.protocol_model.specs.declared.held.OpenCommand.{OpenCommand}
-use Rattle.protocol_model.specs.declared.plans.Planned.{Planned}
-use Rattle.protocol_model.specs.declared.plans.Start.{Start}
 
 -- on the connection of this number it has sent these first commands of the plan as it is followed, under the tags of their places; where it
 -- was answered that the machine is homed, it has sent no command that homes it
@@ -128,14 +99,14 @@ hears_on n told steps c written t m asked h (Err cause) e tells = stays_faulted 
 pub read_on : (n : ℕ) (told : Bool) (steps : List Planned) (c : Client) (written : List ℕ) (t : Tag) (m : Mark)
     → AreAsked (followed told steps) → IsOnPlan n told steps c written → HasTold told (client_read c t m)
     → IsOnPlan n told steps (client_read c t m) written
-read_on n told steps c written t m asked h tells = go (tag_is t (tag.Event 0)) refl tells
+read_on n told steps c written t m asked h tells = go (tag_is t (Tag.Event 0)) refl tells
   where
-    go : (b : Bool) → tag_is t (tag.Event 0) ≡ b
+    go : (b : Bool) → tag_is t (Tag.Event 0) ≡ b
         → HasTold told (cond b c (client_hears c t m (heard_on c.program.features c.table t m)))
         → IsOnPlan n told steps (cond b c (client_hears c t m (heard_on c.program.features c.table t m))) written
     go true e tells = h
     go false e tells = hears_on n told steps c written t m asked h (heard_on c.program.features c.table t m)
-        (if_false {A = Result Table Cause} (tag_is t (tag.Event 0)) (fine c.table) (heard_on c.program.features c.table t m) e) tells
+        (if_false {A = Result Table Cause} (tag_is t (Tag.Event 0)) (fine c.table) (heard_on c.program.features c.table t m) e) tells
 
 -- ---- whatever is read
 
@@ -147,34 +118,34 @@ one_of n told steps written false d e p q tells = q tells
 point_on : (n : ℕ) (told : Bool) (steps : List Planned) (c : Client) (written : List ℕ) (t : Tag) (r : Result Point NotPoint)
     → AreAsked (followed told steps) → IsOnPlan n told steps c written → HasTold told (given_point c t r)
     → IsOnPlan n told steps (given_point c t r) written
-point_on n told steps c written t (Ok p) asked h tells = read_on n told steps c written t (Mark.Given (datum.Point p)) asked h tells
+point_on n told steps c written t (Ok p) asked h tells = read_on n told steps c written t (Mark.Given (Datum.Point p)) asked h tells
 point_on n told steps c written t (Err why) asked h tells = stays_faulted n told steps c written Cause.NotResponse h
 
 homed_on : (n : ℕ) (told : Bool) (steps : List Planned) (c : Client) (written : List ℕ) (t : Tag) (r : Result Bool NotHomedText)
     → AreAsked (followed told steps) → IsOnPlan n told steps c written → HasTold told (given_homed c t r)
     → IsOnPlan n told steps (given_homed c t r) written
 homed_on n told steps c written t (Ok homed) asked h tells =
-    read_on n told steps c written t (Mark.Given (datum.Homed homed)) asked h tells
+    read_on n told steps c written t (Mark.Given (Datum.Homed homed)) asked h tells
 homed_on n told steps c written t (Err why) asked h tells = stays_faulted n told steps c written Cause.NotResponse h
 
 for_on : (n : ℕ) (told : Bool) (steps : List Planned) (c : Client) (written : List ℕ) (t : Tag) (text : List ℕ)
     (k : Kind) → AreAsked (followed told steps) → IsOnPlan n told steps c written → HasTold told (given_for c t text k)
     → IsOnPlan n told steps (given_for c t text k) written
-for_on n told steps c written t text kind.PtMeas asked h tells =
+for_on n told steps c written t text Kind.PtMeas asked h tells =
     point_on n told steps c written t (point_of text) asked h tells
-for_on n told steps c written t text kind.IsHomed asked h tells =
+for_on n told steps c written t text Kind.IsHomed asked h tells =
     homed_on n told steps c written t (homed_of text) asked h tells
-for_on n told steps c written t text kind.StartSession asked h tells = stays_faulted n told steps c written Cause.OutOfOrder h
-for_on n told steps c written t text kind.EndSession asked h tells = stays_faulted n told steps c written Cause.OutOfOrder h
-for_on n told steps c written t text kind.ClearAllErrors asked h tells = stays_faulted n told steps c written Cause.OutOfOrder h
-for_on n told steps c written t text kind.Home asked h tells = stays_faulted n told steps c written Cause.OutOfOrder h
-for_on n told steps c written t text kind.OnPtMeasReport asked h tells = stays_faulted n told steps c written Cause.OutOfOrder h
-for_on n told steps c written t text kind.GoTo asked h tells = stays_faulted n told steps c written Cause.OutOfOrder h
-for_on n told steps c written t text kind.ChangeTool asked h tells = stays_faulted n told steps c written Cause.OutOfOrder h
-for_on n told steps c written t text kind.SetCsyTransformation asked h tells =
+for_on n told steps c written t text Kind.StartSession asked h tells = stays_faulted n told steps c written Cause.OutOfOrder h
+for_on n told steps c written t text Kind.EndSession asked h tells = stays_faulted n told steps c written Cause.OutOfOrder h
+for_on n told steps c written t text Kind.ClearAllErrors asked h tells = stays_faulted n told steps c written Cause.OutOfOrder h
+for_on n told steps c written t text Kind.Home asked h tells = stays_faulted n told steps c written Cause.OutOfOrder h
+for_on n told steps c written t text Kind.OnPtMeasReport asked h tells = stays_faulted n told steps c written Cause.OutOfOrder h
+for_on n told steps c written t text Kind.GoTo asked h tells = stays_faulted n told steps c written Cause.OutOfOrder h
+for_on n told steps c written t text Kind.ChangeTool asked h tells = stays_faulted n told steps c written Cause.OutOfOrder h
+for_on n told steps c written t text Kind.SetCsyTransformation asked h tells =
     stays_faulted n told steps c written Cause.OutOfOrder h
-for_on n told steps c written t text kind.SetCoordSystem asked h tells = stays_faulted n told steps c written Cause.OutOfOrder h
-for_on n told steps c written t text kind.AbortE asked h tells = stays_faulted n told steps c written Cause.OutOfOrder h
+for_on n told steps c written t text Kind.SetCoordSystem asked h tells = stays_faulted n told steps c written Cause.OutOfOrder h
+for_on n told steps c written t text Kind.AbortE asked h tells = stays_faulted n told steps c written Cause.OutOfOrder h
 
 under_on : (n : ℕ) (told : Bool) (steps : List Planned) (c : Client) (written : List ℕ) (t : Tag) (text : List ℕ)
     (kind : Option Kind)
@@ -186,12 +157,12 @@ under_on n told steps c written t text (Some k) asked h tells = for_on n told st
 response_on : (n : ℕ) (told : Bool) (steps : List Planned) (c : Client) (written : List ℕ) (t : Tag) (m : Marked)
     → AreAsked (followed told steps) → IsOnPlan n told steps c written → HasTold told (response_read c t m)
     → IsOnPlan n told steps (response_read c t m) written
-response_on n told steps c written t mark.Ack asked h tells = read_on n told steps c written t Mark.Ack asked h tells
-response_on n told steps c written t (mark.Given text) asked h tells =
-    one_of n told steps written (tag_is t (tag.Event 0)) c (given_under c t text (held_under t c)) h
+response_on n told steps c written t Marked.Ack asked h tells = read_on n told steps c written t Mark.Ack asked h tells
+response_on n told steps c written t (Marked.Given text) asked h tells =
+    one_of n told steps written (tag_is t (Tag.Event 0)) c (given_under c t text (held_under t c)) h
     (λ later. under_on n told steps c written t text (held_under t c) asked h later) tells
-response_on n told steps c written t mark.Done asked h tells = read_on n told steps c written t Mark.Done asked h tells
-response_on n told steps c written t (mark.Error text) asked h tells =
+response_on n told steps c written t Marked.Done asked h tells = read_on n told steps c written t Mark.Done asked h tells
+response_on n told steps c written t (Marked.Error text) asked h tells =
     read_on n told steps c written t Mark.Error asked h tells
 
 line_on : (n : ℕ) (told : Bool) (steps : List Planned) (c : Client) (written : List ℕ)
@@ -208,9 +179,9 @@ pub front_on : (n : ℕ) (told : Bool) (steps : List Planned) (c : Client) (writ
 front_on n told steps c written (Ok None) asked h tells = h
 front_on n told steps c written (Ok (Some (line, rest))) asked h tells =
     line_on n told steps c written (response_of line) asked h tells
-front_on n told steps c written (Err framing.LineTooLong) asked h tells =
+front_on n told steps c written (Err FramingFault.LineTooLong) asked h tells =
     stays_faulted n told steps c written Cause.LineTooLong h
-front_on n told steps c written (Err framing.BadByte) asked h tells = stays_faulted n told steps c written Cause.BadByte h
+front_on n told steps c written (Err FramingFault.BadByte) asked h tells = stays_faulted n told steps c written Cause.BadByte h
 
 -- ---- what is read leaves the connection
 
@@ -223,30 +194,30 @@ either_last c true d e = refl
 either_last c false d e = e
 
 client_last : (c : Client) (t : Tag) (m : Mark) → (client_read c t m).last ≡ c.last
-client_last c t m = either_last c (tag_is t (tag.Event 0)) (client_hears c t m (heard_on c.program.features c.table t m))
+client_last c t m = either_last c (tag_is t (Tag.Event 0)) (client_hears c t m (heard_on c.program.features c.table t m))
     (hears_last c t m (heard_on c.program.features c.table t m))
 
 point_last : (c : Client) (t : Tag) (r : Result Point NotPoint) → (given_point c t r).last ≡ c.last
-point_last c t (Ok p) = client_last c t (Mark.Given (datum.Point p))
+point_last c t (Ok p) = client_last c t (Mark.Given (Datum.Point p))
 point_last c t (Err why) = refl
 
 homed_last : (c : Client) (t : Tag) (r : Result Bool NotHomedText) → (given_homed c t r).last ≡ c.last
-homed_last c t (Ok homed) = client_last c t (Mark.Given (datum.Homed homed))
+homed_last c t (Ok homed) = client_last c t (Mark.Given (Datum.Homed homed))
 homed_last c t (Err why) = refl
 
 for_last : (c : Client) (t : Tag) (text : List ℕ) (k : Kind) → (given_for c t text k).last ≡ c.last
-for_last c t text kind.PtMeas = point_last c t (point_of text)
-for_last c t text kind.IsHomed = homed_last c t (homed_of text)
-for_last c t text kind.StartSession = refl
-for_last c t text kind.EndSession = refl
-for_last c t text kind.ClearAllErrors = refl
-for_last c t text kind.Home = refl
-for_last c t text kind.OnPtMeasReport = refl
-for_last c t text kind.GoTo = refl
-for_last c t text kind.ChangeTool = refl
-for_last c t text kind.SetCsyTransformation = refl
-for_last c t text kind.SetCoordSystem = refl
-for_last c t text kind.AbortE = refl
+for_last c t text Kind.PtMeas = point_last c t (point_of text)
+for_last c t text Kind.IsHomed = homed_last c t (homed_of text)
+for_last c t text Kind.StartSession = refl
+for_last c t text Kind.EndSession = refl
+for_last c t text Kind.ClearAllErrors = refl
+for_last c t text Kind.Home = refl
+for_last c t text Kind.OnPtMeasReport = refl
+for_last c t text Kind.GoTo = refl
+for_last c t text Kind.ChangeTool = refl
+for_last c t text Kind.SetCsyTransformation = refl
+for_last c t text Kind.SetCoordSystem = refl
+for_last c t text Kind.AbortE = refl
 
 under_last : (c : Client) (t : Tag) (text : List ℕ) (k : Option Kind)
     → (given_under c t text k).last ≡ c.last
@@ -254,11 +225,11 @@ under_last c t text None = refl
 under_last c t text (Some k) = for_last c t text k
 
 response_last : (c : Client) (t : Tag) (m : Marked) → (response_read c t m).last ≡ c.last
-response_last c t mark.Ack = client_last c t Mark.Ack
-response_last c t (mark.Given text) = either_last c (tag_is t (tag.Event 0)) (given_under c t text (held_under t c))
+response_last c t Marked.Ack = client_last c t Mark.Ack
+response_last c t (Marked.Given text) = either_last c (tag_is t (Tag.Event 0)) (given_under c t text (held_under t c))
     (under_last c t text (held_under t c))
-response_last c t mark.Done = client_last c t Mark.Done
-response_last c t (mark.Error text) = client_last c t Mark.Error
+response_last c t Marked.Done = client_last c t Mark.Done
+response_last c t (Marked.Error text) = client_last c t Mark.Error
 
 line_last : (c : Client) (r : Result Response NotResponse) → (line_read c r).last ≡ c.last
 line_last c (Ok r) = response_last c r.tag r.mark
@@ -268,8 +239,8 @@ line_last c (Err refused) = refl
 pub read_last : (c : Client) (f : Front) → (front_read c f).last ≡ c.last
 read_last c (Ok None) = refl
 read_last c (Ok (Some (line, rest))) = line_last c (response_of line)
-read_last c (Err framing.LineTooLong) = refl
-read_last c (Err framing.BadByte) = refl
+read_last c (Err FramingFault.LineTooLong) = refl
+read_last c (Err FramingFault.BadByte) = refl
 
 -- ---- a command is sent
 
@@ -286,11 +257,11 @@ filled_more [] x h e = (e, tt)
 filled_more (y ∷ hs) x h e = (h.0, filled_more hs x h.1 e)
 
 -- if the question is the last that is open, it is open
-is_asked : (hs : List OpenCommand) (ks : List Kind) → AreCalm hs → kinds_held hs ≡ ks ++ kind.IsHomed ∷ [] → is_asking hs ≡ true
+is_asked : (hs : List OpenCommand) (ks : List Kind) → AreCalm hs → kinds_held hs ≡ ks ++ Kind.IsHomed ∷ [] → is_asking hs ≡ true
 is_asked [] [] calm e = absurd (cc)
 is_asked [] (k ∷ ks) calm e = absurd (cc)
 is_asked (h ∷ hs) [] calm e =
-    let first : h.kind ≡ kind.IsHomed = ap (λ (l : List Kind). first_of l h.kind) e in
+    let first : h.kind ≡ Kind.IsHomed = ap (λ (l : List Kind). first_of l h.kind) e in
     ap (λ (k : Kind). (asks_homed k && not (is_failed h.stage)) || is_asking hs) first
     ∙ ap (λ (b : Bool). not b || is_asking hs) calm.0
   where
@@ -345,7 +316,7 @@ sent_before told hs y x p others b [] quiet e kind_is kinds =
     let cut : kinds_held hs ≡ kinds_of b.quiet = append_cancel_right (kinds_held hs) (kinds_of b.quiet)
     (kinds_of (b.ask ∷ b.home ∷ b.rest)) (ap (λ (l : List Planned). kinds_held hs ++ kinds_of l) (sym e)
     ∙ (kinds ∙ (ap kinds_of b.todo ∙ kinds_join b.quiet (b.ask ∷ b.home ∷ b.rest)))) in
-    let question : x.kind ≡ kind.IsHomed = kind_is ∙ (ap (λ (r : Planned). kind_of r.command) first ∙ ap kind_of b.question.asks) in
+    let question : x.kind ≡ Kind.IsHomed = kind_is ∙ (ap (λ (r : Planned). kind_of r.command) first ∙ ap kind_of b.question.asks) in
     record {
       no_homing = λ t. ap (λ (r : Planned). is_homing r.command) first ∙ ap is_homing b.question.asks;
       phase = inl (record {
@@ -454,14 +425,14 @@ begins_on n told c last = record {
       kinds = refl;
       places = refl;
       phase = inl (record {
-        quiet = planned command.StartSession Does.Nothing ∷ planned command.ClearAllErrors Does.Nothing ∷ [];
+        quiet = planned Command.StartSession Does.Nothing ∷ planned Command.ClearAllErrors Does.Nothing ∷ [];
         are_quiet = (
           record { nothing = refl; asks = refl; homes = refl },
           (record { nothing = refl; asks = refl; homes = refl }, tt),
         );
-        ask = planned command.IsHomed Does.AsksHomed;
-        home = planned command.Home Does.Homes;
-        rest = planned command.OnPtMeasReport Does.Nothing ∷ measuring tool frame steps;
+        ask = planned Command.IsHomed Does.AsksHomed;
+        home = planned Command.Home Does.Homes;
+        rest = planned Command.OnPtMeasReport Does.Nothing ∷ measuring tool frame steps;
         question = record {
           asks = refl;
           does = refl;
@@ -472,7 +443,7 @@ begins_on n told c last = record {
         };
         todo = refl;
         counted = refl;
-        left = Unasked (planned command.StartSession Does.Nothing ∷ planned command.ClearAllErrors Does.Nothing ∷ []) (
+        left = Unasked (planned Command.StartSession Does.Nothing ∷ planned Command.ClearAllErrors Does.Nothing ∷ []) (
           record { nothing = refl; asks = refl; homes = refl },
           (record { nothing = refl; asks = refl; homes = refl }, tt),
         ) refl;

@@ -1,32 +1,18 @@
 -- Undisturbed runs follow the plan: what is written, what is done, and what is counted.
-use Rattle.std.proofs.Common.{◌≡◌, ℕ, suc, ◌<◌, ◌≤◌, ◌⊎◌, inl, inr, Bool, true, false, cond, List, [], ◌∷◌, ◌++◌, length, refl, sym}
-use Rattle.std.proofs.Common.{◌∙◌, ap, subst, arith, append_assoc, append-nil, Option, Some, None, Ok, Err, eqb, eq-eqb, le_refl, le_trans}
-use Rattle.std.proofs.lemmas.Bool.{false≢true, and_parts, ltb-true, leb-true}
-use Rattle.dmis_program.specs.Meaning.{Meaning}
-use Rattle.dmis_program.specs.Programs.{IsProgram}
-use Rattle.dme_line.specs.declared.tags.Tag.TheVariants.{Std}
-use Rattle.dme_line.specs.declared.commands.Command.{Command}
-use Rattle.protocol_model.specs.Readings.{command_of}
-use Rattle.contact_ledger.specs.declared.acts.Act.{Act}
-use Rattle.contact_ledger.specs.declared.acts.Act.TheVariants as act
-use Rattle.contact_ledger.specs.declared.features.Feature.{Feature}
-use Rattle.line_framing.specs.Next.{Front, next_of}
-use Rattle.protocol_model.specs.Lines.{command_bytes, reading_of}
-use Rattle.protocol_model.specs.Open.{count_open}
-use Rattle.protocol_model.specs.Plan.{plan}
-use Rattle.protocol_model.specs.Client.{Client, Table, is_homing, is_apart, sends_next, next_number, client_connected}
-use Rattle.protocol_model.specs.Server.{Server, may_end}
-use Rattle.protocol_model.specs.Claims.{acts_on}
-use Rattle.protocol_model.specs.Ends.{ServerEnd, front_read, front_served, serving_turned, serving_machined}
+use Rattle.protocol_model.proofs.Names.{[], ◌++◌, ◌<◌, ◌∙◌, ◌∷◌, ◌≡◌, ◌≤◌, ◌⊎◌, Act, acts_in, acts_on, acts_planned, and_parts, ap, append-nil}
+use Rattle.protocol_model.proofs.Names.{append_assoc, AreFirstActs, AreFirstLines, AreFirstOf, AreUndisturbed, arith, Bool, Client, client_connected}
+use Rattle.protocol_model.proofs.Names.{Command, command_bytes, command_of, cond, count_open, Does, Down, eq-eqb, eqb, Err, false, false≢true}
+use Rattle.protocol_model.proofs.Names.{Feature, followed, Front, front_read, front_served, homings_of, inl, inr, is_apart, is_homing, IsHomedOff}
+use Rattle.protocol_model.proofs.Names.{IsProgram, IsUndisturbed, le_refl, le_trans, leb-true, length, Line, lines_from, Link, List, ltb-true}
+use Rattle.protocol_model.proofs.Names.{may_end, Meaning, met, next_number, next_of, None, Ok, Option, Outcome, plan, Planned, reading_of, refl}
+use Rattle.protocol_model.proofs.Names.{sends_next, Server, server_writes, ServerEnd, serving_machined, serving_turned, Some, Start, State, Std}
+use Rattle.protocol_model.proofs.Names.{subst, suc, sym, Table, true, Up, without_homings, ℕ}
 use Rattle.protocol_model.specs.Typed.{World as Lined}
-use Rattle.protocol_model.specs.World.{Link, World, start, can, happens, after, run_of, server_writes, connected}
+use Rattle.protocol_model.specs.World.{after, can, connected, happens, run_of, start, World}
 use Rattle.protocol_model.specs.declared.events.Event.{Event}
-use Rattle.protocol_model.specs.declared.events.Event.TheVariants.{Connect, Accept, ClientSends, Up, ServerReads, ServerTurn, Machine, Down}
-use Rattle.protocol_model.specs.declared.events.Event.TheVariants.{ClientReads, ClientLeaves, ServerLeaves, Abort, Resume, ClientRestart}
+use Rattle.protocol_model.specs.declared.events.Event.TheVariants.{Accept, ClientSends, Connect, Machine, ServerReads, ServerTurn}
+use Rattle.protocol_model.specs.declared.events.Event.TheVariants.{Abort, ClientLeaves, ClientReads, ClientRestart, Resume, ServerLeaves}
 use Rattle.protocol_model.specs.declared.events.Event.TheVariants.{ServerRestart}
-use Rattle.protocol_model.specs.Undisturbed.{IsUndisturbed, AreUndisturbed, lines_from, AreFirstLines, acts_planned, AreFirstActs, acts_in}
-use Rattle.protocol_model.specs.Undisturbed.{without_homings, followed, homings_of, met, IsHomedOff}
-use Rattle.protocol_model.specs.Undisturbed.{AreFirstOf}
 use Rattle.protocol_model.proofs.table.Basics.{if_true, if_false}
 use Rattle.protocol_model.proofs.invariant.Served.{acts_none}
 use Rattle.protocol_model.proofs.whole_run.PlainServer.{left_plain}
@@ -48,12 +34,6 @@ use Rattle.protocol_model.proofs.undisturbed_run.Counting.{IsCalm, Follows, read
 use Rattle.protocol_model.proofs.undisturbed_run.ServerHoming.{Tells, read_same, HomesNot, turned_tells, machined_tells}
 use Rattle.protocol_model.proofs.undisturbed_run.PlaceTags.{number_at, next_is, count_calm, lines_start}
 use Rattle.protocol_model.proofs.undisturbed_run.UndisturbedClient.{IsOnPlan, HasTold, front_on, read_last, sends_on, begins_on}
-use Rattle.protocol_model.specs.declared.lines.Line.{Line}
-use Rattle.protocol_model.specs.declared.machine.Outcome.{Outcome}
-use Rattle.protocol_model.specs.declared.plans.Does.{Does}
-use Rattle.protocol_model.specs.declared.plans.Planned.{Planned}
-use Rattle.protocol_model.specs.declared.plans.Start.{Start}
-use Rattle.protocol_model.specs.declared.states.State.{State}
 
 -- ---- acts on one connection
 
@@ -116,12 +96,12 @@ IsPlanned n told p base b = IsAtStart n told p base b ⊎ IsUnderWay n told p ba
 on_own : (l : List (ℕ × Act)) (homed : Bool) → FirstTells homed (acts_in l) → (k : List (ℕ × Act)) → (l ≡ [] → FirstTells homed (acts_in k))
     → FirstTells homed (acts_in (l ++ k))
 on_own [] homed h k first = first refl
-on_own ((m, act.HomedIs told) ∷ l) homed h k first = h
-on_own ((m, act.Homed) ∷ l) homed h k first = tt
-on_own ((m, act.Moved p f) ∷ l) homed h k first = tt
-on_own ((m, act.Changed n) ∷ l) homed h k first = tt
-on_own ((m, act.Framed f) ∷ l) homed h k first = tt
-on_own ((m, act.Contact target dir tool frame point) ∷ l) homed h k first = tt
+on_own ((m, Act.HomedIs told) ∷ l) homed h k first = h
+on_own ((m, Act.Homed) ∷ l) homed h k first = tt
+on_own ((m, Act.Moved p f) ∷ l) homed h k first = tt
+on_own ((m, Act.Changed n) ∷ l) homed h k first = tt
+on_own ((m, Act.Framed f) ∷ l) homed h k first = tt
+on_own ((m, Act.Contact target dir tool frame point) ∷ l) homed h k first = tt
 
 done_in : (n : ℕ) (acts : List Act) → acts_in (done_on n acts) ≡ acts
 done_in n [] = refl

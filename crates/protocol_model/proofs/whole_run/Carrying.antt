@@ -1,19 +1,13 @@
 -- Both ends with their bytes carry both ends with their lines: what always holds, and the events that move bytes or answer lines.
-use Rattle.std.proofs.Common.{◌≡◌, ℕ, ◌<◌, Bool, true, false, cond, not, ◌&&◌, List, [], ◌∷◌, ◌++◌, take, refl, sym, ◌∙◌, ap, subst, arith}
-use Rattle.std.proofs.Common.{Option, Some, None, is_none, Result, Ok, Err, eqb, eqb-true, eq-eqb, ne_eqb}
-use Rattle.std.proofs.lemmas.Bool.{false≢true, eqb-false}
-use Rattle.line_framing.specs.Next.{Front, next_of}
-use Rattle.line_framing.specs.Framing.{Framing, no_bytes, fed, fed_behind}
-use Rattle.line_framing.specs.declared.faults.FramingFault.{FramingFault}
-use Rattle.contact_ledger.specs.declared.acts.Act.{Act}
-use Rattle.protocol_model.specs.Replies.{Reply}
-use Rattle.protocol_model.specs.Lines.{command_bytes, reply_bytes, reading_of, command_text}
-use Rattle.protocol_model.specs.Client.{Client}
-use Rattle.protocol_model.specs.Server.{Server, Answer, server_read, server_turned, server_machined, may_end}
-use Rattle.protocol_model.specs.Ends.{ServerEnd, with_answer, front_served, serving_read, serving_turned, serving_machined}
-use Rattle.protocol_model.specs.Typed.{World as Lined, answered}
-use Rattle.protocol_model.specs.World.{World, Link, link_of, with_link, client_link, server_link, server_writes, moved_up, moved_down}
-use Rattle.protocol_model.specs.World.{is_line}
+use Rattle.protocol_model.proofs.Names.{[], ◌&&◌, ◌++◌, ◌<◌, ◌∙◌, ◌∷◌, ◌≡◌, Act, Answer, answered, ap, arith, Bool, Client, client_link}
+use Rattle.protocol_model.proofs.Names.{command_bytes, command_of, command_text, cond, eq-eqb, eqb, eqb-false, eqb-true, Err, false, false≢true, fed}
+use Rattle.protocol_model.proofs.Names.{fed_behind, Framing, FramingFault, Front, front_served, is_line, is_none, Line, Link, link_of, List, may_end}
+use Rattle.protocol_model.proofs.Names.{moved_down, moved_up, ne_eqb, next_of, no_bytes, None, not, Ok, Option, Outcome, reading_of, refl, Reply}
+use Rattle.protocol_model.proofs.Names.{reply_bytes, Result, Server, server_link, server_machined, server_read, server_turned, server_writes}
+use Rattle.protocol_model.proofs.Names.{ServerEnd, serving_machined, serving_read, serving_turned, Some, subst, sym, take, true, with_answer}
+use Rattle.protocol_model.proofs.Names.{with_link, ℕ}
+use Rattle.protocol_model.specs.Typed.{World as Lined}
+use Rattle.protocol_model.specs.World.{World}
 use Rattle.protocol_model.proofs.table.Basics.{if_true, if_false}
 use Rattle.protocol_model.proofs.invariant.Holding.{Inv, IsIdle}
 use Rattle.protocol_model.proofs.invariant.Moves.{Moves, read_moves, turned_moves, machined_moves}
@@ -23,9 +17,6 @@ use Rattle.protocol_model.proofs.whole_run.PlainServer.{IsPlainServer, IsPlainAn
 use Rattle.protocol_model.proofs.written_lines.PlainClient.{IsPlainClient}
 use Rattle.protocol_model.proofs.whole_run.Wires.{IsWhole, IsWired, wired_answers, wired_up, wired_down}
 use Rattle.protocol_model.proofs.written_lines.LineTaking.{NextCommand, next_command}
-use Rattle.protocol_model.specs.declared.lines.Line.{Line}
-use Rattle.protocol_model.specs.declared.machine.Outcome.{Outcome}
-use Rattle.protocol_model.specs.Readings.{command_of}
 
 -- both ends, with the lines that are on their way on the client's last connection
 abbrev pub lined : World → List Line → List Reply → Lined

@@ -1,21 +1,16 @@
 -- The other events keep what both ends with their bytes carry.
-use Rattle.std.proofs.Common.{◌≡◌, ℕ, suc, ◌⊎◌, inl, inr, Bool, true, false, cond, not, ◌&&◌, List, [], ◌∷◌, ◌++◌, length, refl, sym, ◌∙◌}
-use Rattle.std.proofs.Common.{ap, subst, Option, Some, None, is_some, Result, Ok, Err, nat_lt, nat_le}
-use Rattle.std.proofs.lemmas.Bool.{false≢true, and_parts, ltb-true, leb-true}
-use Rattle.dme_line.specs.declared.tags.Tag.{Tag}
-use Rattle.dme_line.specs.declared.tags.Tag.TheVariants.{Std, Event}
-use Rattle.protocol_model.specs.Readings.{response_of}
-use Rattle.line_framing.specs.Next.{Front, next_of}
-use Rattle.line_framing.specs.Framing.{Framing, no_bytes, left_by}
-use Rattle.protocol_model.specs.Replies.{Reply, Mark, tag_of, mark_of, tag_is}
-use Rattle.protocol_model.specs.Lines.{command_bytes, reply_bytes}
-use Rattle.protocol_model.specs.Client.{Client, Table, Sends, due, may_abort, may_resume, client_sent, client_aborted, client_read}
-use Rattle.protocol_model.specs.Client.{client_hears, heard_on, sends_next, sends_abort, next_number}
-use Rattle.protocol_model.specs.Server.{Server, server_accepted, server_left}
-use Rattle.protocol_model.specs.Ends.{with_lines, end_sent, end_aborted, end_read, end_resumed, end_left, end_restarted, front_read}
-use Rattle.protocol_model.specs.Ends.{line_read, serving_accepted, serving_left, serving_restarted}
-use Rattle.protocol_model.specs.Typed.{World as Lined, sent, client_reads}
-use Rattle.protocol_model.specs.World.{World, Link, with_link, client_link, client_writes, connected, is_any}
+use Rattle.protocol_model.proofs.Names.{[], ◌&&◌, ◌++◌, ◌∙◌, ◌∷◌, ◌≡◌, ◌⊎◌, and_parts, ap, Bool, Cause, Client, client_aborted, client_hears}
+use Rattle.protocol_model.proofs.Names.{client_link, client_read, client_reads, client_sent, client_writes, command_bytes, cond, due, end_aborted}
+use Rattle.protocol_model.proofs.Names.{end_left, end_read, end_restarted, end_resumed, end_sent, Err, false, false≢true, Framing, Front, front_read}
+use Rattle.protocol_model.proofs.Names.{heard_on, inl, inr, is_any, is_some, leb-true, left_by, length, line_read, Link, List, ltb-true, mark_of}
+use Rattle.protocol_model.proofs.Names.{may_abort, may_resume, nat_le, nat_lt, next_number, next_of, no_bytes, None, not, Ok, Option, Planned, refl}
+use Rattle.protocol_model.proofs.Names.{Reply, reply_bytes, response_of, Result, Sends, sends_abort, sends_next, sent, Server, server_accepted}
+use Rattle.protocol_model.proofs.Names.{server_left, serving_accepted, serving_left, serving_restarted, Some, Std, subst, suc, sym, Table, Tag}
+use Rattle.protocol_model.proofs.Names.{tag_is, tag_of, true, with_lines, with_link, ℕ}
+use Rattle.dme_line.specs.declared.tags.Tag.TheVariants.{Event}
+use Rattle.protocol_model.specs.Replies.{Mark}
+use Rattle.protocol_model.specs.Typed.{World as Lined}
+use Rattle.protocol_model.specs.World.{connected, World}
 use Rattle.protocol_model.proofs.invariant.Holding.{Inv, IsOff, IsLive, IsAtRest}
 use Rattle.protocol_model.proofs.each_event.ServerEvents.{accept_event, gone_event}
 use Rattle.protocol_model.proofs.each_event.ClientEvents.{connect_event, client_left_event, client_restart_event, never_faulted}
@@ -28,8 +23,6 @@ use Rattle.protocol_model.proofs.written_lines.PlainClient.{plain_resumed, plain
 use Rattle.protocol_model.proofs.whole_run.Wires.{IsWired, wired_connect, wired_accept, wired_left, wired_gone, wired_writes}
 use Rattle.protocol_model.proofs.written_lines.LineTaking.{NextReply, next_reply, no_reply_fault, HasPlace, reply_heard}
 use Rattle.protocol_model.proofs.whole_run.Carrying.{lined, IsCarried}
-use Rattle.protocol_model.specs.declared.states.Cause.{Cause}
-use Rattle.protocol_model.specs.declared.plans.Planned.{Planned}
 
 -- ---- connections
 

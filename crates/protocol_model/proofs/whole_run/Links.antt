@@ -1,9 +1,8 @@
 -- Lists of connections.
-use Rattle.std.proofs.Common.{◌≡◌, ℕ, suc, ◌-◌, ◌≤◌, List, [], ◌∷◌, ◌++◌, length, ◌∙◌, ap, arith, get_or}
-use Rattle.std.proofs.lemmas.List.{get_or-set_same, get_or-set_other, length-set}
+use Rattle.protocol_model.proofs.Names.{[], ◌++◌, ◌-◌, ◌∙◌, ◌∷◌, ◌≡◌, ◌≤◌, ap, arith, get_or, get_or-set_other, get_or-set_same, length, length-set}
+use Rattle.protocol_model.proofs.Names.{Link, link_of, List, no_link, suc, with_link, ℕ}
 use Rattle.std.proofs.Math.ListN.{get_or-append}
 use Rattle.std.proofs.Math.Seq.{get_or-append_seam}
-use Rattle.protocol_model.specs.World.{Link, no_link, link_of, with_link}
 
 -- a connection that is given other bytes has these
 pub link_same : (links : List Link) (n : ℕ) (l : Link) → 1 ≤ n → n ≤ length links → link_of (with_link links n l) n ≡ l

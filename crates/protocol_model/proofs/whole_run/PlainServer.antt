@@ -1,33 +1,17 @@
 -- A server that has read commands that can be written answers replies that can be written.
-use Rattle.std.proofs.Common.{◌≡◌, ℕ, Bool, true, false, cond, not, ◌&&◌, ◌||◌, List, [], ◌∷◌, ◌++◌, length, refl, sym, ◌∙◌, ap, subst}
-use Rattle.std.proofs.Common.{arith, Option, Some, None, Ok, nat_le}
-use Rattle.std.proofs.lemmas.Bool.{false≢true, and_parts, leb-true}
-use Rattle.fixed_um.specs.Shapes.{Direction}
-use Rattle.fixed_um.specs.Points.{zero_point, IsInVolume}
-use Rattle.fixed_um.specs.declared.lengths.Point.{Point}
+use Rattle.protocol_model.proofs.Names.{[], ◌&&◌, ◌++◌, ◌||◌, ◌∙◌, ◌∷◌, ◌≡◌, aborted, all_fail, and_parts, Answer, ap, arith, Bool, carried_out}
+use Rattle.protocol_model.proofs.Names.{Command, cond, Csy, Direction, fails, false, false≢true, finished, frame_of, has_outcome, idle, in_error}
+use Rattle.protocol_model.proofs.Names.{in_volume, is_abort, is_clear, IsInVolume, IsNumbered, IsTag, IsWritable, Kind, kind_of, leb-true, length}
+use Rattle.protocol_model.proofs.Names.{Line, List, MachineCsy, machined, may_end, nat_le, None, not, offset, Ok, Option, Outcome, PartCsy, Point}
+use Rattle.protocol_model.proofs.Names.{queued, refl, refusal, Reply, running_fails, runs_under, Server, server_left, server_machined, server_read}
+use Rattle.protocol_model.proofs.Names.{server_turned, Some, stands, Std, stopped, subst, sym, Tag, taken, touched, true, turned_to, Waiting}
+use Rattle.protocol_model.proofs.Names.{waits_under, zero_point, ℕ}
 use Rattle.fixed_um.specs.declared.frames.Frame.TheVariants.{Machine}
-use Rattle.dme_line.specs.Kinds.{kind_of}
-use Rattle.dme_line.specs.Tags.{IsTag, IsNumbered}
-use Rattle.dme_line.specs.Written.{IsWritable}
-use Rattle.dme_line.specs.declared.tags.Tag.{Tag}
-use Rattle.dme_line.specs.declared.tags.Tag.TheVariants.{Std, Event}
-use Rattle.dme_line.specs.declared.commands.Csy.{Csy}
-use Rattle.dme_line.specs.declared.commands.Csy.TheVariants.{MachineCsy, PartCsy}
-use Rattle.dme_line.specs.declared.commands.Command.{Command}
-use Rattle.dme_line.specs.declared.commands.Command.TheVariants as command
-use Rattle.dme_line.specs.declared.commands.Kind.{Kind}
-use Rattle.protocol_model.specs.Replies.{Reply}
-use Rattle.protocol_model.specs.Server.{Server, Answer, fails, all_fail, in_error, queued, runs_under, waits_under, is_abort}
-use Rattle.protocol_model.specs.Server.{is_clear, running_fails, aborted, stands, server_read, refusal, frame_of, carried_out, taken}
-use Rattle.protocol_model.specs.Server.{turned_to, server_turned, offset, in_volume, stopped, idle, finished, touched, machined}
-use Rattle.protocol_model.specs.Server.{server_machined, has_outcome, may_end, server_left}
+use Rattle.dme_line.specs.declared.tags.Tag.TheVariants.{Event}
 use Rattle.protocol_model.proofs.invariant.Holding.{listed, waits, all_wait}
 use Rattle.protocol_model.proofs.invariant.LineFacts.{wait_more}
 use Rattle.protocol_model.proofs.written_lines.Writable.{AreWritable, writable_join, AreReplies, replies_join, difference_on_wire}
 use Rattle.protocol_model.proofs.written_lines.Writable.{opposite_in_volume}
-use Rattle.protocol_model.specs.declared.lines.Line.{Line}
-use Rattle.protocol_model.specs.declared.lines.Waiting.{Waiting}
-use Rattle.protocol_model.specs.declared.machine.Outcome.{Outcome}
 
 -- a tag that a command can have has a number with room in its digits
 pub tag_of_numbered : (t : Tag) → IsNumbered t → IsTag t
@@ -160,7 +144,7 @@ frame_plain MachineCsy stored h = zero_in_volume
 frame_plain PartCsy stored h = h
 
 carried_plain : (s : Server) (t : Tag) (c : Command) → IsPlainServer s → IsWritable t c → IsPlainAnswer (carried_out s t c)
-carried_plain s t command.StartSession h w = record {
+carried_plain s t Command.StartSession h w = record {
   server = record {
     lines = h.lines;
     waiting_is = h.waiting_is;
@@ -171,7 +155,7 @@ carried_plain s t command.StartSession h w = record {
   };
   said = (tag_of_numbered t w.tagged.numbered, tt);
 }
-carried_plain s t command.EndSession h w = record {
+carried_plain s t Command.EndSession h w = record {
   server = record {
     lines = h.lines;
     waiting_is = h.waiting_is;
@@ -182,9 +166,9 @@ carried_plain s t command.EndSession h w = record {
   };
   said = (tag_of_numbered t w.tagged.numbered, tt);
 }
-carried_plain s t command.ClearAllErrors h w = record { server = h; said = (tag_of_numbered t w.tagged.numbered, tt) }
-carried_plain s t command.OnPtMeasReport h w = record { server = h; said = (tag_of_numbered t w.tagged.numbered, tt) }
-carried_plain s t command.IsHomed h w = record {
+carried_plain s t Command.ClearAllErrors h w = record { server = h; said = (tag_of_numbered t w.tagged.numbered, tt) }
+carried_plain s t Command.OnPtMeasReport h w = record { server = h; said = (tag_of_numbered t w.tagged.numbered, tt) }
+carried_plain s t Command.IsHomed h w = record {
   server = record {
     lines = h.lines;
     waiting_is = h.waiting_is;
@@ -195,7 +179,7 @@ carried_plain s t command.IsHomed h w = record {
   };
   said = ((tag_of_numbered t w.tagged.numbered, tt), (tag_of_numbered t w.tagged.numbered, tt));
 }
-carried_plain s t (command.SetCsyTransformation p) h w = record {
+carried_plain s t (Command.SetCsyTransformation p) h w = record {
   server = record {
     lines = h.lines;
     waiting_is = h.waiting_is;
@@ -206,7 +190,7 @@ carried_plain s t (command.SetCsyTransformation p) h w = record {
   };
   said = (tag_of_numbered t w.tagged.numbered, tt);
 }
-carried_plain s t (command.SetCoordSystem system) h w = record {
+carried_plain s t (Command.SetCoordSystem system) h w = record {
   server = record {
     lines = h.lines;
     waiting_is = h.waiting_is;
@@ -217,7 +201,7 @@ carried_plain s t (command.SetCoordSystem system) h w = record {
   };
   said = (tag_of_numbered t w.tagged.numbered, tt);
 }
-carried_plain s t command.Home h w = record {
+carried_plain s t Command.Home h w = record {
   server = record {
     lines = h.lines;
     waiting_is = h.waiting_is;
@@ -228,7 +212,7 @@ carried_plain s t command.Home h w = record {
   };
   said = tt;
 }
-carried_plain s t (command.ChangeTool n) h w = record {
+carried_plain s t (Command.ChangeTool n) h w = record {
   server = record {
     lines = h.lines;
     waiting_is = h.waiting_is;
@@ -239,12 +223,12 @@ carried_plain s t (command.ChangeTool n) h w = record {
   };
   said = tt;
 }
-carried_plain s t (command.GoTo p) h w = record { server = runs_plain s (record { tag = t; command = command.GoTo p }) h w; said = tt }
-carried_plain s t (command.PtMeas p d) h w = record {
-  server = runs_plain s (record { tag = t; command = command.PtMeas p d }) h w;
+carried_plain s t (Command.GoTo p) h w = record { server = runs_plain s (record { tag = t; command = Command.GoTo p }) h w; said = tt }
+carried_plain s t (Command.PtMeas p d) h w = record {
+  server = runs_plain s (record { tag = t; command = Command.PtMeas p d }) h w;
   said = tt;
 }
-carried_plain s t command.AbortE h w = record { server = h; said = tt }
+carried_plain s t Command.AbortE h w = record { server = h; said = tt }
 
 turned_by : (s : Server) (ls : List Line) → IsPlainServer s → AreWritable ls → IsPlainAnswer (turned_to s (all_wait ls))
 turned_by s [] h w = record { server = h; said = tt }
@@ -284,7 +268,7 @@ idle_plain s h = record {
 
 finished_plain : (s : Server) (t : Tag) (c : Command) → IsPlainServer s → IsTag t → has_outcome c Outcome.Done ≡ true
     → IsPlainAnswer (finished s t c)
-finished_plain s t command.Home h tag can = record {
+finished_plain s t Command.Home h tag can = record {
   server = record {
     lines = h.lines;
     waiting_is = h.waiting_is;
@@ -295,11 +279,11 @@ finished_plain s t command.Home h tag can = record {
   };
   said = (tag, tt);
 }
-finished_plain s t (command.ChangeTool n) h tag can = record {
+finished_plain s t (Command.ChangeTool n) h tag can = record {
   server = record { lines = h.lines; waiting_is = h.waiting_is; running = tt; waiting = h.waiting; stored = h.stored; frame = h.frame };
   said = (tag, tt);
 }
-finished_plain s t (command.GoTo p) h tag can = record {
+finished_plain s t (Command.GoTo p) h tag can = record {
   server = record {
     lines = h.lines;
     waiting_is = h.waiting_is;
@@ -310,15 +294,15 @@ finished_plain s t (command.GoTo p) h tag can = record {
   };
   said = (tag, tt);
 }
-finished_plain s t command.StartSession h tag can = record { server = h; said = tt }
-finished_plain s t command.EndSession h tag can = record { server = h; said = tt }
-finished_plain s t command.ClearAllErrors h tag can = record { server = h; said = tt }
-finished_plain s t command.IsHomed h tag can = record { server = h; said = tt }
-finished_plain s t command.OnPtMeasReport h tag can = record { server = h; said = tt }
-finished_plain s t (command.PtMeas p d) h tag can = record { server = h; said = tt }
-finished_plain s t (command.SetCsyTransformation p) h tag can = record { server = h; said = tt }
-finished_plain s t (command.SetCoordSystem system) h tag can = record { server = h; said = tt }
-finished_plain s t command.AbortE h tag can = record { server = h; said = tt }
+finished_plain s t Command.StartSession h tag can = record { server = h; said = tt }
+finished_plain s t Command.EndSession h tag can = record { server = h; said = tt }
+finished_plain s t Command.ClearAllErrors h tag can = record { server = h; said = tt }
+finished_plain s t Command.IsHomed h tag can = record { server = h; said = tt }
+finished_plain s t Command.OnPtMeasReport h tag can = record { server = h; said = tt }
+finished_plain s t (Command.PtMeas p d) h tag can = record { server = h; said = tt }
+finished_plain s t (Command.SetCsyTransformation p) h tag can = record { server = h; said = tt }
+finished_plain s t (Command.SetCoordSystem system) h tag can = record { server = h; said = tt }
+finished_plain s t Command.AbortE h tag can = record { server = h; said = tt }
 
 -- a point that passes the test of the volume lies in it on each axis
 pub volume_is : (p : Point) → in_volume p ≡ true → IsInVolume p
@@ -328,7 +312,7 @@ volume_is p e =
     record { x = leb-true _ _ parts.0; y = leb-true _ _ others.0; z = leb-true _ _ others.1 }
 
 touch_plain : (s : Server) (t : Tag) (p : Point) (d : Option Direction) (at : Point) (tool : Option (List ℕ)) → IsPlainServer s → IsTag t
-    → in_volume at ≡ true → IsPlainAnswer (touched s t (command.PtMeas p d) at tool)
+    → in_volume at ≡ true → IsPlainAnswer (touched s t (Command.PtMeas p d) at tool)
 touch_plain s t p d at (Some n) h tag can = record {
   server = record { lines = h.lines; waiting_is = h.waiting_is; running = tt; waiting = h.waiting; stored = h.stored; frame = h.frame };
   said = ((tag, difference_on_wire at (offset s.frame) (volume_is at can) h.frame), (tag, tt));
@@ -337,18 +321,18 @@ touch_plain s t p d at None h tag can = record { server = h; said = tt }
 
 touched_plain : (s : Server) (t : Tag) (c : Command) (at : Point) (tool : Option (List ℕ)) → IsPlainServer s → IsTag t
     → has_outcome c (Outcome.Touched at) ≡ true → IsPlainAnswer (touched s t c at tool)
-touched_plain s t (command.PtMeas p d) at tool h tag can = touch_plain s t p d at tool h tag can
-touched_plain s t command.Home at tool h tag can = absurd (false≢true can)
-touched_plain s t (command.ChangeTool n) at tool h tag can = absurd (false≢true can)
-touched_plain s t (command.GoTo p) at tool h tag can = absurd (false≢true can)
-touched_plain s t command.StartSession at tool h tag can = absurd (false≢true can)
-touched_plain s t command.EndSession at tool h tag can = absurd (false≢true can)
-touched_plain s t command.ClearAllErrors at tool h tag can = absurd (false≢true can)
-touched_plain s t command.IsHomed at tool h tag can = absurd (false≢true can)
-touched_plain s t command.OnPtMeasReport at tool h tag can = absurd (false≢true can)
-touched_plain s t (command.SetCsyTransformation p) at tool h tag can = absurd (false≢true can)
-touched_plain s t (command.SetCoordSystem system) at tool h tag can = absurd (false≢true can)
-touched_plain s t command.AbortE at tool h tag can = absurd (false≢true can)
+touched_plain s t (Command.PtMeas p d) at tool h tag can = touch_plain s t p d at tool h tag can
+touched_plain s t Command.Home at tool h tag can = absurd (false≢true can)
+touched_plain s t (Command.ChangeTool n) at tool h tag can = absurd (false≢true can)
+touched_plain s t (Command.GoTo p) at tool h tag can = absurd (false≢true can)
+touched_plain s t Command.StartSession at tool h tag can = absurd (false≢true can)
+touched_plain s t Command.EndSession at tool h tag can = absurd (false≢true can)
+touched_plain s t Command.ClearAllErrors at tool h tag can = absurd (false≢true can)
+touched_plain s t Command.IsHomed at tool h tag can = absurd (false≢true can)
+touched_plain s t Command.OnPtMeasReport at tool h tag can = absurd (false≢true can)
+touched_plain s t (Command.SetCsyTransformation p) at tool h tag can = absurd (false≢true can)
+touched_plain s t (Command.SetCoordSystem system) at tool h tag can = absurd (false≢true can)
+touched_plain s t Command.AbortE at tool h tag can = absurd (false≢true can)
 
 machined_by : (s : Server) (outcome : Outcome) (l : Line) → IsPlainServer s → IsWritable l.tag l.command
     → has_outcome l.command outcome ≡ true → IsPlainAnswer (machined s outcome (Some l))

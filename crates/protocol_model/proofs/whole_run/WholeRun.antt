@@ -1,14 +1,10 @@
 -- Every event, and every list of events, keeps what both ends with their bytes carry; and the claims that follow.
-use Rattle.std.proofs.Common.{◌≡◌, ◌≢◌, ℕ, suc, ◌≤◌, Bool, true, false, cond, List, [], ◌∷◌, refl, subst, arith, Option, None}
-use Rattle.std.proofs.lemmas.Bool.{false≢true, and_parts}
-use Rattle.dmis_program.specs.Meaning.{Meaning}
-use Rattle.dmis_program.specs.Programs.{IsProgram}
-use Rattle.protocol_model.specs.Server.{may_end}
-use Rattle.protocol_model.specs.Claims.{Sound, Told}
-use Rattle.protocol_model.specs.World.{World, start, can, happens, after, run_of}
+use Rattle.protocol_model.proofs.Names.{[], ◌∷◌, ◌≡◌, ◌≢◌, ◌≤◌, and_parts, arith, Bool, cond, Down, false, false≢true, IsProgram, Line, List, may_end}
+use Rattle.protocol_model.proofs.Names.{Meaning, None, Option, refl, Sound, State, subst, suc, Told, true, Up, ℕ}
+use Rattle.protocol_model.specs.World.{after, can, happens, run_of, start, World}
 use Rattle.protocol_model.specs.declared.events.Event.{Event}
-use Rattle.protocol_model.specs.declared.events.Event.TheVariants.{Connect, Accept, ClientSends, Up, ServerReads, ServerTurn, Machine, Down}
-use Rattle.protocol_model.specs.declared.events.Event.TheVariants.{ClientReads, ClientLeaves, ServerLeaves, Abort, Resume, ClientRestart}
+use Rattle.protocol_model.specs.declared.events.Event.TheVariants.{Accept, ClientSends, Connect, Machine, ServerReads, ServerTurn}
+use Rattle.protocol_model.specs.declared.events.Event.TheVariants.{Abort, ClientLeaves, ClientReads, ClientRestart, Resume, ServerLeaves}
 use Rattle.protocol_model.specs.declared.events.Event.TheVariants.{ServerRestart}
 use Rattle.protocol_model.proofs.plan.Blocks.{program_is_plain}
 use Rattle.protocol_model.proofs.whole_run.SameProgram.{run_same}
@@ -22,8 +18,6 @@ use Rattle.protocol_model.proofs.whole_run.Carrying.{down_carried}
 use Rattle.protocol_model.proofs.whole_run.CarryingClient.{connect_carried, accept_carried, client_left_carried, client_restart_carried}
 use Rattle.protocol_model.proofs.whole_run.CarryingClient.{server_left_carried, server_restart_carried, sends_carried, abort_carried}
 use Rattle.protocol_model.proofs.whole_run.CarryingClient.{resume_carried, hears_carried}
-use Rattle.protocol_model.specs.declared.lines.Line.{Line}
-use Rattle.protocol_model.specs.declared.states.State.{State}
 
 -- every event that can happen keeps what both ends with their bytes carry
 pub happens_carried : (e : Event) (b : World) → IsCarried b → can e b ≡ true

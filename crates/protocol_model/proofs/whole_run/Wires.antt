@@ -1,13 +1,9 @@
 -- The bytes of all connections, as the lines that they carry.
-use Rattle.std.proofs.Common.{◌≡◌, ℕ, suc, ◌<◌, ◌≤◌, Bool, true, false, List, [], ◌∷◌, ◌++◌, length, take, drop, take-append-drop, refl}
-use Rattle.std.proofs.Common.{sym, ◌∙◌, ap, subst, arith, append_assoc, eqb, eqb-true}
-use Rattle.std.proofs.lemmas.Bool.{false≢true, eqb-false}
-use Rattle.protocol_model.specs.Replies.{Reply}
-use Rattle.protocol_model.specs.Lines.{command_bytes, reply_bytes}
-use Rattle.protocol_model.specs.World.{Link, no_link, link_of, with_link}
+use Rattle.protocol_model.proofs.Names.{[], ◌++◌, ◌<◌, ◌∙◌, ◌∷◌, ◌≡◌, ◌≤◌, ap, append_assoc, arith, Bool, command_bytes, drop, eqb, eqb-false}
+use Rattle.protocol_model.proofs.Names.{eqb-true, false, false≢true, length, Line, Link, link_of, List, no_link, refl, Reply, reply_bytes, subst, suc}
+use Rattle.protocol_model.proofs.Names.{sym, take, take-append-drop, true, with_link, ℕ}
 use Rattle.protocol_model.proofs.whole_run.Links.{link_same, link_other, link_long, link_old, link_new}
 use Rattle.protocol_model.proofs.written_lines.Writable.{AreWritable, writable_join, command_bytes_more, AreReplies}
-use Rattle.protocol_model.specs.declared.lines.Line.{Line}
 
 -- bytes are whole lines of commands that can be written
 pub record IsWhole (bytes : List ℕ) : Type 0 where

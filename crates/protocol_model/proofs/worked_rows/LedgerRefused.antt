@@ -1,20 +1,9 @@
 -- What the claim allows and refuses next to ledgers that are written out.
-use Rattle.std.proofs.Common.{◌≡◌, ℕ, zero, suc, pos, unsigned_abs, ◌+◌, Bool, true, false, List, [], ◌∷◌, codes, take, drop, refl, sym}
-use Rattle.std.proofs.Common.{◌∙◌, ap, arith, Option, Some, None}
-use Rattle.std.specs.Prelude.{bytes_eq}
-use Rattle.std.proofs.lemmas.Bool.{false≢true}
-use Rattle.fixed_um.specs.Shapes.{Direction}
-use Rattle.fixed_um.specs.declared.lengths.Point.{Point}
-use Rattle.fixed_um.specs.declared.frames.Frame.{Frame}
-use Rattle.fixed_um.specs.declared.frames.Frame.TheVariants as frame
-use Rattle.contact_ledger.specs.declared.features.Origin.{Origin}
-use Rattle.contact_ledger.specs.declared.acts.Act.{Act}
-use Rattle.contact_ledger.specs.declared.acts.Act.TheVariants as act
-use Rattle.dmis_program.specs.declared.features.Touch.{Touch}
-use Rattle.protocol_model.specs.Claims.{MadeContact, IsServed, Serves, AreRuns, Sound, Told}
-use Rattle.protocol_model.specs.Examples.{at, along, from_above, tool, part, feature}
-use Rattle.protocol_model.specs.LedgerRows.{contact_of, first_touch, second_touch, one_wanted, two_wanted, first_point, second_point}
-use Rattle.protocol_model.specs.LedgerRows.{first_contact, second_contact, ledger_with, right_ledger, measured_as, two_connections}
+use Rattle.protocol_model.proofs.Names.{[], ◌+◌, ◌∙◌, ◌∷◌, ◌≡◌, Act, along, ap, AreRuns, arith, at, Bool, bytes_eq, codes, Direction, drop, false}
+use Rattle.protocol_model.proofs.Names.{false≢true, feature, Frame, from_above, IsServed, List, MadeContact, None, Option, Origin, part, Point, pos}
+use Rattle.protocol_model.proofs.Names.{refl, Serves, Some, Sound, suc, sym, take, Told, tool, Touch, true, unsigned_abs, zero, ℕ}
+use Rattle.protocol_model.specs.LedgerRows.{contact_of, first_point, first_touch, one_wanted, second_point, second_touch, two_wanted}
+use Rattle.protocol_model.specs.LedgerRows.{first_contact, ledger_with, measured_as, right_ledger, second_contact, two_connections}
 use Rattle.protocol_model.specs.LedgerRows.{asked_twice}
 
 -- ---- what is allowed
@@ -95,10 +84,10 @@ abbrev made_by : ℕ → Point → Option Direction → List ℕ → Frame → P
 made_by n target dir name f point = record { connection = n; target = target; dir = dir; tool = name; frame = f; point = point }
 
 abbrev first_made : MadeContact
-first_made = made_by 1 (at (pos 10000) (pos 0) (pos 0)) from_above tool frame.Machine first_point
+first_made = made_by 1 (at (pos 10000) (pos 0) (pos 0)) from_above tool Frame.Machine first_point
 
 abbrev second_made : MadeContact
-second_made = made_by 1 (at (pos 20000) (pos 0) (pos 0)) from_above tool frame.Machine second_point
+second_made = made_by 1 (at (pos 20000) (pos 0) (pos 0)) from_above tool Frame.Machine second_point
 
 -- what both contacts have where the second is this one
 has_second : (n : ℕ) (target : Point) (dir : Option Direction) (name : List ℕ) (f : Frame) (point : Point)
@@ -109,8 +98,8 @@ has_second n target dir name f point h = has_both first_point second_point first
 -- ---- each word of a contact
 
 abbrev is_machine : Frame → Bool
-is_machine frame.Machine = true
-is_machine (frame.Part p) = false
+is_machine Frame.Machine = true
+is_machine (Frame.Part p) = false
 
 abbrev size_of : Option Direction → ℕ
 size_of None = 0
@@ -118,57 +107,57 @@ size_of (Some d) = unsigned_abs d.i + 1
 
 -- another tool
 pub other_tool_is_none : Sound one_wanted (measured_as (codes "A") ∷ [])
-    (ledger_with (contact_of 1 (at (pos 20000) (pos 0) (pos 0)) from_above (codes "P2") frame.Machine second_point)) → ⊥
+    (ledger_with (contact_of 1 (at (pos 20000) (pos 0) (pos 0)) from_above (codes "P2") Frame.Machine second_point)) → ⊥
 other_tool_is_none h =
-    let served = has_second 1 (at (pos 20000) (pos 0) (pos 0)) from_above (codes "P2") frame.Machine second_point h in
+    let served = has_second 1 (at (pos 20000) (pos 0) (pos 0)) from_above (codes "P2") Frame.Machine second_point h in
     let e : false ≡ true = ap (λ (name : List ℕ). bytes_eq name tool) served.serves.1.0.tool in
     absurd (false≢true e)
 
 -- another frame
 pub other_frame_is_none : Sound one_wanted (measured_as (codes "A") ∷ [])
-    (ledger_with (contact_of 1 (at (pos 20000) (pos 0) (pos 0)) from_above tool (frame.Part part) second_point)) → ⊥
+    (ledger_with (contact_of 1 (at (pos 20000) (pos 0) (pos 0)) from_above tool (Frame.Part part) second_point)) → ⊥
 other_frame_is_none h =
-    let served = has_second 1 (at (pos 20000) (pos 0) (pos 0)) from_above tool (frame.Part part) second_point h in
+    let served = has_second 1 (at (pos 20000) (pos 0) (pos 0)) from_above tool (Frame.Part part) second_point h in
     let e : false ≡ true = ap is_machine served.serves.1.0.frame in
     absurd (false≢true e)
 
 -- another target
 pub other_target_is_none : Sound one_wanted (measured_as (codes "A") ∷ [])
-    (ledger_with (contact_of 1 (at (pos 20001) (pos 0) (pos 0)) from_above tool frame.Machine second_point)) → ⊥
+    (ledger_with (contact_of 1 (at (pos 20001) (pos 0) (pos 0)) from_above tool Frame.Machine second_point)) → ⊥
 other_target_is_none h =
-    let served = has_second 1 (at (pos 20001) (pos 0) (pos 0)) from_above tool frame.Machine second_point h in
+    let served = has_second 1 (at (pos 20001) (pos 0) (pos 0)) from_above tool Frame.Machine second_point h in
     let e : ◌≡◌ {A = ℕ} 20001 20000 = ap (λ (q : Point). unsigned_abs q.x) served.serves.1.0.target in
     absurd (omega arith)
 
 -- another direction
 pub other_direction_is_none : Sound one_wanted (measured_as (codes "A") ∷ [])
-    (ledger_with (contact_of 1 (at (pos 20000) (pos 0) (pos 0)) (along (pos 1000000) (pos 0) (pos 0)) tool frame.Machine second_point)) → ⊥
+    (ledger_with (contact_of 1 (at (pos 20000) (pos 0) (pos 0)) (along (pos 1000000) (pos 0) (pos 0)) tool Frame.Machine second_point)) → ⊥
 other_direction_is_none h =
-    let served = has_second 1 (at (pos 20000) (pos 0) (pos 0)) (along (pos 1000000) (pos 0) (pos 0)) tool frame.Machine second_point h in
+    let served = has_second 1 (at (pos 20000) (pos 0) (pos 0)) (along (pos 1000000) (pos 0) (pos 0)) tool Frame.Machine second_point h in
     let e : ◌≡◌ {A = ℕ} 1000001 1 = ap size_of served.serves.1.0.dir in
     absurd (omega arith)
 
 -- no direction
 pub no_direction_is_none : Sound one_wanted (measured_as (codes "A") ∷ [])
-    (ledger_with (contact_of 1 (at (pos 20000) (pos 0) (pos 0)) None tool frame.Machine second_point)) → ⊥
+    (ledger_with (contact_of 1 (at (pos 20000) (pos 0) (pos 0)) None tool Frame.Machine second_point)) → ⊥
 no_direction_is_none h =
-    let served = has_second 1 (at (pos 20000) (pos 0) (pos 0)) None tool frame.Machine second_point h in
+    let served = has_second 1 (at (pos 20000) (pos 0) (pos 0)) None tool Frame.Machine second_point h in
     let e : ◌≡◌ {A = ℕ} 0 1 = ap size_of served.serves.1.0.dir in
     absurd (omega arith)
 
 -- another point
 pub other_point_is_none : Sound one_wanted (measured_as (codes "A") ∷ [])
-    (ledger_with (contact_of 1 (at (pos 20000) (pos 0) (pos 0)) from_above tool frame.Machine (at (pos 20000) (pos 0) (pos 5)))) → ⊥
+    (ledger_with (contact_of 1 (at (pos 20000) (pos 0) (pos 0)) from_above tool Frame.Machine (at (pos 20000) (pos 0) (pos 5)))) → ⊥
 other_point_is_none h =
-    let served = has_second 1 (at (pos 20000) (pos 0) (pos 0)) from_above tool frame.Machine (at (pos 20000) (pos 0) (pos 5)) h in
+    let served = has_second 1 (at (pos 20000) (pos 0) (pos 0)) from_above tool Frame.Machine (at (pos 20000) (pos 0) (pos 5)) h in
     let e : ◌≡◌ {A = ℕ} 5 4 = ap (λ (q : Point). unsigned_abs q.z) served.serves.1.0.point_is in
     absurd (omega arith)
 
 -- two connections
 pub two_connections_are_none : Sound one_wanted (measured_as (codes "A") ∷ [])
-    (ledger_with (contact_of 2 (at (pos 20000) (pos 0) (pos 0)) from_above tool frame.Machine second_point)) → ⊥
+    (ledger_with (contact_of 2 (at (pos 20000) (pos 0) (pos 0)) from_above tool Frame.Machine second_point)) → ⊥
 two_connections_are_none h =
-    let served = has_second 2 (at (pos 20000) (pos 0) (pos 0)) from_above tool frame.Machine second_point h in
+    let served = has_second 2 (at (pos 20000) (pos 0) (pos 0)) from_above tool Frame.Machine second_point h in
     let e : ◌≡◌ {A = ℕ} 1 2 = served.serves.0.on ∙ sym served.serves.1.0.on in
     absurd (omega arith)
 
@@ -267,16 +256,16 @@ more_features_are_none h = more_features_by h.starts h.runs
 -- ---- counted acts
 
 -- all that was done on the first connection
-pub first_connection_is : Told (act.Homed ∷ act.Changed tool ∷ []) two_connections 1
+pub first_connection_is : Told (Act.Homed ∷ Act.Changed tool ∷ []) two_connections 1
 first_connection_is = record { more = []; whole = refl }
 
 -- all that was done on the second
-pub second_connection_is : Told (act.Homed ∷ act.Framed frame.Machine ∷ []) two_connections 2
+pub second_connection_is : Told (Act.Homed ∷ Act.Framed Frame.Machine ∷ []) two_connections 2
 second_connection_is = record { more = []; whole = refl }
 
 -- the prefix of what was done
-pub front_is : Told (act.Homed ∷ []) two_connections 1
-front_is = record { more = act.Changed tool ∷ []; whole = refl }
+pub front_is : Told (Act.Homed ∷ []) two_connections 1
+front_is = record { more = Act.Changed tool ∷ []; whole = refl }
 
 -- nothing was counted
 pub nothing_counted_is : Told [] two_connections 3
@@ -284,13 +273,13 @@ nothing_counted_is = record { more = []; whole = refl }
 
 -- what acts are, as numbers
 abbrev sort_of : Act → ℕ
-sort_of (act.HomedIs false) = 6
-sort_of (act.HomedIs true) = 7
-sort_of act.Homed = 1
-sort_of (act.Moved p f) = 2
-sort_of (act.Changed n) = 3
-sort_of (act.Framed f) = 4
-sort_of (act.Contact t d n f p) = 5
+sort_of (Act.HomedIs false) = 6
+sort_of (Act.HomedIs true) = 7
+sort_of Act.Homed = 1
+sort_of (Act.Moved p f) = 2
+sort_of (Act.Changed n) = 3
+sort_of (Act.Framed f) = 4
+sort_of (Act.Contact t d n f p) = 5
 
 abbrev first_sort : List Act → ℕ
 first_sort [] = 0
@@ -305,7 +294,7 @@ third_sort [] = 0
 third_sort (a ∷ rest) = next_sort rest
 
 abbrev tool_changed : Act → List ℕ
-tool_changed (act.Changed n) = n
+tool_changed (Act.Changed n) = n
 tool_changed _ = []
 
 abbrev next_tool : List Act → List ℕ
@@ -313,43 +302,43 @@ next_tool (a ∷ b ∷ rest) = tool_changed b
 next_tool _ = []
 
 -- the first act is left out
-pub no_front_is_none : Told (act.Changed tool ∷ []) two_connections 1 → ⊥
+pub no_front_is_none : Told (Act.Changed tool ∷ []) two_connections 1 → ⊥
 no_front_is_none h = let e : ◌≡◌ {A = ℕ} 3 1 = ap first_sort h.whole in absurd (omega arith)
 
 -- the acts are exchanged
-pub exchanged_is_none : Told (act.Changed tool ∷ act.Homed ∷ []) two_connections 1 → ⊥
+pub exchanged_is_none : Told (Act.Changed tool ∷ Act.Homed ∷ []) two_connections 1 → ⊥
 exchanged_is_none h = let e : ◌≡◌ {A = ℕ} 3 1 = ap first_sort h.whole in absurd (omega arith)
 
 -- an act was never done
-pub never_done_is_none : Told (act.Homed ∷ act.Changed (codes "P2") ∷ []) two_connections 1 → ⊥
+pub never_done_is_none : Told (Act.Homed ∷ Act.Changed (codes "P2") ∷ []) two_connections 1 → ⊥
 never_done_is_none h = let e : false ≡ true = ap (λ (l : List Act). bytes_eq (next_tool l) tool) h.whole in absurd (false≢true e)
 
 -- one act too many
-pub too_many_are_none : Told (act.Homed ∷ act.Changed tool ∷ act.Homed ∷ []) two_connections 1 → ⊥
+pub too_many_are_none : Told (Act.Homed ∷ Act.Changed tool ∷ Act.Homed ∷ []) two_connections 1 → ⊥
 too_many_are_none h = let e : ◌≡◌ {A = ℕ} 1 0 = ap third_sort h.whole in absurd (omega arith)
 
 -- acts of another connection
-pub other_connection_is_none : Told (act.Homed ∷ act.Changed tool ∷ []) two_connections 2 → ⊥
+pub other_connection_is_none : Told (Act.Homed ∷ Act.Changed tool ∷ []) two_connections 2 → ⊥
 other_connection_is_none h = let e : ◌≡◌ {A = ℕ} 3 4 = ap next_sort h.whole in absurd (omega arith)
 
 -- acts of no connection
-pub no_connection_is_none : Told (act.Homed ∷ []) two_connections 3 → ⊥
+pub no_connection_is_none : Told (Act.Homed ∷ []) two_connections 3 → ⊥
 no_connection_is_none h = let e : ◌≡◌ {A = ℕ} 1 0 = ap first_sort h.whole in absurd (omega arith)
 
 -- ---- the question whether the machine is homed
 
 -- all that was done on the first connection
-pub asked_and_homed_is : Told (act.HomedIs false ∷ act.Homed ∷ []) asked_twice 1
+pub asked_and_homed_is : Told (Act.HomedIs false ∷ Act.Homed ∷ []) asked_twice 1
 asked_and_homed_is = record { more = []; whole = refl }
 
 -- all that was done on the second
-pub asked_again_is : Told (act.HomedIs true ∷ act.Framed frame.Machine ∷ []) asked_twice 2
+pub asked_again_is : Told (Act.HomedIs true ∷ Act.Framed Frame.Machine ∷ []) asked_twice 2
 asked_again_is = record { more = []; whole = refl }
 
 -- the other answer
-pub other_answer_is_none : Told (act.HomedIs false ∷ []) asked_twice 2 → ⊥
+pub other_answer_is_none : Told (Act.HomedIs false ∷ []) asked_twice 2 → ⊥
 other_answer_is_none h = let e : ◌≡◌ {A = ℕ} 6 7 = ap first_sort h.whole in absurd (omega arith)
 
 -- a homing that was skipped
-pub passed_over_is_none : Told (act.HomedIs true ∷ act.Homed ∷ []) asked_twice 2 → ⊥
+pub passed_over_is_none : Told (Act.HomedIs true ∷ Act.Homed ∷ []) asked_twice 2 → ⊥
 passed_over_is_none h = let e : ◌≡◌ {A = ℕ} 1 4 = ap next_sort h.whole in absurd (omega arith)

@@ -1,9 +1,6 @@
 -- What the claim refuses.
-use Rattle.std.proofs.Common.{◌≡◌, ℕ, zero, suc, pos, unsigned_abs, ◌+◌, ◌≤◌, List, [], ◌∷◌, take, drop, ap, arith}
-use Rattle.fixed_um.specs.declared.lengths.Point.{Point}
-use Rattle.dmis_program.specs.declared.features.Touch.{Touch}
-use Rattle.protocol_model.specs.Claims.{MadeContact, Serves, AreRuns}
-use Rattle.protocol_model.specs.Examples.{made, alike, alike_wanted, alike_features, twice_wanted, twice_features, at}
+use Rattle.protocol_model.proofs.Names.{[], ◌+◌, ◌∷◌, ◌≡◌, ◌≤◌, alike, alike_features, alike_wanted, ap, AreRuns, arith, at, drop, List, made}
+use Rattle.protocol_model.proofs.Names.{MadeContact, Point, pos, Serves, suc, take, Touch, twice_features, twice_wanted, unsigned_abs, zero, ℕ}
 
 -- one contact has none after it
 none_behind : (n k : ℕ) (t : Touch) (p : Point) (m : MadeContact) → Serves n (t ∷ []) (p ∷ []) (take 1 (drop (suc k) (m ∷ []))) → ⊥

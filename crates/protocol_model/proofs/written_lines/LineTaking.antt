@@ -1,33 +1,16 @@
 -- A line that is at the start of bytes is the first of the lines that they carry, and reads as what was written.
-use Rattle.std.proofs.Common.{◌≡◌, ℕ, Bool, true, false, cond, not, ◌&&◌, List, [], ◌∷◌, ◌++◌, refl, sym, ◌∙◌, ap, Option, Some, None, Ok}
-use Rattle.std.proofs.Common.{Err}
-use Rattle.dme_line.specs.declared.tags.Tag.{Tag}
-use Rattle.dme_line.specs.declared.tags.Tag.TheVariants.{Std, Event}
-use Rattle.dme_line.specs.declared.commands.Kind.{Kind}
-use Rattle.dme_line.specs.declared.commands.Kind.TheVariants as kind
-use Rattle.protocol_model.specs.Readings.{response_of}
-use Rattle.line_framing.specs.Next.{next_of}
-use Rattle.line_framing.specs.Stream.{TakesFirst}
-use Rattle.line_framing.specs.declared.faults.FramingFault.{FramingFault}
-use Rattle.line_framing.proofs.Streams.{takes_first, no_fault}
-use Rattle.dmis_program.specs.declared.features.Wanted.{Wanted}
-use Rattle.protocol_model.specs.Replies.{Reply, Mark, tag_of, mark_of, tag_is}
-use Rattle.protocol_model.specs.Lines.{command_text, reply_text, command_texts, reply_texts, command_bytes, reply_bytes}
-use Rattle.protocol_model.specs.Lines.{written_datum}
-use Rattle.protocol_model.specs.Open.{Heard, Refused, judged, judged_given, settled, put_before, heard_in, is_failed, fits}
-use Rattle.protocol_model.specs.Client.{Client, heard_standard, heard_event, heard_on, client_hears, client_read, faulted}
-use Rattle.protocol_model.specs.Ends.{held_kind, held_under, given_point, given_homed, given_for, given_under, given, response_read}
-use Rattle.protocol_model.specs.Ends.{line_read}
+use Rattle.protocol_model.proofs.Names.{[], ◌&&◌, ◌++◌, ◌∙◌, ◌∷◌, ◌≡◌, ap, Bool, Cause, Client, client_hears, client_read, command_bytes}
+use Rattle.protocol_model.proofs.Names.{command_text, command_texts, cond, Datum, Err, false, faulted, fits, FramingFault, given, given_for}
+use Rattle.protocol_model.proofs.Names.{given_homed, given_point, given_under, Heard, heard_event, heard_in, heard_on, heard_standard, held_kind}
+use Rattle.protocol_model.proofs.Names.{held_under, is_failed, judged, judged_given, Kind, Line, line_read, List, mark_of, next_of, no_fault, None}
+use Rattle.protocol_model.proofs.Names.{not, Ok, OpenCommand, Option, put_before, refl, Refused, Reply, reply_bytes, reply_text, reply_texts}
+use Rattle.protocol_model.proofs.Names.{response_of, response_read, settled, Some, Stage, State, Std, sym, Tag, tag_is, tag_of, takes_first}
+use Rattle.protocol_model.proofs.Names.{TakesFirst, true, Wanted, written_datum, ℕ}
+use Rattle.dme_line.specs.declared.tags.Tag.TheVariants.{Event}
+use Rattle.protocol_model.specs.Replies.{Mark}
 use Rattle.protocol_model.proofs.table.Basics.{if_cases, if_true, if_false, and_false}
 use Rattle.protocol_model.proofs.written_lines.Writable.{AreWritable, command_lines, IsWritableReply, AreReplies, reply_lines, response_for}
 use Rattle.protocol_model.proofs.written_lines.Writable.{IsWritableDatum, reply_read, point_read, homed_read}
-use Rattle.protocol_model.specs.declared.lines.Line.{Line}
-use Rattle.protocol_model.specs.declared.states.Cause.{Cause}
-use Rattle.protocol_model.specs.declared.states.State.{State}
-use Rattle.protocol_model.specs.declared.held.Datum.{Datum}
-use Rattle.protocol_model.specs.declared.held.Datum.TheVariants as datum
-use Rattle.protocol_model.specs.declared.held.OpenCommand.{OpenCommand}
-use Rattle.protocol_model.specs.declared.held.Stage.{Stage}
 
 -- ---- lines at the front
 
@@ -153,20 +136,20 @@ given_is c t d w place = go (tag_is t (Event 0)) refl (held_under t c) refl
 
     asked : (e : Datum) → IsWritableDatum e → HasPlace c t (Mark.Given e) → (k : Kind) → tag_is t (Event 0) ≡ false
         → held_under t c ≡ Some k → given_for c t (written_datum e) k ≡ client_read c t (Mark.Given e)
-    asked (datum.Point p) wire here kind.PtMeas is held = ap (given_point c t) (point_read p wire)
-    asked (datum.Homed homed) wire here kind.PtMeas is held = absurd (out (datum.Homed homed) kind.PtMeas is held refl here)
-    asked (datum.Point p) wire here kind.IsHomed is held = absurd (out (datum.Point p) kind.IsHomed is held refl here)
-    asked (datum.Homed homed) wire here kind.IsHomed is held = ap (given_homed c t) (homed_read homed)
-    asked e wire here kind.StartSession is held = sym (refused e kind.StartSession is held refl)
-    asked e wire here kind.EndSession is held = sym (refused e kind.EndSession is held refl)
-    asked e wire here kind.ClearAllErrors is held = sym (refused e kind.ClearAllErrors is held refl)
-    asked e wire here kind.Home is held = sym (refused e kind.Home is held refl)
-    asked e wire here kind.OnPtMeasReport is held = sym (refused e kind.OnPtMeasReport is held refl)
-    asked e wire here kind.GoTo is held = sym (refused e kind.GoTo is held refl)
-    asked e wire here kind.ChangeTool is held = sym (refused e kind.ChangeTool is held refl)
-    asked e wire here kind.SetCsyTransformation is held = sym (refused e kind.SetCsyTransformation is held refl)
-    asked e wire here kind.SetCoordSystem is held = sym (refused e kind.SetCoordSystem is held refl)
-    asked e wire here kind.AbortE is held = sym (refused e kind.AbortE is held refl)
+    asked (Datum.Point p) wire here Kind.PtMeas is held = ap (given_point c t) (point_read p wire)
+    asked (Datum.Homed homed) wire here Kind.PtMeas is held = absurd (out (Datum.Homed homed) Kind.PtMeas is held refl here)
+    asked (Datum.Point p) wire here Kind.IsHomed is held = absurd (out (Datum.Point p) Kind.IsHomed is held refl here)
+    asked (Datum.Homed homed) wire here Kind.IsHomed is held = ap (given_homed c t) (homed_read homed)
+    asked e wire here Kind.StartSession is held = sym (refused e Kind.StartSession is held refl)
+    asked e wire here Kind.EndSession is held = sym (refused e Kind.EndSession is held refl)
+    asked e wire here Kind.ClearAllErrors is held = sym (refused e Kind.ClearAllErrors is held refl)
+    asked e wire here Kind.Home is held = sym (refused e Kind.Home is held refl)
+    asked e wire here Kind.OnPtMeasReport is held = sym (refused e Kind.OnPtMeasReport is held refl)
+    asked e wire here Kind.GoTo is held = sym (refused e Kind.GoTo is held refl)
+    asked e wire here Kind.ChangeTool is held = sym (refused e Kind.ChangeTool is held refl)
+    asked e wire here Kind.SetCsyTransformation is held = sym (refused e Kind.SetCsyTransformation is held refl)
+    asked e wire here Kind.SetCoordSystem is held = sym (refused e Kind.SetCoordSystem is held refl)
+    asked e wire here Kind.AbortE is held = sym (refused e Kind.AbortE is held refl)
 
     go : (zero_tag : Bool) → tag_is t (Event 0) ≡ zero_tag → (held : Option Kind) → held_under t c ≡ held
         → cond (tag_is t (Event 0)) c (given_under c t (written_datum d) (held_under t c)) ≡ client_read c t (Mark.Given d)

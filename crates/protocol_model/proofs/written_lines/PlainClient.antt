@@ -1,43 +1,22 @@
 -- What a client writes are commands that can be written.
-use Rattle.std.proofs.Common.{◌≡◌, ℕ, zero, suc, ◌-◌, ◌≤◌, Bool, true, false, cond, not, List, [], ◌∷◌, ◌++◌, length, refl, sym, arith}
-use Rattle.std.proofs.Common.{Option, Some, None, Result, Ok, Err, IfSome}
-use Rattle.std.specs.List.{AllByRecursion}
-use Rattle.std.proofs.lemmas.Bool.{false≢true}
+use Rattle.protocol_model.proofs.Names.{[], ◌++◌, ◌-◌, ◌∷◌, ◌≡◌, ◌≤◌, AllByRecursion, arith, behind, block_touches, Bool, Cause, clearing, Client}
+use Rattle.protocol_model.proofs.Names.{client_aborted, client_connected, client_hears, client_left, client_read, client_restarted, client_resumed}
+use Rattle.protocol_model.proofs.Names.{client_sent, Command, cond, Direction, Err, false, false≢true, first_free, Frame, frame_behind, framing}
+use Rattle.protocol_model.proofs.Names.{HasArguments, Heard, heard_event, heard_in, heard_on, heard_standard, IfSome, is_abort, is_empty}
+use Rattle.protocol_model.proofs.Names.{is_event_kind, IsDirection, IsFrame, IsIjk, IsProgram, IsStep, IsTouch, kind_of, length, List}
+use Rattle.protocol_model.proofs.Names.{Meaning as Program, measuring, NewConnection, next_number, None, not, Ok, OpenCommand, Option, or_else, Part}
+use Rattle.protocol_model.proofs.Names.{passed_over, plan, Planned, refl, Result, SameConnection, Sends, sends_abort, sends_next, Some, Start, Std}
+use Rattle.protocol_model.proofs.Names.{Step, stepping, suc, sym, Table, Tag, tag_is, tool_behind, tooling, true, up_to, volume_on_wire, Wanted, zero}
+use Rattle.protocol_model.proofs.Names.{ℕ}
 use Rattle.fixed_um.specs.Names.{IsName}
-use Rattle.fixed_um.specs.Shapes.{Direction, IsDirection}
-use Rattle.fixed_um.specs.declared.frames.Frame.{Frame}
-use Rattle.fixed_um.specs.declared.frames.Frame.TheVariants.{Machine, Part}
-use Rattle.dmis_program.specs.Meaning.{Meaning as Program, block_touches}
-use Rattle.dmis_program.specs.declared.features.Wanted.{Wanted}
-use Rattle.dmis_program.specs.Programs.{IsProgram, IsStep, IsTouch, IsFrame}
-use Rattle.dmis_program.specs.declared.steps.Step.{Step}
-use Rattle.dmis_program.specs.declared.steps.Step.TheVariants as step
-use Rattle.dme_line.specs.Kinds.{kind_of, is_event_kind}
-use Rattle.dme_line.specs.Written.{IsIjk, HasArguments}
-use Rattle.dme_line.specs.declared.tags.Tag.{Tag}
-use Rattle.dme_line.specs.declared.tags.Tag.TheVariants.{Std, Event}
-use Rattle.dme_line.specs.declared.commands.Command.{Command}
-use Rattle.dme_line.specs.declared.commands.Command.TheVariants as command
-use Rattle.dme_line.proofs.CommandBack.{volume_on_wire}
-use Rattle.protocol_model.specs.Replies.{Mark, tag_is}
-use Rattle.protocol_model.specs.Open.{Heard, heard_in}
-use Rattle.protocol_model.specs.Plan.{tool_behind, frame_behind, is_empty, behind, up_to, framing, tooling, stepping, measuring, clearing}
-use Rattle.protocol_model.specs.Plan.{plan}
-use Rattle.protocol_model.specs.Client.{Client, Table, Sends, first_free, or_else, next_number, sends_next, client_sent, sends_abort}
-use Rattle.protocol_model.specs.Client.{client_aborted, client_connected, client_resumed, client_left, client_restarted, client_hears}
-use Rattle.protocol_model.specs.Client.{client_read, heard_standard, heard_event, heard_on, passed_over}
-use Rattle.protocol_model.specs.Server.{is_abort}
+use Rattle.fixed_um.specs.declared.frames.Frame.TheVariants.{Machine}
+use Rattle.dme_line.specs.declared.tags.Tag.TheVariants.{Event}
+use Rattle.protocol_model.specs.Replies.{Mark}
 use Rattle.protocol_model.proofs.plan.Marks.{HasNoAbort, plan_no_abort}
 use Rattle.protocol_model.proofs.plan.PassedOver.{passes, passed_no_abort}
 use Rattle.protocol_model.proofs.table.Asking.{tallied_leaves}
 use Rattle.protocol_model.proofs.table.Drawing.{IsFound, found, or_cases}
 use Rattle.protocol_model.proofs.written_lines.Writable.{AreWritable, opposite_in_volume}
-use Rattle.protocol_model.specs.declared.states.Cause.{Cause}
-use Rattle.protocol_model.specs.declared.held.OpenCommand.{OpenCommand}
-use Rattle.protocol_model.specs.declared.plans.Planned.{Planned}
-use Rattle.protocol_model.specs.declared.plans.Start.{Start}
-use Rattle.protocol_model.specs.declared.plans.Start.TheVariants.{NewConnection}
-use Rattle.protocol_model.specs.declared.plans.Start.TheVariants.{SameConnection}
 
 -- ---- plans
 
@@ -68,14 +47,14 @@ arguments_tooling (Some n) h = (h, tt)
 
 arguments_steps : (frame : Frame) (ss : List Step) → AllByRecursion IsStep ss → HaveArguments (stepping frame ss)
 arguments_steps frame [] h = tt
-arguments_steps frame (step.Goto p ∷ ss) h = (volume_on_wire p h.0, arguments_steps frame ss h.1)
-arguments_steps frame (step.Begin l ∷ ss) h = arguments_steps frame ss h.1
-arguments_steps frame (step.Touch t ∷ ss) h = let touch : IsTouch t = h.0
+arguments_steps frame (Step.Goto p ∷ ss) h = (volume_on_wire p h.0, arguments_steps frame ss h.1)
+arguments_steps frame (Step.Begin l ∷ ss) h = arguments_steps frame ss h.1
+arguments_steps frame (Step.Touch t ∷ ss) h = let touch : IsTouch t = h.0
     in ((volume_on_wire t.target touch.target, ijk_is t.dir touch.direction), arguments_steps frame ss h.1)
-arguments_steps frame (step.Tool n ∷ ss) h = (h.0, arguments_steps frame ss h.1)
-arguments_steps frame (step.Recall p ∷ ss) h = arguments_join (framing (Part p)) (stepping (Part p) ss) (arguments_framing (Part p) h.0)
+arguments_steps frame (Step.Tool n ∷ ss) h = (h.0, arguments_steps frame ss h.1)
+arguments_steps frame (Step.Recall p ∷ ss) h = arguments_join (framing (Part p)) (stepping (Part p) ss) (arguments_framing (Part p) h.0)
     (arguments_steps (Part p) ss h.1)
-arguments_steps frame (step.End ∷ ss) h = arguments_steps frame ss h.1
+arguments_steps frame (Step.End ∷ ss) h = arguments_steps frame ss h.1
 
 abbrev AreSteps : List Step → Type 0
 AreSteps ss = AllByRecursion IsStep ss
@@ -87,45 +66,45 @@ cond_steps false xs ys h g = g
 steps_behind : (k : ℕ) (ss : List Step) → AreSteps ss → AreSteps (behind k ss)
 steps_behind zero ss h = h
 steps_behind (suc k) [] h = tt
-steps_behind (suc k) (step.Goto p ∷ ss) h = steps_behind (suc k) ss h.1
-steps_behind (suc k) (step.Begin l ∷ ss) h = steps_behind (suc k) ss h.1
-steps_behind (suc k) (step.Touch t ∷ ss) h = cond_steps (is_empty (block_touches ss)) _ _ (steps_behind k ss h.1)
+steps_behind (suc k) (Step.Goto p ∷ ss) h = steps_behind (suc k) ss h.1
+steps_behind (suc k) (Step.Begin l ∷ ss) h = steps_behind (suc k) ss h.1
+steps_behind (suc k) (Step.Touch t ∷ ss) h = cond_steps (is_empty (block_touches ss)) _ _ (steps_behind k ss h.1)
     (steps_behind (suc k) ss h.1)
-steps_behind (suc k) (step.Tool n ∷ ss) h = steps_behind (suc k) ss h.1
-steps_behind (suc k) (step.Recall p ∷ ss) h = steps_behind (suc k) ss h.1
-steps_behind (suc k) (step.End ∷ ss) h = steps_behind (suc k) ss h.1
+steps_behind (suc k) (Step.Tool n ∷ ss) h = steps_behind (suc k) ss h.1
+steps_behind (suc k) (Step.Recall p ∷ ss) h = steps_behind (suc k) ss h.1
+steps_behind (suc k) (Step.End ∷ ss) h = steps_behind (suc k) ss h.1
 
 steps_up_to : (k : ℕ) (ss : List Step) → AreSteps ss → AreSteps (up_to k ss)
 steps_up_to zero ss h = tt
 steps_up_to (suc k) [] h = tt
-steps_up_to (suc k) (step.Goto p ∷ ss) h = (h.0, steps_up_to (suc k) ss h.1)
-steps_up_to (suc k) (step.Begin l ∷ ss) h = (h.0, steps_up_to (suc k) ss h.1)
-steps_up_to (suc k) (step.Touch t ∷ ss) h = (
+steps_up_to (suc k) (Step.Goto p ∷ ss) h = (h.0, steps_up_to (suc k) ss h.1)
+steps_up_to (suc k) (Step.Begin l ∷ ss) h = (h.0, steps_up_to (suc k) ss h.1)
+steps_up_to (suc k) (Step.Touch t ∷ ss) h = (
   h.0,
   cond_steps (is_empty (block_touches ss)) _ _ (steps_up_to k ss h.1)
       (steps_up_to (suc k) ss h.1),
 )
-steps_up_to (suc k) (step.Tool n ∷ ss) h = (h.0, steps_up_to (suc k) ss h.1)
-steps_up_to (suc k) (step.Recall p ∷ ss) h = (h.0, steps_up_to (suc k) ss h.1)
-steps_up_to (suc k) (step.End ∷ ss) h = (h.0, steps_up_to (suc k) ss h.1)
+steps_up_to (suc k) (Step.Tool n ∷ ss) h = (h.0, steps_up_to (suc k) ss h.1)
+steps_up_to (suc k) (Step.Recall p ∷ ss) h = (h.0, steps_up_to (suc k) ss h.1)
+steps_up_to (suc k) (Step.End ∷ ss) h = (h.0, steps_up_to (suc k) ss h.1)
 
 tool_is : (tool : Option (List ℕ)) (ss : List Step) → IsTool tool → AreSteps ss → IsTool (tool_behind tool ss)
 tool_is tool [] t h = t
-tool_is tool (step.Goto p ∷ ss) t h = tool_is tool ss t h.1
-tool_is tool (step.Begin l ∷ ss) t h = tool_is tool ss t h.1
-tool_is tool (step.Touch u ∷ ss) t h = tool_is tool ss t h.1
-tool_is tool (step.Tool n ∷ ss) t h = tool_is (Some n) ss h.0 h.1
-tool_is tool (step.Recall p ∷ ss) t h = tool_is tool ss t h.1
-tool_is tool (step.End ∷ ss) t h = tool_is tool ss t h.1
+tool_is tool (Step.Goto p ∷ ss) t h = tool_is tool ss t h.1
+tool_is tool (Step.Begin l ∷ ss) t h = tool_is tool ss t h.1
+tool_is tool (Step.Touch u ∷ ss) t h = tool_is tool ss t h.1
+tool_is tool (Step.Tool n ∷ ss) t h = tool_is (Some n) ss h.0 h.1
+tool_is tool (Step.Recall p ∷ ss) t h = tool_is tool ss t h.1
+tool_is tool (Step.End ∷ ss) t h = tool_is tool ss t h.1
 
 frame_is : (frame : Frame) (ss : List Step) → IsFrame frame → AreSteps ss → IsFrame (frame_behind frame ss)
 frame_is frame [] f h = f
-frame_is frame (step.Goto p ∷ ss) f h = frame_is frame ss f h.1
-frame_is frame (step.Begin l ∷ ss) f h = frame_is frame ss f h.1
-frame_is frame (step.Touch u ∷ ss) f h = frame_is frame ss f h.1
-frame_is frame (step.Tool n ∷ ss) f h = frame_is frame ss f h.1
-frame_is frame (step.Recall p ∷ ss) f h = frame_is (Part p) ss h.0 h.1
-frame_is frame (step.End ∷ ss) f h = frame_is frame ss f h.1
+frame_is frame (Step.Goto p ∷ ss) f h = frame_is frame ss f h.1
+frame_is frame (Step.Begin l ∷ ss) f h = frame_is frame ss f h.1
+frame_is frame (Step.Touch u ∷ ss) f h = frame_is frame ss f h.1
+frame_is frame (Step.Tool n ∷ ss) f h = frame_is frame ss f h.1
+frame_is frame (Step.Recall p ∷ ss) f h = frame_is (Part p) ss h.0 h.1
+frame_is frame (Step.End ∷ ss) f h = frame_is frame ss f h.1
 
 arguments_measuring : (tool : Option (List ℕ)) (frame : Frame) (ss : List Step) → IsTool tool → IsFrame frame → AreSteps ss
     → HaveArguments (measuring tool frame ss)
@@ -189,18 +168,18 @@ pub record IsPlainSends (s : Sends) : Type 0 where
 
 -- a command that is not an abort is sent under a standard tag
 pub standard_kind : (c : Command) → is_abort (Ok c) ≡ false → false ≡ is_event_kind (kind_of c)
-standard_kind command.StartSession h = refl
-standard_kind command.EndSession h = refl
-standard_kind command.ClearAllErrors h = refl
-standard_kind command.IsHomed h = refl
-standard_kind command.Home h = refl
-standard_kind command.OnPtMeasReport h = refl
-standard_kind (command.GoTo p) h = refl
-standard_kind (command.PtMeas p d) h = refl
-standard_kind (command.ChangeTool n) h = refl
-standard_kind (command.SetCsyTransformation p) h = refl
-standard_kind (command.SetCoordSystem s) h = refl
-standard_kind command.AbortE h = absurd (false≢true (sym h))
+standard_kind Command.StartSession h = refl
+standard_kind Command.EndSession h = refl
+standard_kind Command.ClearAllErrors h = refl
+standard_kind Command.IsHomed h = refl
+standard_kind Command.Home h = refl
+standard_kind Command.OnPtMeasReport h = refl
+standard_kind (Command.GoTo p) h = refl
+standard_kind (Command.PtMeas p d) h = refl
+standard_kind (Command.ChangeTool n) h = refl
+standard_kind (Command.SetCsyTransformation p) h = refl
+standard_kind (Command.SetCoordSystem s) h = refl
+standard_kind Command.AbortE h = absurd (false≢true (sym h))
 
 -- a plain client stays one on a new connection
 pub plain_connected : (n : ℕ) (c : Client) → IsPlainClient c → IsPlainClient (client_connected n c)

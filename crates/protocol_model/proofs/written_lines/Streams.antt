@@ -1,15 +1,8 @@
 -- Streams of written lines hand out these lines in order.
-use Rattle.std.proofs.Common.{◌≡◌, ℕ, List, [], ◌∷◌, ◌++◌, map, Some, None, Ok, Err, refl, sym, subst, ap, ◌∙◌, arith}
-use Rattle.line_framing.specs.Content.{IsLine, AreLines, line_bytes}
-use Rattle.line_framing.specs.Next.{Front, next_of}
-use Rattle.line_framing.specs.Stream.{TakesFirst}
-use Rattle.line_framing.proofs.Streams.{no_fault, takes_first}
-use Rattle.dme_line.specs.Words.{IsWireText}
-use Rattle.dme_line.specs.declared.responses.Response.{Response}
-use Rattle.dme_line.proofs.CommandWire.{command-wire}
-use Rattle.dme_line.proofs.CommandBack.{command_reads_back}
-use Rattle.dme_line.proofs.ResponseBack.{response_reads_back, response-wire}
-use Rattle.protocol_model.specs.Streams.{Sent, Wording, commands, responses, AreWritable, stream_of, IsFirst, HandsFirst}
+use Rattle.protocol_model.proofs.Names.{[], ◌++◌, ◌∙◌, ◌∷◌, ◌≡◌, ap, AreLines, arith, command-wire, command_reads_back, Err, Front, IsLine}
+use Rattle.protocol_model.proofs.Names.{IsWireText, line_bytes, List, map, next_of, no_fault, None, Ok, refl, Response, response-wire}
+use Rattle.protocol_model.proofs.Names.{response_reads_back, Some, subst, sym, takes_first, TakesFirst, ℕ}
+use Rattle.protocol_model.specs.Streams.{AreWritable, commands, HandsFirst, IsFirst, responses, Sent, stream_of, Wording}
 
 -- what can be written is on a line, and reads back
 pub record IsFaithful {X : Type 0} (wording : Wording X) : Type 0 where

@@ -1,37 +1,22 @@
 -- Lines that can be written: their bytes are lines, and they read back.
-use Rattle.std.proofs.Common.{◌≡◌, ℕ, ◌≤◌, Bool, List, [], ◌∷◌, ◌++◌, refl, ◌∙◌, ap, arith, Ok, unsigned_abs, ℤ, ◌-ℤ◌, neg_ℤ}
+use Rattle.protocol_model.proofs.Names.{[], ◌++◌, ◌-ℤ◌, ◌∙◌, ◌∷◌, ◌≡◌, ◌≤◌, ap, AreLines, arith, Bool, Command, command-wire, command_bytes}
+use Rattle.protocol_model.proofs.Names.{command_of, command_reads_back, command_text, command_texts, Datum, error-wire, error_reads_back, homed_of}
+use Rattle.protocol_model.proofs.Names.{IsInVolume, IsLine, IsTag, IsWireText, IsWritable, Line, line_bytes, line_bytes-append, List, neg_ℤ, Ok}
+use Rattle.protocol_model.proofs.Names.{Point, point_difference, point_of, point_opposite, point_reads_back, reads_command, reads_homed, reads_point}
+use Rattle.protocol_model.proofs.Names.{reads_response, refl, Reply, reply_bytes, reply_text, reply_texts, Response, response-wire, response_of}
+use Rattle.protocol_model.proofs.Names.{response_reads_back, Tag, unsigned_abs, wire_weaker, written_command, written_datum, ℕ, ℤ}
 use Rattle.std.proofs.lemmas.Int.{ints}
 use Rattle.fixed_um.specs.Limits.{volume_limit, wire_limit}
-use Rattle.fixed_um.specs.Points.{IsInVolume, point_difference, point_opposite}
-use Rattle.fixed_um.specs.declared.lengths.Point.{Point}
-use Rattle.dme_line.specs.Words.{IsWireText}
-use Rattle.dme_line.specs.Tags.{IsTag}
-use Rattle.dme_line.specs.Points.{written_point, IsOnWire}
+use Rattle.dme_line.specs.Points.{IsOnWire, written_point}
 use Rattle.dme_line.specs.Homed.{written_homed}
-use Rattle.dme_line.specs.Written.{written_command, IsWritable}
-use Rattle.dme_line.specs.Responses.{written_response, homed_response}
-use Rattle.dme_line.specs.Errors.{written_error, error_report}
-use Rattle.dme_line.specs.declared.tags.Tag.{Tag}
-use Rattle.dme_line.specs.declared.commands.Command.{Command}
-use Rattle.dme_line.specs.declared.responses.Mark.TheVariants as mark
-use Rattle.dme_line.specs.declared.responses.Response.{Response}
-use Rattle.dme_line.proofs.CommandWire.{command-wire, wire_weaker}
-use Rattle.dme_line.proofs.CommandBack.{command_reads_back}
+use Rattle.dme_line.specs.Responses.{homed_response, written_response}
+use Rattle.dme_line.specs.Errors.{error_report, written_error}
 use Rattle.dme_line.proofs.OneCommand.{one_command_reading}
 use Rattle.dme_line.proofs.OneResponse.{one_response_reading}
 use Rattle.dme_line.proofs.PointLemmas.{one_point_reading}
-use Rattle.dme_line.proofs.HomedLemmas.{one_homed_reading, homed_reads_back, homed_writable}
-use Rattle.dme_line.proofs.ResponseBack.{response_reads_back, response-wire, point_reads_back, error-wire, error_reads_back}
+use Rattle.dme_line.proofs.HomedLemmas.{homed_reads_back, homed_writable, one_homed_reading}
 use Rattle.dme_line.proofs.WireTexts.{point-wire}
-use Rattle.protocol_model.specs.Readings.{command_of, response_of, point_of, homed_of, reads_command, reads_response, reads_point, reads_homed}
-use Rattle.line_framing.specs.Content.{IsLine, AreLines, line_bytes}
-use Rattle.line_framing.proofs.Streams.{line_bytes-append}
-use Rattle.protocol_model.specs.Replies.{Reply}
-use Rattle.protocol_model.specs.Lines.{command_text, reply_text, command_texts, reply_texts, command_bytes, reply_bytes}
-use Rattle.protocol_model.specs.Lines.{written_datum}
-use Rattle.protocol_model.specs.declared.lines.Line.{Line}
-use Rattle.protocol_model.specs.declared.held.Datum.{Datum}
-use Rattle.protocol_model.specs.declared.held.Datum.TheVariants as datum
+use Rattle.dme_line.specs.declared.responses.Mark.{Mark}
 
 -- ---- commands
 
@@ -75,8 +60,8 @@ command_read t c w = one_command_reading (written_command t c) (command_of (writ
 
 -- data can be written: a point that is within the wire limit, and whether the machine is homed
 abbrev pub IsWritableDatum : Datum → Type 0
-IsWritableDatum (datum.Point p) = IsOnWire p
-IsWritableDatum (datum.Homed homed) = Unit {0}
+IsWritableDatum (Datum.Point p) = IsOnWire p
+IsWritableDatum (Datum.Homed homed) = Unit {0}
 
 -- a reply can be written: its tag has room in its digits, and the data that it gives can be written
 abbrev pub IsWritableReply : Reply → Type 0
@@ -97,17 +82,17 @@ replies_join (x ∷ xs) ys h g = (h.0, replies_join xs ys h.1 g)
 
 -- the response that a reply is written as
 abbrev pub response_for : Reply → Response
-response_for (Reply.Ack t) = record { tag = t; mark = mark.Ack }
-response_for (Reply.Given t d) = record { tag = t; mark = mark.Given (written_datum d) }
-response_for (Reply.Done t) = record { tag = t; mark = mark.Done }
-response_for (Reply.Error t code name) = record { tag = t; mark = mark.Error (error_report code name) }
+response_for (Reply.Ack t) = record { tag = t; mark = Mark.Ack }
+response_for (Reply.Given t d) = record { tag = t; mark = Mark.Given (written_datum d) }
+response_for (Reply.Done t) = record { tag = t; mark = Mark.Done }
+response_for (Reply.Error t code name) = record { tag = t; mark = Mark.Error (error_report code name) }
 
 reply_wire : (r : Reply) → IsWritableReply r → IsWireText 200 (reply_text r)
-reply_wire (Reply.Ack t) h = response-wire (record { tag = t; mark = mark.Ack }) (record { tagged = h; texts = tt })
-reply_wire (Reply.Given t (datum.Point p)) h = response-wire (record { tag = t; mark = mark.Given (written_point p) })
+reply_wire (Reply.Ack t) h = response-wire (record { tag = t; mark = Mark.Ack }) (record { tagged = h; texts = tt })
+reply_wire (Reply.Given t (Datum.Point p)) h = response-wire (record { tag = t; mark = Mark.Given (written_point p) })
     (record { tagged = h.0; texts = wire_weaker 49 192 (written_point p) (omega arith) (point-wire p h.1) })
-reply_wire (Reply.Given t (datum.Homed homed)) h = response-wire (homed_response t homed) (homed_writable t homed h.0)
-reply_wire (Reply.Done t) h = response-wire (record { tag = t; mark = mark.Done }) (record { tagged = h; texts = tt })
+reply_wire (Reply.Given t (Datum.Homed homed)) h = response-wire (homed_response t homed) (homed_writable t homed h.0)
+reply_wire (Reply.Done t) h = response-wire (record { tag = t; mark = Mark.Done }) (record { tagged = h; texts = tt })
 reply_wire (Reply.Error t code name) h = wire_weaker 80 200 (written_error t code name) (omega arith) (error-wire t code name)
 
 -- the texts of replies that can be written are lines
@@ -129,12 +114,12 @@ response_back x t = one_response_reading (written_response x) (response_of (writ
 
 -- a reply that can be written is read back as the response it is written as
 pub reply_read : (x : Reply) → IsWritableReply x → response_of (reply_text x) ≡ Ok (response_for x)
-reply_read (Reply.Ack t) w = response_back (record { tag = t; mark = mark.Ack }) w
-reply_read (Reply.Given t d) w = response_back (record { tag = t; mark = mark.Given (written_datum d) }) w.0
-reply_read (Reply.Done t) w = response_back (record { tag = t; mark = mark.Done }) w
+reply_read (Reply.Ack t) w = response_back (record { tag = t; mark = Mark.Ack }) w
+reply_read (Reply.Given t d) w = response_back (record { tag = t; mark = Mark.Given (written_datum d) }) w.0
+reply_read (Reply.Done t) w = response_back (record { tag = t; mark = Mark.Done }) w
 reply_read (Reply.Error t code name) w =
     one_response_reading (written_error t code name) (response_of (written_error t code name))
-    (Ok (record { tag = t; mark = mark.Error (error_report code name) })) (reads_response (written_error t code name))
+    (Ok (record { tag = t; mark = Mark.Error (error_report code name) })) (reads_response (written_error t code name))
     (error_reads_back t code name w)
 
 -- a point within the wire limit is read back as itself

@@ -20,7 +20,6 @@ use Rattle.protocol_model.specs.Ends.{given_point, given_homed, given_for}
 use Rattle.protocol_model.proofs.table.NextNumber.{drawn_free, drawn_within}
 use Rattle.witness.specs.Asking.{Done}
 use Rattle.witness.specs.declared.lines.SentCommand.TheVariants.{Known as Sends}
-use Rattle.dme_line.specs.declared.responses.Mark.TheVariants as mark
 use Rattle.dmis_program.specs.Meaning.{Meaning}
 use Rattle.dmis_program.specs.Programs.{IsProgram}
 use Rattle.client_core.specs.Calls.{Call, Connected, Send, Feed, ReadOne, Abort, Resume, Leave, Restart, Sent, possible, done_by, behind_call, behind_calls}
@@ -136,11 +135,11 @@ zero_seen lossy c d line x signal same a =
     (now_seen true c (faulting d (Reported.Unasked line)) (unasked_agrees lossy c.table d line a)))
 
 zero_read : (c : Client) (x : Tag) (m : Marked) → tag_is x (Tag.Event 0) ≡ true → response_read c x m ≡ c
-zero_read c x mark.Ack same = ap (λ (b : Bool). cond b c (client_hears c x Mark.Ack (heard_on c.program.features c.table x Mark.Ack))) same
-zero_read c x mark.Done same = ap (λ (b : Bool). cond b c (client_hears c x Mark.Done (heard_on c.program.features c.table x Mark.Done))) same
-zero_read c x (mark.Error text) same =
+zero_read c x Marked.Ack same = ap (λ (b : Bool). cond b c (client_hears c x Mark.Ack (heard_on c.program.features c.table x Mark.Ack))) same
+zero_read c x Marked.Done same = ap (λ (b : Bool). cond b c (client_hears c x Mark.Done (heard_on c.program.features c.table x Mark.Done))) same
+zero_read c x (Marked.Error text) same =
     ap (λ (b : Bool). cond b c (client_hears c x Mark.Error (heard_on c.program.features c.table x Mark.Error))) same
-zero_read c x (mark.Given text) same = ap (λ (b : Bool). cond b c (given_under c x text (held_under x c))) same
+zero_read c x (Marked.Given text) same = ap (λ (b : Bool). cond b c (given_under c x text (held_under x c))) same
 
 -- ---- what is read
 
@@ -213,13 +212,13 @@ homed_seen lossy c d line x p h other held (Err why) = fault_seen lossy Cause.No
 
 -- data that the command does not ask for
 stray_seen : (lossy : Bool) (cause : Cause) (c : Client) (d : Dialogue) (line : List ℕ) (x : Tag) (text : List ℕ) → IsReading lossy c d
-    → IsSeen lossy (faulted cause c) (server_answered d line (Some (x, signal_of (mark.Given text))))
+    → IsSeen lossy (faulted cause c) (server_answered d line (Some (x, signal_of (Marked.Given text))))
 stray_seen lossy cause c d line x text h = fault_seen lossy cause c d _ (IsReading.seen h)
-    (answer_grows d line (Some (x, signal_of (mark.Given text))))
+    (answer_grows d line (Some (x, signal_of (Marked.Given text))))
 
 data_seen : (lossy : Bool) (c : Client) (d : Dialogue) (line : List ℕ) (x : Tag) (text : List ℕ) → IsReading lossy c d
     → tag_is x (Tag.Event 0) ≡ false → (k : Kind) → held_under x c ≡ Some k
-    → IsSeen lossy (given_for c x text k) (server_answered d line (Some (x, signal_of (mark.Given text))))
+    → IsSeen lossy (given_for c x text k) (server_answered d line (Some (x, signal_of (Marked.Given text))))
 data_seen lossy c d line x text h other Kind.PtMeas held = point_seen lossy c d line x (homed_of text) h other held (point_of text)
 data_seen lossy c d line x text h other Kind.IsHomed held = homed_seen lossy c d line x (point_of text) h other held (homed_of text)
 data_seen lossy c d line x text h other Kind.StartSession held = stray_seen lossy Cause.OutOfOrder c d line x text h
@@ -235,21 +234,21 @@ data_seen lossy c d line x text h other Kind.AbortE held = stray_seen lossy Caus
 
 given_seen : (lossy : Bool) (c : Client) (d : Dialogue) (line : List ℕ) (x : Tag) (text : List ℕ) → IsReading lossy c d
     → tag_is x (Tag.Event 0) ≡ false → (held : Option Kind) → held_under x c ≡ held
-    → IsSeen lossy (given_under c x text held) (server_answered d line (Some (x, signal_of (mark.Given text))))
+    → IsSeen lossy (given_under c x text held) (server_answered d line (Some (x, signal_of (Marked.Given text))))
 given_seen lossy c d line x text h other None is = stray_seen lossy Cause.UnknownTag c d line x text h
 given_seen lossy c d line x text h other (Some k) is = data_seen lossy c d line x text h other k is
 
 response_seen : (lossy : Bool) (c : Client) (d : Dialogue) (line : List ℕ) (x : Tag) (m : Marked) → IsReading lossy c d
     → tag_is x (Tag.Event 0) ≡ false → IsSeen lossy (response_read c x m) (server_answered d line (Some (x, signal_of m)))
-response_seen lossy c d line x mark.Ack h other =
-    reply_seen lossy c d line x (signal_of mark.Ack) Mark.Ack h other (record { heard = λ k e. refl; ended = refl })
-response_seen lossy c d line x mark.Done h other =
-    reply_seen lossy c d line x (signal_of mark.Done) Mark.Done h other (record { heard = λ k e. refl; ended = refl })
-response_seen lossy c d line x (mark.Error text) h other =
-    reply_seen lossy c d line x (signal_of (mark.Error text)) Mark.Error h other (record { heard = λ k e. refl; ended = refl })
-response_seen lossy c d line x (mark.Given text) h other =
+response_seen lossy c d line x Marked.Ack h other =
+    reply_seen lossy c d line x (signal_of Marked.Ack) Mark.Ack h other (record { heard = λ k e. refl; ended = refl })
+response_seen lossy c d line x Marked.Done h other =
+    reply_seen lossy c d line x (signal_of Marked.Done) Mark.Done h other (record { heard = λ k e. refl; ended = refl })
+response_seen lossy c d line x (Marked.Error text) h other =
+    reply_seen lossy c d line x (signal_of (Marked.Error text)) Mark.Error h other (record { heard = λ k e. refl; ended = refl })
+response_seen lossy c d line x (Marked.Given text) h other =
     subst (λ (b : Bool). IsSeen lossy (cond b c (given_under c x text (held_under x c)))
-    (server_answered d line (Some (x, signal_of (mark.Given text))))) (sym other)
+    (server_answered d line (Some (x, signal_of (Marked.Given text))))) (sym other)
     (given_seen lossy c d line x text h other (held_under x c) refl)
 
 or_true : (b : Bool) → (b || true) ≡ true

@@ -5,9 +5,9 @@ use Rattle.witness_laws.proofs.Names.{is_open, is_out_of_turn, is_some, Known, l
 use Rattle.witness_laws.proofs.Names.{map-append, Mark, may_not_come, None, nothing, NotInTurn, Option, or_from, or_parts, refl, remove, Reported}
 use Rattle.witness_laws.proofs.Names.{reported_by, sending_after, SentCommand, Some, Stage, Standing, Std, subst, suc, sym, Tag, tag_is, take, true}
 use Rattle.witness_laws.proofs.Names.{unknowing, unless_crossed, Use, use_heard, use_renewed, waits, with_event, zero, ℕ}
-use Rattle.witness.specs.declared.lines.Progress.TheVariants as Progress
 use Rattle.witness_laws.proofs.orders.Counts.{heard_line, heard_tag, heard_failed}
 use Rattle.witness_laws.proofs.orders.Knowing.{then_renewed, below_renewed}
+use Rattle.witness.specs.declared.lines.Progress.{Progress}
 
 -- ---- the command that was sent last under a tag, after a mark
 

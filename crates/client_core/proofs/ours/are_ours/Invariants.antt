@@ -1,5 +1,4 @@
-use Rattle.std.proofs.Common.{◌≡◌, length}
-use Rattle.client_core.specs.Clients.{are_ours}
+use Rattle.client_core.proofs.Names.{◌≡◌, are_ours, length}
 use Rattle.client_core.proofs.ours.are_ours.Given as goal
 
 abbrev pub invariant-loop-features : goal.invariant-loop-features

@@ -1,5 +1,4 @@
-use Rattle.std.proofs.Common.{arith, ◌∙◌, ap, Err}
-use Rattle.contact_ledger.specs.declared.faults.TextFault.{TextFault}
+use Rattle.contact_ledger.proofs.Names.{◌∙◌, ap, arith, Err, TextFault}
 use Rattle.contact_ledger.proofs.ContactReads.{line_read, lines_read, read_failed}
 use Rattle.contact_ledger.proofs.FailedReads.{failed_read}
 use Rattle.contact_ledger.proofs.contact_texts.read_contacts.Goals as goal

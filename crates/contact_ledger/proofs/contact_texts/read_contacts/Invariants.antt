@@ -1,6 +1,4 @@
-use Rattle.std.proofs.Common.{◌≡◌, ◌+◌, ◌≤◌, length, take, drop}
-use Rattle.contact_ledger.specs.Lines.{whole_lines}
-use Rattle.contact_ledger.specs.ContactTexts.{AreEntries, contact_lines}
+use Rattle.contact_ledger.proofs.Names.{◌+◌, ◌≡◌, ◌≤◌, AreEntries, contact_lines, drop, length, take, whole_lines}
 use Rattle.contact_ledger.proofs.contact_texts.read_contacts.Given as goal
 
 -- the lines so far are those of the acts so far

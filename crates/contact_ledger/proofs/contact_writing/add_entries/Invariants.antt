@@ -1,7 +1,4 @@
-use Rattle.std.proofs.Common.{◌≡◌, ◌++◌, drop, map}
-use Rattle.std.specs.List.{AllByRecursion}
-use Rattle.contact_ledger.specs.Lines.{text_of}
-use Rattle.contact_ledger.specs.ContactTexts.{IsWrittenAct, act_line}
+use Rattle.contact_ledger.proofs.Names.{◌++◌, ◌≡◌, act_line, AllByRecursion, drop, IsWrittenAct, map, text_of}
 use Rattle.contact_ledger.proofs.contact_writing.add_entries.Given as goal
 
 -- what is written, and the lines that are left

@@ -1,6 +1,5 @@
-use Rattle.std.proofs.Common.{arith, ◌∙◌, ap, Err}
+use Rattle.contact_ledger.proofs.Names.{◌∙◌, ap, arith, Err, TextFault}
 use Rattle.contact_ledger.proofs.FailedReads.{failed_read}
-use Rattle.contact_ledger.specs.declared.faults.TextFault.{TextFault}
 use Rattle.contact_ledger.proofs.FeatureReads.{lines_read, line_read, read_failed, read_written}
 use Rattle.contact_ledger.proofs.feature_texts.read_features.Goals as goal
 

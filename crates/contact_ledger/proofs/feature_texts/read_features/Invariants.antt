@@ -1,8 +1,5 @@
-use Rattle.std.proofs.Common.{◌≡◌, ◌+◌, ◌≤◌, [], length, take, drop}
-use Rattle.contact_ledger.specs.Lines.{whole_lines}
-use Rattle.contact_ledger.specs.Places.{IsSound}
+use Rattle.contact_ledger.proofs.Names.{[], ◌+◌, ◌≡◌, ◌≤◌, drop, IsSound, length, Start, take, whole_lines}
 use Rattle.contact_ledger.proofs.LeadingPlaces.{Leads}
-use Rattle.contact_ledger.specs.declared.places.Place.TheVariants.{Start}
 use Rattle.contact_ledger.proofs.feature_texts.read_features.Given as goal
 
 -- the lines so far lead to the place with the features so far

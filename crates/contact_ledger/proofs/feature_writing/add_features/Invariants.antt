@@ -1,8 +1,4 @@
-use Rattle.std.proofs.Common.{◌≡◌, ◌++◌, drop}
-use Rattle.std.specs.List.{AllByRecursion}
-use Rattle.contact_ledger.specs.Lines.{text_of}
-use Rattle.contact_ledger.specs.FeatureTexts.{CanBeWritten, AreFeatures, lines_of_all}
-use Rattle.contact_ledger.specs.declared.openings.Version.TheVariants.{Second}
+use Rattle.contact_ledger.proofs.Names.{◌++◌, ◌≡◌, AllByRecursion, AreFeatures, CanBeWritten, drop, lines_of_all, Second, text_of}
 use Rattle.contact_ledger.proofs.feature_writing.add_features.Given as goal
 
 -- what is written, and the lines that are left

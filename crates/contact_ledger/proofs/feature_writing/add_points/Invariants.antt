@@ -1,8 +1,4 @@
-use Rattle.std.proofs.Common.{◌≡◌, ◌++◌, drop, map}
-use Rattle.std.specs.List.{AllByRecursion}
-use Rattle.contact_ledger.specs.Lines.{text_of}
-use Rattle.contact_ledger.specs.Fields.{IsOnWire}
-use Rattle.contact_ledger.specs.FeatureTexts.{point_line}
+use Rattle.contact_ledger.proofs.Names.{◌++◌, ◌≡◌, AllByRecursion, drop, IsOnWire, map, point_line, text_of}
 use Rattle.contact_ledger.proofs.feature_writing.add_points.Given as goal
 
 -- what is written, and the lines that are left

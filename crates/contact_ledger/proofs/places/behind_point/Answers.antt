@@ -1,5 +1,4 @@
-use Rattle.std.proofs.Common.{[], ◌∷◌, length-append, arith}
-use Rattle.contact_ledger.specs.Fields.{IsOnWire}
+use Rattle.contact_ledger.proofs.Names.{[], ◌∷◌, arith, IsOnWire, length-append}
 use Rattle.contact_ledger.proofs.FeatureShapes.{all_more}
 use Rattle.contact_ledger.proofs.places.behind_point.Goals as goal
 

@@ -1,8 +1,5 @@
-use Rattle.std.proofs.Common.{◌≡◌, ◌++◌, length}
-use Rattle.std.specs.List.{AllByRecursion}
+use Rattle.deviations.proofs.Names.{◌++◌, ◌≡◌, AllByRecursion, IsFeature, length, places_of}
 use Rattle.client_core.specs.Clients.{are_ours}
-use Rattle.dmis_program.specs.Programs.{IsFeature}
-use Rattle.deviations.specs.Rows.{places_of}
 use Rattle.deviations.proofs.rows.places_of.Given as goal
 
 abbrev pub invariant-loop-features : goal.invariant-loop-features

@@ -1,7 +1,4 @@
-use Rattle.std.proofs.Common.{◌≡◌, ◌++◌, length}
-use Rattle.std.specs.List.{AllByRecursion}
-use Rattle.dmis_program.specs.Programs.{IsFeature}
-use Rattle.deviations.specs.Rows.{missing_places}
+use Rattle.deviations.proofs.Names.{◌++◌, ◌≡◌, AllByRecursion, IsFeature, length, missing_places}
 use Rattle.deviations.proofs.rows.push_missing.Given as goal
 
 abbrev pub invariant-loop-wanted : goal.invariant-loop-wanted

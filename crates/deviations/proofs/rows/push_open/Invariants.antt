@@ -1,7 +1,4 @@
-use Rattle.std.proofs.Common.{◌≡◌, ◌≤◌, ◌+◌, ◌++◌, length}
-use Rattle.std.specs.List.{AllByRecursion}
-use Rattle.dmis_program.specs.Programs.{IsTouch}
-use Rattle.deviations.specs.Rows.{open_places}
+use Rattle.deviations.proofs.Names.{◌++◌, ◌+◌, ◌≡◌, ◌≤◌, AllByRecursion, IsTouch, length, open_places}
 use Rattle.deviations.proofs.rows.push_open.Given as goal
 
 abbrev pub invariant-loop-touches : goal.invariant-loop-touches

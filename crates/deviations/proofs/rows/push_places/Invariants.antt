@@ -1,7 +1,4 @@
-use Rattle.std.proofs.Common.{◌≡◌, ◌≤◌, ◌+◌, ◌++◌, length}
-use Rattle.std.specs.List.{AllByRecursion}
-use Rattle.dmis_program.specs.Programs.{IsTouch}
-use Rattle.deviations.specs.Rows.{places_from, feature_places}
+use Rattle.deviations.proofs.Names.{◌++◌, ◌+◌, ◌≡◌, ◌≤◌, AllByRecursion, feature_places, IsTouch, length, places_from}
 use Rattle.deviations.proofs.rows.push_places.Given as goal
 
 abbrev pub invariant-loop-points : goal.invariant-loop-points

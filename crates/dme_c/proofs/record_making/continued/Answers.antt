@@ -1,8 +1,5 @@
 -- Sound features are the first of the program, and the window is one, so the client is made.
-use Rattle.std.specs.Prelude.{◌≡◌, Bool, ◌&&◌}
-use Rattle.std.proofs.Common.{ap, ◌∙◌}
-use Rattle.std.proofs.lemmas.Bool.{false≢true}
-use Rattle.client_core.specs.Clients.{are_ours}
+use Rattle.dme_c.proofs.Names.{◌&&◌, ◌∙◌, ◌≡◌, ap, are_ours, Bool, false≢true}
 use Rattle.dme_c.proofs.Ours.{sound_are_ours}
 use Rattle.dme_c.proofs.record_making.continued.Goals as goal
 

@@ -1,11 +1,8 @@
 -- Exactly one outcome is due for the texts and the part, and the number says which.
-use Rattle.std.proofs.Common.{◌∙◌, ap, sym, subst}
-use Rattle.fixed_um.specs.Names.{IsName}
+use Rattle.dme_c.proofs.Names.{◌∙◌, ap, IsName, RecordRefusal, RefusesBytes, subst, sym}
 use Rattle.dme_c.proofs.Beginning.{asked_of, begun_setup, begun_program, begun_part, begun_window, line_of, name_of, number_of}
 use Rattle.dme_c.proofs.Beginning.{refused_setup, refused_program, refused_part, refused_window, refused_record}
 use Rattle.dme_c.proofs.Beginning.{due_damaged, due_part, due_program}
-use Rattle.record_keeping.specs.declared.opening.RecordRefusal.TheVariants as refusal
-use Rattle.dme_c.specs.Continuing.{RefusesBytes}
 use Rattle.dme_c.proofs.record_making.dme_record_begin.Goals as goal
 
 pub returns-in-Ok-clause-bad_setup : goal.returns-in-Ok-clause-bad_setup
@@ -46,12 +43,12 @@ pub returns-in-Err-clause-number : goal.returns-in-Err-clause-number
 returns-in-Err-clause-number c = number_of _ _ c.refused.ensures.number
 
 pub returns-in-Err-clause-damaged : goal.returns-in-Err-clause-damaged
-returns-in-Err-clause-damaged c = λ is. subst (λ line. RefusesBytes c.args.setup.now c.args.program.now c.args.part.now c.args.bytes.now (refusal.Damaged line)) (sym c.refused.ensures.line)
+returns-in-Err-clause-damaged c = λ is. subst (λ line. RefusesBytes c.args.setup.now c.args.program.now c.args.part.now c.args.bytes.now (RecordRefusal.Damaged line)) (sym c.refused.ensures.line)
     (due_damaged _ _ _ _ _ c.in-Err.ensures.due _ c.refused.ensures.number is)
 
 pub returns-in-Err-clause-other_part : goal.returns-in-Err-clause-other_part
 returns-in-Err-clause-other_part c = due_part _ _ _ _ _ c.in-Err.ensures.due _ c.refused.ensures.number
 
 pub returns-in-Err-clause-other_program : goal.returns-in-Err-clause-other_program
-returns-in-Err-clause-other_program c = λ is fits. subst (λ label. RefusesBytes c.args.setup.now c.args.program.now c.args.part.now c.args.bytes.now (refusal.OtherProgram label))
+returns-in-Err-clause-other_program c = λ is fits. subst (λ label. RefusesBytes c.args.setup.now c.args.program.now c.args.part.now c.args.bytes.now (RecordRefusal.OtherProgram label))
     (sym (c.refused.ensures.front fits)) (due_program _ _ _ _ _ c.in-Err.ensures.due _ c.refused.ensures.number is)

@@ -1,7 +1,4 @@
-use Rattle.std.proofs.Common.{List, ℕ, ◌++◌, ap, sym, ◌∙◌, codes}
-use Rattle.dme_line.specs.Words.{quoted}
-use Rattle.dme_line.specs.Tags.{four_digits}
-use Rattle.dme_line.specs.Errors.{number_of, error_name, error_text}
+use Rattle.dme_line.proofs.Names.{◌++◌, ◌∙◌, ap, codes, error_name, error_text, four_digits, List, number_of, quoted, sym, ℕ}
 use Rattle.dme_line.proofs.ErrorLemmas.{report_text, text_by_number}
 use Rattle.dme_line.proofs.errors.write_report_reserved.Goals as goal
 

@@ -1,5 +1,4 @@
-use Rattle.std.proofs.Common.{sym}
-use Rattle.dme_line.specs.Taken.{the_argument}
+use Rattle.dme_line.proofs.Names.{sym, the_argument}
 use Rattle.dme_line.proofs.WrittenLemmas.{along_behind}
 use Rattle.dme_line.proofs.places.read_direction.Goals as goal
 

@@ -1,5 +1,4 @@
-use Rattle.std.proofs.Common.{None}
-use Rattle.dme_line.specs.Tokens.{tokens}
+use Rattle.dme_line.proofs.Names.{None, tokens}
 use Rattle.dme_line.proofs.PlaceLemmas.{no_move}
 use Rattle.dme_line.proofs.places.read_move.Goals as goal
 

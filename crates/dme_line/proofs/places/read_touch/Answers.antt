@@ -1,5 +1,4 @@
-use Rattle.std.proofs.Common.{◌≡◌, length, refl}
-use Rattle.dme_line.specs.Taken.{the_list}
+use Rattle.dme_line.proofs.Names.{◌≡◌, length, refl, the_list}
 use Rattle.dme_line.proofs.PlaceLemmas.{no_target, no_along}
 use Rattle.dme_line.proofs.places.read_touch.Goals as goal
 

@@ -1,9 +1,6 @@
-use Rattle.std.proofs.Common.{◌≡◌, ◌-◌, length, get_or, take, drop, ap, sym, subst, rules, ℤ, Ok}
-use Rattle.std.specs.Prelude.{unsigned_abs, FitsSigned}
+use Rattle.dme_line.proofs.Names.{◌-◌, ◌≡◌, ap, drop, FitsSigned, get_or, length, Ok, Reads, rules, subst, sym, take, unsigned_abs, wire_limit, ℤ}
 use Rattle.std.specs.Int.{w64}
 use Rattle.std.proofs.lemmas.Int.{to_z-of_z}
-use Rattle.fixed_um.specs.Limits.{wire_limit}
-use Rattle.fixed_um.specs.Numerals.{Reads}
 use Rattle.dme_line.proofs.PointLemmas.{one_in_front, two_in_front, point_in_front}
 use Rattle.dme_line.proofs.points.cut_written_point.Goals as goal
 

@@ -1,6 +1,4 @@
-use Rattle.std.proofs.Common.{◌≡◌, ℕ, List, rules}
-use Rattle.dme_line.specs.Tokens.{tokens}
-use Rattle.dme_line.specs.Points.{point_tokens}
+use Rattle.dme_line.proofs.Names.{◌≡◌, List, point_tokens, rules, tokens, ℕ}
 use Rattle.dme_line.proofs.points.read_any_point.Goals as goal
 
 pub returns-in_default : goal.returns-in_default

@@ -1,5 +1,4 @@
-use Rattle.std.proofs.Common.{[], ◌∷◌}
-use Rattle.dme_line.specs.Arguments.{Single}
+use Rattle.dme_line.proofs.Names.{[], ◌∷◌, Single}
 use Rattle.dme_line.proofs.points.take_axis.Goals as goal
 
 pub returns-in_err-take_argument : goal.returns-in_err-take_argument

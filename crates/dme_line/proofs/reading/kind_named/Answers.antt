@@ -1,5 +1,4 @@
-use Rattle.dme_line.specs.Words.{is_word}
-use Rattle.dme_line.specs.Kinds.{kind_name}
+use Rattle.dme_line.proofs.Names.{is_word, kind_name}
 use Rattle.dme_line.proofs.KindLemmas.{kind_found}
 use Rattle.dme_line.proofs.reading.kind_named.Goals as goal
 

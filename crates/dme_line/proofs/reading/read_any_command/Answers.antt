@@ -1,5 +1,4 @@
-use Rattle.std.proofs.Common.{sym, ◌∙◌}
-use Rattle.dme_line.specs.CommandText.{Begins}
+use Rattle.dme_line.proofs.Names.{◌∙◌, Begins, sym}
 use Rattle.dme_line.proofs.CommandLemmas.{says_here, wrong_sort}
 use Rattle.dme_line.proofs.reading.read_any_command.Goals as goal
 

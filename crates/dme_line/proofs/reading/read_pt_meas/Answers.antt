@@ -1,8 +1,4 @@
-use Rattle.std.proofs.Common.{Option, rules}
-use Rattle.fixed_um.specs.Shapes.{Direction}
-use Rattle.fixed_um.specs.declared.lengths.Point.{Point}
-use Rattle.dme_line.specs.Tokens.{tokens}
-use Rattle.dme_line.specs.Arguments.{IsPlace}
+use Rattle.dme_line.proofs.Names.{Direction, IsPlace, Option, Point, rules, tokens}
 use Rattle.dme_line.proofs.reading.read_pt_meas.Goals as goal
 
 pub returns-in_default : goal.returns-in_default

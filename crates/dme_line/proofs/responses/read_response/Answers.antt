@@ -1,5 +1,4 @@
-use Rattle.std.specs.Prelude.{Result, Ok, Err, OnErr}
-use Rattle.dme_line.specs.Responses.{HoldsResponseText, the_response}
+use Rattle.dme_line.proofs.Names.{Err, HoldsResponseText, Ok, OnErr, Result, the_response}
 use Rattle.dme_line.proofs.responses.read_response.Goals as goal
 
 on_err : {A E : Type 0} (r : Result A E) (P : Type 0) → P → OnErr r P

@@ -1,5 +1,4 @@
-use Rattle.std.proofs.Common.{◌≡◌, length}
-use Rattle.dme_line.specs.Tokens.{tokens}
+use Rattle.dme_line.proofs.Names.{◌≡◌, length, tokens}
 use Rattle.dme_line.proofs.tokens.skip_spaces.Given as goal
 
 abbrev pub invariant-loop-left : goal.invariant-loop-left

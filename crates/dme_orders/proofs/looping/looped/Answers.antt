@@ -1,8 +1,5 @@
-use Rattle.std.proofs.Common.{rules, ℕ, List, ap, ◌∙◌}
-use Rattle.contact_ledger.specs.declared.acts.Act.{Act}
-use Rattle.link_world.specs.Reports.{report_text}
+use Rattle.dme_orders.proofs.Names.{◌∙◌, Act, ap, ends_shown, List, report_text, rules, ℕ}
 use Rattle.link_world.proofs.Turning.{on_err}
-use Rattle.dme_orders.specs.Ends.{ends_shown}
 use Rattle.dme_orders.proofs.LoopingLemmas.{loop_leaves, loop_stops}
 use Rattle.dme_orders.proofs.looping.looped.Goals.{in-Ok, in-Err}
 use Rattle.dme_orders.proofs.looping.looped.Goals as goal

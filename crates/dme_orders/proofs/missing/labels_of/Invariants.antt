@@ -1,5 +1,4 @@
-use Rattle.std.proofs.Common.{◌≡◌, ◌++◌, length}
-use Rattle.dme_orders.specs.Missing.{labels_of}
+use Rattle.dme_orders.proofs.Names.{◌++◌, ◌≡◌, labels_of, length}
 use Rattle.dme_orders.proofs.missing.labels_of.Given as goal
 
 abbrev pub invariant-loop-left : goal.invariant-loop-left

@@ -1,6 +1,4 @@
-use Rattle.std.proofs.Common.{◌≡◌, ◌++◌, drop}
-use Rattle.std.specs.Prelude.{string_bytes}
-use Rattle.dme_orders.specs.Missing.{more_labels}
+use Rattle.dme_orders.proofs.Names.{◌++◌, ◌≡◌, drop, more_labels, string_bytes}
 use Rattle.dme_orders.proofs.missing.push_more.Given as goal
 
 abbrev pub invariant-loop-label : goal.invariant-loop-label

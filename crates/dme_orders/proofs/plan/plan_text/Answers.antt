@@ -1,6 +1,4 @@
-use Rattle.std.proofs.Common.{◌≡◌, sym, subst, rules, All}
-use Rattle.resume_plan.specs.Sendable.{IsSendable}
-use Rattle.resume_plan.specs.Made.{planned_with}
+use Rattle.dme_orders.proofs.Names.{◌≡◌, All, IsSendable, planned_with, rules, subst, sym}
 use Rattle.dme_orders.proofs.PlanLemmas.{IsMaking, front_is_sendable, are_taken, all_are_taken}
 use Rattle.dme_orders.proofs.plan.plan_text.Goals as goal
 

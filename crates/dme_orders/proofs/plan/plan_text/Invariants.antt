@@ -1,5 +1,4 @@
-use Rattle.std.proofs.Common.{length}
-use Rattle.resume_plan.specs.Made.{planned_with}
+use Rattle.dme_orders.proofs.Names.{length, planned_with}
 use Rattle.dme_orders.proofs.PlanLemmas.{IsMaking}
 use Rattle.dme_orders.proofs.plan.plan_text.Given as goal
 

@@ -1,5 +1,4 @@
-use Rattle.std.proofs.Common.{◌≡◌, ◌∙◌, rules}
-use Rattle.dme_orders.specs.Numbered.{shown_from}
+use Rattle.dme_orders.proofs.Names.{◌∙◌, ◌≡◌, rules, shown_from}
 use Rattle.dme_orders.proofs.PlanLemmas.{shown_counted}
 use Rattle.dme_orders.proofs.plan.shown_text.Goals as goal
 

@@ -1,6 +1,5 @@
-use Rattle.std.proofs.Common.{rules, refl, inr}
+use Rattle.dme_orders.proofs.Names.{inr, refl, rules, torn}
 use Rattle.program_review.specs.Reviews.{texts_of}
-use Rattle.dme_orders.specs.Orders.{torn}
 use Rattle.dme_orders.proofs.OrderLemmas.{no_room, stops_at, works_or_empty}
 use Rattle.dme_orders.proofs.reviewing.review_program.Goals as goal
 

@@ -1,6 +1,4 @@
-use Rattle.std.proofs.Common.{◌≡◌, ◌++◌, drop}
-use Rattle.std.specs.Prelude.{string_bytes}
-use Rattle.std.specs.List.{flat_map}
+use Rattle.dme_orders.proofs.Names.{◌++◌, ◌≡◌, drop, flat_map, string_bytes}
 use Rattle.dme_orders.specs.RunErrors.{error_line}
 use Rattle.dme_orders.proofs.run_errors.lines_of.Given as goal
 

@@ -1,6 +1,4 @@
-use Rattle.std.proofs.Common.{rules, false}
-use Rattle.link_world.specs.Machines.{simulated}
-use Rattle.dme_orders.specs.Simulating.{AreTraced}
+use Rattle.dme_orders.proofs.Names.{AreTraced, false, rules, simulated}
 use Rattle.dme_orders.proofs.LinesShown.{are_traced, shown}
 use Rattle.dme_orders.proofs.simulating.play_shown.Goals as goal
 

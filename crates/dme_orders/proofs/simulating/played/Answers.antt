@@ -1,8 +1,5 @@
-use Rattle.std.proofs.Common.{false, subst, sym, ap}
+use Rattle.dme_orders.proofs.Names.{ap, AreTraced, false, Plays, ShowsLines, simulated, subst, sym}
 use Rattle.link_world.specs.Links.{WorldValue}
-use Rattle.link_world.specs.Machines.{simulated}
-use Rattle.link_world.specs.Schedules.{Plays}
-use Rattle.dme_orders.specs.Simulating.{AreTraced, ShowsLines}
 use Rattle.dme_orders.proofs.simulating.played.Goals as goal
 
 pub returns-in-Ok-clause-played : goal.returns-in-Ok-clause-played

@@ -1,5 +1,4 @@
-use Rattle.std.proofs.Common.{◌≡◌, ◌++◌, drop}
-use Rattle.std.specs.Prelude.{string_bytes}
+use Rattle.dme_orders.proofs.Names.{◌++◌, ◌≡◌, drop, string_bytes}
 use Rattle.dme_orders.specs.Verdicts.{start_fields}
 use Rattle.dme_orders.proofs.verdicts.push_starts.Given as goal
 

@@ -1,7 +1,4 @@
-use Rattle.std.proofs.Common.{◌≡◌, true, sym, ◌∙◌, ap, arith}
-use Rattle.dme_line.specs.declared.tags.Tag.{Tag}
-use Rattle.protocol_model.specs.Open.{is_held}
-use Rattle.dme_tags.specs.Sorts.{numbered}
+use Rattle.dme_tags.proofs.Names.{◌∙◌, ◌≡◌, ap, arith, is_held, numbered, sym, Tag, true}
 use Rattle.dme_tags.proofs.Numbers.{held_next, held_more}
 use Rattle.dme_tags.proofs.drawing.first_free.Goals as goal
 

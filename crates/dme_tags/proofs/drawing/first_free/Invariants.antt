@@ -1,7 +1,4 @@
-use Rattle.std.proofs.Common.{◌≡◌, ℕ, ◌-◌, ◌≤◌, ◌<◌, true}
-use Rattle.protocol_model.specs.Open.{is_held}
-use Rattle.protocol_model.specs.Client.{first_free}
-use Rattle.dme_tags.specs.Sorts.{numbered}
+use Rattle.dme_tags.proofs.Names.{◌-◌, ◌<◌, ◌≡◌, ◌≤◌, first_free, is_held, numbered, true, ℕ}
 use Rattle.dme_tags.proofs.drawing.first_free.Given as goal
 
 abbrev pub invariant-loop-number : goal.invariant-loop-number

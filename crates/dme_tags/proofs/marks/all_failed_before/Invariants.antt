@@ -1,5 +1,4 @@
-use Rattle.std.proofs.Common.{◌≡◌, true, take}
-use Rattle.dme_tags.specs.Places.{all_failed}
+use Rattle.dme_tags.proofs.Names.{◌≡◌, all_failed, take, true}
 use Rattle.dme_tags.proofs.marks.all_failed_before.Given as goal
 
 abbrev pub invariant-loop-earlier : goal.invariant-loop-earlier

@@ -1,7 +1,4 @@
-use Rattle.std.proofs.Common.{ap}
-use Rattle.std.proofs.lemmas.Result.{err_from_is_err_and}
-use Rattle.protocol_model.specs.Replies.{Mark}
-use Rattle.dme_tags.specs.Answers.{effect_of, effect_heard}
+use Rattle.dme_tags.proofs.Names.{ap, effect_heard, effect_of, err_from_is_err_and, Mark}
 use Rattle.dme_tags.proofs.Places.{ended_at, refused_at}
 use Rattle.dme_tags.proofs.Fitting.{data_heard}
 use Rattle.dme_tags.proofs.marks.end_of.Goals as goal

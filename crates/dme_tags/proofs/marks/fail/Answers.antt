@@ -1,6 +1,4 @@
-use Rattle.std.proofs.Common.{true}
-use Rattle.std.proofs.lemmas.Result.{err_from_is_err_and}
-use Rattle.protocol_model.specs.Replies.{Mark}
+use Rattle.dme_tags.proofs.Names.{err_from_is_err_and, Mark, true}
 use Rattle.dme_tags.proofs.Places.{failed_at}
 use Rattle.dme_tags.proofs.Fitting.{fit_heard}
 use Rattle.dme_tags.proofs.marks.fail.Goals as goal

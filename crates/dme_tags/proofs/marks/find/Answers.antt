@@ -1,6 +1,4 @@
-use Rattle.std.proofs.Common.{ℕ, ◌<◌, ◌≤◌, sym, ◌∙◌, ap, subst}
-use Rattle.std.proofs.lemmas.List.{take_all}
-use Rattle.protocol_model.specs.Open.{is_held}
+use Rattle.dme_tags.proofs.Names.{◌<◌, ◌∙◌, ◌≤◌, ap, is_held, subst, sym, take_all, ℕ}
 use Rattle.dme_tags.proofs.Places.{found_at, nobody, not_yet}
 use Rattle.dme_tags.proofs.marks.find.Goals as goal
 

@@ -1,5 +1,4 @@
-use Rattle.std.proofs.Common.{◌≡◌, false, take}
-use Rattle.protocol_model.specs.Open.{is_held}
+use Rattle.dme_tags.proofs.Names.{◌≡◌, false, is_held, take}
 use Rattle.dme_tags.proofs.marks.find.Given as goal
 
 abbrev pub invariant-loop-index : goal.invariant-loop-index

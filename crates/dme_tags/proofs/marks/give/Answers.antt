@@ -1,9 +1,4 @@
-use Rattle.std.proofs.Common.{sym, ◌∙◌, ap, Option}
-use Rattle.dme_line.specs.declared.commands.Kind.{Kind}
-use Rattle.std.proofs.lemmas.Result.{err_from_is_err_and}
-use Rattle.protocol_model.specs.Replies.{Mark}
-use Rattle.protocol_model.specs.Open.{Effect}
-use Rattle.dme_tags.specs.Data.{may_be_given}
+use Rattle.dme_tags.proofs.Names.{◌∙◌, ap, Effect, err_from_is_err_and, Kind, Mark, may_be_given, Option, sym}
 use Rattle.dme_tags.proofs.Places.{changed_at, kind_at, refused_at}
 use Rattle.dme_tags.proofs.Fitting.{fit_heard}
 use Rattle.dme_tags.proofs.Kept.{not_failed}

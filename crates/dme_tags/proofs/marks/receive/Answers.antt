@@ -1,7 +1,4 @@
-use Rattle.std.proofs.Common.{true, refl}
-use Rattle.std.proofs.lemmas.Result.{err_from_is_err_and}
-use Rattle.protocol_model.specs.Replies.{Mark}
-use Rattle.protocol_model.specs.Open.{Effect}
+use Rattle.dme_tags.proofs.Names.{Effect, err_from_is_err_and, Mark, refl, true}
 use Rattle.dme_tags.proofs.Places.{changed_at, refused_at}
 use Rattle.dme_tags.proofs.Fitting.{fit_heard}
 use Rattle.dme_tags.proofs.Kept.{not_failed}

@@ -1,7 +1,4 @@
-use Rattle.std.proofs.Common.{◌≡◌, false, fold, drop}
-use Rattle.clap.specs.Words.{app_of}
-use Rattle.clap.specs.declared.builder.command.Command.TheViews.{out-Command}
-use Rattle.dme_words.specs.Arguments.{with_line}
+use Rattle.dme_words.proofs.Names.{◌≡◌, app_of, drop, false, fold, out-Command, with_line}
 use Rattle.dme_words.proofs.line.with_lines.Given as goal
 
 -- what is there and what is left are all subcommands

@@ -1,5 +1,4 @@
-use Rattle.clap.specs.Words.{found_of, rows_of}
-use Rattle.clap.proofs.WalkLemmas.{one_text-rows}
+use Rattle.dme_words.proofs.Names.{found_of, one_text-rows, rows_of}
 use Rattle.dme_words.proofs.NumberLemmas.{flag_reads}
 use Rattle.dme_words.proofs.words.flag_of.Goals as goal
 

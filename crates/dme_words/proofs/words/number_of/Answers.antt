@@ -1,10 +1,5 @@
-use Rattle.std.proofs.Common.{◌∙◌, arith, subst, sym, Option, ℕ, List}
-use Rattle.std.specs.Prelude.{IsSomeAnd}
-use Rattle.std.specs.Str.Parse.{ParsesUnsigned, ExplainsUnsignedError, HasUnsignedDigitsIfOk}
-use Rattle.std.proofs.lemmas.Option.{none-some, same_Some}
-use Rattle.clap.specs.Words.{found_of, without_minus}
-use Rattle.clap.proofs.WalkLemmas.{one_text-rows}
-use Rattle.dme_words.specs.Ordered.{IsNumber}
+use Rattle.dme_words.proofs.Names.{◌∙◌, arith, ExplainsUnsignedError, found_of, HasUnsignedDigitsIfOk, IsNumber, IsSomeAnd, List, none-some}
+use Rattle.dme_words.proofs.Names.{one_text-rows, Option, ParsesUnsigned, same_Some, subst, sym, without_minus, ℕ}
 use Rattle.dme_words.proofs.NumberLemmas.{number_reads}
 use Rattle.dme_words.proofs.words.number_of.Goals as goal
 

@@ -1,6 +1,4 @@
-use Rattle.std.proofs.Common.{◌≡◌, map, refl, ap, ◌∙◌}
-use Rattle.clap.specs.Words.{app_of, is_simple_and_free}
-use Rattle.dme_words.specs.CommandLine.{whole_line}
+use Rattle.dme_words.proofs.Names.{◌∙◌, ◌≡◌, ap, app_of, is_simple_and_free, map, refl, whole_line}
 use Rattle.dme_words.proofs.WordsLemmas.{asked_or_refused, names_askable}
 use Rattle.dme_words.proofs.words.read_words.Goals as goal
 

@@ -1,6 +1,4 @@
-use Rattle.std.proofs.Common.{◌∙◌}
-use Rattle.clap.specs.Words.{found_of}
-use Rattle.clap.proofs.WalkLemmas.{first_value-rows}
+use Rattle.dme_words.proofs.Names.{◌∙◌, first_value-rows, found_of}
 use Rattle.dme_words.proofs.words.value_of.Goals as goal
 
 pub returns : goal.returns

@@ -1,7 +1,4 @@
-use Rattle.std.proofs.Common.{◌≡◌, ◌≤◌, drop, true}
-use Rattle.std.specs.List.{list_all}
-use Rattle.std.specs.Char.{is_ascii_digit}
-use Rattle.std.specs.Str.Parse.{digits_value, digits_value_after}
+use Rattle.dmis_program.proofs.Names.{◌≡◌, ◌≤◌, digits_value, digits_value_after, drop, is_ascii_digit, list_all, true}
 use Rattle.dmis_program.proofs.parameters.count_of.Given as goal
 
 abbrev pub invariant-loop-digit : goal.invariant-loop-digit

@@ -1,5 +1,4 @@
-use Rattle.std.proofs.Common.{◌≡◌, ◌≤◌, length, drop, true}
-use Rattle.dmis_text.specs.Texts.{all_blank}
+use Rattle.dmis_text.proofs.Names.{◌≡◌, ◌≤◌, all_blank, drop, length, true}
 use Rattle.dmis_text.proofs.bytes.count_to_last.Given as goal
 
 abbrev pub invariant-loop-count : goal.invariant-loop-count

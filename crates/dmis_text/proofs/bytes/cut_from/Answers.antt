@@ -1,6 +1,4 @@
-use Rattle.std.proofs.Common.{◌∙◌, sym, arith}
-use Rattle.std.proofs.lemmas.List.Sums.{prefix_len-le-length}
-use Rattle.dmis_text.specs.Runs.{is_unmarked}
+use Rattle.dmis_text.proofs.Names.{◌∙◌, arith, is_unmarked, prefix_len-le-length, sym}
 use Rattle.dmis_text.proofs.Skipping.{cut_first, cut_next}
 use Rattle.dmis_text.proofs.bytes.cut_from.Goals as goal
 

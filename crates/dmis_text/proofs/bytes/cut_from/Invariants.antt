@@ -1,5 +1,4 @@
-use Rattle.std.proofs.Common.{◌≡◌, ◌-◌, ◌≤◌, take, drop, length, false}
-use Rattle.dmis_text.specs.Elements.{cut_at}
+use Rattle.dmis_text.proofs.Names.{◌-◌, ◌≡◌, ◌≤◌, cut_at, drop, false, length, take}
 use Rattle.dmis_text.proofs.Splitting.{put_before}
 use Rattle.dmis_text.proofs.bytes.cut_from.Given as goal
 

@@ -1,5 +1,4 @@
-use Rattle.std.proofs.Common.{◌≡◌, ◌-◌, ◌≤◌, drop, length, false}
-use Rattle.dmis_text.specs.Texts.{inside_after}
+use Rattle.dmis_text.proofs.Names.{◌-◌, ◌≡◌, ◌≤◌, drop, false, inside_after, length}
 use Rattle.dmis_text.proofs.bytes.ends_inside.Given as goal
 
 abbrev pub invariant-loop-at : goal.invariant-loop-at

@@ -1,5 +1,4 @@
-use Rattle.std.proofs.Common.{◌≡◌, ◌-◌, ◌≤◌, ◌++◌, take, drop, length, false}
-use Rattle.dmis_text.specs.Elements.{folded}
+use Rattle.dmis_text.proofs.Names.{◌++◌, ◌-◌, ◌≡◌, ◌≤◌, drop, false, folded, length, take}
 use Rattle.dmis_text.proofs.bytes.is_folded.Given as goal
 
 abbrev pub invariant-loop-at : goal.invariant-loop-at

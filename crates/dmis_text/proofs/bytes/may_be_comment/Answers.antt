@@ -1,8 +1,4 @@
-use Rattle.std.proofs.Common.{arith, rules, ◌∙◌, sym, ap, drop}
-use Rattle.std.proofs.lemmas.Bool.{eq-eqb}
-use Rattle.std.proofs.lemmas.List.{length-drop}
-use Rattle.std.specs.List.{list_all}
-use Rattle.dmis_text.specs.Runs.{is_in_comment}
+use Rattle.dmis_text.proofs.Names.{◌∙◌, ap, arith, drop, eq-eqb, is_in_comment, length-drop, list_all, rules, sym}
 use Rattle.dmis_text.proofs.Skipping.{all_in_run, all_in_run_from}
 use Rattle.dmis_text.proofs.bytes.may_be_comment.Goals as goal
 

@@ -1,5 +1,4 @@
-use Rattle.std.proofs.Common.{◌≡◌, length}
-use Rattle.dmis_text.specs.Texts.{without_front_blanks}
+use Rattle.dmis_text.proofs.Names.{◌≡◌, length, without_front_blanks}
 use Rattle.dmis_text.proofs.bytes.without_front_blanks.Given as goal
 
 abbrev pub invariant-loop-first : goal.invariant-loop-first

@@ -1,5 +1,4 @@
-use Rattle.std.proofs.Common.{ℕ, List, ◌++◌, map, refl, ◌∙◌, sym, ap, append_assoc}
-use Rattle.dmis_text.specs.Elements.{element_of}
+use Rattle.dmis_text.proofs.Names.{◌++◌, ◌∙◌, ap, append_assoc, element_of, List, map, refl, sym, ℕ}
 use Rattle.dmis_text.proofs.Capitals.{front_of_cut, behind_cut}
 use Rattle.dmis_text.proofs.Commas.{behind_bare}
 use Rattle.dmis_text.proofs.Continued.{pieces_more}

@@ -1,7 +1,4 @@
-use Rattle.std.proofs.Common.{◌≡◌, ℕ, List, ◌++◌, map, length, false, true, IsTrue}
-use Rattle.std.specs.List.{list_all}
-use Rattle.dmis_text.specs.Runs.{is_unquoted}
-use Rattle.dmis_text.specs.Elements.{element_of, pieces, folded}
+use Rattle.dmis_text.proofs.Names.{◌++◌, ◌≡◌, element_of, false, folded, is_unquoted, IsTrue, length, List, list_all, map, pieces, true, ℕ}
 use Rattle.dmis_text.proofs.elements.cut_pieces.Given as goal
 
 abbrev pub invariant-loop-piece : goal.invariant-loop-piece

@@ -1,5 +1,4 @@
-use Rattle.std.proofs.Common.{◌≡◌, ◌++◌, drop, false}
-use Rattle.dmis_text.specs.Elements.{folded}
+use Rattle.dmis_text.proofs.Names.{◌++◌, ◌≡◌, drop, false, folded}
 use Rattle.dmis_text.proofs.elements.fold.Given as goal
 
 abbrev pub invariant-loop-byte : goal.invariant-loop-byte

@@ -1,8 +1,4 @@
-use Rattle.std.proofs.Common.{◌∙◌, ◌∷◌, false, List, ℕ, sym, ap, take, drop, arith}
-use Rattle.std.specs.List.{list_all}
-use Rattle.std.specs.Str.Lines.{lines}
-use Rattle.dmis_text.specs.Texts.{before_comment, is_clean}
-use Rattle.dmis_text.specs.Runs.{is_bare}
+use Rattle.dmis_text.proofs.Names.{◌∙◌, ◌∷◌, ap, arith, before_comment, drop, false, is_bare, is_clean, lines, List, list_all, sym, take, ℕ}
 use Rattle.dmis_text.proofs.Bare.{content_is_bare, found_content, found_clean, found_line}
 use Rattle.dmis_text.proofs.lines.bare_line.Goals as goal
 

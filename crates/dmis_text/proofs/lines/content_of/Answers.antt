@@ -1,5 +1,4 @@
-use Rattle.std.proofs.Common.{◌≡◌, ◌∙◌, ◌+◌, sym, refl, ap, false, drop, get_or}
-use Rattle.dmis_text.specs.Texts.{turned, begins_comment}
+use Rattle.dmis_text.proofs.Names.{◌+◌, ◌∙◌, ◌≡◌, ap, begins_comment, drop, false, get_or, refl, sym, turned}
 use Rattle.dmis_text.proofs.Comments.{inside_after_more, before_comment_more, is_clean_more}
 use Rattle.dmis_text.proofs.Skipping.{content_run, clean_run, flag_run}
 use Rattle.dmis_text.proofs.lines.content_of.Goals as goal

@@ -1,5 +1,4 @@
-use Rattle.std.proofs.Common.{◌≡◌, ◌-◌, ◌≤◌, ◌++◌, take, drop, length}
-use Rattle.dmis_text.specs.Texts.{before_comment, is_clean, inside_after}
+use Rattle.dmis_text.proofs.Names.{◌++◌, ◌-◌, ◌≡◌, ◌≤◌, before_comment, drop, inside_after, is_clean, length, take}
 use Rattle.dmis_text.proofs.lines.content_of.Given as goal
 
 abbrev pub invariant-loop-at : goal.invariant-loop-at

@@ -1,5 +1,4 @@
-use Rattle.std.proofs.Common.{◌≡◌, ◌+◌, ◌≤◌, length}
-use Rattle.std.specs.Str.Lines.{lines}
+use Rattle.dmis_text.proofs.Names.{◌+◌, ◌≡◌, ◌≤◌, length, lines}
 use Rattle.dmis_text.proofs.lines.count_lines.Given as goal
 
 abbrev pub invariant-loop-after : goal.invariant-loop-after

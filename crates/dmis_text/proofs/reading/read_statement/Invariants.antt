@@ -1,6 +1,4 @@
-use Rattle.std.proofs.Common.{◌≡◌, ◌+◌, ◌≤◌, length}
-use Rattle.std.specs.Str.Lines.{lines}
-use Rattle.dmis_text.specs.Reading.{reading_of, reading_with}
+use Rattle.dmis_text.proofs.Names.{◌+◌, ◌≡◌, ◌≤◌, length, lines, reading_of, reading_with}
 use Rattle.dmis_text.proofs.reading.read_statement.Given as goal
 
 abbrev pub invariant-loop-after : goal.invariant-loop-after

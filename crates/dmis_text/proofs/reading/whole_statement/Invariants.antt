@@ -1,6 +1,4 @@
-use Rattle.std.proofs.Common.{◌≡◌, ◌+◌, ◌≤◌, length}
-use Rattle.std.specs.Str.Lines.{lines}
-use Rattle.dmis_text.specs.Reading.{reading_of}
+use Rattle.dmis_text.proofs.Names.{◌+◌, ◌≡◌, ◌≤◌, length, lines, reading_of}
 use Rattle.dmis_text.proofs.reading.whole_statement.Given as goal
 
 abbrev pub invariant-loop-line : goal.invariant-loop-line

@@ -1,6 +1,4 @@
-use Rattle.std.proofs.Common.{arith, ◌∙◌, sym, ap, ◌+◌, ◌-◌, length, take, drop}
-use Rattle.std.proofs.lemmas.List.Sums.{prefix_len-le-length}
-use Rattle.std.proofs.lemmas.List.{length-take}
+use Rattle.dmis_text.proofs.Names.{◌+◌, ◌-◌, ◌∙◌, ap, arith, drop, length, length-take, prefix_len-le-length, sym, take}
 use Rattle.dmis_text.proofs.Lanes.{ends_in_block, goes_behind, ends_in_last}
 use Rattle.dmis_text.proofs.runs.run_end_by_last_block.Goals as goal
 

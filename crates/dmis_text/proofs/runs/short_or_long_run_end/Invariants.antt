@@ -1,5 +1,4 @@
-use Rattle.std.proofs.Common.{◌≡◌, ◌+◌, ◌-◌, ◌≤◌, length, drop}
-use Rattle.std.specs.List.{prefix_len}
+use Rattle.dmis_text.proofs.Names.{◌+◌, ◌-◌, ◌≡◌, ◌≤◌, drop, length, prefix_len}
 use Rattle.dmis_text.proofs.runs.short_or_long_run_end.Given as goal
 
 abbrev pub invariant-loop-at : goal.invariant-loop-at

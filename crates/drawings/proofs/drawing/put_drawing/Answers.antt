@@ -1,6 +1,4 @@
-use Rattle.std.proofs.Common.{◌∙◌, ap, List}
-use Rattle.dmis_program.specs.declared.steps.Step.{Step}
-use Rattle.drawings.specs.Stops.{stops_of}
+use Rattle.drawings.proofs.Names.{◌∙◌, ap, List, Step, stops_of}
 use Rattle.drawings.proofs.drawing.put_drawing.Goals as goal
 
 pub returns : goal.returns

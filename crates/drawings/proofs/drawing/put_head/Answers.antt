@@ -1,5 +1,4 @@
-use Rattle.std.proofs.Common.{◌∙◌, append_assoc}
-use Rattle.std.proofs.lemmas.Result.{on_ok_weaker}
+use Rattle.drawings.proofs.Names.{◌∙◌, append_assoc, on_ok_weaker}
 use Rattle.drawings.specs.Drawing.{head_text}
 use Rattle.drawings.proofs.drawing.put_head.Goals as goal
 

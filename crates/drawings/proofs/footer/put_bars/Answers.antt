@@ -1,5 +1,4 @@
-use Rattle.std.proofs.Common.{◌∙◌, append_assoc, refl, arith}
-use Rattle.std.proofs.lemmas.Result.{on_ok_weaker}
+use Rattle.drawings.proofs.Names.{◌∙◌, append_assoc, arith, on_ok_weaker, refl}
 use Rattle.drawings.specs.Bars.{bars_text}
 use Rattle.drawings.proofs.footer.put_bars.Goals as goal
 

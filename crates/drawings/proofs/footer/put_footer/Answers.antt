@@ -1,6 +1,4 @@
-use Rattle.std.proofs.Common.{◌∙◌, ◌++◌, append_assoc, refl}
-use Rattle.std.proofs.lemmas.Result.{on_ok_weaker}
-use Rattle.drawings.specs.Footer.{legend_marks, legend_words, caption_text, measured_count, asked_count}
+use Rattle.drawings.proofs.Names.{◌++◌, ◌∙◌, append_assoc, asked_count, caption_text, legend_marks, legend_words, measured_count, on_ok_weaker, refl}
 use Rattle.drawings.proofs.footer.put_footer.Goals as goal
 
 pub returns : goal.returns

@@ -1,5 +1,4 @@
-use Rattle.std.proofs.Common.{◌≡◌, ◌+◌, ◌++◌, length}
-use Rattle.drawings.specs.Labels.{anchors_from}
+use Rattle.drawings.proofs.Names.{◌++◌, ◌+◌, ◌≡◌, anchors_from, length}
 use Rattle.drawings.proofs.labels.anchors.Given as goal
 
 -- the anchors so far, and those of the marks that are left, are all anchors

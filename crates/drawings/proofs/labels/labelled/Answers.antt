@@ -1,5 +1,4 @@
-use Rattle.std.proofs.Common.{sym, arith}
-use Rattle.std.proofs.lemmas.List.{take_all, length-take-le}
+use Rattle.drawings.proofs.Names.{arith, length-take-le, sym, take_all}
 use Rattle.drawings.proofs.labels.labelled.Goals as goal
 
 pub slice_bounds-result-end : goal.slice_bounds-result-end

@@ -1,5 +1,4 @@
-use Rattle.std.proofs.Common.{◌∙◌, sym, refl, append-nil}
-use Rattle.drawings.specs.Labels.{labels_at}
+use Rattle.drawings.proofs.Names.{◌∙◌, append-nil, labels_at, refl, sym}
 use Rattle.drawings.proofs.Items.{no_items}
 use Rattle.drawings.proofs.Lines.{lines_for, lines_are_highest}
 use Rattle.drawings.proofs.labels.put_each_label.Goals as goal

@@ -1,5 +1,4 @@
-use Rattle.std.proofs.Common.{◌≡◌, ◌+◌, ◌*◌, ◌≤◌, ◌++◌, length}
-use Rattle.drawings.specs.Labels.{labels_at}
+use Rattle.drawings.proofs.Names.{◌*◌, ◌++◌, ◌+◌, ◌≡◌, ◌≤◌, labels_at, length}
 use Rattle.drawings.proofs.Lines.{lines_for}
 use Rattle.drawings.proofs.labels.put_each_label.Given as goal
 

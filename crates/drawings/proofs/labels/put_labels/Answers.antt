@@ -1,5 +1,4 @@
-use Rattle.std.proofs.Common.{◌-◌, refl, length}
-use Rattle.std.proofs.lemmas.Result.{on_ok_weaker}
+use Rattle.drawings.proofs.Names.{◌-◌, length, on_ok_weaker, refl}
 use Rattle.drawings.specs.Labels.{labels_text}
 use Rattle.drawings.proofs.Lines.{labels_joined}
 use Rattle.drawings.proofs.labels.put_labels.Goals as goal

@@ -1,5 +1,4 @@
-use Rattle.std.proofs.Common.{◌≡◌, drop}
-use Rattle.drawings.specs.Named.{farthest}
+use Rattle.drawings.proofs.Names.{◌≡◌, drop, farthest}
 use Rattle.drawings.proofs.marks.farthest.Given as goal
 
 abbrev pub invariant-loop-touch : goal.invariant-loop-touch

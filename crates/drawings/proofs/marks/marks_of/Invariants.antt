@@ -1,7 +1,5 @@
-use Rattle.std.proofs.Common.{◌≡◌, ◌++◌, length}
-use Rattle.std.specs.List.{AllByRecursion}
+use Rattle.drawings.proofs.Names.{◌++◌, ◌≡◌, AllByRecursion, length, marks_of}
 use Rattle.dmis_program.specs.Programs.{IsFeature}
-use Rattle.drawings.specs.Named.{marks_of}
 use Rattle.drawings.proofs.marks.marks_of.Given as goal
 
 -- the marks so far, and those of the features that are left, are all marks

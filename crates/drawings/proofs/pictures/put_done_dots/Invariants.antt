@@ -1,6 +1,4 @@
-use Rattle.std.proofs.Common.{◌≡◌, ◌++◌, drop}
-use Rattle.std.specs.List.{flat_map}
-use Rattle.drawings.specs.Marks.{done_dot}
+use Rattle.drawings.proofs.Names.{◌++◌, ◌≡◌, done_dot, drop, flat_map}
 use Rattle.drawings.proofs.pictures.put_done_dots.Given as goal
 
 -- the text so far, and that of the stops that are left, is the whole text

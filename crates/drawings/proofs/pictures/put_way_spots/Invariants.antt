@@ -1,6 +1,4 @@
-use Rattle.std.proofs.Common.{◌≡◌, ◌++◌, drop}
-use Rattle.std.specs.List.{flat_map}
-use Rattle.drawings.specs.Marks.{way_spot}
+use Rattle.drawings.proofs.Names.{◌++◌, ◌≡◌, drop, flat_map, way_spot}
 use Rattle.drawings.proofs.pictures.put_way_spots.Given as goal
 
 -- the text so far, and that of the stops that are left, is the whole text

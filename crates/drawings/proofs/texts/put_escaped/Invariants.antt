@@ -1,5 +1,4 @@
-use Rattle.std.proofs.Common.{◌≡◌, ◌++◌, length}
-use Rattle.drawings.specs.Texts.{escaped}
+use Rattle.drawings.proofs.Names.{◌++◌, ◌≡◌, escaped, length}
 use Rattle.drawings.proofs.texts.put_escaped.Given as goal
 
 abbrev pub invariant-loop-left : goal.invariant-loop-left

@@ -1,5 +1,4 @@
-use Rattle.std.proofs.Common.{◌≡◌, ◌-◌, ◌∙◌, sym, true, length, get_or, take, drop, rules, arith}
-use Rattle.std.specs.Char.{is_ascii_digit}
+use Rattle.fixed_um.proofs.Names.{◌-◌, ◌∙◌, ◌≡◌, arith, drop, get_or, is_ascii_digit, length, rules, sym, take, true}
 use Rattle.fixed_um.proofs.DigitLemmas.{digit-from_test, value-digit}
 use Rattle.fixed_um.proofs.FrontLemmas.{four_rest, three_decimals}
 use Rattle.fixed_um.proofs.front.cut_decimals.Goals as goal

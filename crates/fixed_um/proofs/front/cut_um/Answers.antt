@@ -1,8 +1,4 @@
-use Rattle.std.proofs.Common.{◌∙◌, rules, sym, subst, ℤ}
-use Rattle.std.specs.Prelude.{unsigned_abs, FitsSigned}
-use Rattle.std.specs.Int.{w64}
-use Rattle.std.proofs.lemmas.Int.{to_z-of_z}
-use Rattle.fixed_um.specs.Fronts.{BeginsWithLength}
+use Rattle.fixed_um.proofs.Names.{◌∙◌, BeginsWithLength, FitsSigned, rules, subst, sym, to_z-of_z, unsigned_abs, w64, ℤ}
 use Rattle.fixed_um.proofs.FrontLemmas.{length_in_front}
 use Rattle.fixed_um.proofs.front.cut_um.Goals as goal
 

@@ -1,7 +1,4 @@
-use Rattle.std.proofs.Common.{◌≡◌, ◌++◌, ◌≤◌, drop, length}
-use Rattle.std.specs.Prelude.{vec_len, vec_capacity}
-use Rattle.std.specs.List.{list_all}
-use Rattle.fixed_um.specs.Names.{folded, is_name_byte}
+use Rattle.fixed_um.proofs.Names.{◌++◌, ◌≡◌, ◌≤◌, drop, folded, is_name_byte, length, list_all, vec_capacity, vec_len}
 use Rattle.fixed_um.proofs.naming.folded.Given as goal
 
 abbrev pub invariant-loop-index : goal.invariant-loop-index

@@ -1,6 +1,4 @@
-use Rattle.std.proofs.Common.{◌≡◌, sym, subst, rules, codes, List, ℕ, pos, Ok}
-use Rattle.fixed_um.specs.Limits.{component_limit}
-use Rattle.fixed_um.specs.Numerals.{Reads}
+use Rattle.fixed_um.proofs.Names.{◌≡◌, codes, component_limit, List, Ok, pos, Reads, rules, subst, sym, ℕ}
 use Rattle.fixed_um.proofs.WrittenLemmas.{zero_reads, one_reads, zero_digit_reads, one_digit_reads}
 use Rattle.fixed_um.proofs.numerals.component_on_axis.Goals as goal
 

@@ -1,5 +1,4 @@
-use Rattle.std.proofs.Common.{rules, sym, length, ◌≤◌}
-use Rattle.fixed_um.specs.Taken.{the_numeral}
+use Rattle.fixed_um.proofs.Names.{◌≤◌, length, rules, sym, the_numeral}
 use Rattle.fixed_um.proofs.ReadLemmas.{zero_here, zero_long, zero_none}
 use Rattle.fixed_um.proofs.numerals.is_any_zero.Goals as goal
 

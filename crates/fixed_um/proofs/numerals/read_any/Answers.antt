@@ -1,10 +1,5 @@
-use Rattle.std.proofs.Common.{◌≤◌, length, rules, inl, inr, sym, ◌∙◌, ℤ, subst}
-use Rattle.std.specs.Prelude.{unsigned_abs, FitsSigned}
-use Rattle.std.specs.Int.{w64}
-use Rattle.std.proofs.lemmas.Int.{to_z-of_z}
-use Rattle.fixed_um.specs.Numerals.{signed, StandsFor}
-use Rattle.std.proofs.lemmas.Bool.{cases_lt, iff_false}
-use Rattle.fixed_um.specs.Taken.{the_numeral}
+use Rattle.fixed_um.proofs.Names.{◌∙◌, ◌≤◌, cases_lt, FitsSigned, iff_false, inl, inr, length, rules, signed, StandsFor, subst, sym, the_numeral}
+use Rattle.fixed_um.proofs.Names.{to_z-of_z, unsigned_abs, w64, ℤ}
 use Rattle.fixed_um.proofs.GrammarLemmas.{numeral_only, numeral_found}
 use Rattle.fixed_um.proofs.ReadLemmas.{stands}
 use Rattle.fixed_um.proofs.RoundingLemmas.{abs-signed}

@@ -1,8 +1,4 @@
-use Rattle.std.proofs.Common.{◌≤◌, rules, sym, ◌∙◌, ℤ, subst}
-use Rattle.std.specs.Prelude.{unsigned_abs, FitsSigned}
-use Rattle.std.specs.Int.{w64}
-use Rattle.std.proofs.lemmas.Int.{to_z-of_z}
-use Rattle.fixed_um.specs.Numerals.{signed, StandsFor}
+use Rattle.fixed_um.proofs.Names.{◌∙◌, ◌≤◌, FitsSigned, rules, signed, StandsFor, subst, sym, to_z-of_z, unsigned_abs, w64, ℤ}
 use Rattle.fixed_um.proofs.PlainLemmas.{plain_stands}
 use Rattle.fixed_um.proofs.RoundingLemmas.{abs-signed}
 use Rattle.fixed_um.proofs.numerals.read_scaled.Goals as goal

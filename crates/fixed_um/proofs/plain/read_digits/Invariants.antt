@@ -1,6 +1,4 @@
-use Rattle.std.proofs.Common.{◌≡◌, drop}
-use Rattle.std.specs.Str.Parse.{digits_value_after}
-use Rattle.fixed_um.specs.Scan.{digits_front, digits_behind}
+use Rattle.fixed_um.proofs.Names.{◌≡◌, digits_behind, digits_front, digits_value_after, drop}
 use Rattle.fixed_um.proofs.plain.read_digits.Given as goal
 
 abbrev pub invariant-loop-index : goal.invariant-loop-index

@@ -1,5 +1,4 @@
-use Rattle.std.proofs.Common.{◌≡◌, ◌-◌, length, get_or, take, drop, sym, ◌∙◌, refl, arith, rules}
-use Rattle.std.proofs.lemmas.Bool.{eqb-true}
+use Rattle.fixed_um.proofs.Names.{◌-◌, ◌∙◌, ◌≡◌, arith, drop, eqb-true, get_or, length, refl, rules, sym, take}
 use Rattle.fixed_um.proofs.PlainLemmas.{whole_fits, fraction_fits, whole_is_plain, fraction_is_plain, pointed_rest, no_rest}
 use Rattle.fixed_um.proofs.plain.read_plain.Goals as goal
 

@@ -1,5 +1,4 @@
-use Rattle.std.proofs.Common.{arith}
-use Rattle.std.proofs.Math.Nat.{one-le-pow}
+use Rattle.fixed_um.proofs.Names.{arith, one-le-pow}
 use Rattle.fixed_um.proofs.rounding.scaled_down.Goals as goal
 
 pub rounded_quotient-requires-clause-some : goal.rounded_quotient-requires-clause-some

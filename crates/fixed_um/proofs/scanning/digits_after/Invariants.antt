@@ -1,5 +1,4 @@
-use Rattle.std.proofs.Common.{◌≡◌, drop}
-use Rattle.std.specs.Str.Parse.{AllDigits, digits_value_after}
+use Rattle.fixed_um.proofs.Names.{◌≡◌, AllDigits, digits_value_after, drop}
 use Rattle.fixed_um.proofs.scanning.digits_after.Given as goal
 
 abbrev pub invariant-loop-digit : goal.invariant-loop-digit

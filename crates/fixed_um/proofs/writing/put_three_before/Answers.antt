@@ -1,6 +1,4 @@
-use Rattle.std.proofs.Common.{◌≡◌, ◌∷◌, ◌++◌, drop, ap, sym, ◌∙◌, arith}
-use Rattle.std.proofs.lemmas.List.{drop-drop}
-use Rattle.fixed_um.specs.Written.{three_digits}
+use Rattle.fixed_um.proofs.Names.{◌++◌, ◌∙◌, ◌∷◌, ◌≡◌, ap, arith, drop, drop-drop, sym, three_digits}
 use Rattle.fixed_um.proofs.WrittenLemmas.{three_behind_one, three_behind_one-length}
 use Rattle.fixed_um.proofs.writing.put_three_before.Goals as goal
 

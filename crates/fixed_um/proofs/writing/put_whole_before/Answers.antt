@@ -1,7 +1,4 @@
-use Rattle.std.proofs.Common.{◌≡◌, ◌+◌, ◌-◌, ◌<ℤ◌, ℤ, pos, negsuc, refl, arith, codes, length-set, rules}
-use Rattle.std.proofs.lemmas.Int.{ints}
-use Rattle.std.proofs.lemmas.List.{drop-set}
-use Rattle.fixed_um.specs.Written.{minus_sign}
+use Rattle.fixed_um.proofs.Names.{◌+◌, ◌-◌, ◌<ℤ◌, ◌≡◌, arith, codes, drop-set, ints, length-set, minus_sign, negsuc, pos, refl, rules, ℤ}
 use Rattle.fixed_um.proofs.WrittenLemmas.{whole-short}
 use Rattle.fixed_um.proofs.writing.put_whole_before.Goals as goal
 

@@ -1,5 +1,4 @@
-use Rattle.std.proofs.Common.{◌≡◌, ◌∙◌, sym, ap, rules, pos, negsuc}
-use Rattle.fixed_um.specs.Written.{written_component}
+use Rattle.fixed_um.proofs.Names.{◌∙◌, ◌≡◌, ap, negsuc, pos, rules, sym, written_component}
 use Rattle.fixed_um.proofs.WrittenLemmas.{zero_component, one_component, minus_one_component}
 use Rattle.fixed_um.proofs.writing.text_on_axis.Goals as goal
 

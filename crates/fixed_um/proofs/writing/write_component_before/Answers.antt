@@ -1,7 +1,4 @@
-use Rattle.std.proofs.Common.{append_assoc, rules}
-use Rattle.std.specs.Prelude.{FitsSigned}
-use Rattle.std.specs.Int.{w64}
-use Rattle.std.proofs.lemmas.Int.{to_z-of_z}
+use Rattle.fixed_um.proofs.Names.{append_assoc, FitsSigned, rules, to_z-of_z, w64}
 use Rattle.fixed_um.specs.Written.{written_component}
 use Rattle.fixed_um.proofs.writing.write_component_before.Goals as goal
 

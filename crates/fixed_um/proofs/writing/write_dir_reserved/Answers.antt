@@ -1,8 +1,4 @@
-use Rattle.std.proofs.Common.{◌≡◌, ◌∙◌, ℤ, to_z, of_z, append_assoc, rules, refl, ap}
-use Rattle.std.specs.Prelude.{FitsSigned}
-use Rattle.std.specs.Int.{w32, w64}
-use Rattle.std.proofs.lemmas.Int.{to_z-of_z}
-use Rattle.fixed_um.specs.Shapes.{Direction}
+use Rattle.fixed_um.proofs.Names.{◌∙◌, ◌≡◌, ap, append_assoc, Direction, FitsSigned, of_z, refl, rules, to_z, to_z-of_z, w32, w64, ℤ}
 use Rattle.fixed_um.proofs.writing.write_dir_reserved.Goals as goal
 
 -- a component that is widened and handed on is the component

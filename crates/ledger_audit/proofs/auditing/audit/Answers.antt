@@ -1,7 +1,5 @@
-use Rattle.std.proofs.Common.{◌≡◌, ℕ, ◌≤◌, ◌+◌, ◌++◌, List, [], ◌∷◌, length, take, rules, arith, sym, subst}
-use Rattle.dmis_program.specs.declared.features.Wanted.{Wanted}
-use Rattle.protocol_model.specs.Claims.{contacts}
-use Rattle.ledger_audit.specs.Verdicts.{AreFewestUnsound, IsFirstRun, HasNoRun}
+use Rattle.ledger_audit.proofs.Names.{[], ◌++◌, ◌+◌, ◌∷◌, ◌≡◌, ◌≤◌, AreFewestUnsound, arith, contacts, HasNoRun, IsFirstRun, length, List, rules}
+use Rattle.ledger_audit.proofs.Names.{subst, sym, take, Wanted, ℕ}
 use Rattle.ledger_audit.proofs.Greedy.{AreEarliest, all_unsound, passed_push, passed_stuck, passed_spent}
 use Rattle.ledger_audit.proofs.auditing.audit.Goals as goal
 

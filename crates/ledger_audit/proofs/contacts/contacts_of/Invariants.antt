@@ -1,5 +1,4 @@
-use Rattle.std.proofs.Common.{◌≡◌, ◌++◌, drop}
-use Rattle.protocol_model.specs.Claims.{contacts}
+use Rattle.ledger_audit.proofs.Names.{◌++◌, ◌≡◌, contacts, drop}
 use Rattle.ledger_audit.proofs.contacts.contacts_of.Given as goal
 
 -- the contacts collected so far, and those of the acts that are left

@@ -1,5 +1,4 @@
-use Rattle.std.proofs.Common.{length, ◌-◌, ◌≤◌, ◌+◌}
-use Rattle.ledger_audit.specs.Shifts.{Begins, HasNoneBetween}
+use Rattle.ledger_audit.proofs.Names.{◌+◌, ◌-◌, ◌≤◌, Begins, HasNoneBetween, length}
 use Rattle.ledger_audit.proofs.runs.first_served.Given as goal
 
 -- the contacts of the search serve the first touches, and no start before serves all

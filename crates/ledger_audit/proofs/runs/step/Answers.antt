@@ -1,6 +1,5 @@
-use Rattle.std.proofs.Common.{◌≡◌, ℕ, ◌+◌, ◌-◌, ◌≤◌, ◌<◌, length, slice_index_or, rules, arith, subst}
-use Rattle.std.specs.Prelude.{Some}
-use Rattle.ledger_audit.specs.Shifts.{asked_at, contact_at, connection_by, IsLeastShift, Begins}
+use Rattle.ledger_audit.proofs.Names.{◌+◌, ◌-◌, ◌<◌, ◌≡◌, ◌≤◌, arith, asked_at, Begins, connection_by, contact_at, IsLeastShift, length, rules}
+use Rattle.ledger_audit.proofs.Names.{slice_index_or, Some, subst, ℕ}
 use Rattle.ledger_audit.proofs.ShiftLaws.{shift_most}
 use Rattle.ledger_audit.proofs.SearchLaws.{contact_read, connection_read, fits_by, unfit_by, begins_more, begins_moved, moved_none, crossed_none}
 use Rattle.ledger_audit.proofs.runs.step.Goals as goal

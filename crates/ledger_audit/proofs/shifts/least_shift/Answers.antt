@@ -1,5 +1,4 @@
-use Rattle.std.proofs.Common.{◌≡◌, ◌+◌, ◌-◌, ◌<◌, ◌≤◌, length, slice_index_or, rules, arith}
-use Rattle.ledger_audit.specs.Shifts.{asked_at, IsLeastShift}
+use Rattle.ledger_audit.proofs.Names.{◌+◌, ◌-◌, ◌<◌, ◌≡◌, ◌≤◌, arith, asked_at, IsLeastShift, length, rules, slice_index_or}
 use Rattle.ledger_audit.proofs.ShiftLaws.{shift_most, candidate_moved}
 use Rattle.ledger_audit.proofs.shifts.least_shift.Goals as goal
 

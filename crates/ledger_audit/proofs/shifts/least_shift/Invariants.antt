@@ -1,5 +1,4 @@
-use Rattle.std.proofs.Common.{length, ◌-◌}
-use Rattle.ledger_audit.specs.Shifts.{asked_at, IsCandidate}
+use Rattle.ledger_audit.proofs.Names.{◌-◌, asked_at, IsCandidate, length}
 use Rattle.ledger_audit.proofs.shifts.least_shift.Given as goal
 
 abbrev pub invariant-loop-shift : goal.invariant-loop-shift

@@ -1,5 +1,4 @@
-use Rattle.std.proofs.Common.{length, ◌-◌, ◌≤◌}
-use Rattle.ledger_audit.specs.Shifts.{asked_at, IsCandidate, AreShifts}
+use Rattle.ledger_audit.proofs.Names.{◌-◌, ◌≤◌, AreShifts, asked_at, IsCandidate, length}
 use Rattle.ledger_audit.proofs.shifts.shifts_of.Given as goal
 
 -- the shifts so far, and a candidate for the next one

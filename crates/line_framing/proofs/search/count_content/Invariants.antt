@@ -1,5 +1,4 @@
-use Rattle.std.proofs.Common.{◌≡◌, ◌+◌, ◌-◌, ◌≤◌, length, drop}
-use Rattle.line_framing.specs.Next.{content_len}
+use Rattle.line_framing.proofs.Names.{◌+◌, ◌-◌, ◌≡◌, ◌≤◌, content_len, drop, length}
 use Rattle.line_framing.proofs.search.count_content.Given as goal
 
 abbrev pub invariant-loop-at : goal.invariant-loop-at

@@ -1,7 +1,5 @@
-use Rattle.std.proofs.Common.{refl}
-use Rattle.std.proofs.lemmas.Simd.{zip2_splat, length-chunk}
+use Rattle.line_framing.proofs.Names.{is_content, length-chunk, refl, zip2_splat}
 use lib.Lanes.{chunk}
-use Rattle.line_framing.specs.Content.{is_content}
 use Rattle.line_framing.proofs.Lanes.{of_both, run_of}
 use Rattle.line_framing.proofs.search.count_in_lanes.Goals as goal
 

@@ -1,6 +1,5 @@
-use Rattle.std.proofs.Common.{◌≡◌, ◌++◌, ◌∷◌, [], length}
+use Rattle.program_review.proofs.Names.{[], ◌++◌, ◌∷◌, ◌≡◌, array_tokens, findings_tokens, length, names_of}
 use Rattle.json.specs.Token.{end_array}
-use Rattle.program_review.specs.Printed.{names_of, findings_tokens, array_tokens}
 use Rattle.program_review.proofs.printing.array_text.Given as goal
 
 abbrev pub invariant-loop-left : goal.invariant-loop-left

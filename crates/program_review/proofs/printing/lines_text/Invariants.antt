@@ -1,5 +1,4 @@
-use Rattle.std.proofs.Common.{◌≡◌, ◌++◌, length}
-use Rattle.program_review.specs.Printed.{names_of, finding_lines}
+use Rattle.program_review.proofs.Names.{◌++◌, ◌≡◌, finding_lines, length, names_of}
 use Rattle.program_review.proofs.printing.lines_text.Given as goal
 
 abbrev pub invariant-loop-left : goal.invariant-loop-left

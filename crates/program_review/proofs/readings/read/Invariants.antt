@@ -1,5 +1,4 @@
-use Rattle.std.proofs.Common.{◌≡◌, ◌++◌, length}
-use Rattle.dmis_text.specs.Reading.{text_reading}
+use Rattle.program_review.proofs.Names.{◌++◌, ◌≡◌, length, text_reading}
 use Rattle.program_review.proofs.readings.read.Given as goal
 
 -- the statements so far and those that are left are all of them

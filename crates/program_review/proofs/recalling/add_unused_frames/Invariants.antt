@@ -1,7 +1,4 @@
-use Rattle.std.proofs.Common.{◌≡◌, ◌++◌, ◌+◌, ◌≤◌, length}
-use Rattle.std.specs.Str.Lines.{lines}
-use Rattle.program_review.specs.Findings.{remarks_in}
-use Rattle.program_review.specs.UnusedFrames.{unused_from}
+use Rattle.program_review.proofs.Names.{◌++◌, ◌+◌, ◌≡◌, ◌≤◌, length, lines, remarks_in, unused_from}
 use Rattle.program_review.proofs.recalling.add_unused_frames.Given as goal
 
 -- the remarks so far, and those of what is left

@@ -1,5 +1,4 @@
-use Rattle.std.proofs.Common.{◌≡◌, ◌++◌, length}
-use Rattle.program_review.specs.UnusedFrames.{names_recalled}
+use Rattle.program_review.proofs.Names.{◌++◌, ◌≡◌, length, names_recalled}
 use Rattle.program_review.proofs.recalling.recalled_names.Given as goal
 
 -- the names so far, and those of what is left

@@ -1,5 +1,4 @@
-use Rattle.std.proofs.Common.{◌≡◌, ◌++◌, [], length}
-use Rattle.program_review.specs.Refusals.{at_start, refusals_from}
+use Rattle.program_review.proofs.Names.{[], ◌++◌, ◌≡◌, at_start, length, refusals_from}
 use Rattle.program_review.proofs.refusals.refusals.Given as goal
 
 -- what was found so far, and what is to be found in the statements left

@@ -1,5 +1,4 @@
-use Rattle.std.proofs.Common.{◌≡◌, ◌++◌, drop}
-use Rattle.program_review.specs.Remarks.{merged}
+use Rattle.program_review.proofs.Names.{◌++◌, ◌≡◌, drop, merged}
 use Rattle.program_review.proofs.remarks.merged.Given as goal
 
 abbrev pub invariant-loop-remark : goal.invariant-loop-remark

@@ -1,5 +1,4 @@
-use Rattle.std.proofs.Common.{◌≡◌, ◌++◌, length}
-use Rattle.program_review.specs.Remarks.{above, not_above}
+use Rattle.program_review.proofs.Names.{◌++◌, ◌≡◌, above, length, not_above}
 use Rattle.program_review.proofs.remarks.push_above.Given as goal
 
 abbrev pub invariant-loop-left : goal.invariant-loop-left

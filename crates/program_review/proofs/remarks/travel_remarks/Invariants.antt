@@ -1,5 +1,4 @@
-use Rattle.std.proofs.Common.{◌≡◌, map, take}
-use Rattle.program_review.specs.Remarks.{travel_remark}
+use Rattle.program_review.proofs.Names.{◌≡◌, map, take, travel_remark}
 use Rattle.program_review.proofs.remarks.travel_remarks.Given as goal
 
 abbrev pub invariant-loop-one : goal.invariant-loop-one

@@ -1,5 +1,4 @@
-use Rattle.std.proofs.Common.{◌≡◌, ◌++◌, length}
-use Rattle.program_review.specs.Remarks.{with_counts}
+use Rattle.program_review.proofs.Names.{◌++◌, ◌≡◌, length, with_counts}
 use Rattle.program_review.proofs.remarks.with_counts.Given as goal
 
 -- the remarks so far, and those of what is left

@@ -1,5 +1,4 @@
-use Rattle.std.proofs.Common.{◌≡◌, ◌++◌, length}
-use Rattle.program_review.specs.Findings.{remarks_in}
+use Rattle.program_review.proofs.Names.{◌++◌, ◌≡◌, length, remarks_in}
 use Rattle.program_review.specs.Summary.{order, sums_in}
 use Rattle.program_review.proofs.summary.add_summary.Given as goal
 

@@ -1,6 +1,4 @@
-use Rattle.std.proofs.Common.{◌≡◌, ◌++◌, drop}
-use Rattle.std.specs.List.{flat_map}
-use Rattle.program_review.specs.TaskLines.{command_lines_of, lines_of}
+use Rattle.program_review.proofs.Names.{◌++◌, ◌≡◌, command_lines_of, drop, flat_map, lines_of}
 use Rattle.program_review.proofs.tasks.command_lines.Given as goal
 
 -- the lines so far, and those of the tasks that are left

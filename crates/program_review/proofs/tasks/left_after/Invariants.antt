@@ -1,5 +1,4 @@
-use Rattle.std.proofs.Common.{◌≡◌, None, length}
-use Rattle.program_review.specs.TaskLines.{after_touch, frame_line, tool_line, up_to_touch}
+use Rattle.program_review.proofs.Names.{◌≡◌, after_touch, frame_line, length, None, tool_line, up_to_touch}
 use Rattle.program_review.proofs.tasks.left_after.Given as goal
 
 -- what is left of the tasks gives what is left of all of them, and selects what they select

@@ -1,6 +1,4 @@
-use Rattle.std.proofs.Common.{◌≡◌, ◌++◌, length}
-use Rattle.dmis_text.specs.Reading.{text_reading}
-use Rattle.program_review.specs.TaskLines.{task_lines_of}
+use Rattle.program_review.proofs.Names.{◌++◌, ◌≡◌, length, task_lines_of, text_reading}
 use Rattle.program_review.proofs.tasks.task_lines.Given as goal
 
 -- the tasks so far, and those of what is left

@@ -1,5 +1,4 @@
-use Rattle.std.proofs.Common.{◌≡◌, None, length}
-use Rattle.program_review.specs.TaskLines.{last_line, up_to_touch}
+use Rattle.program_review.proofs.Names.{◌≡◌, last_line, length, None, up_to_touch}
 use Rattle.program_review.proofs.texts.last_done.Given as goal
 
 -- the last of what is left is the last of all

@@ -1,6 +1,4 @@
-use Rattle.std.proofs.Common.{◌≡◌, ◌++◌, map, length}
-use Rattle.dmis_text.specs.Reading.{text_reading}
-use Rattle.program_review.specs.Texts.{text_seen, texts_from, texts_of}
+use Rattle.program_review.proofs.Names.{◌++◌, ◌≡◌, length, map, text_reading, text_seen, texts_from, texts_of}
 use Rattle.program_review.proofs.texts.operator_texts.Given as goal
 
 -- the texts so far, and those of what is left

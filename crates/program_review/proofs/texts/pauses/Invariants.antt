@@ -1,5 +1,4 @@
-use Rattle.std.proofs.Common.{◌≡◌, ◌++◌, drop, map}
-use Rattle.program_review.specs.Texts.{pauses_from, pauses_of, place_seen}
+use Rattle.program_review.proofs.Names.{◌++◌, ◌≡◌, drop, map, pauses_from, pauses_of, place_seen}
 use Rattle.program_review.proofs.texts.pauses.Given as goal
 
 -- the pauses so far, and those of the places that are left

@@ -1,5 +1,4 @@
-use Rattle.std.proofs.Common.{◌≡◌, ◌++◌, drop, map}
-use Rattle.program_review.specs.Texts.{place_seen, places_below, places_of, text_seen}
+use Rattle.program_review.proofs.Names.{◌++◌, ◌≡◌, drop, map, place_seen, places_below, places_of, text_seen}
 use Rattle.program_review.proofs.texts.text_places.Given as goal
 
 -- the places so far, and those of the texts that are left

@@ -1,5 +1,4 @@
-use Rattle.std.proofs.Common.{◌≡◌, length}
-use Rattle.program_review.specs.Travels.{is_above}
+use Rattle.program_review.proofs.Names.{◌≡◌, is_above, length}
 use Rattle.program_review.proofs.travels.is_above.Given as goal
 
 -- a line is above the first of what is left exactly if it is above the first of all

@@ -1,5 +1,4 @@
-use Rattle.std.proofs.Common.{◌≡◌, ◌++◌, length}
-use Rattle.program_review.specs.Travels.{at_home, legs_from}
+use Rattle.program_review.proofs.Names.{◌++◌, ◌≡◌, at_home, legs_from, length}
 use Rattle.program_review.proofs.travels.legs_of.Given as goal
 
 -- the ways so far, and those of what is left

@@ -1,5 +1,4 @@
-use Rattle.std.proofs.Common.{◌≡◌, ◌++◌, length}
-use Rattle.program_review.specs.Travels.{travels_in}
+use Rattle.program_review.proofs.Names.{◌++◌, ◌≡◌, length, travels_in}
 use Rattle.program_review.proofs.travels.travels_in.Given as goal
 
 -- the travels so far, and those of what is left

@@ -1,11 +1,10 @@
-use Rattle.std.proofs.Common.{◌≡◌, List, ℕ, ℤ, pos, Result, sym, ◌∙◌, ap}
-use Rattle.std.specs.Prelude.{unsigned_abs}
+use Rattle.program_review.proofs.Names.{◌∙◌, ◌≡◌, ap, is_fault, List, pos, Result, sym, unsigned_abs, ℕ, ℤ}
 use Rattle.fixed_um.specs.Limits.{volume_limit}
 use Rattle.fixed_um.specs.Computed.{value_of}
 use Rattle.fixed_um.specs.Numerals.{Reads}
 use Rattle.fixed_um.specs.declared.numerals.NumeralFault.{NumeralFault}
 use Rattle.fixed_um.proofs.ComputedLemmas.{value_of-is}
-use Rattle.program_review.specs.Variables.{is_fault, is_no_length}
+use Rattle.program_review.specs.Variables.{is_no_length}
 use Rattle.program_review.proofs.variables.is_no_length.Goals as goal
 
 is_no_length-is : (text : List ℕ) (limit : ℤ) (r : Result ℤ NumeralFault) → limit ≡ pos volume_limit → Reads 3 (unsigned_abs limit) text r

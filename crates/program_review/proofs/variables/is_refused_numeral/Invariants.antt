@@ -1,5 +1,4 @@
-use Rattle.std.proofs.Common.{◌≡◌, find, length}
-use Rattle.program_review.specs.Variables.{is_no_length, is_named}
+use Rattle.program_review.proofs.Names.{◌≡◌, find, is_named, is_no_length, length}
 use Rattle.program_review.proofs.variables.is_refused_numeral.Given as goal
 
 -- those that are passed are lengths

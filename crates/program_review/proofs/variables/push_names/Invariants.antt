@@ -1,5 +1,4 @@
-use Rattle.std.proofs.Common.{◌≡◌, ◌++◌, length}
-use Rattle.program_review.specs.Variables.{names_in}
+use Rattle.program_review.proofs.Names.{◌++◌, ◌≡◌, length, names_in}
 use Rattle.program_review.proofs.variables.push_names.Given as goal
 
 -- the names so far, and those of what is left

@@ -1,5 +1,4 @@
-use Rattle.std.proofs.Common.{◌≡◌, take}
-use Rattle.program_review.specs.Findings.{remarks_in}
+use Rattle.program_review.proofs.Names.{◌≡◌, remarks_in, take}
 use Rattle.program_review.proofs.walking.findings_in.Given as goal
 
 abbrev pub invariant-loop-remark : goal.invariant-loop-remark

@@ -4,9 +4,7 @@ use Rattle.protocol_model.proofs.worked_rows.LedgerRefused.{other_point_is_none,
 use Rattle.protocol_model.proofs.worked_rows.LedgerRefused.{fewer_points_are_none, no_points_are_none, more_points_are_none}
 use Rattle.protocol_model.proofs.worked_rows.LedgerRefused.{exchanged_points_are_none, no_contact_is_none, more_features_are_none, both_are}
 use Rattle.protocol_model.proofs.worked_rows.LedgerRefused.{first_left_out_is_none}
-use Rattle.fixed_um.specs.declared.frames.Frame.TheVariants.{Part}
-use Rattle.std.proofs.Common.{Some}
-use Rattle.protocol_model.specs.Examples.{part}
+use Rattle.protocol_model.proofs.Names.{Part, part, Some}
 use Rattle.protocol_model.proofs.ledger_rows.feature_rows.Goals as goal
 
 pub returns-clause-right : goal.returns-clause-right

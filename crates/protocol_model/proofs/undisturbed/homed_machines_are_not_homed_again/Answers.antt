@@ -1,6 +1,5 @@
 -- A machine that is homed is not homed again.
-use Rattle.std.proofs.Common.{refl}
-use Rattle.protocol_model.specs.Plan.{plan}
+use Rattle.protocol_model.proofs.Names.{plan, refl}
 use Rattle.protocol_model.proofs.undisturbed_run.UndisturbedRun.{homed_lines, no_homings}
 use Rattle.protocol_model.proofs.undisturbed.homed_machines_are_not_homed_again.Goals as goal
 

@@ -1,5 +1,4 @@
-use Rattle.std.proofs.Common.{◌≡◌, ℕ, ◌<◌, ◌≤◌, ◌≢◌, length}
-use Rattle.std.specs.Prelude.{slice_index}
+use Rattle.refusal_guide.proofs.Names.{◌<◌, ◌≡◌, ◌≢◌, ◌≤◌, length, slice_index, ℕ}
 use Rattle.refusal_guide.proofs.arguments.last_apostrophe.Given as goal
 
 -- the bytes from `end` on are no apostrophes

@@ -1,5 +1,4 @@
-use Rattle.std.proofs.Common.{◌≡◌, length}
-use Rattle.refusal_guide.specs.BadBytes.{line_of_last}
+use Rattle.refusal_guide.proofs.Names.{◌≡◌, length, line_of_last}
 use Rattle.refusal_guide.proofs.bad_bytes.last_line.Given as goal
 
 -- the line of the last so far, or of the last of those that are left

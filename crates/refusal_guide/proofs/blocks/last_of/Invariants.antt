@@ -1,5 +1,4 @@
-use Rattle.std.proofs.Common.{◌≡◌, length, None}
-use Rattle.std.specs.List.{last_or}
+use Rattle.refusal_guide.proofs.Names.{◌≡◌, last_or, length, None}
 use Rattle.refusal_guide.proofs.blocks.last_of.Given as goal
 
 -- the last so far and those that are left are all of them

@@ -1,7 +1,4 @@
-use Rattle.std.proofs.Common.{◌∷◌, sym, ◌∙◌, ap}
-use Rattle.std.specs.Option.{option_map}
-use Rattle.dmis_text.specs.Reading.{Unread}
-use Rattle.refusal_guide.specs.Blocks.{opened_by}
+use Rattle.refusal_guide.proofs.Names.{◌∙◌, ◌∷◌, ap, opened_by, option_map, sym, Unread}
 use Rattle.refusal_guide.proofs.BlockLemmas.{block_step}
 use Rattle.refusal_guide.proofs.blocks.open_block.Goals as goal
 

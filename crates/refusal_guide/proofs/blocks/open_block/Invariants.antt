@@ -1,7 +1,4 @@
-use Rattle.std.proofs.Common.{◌≡◌, length, None}
-use Rattle.std.specs.Prelude.{fold}
-use Rattle.std.specs.Option.{option_map}
-use Rattle.refusal_guide.specs.Blocks.{opened_by, block_after, above_line, open_block}
+use Rattle.refusal_guide.proofs.Names.{◌≡◌, above_line, block_after, fold, length, None, open_block, opened_by, option_map}
 use Rattle.refusal_guide.proofs.blocks.open_block.Given as goal
 
 -- the block so far, followed by the statements that are left

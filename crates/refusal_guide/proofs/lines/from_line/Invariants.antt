@@ -1,6 +1,4 @@
-use Rattle.std.proofs.Common.{◌≡◌, ◌-◌}
-use Rattle.std.specs.Str.Lines.{lines}
-use Rattle.refusal_guide.specs.Lines.{after_feeds}
+use Rattle.refusal_guide.proofs.Names.{◌-◌, ◌≡◌, after_feeds, lines}
 use Rattle.refusal_guide.proofs.LineSteps.{IsPassed}
 use Rattle.refusal_guide.proofs.lines.from_line.Given as goal
 

@@ -1,6 +1,4 @@
-use Rattle.std.proofs.Common.{◌≡◌, ◌++◌, string_bytes, drop}
-use Rattle.std.specs.List.{flat_map}
-use Rattle.refusal_guide.specs.Lines.{visible_in_line}
+use Rattle.refusal_guide.proofs.Names.{◌++◌, ◌≡◌, drop, flat_map, string_bytes, visible_in_line}
 use Rattle.refusal_guide.proofs.lines.push_line.Given as goal
 
 -- what is written and what is left are all bytes

@@ -1,11 +1,6 @@
-use Rattle.std.proofs.Common.{◌≡◌, List, ℕ, ℤ, pos, Result, sym, ◌∙◌, ap}
-use Rattle.std.specs.Prelude.{unsigned_abs}
-use Rattle.fixed_um.specs.Limits.{volume_limit}
-use Rattle.fixed_um.specs.Computed.{value_of}
-use Rattle.fixed_um.specs.Numerals.{Reads}
-use Rattle.fixed_um.specs.declared.numerals.NumeralFault.{NumeralFault}
-use Rattle.fixed_um.proofs.ComputedLemmas.{value_of-is}
-use Rattle.refusal_guide.specs.Lengths.{fault_in, length_fault}
+use Rattle.refusal_guide.proofs.Names.{◌∙◌, ◌≡◌, ap, fault_in, List, NumeralFault, pos, Reads, Result, sym, unsigned_abs, value_of, value_of-is}
+use Rattle.refusal_guide.proofs.Names.{volume_limit, ℕ, ℤ}
+use Rattle.refusal_guide.specs.Lengths.{length_fault}
 use Rattle.refusal_guide.proofs.numerals.length_fault.Goals as goal
 
 length_fault-is : (text : List ℕ) (limit : ℤ) (r : Result ℤ NumeralFault) → limit ≡ pos volume_limit → Reads 3 (unsigned_abs limit) text r

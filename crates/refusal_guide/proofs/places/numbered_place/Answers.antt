@@ -1,5 +1,4 @@
-use Rattle.std.proofs.lemmas.Result.{IfOk-weaker}
-use Rattle.refusal_guide.specs.Words.{caused_by}
+use Rattle.refusal_guide.proofs.Names.{caused_by, IfOk-weaker}
 use Rattle.refusal_guide.proofs.PlaceLemmas.{placed}
 use Rattle.refusal_guide.proofs.places.numbered_place.Goals as goal
 

@@ -1,8 +1,4 @@
-use Rattle.std.proofs.Common.{sym, ◌∙◌}
-use Rattle.std.specs.Option.{option_map}
-use Rattle.std.proofs.lemmas.Result.{IfOk-weaker}
-use Rattle.refusal_guide.specs.Words.{caused_by}
-use Rattle.refusal_guide.specs.Reasons.{spot_at}
+use Rattle.refusal_guide.proofs.Names.{◌∙◌, caused_by, IfOk-weaker, option_map, spot_at, sym}
 use Rattle.refusal_guide.proofs.ReasonLemmas.{on_statement, on_line}
 use Rattle.refusal_guide.proofs.programs.place_reason.Goals as goal
 

@@ -1,5 +1,4 @@
-use Rattle.std.proofs.lemmas.Result.{IfOk-weaker}
-use Rattle.refusal_guide.specs.Reasons.{spot_at}
+use Rattle.refusal_guide.proofs.Names.{IfOk-weaker, spot_at}
 use Rattle.refusal_guide.proofs.ReasonLemmas.{reasoned}
 use Rattle.refusal_guide.proofs.programs.program_reason.Goals as goal
 

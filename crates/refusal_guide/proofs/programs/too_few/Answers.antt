@@ -1,6 +1,4 @@
-use Rattle.std.proofs.Common.{◌∙◌, ap, sym, Some}
-use Rattle.std.specs.Option.{option_map}
-use Rattle.refusal_guide.specs.Blocks.{opened_by}
+use Rattle.refusal_guide.proofs.Names.{◌∙◌, ap, opened_by, option_map, Some, sym}
 use Rattle.refusal_guide.specs.Causes.{few_touches}
 use Rattle.refusal_guide.proofs.programs.too_few.Goals as goal
 

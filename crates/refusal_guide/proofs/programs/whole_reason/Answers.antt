@@ -1,7 +1,4 @@
-use Rattle.std.proofs.Common.{subst}
-use Rattle.std.proofs.lemmas.Result.{IfOk-weaker}
-use Rattle.refusal_guide.specs.Words.{caused_by}
-use Rattle.refusal_guide.specs.Reasons.{Spot, IsProgramReason}
+use Rattle.refusal_guide.proofs.Names.{caused_by, IfOk-weaker, IsProgramReason, Spot, subst}
 use Rattle.refusal_guide.proofs.ReasonLemmas.{spot_is}
 use Rattle.refusal_guide.proofs.programs.whole_reason.Goals as goal
 

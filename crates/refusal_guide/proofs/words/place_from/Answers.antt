@@ -1,5 +1,4 @@
-use Rattle.std.proofs.Common.{◌≡◌, true, rules, sym, arith}
-use Rattle.refusal_guide.specs.Words.{is_at}
+use Rattle.refusal_guide.proofs.Names.{◌≡◌, arith, is_at, rules, sym, true}
 use Rattle.refusal_guide.proofs.Searches.{found_first, found_none}
 use Rattle.refusal_guide.proofs.words.place_from.Goals as goal
 

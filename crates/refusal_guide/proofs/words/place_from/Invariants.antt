@@ -1,5 +1,4 @@
-use Rattle.std.proofs.Common.{◌≡◌, ℕ, ◌<◌, ◌≤◌, false}
-use Rattle.refusal_guide.specs.Words.{is_at}
+use Rattle.refusal_guide.proofs.Names.{◌<◌, ◌≡◌, ◌≤◌, false, is_at, ℕ}
 use Rattle.refusal_guide.proofs.words.place_from.Given as goal
 
 -- the bytes are at no place so far

@@ -1,5 +1,4 @@
-use Rattle.std.proofs.Common.{length}
-use Rattle.resume_plan.specs.Made.{planned_with}
+use Rattle.resume_plan.proofs.Names.{length, planned_with}
 use Rattle.resume_plan.proofs.PlansMade.{IsPlan}
 use Rattle.resume_plan.proofs.planning.plan.Given as goal
 

@@ -1,6 +1,4 @@
-use Rattle.std.proofs.Common.{◌≡◌, drop}
-use Rattle.dmis_program.specs.Meaning.{block_touches}
-use Rattle.protocol_model.specs.Plan.{is_empty}
+use Rattle.resume_plan.proofs.Names.{◌≡◌, block_touches, drop, is_empty}
 use Rattle.resume_plan.proofs.position.ends_feature.Given as goal
 
 -- no touch and no end was passed

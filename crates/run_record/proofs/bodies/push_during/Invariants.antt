@@ -1,5 +1,4 @@
-use Rattle.std.proofs.Common.{◌≡◌, ◌++◌, length}
-use Rattle.run_record.specs.Records.{errors_during}
+use Rattle.run_record.proofs.Names.{◌++◌, ◌≡◌, errors_during, length}
 use Rattle.run_record.proofs.bodies.push_during.Given as goal
 
 abbrev pub invariant-loop-left : goal.invariant-loop-left

@@ -1,5 +1,4 @@
-use Rattle.std.proofs.Common.{◌≡◌, ◌++◌, List, ℕ, ap, sym, subst, ◌∙◌, codes, false, true}
-use Rattle.run_record.specs.Entries.{IsRefusal}
+use Rattle.run_record.proofs.Names.{◌++◌, ◌∙◌, ◌≡◌, ap, codes, false, IsRefusal, List, subst, sym, true, ℕ}
 use Rattle.run_record.proofs.RecordFields.{refused_rest, refused_text}
 use Rattle.run_record.proofs.entry_reading.read_refused.Goals as goal
 

@@ -1,5 +1,4 @@
-use Rattle.std.proofs.Common.{◌≡◌, ◌∙◌, sym, true, false}
-use Rattle.contact_ledger.proofs.Leaves.{not_equal_word}
+use Rattle.run_record.proofs.Names.{◌∙◌, ◌≡◌, false, not_equal_word, sym, true}
 use Rattle.run_record.proofs.HeadSteps.{no_between}
 use Rattle.run_record.proofs.head_reading.between_line.Goals as goal
 

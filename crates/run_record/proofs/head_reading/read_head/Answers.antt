@@ -1,5 +1,4 @@
-use Rattle.std.proofs.Common.{◌∙◌, ap, arith, Err}
-use Rattle.run_record.specs.declared.faults.RecordFault.{RecordFault}
+use Rattle.run_record.proofs.Names.{◌∙◌, ap, arith, Err, RecordFault}
 use Rattle.run_record.proofs.StageRuns.{line_read, torn_read, line_nowhere, handed_on, still_open, done_read}
 use Rattle.run_record.proofs.head_reading.read_head.Goals as goal
 

@@ -1,6 +1,4 @@
-use Rattle.std.proofs.Common.{◌≡◌, ◌+◌, ◌≤◌, length, take, drop}
-use Rattle.contact_ledger.specs.Lines.{whole_lines}
-use Rattle.run_record.specs.Stages.{start, Leads, stage_of, IsOpen, IsValid}
+use Rattle.run_record.proofs.Names.{◌+◌, ◌≡◌, ◌≤◌, drop, IsOpen, IsValid, Leads, length, stage_of, start, take, whole_lines}
 use Rattle.run_record.proofs.head_reading.read_head.Given as goal
 
 -- the lines so far lead to the place in the head

@@ -1,7 +1,4 @@
-use Rattle.std.proofs.Common.{◌≡◌, ◌∙◌, ℕ, List, ◌∷◌, ap, sym, true, false}
-use Rattle.contact_ledger.proofs.Leaves.{not_same, same_word}
-use Rattle.contact_ledger.specs.Lines.{whole_lines}
-use Rattle.run_record.specs.Stages.{none}
+use Rattle.run_record.proofs.Names.{◌∙◌, ◌∷◌, ◌≡◌, ap, false, List, none, not_same, same_word, sym, true, whole_lines, ℕ}
 use Rattle.run_record.proofs.HeadSteps.{same_number}
 use Rattle.run_record.proofs.StageRuns.{bad_first, foreign, begins_header, begun_header}
 use Rattle.run_record.proofs.head_reading.read_header.Goals as goal

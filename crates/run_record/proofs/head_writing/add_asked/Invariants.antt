@@ -1,8 +1,5 @@
-use Rattle.std.proofs.Common.{◌≡◌, ◌++◌, drop}
-use Rattle.std.specs.List.{AllByRecursion}
-use Rattle.contact_ledger.specs.Lines.{text_of}
+use Rattle.run_record.proofs.Names.{◌++◌, ◌≡◌, AllByRecursion, AreAsked, asked_lines, drop, text_of}
 use Rattle.dmis_program.specs.Programs.{IsFeature}
-use Rattle.run_record.specs.Heads.{AreAsked, asked_lines}
 use Rattle.run_record.proofs.head_writing.add_asked.Given as goal
 
 -- what is written, and the lines that are left

@@ -1,6 +1,4 @@
-use Rattle.std.proofs.Common.{codes}
-use Rattle.contact_ledger.proofs.WrittenTexts.{entry_written}
-use Rattle.run_record.specs.Heads.{touch_fields}
+use Rattle.run_record.proofs.Names.{codes, entry_written, touch_fields}
 use Rattle.run_record.proofs.head_writing.add_touch.Goals as goal
 
 pub returns-clause-text : goal.returns-clause-text

@@ -1,7 +1,4 @@
-use Rattle.std.proofs.Common.{◌≡◌, ◌++◌, drop, map}
-use Rattle.std.specs.List.{AllByRecursion}
-use Rattle.contact_ledger.specs.Lines.{text_of}
-use Rattle.run_record.specs.Heads.{IsAskedTouch, touch_line}
+use Rattle.run_record.proofs.Names.{◌++◌, ◌≡◌, AllByRecursion, drop, IsAskedTouch, map, text_of, touch_line}
 use Rattle.run_record.proofs.head_writing.add_touches.Given as goal
 
 -- what is written, and the lines that are left

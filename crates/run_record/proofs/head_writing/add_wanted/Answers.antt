@@ -1,7 +1,4 @@
-use Rattle.std.proofs.Common.{length, map}
-use Rattle.contact_ledger.specs.Lines.{text_of}
-use Rattle.contact_ledger.proofs.WrittenTexts.{then_ok}
-use Rattle.run_record.specs.Heads.{feature_line, touch_line}
+use Rattle.run_record.proofs.Names.{feature_line, length, map, text_of, then_ok, touch_line}
 use Rattle.run_record.proofs.HeadLines.{line_then}
 use Rattle.run_record.proofs.head_writing.add_wanted.Goals as goal
 

@@ -1,7 +1,4 @@
-use Rattle.std.proofs.Common.{◌≡◌, ◌∙◌, List, ap, subst, arith}
-use Rattle.dmis_program.specs.declared.features.Wanted.{Wanted}
-use Rattle.run_record.specs.Stages.{FollowsLine}
-use Rattle.run_record.specs.Unfinished.{Asking}
+use Rattle.run_record.proofs.Names.{◌∙◌, ◌≡◌, ap, arith, Asking, FollowsLine, List, subst, Wanted}
 use Rattle.run_record.proofs.EntryReads.{one_read, all_read}
 use Rattle.run_record.proofs.record_reading.read_entries.Goals as goal
 

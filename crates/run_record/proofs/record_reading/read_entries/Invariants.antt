@@ -1,7 +1,4 @@
-use Rattle.std.proofs.Common.{◌+◌, ◌<◌, ◌^◌, length}
-use Rattle.contact_ledger.specs.Lines.{whole_lines}
-use Rattle.run_record.specs.Records.{nothing_kept}
-use Rattle.run_record.specs.Stages.{body}
+use Rattle.run_record.proofs.Names.{◌+◌, ◌<◌, ◌^◌, body, length, nothing_kept, whole_lines}
 use Rattle.run_record.proofs.EntryReads.{AreRead}
 use Rattle.run_record.proofs.record_reading.read_entries.Given as goal
 

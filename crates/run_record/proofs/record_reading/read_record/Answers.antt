@@ -1,6 +1,4 @@
-use Rattle.std.proofs.Common.{sym, subst}
-use Rattle.contact_ledger.specs.Lines.{whole_lines}
-use Rattle.run_record.specs.Records.{Recorded, AreRecordLines}
+use Rattle.run_record.proofs.Names.{AreRecordLines, Recorded, subst, sym, whole_lines}
 use Rattle.run_record.proofs.EntryReads.{record_after, damaged_after, fault_read}
 use Rattle.run_record.proofs.StageReads.{unbegun, bad_head}
 use Rattle.run_record.proofs.record_reading.read_record.Goals as goal

@@ -1,5 +1,4 @@
-use Rattle.std.proofs.Common.{◌≡◌, ◌++◌, drop, string_bytes}
-use Rattle.run_record.specs.Entries.{fitting, kept_error}
+use Rattle.run_record.proofs.Names.{◌++◌, ◌≡◌, drop, fitting, kept_error, string_bytes}
 use Rattle.run_record.proofs.refusals.kept_of.Given as goal
 
 -- what is kept so far, and what of the bytes that are left fits after it

@@ -1,6 +1,4 @@
-use Rattle.std.proofs.Common.{ℕ, List, ◌+◌, drop, sym, ap, ◌∙◌}
-use Rattle.contact_ledger.specs.declared.acts.Act.{Act}
-use Rattle.protocol_model.specs.Claims.{contacts}
+use Rattle.run_record.proofs.Names.{◌+◌, ◌∙◌, Act, ap, contacts, drop, List, sym, ℕ}
 use Rattle.run_record.proofs.HeadLines.{drop_item}
 use Rattle.run_record.proofs.ContactRuns.{contacts_end}
 use Rattle.run_record.proofs.runs.behind_contacts.Goals as goal

@@ -1,5 +1,4 @@
-use Rattle.std.proofs.Common.{◌≡◌, drop}
-use Rattle.protocol_model.specs.Claims.{contacts}
+use Rattle.run_record.proofs.Names.{◌≡◌, contacts, drop}
 use Rattle.run_record.proofs.runs.behind_contacts.Given as goal
 
 -- the contacts that are left

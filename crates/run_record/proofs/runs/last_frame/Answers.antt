@@ -1,7 +1,4 @@
-use Rattle.std.proofs.Common.{◌≡◌, ℕ, ◌+◌, ◌<◌, List, [], ◌∷◌, ◌++◌, length, take, get_or, refl, ap, sym, ◌∙◌}
-use Rattle.std.proofs.lemmas.List.{take_more}
-use Rattle.dmis_program.specs.declared.features.Touch.{Touch}
-use Rattle.run_record.specs.Records.{last_frame}
+use Rattle.run_record.proofs.Names.{[], ◌++◌, ◌+◌, ◌<◌, ◌∙◌, ◌∷◌, ◌≡◌, ap, get_or, last_frame, length, List, refl, sym, take, take_more, Touch, ℕ}
 use Rattle.run_record.proofs.runs.last_frame.Goals as goal
 
 last_more : (ts : List Touch) (t : Touch) → last_frame (ts ++ t ∷ []) ≡ t.frame

@@ -1,5 +1,4 @@
-use Rattle.std.proofs.Common.{◌≡◌, take}
-use Rattle.run_record.specs.Records.{last_frame}
+use Rattle.run_record.proofs.Names.{◌≡◌, last_frame, take}
 use Rattle.run_record.proofs.runs.last_frame.Given as goal
 
 -- the frame of the last touch so far

@@ -1,6 +1,4 @@
-use Rattle.std.proofs.Common.{◌+◌, List, drop, sym, subst, ◌∙◌, arith, length, ◌<◌}
-use Rattle.std.proofs.lemmas.List.{drop_all, length-drop}
-use Rattle.fixed_um.specs.declared.lengths.Point.{Point}
+use Rattle.run_record.proofs.Names.{◌+◌, ◌<◌, ◌∙◌, arith, drop, drop_all, length, length-drop, List, Point, subst, sym}
 use Rattle.run_record.proofs.HeadLines.{drop_item}
 use Rattle.run_record.proofs.ServedRuns.{IsLeft, left_all, other_contact, ends_short, ends_whole}
 use Rattle.run_record.proofs.runs.served_points.Goals as goal

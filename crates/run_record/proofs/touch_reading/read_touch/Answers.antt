@@ -1,5 +1,4 @@
-use Rattle.std.proofs.Common.{◌∙◌}
-use Rattle.contact_ledger.proofs.Leaves.{same_word}
+use Rattle.run_record.proofs.Names.{◌∙◌, same_word}
 use Rattle.run_record.proofs.RecordFields.{touch_found}
 use Rattle.run_record.proofs.touch_reading.read_touch.Goals as goal
 

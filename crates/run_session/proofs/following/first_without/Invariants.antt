@@ -1,5 +1,4 @@
-use Rattle.std.proofs.Common.{drop, map}
-use Rattle.run_session.specs.Records.{HaveLines}
+use Rattle.run_session.proofs.Names.{drop, HaveLines, map}
 use Rattle.run_session.proofs.following.first_without.Given as goal
 
 -- the errors that are left decide

@@ -1,9 +1,5 @@
-use Rattle.std.proofs.Common.{◌≡◌, ◌≤◌, ◌+◌, ◌*◌, ◌++◌, length, vec_len, vec_capacity}
-use Rattle.std.specs.List.{AllByRecursion}
-use Rattle.protocol_model.specs.Lines.{reply_bytes}
-use Rattle.protocol_model.specs.Server.{all_fail}
+use Rattle.server_core.proofs.Names.{◌*◌, ◌++◌, ◌+◌, ◌≡◌, ◌≤◌, all_fail, AllByRecursion, IsFit, length, reply_bytes, vec_capacity, vec_len}
 use Rattle.server_core.specs.Answering.{failure_most}
-use Rattle.server_core.specs.Kept.{IsFit}
 use Rattle.server_core.proofs.answers.write_all_aborted.Given as goal
 
 abbrev pub invariant-loop-command : goal.invariant-loop-command

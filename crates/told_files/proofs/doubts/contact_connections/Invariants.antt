@@ -1,5 +1,4 @@
-use Rattle.std.proofs.Common.{◌≡◌, ◌++◌, drop, map}
-use Rattle.told_files.specs.Runs.{parts_of, known_contacts}
+use Rattle.told_files.proofs.Names.{◌++◌, ◌≡◌, drop, known_contacts, map, parts_of}
 use Rattle.told_files.proofs.doubts.contact_connections.Given as goal
 
 -- the connections so far, and those of the contacts that are left

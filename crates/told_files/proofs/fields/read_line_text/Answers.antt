@@ -1,6 +1,4 @@
-use Rattle.std.proofs.Common.{◌∙◌, sym, ap, List, ℕ}
-use Rattle.std.specs.List.{list_all}
-use Rattle.line_framing.specs.Content.{is_content}
+use Rattle.told_files.proofs.Names.{◌∙◌, ap, is_content, List, list_all, sym, ℕ}
 use Rattle.told_files.proofs.OtherLines.{some_fields, one_line}
 use Rattle.told_files.proofs.fields.read_line_text.Goals as goal
 

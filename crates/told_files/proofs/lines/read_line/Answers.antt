@@ -1,7 +1,4 @@
-use Rattle.std.proofs.Common.{◌≡◌, sym, subst}
-use Rattle.witness.specs.Texts.{told_line}
-use Rattle.witness.specs.declared.lines.Reported.{Reported}
-use Rattle.told_files.specs.ToldTexts.{IsToldEntry}
+use Rattle.told_files.proofs.Names.{◌≡◌, IsToldEntry, Reported, subst, sym, told_line}
 use Rattle.told_files.proofs.OtherLines.{act_read, no_number, no_told, told_found}
 use Rattle.told_files.proofs.lines.read_line.Goals as goal
 

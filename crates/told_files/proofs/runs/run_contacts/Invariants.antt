@@ -1,6 +1,4 @@
-use Rattle.std.proofs.Common.{◌≡◌, ◌++◌, drop, true, None}
-use Rattle.told_files.specs.Numbering.{numbered_from}
-use Rattle.told_files.specs.Runs.{parts_of}
+use Rattle.told_files.proofs.Names.{◌++◌, ◌≡◌, drop, None, numbered_from, parts_of, true}
 use Rattle.told_files.proofs.runs.run_contacts.Given as goal
 
 -- the contacts so far, and those of the lines that are left

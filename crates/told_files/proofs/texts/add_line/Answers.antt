@@ -1,5 +1,4 @@
-use Rattle.std.proofs.Common.{◌≡◌, ◌<◌, sym, arith}
-use Rattle.told_files.specs.ToldTexts.{last_number}
+use Rattle.told_files.proofs.Names.{◌<◌, ◌≡◌, arith, last_number, sym}
 use Rattle.told_files.proofs.ToldReads.{fallen}
 use Rattle.told_files.proofs.texts.add_line.Goals as goal
 

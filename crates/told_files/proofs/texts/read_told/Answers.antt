@@ -1,5 +1,4 @@
-use Rattle.std.proofs.Common.{arith, ◌∙◌, ap, Err}
-use Rattle.contact_ledger.specs.declared.faults.TextFault.{TextFault}
+use Rattle.told_files.proofs.Names.{◌∙◌, ap, arith, Err, TextFault}
 use Rattle.told_files.proofs.ToldReads.{line_read, lines_read, read_failed}
 use Rattle.contact_ledger.proofs.FailedReads.{failed_read}
 use Rattle.told_files.proofs.texts.read_told.Goals as goal

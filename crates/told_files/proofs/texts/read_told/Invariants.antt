@@ -1,6 +1,4 @@
-use Rattle.std.proofs.Common.{◌≡◌, ◌+◌, ◌≤◌, length, take, drop}
-use Rattle.contact_ledger.specs.Lines.{whole_lines}
-use Rattle.told_files.specs.ToldTexts.{AreToldEntries, NeverFall, told_file_lines}
+use Rattle.told_files.proofs.Names.{◌+◌, ◌≡◌, ◌≤◌, AreToldEntries, drop, length, NeverFall, take, told_file_lines, whole_lines}
 use Rattle.told_files.proofs.texts.read_told.Given as goal
 
 -- the lines so far are those of the acts so far

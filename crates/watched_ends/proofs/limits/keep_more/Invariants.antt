@@ -1,5 +1,4 @@
-use Rattle.std.proofs.Common.{◌≡◌, drop}
-use Rattle.watched_ends.specs.Limits.{keeps_more}
+use Rattle.watched_ends.proofs.Names.{◌≡◌, drop, keeps_more}
 use Rattle.watched_ends.proofs.limits.keep_more.Given as goal
 
 -- what may be kept of those that are left

@@ -1,6 +1,4 @@
-use Rattle.std.proofs.Common.{◌≡◌, drop}
-use Rattle.dme_line.specs.declared.tags.Tag.TheVariants.{Event}
-use Rattle.watched_ends.specs.Limits.{last_tag}
+use Rattle.watched_ends.proofs.Names.{◌≡◌, drop, Event, last_tag}
 use Rattle.watched_ends.proofs.limits.last_tag.Given as goal
 
 -- the last of those that are left is the last of all

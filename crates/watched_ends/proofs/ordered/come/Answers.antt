@@ -1,7 +1,4 @@
-use Rattle.std.proofs.Common.{[], ◌∷◌, ◌++◌, ◌+◌, take, sym, subst}
-use Rattle.witness.specs.declared.lines.Side.{Side}
-use Rattle.watched_ends.specs.Limits.{Limited, IsRead}
-use Rattle.watched_ends.specs.Pieces.{Relayed}
+use Rattle.watched_ends.proofs.Names.{[], ◌++◌, ◌+◌, ◌∷◌, IsRead, Limited, Relayed, Side, subst, sym, take}
 use Rattle.watched_ends.proofs.PieceLemmas.{came_up, came_down}
 use Rattle.watched_ends.proofs.ordered.come.Goals as goal
 

@@ -1,7 +1,5 @@
-use Rattle.std.proofs.Common.{◌≡◌, ◌+◌, length, take, drop}
+use Rattle.watched_ends.proofs.Names.{◌+◌, ◌≡◌, bytes_of, drop, length, Relayed, take}
 use Rattle.witness.specs.declared.lines.Side.TheVariants.{Client, Server}
-use Rattle.witness_judge.specs.Orders.{bytes_of}
-use Rattle.watched_ends.specs.Pieces.{Relayed}
 use Rattle.watched_ends.proofs.ordered.come_all.Given as goal
 
 -- the pieces up to a place have come, and the others have the bytes that are left

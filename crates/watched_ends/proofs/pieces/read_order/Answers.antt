@@ -1,6 +1,4 @@
-use Rattle.std.proofs.Common.{ℕ, List, ◌∷◌, ◌++◌, map, ap, sym, ◌∙◌}
-use Rattle.contact_ledger.specs.Lines.{whole_lines}
-use Rattle.watched_ends.specs.Pieces.{header, piece_line}
+use Rattle.watched_ends.proofs.Names.{◌++◌, ◌∙◌, ◌∷◌, ap, header, List, map, piece_line, sym, whole_lines, ℕ}
 use Rattle.watched_ends.proofs.PieceLemmas.{no_order}
 use Rattle.watched_ends.proofs.pieces.read_order.Goals as goal
 

@@ -1,6 +1,4 @@
-use Rattle.std.proofs.Common.{◌≡◌, ◌++◌, ◌∷◌, length, map}
-use Rattle.contact_ledger.specs.Lines.{whole_lines}
-use Rattle.watched_ends.specs.Pieces.{header, piece_line}
+use Rattle.watched_ends.proofs.Names.{◌++◌, ◌∷◌, ◌≡◌, header, length, map, piece_line, whole_lines}
 use Rattle.watched_ends.proofs.pieces.read_order.Given as goal
 
 -- the pieces that were read, and the lines that are left

@@ -1,5 +1,4 @@
-use Rattle.std.proofs.Common.{◌+◌, [], arith, sym, ◌∙◌, subst}
-use Rattle.watched_ends.specs.Turns.{AreQuiet}
+use Rattle.watched_ends.proofs.Names.{[], ◌+◌, ◌∙◌, AreQuiet, arith, subst, sym}
 use Rattle.watched_ends.proofs.PlaceLemmas.{same_item, quiet_more, last_all, quiet_all, quiet_within}
 use Rattle.watched_ends.proofs.places.later_of.Goals as goal
 

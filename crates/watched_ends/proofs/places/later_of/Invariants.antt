@@ -1,5 +1,4 @@
-use Rattle.std.proofs.Common.{◌≤◌}
-use Rattle.watched_ends.specs.Turns.{AreLast, AreQuiet}
+use Rattle.watched_ends.proofs.Names.{◌≤◌, AreLast, AreQuiet}
 use Rattle.watched_ends.proofs.places.later_of.Given as goal
 
 -- the lines that were noted

@@ -1,6 +1,4 @@
-use Rattle.std.proofs.Common.{◌<◌, ◌≤◌, sym, ◌∙◌, subst, arith}
-use Rattle.std.proofs.lemmas.Bool.{ltb-false}
-use Rattle.watched_ends.specs.Turns.{IsBefore}
+use Rattle.watched_ends.proofs.Names.{◌<◌, ◌∙◌, ◌≤◌, arith, IsBefore, ltb-false, subst, sym}
 use Rattle.watched_ends.proofs.PlaceLemmas.{none_later}
 use Rattle.watched_ends.proofs.places.may_come.Goals as goal
 

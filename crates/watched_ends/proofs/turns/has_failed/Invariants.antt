@@ -1,5 +1,4 @@
-use Rattle.std.proofs.Common.{◌≡◌, drop}
-use Rattle.witness_laws.specs.Orders.{has_failed_under}
+use Rattle.watched_ends.proofs.Names.{◌≡◌, drop, has_failed_under}
 use Rattle.watched_ends.proofs.turns.has_failed.Given as goal
 
 -- none of the lines before is under the tag

@@ -1,6 +1,4 @@
-use Rattle.std.proofs.Common.{ℕ, List, length, take, arith, subst}
-use Rattle.std.proofs.lemmas.List.{take_all}
-use Rattle.watched_ends.specs.Turns.{AreTaken}
+use Rattle.watched_ends.proofs.Names.{AreTaken, arith, length, List, subst, take, take_all, ℕ}
 use Rattle.watched_ends.proofs.TurnLemmas.{all_taken}
 use Rattle.watched_ends.proofs.turns.heard_in_turn.Goals as goal
 

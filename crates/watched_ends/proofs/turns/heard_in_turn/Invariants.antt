@@ -1,5 +1,4 @@
-use Rattle.std.proofs.Common.{◌≤◌, length, take}
-use Rattle.watched_ends.specs.Turns.{AreTaken}
+use Rattle.watched_ends.proofs.Names.{◌≤◌, AreTaken, length, take}
 use Rattle.watched_ends.proofs.turns.heard_in_turn.Given as goal
 
 -- the lines of the server up to a place were read

@@ -1,5 +1,4 @@
-use Rattle.std.proofs.Common.{[], ◌∷◌, ◌++◌, length, arith, sym, subst}
-use Rattle.watched_ends.specs.Turns.{AreLast, AreTaken}
+use Rattle.watched_ends.proofs.Names.{[], ◌++◌, ◌∷◌, AreLast, AreTaken, arith, length, subst, sym}
 use Rattle.watched_ends.proofs.TurnLemmas.{taken_down}
 use Rattle.watched_ends.proofs.turns.read_answer.Goals as goal
 

@@ -1,5 +1,4 @@
-use Rattle.std.proofs.Common.{◌≡◌, drop}
-use Rattle.witness.specs.Watching.{client_lines}
+use Rattle.watched_ends.proofs.Names.{◌≡◌, client_lines, drop}
 use Rattle.watched_ends.proofs.turns.read_client.Given as goal
 
 -- what is left leads to the same

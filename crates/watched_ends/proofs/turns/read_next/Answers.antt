@@ -1,5 +1,4 @@
-use Rattle.std.proofs.Common.{◌+◌, [], OnOk, Result, Ok, Err, sym, ◌∙◌, subst}
-use Rattle.watched_ends.specs.Turns.{AreTaken}
+use Rattle.watched_ends.proofs.Names.{[], ◌+◌, ◌∙◌, AreTaken, Err, Ok, OnOk, Result, subst, sym}
 use Rattle.watched_ends.proofs.PlaceLemmas.{same_item}
 use Rattle.watched_ends.proofs.TurnLemmas.{taken_up}
 use Rattle.watched_ends.proofs.turns.read_next.Goals as goal

@@ -1,5 +1,4 @@
-use Rattle.std.proofs.Common.{[], ◌∷◌, ◌++◌, sym, subst}
-use Rattle.watched_ends.specs.Turns.{AreTaken}
+use Rattle.watched_ends.proofs.Names.{[], ◌++◌, ◌∷◌, AreTaken, subst, sym}
 use Rattle.watched_ends.proofs.TurnLemmas.{taken_other, other_is}
 use Rattle.watched_ends.proofs.turns.read_one.Goals as goal
 

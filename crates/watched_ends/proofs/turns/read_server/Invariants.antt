@@ -1,5 +1,4 @@
-use Rattle.std.proofs.Common.{◌≡◌, drop}
-use Rattle.witness.specs.Watching.{server_lines}
+use Rattle.watched_ends.proofs.Names.{◌≡◌, drop, server_lines}
 use Rattle.watched_ends.proofs.turns.read_server.Given as goal
 
 -- what is left leads to the same

@@ -1,5 +1,4 @@
-use Rattle.std.proofs.Common.{ℕ, List}
-use Rattle.watched_ends.specs.Turns.{AreTaken}
+use Rattle.watched_ends.proofs.Names.{AreTaken, List, ℕ}
 use Rattle.watched_ends.proofs.turns.read_until.Given as goal
 
 -- the lines up to a place were read

@@ -1,6 +1,4 @@
-use Rattle.std.proofs.Common.{ℕ, ◌++◌, List, length, Option}
-use Rattle.line_framing.specs.Stream.{IsStream}
-use Rattle.line_framing.specs.declared.faults.FramingFault.{FramingFault}
+use Rattle.witness.proofs.Names.{◌++◌, FramingFault, IsStream, length, List, Option, ℕ}
 use Rattle.witness.proofs.cutting.cut_lines.Given as goal
 
 -- the lines that were cut off, and those of what is left, are those of the bytes

@@ -1,6 +1,4 @@
-use Rattle.std.proofs.Common.{rules}
-use Rattle.std.proofs.lemmas.List.{take_all, drop_all}
-use Rattle.std.proofs.lemmas.List.Edits.{map_over_more}
+use Rattle.witness.proofs.Names.{drop_all, map_over_more, rules, take_all}
 use Rattle.witness.specs.Dialogues as spec
 use Rattle.witness.proofs.uses.mark_all.Goals as goal
 

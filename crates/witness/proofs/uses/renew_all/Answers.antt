@@ -1,8 +1,5 @@
-use Rattle.std.proofs.Common.{rules}
-use Rattle.std.proofs.lemmas.List.{take_all, drop_all}
-use Rattle.std.proofs.lemmas.List.Edits.{map_over_more}
+use Rattle.witness.proofs.Names.{all_renewed, drop_all, map_over_more, rules, take_all}
 use Rattle.witness.specs.Dialogues as spec
-use Rattle.witness.specs.Known.{all_renewed}
 use Rattle.witness.proofs.uses.renew_all.Goals as goal
 
 pub loop-used-preserved : goal.loop-used-preserved

@@ -1,6 +1,5 @@
-use Rattle.std.proofs.Common.{◌≡◌, ◌++◌, drop, map, take}
+use Rattle.witness.proofs.Names.{◌++◌, ◌≡◌, all_renewed, drop, map, take}
 use Rattle.witness.specs.Dialogues as spec
-use Rattle.witness.specs.Known.{all_renewed}
 use Rattle.witness.proofs.uses.renew_all.Given as goal
 
 -- the lines that were changed, and those that are left

@@ -1,6 +1,4 @@
-use Rattle.std.proofs.Common.{◌≡◌, ◌++◌, drop, map}
-use Rattle.contact_ledger.specs.Lines.{text_of}
-use Rattle.witness.specs.Texts.{told_line, numbered}
+use Rattle.witness.proofs.Names.{◌++◌, ◌≡◌, drop, map, numbered, text_of, told_line}
 use Rattle.witness.proofs.writing.add_all.Given as goal
 
 -- what is written, and the lines that are left

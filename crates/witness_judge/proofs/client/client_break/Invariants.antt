@@ -1,6 +1,5 @@
-use Rattle.std.proofs.Common.{◌≡◌, [], take, drop, reverse}
-use Rattle.witness_judge.specs.ClientRules.{client_rule, AreAbove}
-use Rattle.witness_judge.specs.Judging.{first_break}
+use Rattle.witness_judge.proofs.Names.{[], ◌≡◌, drop, first_break, reverse, take}
+use Rattle.witness_judge.specs.ClientRules.{AreAbove, client_rule}
 use Rattle.witness_judge.proofs.client.client_break.Given as goal
 
 -- the first line that breaks a rule is among those that are left

@@ -1,5 +1,4 @@
-use Rattle.std.proofs.Common.{◌≡◌, ◌+◌, ◌≤◌, drop}
-use Rattle.witness_judge.specs.Orders.{bytes_of}
+use Rattle.witness_judge.proofs.Names.{◌+◌, ◌≡◌, ◌≤◌, bytes_of, drop}
 use Rattle.witness_judge.proofs.orders.bytes_of.Given as goal
 
 -- what is left for the pieces that follow

@@ -1,6 +1,5 @@
-use Rattle.std.proofs.Common.{◌≡◌, ◌+◌, ◌++◌, drop}
+use Rattle.witness_judge.proofs.Names.{◌++◌, ◌+◌, ◌≡◌, bytes_of, drop, IsAt, seen_from, seen_lines}
 use Rattle.witness.specs.declared.lines.Side.TheVariants.{Client, Server}
-use Rattle.witness_judge.specs.Orders.{bytes_of, seen_from, seen_lines, IsAt}
 use Rattle.witness_judge.proofs.orders.seen_lines.Given as goal
 
 -- what the pieces that follow add to what was seen

@@ -1,5 +1,4 @@
-use Rattle.std.proofs.Common.{◌≡◌, drop, reverse}
-use Rattle.witness_judge.specs.ServerRules.{first_from, front, is_sought_after}
+use Rattle.witness_judge.proofs.Names.{◌≡◌, drop, first_from, front, is_sought_after, reverse}
 use Rattle.witness_judge.proofs.server.front.Given as goal
 
 abbrev pub invariant-loop-at : goal.invariant-loop-at

@@ -1,14 +1,7 @@
-use Rattle.std.proofs.Common.{◌≡◌, ◌+◌, ◌∷◌, List, Option, reverse, take, drop, get_or, ap, sym, ◌∙◌, subst}
-use Rattle.std.specs.Option.{option_or}
+use Rattle.witness_judge.proofs.Names.{◌+◌, ◌∙◌, ◌∷◌, ◌≡◌, ap, drop, first_break, Found, found_at, get_or, Heard, IsCourse, IsStanding, List, Option}
+use Rattle.witness_judge.proofs.Names.{option_or, reverse, Rule, server_rule, subst, sym, take}
 use Rattle.witness_judge.proofs.Lists.{above_more, first_more, found_more}
 use Rattle.witness_judge.proofs.server.server_break.Goals as goal
-use Rattle.witness_judge.specs.Judging.{first_break, found_at}
-use Rattle.witness_judge.specs.ServerRules.{server_rule, IsStanding}
-use Rattle.witness_judge.specs.Uses.{IsCourse}
-use Rattle.witness_judge.specs.declared.lines.Heard.{Heard}
-use Rattle.witness_judge.specs.declared.lines.Heard.TheVariants as heard
-use Rattle.witness_judge.specs.declared.rules.Found.{Found}
-use Rattle.witness_judge.specs.declared.rules.Rule.{Rule}
 
 pub loop-at-preserved : goal.loop-at-preserved
 loop-at-preserved c =
@@ -18,11 +11,11 @@ loop-at-preserved c =
       ap (λ (f : Option Found). option_or f more) c.found_or-found.ensures
           ∙ found_more c.loop-at.found (c.loop-at.at + 1) c.rule_of.result more
           ∙ ap (λ (r : Option Rule). option_or c.loop-at.found (found_at (c.loop-at.at + 1) r more)) c.rule_of.ensures
-          ∙ ap (λ (l : List Heard). option_or c.loop-at.found (found_at (c.loop-at.at + 1) (server_rule c.args.seen.now c.args.up.now (reverse l) (get_or c.args.down.now c.loop-at.at heard.Other)) more)) above
-          ∙ ap (λ (f : Option Found). option_or c.loop-at.found f) (sym (first_more (server_rule c.args.seen.now c.args.up.now) c.args.down.now c.loop-at.at heard.Other short))
+          ∙ ap (λ (l : List Heard). option_or c.loop-at.found (found_at (c.loop-at.at + 1) (server_rule c.args.seen.now c.args.up.now (reverse l) (get_or c.args.down.now c.loop-at.at Heard.Other)) more)) above
+          ∙ ap (λ (f : Option Found). option_or c.loop-at.found f) (sym (first_more (server_rule c.args.seen.now c.args.up.now) c.args.down.now c.loop-at.at Heard.Other short))
           ∙ c.loop-at.invariant.0,
       subst (λ (l : List Heard). IsCourse c.args.up.now l c.hear.new.self)
-          (ap (λ (l : List Heard). get_or c.args.down.now c.loop-at.at heard.Other ∷ reverse l) above ∙ sym (above_more c.args.down.now c.loop-at.at heard.Other short)) c.in_ok-hear.ensures,
+          (ap (λ (l : List Heard). get_or c.args.down.now c.loop-at.at Heard.Other ∷ reverse l) above ∙ sym (above_more c.args.down.now c.loop-at.at Heard.Other short)) c.in_ok-hear.ensures,
       subst (λ (l : List Heard). IsStanding c.args.up.now l c.stand-standing.result)
-          (ap (λ (l : List Heard). get_or c.args.down.now c.loop-at.at heard.Other ∷ reverse l) above ∙ sym (above_more c.args.down.now c.loop-at.at heard.Other short)) c.stand-standing.ensures,
+          (ap (λ (l : List Heard). get_or c.args.down.now c.loop-at.at Heard.Other ∷ reverse l) above ∙ sym (above_more c.args.down.now c.loop-at.at Heard.Other short)) c.stand-standing.ensures,
     )

@@ -1,8 +1,4 @@
-use Rattle.std.proofs.Common.{◌≡◌, [], take, drop, reverse}
-use Rattle.std.specs.Option.{option_or}
-use Rattle.witness_judge.specs.ServerRules.{server_rule, IsStanding}
-use Rattle.witness_judge.specs.Judging.{first_break}
-use Rattle.witness_judge.specs.Uses.{IsCourse}
+use Rattle.witness_judge.proofs.Names.{[], ◌≡◌, drop, first_break, IsCourse, IsStanding, option_or, reverse, server_rule, take}
 use Rattle.witness_judge.proofs.server.server_break.Given as goal
 
 -- the first line that breaks a rule is the one that was found, or among those that are left

@@ -1,5 +1,4 @@
-use Rattle.std.proofs.Common.{◌-◌, length}
-use Rattle.witness_judge.specs.Uses.{AreFirst, AreNext}
+use Rattle.witness_judge.proofs.Names.{◌-◌, AreFirst, AreNext, length}
 use Rattle.witness_judge.proofs.tables.later_uses.Given as goal
 
 -- the lines from a place on were noted

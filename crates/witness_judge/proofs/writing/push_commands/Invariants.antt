@@ -1,5 +1,4 @@
-use Rattle.std.proofs.Common.{◌≡◌, ◌++◌, drop, string_bytes}
-use Rattle.witness_judge.specs.Texts.{commands_text}
+use Rattle.witness_judge.proofs.Names.{◌++◌, ◌≡◌, commands_text, drop, string_bytes}
 use Rattle.witness_judge.proofs.writing.push_commands.Given as goal
 
 -- what is written, and the counts that are left

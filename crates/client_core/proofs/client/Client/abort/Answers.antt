@@ -1,7 +1,4 @@
-use Rattle.std.proofs.Common.{rules, inr, ◌≡◌, ◌++◌, ap, true}
-use Rattle.protocol_model.specs.Lines.{command_bytes}
-use Rattle.protocol_model.specs.Client.{client_aborted, may_abort}
-use Rattle.protocol_model.specs.Ends.{end_aborted}
+use Rattle.client_core.proofs.Names.{◌++◌, ◌≡◌, ap, client_aborted, command_bytes, end_aborted, inr, may_abort, rules, true}
 use Rattle.client_core.proofs.Reached.{aborted_reached}
 use Rattle.client_core.proofs.client.Client.abort.Goals as goal
 

@@ -1,5 +1,4 @@
-use Rattle.std.proofs.Common.{rules, subst}
-use Rattle.line_framing.specs.Framing.{IsFeedRefused}
+use Rattle.client_core.proofs.Names.{IsFeedRefused, rules, subst}
 use Rattle.client_core.proofs.Reached.{never_met}
 use Rattle.client_core.proofs.client.Client.feed.Goals as goal
 

@@ -1,8 +1,5 @@
-use Rattle.std.proofs.Common.{rules, inr, ◌≡◌, ◌++◌, ap, true}
+use Rattle.client_core.proofs.Names.{◌++◌, ◌≡◌, ap, client_sent, command_bytes, due, end_sent, inr, rules, true}
 use Rattle.std.specs.Option.{is_some}
-use Rattle.protocol_model.specs.Lines.{command_bytes}
-use Rattle.protocol_model.specs.Client.{client_sent, due}
-use Rattle.protocol_model.specs.Ends.{end_sent}
 use Rattle.client_core.proofs.client.Client.send.Goals as goal
 
 pub returns-clause-ok : goal.returns-clause-ok

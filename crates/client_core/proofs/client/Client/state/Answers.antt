@@ -1,9 +1,5 @@
-use Rattle.std.proofs.Common.{◌≡◌, ◌≤◌, true, false, subst, is_some, None}
-use Rattle.contact_ledger.specs.Ledgers.{connection_most}
-use Rattle.protocol_model.specs.Open.{count_open}
-use Rattle.protocol_model.specs.Ends.{ClientEnd}
-use Rattle.client_core.specs.Clients.{are_ours, is_faulted}
-use Rattle.client_core.specs.Always.{IsReached, FitsState, IsQuiet}
+use Rattle.client_core.proofs.Names.{◌≡◌, ◌≤◌, are_ours, ClientEnd, connection_most, count_open, false, FitsState, is_faulted, is_some, IsQuiet}
+use Rattle.client_core.proofs.Names.{IsReached, None, subst, true}
 use Rattle.client_core.proofs.Reached.{fits_state, has_cause, window_some, window_few, open_within, last_within, features_ours}
 use Rattle.client_core.proofs.Reached.{off_is_quiet, no_fault_unmet}
 use Rattle.client_core.proofs.client.Client.state.Goals as goal

@@ -1,9 +1,6 @@
-use Rattle.std.proofs.Common.{rules, ap, ◌∙◌}
+use Rattle.client_core.proofs.Names.{◌∙◌, ap, client_read, effect_heard, opened_of, rules}
 use Rattle.protocol_model.specs.Replies.{Mark}
-use Rattle.protocol_model.specs.Client.{client_read}
-use Rattle.dme_tags.specs.Answers.{effect_heard}
 use Rattle.dme_tags.specs.Opened.{heard}
-use Rattle.client_core.specs.Tables.{opened_of}
 use Rattle.client_core.proofs.Tables.{counted_read}
 use Rattle.client_core.proofs.executor.Executor.count.Goals as goal
 

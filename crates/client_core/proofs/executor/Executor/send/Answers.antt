@@ -1,13 +1,6 @@
-use Rattle.std.proofs.Common.{rules, ◌≡◌, ◌<◌, length, slice_index_or, false, None, ap, sym, ◌∙◌, ◌++◌, add-one, List, append_assoc, arith}
-use Rattle.std.proofs.Common.{◌∷◌, []}
-use Rattle.dme_line.specs.Written.{written_command}
-use Rattle.dme_line.specs.Kinds.{kind_of, is_event_kind}
-use Rattle.dme_tags.specs.Opened.{next_tag}
-use Rattle.protocol_model.specs.Lines.{command_bytes}
-use Rattle.protocol_model.specs.declared.lines.Line.{Line}
-use Rattle.protocol_model.specs.Client.{Sends, client_sent, faulted}
-use Rattle.protocol_model.specs.declared.states.Cause.TheVariants as Cause
-use Rattle.client_core.specs.Progress.{seen}
+use Rattle.client_core.proofs.Names.{[], ◌++◌, ◌<◌, ◌∙◌, ◌∷◌, ◌≡◌, add-one, ap, append_assoc, arith, Cause, client_sent, command_bytes, false}
+use Rattle.client_core.proofs.Names.{faulted, is_event_kind, kind_of, length, Line, List, next_tag, None, rules, seen, Sends, slice_index_or, sym}
+use Rattle.client_core.proofs.Names.{written_command}
 use Rattle.client_core.proofs.Sends.{sent_client, sent_lines, sent_none}
 use Rattle.client_core.proofs.executor.Executor.send.Goals as goal
 

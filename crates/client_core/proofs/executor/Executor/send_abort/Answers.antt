@@ -1,13 +1,5 @@
-use Rattle.std.proofs.Common.{rules, ◌≡◌, None, ap, sym, ◌∙◌, ◌++◌, List, append_assoc, arith, ◌∷◌, []}
-use Rattle.dme_line.specs.Written.{written_command}
-use Rattle.dme_line.specs.declared.commands.Command.TheVariants as command
-use Rattle.dme_line.specs.declared.commands.Kind.TheVariants as kind
-use Rattle.dme_tags.specs.Opened.{next_tag}
-use Rattle.protocol_model.specs.Lines.{command_bytes}
-use Rattle.protocol_model.specs.declared.lines.Line.{Line}
-use Rattle.protocol_model.specs.Client.{Sends, client_aborted, faulted}
-use Rattle.protocol_model.specs.declared.states.Cause.TheVariants as Cause
-use Rattle.client_core.specs.Progress.{seen}
+use Rattle.client_core.proofs.Names.{[], ◌++◌, ◌∙◌, ◌∷◌, ◌≡◌, ap, append_assoc, arith, Cause, client_aborted, Command, command_bytes, faulted, Kind}
+use Rattle.client_core.proofs.Names.{Line, List, next_tag, None, rules, seen, Sends, sym, written_command}
 use Rattle.client_core.proofs.Sends.{aborted_client, aborted_lines, aborted_none}
 use Rattle.client_core.proofs.executor.Executor.send_abort.Goals as goal
 
@@ -26,7 +18,7 @@ returns-in-Ok-clause-text c =
     c.self.inside.cause c.self.inside.commands c.self.inside.progress
     c.self.inside.abort c.in-Ok.tag (search rules) in (
       rw (c.write_line_end_reserved.ensures.text, c.write_command_reserved.ensures.text)
-          (append_assoc c.args.out.now.items (written_command c.in-Ok.tag command.AbortE) (13 ∷ 10 ∷ [])
+          (append_assoc c.args.out.now.items (written_command c.in-Ok.tag Command.AbortE) (13 ∷ 10 ∷ [])
           ∙ ap (λ (ls : List Line). c.args.out.now.items ++ command_bytes ls) (sym lines_are
           ∙ ap (λ x. (client_aborted x).lines) c.self.view_is)),
       tt,
@@ -34,7 +26,7 @@ returns-in-Ok-clause-text c =
 
 pub returns-in-Err-TagsSpent : goal.returns-in-Err-TagsSpent
 returns-in-Err-TagsSpent c =
-    let none : next_tag c.self.inside.commands kind.AbortE ≡ None = search rules in
+    let none : next_tag c.self.inside.commands Kind.AbortE ≡ None = search rules in
     let whole = aborted_none c.self.inside.program c.self.inside.window c.self.inside.on c.self.inside.state
     c.self.inside.cause c.self.inside.commands c.self.inside.progress c.self.inside.abort none in
     let same : c.draw.new.self ≡ c.self.inside.commands = search rules in

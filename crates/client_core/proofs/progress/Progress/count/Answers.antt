@@ -1,5 +1,4 @@
-use Rattle.std.proofs.Common.{rules, ◌≡◌, ◌<◌, ◌+◌, ℕ, suc, drop, length, slice_index_or, add-one, ap, ◌∙◌}
-use Rattle.protocol_model.specs.Client.{tells_homed, passed_over}
+use Rattle.client_core.proofs.Names.{◌+◌, ◌<◌, ◌∙◌, ◌≡◌, add-one, ap, drop, length, passed_over, rules, slice_index_or, suc, tells_homed, ℕ}
 use Rattle.client_core.proofs.Counting.{counted_is}
 use Rattle.client_core.proofs.Sends.{first_left}
 use Rattle.client_core.proofs.progress.Progress.count.Goals as goal

@@ -1,5 +1,4 @@
-use Rattle.std.proofs.Common.{◌≡◌, sym, ◌∙◌}
-use Rattle.fixed_um.specs.Written.{written}
+use Rattle.contact_ledger.proofs.Names.{◌∙◌, ◌≡◌, sym, written}
 use Rattle.contact_ledger.proofs.Leaves.{length_read, length_refused, not_same}
 use Rattle.contact_ledger.proofs.forms.Forms.length.Goals as goal
 

@@ -1,7 +1,6 @@
 -- `take` gives what the handle owns to `from_raw`.
-use Rattle.std.specs.Prelude.{Option, None, Some, IsSome}
-use Rattle.std.proofs.Common.{◌≡◌, List, [], ◌∷◌, refl, sym, ap, ◌∙◌}
-use Rattle.std.proofs.raw_atomic.Walks.{proved, leaves}
+use Rattle.dme_c.proofs.Names.{[], ◌∙◌, ◌∷◌, ◌≡◌, ap, box_owns, chunk, dict, ghosts, held_at, IsSome, leaves, List, None, Option, passed, proved}
+use Rattle.dme_c.proofs.Names.{refl, Some, sym}
 use base.Fraction.{full_share}
 use base.Logic.{id⊢, fst∗, never, emp}
 use base.Fml.{ftrue, flft}
@@ -33,17 +32,12 @@ use denote.Triple.Clauses.{Lasts, lasts}
 use denote.Triple.Spec.{triple_of}
 use denote.Triple.Table.{framed}
 use denote.Triple.Walked.{Stays, walk_of, stay_ref, stay_dropped, Goes-ref, Goes-dropped}
-use Rattle.libc.specs.Heap.{chunk}
-use Rattle.std.specs.Box.Ownership.{box_owns}
 use Rattle.std.specs.contracts.alloc.Global as G
 use Rattle.std.proofs.alloc.Global.TheLaws as G'
 use Rattle.std.specs.contracts.boxed.Box as box
 use Rattle.std.proofs.boxed.Box.TheLaws as box'
-use Rattle.std.specs.contracts.impls.GlobalAllocator.TheImpl.{ghosts, dict}
-use Rattle.std.proofs.impls.GlobalAllocator.TheImpl.Met.{passed}
 use Rattle.std.specs.contracts.boxed.Box.from_raw as callee
 use Rattle.std.proofs.boxed.Box.from_raw.Met as callee'
-use Rattle.dme_c.specs.Held.{held_at}
 use Rattle.dme_c.specs.contracts.recordings.Recording as C
 use Rattle.dme_c.proofs.recordings.Recording.TheLaws as C'
 use Rattle.dme_c.specs.contracts.record_handles.RecordHandle.{the_row as R}

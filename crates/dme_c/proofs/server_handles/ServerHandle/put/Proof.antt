@@ -1,8 +1,5 @@
 -- `put` has what `into_raw` gives.
-use Rattle.std.specs.Prelude.{Some}
-use Rattle.std.proofs.Common.{◌≡◌, List, [], ◌∷◌, refl, ap, ◌∙◌}
-use Rattle.std.proofs.raw_atomic.Walks.{proved, leaves}
-use Rattle.std.proofs.alloc.Calls.{Goes-blank}
+use Rattle.dme_c.proofs.Names.{[], ◌∙◌, ◌∷◌, ◌≡◌, ap, box_owns, chunk, dict, ghosts, Goes-blank, leaves, List, passed, proved, refl, Some}
 use base.Fraction.{full_share}
 use base.Logic.{id⊢, fst∗, never, emp}
 use base.Fml.{ftrue, flft}
@@ -43,14 +40,10 @@ use denote.Triple.Clauses.{Lasts, lasts, at_exit}
 use denote.Triple.Spec.{triple_of}
 use denote.Triple.Table.{framed}
 use denote.Triple.Walked.{Fit, Stays, walk_of, stay_ref, stay_dropped, Goes-ref}
-use Rattle.libc.specs.Heap.{chunk}
-use Rattle.std.specs.Box.Ownership.{box_owns}
 use Rattle.std.specs.contracts.alloc.Global as G
 use Rattle.std.proofs.alloc.Global.TheLaws as G'
 use Rattle.std.specs.contracts.boxed.Box as box
 use Rattle.std.proofs.boxed.Box.TheLaws as box'
-use Rattle.std.specs.contracts.impls.GlobalAllocator.TheImpl.{ghosts, dict}
-use Rattle.std.proofs.impls.GlobalAllocator.TheImpl.Met.{passed}
 use Rattle.std.specs.contracts.boxed.Box.into_raw as callee
 use Rattle.std.proofs.boxed.Box.into_raw.Met as callee'
 use Rattle.server_core.specs.contracts.server.Server as C

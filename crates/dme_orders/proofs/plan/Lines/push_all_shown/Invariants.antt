@@ -1,5 +1,4 @@
-use Rattle.std.proofs.Common.{◌≡◌, ◌++◌, drop}
-use Rattle.dme_orders.specs.Numbered.{shown_from}
+use Rattle.dme_orders.proofs.Names.{◌++◌, ◌≡◌, drop, shown_from}
 use Rattle.dme_orders.proofs.plan.Lines.push_all_shown.Given as goal
 
 abbrev pub invariant-loop-planned : goal.invariant-loop-planned

@@ -1,8 +1,4 @@
-use Rattle.std.proofs.Common.{List, ◌∙◌, sym, ap, get_or, set, false, ◌≡◌}
-use Rattle.protocol_model.specs.Open.{is_failed}
-use Rattle.protocol_model.specs.declared.held.OpenCommand.{OpenCommand}
-use Rattle.slab.specs.Slab.{with_value}
-use Rattle.dme_tags.specs.Kept.{is_open, is_open_question}
+use Rattle.dme_tags.proofs.Names.{◌∙◌, ◌≡◌, ap, false, get_or, is_failed, is_open, is_open_question, List, OpenCommand, set, sym, with_value}
 use Rattle.dme_tags.proofs.Kept.{IsWritten, written_at, counted_alike, key_there, open_alike, question_alike, same_stage, within_keys}
 use Rattle.dme_tags.proofs.commands.Commands.advance.Goals as goal
 

@@ -1,8 +1,5 @@
-use Rattle.std.proofs.Common.{ℕ, List, Option, ◌≡◌, ◌+◌, ◌++◌, ◌∷◌, [], length, sym, ◌∙◌, ap, arith, refl}
-use Rattle.slab.specs.Slab.{Slab, slab_len}
-use Rattle.protocol_model.specs.declared.held.OpenCommand.{OpenCommand}
-use Rattle.protocol_model.specs.Client.{held_now}
-use Rattle.dme_tags.specs.Kept.{Slots, is_open, is_open_question}
+use Rattle.dme_tags.proofs.Names.{[], ◌++◌, ◌+◌, ◌∙◌, ◌∷◌, ◌≡◌, ap, arith, held_now, is_open, is_open_question, length, List, OpenCommand, Option}
+use Rattle.dme_tags.proofs.Names.{refl, Slab, slab_len, Slots, sym, ℕ}
 use Rattle.dme_tags.proofs.Kept.{IsInserted, inserted_at, counted_pushed, one_more}
 use Rattle.dme_tags.proofs.commands.Commands.push.Goals as goal
 

@@ -1,7 +1,4 @@
-use Rattle.std.proofs.Common.{List, ◌∙◌, ap, arith}
-use Rattle.std.specs.List.{remove}
-use Rattle.protocol_model.specs.declared.held.OpenCommand.{OpenCommand}
-use Rattle.dme_tags.specs.Kept.{is_open, is_open_question}
+use Rattle.dme_tags.proofs.Names.{◌∙◌, ap, arith, is_open, is_open_question, List, OpenCommand, remove}
 use Rattle.dme_tags.proofs.Kept.{IsRemoved, removed_at, counted_removed, enough_left, key_there, one_fewer, within_keys}
 use Rattle.dme_tags.proofs.commands.Commands.remove.Goals as goal
 

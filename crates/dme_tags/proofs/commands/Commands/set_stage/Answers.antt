@@ -1,7 +1,4 @@
-use Rattle.std.proofs.Common.{List, ◌∙◌, sym, ap, get_or, set, ◌≡◌}
-use Rattle.protocol_model.specs.declared.held.OpenCommand.{OpenCommand}
-use Rattle.slab.specs.Slab.{with_value}
-use Rattle.dme_tags.specs.Kept.{is_open, is_open_question}
+use Rattle.dme_tags.proofs.Names.{◌∙◌, ◌≡◌, ap, get_or, is_open, is_open_question, List, OpenCommand, set, sym, with_value}
 use Rattle.dme_tags.proofs.Kept.{IsWritten, written_at, counted_changed, enough_at, key_there, same_stage, within_keys}
 use Rattle.dme_tags.proofs.commands.Commands.set_stage.Goals as goal
 

@@ -1,6 +1,4 @@
-use Rattle.std.proofs.Common.{ap, refl}
-use Rattle.std.proofs.lemmas.Result.{IfOk-weaker}
-use Rattle.dme_tags.specs.Answers.{effect_heard}
+use Rattle.dme_tags.proofs.Names.{ap, effect_heard, IfOk-weaker, refl}
 use Rattle.dme_tags.proofs.Ends.{ending_standard, ending_event}
 use Rattle.dme_tags.proofs.open_commands.Open.complete.Goals as goal
 

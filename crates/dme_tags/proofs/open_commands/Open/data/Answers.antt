@@ -1,7 +1,4 @@
-use Rattle.std.proofs.Common.{ap}
-use Rattle.protocol_model.specs.Replies.{Mark}
-use Rattle.protocol_model.specs.Open.{Effect}
-use Rattle.dme_tags.specs.Opened.{OpenValue}
+use Rattle.dme_tags.proofs.Names.{ap, Effect, Mark, OpenValue}
 use Rattle.dme_tags.proofs.Dues.{Agrees, agrees_standard, agrees_event, unknown_exactly, data_exactly, second_exactly, data_told}
 use Rattle.dme_tags.proofs.open_commands.Open.data.Goals as goal
 

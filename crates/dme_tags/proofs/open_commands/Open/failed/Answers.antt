@@ -1,7 +1,4 @@
-use Rattle.std.proofs.Common.{ap, not, true, rules}
-use Rattle.std.proofs.lemmas.Result.{err_from_is_err_and}
-use Rattle.protocol_model.specs.Replies.{Mark}
-use Rattle.dme_tags.specs.Opened.{OpenValue}
+use Rattle.dme_tags.proofs.Names.{ap, err_from_is_err_and, Mark, not, OpenValue, rules, true}
 use Rattle.dme_tags.proofs.Refusals.{refused_standard, refused_event}
 use Rattle.dme_tags.proofs.Ends.{refused_unknown, refused_error, taken_standard, taken_event}
 use Rattle.dme_tags.proofs.open_commands.Open.failed.Goals as goal

@@ -1,6 +1,4 @@
-use Rattle.std.proofs.Common.{Some, None, ap, ◌∙◌}
-use Rattle.std.proofs.lemmas.Result.{IfOk-weaker, on_err_weaker}
-use Rattle.dme_tags.specs.Opened.{OpenValue}
+use Rattle.dme_tags.proofs.Names.{◌∙◌, ap, IfOk-weaker, None, on_err_weaker, OpenValue, Some}
 use Rattle.dme_tags.proofs.Drawn.{next_standard, next_event, spent_standard, spent_event}
 use Rattle.dme_tags.proofs.Passing.{passed_over, spent_exactly}
 use Rattle.dme_tags.proofs.open_commands.Open.next_tag.Goals as goal

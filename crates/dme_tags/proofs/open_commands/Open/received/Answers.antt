@@ -1,8 +1,4 @@
-use Rattle.std.proofs.Common.{ap, true, not, rules}
-use Rattle.std.proofs.lemmas.Result.{IfOk-weaker, IfErr-weaker}
-use Rattle.protocol_model.specs.Replies.{Mark}
-use Rattle.protocol_model.specs.Open.{Effect}
-use Rattle.dme_tags.specs.Opened.{OpenValue}
+use Rattle.dme_tags.proofs.Names.{ap, Effect, IfErr-weaker, IfOk-weaker, Mark, not, OpenValue, rules, true}
 use Rattle.dme_tags.proofs.Dues.{Agrees, agrees_standard, agrees_event, unknown_exactly}
 use Rattle.dme_tags.proofs.Ends.{unread_exactly, receipt_named}
 use Rattle.dme_tags.proofs.Refusals.{refused_standard, refused_event}

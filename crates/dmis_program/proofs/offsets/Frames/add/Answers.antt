@@ -1,5 +1,4 @@
-use Rattle.std.proofs.Common.{◌≡◌, rules, None}
-use Rattle.dmis_program.specs.Offsets.{offset_of}
+use Rattle.dmis_program.proofs.Names.{◌≡◌, None, offset_of, rules}
 use Rattle.dmis_program.proofs.OffsetLemmas.{frames_more}
 use Rattle.dmis_program.proofs.offsets.Frames.add.Goals as goal
 

@@ -1,5 +1,4 @@
-use Rattle.std.proofs.Common.{sym, ◌∙◌, true, false, refl, subst}
-use Rattle.dmis_program.specs.Offsets.{AreInVolume}
+use Rattle.dmis_program.proofs.Names.{◌∙◌, AreInVolume, false, refl, subst, sym, true}
 use Rattle.dmis_program.proofs.CarryingLemmas.{starts, goes_past, closes_at, keeps_sound}
 use Rattle.dmis_program.proofs.ShapeLemmas.{program_stored}
 use Rattle.dmis_program.proofs.SoundLemmas.{sound_at_start}

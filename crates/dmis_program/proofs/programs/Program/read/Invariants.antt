@@ -1,5 +1,4 @@
-use Rattle.std.proofs.Common.{◌≡◌, length}
-use Rattle.dmis_program.specs.Meaning.{program_of}
+use Rattle.dmis_program.proofs.Names.{◌≡◌, length, program_of}
 use Rattle.dmis_program.proofs.CarryingRuns.{run}
 use Rattle.dmis_program.proofs.Sound.{IsSound}
 use Rattle.dmis_program.proofs.programs.Program.read.Given as goal

@@ -1,5 +1,4 @@
-use Rattle.std.proofs.Common.{◌≡◌, ◌∙◌, sym, subst}
-use Rattle.std.specs.Prelude.{IfOk}
+use Rattle.dmis_text.proofs.Names.{◌∙◌, ◌≡◌, IfOk, subst, sym}
 use Rattle.dmis_text.proofs.Continued.{over_blanks}
 use Rattle.dmis_text.proofs.elements.Params.split_over.Goals as goal
 

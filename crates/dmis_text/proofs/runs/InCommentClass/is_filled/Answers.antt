@@ -1,8 +1,5 @@
-use Rattle.std.proofs.Common.{refl}
-use Rattle.std.proofs.lemmas.Bool.{eqb-true}
-use Rattle.std.proofs.lemmas.Simd.{zip2_splat, length-chunk}
+use Rattle.dmis_text.proofs.Names.{eqb-true, is_in_comment, length-chunk, refl, zip2_splat}
 use lib.Lanes.{chunk}
-use Rattle.dmis_text.specs.Runs.{is_in_comment}
 use Rattle.dmis_text.proofs.Lanes.{of_both, filled_of}
 use Rattle.dmis_text.proofs.runs.InCommentClass.is_filled.Goals as goal
 

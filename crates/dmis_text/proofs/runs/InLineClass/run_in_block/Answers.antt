@@ -1,7 +1,5 @@
-use Rattle.std.proofs.Common.{refl}
-use Rattle.std.proofs.lemmas.Simd.{zip2_splat, length-chunk}
+use Rattle.dmis_text.proofs.Names.{is_in_line, length-chunk, refl, zip2_splat}
 use lib.Lanes.{chunk}
-use Rattle.dmis_text.specs.Runs.{is_in_line}
 use Rattle.dmis_text.proofs.Lanes.{run_of}
 use Rattle.dmis_text.proofs.runs.InLineClass.run_in_block.Goals as goal
 

@@ -1,8 +1,5 @@
-use Rattle.std.proofs.Common.{ℕ, refl}
-use Rattle.std.proofs.lemmas.Bool.{eqb-true}
-use Rattle.std.proofs.lemmas.Simd.{zip2_splat, splat_is_map, length-chunk}
+use Rattle.dmis_text.proofs.Names.{eqb-true, is_in_text, length-chunk, refl, splat_is_map, zip2_splat, ℕ}
 use lib.Lanes.{chunk}
-use Rattle.dmis_text.specs.Runs.{is_in_text}
 use Rattle.dmis_text.proofs.Lanes.{at_most, of_both, filled_of}
 use Rattle.dmis_text.proofs.runs.InTextClass.is_filled.Goals as goal
 

@@ -1,7 +1,5 @@
-use Rattle.std.proofs.Common.{refl}
-use Rattle.std.proofs.lemmas.Simd.{zip2_splat, length-chunk}
+use Rattle.dmis_text.proofs.Names.{is_in_text, length-chunk, refl, zip2_splat}
 use lib.Lanes.{chunk}
-use Rattle.dmis_text.specs.Runs.{is_in_text}
 use Rattle.dmis_text.proofs.Lanes.{of_both, run_of}
 use Rattle.dmis_text.proofs.runs.InTextClass.run_in_block.Goals as goal
 

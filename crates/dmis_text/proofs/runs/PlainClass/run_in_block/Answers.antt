@@ -1,7 +1,5 @@
-use Rattle.std.proofs.Common.{refl}
-use Rattle.std.proofs.lemmas.Simd.{zip2_splat, zip2_splat_left, length-chunk}
+use Rattle.dmis_text.proofs.Names.{is_plain, length-chunk, refl, zip2_splat, zip2_splat_left}
 use lib.Lanes.{chunk}
-use Rattle.dmis_text.specs.Runs.{is_plain}
 use Rattle.dmis_text.proofs.Lanes.{at_most, of_both, run_of}
 use Rattle.dmis_text.proofs.runs.PlainClass.run_in_block.Goals as goal
 

@@ -1,5 +1,4 @@
-use Rattle.std.proofs.Common.{refl, not, eqb}
-use Rattle.std.proofs.lemmas.Simd.{zip2_splat, length-chunk}
+use Rattle.dmis_text.proofs.Names.{eqb, length-chunk, not, refl, zip2_splat}
 use lib.Lanes.{chunk}
 use Rattle.dmis_text.proofs.Lanes.{run_of}
 use Rattle.dmis_text.proofs.runs.UncutClass.run_in_block.Goals as goal

@@ -1,8 +1,5 @@
-use Rattle.std.proofs.Common.{refl}
-use Rattle.std.proofs.lemmas.Bool.{eqb-true}
-use Rattle.std.proofs.lemmas.Simd.{zip2_splat, length-chunk}
+use Rattle.dmis_text.proofs.Names.{eqb-true, is_unquoted, length-chunk, refl, zip2_splat}
 use lib.Lanes.{chunk}
-use Rattle.dmis_text.specs.Runs.{is_unquoted}
 use Rattle.dmis_text.proofs.Lanes.{filled_of}
 use Rattle.dmis_text.proofs.runs.UnquotedClass.is_filled.Goals as goal
 

@@ -1,7 +1,6 @@
-use Rattle.std.proofs.Common.{◌∷◌}
+use Rattle.drawings.proofs.Names.{◌∷◌, x_of, y_of, z_of}
 use Rattle.drawings.proofs.Items.{drop_item, drop_past}
 use Rattle.drawings.proofs.Reached.{reached_first, reached_more, reached_all}
-use Rattle.drawings.specs.Extents.{x_of, y_of, z_of}
 use Rattle.drawings.proofs.extents.Extents.reaching.Goals as goal
 
 pub loop-stop-init : goal.loop-stop-init

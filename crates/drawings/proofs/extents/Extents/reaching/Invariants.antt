@@ -1,6 +1,5 @@
-use Rattle.std.proofs.Common.{◌∷◌, drop}
+use Rattle.drawings.proofs.Names.{◌∷◌, drop, x_of, y_of, z_of}
 use Rattle.drawings.proofs.Reached.{IsReached}
-use Rattle.drawings.specs.Extents.{x_of, y_of, z_of}
 use Rattle.drawings.proofs.extents.Extents.reaching.Given as goal
 
 abbrev pub invariant-loop-stop : goal.invariant-loop-stop

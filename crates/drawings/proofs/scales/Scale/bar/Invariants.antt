@@ -1,5 +1,4 @@
-use Rattle.std.proofs.Common.{ℕ, ◌+◌, ◌<◌, ◌≤◌}
-use Rattle.drawings.specs.Scales.{round, on_paper}
+use Rattle.drawings.proofs.Names.{◌+◌, ◌<◌, ◌≤◌, on_paper, round, ℕ}
 use Rattle.drawings.proofs.scales.Scale.bar.Given as goal
 
 -- no length that was tried fits

@@ -1,5 +1,4 @@
-use Rattle.std.proofs.Common.{ℕ, ◌<◌}
-use Rattle.drawings.specs.Scales.{Fits}
+use Rattle.drawings.proofs.Names.{◌<◌, Fits, ℕ}
 use Rattle.drawings.proofs.scales.Scale.largest.Given as goal
 
 abbrev pub invariant-loop-number : goal.invariant-loop-number

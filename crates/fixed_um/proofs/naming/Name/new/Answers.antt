@@ -1,7 +1,4 @@
-use Rattle.std.proofs.Common.{◌≡◌, true, length, rules}
-use Rattle.std.specs.List.{list_all}
-use Rattle.std.proofs.lemmas.Bool.{and_from, le-leb}
-use Rattle.fixed_um.specs.Names.{folded, is_name_byte, is_name_text}
+use Rattle.fixed_um.proofs.Names.{◌≡◌, and_from, folded, is_name_byte, is_name_text, le-leb, length, list_all, rules, true}
 use Rattle.fixed_um.proofs.NameLemmas.{name-from_folded}
 use Rattle.fixed_um.proofs.naming.Name.new.Goals as goal
 

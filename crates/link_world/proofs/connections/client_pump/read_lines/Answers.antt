@@ -1,7 +1,4 @@
-use Rattle.std.proofs.Common.{rules, arith, ◌∙◌, ap}
-use Rattle.protocol_model.specs.Ends.{ClientEnd}
-use Rattle.line_framing.specs.Next.{next_of}
-use Rattle.client_core.specs.Clients.{may_read}
+use Rattle.link_world.proofs.Names.{◌∙◌, ap, arith, ClientEnd, may_read, next_of, rules}
 use Rattle.link_world.proofs.ClientPumps.{not_there, lines_none, lines_more, lines_end, read_stops, spends_more, stays, one_line, no_line}
 use Rattle.link_world.proofs.connections.client_pump.read_lines.Goals.{then-has_line+in_ok-count, else-has_line}
 use Rattle.link_world.proofs.connections.client_pump.read_lines.Goals as goal

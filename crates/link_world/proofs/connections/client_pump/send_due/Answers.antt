@@ -1,5 +1,4 @@
-use Rattle.std.proofs.Common.{◌∙◌, ap}
-use Rattle.protocol_model.specs.Ends.{ClientEnd}
+use Rattle.link_world.proofs.Names.{◌∙◌, ap, ClientEnd}
 use Rattle.link_world.proofs.ClientPumps.{sending_less, sent_more, send_goes}
 use Rattle.link_world.proofs.connections.client_pump.send_due.Goals as goal
 

@@ -1,5 +1,4 @@
-use Rattle.std.proofs.Common.{arith, take}
-use Rattle.std.proofs.lemmas.Grind.{common_steps}
+use Rattle.link_world.proofs.Names.{arith, common_steps, take}
 use Rattle.link_world.proofs.ClientPumps.{if_err, came_more, feeds_none}
 use Rattle.link_world.proofs.connections.client_pump.take_in.Goals as goal
 

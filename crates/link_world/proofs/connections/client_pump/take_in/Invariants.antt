@@ -1,5 +1,4 @@
-use Rattle.std.proofs.Common.{◌≡◌, ◌<◌, ◌≤◌, ◌+◌, ◌-◌, false, length}
-use Rattle.link_world.specs.PumpParts.{Came}
+use Rattle.link_world.proofs.Names.{◌+◌, ◌-◌, ◌<◌, ◌≡◌, ◌≤◌, Came, false, length}
 use Rattle.link_world.proofs.connections.client_pump.take_in.Given as goal
 
 abbrev pub invariant-loop-read : goal.invariant-loop-read

@@ -1,5 +1,4 @@
-use Rattle.std.proofs.Common.{arith, ◌+◌}
-use Rattle.protocol_model.specs.Ends.{end_left}
+use Rattle.link_world.proofs.Names.{◌+◌, arith, end_left}
 use Rattle.link_world.proofs.ClientPumps.{if_err, stopped_beside, stops_asking, stops_taking, stops_reading, has_moved}
 use Rattle.link_world.proofs.connections.client_pump.turn.Goals as goal
 

@@ -1,7 +1,5 @@
-use Rattle.std.proofs.Common.{ap, arith}
-use Rattle.protocol_model.specs.Ends.{ClientEnd}
-use Rattle.server_core.specs.Serving.{ServerValue}
-use Rattle.link_world.specs.LinkRuns.{client_side, server_side, client_stops, server_stops}
+use Rattle.link_world.proofs.Names.{ap, arith, client_side, ClientEnd, server_side, ServerValue}
+use Rattle.link_world.specs.LinkRuns.{client_stops, server_stops}
 use Rattle.link_world.specs.Showing as show
 use Rattle.link_world.proofs.Showing.{left_shown, turned_shown}
 use Rattle.link_world.proofs.connections.link_runs.pair.Goals as goal

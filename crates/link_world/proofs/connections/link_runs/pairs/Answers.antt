@@ -1,8 +1,4 @@
-use Rattle.std.proofs.Common.{rules, ◌∙◌, refl, ap, arith}
-use Rattle.std.proofs.lemmas.Grind.{common_steps}
-use Rattle.protocol_model.specs.Ends.{ClientEnd}
-use Rattle.server_core.specs.Serving.{ServerValue}
-use Rattle.link_world.specs.LinkRuns.{client_side, server_side}
+use Rattle.link_world.proofs.Names.{◌∙◌, ap, arith, client_side, ClientEnd, common_steps, refl, rules, server_side, ServerValue}
 use Rattle.link_world.specs.LinkRuns as run
 use Rattle.link_world.proofs.ClientPumps.{if_err}
 use Rattle.link_world.proofs.LoopRuns.{pair_goes, loop_stops, loop_spends}

@@ -1,7 +1,4 @@
-use Rattle.std.proofs.Common.{◌≡◌, ◌≤◌, ◌+◌, ◌*◌, false}
-use Rattle.link_world.specs.LinkRuns.{client_side, server_side, LoopRun}
-use Rattle.link_world.specs.Showing.{Shown}
-use Rattle.link_world.specs.Watching.{TellsRun}
+use Rattle.link_world.proofs.Names.{◌*◌, ◌+◌, ◌≡◌, ◌≤◌, client_side, false, LoopRun, server_side, Shown, TellsRun}
 use Rattle.link_world.proofs.connections.link_runs.pairs.Given as goal
 
 abbrev pub invariant-loop-pair : goal.invariant-loop-pair

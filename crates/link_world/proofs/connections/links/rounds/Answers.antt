@@ -1,6 +1,4 @@
-use Rattle.std.proofs.Common.{rules, arith, ◌<◌}
-use Rattle.std.proofs.lemmas.Grind.{common_steps}
-use Rattle.link_world.specs.LinkRuns.{Out}
+use Rattle.link_world.proofs.Names.{◌<◌, arith, common_steps, Out, rules}
 use Rattle.link_world.proofs.ClientPumps.{if_err}
 use Rattle.link_world.proofs.ClientRuns.{client_starts, client_gives, client_round, client_ran, client_stops_giving, client_refuses}
 use Rattle.link_world.proofs.ClientRuns.{client_stops, client_spends}

@@ -1,7 +1,4 @@
-use Rattle.std.proofs.Common.{◌≡◌, ◌≤◌, ◌+◌, ◌*◌, ◌-◌, false}
-use Rattle.link_world.specs.LinkRuns.{Fresh}
-use Rattle.link_world.specs.Showing.{Shown}
-use Rattle.link_world.specs.Watching.{TellsRun}
+use Rattle.link_world.proofs.Names.{◌*◌, ◌+◌, ◌-◌, ◌≡◌, ◌≤◌, false, Fresh, Shown, TellsRun}
 use Rattle.link_world.proofs.ClientRuns.{ClientSoFar}
 use Rattle.link_world.proofs.connections.links.rounds.Given as goal
 

@@ -1,9 +1,4 @@
-use Rattle.std.proofs.Common.{◌∙◌, refl, ap, arith}
-use Rattle.std.proofs.lemmas.Grind.{common_steps}
-use Rattle.server_core.specs.Serving.{ServerValue}
-use Rattle.server_core.specs.declared.faults.ServerFault.{ServerFault}
-use Rattle.link_world.specs.declared.connections.pumps.PumpFault.{PumpFault}
-use Rattle.link_world.specs.ServerWatching.{ServerRunWatched}
+use Rattle.link_world.proofs.Names.{◌∙◌, ap, arith, common_steps, PumpFault, refl, ServerFault, ServerRunWatched, ServerValue}
 use Rattle.link_world.proofs.ServerRuns.{server_starts, server_goes, server_stops, server_spends, is_ended, is_stopped, last_is}
 use Rattle.link_world.proofs.connections.links.watch_server_link.Goals.{After-end_of}
 use Rattle.link_world.proofs.connections.links.watch_server_link.Given.{Over}

@@ -1,5 +1,4 @@
-use Rattle.std.proofs.Common.{◌≡◌, ◌+◌, ◌≤◌, ◌-◌, false, length, take}
-use Rattle.std.specs.Io.KnownBytes.{Appends}
+use Rattle.link_world.proofs.Names.{◌+◌, ◌-◌, ◌≡◌, ◌≤◌, Appends, false, length, take}
 use Rattle.link_world.proofs.connections.pumps.push_counted.Given as goal
 
 abbrev pub invariant-loop-done : goal.invariant-loop-done

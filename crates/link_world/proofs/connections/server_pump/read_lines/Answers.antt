@@ -1,7 +1,4 @@
-use Rattle.std.proofs.Common.{rules, arith, ap, subst, sym, Ok, Err, Bool}
-use Rattle.server_core.specs.declared.faults.ServerFault.{ServerFault}
-use Rattle.link_world.specs.Pumps.{Reading}
-use Rattle.link_world.specs.ServerPumpParts.{ServerGoesOn, ServerReadStops}
+use Rattle.link_world.proofs.Names.{ap, arith, Bool, Err, Ok, Reading, rules, ServerFault, ServerGoesOn, ServerReadStops, subst, sym}
 use Rattle.link_world.proofs.ClientPumps.{if_err}
 use Rattle.link_world.proofs.ServerPumps.{goes_less, server_lines_none, server_lines_more, server_lines_spent, server_read_stops, is_on}
 use Rattle.link_world.proofs.connections.server_pump.read_lines.Goals.{then-has_line+in_ok-count, else-has_line}

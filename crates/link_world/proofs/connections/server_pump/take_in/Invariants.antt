@@ -1,5 +1,4 @@
-use Rattle.std.proofs.Common.{◌≡◌, ◌<◌, ◌≤◌, ◌+◌, ◌-◌, false, length}
-use Rattle.link_world.specs.ServerPumpParts.{ServerCame}
+use Rattle.link_world.proofs.Names.{◌+◌, ◌-◌, ◌<◌, ◌≡◌, ◌≤◌, false, length, ServerCame}
 use Rattle.link_world.proofs.connections.server_pump.take_in.Given as goal
 
 abbrev pub invariant-loop-read : goal.invariant-loop-read

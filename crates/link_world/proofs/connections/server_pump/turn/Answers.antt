@@ -1,6 +1,4 @@
-use Rattle.std.proofs.Common.{arith, ap, length, ◌∙◌}
-use Rattle.protocol_model.specs.Ends.{serving_left}
-use Rattle.server_core.specs.Serving.{ServerValue}
+use Rattle.link_world.proofs.Names.{◌∙◌, ap, arith, length, ServerValue, serving_left}
 use Rattle.link_world.proofs.ClientPumps.{if_err}
 use Rattle.link_world.proofs.ServerPumps.{serving_stopped_beside, server_stops_working, server_stops_writing, has_served}
 use Rattle.link_world.proofs.connections.server_pump.turn.Goals as goal

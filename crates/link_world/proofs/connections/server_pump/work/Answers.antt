@@ -1,8 +1,4 @@
-use Rattle.std.proofs.Common.{ℕ, refl, sym, ◌∙◌, subst, arith}
-use Rattle.protocol_model.specs.declared.machine.Job.{Job}
-use Rattle.protocol_model.specs.declared.machine.Outcome.{Outcome}
-use Rattle.link_world.specs.Pumps.{Working}
-use Rattle.link_world.specs.ServerPumpParts.{ServerGoesOn, IsWorkFault}
+use Rattle.link_world.proofs.Names.{◌∙◌, arith, IsWorkFault, Job, Outcome, refl, ServerGoesOn, subst, sym, Working, ℕ}
 use Rattle.link_world.proofs.ClientPumps.{if_err}
 use Rattle.link_world.proofs.ServerPumps.{works_none, works_on, most_steps, goes_less}
 use Rattle.link_world.proofs.connections.server_pump.work.Goals as goal

@@ -1,6 +1,4 @@
-use Rattle.std.proofs.Common.{◌≡◌, ◌+◌, ◌≤◌}
-use Rattle.link_world.specs.Pumps.{Working}
-use Rattle.link_world.specs.ServerPumpParts.{ServerGoesOn, steps_of}
+use Rattle.link_world.proofs.Names.{◌+◌, ◌≡◌, ◌≤◌, ServerGoesOn, steps_of, Working}
 use Rattle.link_world.proofs.connections.server_pump.work.Given as goal
 
 abbrev pub invariant-loop-budget : goal.invariant-loop-budget

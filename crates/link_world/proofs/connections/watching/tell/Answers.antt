@@ -1,6 +1,4 @@
-use Rattle.std.proofs.Common.{rules, ◌+◌, sym, subst, Option, List, drop}
-use Rattle.contact_ledger.specs.declared.features.Feature.{Feature}
-use Rattle.link_world.specs.Watching.{Note, Hears, notes_from}
+use Rattle.link_world.proofs.Names.{◌+◌, drop, Feature, Hears, List, Note, notes_from, Option, rules, subst, sym}
 use Rattle.link_world.proofs.Telling.{told_none, told_one, told_all}
 use Rattle.link_world.proofs.connections.watching.tell.Goals as goal
 

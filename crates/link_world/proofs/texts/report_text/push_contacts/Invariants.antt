@@ -1,5 +1,4 @@
-use Rattle.std.proofs.Common.{◌≡◌, ◌++◌, drop}
-use Rattle.link_world.specs.Reports.{contact_rows}
+use Rattle.link_world.proofs.Names.{◌++◌, ◌≡◌, contact_rows, drop}
 use Rattle.link_world.proofs.texts.report_text.push_contacts.Given as goal
 
 -- what is written and what is left are all rows

@@ -1,5 +1,4 @@
-use Rattle.std.proofs.Common.{◌≡◌, ◌++◌, codes, drop}
-use Rattle.link_world.specs.Reports.{line, point_rows}
+use Rattle.link_world.proofs.Names.{◌++◌, ◌≡◌, codes, drop, line, point_rows}
 use Rattle.link_world.proofs.texts.report_text.push_feature.Given as goal
 
 -- what is written and what is left are all rows

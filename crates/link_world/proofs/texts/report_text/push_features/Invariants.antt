@@ -1,5 +1,4 @@
-use Rattle.std.proofs.Common.{◌≡◌, ◌++◌, drop}
-use Rattle.link_world.specs.Reports.{feature_rows}
+use Rattle.link_world.proofs.Names.{◌++◌, ◌≡◌, drop, feature_rows}
 use Rattle.link_world.proofs.texts.report_text.push_features.Given as goal
 
 -- what is written and what is left are all rows

@@ -1,5 +1,4 @@
-use Rattle.std.proofs.Common.{◌≡◌, arith}
-use Rattle.std.specs.Str.Parse.{digits_value}
+use Rattle.link_world.proofs.Names.{◌≡◌, arith, digits_value}
 use Rattle.link_world.proofs.ScheduleNumbers.{at_digit, all_read, number_below}
 use Rattle.link_world.proofs.texts.schedule_reading.digits_value.Goals as goal
 

@@ -1,5 +1,4 @@
-use Rattle.std.proofs.Common.{◌≡◌, drop}
-use Rattle.std.specs.Str.Parse.{digits_value, digits_value_after, AllDigits}
+use Rattle.link_world.proofs.Names.{◌≡◌, AllDigits, digits_value, digits_value_after, drop}
 use Rattle.link_world.proofs.texts.schedule_reading.digits_value.Given as goal
 
 -- the value so far, followed by the digits that are left, is the whole number

@@ -1,5 +1,4 @@
-use Rattle.std.proofs.Common.{rules, ◌++◌}
-use Rattle.link_world.specs.Traces.{rows}
+use Rattle.link_world.proofs.Names.{◌++◌, rows, rules}
 use Rattle.link_world.proofs.Tracing.{rows_more, rows_end}
 use Rattle.link_world.proofs.worlds.traces.push_rows.Goals as goal
 

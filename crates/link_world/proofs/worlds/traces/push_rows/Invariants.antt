@@ -1,5 +1,4 @@
-use Rattle.std.proofs.Common.{◌≡◌, ◌++◌, length}
-use Rattle.link_world.specs.Traces.{rows}
+use Rattle.link_world.proofs.Names.{◌++◌, ◌≡◌, length, rows}
 use Rattle.link_world.proofs.worlds.traces.push_rows.Given as goal
 
 abbrev pub invariant-loop-at : goal.invariant-loop-at

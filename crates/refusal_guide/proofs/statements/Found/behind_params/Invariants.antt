@@ -1,6 +1,4 @@
-use Rattle.std.proofs.Common.{◌≡◌, drop}
-use Rattle.std.specs.Prelude.{fold}
-use Rattle.refusal_guide.specs.Spots.{after_word}
+use Rattle.refusal_guide.proofs.Names.{◌≡◌, after_word, drop, fold}
 use Rattle.refusal_guide.proofs.statements.Found.behind_params.Given as goal
 
 -- the words so far and those that are left are all of them

@@ -1,12 +1,6 @@
-use Rattle.std.proofs.Common.{◌≡◌, sym, subst, rules, List, drop}
+use Rattle.resume_plan.proofs.Names.{◌≡◌, drop, feature_touches, IsSendable, List, plan, Planned, planned_with, rules, subst, sym, touches_of}
 use Rattle.std.specs.List.{All}
-use Rattle.dmis_program.specs.Programs.{feature_touches}
-use Rattle.protocol_model.specs.Plan.{plan}
-use Rattle.protocol_model.specs.PlanReading.{touches_of}
-use Rattle.protocol_model.specs.declared.plans.Planned.{Planned}
 use Rattle.protocol_model.proofs.plan.PlanLaws.{plan_touches_left}
-use Rattle.resume_plan.specs.Made.{planned_with}
-use Rattle.resume_plan.specs.Sendable.{IsSendable}
 use Rattle.resume_plan.proofs.SendableLemmas.{plans_are_sendable}
 use Rattle.resume_plan.proofs.planning.Planning.begin.Goals as goal
 

@@ -1,8 +1,4 @@
-use Rattle.std.proofs.Common.{◌∙◌, ◌-◌, ap, length, List, ℕ, [], ◌∷◌, ◌++◌, Some}
-use Rattle.contact_ledger.specs.Ledgers.{contact_count}
-use Rattle.contact_ledger.specs.declared.features.Feature.{Feature}
-use Rattle.run_record.specs.Records.{Kept, errors_during}
-use Rattle.contact_ledger.specs.declared.acts.Act.{Act}
+use Rattle.run_record.proofs.Names.{[], ◌++◌, ◌-◌, ◌∙◌, ◌∷◌, Act, ap, contact_count, errors_during, Feature, Kept, length, List, Some, ℕ}
 use Rattle.run_record.proofs.BodySteps.{unused_none, completes}
 use Rattle.run_record.proofs.bodies.Body.complete.Goals as goal
 

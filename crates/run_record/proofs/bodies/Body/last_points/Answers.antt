@@ -1,9 +1,4 @@
-use Rattle.std.proofs.Common.{◌≡◌, ◌∙◌, ◌-◌, ◌<◌, ◌≤◌, ap, refl, subst, length, drop, List, ℕ, IfOk}
-use Rattle.fixed_um.specs.Calls.{Finds}
-use Rattle.dmis_program.specs.declared.features.Touch.{Touch}
-use Rattle.contact_ledger.specs.declared.acts.Act.{Act}
-use Rattle.protocol_model.specs.Claims.{contacts, Serves}
-use Rattle.run_record.specs.Records.{Kept}
+use Rattle.run_record.proofs.Names.{◌-◌, ◌<◌, ◌∙◌, ◌≡◌, ◌≤◌, Act, ap, contacts, drop, Finds, IfOk, Kept, length, List, refl, Serves, subst, Touch, ℕ}
 use Rattle.run_record.proofs.BodySteps.{contacts_counted, too_few, last_found}
 use Rattle.run_record.proofs.bodies.Body.last_points.Goals as goal
 

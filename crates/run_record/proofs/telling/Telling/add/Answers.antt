@@ -1,5 +1,4 @@
-use Rattle.std.proofs.Common.{◌≡◌, ◌+◌, drop, ap}
-use Rattle.run_record.specs.Tellings.{Telling}
+use Rattle.run_record.proofs.Names.{◌+◌, ◌≡◌, ap, drop, Telling}
 use Rattle.run_record.proofs.HeadLines.{drop_item}
 use Rattle.run_record.proofs.ToldLines.{told_text, told_count}
 use Rattle.run_record.proofs.telling.Telling.add.Goals as goal

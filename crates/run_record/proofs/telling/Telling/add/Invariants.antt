@@ -1,9 +1,4 @@
-use Rattle.std.proofs.Common.{◌≡◌, ◌++◌, drop, map}
-use Rattle.std.specs.List.{AllByRecursion}
-use Rattle.contact_ledger.specs.Lines.{text_of}
-use Rattle.contact_ledger.specs.ContactTexts.{IsWrittenAct}
-use Rattle.run_record.specs.Entries.{entry_line}
-use Rattle.run_record.specs.Tellings.{entries_of, told_on}
+use Rattle.run_record.proofs.Names.{◌++◌, ◌≡◌, AllByRecursion, drop, entries_of, entry_line, IsWrittenAct, map, text_of, told_on}
 use Rattle.run_record.proofs.telling.Telling.add.Given as goal
 
 -- what is written and counted, and the acts that are left

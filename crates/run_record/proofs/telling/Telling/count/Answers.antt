@@ -1,8 +1,5 @@
-use Rattle.std.proofs.Common.{◌≡◌, ◌+◌, ◌<◌, ◌≤◌, List, length, refl, sym, ap, ◌∙◌, true, arith}
-use Rattle.std.proofs.lemmas.Bool.{ltb-true}
+use Rattle.run_record.proofs.Names.{◌+◌, ◌<◌, ◌∙◌, ◌≡◌, ◌≤◌, ap, arith, is_contact, length, List, ltb-true, refl, sym, Touch, true}
 use Rattle.std.proofs.lemmas.Option.{slice_get_read}
-use Rattle.dmis_program.specs.declared.features.Touch.{Touch}
-use Rattle.contact_ledger.specs.Ledgers.{is_contact}
 use Rattle.run_record.proofs.ToldLines.{counts_last}
 use Rattle.run_record.proofs.telling.Telling.count.Goals as goal
 use Rattle.run_record.proofs.telling.Telling.count.Goals.{else-self-count-via-then-self-count+else-count-self-gt1, else-self-count-via-else-self-count}

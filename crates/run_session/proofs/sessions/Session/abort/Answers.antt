@@ -1,6 +1,4 @@
-use Rattle.std.proofs.Common.{sym, subst}
-use Rattle.client_core.specs.Calls.{Abort}
-use Rattle.run_session.specs.Records.{State, Ran}
+use Rattle.run_session.proofs.Names.{Abort, Ran, State, subst, sym}
 use Rattle.run_session.proofs.ClientCalls.{sends_keeps}
 use Rattle.run_session.proofs.sessions.Session.abort.Goals as goal
 

@@ -1,5 +1,4 @@
-use Rattle.std.proofs.Common.{◌≡◌}
-use Rattle.run_session.specs.Records.{Keeps}
+use Rattle.run_session.proofs.Names.{◌≡◌, Keeps}
 use Rattle.run_session.proofs.sessions.Session.came.Given as goal
 
 -- what was heard so far

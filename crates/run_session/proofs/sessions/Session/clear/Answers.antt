@@ -1,7 +1,4 @@
-use Rattle.std.proofs.Common.{ℕ, List, length, arith, ap, sym, subst}
-use Rattle.std.proofs.lemmas.Bool.{le-leb}
-use Rattle.client_core.specs.Calls.{Sent}
-use Rattle.run_session.specs.Records.{State, Ran}
+use Rattle.run_session.proofs.Names.{ap, arith, le-leb, length, List, Ran, Sent, State, subst, sym, ℕ}
 use Rattle.run_session.proofs.ClientCalls.{call_keeps}
 use Rattle.run_session.proofs.sessions.Session.clear.Goals as goal
 

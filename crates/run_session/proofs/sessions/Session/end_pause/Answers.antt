@@ -1,5 +1,4 @@
-use Rattle.std.proofs.Common.{◌≤◌, length, arith, sym, subst}
-use Rattle.run_session.specs.Records.{State, Ran, held as held_of}
+use Rattle.run_session.proofs.Names.{◌≤◌, arith, held as held_of, length, Ran, State, subst, sym}
 use Rattle.run_session.proofs.Pauses.{pause_ends}
 use Rattle.run_session.proofs.sessions.Session.end_pause.Goals as goal
 

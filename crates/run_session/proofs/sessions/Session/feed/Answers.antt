@@ -1,6 +1,4 @@
-use Rattle.std.proofs.Common.{sym, subst}
-use Rattle.client_core.specs.Calls.{Feed}
-use Rattle.run_session.specs.Records.{State, Ran}
+use Rattle.run_session.proofs.Names.{Feed, Ran, State, subst, sym}
 use Rattle.run_session.proofs.ClientCalls.{leads_keeps}
 use Rattle.run_session.proofs.sessions.Session.feed.Goals as goal
 

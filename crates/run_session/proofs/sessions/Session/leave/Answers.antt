@@ -1,6 +1,4 @@
-use Rattle.std.proofs.Common.{refl, sym, subst}
-use Rattle.client_core.specs.Calls.{Leave}
-use Rattle.run_session.specs.Records.{State, Ran}
+use Rattle.run_session.proofs.Names.{Leave, Ran, refl, State, subst, sym}
 use Rattle.run_session.proofs.ClientCalls.{call_keeps}
 use Rattle.run_session.proofs.sessions.Session.leave.Goals as goal
 

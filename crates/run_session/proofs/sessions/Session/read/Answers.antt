@@ -1,5 +1,4 @@
-use Rattle.std.proofs.Common.{sym, subst}
-use Rattle.run_session.specs.Records.{State, Ran}
+use Rattle.run_session.proofs.Names.{Ran, State, subst, sym}
 use Rattle.run_session.proofs.ClientCalls.{reads_keeps}
 use Rattle.run_session.proofs.sessions.Session.read.Goals as goal
 

@@ -1,6 +1,4 @@
-use Rattle.std.proofs.Common.{ap, sym, subst, ◌∙◌}
-use Rattle.effects.specs.Effects.{Reply, Done, the_reply}
-use Rattle.run_session.specs.Records.{State, GoesOn}
+use Rattle.run_session.proofs.Names.{◌∙◌, ap, Done, GoesOn, Reply, State, subst, sym, the_reply}
 use Rattle.run_session.proofs.Filing.{filed_goes, lost_goes, goes_further}
 use Rattle.run_session.proofs.sessions.Session.recorded.Goals as goal
 

@@ -1,6 +1,4 @@
-use Rattle.std.proofs.Common.{◌<◌, length, sym, subst}
-use Rattle.client_core.specs.Calls.{Send}
-use Rattle.run_session.specs.Records.{State, Ran, held}
+use Rattle.run_session.proofs.Names.{◌<◌, held, length, Ran, Send, State, subst, sym}
 use Rattle.run_session.proofs.ClientCalls.{sends_keeps}
 use Rattle.run_session.proofs.sessions.Session.send.Goals as goal
 

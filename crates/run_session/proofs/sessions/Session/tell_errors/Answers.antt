@@ -1,5 +1,4 @@
-use Rattle.std.proofs.Common.{ℕ, List, map, Vec, Global, sym, subst}
-use Rattle.run_session.specs.Records.{State, Ran, HaveLines}
+use Rattle.run_session.proofs.Names.{Global, HaveLines, List, map, Ran, State, subst, sym, Vec, ℕ}
 use Rattle.run_session.proofs.Filing.{told_errors_keep}
 use Rattle.run_session.proofs.sessions.Session.tell_errors.Goals as goal
 

@@ -1,7 +1,5 @@
-use Rattle.std.proofs.Common.{Some, None, List, ◌++◌, ap, sym, ◌∙◌, subst}
-use Rattle.dme_line.specs.declared.tags.Tag.TheVariants.{Event}
+use Rattle.watched_ends.proofs.Names.{◌++◌, ◌∙◌, ap, Event, IsRead, last_tag, Limited, limited, List, None, Some, subst, sym, too_many}
 use Rattle.witness.specs.declared.lines.Use.{Use}
-use Rattle.watched_ends.specs.Limits.{Limited, limited, too_many, last_tag, IsRead}
 use Rattle.watched_ends.proofs.LimitLemmas.{none_read, over_read, all_read}
 use Rattle.watched_ends.proofs.limits.LimitedRelay.read.Goals as goal
 

@@ -1,8 +1,4 @@
-use Rattle.std.proofs.Common.{◌≡◌, List, length, get_or, Some, refl, ap, subst}
-use Rattle.std.specs.Prelude.{slice_get}
-use Rattle.std.proofs.lemmas.Option.{slice_get_read}
-use Rattle.witness.specs.Dialogues.{Dialogue}
-use Rattle.witness.specs.declared.lines.Use.{Use}
+use Rattle.witness.proofs.Names.{◌≡◌, ap, Dialogue, get_or, length, List, refl, slice_get, slice_get_read, Some, subst, Use}
 use Rattle.witness.proofs.dialogue.Dialogue.hear_at.Goals as goal
 
 pub returns : goal.returns

@@ -1,6 +1,4 @@
-use Rattle.std.proofs.Common.{zero, suc, List, length, ◌≤◌, refl, ap, subst, ◌∙◌}
-use Rattle.witness.specs.Watching.{at_first, client_read}
-use Rattle.witness.specs.declared.lines.Use.{Use}
+use Rattle.witness.proofs.Names.{◌∙◌, ◌≤◌, ap, at_first, client_read, length, List, refl, subst, suc, Use, zero}
 use Rattle.witness.proofs.Courses.{line_within}
 use Rattle.witness.proofs.witness.Witness.read_client_within.Goals as goal
 

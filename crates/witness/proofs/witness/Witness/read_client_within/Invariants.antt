@@ -1,5 +1,4 @@
-use Rattle.std.proofs.Common.{length}
-use Rattle.witness.specs.Watching.{ReadsClient, ReadsWithin}
+use Rattle.witness.proofs.Names.{length, ReadsClient, ReadsWithin}
 use Rattle.witness.proofs.witness.Witness.read_client_within.Given as goal
 
 abbrev pub invariant-loop-self : goal.invariant-loop-self

@@ -1,5 +1,4 @@
-use Rattle.std.proofs.Common.{suc, ap, ◌∙◌}
-use Rattle.witness.specs.Watching.{server_read}
+use Rattle.witness.proofs.Names.{◌∙◌, ap, server_read, suc}
 use Rattle.witness.proofs.Courses.{server_last}
 use Rattle.witness.proofs.witness.Witness.read_server_lines.Goals as goal
 

@@ -1,5 +1,4 @@
-use Rattle.std.proofs.Common.{length}
-use Rattle.witness.specs.Watching.{ReadsServer}
+use Rattle.witness.proofs.Names.{length, ReadsServer}
 use Rattle.witness.proofs.witness.Witness.read_server_lines.Given as goal
 
 abbrev pub invariant-loop-self : goal.invariant-loop-self

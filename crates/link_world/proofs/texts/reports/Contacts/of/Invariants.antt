@@ -1,6 +1,4 @@
-use Rattle.std.proofs.Common.{◌≡◌, ◌++◌, length, drop}
-use Rattle.protocol_model.specs.Claims.{contacts}
-use Rattle.link_world.specs.Reports.{reported, numbered_from}
+use Rattle.link_world.proofs.Names.{◌++◌, ◌≡◌, contacts, drop, length, numbered_from, reported}
 use Rattle.link_world.proofs.texts.reports.Contacts.of.Given as goal
 
 -- what is copied and what is left are all contacts

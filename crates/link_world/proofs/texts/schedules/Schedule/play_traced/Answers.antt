@@ -1,8 +1,4 @@
-use Rattle.std.proofs.Common.{rules, subst}
-use Rattle.link_world.specs.Links.{IsReached}
-use Rattle.link_world.specs.Machines.{simulated}
-use Rattle.link_world.specs.Parts.{staged}
-use Rattle.link_world.specs.Schedules.{ArePlayed}
+use Rattle.link_world.proofs.Names.{ArePlayed, IsReached, rules, simulated, staged, subst}
 use Rattle.link_world.proofs.Instructions.{played_as, played_behind, none_plays, none_traced, plays_ok, plays_err, traced_ok, traced_err}
 use Rattle.link_world.proofs.Reached.{headline_seen}
 use Rattle.link_world.proofs.texts.schedules.Schedule.play_traced.Goals as goal

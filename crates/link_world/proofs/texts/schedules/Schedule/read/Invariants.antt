@@ -1,6 +1,4 @@
-use Rattle.std.proofs.Common.{◌≡◌, ◌+◌, ◌≤◌, length}
-use Rattle.std.specs.Str.Lines.{lines}
-use Rattle.link_world.specs.ScheduleTexts.{schedule_of}
+use Rattle.link_world.proofs.Names.{◌+◌, ◌≡◌, ◌≤◌, length, lines, schedule_of}
 use Rattle.link_world.proofs.ScheduleRuns.{read_behind}
 use Rattle.link_world.proofs.texts.schedules.Schedule.read.Given as goal
 

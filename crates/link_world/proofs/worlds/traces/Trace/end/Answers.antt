@@ -1,5 +1,4 @@
-use Rattle.std.proofs.Common.{rules, ap, ◌∙◌}
-use Rattle.link_world.specs.Traces.{TraceValue}
+use Rattle.link_world.proofs.Names.{◌∙◌, ap, rules, TraceValue}
 use Rattle.link_world.proofs.Tracing.{ends_all}
 use Rattle.link_world.proofs.worlds.traces.Trace.end.Goals as goal
 

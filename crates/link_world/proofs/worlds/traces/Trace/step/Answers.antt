@@ -1,6 +1,4 @@
-use Rattle.std.proofs.Common.{ap, ◌∙◌}
-use Rattle.link_world.specs.Links.{WorldValue}
-use Rattle.link_world.specs.Traces.{TraceValue}
+use Rattle.link_world.proofs.Names.{◌∙◌, ap, TraceValue, WorldValue}
 use Rattle.link_world.proofs.Tracing.{traces_one}
 use Rattle.link_world.proofs.worlds.traces.Trace.step.Goals as goal
 

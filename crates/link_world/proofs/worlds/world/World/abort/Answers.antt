@@ -1,9 +1,4 @@
-use Rattle.std.proofs.Common.{rules, ◌≡◌, ◌-◌, false, refl, subst}
-use Rattle.std.specs.Vec.{vec_len}
-use Rattle.protocol_model.specs.Client.{may_abort}
-use Rattle.protocol_model.specs.Ends.{end_aborted}
-use Rattle.protocol_model.specs.declared.events.Event.TheVariants as event
-use Rattle.link_world.specs.Links.{WorldValue}
+use Rattle.link_world.proofs.Names.{◌-◌, ◌≡◌, end_aborted, Event, false, may_abort, refl, rules, subst, vec_len, WorldValue}
 use Rattle.link_world.proofs.Events.{not_now, writes}
 use Rattle.link_world.proofs.Reached.{client_quiet}
 use Rattle.link_world.proofs.ClientWriting.{none_aborts, awake, abort_fine}
@@ -23,13 +18,13 @@ returns-in_default-clause-can c = not_now _ (subst (λ (l : WorldValue). may_abo
     (λ some. search rules)))
 
 pub invariant_of-self-2 : goal.invariant_of-self-2
-invariant_of-self-2 c = (writes event.Abort end_aborted c.args.self.now c.self.inside c.abort.new.client c.abort.new.written.items
+invariant_of-self-2 c = (writes Event.Abort end_aborted c.args.self.now c.self.inside c.abort.new.client c.abort.new.written.items
     (vec_len c.self.inside.connections - 1) c.in-Some.connection.now c.abort.new.connection c.abort.result c.self.view_is
     c.self.invariant (λ x. refl) (search rules) (search rules) (search rules) (search rules)
     c.abort.ensures.client c.abort.ensures.link c.abort.ensures.written).reached
 
 pub returns-clause-world : goal.returns-clause-world
-returns-clause-world c = (writes event.Abort end_aborted c.args.self.now c.self.inside c.abort.new.client
+returns-clause-world c = (writes Event.Abort end_aborted c.args.self.now c.self.inside c.abort.new.client
     c.abort.new.written.items
     (vec_len c.self.inside.connections - 1) c.in-Some.connection.now c.abort.new.connection c.abort.result c.self.view_is
     c.self.invariant (λ x. refl) (search rules) (search rules) (search rules) (search rules)

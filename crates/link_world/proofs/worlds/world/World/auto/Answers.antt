@@ -1,7 +1,5 @@
-use Rattle.std.proofs.Common.{sym}
-use Rattle.protocol_model.specs.Rounds.{ending}
+use Rattle.link_world.proofs.Names.{ending, staged, sym}
 use Rattle.link_world.proofs.Instructions.{part_as, none_made}
-use Rattle.link_world.specs.Parts.{staged}
 use Rattle.link_world.proofs.worlds.world.World.auto.Goals as goal
 
 pub returns-in-Some-clause-made : goal.returns-in-Some-clause-made

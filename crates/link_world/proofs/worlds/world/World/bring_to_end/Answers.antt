@@ -1,7 +1,4 @@
-use Rattle.std.proofs.Common.{rules, true, false, None, subst}
-use Rattle.protocol_model.specs.Finishing.{CanFinish}
-use Rattle.link_world.specs.Finishing.{AreFirstOfJoining, AreTurns}
-use Rattle.link_world.specs.Links.{IsReached}
+use Rattle.link_world.proofs.Names.{AreFirstOfJoining, AreTurns, CanFinish, false, IsReached, None, rules, subst, true}
 use Rattle.link_world.proofs.Ending.{due_behind, short_behind, few_behind, finished, stopped_turning, stopped_joining, same_made}
 use Rattle.link_world.proofs.Ending.{same_turned}
 use Rattle.link_world.proofs.Measured.{finish_measures}

@@ -1,6 +1,4 @@
-use Rattle.std.proofs.Common.{rules, ◌≡◌, true, false, sym, ◌∙◌, ap, subst}
-use Rattle.protocol_model.specs.Ends.{ClientEnd}
-use Rattle.link_world.specs.Links.{WorldValue, seen, IsReached}
+use Rattle.link_world.proofs.Names.{◌∙◌, ◌≡◌, ap, ClientEnd, false, IsReached, rules, seen, subst, sym, true, WorldValue}
 use Rattle.link_world.proofs.ClientReading.{reads_any, read_reached, no_line, line_can, not_read}
 use Rattle.link_world.proofs.Events.{not_now, refused_if, unchanged}
 use Rattle.link_world.proofs.worlds.world.World.client_reads.Goals as goal

@@ -1,9 +1,4 @@
-use Rattle.std.proofs.Common.{rules, ◌≡◌, ◌-◌, false, refl, subst, is_some}
-use Rattle.std.specs.Vec.{vec_len}
-use Rattle.protocol_model.specs.Client.{due}
-use Rattle.protocol_model.specs.Ends.{end_sent}
-use Rattle.protocol_model.specs.declared.events.Event.TheVariants as event
-use Rattle.link_world.specs.Links.{WorldValue}
+use Rattle.link_world.proofs.Names.{◌-◌, ◌≡◌, due, end_sent, Event, false, is_some, refl, rules, subst, vec_len, WorldValue}
 use Rattle.link_world.proofs.Events.{not_now, writes}
 use Rattle.link_world.proofs.Reached.{client_quiet}
 use Rattle.link_world.proofs.ClientWriting.{none_due, awake, send_fine}
@@ -23,13 +18,13 @@ returns-in_default-clause-can c = not_now _ (subst (λ (l : WorldValue). is_some
     (λ some. search rules)))
 
 pub invariant_of-self-2 : goal.invariant_of-self-2
-invariant_of-self-2 c = (writes event.ClientSends end_sent c.args.self.now c.self.inside c.send.new.client c.send.new.written.items
+invariant_of-self-2 c = (writes Event.ClientSends end_sent c.args.self.now c.self.inside c.send.new.client c.send.new.written.items
     (vec_len c.self.inside.connections - 1) c.in-Some.connection.now c.send.new.connection c.send.result c.self.view_is
     c.self.invariant (λ x. refl) (search rules) (search rules) (search rules) (search rules)
     c.send.ensures.client c.send.ensures.link c.send.ensures.written).reached
 
 pub returns-clause-world : goal.returns-clause-world
-returns-clause-world c = (writes event.ClientSends end_sent c.args.self.now c.self.inside c.send.new.client
+returns-clause-world c = (writes Event.ClientSends end_sent c.args.self.now c.self.inside c.send.new.client
     c.send.new.written.items
     (vec_len c.self.inside.connections - 1) c.in-Some.connection.now c.send.new.connection c.send.result c.self.view_is
     c.self.invariant (λ x. refl) (search rules) (search rules) (search rules) (search rules)

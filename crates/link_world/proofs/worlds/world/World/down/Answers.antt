@@ -1,5 +1,4 @@
-use Rattle.std.proofs.Common.{rules, ◌-◌}
-use Rattle.std.specs.Vec.{vec_len}
+use Rattle.link_world.proofs.Names.{◌-◌, rules, vec_len}
 use Rattle.link_world.proofs.ClientBytes.{reads_on}
 use Rattle.link_world.proofs.Events.{comes_down, down_can}
 use Rattle.link_world.proofs.worlds.world.World.down.Goals as goal

@@ -1,8 +1,6 @@
-use Rattle.std.proofs.Common.{true, false, refl, ◌∙◌}
-use Rattle.link_world.specs.Schedules.{ArePlayed}
+use Rattle.link_world.proofs.Names.{◌∙◌, ArePlayed, false, refl, staged, true}
 use Rattle.link_world.proofs.Instructions.{none_played, played_more, played_cut, played_all, made_as}
 use Rattle.link_world.proofs.Thens.{part_cut}
-use Rattle.link_world.specs.Parts.{staged}
 use Rattle.link_world.proofs.worlds.world.World.follow_all.Goals as goal
 
 pub loop-instruction-init : goal.loop-instruction-init

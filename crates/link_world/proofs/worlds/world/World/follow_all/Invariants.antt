@@ -1,6 +1,4 @@
-use Rattle.std.proofs.Common.{◌≡◌, take, false, None}
-use Rattle.link_world.specs.Parts.{Makes, staged}
-use Rattle.link_world.specs.Schedules.{ArePlayed}
+use Rattle.link_world.proofs.Names.{◌≡◌, ArePlayed, false, Makes, None, staged, take}
 use Rattle.link_world.proofs.worlds.world.World.follow_all.Given as goal
 
 abbrev pub invariant-loop-instruction : goal.invariant-loop-instruction

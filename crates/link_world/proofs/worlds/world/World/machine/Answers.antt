@@ -1,6 +1,4 @@
-use Rattle.std.proofs.Common.{rules, refl}
-use Rattle.protocol_model.specs.Ends.{serving_machined}
-use Rattle.protocol_model.specs.declared.events.Event.TheVariants as event
+use Rattle.link_world.proofs.Names.{Event, refl, rules, serving_machined}
 use Rattle.link_world.proofs.Events.{stands, not_now, answers}
 use Rattle.link_world.proofs.Reached.{server_quiet}
 use Rattle.link_world.proofs.ServerAnswers.{off_end}
@@ -20,13 +18,13 @@ returns-in_default-clause-can c = not_now _ (off_end c.args.self.now c.args.outc
     c.self.inside.connections.items c.self.inside.written.items c.self.view_is c.self.invariant (search rules))
 
 pub invariant_of-self : goal.invariant_of-self
-invariant_of-self c = (answers (event.Machine c.args.outcome) (serving_machined c.args.outcome) c.args.self.now c.self.inside
+invariant_of-self c = (answers (Event.Machine c.args.outcome) (serving_machined c.args.outcome) c.args.self.now c.self.inside
     c.end_job.new.server c.in-Some.at c.index_mut.result.now c.end_job.new.connection c.end_job.result c.self.view_is c.self.invariant
     (λ x. refl) (search rules) (search rules) (search rules) (search rules)
     c.end_job.ensures.server c.end_job.ensures.link).reached
 
 pub returns-clause-world : goal.returns-clause-world
-returns-clause-world c = (answers (event.Machine c.args.outcome) (serving_machined c.args.outcome)
+returns-clause-world c = (answers (Event.Machine c.args.outcome) (serving_machined c.args.outcome)
     c.args.self.now c.self.inside
     c.end_job.new.server c.in-Some.at c.index_mut.result.now c.end_job.new.connection c.end_job.result c.self.view_is c.self.invariant
     (λ x. refl) (search rules) (search rules) (search rules) (search rules)

@@ -1,8 +1,6 @@
-use Rattle.std.proofs.Common.{Some}
-use Rattle.protocol_model.specs.Rounds.{IsOne}
+use Rattle.link_world.proofs.Names.{IsOne, Some, staged}
 use Rattle.link_world.proofs.Instructions.{once_made, once_cut}
 use Rattle.link_world.proofs.Thens.{part_cut}
-use Rattle.link_world.specs.Parts.{staged}
 use Rattle.link_world.proofs.worlds.world.World.once.Goals as goal
 
 pub returns-in_err-attempt : goal.returns-in_err-attempt

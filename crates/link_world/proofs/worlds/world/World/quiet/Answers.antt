@@ -1,8 +1,6 @@
-use Rattle.std.proofs.Common.{rules, arith, false, true, None, Some, refl, ◌∙◌}
-use Rattle.link_world.specs.Schedules.{AreQuiet, rounds_most}
+use Rattle.link_world.proofs.Names.{◌∙◌, AreQuiet, arith, false, None, refl, rounds_most, rules, Some, staged, true}
 use Rattle.link_world.proofs.RoundLists.{none_yet, round_more, quiet_whole, quiet_stops, quiet_cut, round_as, many_at}
 use Rattle.link_world.proofs.Thens.{part_cut}
-use Rattle.link_world.specs.Parts.{staged}
 use Rattle.link_world.proofs.worlds.world.World.quiet.Goals as goal
 
 pub loop-round-init : goal.loop-round-init

@@ -1,5 +1,4 @@
-use Rattle.std.proofs.Common.{◌≡◌, true, false, None}
-use Rattle.link_world.specs.Parts.{Makes, staged}
+use Rattle.link_world.proofs.Names.{◌≡◌, false, Makes, None, staged, true}
 use Rattle.link_world.proofs.RoundLists.{SoMany}
 use Rattle.link_world.proofs.worlds.world.World.quiet.Given as goal
 

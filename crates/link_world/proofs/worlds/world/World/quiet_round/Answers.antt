@@ -1,6 +1,4 @@
-use Rattle.std.proofs.Common.{true, false, None, Some, Bool, subst}
-use Rattle.protocol_model.specs.Rounds.{IsRound}
-use Rattle.link_world.specs.Parts.{Makes, staged}
+use Rattle.link_world.proofs.Names.{Bool, false, IsRound, Makes, None, Some, staged, subst, true}
 use Rattle.link_world.proofs.Thens.{then_more, then_cut, tells_cut, any_of_six}
 use Rattle.link_world.proofs.worlds.world.World.quiet_round.Goals as goal
 

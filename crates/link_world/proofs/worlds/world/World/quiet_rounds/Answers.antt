@@ -1,9 +1,6 @@
-use Rattle.std.proofs.Common.{arith, false, true, None, Some, refl, ◌∙◌}
-use Rattle.std.proofs.lemmas.Bool.{false≢true}
-use Rattle.link_world.specs.Schedules.{AreCounted}
+use Rattle.link_world.proofs.Names.{◌∙◌, AreCounted, arith, false, false≢true, None, refl, Some, staged, true}
 use Rattle.link_world.proofs.RoundLists.{none_yet, round_more, counted_whole, counted_cut, round_as, many_at}
 use Rattle.link_world.proofs.Thens.{part_cut}
-use Rattle.link_world.specs.Parts.{staged}
 use Rattle.link_world.proofs.worlds.world.World.quiet_rounds.Goals as goal
 
 pub loop-round-init : goal.loop-round-init

@@ -1,7 +1,6 @@
-use Rattle.std.proofs.Common.{rules}
+use Rattle.link_world.proofs.Names.{rules, staged}
 use Rattle.link_world.proofs.EventLists.{going_more, going_ends}
 use Rattle.link_world.proofs.EventsLeft.{less_after}
-use Rattle.link_world.specs.Parts.{staged}
 use Rattle.link_world.proofs.worlds.world.World.repeat.Goals as goal
 
 pub returns-then-not-branch : goal.returns-then-not-branch

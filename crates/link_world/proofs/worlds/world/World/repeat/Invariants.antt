@@ -1,5 +1,4 @@
-use Rattle.std.proofs.Common.{false, Some}
-use Rattle.link_world.specs.Parts.{Makes, staged}
+use Rattle.link_world.proofs.Names.{false, Makes, Some, staged}
 use Rattle.link_world.proofs.EventsLeft.{left_of}
 use Rattle.link_world.proofs.EventLists.{Going}
 use Rattle.link_world.proofs.worlds.world.World.repeat.Given as goal

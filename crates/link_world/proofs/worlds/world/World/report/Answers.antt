@@ -1,9 +1,6 @@
-use Rattle.std.proofs.Common.{◌≡◌, ◌≢◌, ◌∙◌, sym, rules, Ok, Err, Result, IfOk}
-use Rattle.protocol_model.specs.declared.states.State.{State}
+use Rattle.link_world.proofs.Names.{◌∙◌, ◌≡◌, ◌≢◌, Err, Headline, IfOk, Ok, Result, rules, seen, State, sym}
 use Rattle.protocol_model.specs.declared.states.State.TheVariants.{Faulted}
 use Rattle.link_world.specs.declared.texts.reports.Report.{Report}
-use Rattle.link_world.specs.Claims.{Headline}
-use Rattle.link_world.specs.Links.{seen}
 use Rattle.link_world.proofs.Reached.{headline, headline_seen}
 use Rattle.link_world.proofs.worlds.world.World.report.Goals as goal
 

@@ -1,6 +1,4 @@
-use Rattle.std.proofs.Common.{rules, ◌+◌, [], refl, sym, ◌∙◌, ap, subst, arith, take}
-use Rattle.link_world.specs.Links.{WorldValue, seen, IsReached}
-use Rattle.link_world.specs.Runs.{HasRun}
+use Rattle.link_world.proofs.Names.{[], ◌+◌, ◌∙◌, ap, arith, HasRun, IsReached, refl, rules, seen, subst, sym, take, WorldValue}
 use Rattle.link_world.specs.declared.worlds.world.RunCount.{RunCount}
 use Rattle.link_world.proofs.Reached.{headline_seen}
 use Rattle.link_world.proofs.SameKind.{answer_refused, answer_wanting, same_then}

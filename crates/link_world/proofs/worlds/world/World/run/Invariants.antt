@@ -1,7 +1,4 @@
-use Rattle.std.proofs.Common.{◌≡◌, ◌+◌, take}
-use Rattle.link_world.specs.Claims.{Headline}
-use Rattle.link_world.specs.Runs.{HasRun}
-use Rattle.link_world.specs.Finishing.{IsSameKind}
+use Rattle.link_world.proofs.Names.{◌+◌, ◌≡◌, HasRun, Headline, IsSameKind, take}
 use Rattle.link_world.proofs.worlds.world.World.run.Given as goal
 
 abbrev pub invariant-loop-event : goal.invariant-loop-event

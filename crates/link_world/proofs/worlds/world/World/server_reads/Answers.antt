@@ -1,6 +1,4 @@
-use Rattle.std.proofs.Common.{rules, refl}
-use Rattle.protocol_model.specs.Ends.{serving_read}
-use Rattle.protocol_model.specs.declared.events.Event.TheVariants as event
+use Rattle.link_world.proofs.Names.{Event, refl, rules, serving_read}
 use Rattle.link_world.proofs.Events.{stands, answers, reads_can}
 use Rattle.link_world.proofs.Reached.{server_quiet, server_reads_lines}
 use Rattle.link_world.proofs.worlds.world.World.server_reads.Goals as goal
@@ -22,7 +20,7 @@ returns-clause-can c =
     reads_can c.args.self.now c.self.inside c.read_line.result c.self.view_is c.self.invariant (search rules) c.read_line.ensures.can
 
 pub invariant_of-self : goal.invariant_of-self
-invariant_of-self c = (answers event.ServerReads serving_read c.args.self.now c.self.inside
+invariant_of-self c = (answers Event.ServerReads serving_read c.args.self.now c.self.inside
     c.read_line.new.server c.in-Some.at c.index_mut.result.now c.read_line.new.connection c.read_line.result c.self.view_is c.self.invariant
     (λ x. refl)
     (reads_can c.args.self.now c.self.inside c.read_line.result c.self.view_is c.self.invariant (search rules) c.read_line.ensures.can)
@@ -30,7 +28,7 @@ invariant_of-self c = (answers event.ServerReads serving_read c.args.self.now c.
     c.read_line.ensures.server c.read_line.ensures.link).reached
 
 pub returns-clause-world : goal.returns-clause-world
-returns-clause-world c = (answers event.ServerReads serving_read c.args.self.now c.self.inside
+returns-clause-world c = (answers Event.ServerReads serving_read c.args.self.now c.self.inside
     c.read_line.new.server c.in-Some.at c.index_mut.result.now c.read_line.new.connection c.read_line.result c.self.view_is c.self.invariant
     (λ x. refl)
     (reads_can c.args.self.now c.self.inside c.read_line.result c.self.view_is c.self.invariant (search rules) c.read_line.ensures.can)

@@ -1,6 +1,4 @@
-use Rattle.std.proofs.Common.{rules, refl}
-use Rattle.protocol_model.specs.Ends.{serving_turned}
-use Rattle.protocol_model.specs.declared.events.Event.TheVariants as event
+use Rattle.link_world.proofs.Names.{Event, refl, rules, serving_turned}
 use Rattle.link_world.proofs.Events.{stands, not_now, answers}
 use Rattle.link_world.proofs.Reached.{server_quiet}
 use Rattle.link_world.proofs.ServerAnswers.{off_turn}
@@ -20,13 +18,13 @@ returns-in_default-clause-can c = not_now _ (off_turn c.args.self.now c.self.ins
     c.self.inside.connections.items c.self.inside.written.items c.self.view_is c.self.invariant (search rules))
 
 pub invariant_of-self : goal.invariant_of-self
-invariant_of-self c = (answers event.ServerTurn (serving_turned) c.args.self.now c.self.inside
+invariant_of-self c = (answers Event.ServerTurn (serving_turned) c.args.self.now c.self.inside
     c.take_turn.new.server c.in-Some.at c.index_mut.result.now c.take_turn.new.connection c.take_turn.result c.self.view_is c.self.invariant
     (λ x. refl) (search rules) (search rules) (search rules) (search rules)
     c.take_turn.ensures.server c.take_turn.ensures.link).reached
 
 pub returns-clause-world : goal.returns-clause-world
-returns-clause-world c = (answers event.ServerTurn (serving_turned) c.args.self.now c.self.inside
+returns-clause-world c = (answers Event.ServerTurn (serving_turned) c.args.self.now c.self.inside
     c.take_turn.new.server c.in-Some.at c.index_mut.result.now c.take_turn.new.connection c.take_turn.result c.self.view_is c.self.invariant
     (λ x. refl) (search rules) (search rules) (search rules) (search rules)
     c.take_turn.ensures.server c.take_turn.ensures.link).leads

@@ -1,5 +1,4 @@
-use Rattle.std.proofs.Common.{subst, None}
-use Rattle.link_world.specs.Links.{IsReached}
+use Rattle.link_world.proofs.Names.{IsReached, None, subst}
 use Rattle.link_world.proofs.Turning.{turn_made, turn_fewer, turn_still, turn_cut, on_err}
 use Rattle.link_world.proofs.worlds.world.World.turn.Goals as goal
 

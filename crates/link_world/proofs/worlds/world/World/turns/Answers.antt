@@ -1,6 +1,4 @@
-use Rattle.std.proofs.Common.{arith, false, true, None, Some, refl, ◌∙◌, rules}
-use Rattle.protocol_model.specs.Client.{due}
-use Rattle.link_world.specs.Parts.{unwatched}
+use Rattle.link_world.proofs.Names.{◌∙◌, arith, due, false, None, refl, rules, Some, true, unwatched}
 use Rattle.link_world.proofs.RoundLists.{none_yet, round_more, turns_whole, turns_cut, round_as}
 use Rattle.link_world.proofs.Turning.{due_there, none_due, still_as, on_err}
 use Rattle.link_world.proofs.worlds.world.World.turns.Goals as goal

@@ -1,7 +1,4 @@
-use Rattle.std.proofs.Common.{◌≡◌, ◌+◌, ◌≤◌, true, false, None, []}
-use Rattle.protocol_model.specs.Client.{due}
-use Rattle.protocol_model.specs.Rounds.{IsRound}
-use Rattle.link_world.specs.Parts.{Makes, unwatched}
+use Rattle.link_world.proofs.Names.{[], ◌+◌, ◌≡◌, ◌≤◌, due, false, IsRound, Makes, None, true, unwatched}
 use Rattle.link_world.proofs.RoundLists.{SoMany}
 use Rattle.link_world.proofs.Unsent.{unsent}
 use Rattle.link_world.proofs.worlds.world.World.turns.Given as goal

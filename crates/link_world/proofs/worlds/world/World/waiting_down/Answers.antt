@@ -1,5 +1,4 @@
-use Rattle.std.proofs.Common.{rules, ◌-◌}
-use Rattle.std.specs.Vec.{vec_len}
+use Rattle.link_world.proofs.Names.{◌-◌, rules, vec_len}
 use Rattle.link_world.proofs.AllBytes.{down_waits}
 use Rattle.link_world.proofs.worlds.world.World.waiting_down.Goals as goal
 

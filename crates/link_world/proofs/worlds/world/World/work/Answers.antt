@@ -1,6 +1,5 @@
-use Rattle.std.proofs.Common.{rules, sym, ◌∙◌}
+use Rattle.link_world.proofs.Names.{◌∙◌, rules, staged, sym}
 use Rattle.link_world.proofs.WorkLists.{working_more, working_ends, work_less, next_is}
-use Rattle.link_world.specs.Parts.{staged}
 use Rattle.link_world.proofs.worlds.world.World.work.Goals as goal
 
 pub loop-event-smaller : goal.loop-event-smaller

@@ -1,5 +1,4 @@
-use Rattle.std.proofs.Common.{◌≡◌, false, Some}
-use Rattle.link_world.specs.Parts.{Makes, staged}
+use Rattle.link_world.proofs.Names.{◌≡◌, false, Makes, Some, staged}
 use Rattle.link_world.proofs.ServerWork.{work_left}
 use Rattle.link_world.proofs.WorkLists.{Working}
 use Rattle.link_world.proofs.worlds.world.World.work.Given as goal
