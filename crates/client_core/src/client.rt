@@ -53,7 +53,6 @@ impl Model for Client {
     ghost invariant = { λ c. IsReached (record { client = c.executor; input = c.input; out = c.out.waiting }) };
 }
 
-/// The cause that a framing fault is for a client.
 fn cause_of(fault: FramingFault) -> Cause
     ensures long { fault ≡ FramingFault.LineTooLong → result ≡ Cause.LineTooLong }
     ensures bad { fault ≡ FramingFault.BadByte → result ≡ Cause.BadByte }

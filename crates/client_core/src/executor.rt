@@ -69,7 +69,6 @@ fn last_state(state: State, whole: bool, count: usize) -> State
     }
 }
 
-/// How many commands of a plan are left after that many.
 #[tactic(auto, using(crate::proofs::Joining::left_behind))]
 fn left_after(plan: &[Planned], count: usize) -> usize
     ensures { result ≡ length (drop count plan.now) }
@@ -182,7 +181,6 @@ impl Executor {
         self.abort = None;
     }
 
-    /// Whether a command is due.
     #[tactic(auto, using(crate::proofs::Joining::is_due, crate::proofs::Joining::none_due))]
     pub(crate) fn may_send(&self) -> bool
         ensures { result ≡ is_some (due self.now) }
@@ -202,14 +200,12 @@ impl Executor {
             && number <= CONNECTION_MAX
     }
 
-    /// Whether the client reads.
     pub(crate) fn may_read(&self) -> bool
         ensures { result ≡ may_read self.now }
     {
         self.on && !matches!(self.state, State::Faulted)
     }
 
-    /// Whether an abort may be sent.
     pub(crate) fn may_abort(&self) -> bool
         ensures { result ≡ may_abort self.now.state }
     {

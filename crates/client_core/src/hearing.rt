@@ -31,7 +31,6 @@ pub(crate) fn is_unasked(tag: Tag) -> bool
 }
 
 impl Executor {
-    /// Whether an end or an error under this tag ends the abort that was sent last.
     fn ends_abort(&self, tag: Tag) -> bool
         ensures done { result ≡ ends_abort self.now.abort tag Mark.Done }
         ensures error { result ≡ ends_abort self.now.abort tag Mark.Error }

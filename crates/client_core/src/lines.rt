@@ -57,7 +57,6 @@ impl Executor {
         Ok(())
     }
 
-    /// A line is read, its text in place. Fails only if out of memory.
     #[tactic(auto, using(crate::proofs::Readings::one_response))]
     pub(crate) fn hear_line(&mut self, line: &[u8]) -> Result<(), AllocError>
         requires connection { IsConnection self.old.last }

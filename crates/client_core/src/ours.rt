@@ -6,7 +6,6 @@ ghost use Rattle.client_core.specs.Clients.{is_ours, are_ours};
 use contact_ledger::Feature;
 use dmis_program::Wanted;
 
-/// Whether a feature has the label of a wanted one, and as many points as that has touches.
 fn is_ours(wanted: &Wanted, feature: &Feature) -> bool
     ensures { result ≡ is_ours wanted.now feature.now }
 {

@@ -174,7 +174,6 @@ fn tells_homed(kind: Kind, given: &Option<Datum>) -> bool
     matches!((kind, given), (Kind::IsHomed, Some(Datum::Homed(true))))
 }
 
-/// Where the commands of a plan from this index on continue: after the homing, where that is the first of them.
 fn behind_homing(plan: &[Planned], index: usize) -> usize
     requires { index ≤ length plan.now }
     ensures rest { drop result plan.now ≡ without_homing (drop index plan.now) }

@@ -16,7 +16,6 @@ use fixed_um::{Dir, Frame, Name, Point};
 use itoa::Buffer;
 use std::alloc::AllocError;
 
-/// Adds the answer about home.
 fn add_homed_is(text: &mut Vec<u8>, homed: bool) -> Result<(), AllocError>
     ensures { OnOk result (text.new.items
         ≡ text.old.items ++ spaced (codes "HOMEDIS" ∷ homed_field homed ∷ [])) }
@@ -28,7 +27,6 @@ fn add_homed_is(text: &mut Vec<u8>, homed: bool) -> Result<(), AllocError>
     }
 }
 
-/// Adds a target and its frame.
 #[tactic(auto, using(crate::proofs::EntryWrites::pieces))]
 fn add_moved(text: &mut Vec<u8>, target: Point, frame: Frame) -> Result<(), AllocError>
     ensures text { OnOk result (text.new.items
@@ -40,7 +38,6 @@ fn add_moved(text: &mut Vec<u8>, target: Point, frame: Frame) -> Result<(), Allo
     add_frame(text, frame)
 }
 
-/// Adds a contact.
 #[tactic(auto, using(crate::proofs::EntryWrites::pieces))]
 fn add_contact(
     text: &mut Vec<u8>,
@@ -64,7 +61,6 @@ fn add_contact(
     add_point(text, point)
 }
 
-/// Adds the fields of an act.
 #[tactic(auto, using(crate::proofs::EntryWrites::pieces))]
 fn add_act(text: &mut Vec<u8>, act: &Act) -> Result<(), AllocError>
     ensures text { OnOk result (text.new.items ≡ text.old.items ++ spaced (act_fields act.now)) }
@@ -105,7 +101,6 @@ pub fn add_entry(text: &mut Vec<u8>, connection: u64, act: &Act) -> Result<(), A
     Ok(())
 }
 
-/// Adds the lines of acts.
 fn add_entries(text: &mut Vec<u8>, entries: &[(u64, Act)]) -> Result<(), AllocError>
     ensures text { OnOk result (text.new.items
         ≡ text.old.items ++ text_of (map act_line entries.now)) }

@@ -15,7 +15,6 @@ use crate::fields::{add_first_length, add_frame, add_length, add_name, add_numbe
 use fixed_um::Point;
 use std::alloc::AllocError;
 
-/// Adds an origin.
 fn add_origin(text: &mut Vec<u8>, origin: Option<Origin>) -> Result<(), AllocError>
     requires { IsOrigin origin }
     ensures text { OnOk result (text.new.items ≡ text.old.items ++ spaced (origin_fields origin)) }
@@ -30,7 +29,6 @@ fn add_origin(text: &mut Vec<u8>, origin: Option<Origin>) -> Result<(), AllocErr
     }
 }
 
-/// Adds a point's line.
 fn add_point_line(text: &mut Vec<u8>, point: Point) -> Result<(), AllocError>
     ensures text { OnOk result (text.new.items ≡ text.old.items
         ++ text_of (point_line point ∷ [])) }
@@ -43,7 +41,6 @@ fn add_point_line(text: &mut Vec<u8>, point: Point) -> Result<(), AllocError>
     Ok(())
 }
 
-/// Adds the lines of points.
 fn add_points(text: &mut Vec<u8>, points: &[Point]) -> Result<(), AllocError>
     ensures text { OnOk result (text.new.items ≡ text.old.items
         ++ text_of (map point_line points.now)) }
@@ -55,7 +52,6 @@ fn add_points(text: &mut Vec<u8>, points: &[Point]) -> Result<(), AllocError>
     Ok(())
 }
 
-/// Adds the lines of a feature.
 fn add_feature(text: &mut Vec<u8>, feature: &Feature) -> Result<(), AllocError>
     requires { CanBeWritten feature.now }
     ensures text { OnOk result (text.new.items ≡ text.old.items
@@ -71,7 +67,6 @@ fn add_feature(text: &mut Vec<u8>, feature: &Feature) -> Result<(), AllocError>
     text.extend_from_slice(b"END\n")
 }
 
-/// Adds the lines of features.
 fn add_features(text: &mut Vec<u8>, features: &[Feature]) -> Result<(), AllocError>
     requires { AllByRecursion CanBeWritten features.now }
     ensures text { OnOk result (text.new.items ≡ text.old.items

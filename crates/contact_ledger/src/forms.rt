@@ -62,7 +62,6 @@ fn direction_of(i: &[u8], j: &[u8], k: &[u8]) -> Option<Dir>
     }
 }
 
-/// Whether a line has these three fields.
 fn are_fields(line: &[u8], i: &[u8], j: &[u8], k: &[u8]) -> bool
     ensures { IsTrue result ↔ (fields_of line.now ≡ i.now ∷ j.now ∷ k.now ∷ []) }
 {
@@ -105,7 +104,6 @@ impl Forms {
         Some(length)
     }
 
-    /// The point that a line of three fields is.
     #[tactic(auto, using(crate::proofs::OpeningLines::points))]
     pub(crate) fn point_line(&mut self, line: &[u8]) -> Option<Point>
         ensures { Finds result (λ p. IsOnWire p × (line.now ≡ point_line p)) }

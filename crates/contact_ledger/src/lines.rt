@@ -4,7 +4,6 @@ ghost use Rattle.std.specs.Prelude.{◌≡◌, ◌<◌, ◌∷◌, ◌==◌, [],
 ghost use Rattle.std.specs.List.{position};
 ghost use Rattle.contact_ledger.specs.Lines.{whole_lines, fields_of, fields_behind};
 
-/// Where a byte first occurs.
 fn place_of(bytes: &[u8], mark: u8) -> Option<usize>
     ensures place { result ≡ position (λ b. b == mark) bytes.now }
     ensures within { IfSome result (λ at. at < length bytes.now) }

@@ -28,7 +28,6 @@ pub(crate) struct Opening {
 /// The most points that a feature has in a text (this profile).
 const POINTS_MAX: u64 = 10_000;
 
-/// The version that a first line names.
 pub(crate) fn read_header(line: &[u8]) -> Option<Version>
     ensures { Finds result (λ version. line.now ≡ header version) }
 {

@@ -28,7 +28,6 @@ pub(crate) enum Place {
     Within(Version, Opening, Points),
 }
 
-/// The place after the first line.
 fn behind_header(number: u64, line: &[u8]) -> Result<Place, TextFault>
     ensures next { (features : List Feature)
         → IfOk result (λ p. Next features Start line.now features p) }
@@ -42,7 +41,6 @@ fn behind_header(number: u64, line: &[u8]) -> Result<Place, TextFault>
     }
 }
 
-/// The place after a line that opens a feature.
 fn behind_opening(
     alloc: Global,
     forms: &mut Forms,
@@ -62,7 +60,6 @@ fn behind_opening(
     }
 }
 
-/// The place after a point's line of a feature that lacks points.
 fn behind_point(
     forms: &mut Forms,
     version: Version,

@@ -70,7 +70,6 @@ fn sum(x: i128, y: i128, z: i128) -> i128
     x + y + z
 }
 
-/// The scalar product of a deviation and a direction.
 fn scalar_product(deviation: Deviation, direction: Dir) -> i128
     requires { IsDeviation deviation }
     ensures value { result ≡ scalar_product deviation direction }
@@ -91,7 +90,6 @@ fn squared(component: i64) -> u128
     magnitude * magnitude
 }
 
-/// The square of a direction's length.
 fn squared_length(direction: Dir) -> u128
     ensures value { result ≡ squared_length direction }
     ensures some { 0 < result }

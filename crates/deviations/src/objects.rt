@@ -310,7 +310,6 @@ fn put_asked(alloc: Global, json: &mut Writer, row: &Row<'_>) -> Result<(), Allo
     Ok(())
 }
 
-/// What was found.
 #[tactic(auto, unfolding(crate::specs::Json::found_members))]
 fn put_found(alloc: Global, json: &mut Writer, row: &Row<'_>) -> Result<(), AllocError>
     ensures { Puts result json.old json.new (found_members row.now) }
@@ -333,7 +332,6 @@ fn put_means(alloc: Global, json: &mut Writer, row: &Row<'_>) -> Result<(), Allo
     Ok(())
 }
 
-/// The object of a row.
 #[tactic(auto, unfolding(crate::specs::Json::row_tokens))]
 fn put_row(alloc: Global, json: &mut Writer, row: &Row<'_>) -> Result<(), AllocError>
     ensures { Puts result json.old json.new (row_tokens row.now) }

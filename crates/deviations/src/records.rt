@@ -165,7 +165,6 @@ fn push_connection(
     }
 }
 
-/// The record of a row.
 fn record_of(alloc: Global, row: &Row<'_>) -> Result<ByteRecord, AllocError>
     ensures { IfOk result (λ columns. fields_of columns ≡ record_of row.now) }
 {
@@ -183,7 +182,6 @@ fn record_of(alloc: Global, row: &Row<'_>) -> Result<ByteRecord, AllocError>
     Ok(columns)
 }
 
-/// The text of one record.
 fn record_text(alloc: Global, columns: &ByteRecord) -> Result<Vec<u8>, AllocError>
     ensures { IfOk result (λ text. text.items ≡ row_text default_writer (fields_of columns.now)) }
 {
@@ -198,7 +196,6 @@ fn record_text(alloc: Global, columns: &ByteRecord) -> Result<Vec<u8>, AllocErro
     }
 }
 
-/// The record of the names of the columns.
 fn header(alloc: Global) -> Result<ByteRecord, AllocError>
     ensures { IfOk result (λ columns. fields_of columns ≡ header) }
 {

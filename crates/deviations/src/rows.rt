@@ -88,7 +88,6 @@ fn connection_of(origin: Option<Origin>) -> Option<u64>
     }
 }
 
-/// Adds the places of a feature's points.
 fn push_places<'a>(
     places: &mut Vec<Place<'a>>,
     wanted: &'a Wanted,
@@ -155,7 +154,6 @@ fn push_missing<'a>(places: &mut Vec<Place<'a>>, wanted: &'a [Wanted]) -> Result
     Ok(())
 }
 
-/// The places of features that are the first of those that the program asks for, and of those that are missing.
 fn places_of<'a>(
     alloc: Global,
     wanted: &'a [Wanted],

@@ -150,7 +150,6 @@ pub struct Text {
     pub length: usize,
 }
 
-/// The text of the features.
 fn features_written(alloc: Global, client: &Client) -> Result<Vec<u8>, AllocError>
     ensures features { IfOk result (λ text.
         IsFeatures text.items client.now.client.table.tally.features) }

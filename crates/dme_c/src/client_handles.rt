@@ -31,7 +31,6 @@ impl ClientHandle {
         unsafe { Box::from_raw(alloc, self.at.cast::<Client>()) }
     }
 
-    /// Puts a client in.
     pub(crate) fn put(&mut self, client: Box<Client>)
         ensures { self.new.held ≡ Some client.value }
     {

@@ -35,7 +35,6 @@ fn client_read(
     }
 }
 
-/// The same client, boxed.
 fn client_boxed(
     alloc: Global,
     setup: &[u8],

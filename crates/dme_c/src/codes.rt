@@ -30,7 +30,6 @@ pub(crate) fn refusal_number(why: NotMade) -> u32
     }
 }
 
-/// The number of a fault of a client.
 fn fault_number(fault: ClientFault) -> u32
     ensures { client_fault result ≡ Some fault }
 {
@@ -48,7 +47,6 @@ fn fault_number(fault: ClientFault) -> u32
     }
 }
 
-/// The number of a call's answer.
 pub(crate) fn call_number(answer: Result<(), ClientFault>) -> u32
     ensures { call_answer result ≡ Some answer }
 {
@@ -58,7 +56,6 @@ pub(crate) fn call_number(answer: Result<(), ClientFault>) -> u32
     }
 }
 
-/// The number of a reading call's answer.
 pub(crate) fn read_number(answer: Result<bool, ClientFault>) -> u32
     ensures { read_answer result ≡ Some answer }
 {
@@ -69,7 +66,6 @@ pub(crate) fn read_number(answer: Result<bool, ClientFault>) -> u32
     }
 }
 
-/// The number of a state.
 pub(crate) fn number_of_state(state: State) -> u32
     ensures { result ≡ state_number state }
 {

@@ -31,7 +31,6 @@ impl ErrorsHandle {
         unsafe { Box::from_raw(alloc, self.at.cast::<Hearing>()) }
     }
 
-    /// Puts errors in.
     pub(crate) fn put(&mut self, hearing: Box<Hearing>)
         ensures { self.new.held ≡ Some hearing.value }
     {

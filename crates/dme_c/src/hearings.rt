@@ -23,7 +23,6 @@ pub struct Heard {
     pub length: usize,
 }
 
-/// The number of the kind of the command that an error is about.
 fn kind_about(about: Option<Sent>) -> u32
     ensures { result ≡ kind_about about }
 {
@@ -33,7 +32,6 @@ fn kind_about(about: Option<Sent>) -> u32
     }
 }
 
-/// How many touches were sent up to the one that an error is about.
 fn touch_about(about: Option<Sent>) -> u64
     ensures { result ≡ touch_about about }
 {
@@ -127,14 +125,12 @@ impl Hearing {
         }
     }
 
-    /// The first error that waits.
     fn first(&self) -> Option<&Report>
         ensures { option_map (λ r. r.now) result ≡ slice_get self.now.waiting 0 }
     {
         self.waiting.front()
     }
 
-    /// The first error waits no more.
     fn pass(&mut self)
         ensures { self.new ≡ record (self.old) { waiting = drop 1 self.old.waiting } }
     {

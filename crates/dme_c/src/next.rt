@@ -47,7 +47,6 @@ pub(crate) fn kind_number(kind: Kind) -> u32
     }
 }
 
-/// The number of the kind of the command that is due.
 fn command_of(client: &Client) -> u32
     ensures { result ≡ command_number (planned_command (due client.now.client)) }
 {
@@ -57,7 +56,6 @@ fn command_of(client: &Client) -> u32
     }
 }
 
-/// Where the command that is due moves or touches.
 fn place_of(client: &Client) -> Option<Point>
     ensures { result ≡ command_place (planned_command (due client.now.client)) }
 {
@@ -68,7 +66,6 @@ fn place_of(client: &Client) -> Option<Point>
     }
 }
 
-/// The normal of the touch that is due.
 fn normal_of(client: &Client) -> Option<Dir>
     ensures { result ≡ command_normal (planned_command (due client.now.client)) }
 {

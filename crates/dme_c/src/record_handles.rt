@@ -31,7 +31,6 @@ impl RecordHandle {
         unsafe { Box::from_raw(alloc, self.at.cast::<Recording>()) }
     }
 
-    /// Puts a record in.
     pub(crate) fn put(&mut self, recording: Box<Recording>)
         ensures { self.new.held ≡ Some recording.value }
     {

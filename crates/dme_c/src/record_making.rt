@@ -62,7 +62,6 @@ pub(crate) struct Begun {
     pub held: usize,
 }
 
-/// The program of the texts.
 fn program_of_texts(alloc: Global, setup: &[u8], program: &[u8]) -> Result<Program, NotBegun>
     ensures read { IfOk result (Means setup.now program.now) }
     ensures refused { (part : List ℕ) (window : ℕ)
@@ -88,7 +87,6 @@ fn part_in(text: &[u8]) -> Option<&[u8]>
     if text.is_empty() { None } else { Some(text) }
 }
 
-/// Whether a text is empty or names a part.
 fn may_be(text: &[u8]) -> bool
     ensures { IsTrue result ↔ IsPartGiven (part_of text.now) }
 {
@@ -121,7 +119,6 @@ fn asked(
     Ok(program)
 }
 
-/// What the record gives, or why it is refused.
 fn beginning_of(
     alloc: Global,
     bytes: &[u8],
@@ -160,7 +157,6 @@ fn first_bytes(
     Ok(waiting)
 }
 
-/// A client that continues from what a record gives.
 fn continued(
     alloc: Global,
     program: Program,
@@ -247,7 +243,6 @@ pub struct Started {
     pub label: usize,
 }
 
-/// The number of the reason why nothing is made.
 fn not_begun_number(why: &NotBegun) -> u32
     ensures { result ≡ not_begun_number why.now }
 {
@@ -263,7 +258,6 @@ fn not_begun_number(why: &NotBegun) -> u32
     }
 }
 
-/// The line that is refused.
 fn line_in(why: &NotBegun) -> u64
     ensures { result ≡ line_in why.now }
 {

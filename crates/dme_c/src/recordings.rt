@@ -58,7 +58,6 @@ impl Recording {
         }
     }
 
-    /// The number of the next connection.
     pub(crate) fn next_connection(&self) -> u64
         ensures { result ≡ next_number self.now }
     {

@@ -20,7 +20,6 @@ pub struct Refused {
     pub line: u64,
 }
 
-/// The number of a refusal's code.
 fn cause_number(refusal: Refusal) -> u32
     ensures { result ≡ cause_number refusal }
 {

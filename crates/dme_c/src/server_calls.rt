@@ -19,7 +19,6 @@ use line_framing::FramingFault;
 use server_core::{Outcome, Server, ServerFault};
 use std::alloc::Global;
 
-/// The number of a fault of a server.
 fn fault_number(fault: ServerFault) -> u32
     ensures { server_fault result ≡ Some fault }
 {
@@ -34,7 +33,6 @@ fn fault_number(fault: ServerFault) -> u32
     }
 }
 
-/// The number of a call's answer.
 fn call_number(answer: Result<(), ServerFault>) -> u32
     ensures { served result ≡ Some answer }
 {
@@ -44,7 +42,6 @@ fn call_number(answer: Result<(), ServerFault>) -> u32
     }
 }
 
-/// The number of a reading call's answer.
 fn read_number(answer: Result<bool, ServerFault>) -> u32
     ensures { line_served result ≡ Some answer }
 {
@@ -138,7 +135,6 @@ pub extern "C" fn dme_server_turn(server: &mut ServerHandle, alloc: Global) -> u
     call_number(answer)
 }
 
-/// What runs has ended with this outcome.
 fn ended(server: &mut ServerHandle, alloc: Global, outcome: Outcome) -> u32
     requires { IsSome server.old.held }
     ensures { Called server.old.held server.new.held (served result) (Ends outcome) }

@@ -31,7 +31,6 @@ impl ServerHandle {
         unsafe { Box::from_raw(alloc, self.at.cast::<Server>()) }
     }
 
-    /// Puts a server in.
     pub(crate) fn put(&mut self, server: Box<Server>)
         ensures { self.new.held ≡ Some server.value }
     {

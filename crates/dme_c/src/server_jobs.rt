@@ -25,7 +25,6 @@ pub struct Running {
     pub k: i64,
 }
 
-/// The number of what runs.
 fn number_of(server: &Server) -> u32
     ensures { result ≡ job_number (running_job server.now.end.server) }
 {
@@ -38,7 +37,6 @@ fn number_of(server: &Server) -> u32
     }
 }
 
-/// The place of what runs.
 fn place_of(server: &Server) -> Option<Point>
     ensures { result ≡ job_place (running_job server.now.end.server) }
 {
@@ -49,7 +47,6 @@ fn place_of(server: &Server) -> Option<Point>
     }
 }
 
-/// The normal of what runs.
 fn normal_of(server: &Server) -> Option<Dir>
     ensures { result ≡ job_normal (running_job server.now.end.server) }
 {

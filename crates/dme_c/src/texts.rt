@@ -12,7 +12,6 @@ use dmis_program::{Frames, Program, ProgramFault};
 use std::alloc::Global;
 use tool_rack::{Setup, SetupFault};
 
-/// The setup of this text.
 pub(crate) fn setup_read(alloc: Global, text: &[u8]) -> Result<Setup, NotMade>
     ensures read { IfOk result (λ setup. setup_of text.now ≡ Ok setup) }
     ensures refused { IfErr result (Refuses NotMade.BadSetup (IsBadSetup text.now)) }
@@ -24,7 +23,6 @@ pub(crate) fn setup_read(alloc: Global, text: &[u8]) -> Result<Setup, NotMade>
     }
 }
 
-/// The program of this text, with these frames.
 pub(crate) fn program_read(alloc: Global, frames: &Frames, text: &[u8]) -> Result<Program, NotMade>
     ensures read { IfOk result (λ program. program_of frames.now text.now ≡ Ok program) }
     ensures refused { IfErr result (Refuses NotMade.BadProgram

@@ -17,7 +17,6 @@ pub struct TouchPlace {
     pub touch: usize,
 }
 
-/// How many touches each feature has.
 fn touch_counts(alloc: Global, wanted: &[Wanted]) -> Result<Vec<usize>, AllocError>
     ensures { IfOk result (λ counts. counts.items ≡ touch_counts wanted.now) }
 {

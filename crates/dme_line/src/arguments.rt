@@ -115,7 +115,6 @@ pub(crate) fn is_empty_list(bytes: &[u8]) -> bool
     }
 }
 
-/// The one word between the parentheses.
 pub(crate) fn read_word(bytes: &[u8]) -> Option<&[u8]>
     ensures { MatchOption result
         ((word : List ℕ) → IsOneWord (tokens bytes.now) word → ⊥)

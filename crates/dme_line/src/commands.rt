@@ -87,7 +87,6 @@ impl Command {
 }
 
 impl Kind {
-    /// Whether commands of this kind have event tags.
     pub(crate) fn is_event(self) -> bool
         ensures { result ≡ is_event_kind self }
     {

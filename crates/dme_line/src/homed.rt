@@ -48,7 +48,6 @@ pub fn write_homed(out: &mut Vec<u8>, homed: bool) -> Result<(), AllocError>
     Ok(())
 }
 
-/// What a digit says.
 fn said_by(word: &[u8]) -> Result<bool, NotHomedText>
     ensures ok { IfOk result (λ homed. word.now ≡ homed_digit homed) }
     ensures err { OnErr result ((homed : Bool) → word.now ≡ homed_digit homed → ⊥) }

@@ -15,7 +15,6 @@ use crate::tokens::is_word;
 use fixed_um::{Dir, Point, Um, read_dir};
 
 impl<'a> Argument<'a> {
-    /// The one word of an argument with this name.
     fn single(&self, name: &[u8]) -> Option<&'a [u8]>
         ensures { option_copied result ≡ single_of name.now (the_argument self.now) }
     {
@@ -73,7 +72,6 @@ impl<'a> Place<'a> {
         )
     }
 
-    /// The coordinate of the axis with this name.
     fn axis(&self, name: &[u8]) -> Option<Um>
         ensures { Finds result (IsAxis name.now (the_list self.now)) }
     {

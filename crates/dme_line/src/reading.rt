@@ -106,7 +106,6 @@ fn likely_kind(name: &[u8]) -> Kind {
     }
 }
 
-/// The kind of command by a name.
 fn kind_named(name: &[u8]) -> Option<Kind>
     ensures { Finds result (λ kind. is_word (kind_name kind) name.now ≡ true) }
 {
@@ -144,7 +143,6 @@ fn read_set_coord_system(bytes: &[u8]) -> Option<Command>
     Some(Command::SetCoordSystem(read_system(bytes)?))
 }
 
-/// Fails only if out of memory.
 fn read_change_tool(alloc: Global, bytes: &[u8]) -> Result<Option<Command>, AllocError>
     ensures read { IfOk result (λ o. Finds o (Says Kind.ChangeTool (tokens bytes.now))) }
     ensures err { OnErr result ((word : List ℕ) × IsOneWord (tokens bytes.now) word) }
@@ -155,7 +153,6 @@ fn read_change_tool(alloc: Global, bytes: &[u8]) -> Result<Option<Command>, Allo
     }
 }
 
-/// The command of a kind that the bytes after its name say. Fails only if out of memory.
 fn read_arguments(alloc: Global, kind: Kind, bytes: &[u8]) -> Result<Option<Command>, AllocError>
     ensures read { IfOk result (λ o. Finds o (Says kind (tokens bytes.now))) }
     ensures err { OnErr result ((kind ≡ Kind.ChangeTool)

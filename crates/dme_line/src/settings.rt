@@ -80,7 +80,6 @@ pub(crate) fn read_tool(alloc: Global, bytes: &[u8]) -> Result<Option<Name>, All
 }
 
 impl Transformation<'_> {
-    /// The three lengths.
     fn lengths(&self) -> Option<Point>
         ensures { Finds result (HasLengths (the_seven self.now)) }
     {

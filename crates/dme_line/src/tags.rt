@@ -104,7 +104,6 @@ pub(crate) fn cut_tag(line: &[u8]) -> Option<(Tag, &[u8])>
 }
 
 impl Tag {
-    /// Whether this is the tag of an event command.
     pub(crate) fn is_event(self) -> bool
         ensures { result ≡ is_event_tag self }
     {

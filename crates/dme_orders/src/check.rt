@@ -63,7 +63,6 @@ pub(crate) fn read_input<R: Source>(alloc: Global, source: &mut R) -> Result<Vec
     Ok(pull_all(alloc, source, 1_000_000)?)
 }
 
-/// The program that the input is.
 fn read_program(alloc: Global, input: &[u8], frames: &Frames) -> Result<Program, CheckFault>
     ensures ok { IfOk result (λ program. program_of frames.now input.now ≡ Ok program) }
     ensures refused { IfErr result (BlamesProgram frames.now (Some input.now) (Some [])) }
@@ -78,7 +77,6 @@ fn read_program(alloc: Global, input: &[u8], frames: &Frames) -> Result<Program,
     }
 }
 
-/// The text of the plan of the program that a source gives.
 fn checked_text<R: Source>(
     alloc: Global,
     frames: &Frames,

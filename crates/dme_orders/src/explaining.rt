@@ -11,7 +11,6 @@ use byte_ports::Sink;
 use refusal_guide::{Page, Topic, write_page};
 use std::alloc::{AllocError, Global};
 
-/// The text of a page. Fails only if out of memory.
 fn text_of(alloc: Global, page: &Page) -> Result<Vec<u8>, AllocError>
     ensures text { IfOk result (λ text. text.items ≡ page_text page.now) }
     ensures some { IfOk result (λ text. 0 < length text.items) }

@@ -63,7 +63,6 @@ fn declared(alloc: Global) -> Result<Vec<u8>, AllocError>
     Ok(text)
 }
 
-/// A drawing of features. Fails only if out of memory.
 fn drawn(alloc: Global, program: &Program, features: &[Feature]) -> Result<Vec<u8>, AllocError>
     ensures text { IfOk result (λ text. Adds (IsDrawing program.now features.now) xml text.items) }
     ensures some { IfOk result (λ text. 0 < length text.items) }

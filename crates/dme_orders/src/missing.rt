@@ -41,7 +41,6 @@ fn behind<'a>(wanted: &'a [Wanted], count: usize) -> &'a [Wanted]
     rest
 }
 
-/// The labels of features. Fails only if out of memory.
 fn labels_of(alloc: Global, wanted: &[Wanted]) -> Result<Vec<Name>, AllocError>
     ensures { IfOk result (λ labels. labels.items ≡ labels_of wanted.now) }
 {
@@ -54,7 +53,6 @@ fn labels_of(alloc: Global, wanted: &[Wanted]) -> Result<Vec<Name>, AllocError>
     Ok(labels)
 }
 
-/// The noun that goes with a number of features.
 pub(crate) fn feature_noun(count: usize) -> &'static str
     ensures { result.now ≡ feature_noun count }
 {

@@ -169,7 +169,6 @@ fn features_text(
     Ok(text)
 }
 
-/// The text of a contacts file. Fails only if out of memory.
 #[tactic(auto, using(crate::proofs::RecordLemmas::contacts_have_text))]
 fn contacts_text(alloc: Global, ledger: &ServerLedger) -> Result<Vec<u8>, AllocError>
     ensures text { IfOk result (λ text. text.items ≡ contacts_text ledger.now) }

@@ -25,7 +25,6 @@ fn homing_mark(command: &Command) -> &'static str
     }
 }
 
-/// The number after another.
 fn next_number(number: u32) -> u32
     requires { number ≤ 9999 }
     ensures { result ≡ number_behind number }
@@ -42,7 +41,6 @@ struct Lines {
 }
 
 impl Lines {
-    /// No lines.
     fn new(alloc: Global) -> Lines
         ensures text { result.text.items ≡ [] }
         ensures number { result.number ≡ 1 }
@@ -98,7 +96,6 @@ impl Lines {
         Ok(())
     }
 
-    /// Adds the lines of commands, as they are shown before a run.
     fn push_all_shown(&mut self, commands: &[Planned]) -> Result<(), AllocError>
         requires { All IsSendable commands.now }
         ensures { OnOk result (self.new.text.items ≡ self.old.text.items
@@ -125,7 +122,6 @@ impl Lines {
     }
 }
 
-/// Commands as lines that are shown before a run. Fails only if out of memory.
 fn shown_text(alloc: Global, commands: &[Planned]) -> Result<Vec<u8>, AllocError>
     requires { All IsSendable commands.now }
     ensures { IfOk result (λ text. text.items ≡ shown_behind 0 commands.now) }
@@ -135,14 +131,12 @@ fn shown_text(alloc: Global, commands: &[Planned]) -> Result<Vec<u8>, AllocError
     Ok(lines.text)
 }
 
-/// Whether a command touches.
 fn is_touch(command: &Command) -> bool
     ensures { result ≡ is_touch command.now }
 {
     matches!(command, Command::PtMeas(_, _))
 }
 
-/// Where the first touch is.
 fn first_touch(commands: &[Planned]) -> Option<usize>
     ensures place { result ≡ position (λ p. is_touch p.command) commands.now }
     ensures within { IfSome result (λ at. at < length commands.now) }

@@ -86,7 +86,6 @@ impl From<AllocError> for FilesFault {
     }
 }
 
-/// The whole text of a source.
 pub(crate) fn read_text<S: Source>(
     alloc: Global,
     source: &mut S,
@@ -119,7 +118,6 @@ pub fn read_setup<S: Source>(alloc: Global, source: &mut S) -> Result<Setup, Fil
     }
 }
 
-/// The schedule that a source gives.
 pub(crate) fn read_schedule<S: Source>(
     alloc: Global,
     source: &mut S,
@@ -137,7 +135,6 @@ pub(crate) fn read_schedule<S: Source>(
     }
 }
 
-/// The features that a source gives.
 pub(crate) fn features_from<S: Source>(
     alloc: Global,
     source: &mut S,
@@ -191,7 +188,6 @@ pub(crate) fn record_from<S: Source>(
     }
 }
 
-/// The program that a source gives under these frames.
 pub(crate) fn read_program<S: Source>(
     alloc: Global,
     frames: &Frames,
@@ -212,7 +208,6 @@ pub(crate) fn read_program<S: Source>(
     }
 }
 
-/// The setup that a source gives, if there is one.
 pub(crate) fn named_setup<S: Source>(
     alloc: Global,
     source: &mut Option<S>,

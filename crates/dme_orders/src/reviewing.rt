@@ -20,7 +20,6 @@ struct ReadSetup {
     text: Vec<u8>,
 }
 
-/// The setup that a source gives, if one is named, with its text.
 fn read_named_setup<S: Source>(
     alloc: Global,
     source: &mut Option<S>,
@@ -47,7 +46,6 @@ fn read_named_setup<S: Source>(
     }
 }
 
-/// The exit status of a review.
 fn status_of(is_refused: bool) -> u8
     ensures { result ≡ review_status is_refused }
 {

@@ -8,7 +8,6 @@ use run_record::{Record, RunError};
 use session_telling::visible;
 use std::alloc::{AllocError, Global};
 
-/// The line of an error. Fails only if out of memory.
 fn error_text(alloc: Global, error: &RunError) -> Result<String, AllocError>
     ensures { IfOk result (λ text. string_bytes text ≡ error_line error.now) }
 {
@@ -17,7 +16,6 @@ fn error_text(alloc: Global, error: &RunError) -> Result<String, AllocError>
     format!(in alloc; "dme: {label}: during its run the server reported {shown}\n")
 }
 
-/// The lines of errors. Fails only if out of memory.
 fn lines_of(alloc: Global, errors: &[RunError]) -> Result<String, AllocError>
     ensures { IfOk result (λ text. string_bytes text ≡ flat_map error_line errors.now) }
 {

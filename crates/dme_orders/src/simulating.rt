@@ -29,7 +29,6 @@ struct Simulation {
     program: Program,
 }
 
-/// The world of a program and a setup in which nothing has happened. Fails only if out of memory.
 fn new_world(alloc: Global, program: Program, setup: Setup, window: u8) -> Result<World, AllocError>
     requires { is_window window ≡ true }
     ensures { IfOk result (λ world. world
@@ -85,7 +84,6 @@ fn play<L: Sink>(
     }
 }
 
-/// Plays the schedule of a simulation in a new world. Fails only if out of memory.
 fn played<L: Sink>(
     alloc: Global,
     input: Simulation,
@@ -109,7 +107,6 @@ fn played<L: Sink>(
     }
 }
 
-/// The state of the client of a world, and the world's report. Fails only if out of memory.
 fn reported(alloc: Global, world: &World) -> Result<(State, Vec<u8>), AllocError>
     ensures state { IfOk result (λ end. end.0 ≡ world.now.world.client.client.state) }
     ensures text { IfOk result (λ end. end.1.items ≡ report_text (shown_of world.now.world)) }

@@ -31,7 +31,6 @@ fn push_starts(text: &mut String, starts: &[u64]) -> Result<(), AllocError>
     Ok(())
 }
 
-/// The line of a verdict. Fails only if out of memory.
 fn verdict_text(
     alloc: Global,
     features: &[Feature],

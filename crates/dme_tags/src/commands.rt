@@ -41,7 +41,6 @@ impl Model for Commands {
         × (c.questions ≡ count_by is_open_question (listed c.slab.slots c.keys.items)) };
 }
 
-/// One for a command that has not failed.
 fn open_one(held: &OpenCommand) -> usize
     ensures { result ≡ cond (is_open held.now) 1 0 }
 {
@@ -157,7 +156,6 @@ impl Commands {
         self.questions -= question_one(&ended);
     }
 
-    /// How many have not failed.
     #[tactic(auto, using(crate::proofs::Places::count_open_by))]
     pub(crate) fn count_open(&self) -> usize
         ensures { result ≡ count_open self.now }

@@ -25,7 +25,6 @@ pub(crate) enum Sort {
 }
 
 impl Sort {
-    /// The sort of tags that commands of a kind have.
     pub(crate) fn of(kind: Kind) -> Sort
         ensures { is_event_sort result ≡ is_event_kind kind }
     {
@@ -45,7 +44,6 @@ impl Sort {
         }
     }
 
-    /// The tag of this sort with a number.
     fn tag(self, number: u32) -> Tag
         requires { number ≤ last_number }
         ensures { result ≡ numbered self number }
@@ -57,7 +55,6 @@ impl Sort {
     }
 }
 
-/// The first number from here on whose tag is not held.
 fn first_free(commands: &Commands, sort: Sort, from: u32) -> Option<u32>
     requires { from ≤ last_number + 1 }
     ensures free { result ≡ first_free (numbered sort) commands.now from (last_number + 1 - from) }

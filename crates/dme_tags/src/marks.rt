@@ -22,7 +22,6 @@ fn asks_data(kind: Kind) -> bool
     matches!(kind, Kind::PtMeas | Kind::IsHomed)
 }
 
-/// Whether two tags are one.
 fn is_same(one: Tag, other: Tag) -> bool
     ensures { result ≡ tag_is one other }
 {
@@ -101,7 +100,6 @@ fn ended(held: &OpenCommand, front: bool) -> Result<Ended, TagFault>
 
 // ---- lists of open commands
 
-/// Whether each of the commands before a place has failed.
 fn all_failed_before(commands: &Commands, index: usize) -> bool
     requires { index ≤ length commands.now }
     ensures { result ≡ all_failed (take index commands.now) }
@@ -122,7 +120,6 @@ fn is_front(front: bool, commands: &Commands, index: usize) -> bool
     front && all_failed_before(commands, index)
 }
 
-/// The command of a tag, and its place.
 #[inline(always)]
 fn find(commands: &Commands, tag: Tag) -> Result<usize, TagFault>
     ensures found { IfOk result (λ index. IsFound tag commands.now index) }
@@ -226,7 +223,6 @@ pub(crate) fn end(commands: &mut Commands, front: bool, tag: Tag) -> Result<Ende
     Ok(ended)
 }
 
-/// Whether a command is held under a tag.
 pub(crate) fn is_held(commands: &Commands, tag: Tag) -> bool
     ensures { result ≡ is_held tag commands.now }
 {
@@ -236,7 +232,6 @@ pub(crate) fn is_held(commands: &Commands, tag: Tag) -> bool
     }
 }
 
-/// The kind of the command of a tag.
 #[inline(always)]
 pub(crate) fn kind_of(commands: &Commands, tag: Tag) -> Option<Kind>
     ensures { result ≡ held_kind tag commands.now }

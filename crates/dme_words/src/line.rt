@@ -350,7 +350,6 @@ fn made_argument<'a>(alloc: Global, argument: Argument) -> Arg<'a>
     }
 }
 
-/// A command with one more argument.
 fn with_argument<'a>(
     alloc: Global,
     command: Command<'a>,
@@ -364,7 +363,6 @@ fn with_argument<'a>(
     command.arg(made_argument(alloc, argument))
 }
 
-/// A command with these arguments added, in their order.
 fn with_arguments<'a>(
     alloc: Global,
     command: Command<'a>,
@@ -382,7 +380,6 @@ fn with_arguments<'a>(
     Ok(command)
 }
 
-/// A command with the subcommand of a line.
 fn with_line<'a>(alloc: Global, command: Command<'a>, line: Line) -> Result<Command<'a>, AllocError>
     requires command { (out-Command command).has_globals ≡ false }
     ensures shape { IfOk result (λ made. app_of made ≡ with_line (app_of command.entry) line) }
@@ -392,7 +389,6 @@ fn with_line<'a>(alloc: Global, command: Command<'a>, line: Line) -> Result<Comm
     command.subcommand(with_arguments(alloc, order, line.2)?)
 }
 
-/// A command with the subcommands of these lines added, in their order.
 fn with_lines<'a>(
     alloc: Global,
     command: Command<'a>,

@@ -100,7 +100,6 @@ impl fmt::Display for WordsFault {
     }
 }
 
-/// The first value of an argument, if it has one.
 fn value_of<'a>(values: &ArgMatches<'a>, id: &str) -> Option<&'a str>
     ensures { option_map (λ text. text.now) result
         ≡ first_of id.now (rows_of (found_of values.now)) }
@@ -108,7 +107,6 @@ fn value_of<'a>(values: &ArgMatches<'a>, id: &str) -> Option<&'a str>
     values.get_str(id)
 }
 
-/// A copy of the value of an option that has one.
 fn copied_value(alloc: Global, values: &ArgMatches, id: &str) -> Result<String, AllocError>
     requires { HasValue id.now (rows_of (found_of values.now)) }
     ensures { IfOk result (λ copy. IsValueOf id.now (rows_of (found_of values.now))
@@ -128,7 +126,6 @@ fn copied_program(alloc: Global, values: &ArgMatches) -> Result<String, AllocErr
     String::from_str(alloc, value_of(values, "PROGRAM").unwrap_or("-"))
 }
 
-/// A copy of the value of an option, if it has one.
 fn copied_maybe(alloc: Global, values: &ArgMatches, id: &str) -> Result<Option<String>, AllocError>
     ensures { IfOk result (λ copy. IsMaybeOf id.now (rows_of (found_of values.now))
         (option_map string_bytes copy)) }
@@ -161,7 +158,6 @@ fn window_of(values: &ArgMatches) -> u8
     number_of(values, "window", 16) as u8
 }
 
-/// The value of an option that has a port.
 fn port_of(values: &ArgMatches, id: &str) -> u16
     requires { HasNumber id.now 65535 (rows_of (found_of values.now)) }
     ensures named { IsNumberOf id.now 65535 (rows_of (found_of values.now)) result }
@@ -219,7 +215,6 @@ fn seconds_of(
     }
 }
 
-/// Whether a flag is set.
 fn flag_of(values: &ArgMatches, id: &str) -> bool
     requires { HasFlag id.now (rows_of (found_of values.now)) }
     ensures { IsFlagOf id.now (rows_of (found_of values.now)) result }
@@ -255,7 +250,6 @@ fn simulate_order(alloc: Global, values: &ArgMatches) -> Result<Simulation, Allo
     })
 }
 
-/// Whether an option has no value.
 fn is_lacking(values: &ArgMatches, id: &str) -> bool
     ensures { result ≡ is_lacking id.now (rows_of (found_of values.now)) }
 {
@@ -368,7 +362,6 @@ fn serve_order(alloc: Global, values: &ArgMatches) -> Result<Service, WordsFault
     })
 }
 
-/// What the part of a record is called, if it is named.
 fn part_of(alloc: Global, values: &ArgMatches) -> Result<Option<String>, WordsFault>
     ensures named { IfOk result (λ part. IsPartOf (rows_of (found_of values.now))
         (option_map string_bytes part)) }
@@ -457,7 +450,6 @@ fn explain_order(alloc: Global, values: &ArgMatches) -> Result<Topic, WordsFault
     topic_of(code)
 }
 
-/// The form that a word names.
 fn form_of(word: String) -> Result<RecordForm, WordsFault>
     ensures ok { IfOk result (λ form. string_bytes word ≡ form_word form) }
     ensures err { IfErr result (λ fault. (fault ≡ WordsFault.NoForm word)

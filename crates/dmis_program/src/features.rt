@@ -55,7 +55,6 @@ impl Touches {
         self.touches.as_slice()
     }
 
-    /// The touches of a block.
     pub(crate) fn new(touches: Vec<Touch>) -> Touches
         ensures { result ≡ touches.items }
     {

@@ -23,7 +23,6 @@ pub enum Keyword {
     Unknown,
 }
 
-/// Whether two texts are the same.
 pub(crate) fn is_text(text: &[u8], other: &str) -> bool
     ensures { result ≡ bytes_eq text.now other.now }
 {
@@ -95,14 +94,12 @@ fn searched_keyword(word: &[u8]) -> Keyword
     Keyword::Unknown
 }
 
-/// Whether a word is that of a definition.
 fn is_definition(word: &[u8]) -> bool
     ensures { result ≡ is_among word.now definitions }
 {
     is_text(word, "FEAT") || is_text(word, "TOL") || is_text(word, "SNSDEF")
 }
 
-/// Whether a word is one of the others that command nothing.
 fn is_passed(word: &[u8]) -> bool
     ensures { result ≡ is_among word.now passed }
 {

@@ -15,14 +15,12 @@ use std::alloc::{AllocError, Global};
 /// The most touches that a block may ask for (this profile).
 const MOST_TOUCHES: u64 = 10_000;
 
-/// Whether one of the parameters is this word.
 pub(crate) fn has_word(params: &[Text], word: &str) -> bool
     ensures { result ≡ list_any (λ p. bytes_eq p word.now) params.now }
 {
     params.iter().any(|p| is_text(p, word))
 }
 
-/// Whether each byte is a letter.
 fn all_letters(text: &[u8]) -> bool
     ensures { result ≡ list_all is_ascii_alphabetic text.now }
 {
@@ -71,7 +69,6 @@ pub(crate) fn name_within(
     Name::new(alloc, inner)
 }
 
-/// Whether each byte is a digit.
 fn all_digits(text: &[u8]) -> bool
     ensures { result ≡ list_all is_ascii_digit text.now }
 {
@@ -118,7 +115,6 @@ pub(crate) fn without_cart<'p, 'a>(params: &'p [Text<'a>]) -> &'p [Text<'a>]
     rest
 }
 
-/// Whether the first byte is a letter.
 fn begins_with_letter(text: &[u8]) -> bool
     ensures { result ≡ is_ascii_alphabetic (slice_index text.now 0) }
 {

@@ -37,7 +37,6 @@ impl Model for Program {
     ghost invariant = { λ p. IsProgram (record { features = p.features.items; steps = p.steps.items }) };
 }
 
-/// The next statement of a text, or none at its end.
 fn next_statement<'a>(
     statements: &mut Statements<'a>,
 ) -> Result<Option<Statement<'a>>, ProgramFault>

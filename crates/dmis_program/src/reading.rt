@@ -51,7 +51,6 @@ impl Model for Reader {
     ghost view = { λ r. record { number = r.count; tool = r.tool; frame = r.frame; open_block = r.block; touches = r.touches.items; done = r.features.items; steps = r.steps.items } };
 }
 
-/// Whether a keyword is that of the first statement.
 fn is_start(keyword: Keyword) -> bool
     ensures { result ≡ is_start keyword }
 {
@@ -140,7 +139,6 @@ impl Reader {
         }
     }
 
-    /// One step more.
     #[inline(always)]
     fn step(&mut self, step: Step) -> Result<(), AllocError>
         ensures { OnOk result (self.new ≡ with_step self.old step) }
@@ -312,7 +310,6 @@ impl Reader {
         }
     }
 
-    /// The program that was read.
     pub(crate) fn finish(self) -> Program
         requires { IsProgram (record { features = self.done; steps = self.steps }) }
         ensures { result ≡ record { features = self.done; steps = self.steps } }

@@ -47,7 +47,6 @@ pub(crate) fn is_blank(byte: u8) -> bool
     byte == b' ' || byte == b'\t'
 }
 
-/// Whether a comment begins at the front of the bytes.
 pub(crate) fn begins_comment(inside: bool, bytes: &[u8]) -> bool
     ensures { result ≡ begins_comment inside bytes.now }
 {
@@ -96,7 +95,6 @@ pub(crate) fn without_front_blanks(mut bytes: &[u8]) -> &[u8]
     bytes
 }
 
-/// How many bytes there are up to the last that is not blank.
 #[tactic(auto, using(crate::proofs::Blanks::kept_cut))]
 fn count_to_last(bytes: &[u8]) -> usize
     ensures within { result ≤ length bytes.now }

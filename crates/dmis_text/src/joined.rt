@@ -15,7 +15,6 @@ use std::marker::Model;
 /// The room that each part of a statement makes: few statements on several lines have more.
 const USUAL_TEXT: usize = 128;
 
-/// Appends the bytes, where there are any.
 fn extend_over(text: &mut Vec<u8>, bytes: &[u8]) -> Result<(), AllocError>
     ensures { OnOk result (text.new.items ≡ text.old.items ++ bytes.now) }
 {

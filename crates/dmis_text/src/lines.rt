@@ -102,7 +102,6 @@ fn examine_content(content: &[u8], inside: bool) -> Look<'_>
     }
 }
 
-/// Whether a line has more bytes than it may.
 pub(crate) fn is_too_long(line: &[u8]) -> bool
     ensures { result ≡ nat_lt 4096 (length line.now) }
 {
@@ -244,7 +243,6 @@ pub(crate) fn first_line(bytes: &[u8], inside: bool) -> Option<First<'_>>
     })
 }
 
-/// How many lines the bytes have.
 pub(crate) fn count_lines(bytes: &[u8]) -> u64
     ensures { (result ≡ length (lines bytes.now)) × (result ≤ length bytes.now) }
 {

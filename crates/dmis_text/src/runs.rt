@@ -29,7 +29,6 @@ fn lowest_set(mask: u64) -> usize
 pub(crate) trait Class {
     ghost holds: { Self → ℕ → Bool };
 
-    /// Whether a byte is of the class.
     fn has(&self, byte: u8) -> bool
         ensures { result ≡ holds self.now byte };
 

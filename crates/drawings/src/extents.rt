@@ -36,7 +36,6 @@ impl Extents {
         }
     }
 
-    /// The extents of a stop and others.
     fn reaching(first: &Stop, others: &[Stop]) -> Extents
         ensures { AreFilled (first.now ∷ others.now) result }
     {

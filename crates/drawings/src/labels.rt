@@ -38,7 +38,6 @@ fn line_at(highest: u64, wanted: u64, later: u64) -> u64
     wanted.min(LAST_LINE - later * PITCH).max(highest)
 }
 
-/// The marks that get a label.
 fn labelled(marks: &[Mark]) -> &[Mark]
     ensures first { result.now ≡ take most_labels marks.now }
     ensures few { length result.now ≤ 33 }
@@ -77,7 +76,6 @@ fn ordered(alloc: Global, marks: &[Mark], plan: &View) -> Result<Vec<(u64, u64, 
     Ok(order)
 }
 
-/// A name, or its first bytes.
 fn put_name(out: &mut Vec<u8>, name: &[u8]) -> Result<(), AllocError>
     ensures { OnOk result (out.new.items ≡ out.old.items ++ shown_name name.now) }
 {
@@ -111,7 +109,6 @@ fn put_bullet(out: &mut Vec<u8>, is_measured: bool, down: u64) -> Result<(), All
     put_markup(out, b"</g>\n")
 }
 
-/// A name at its line.
 #[tactic(auto, unfolding(crate::specs::Labels::name_text))]
 fn put_name_at(out: &mut Vec<u8>, name: &[u8], line: u64) -> Result<(), AllocError>
     requires { line ≤ 186000 }
@@ -124,7 +121,6 @@ fn put_name_at(out: &mut Vec<u8>, name: &[u8], line: u64) -> Result<(), AllocErr
     put_markup(out, b"</g>\n")
 }
 
-/// A name at its line, with a line to what it names.
 #[tactic(auto, unfolding(crate::specs::Labels::label_text))]
 fn put_label(
     out: &mut Vec<u8>,

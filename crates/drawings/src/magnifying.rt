@@ -36,7 +36,6 @@ fn length(across: i64, upright: i64) -> u64
     up as u64
 }
 
-/// The longest line of a stop in both views.
 fn longest_of(stop: Stop) -> u64
     ensures reaches { NotLonger result stop.act }
     ensures least { (most : ℕ) → NotLonger most stop.act → result ≤ most }
@@ -62,7 +61,6 @@ fn longest(stops: &[Stop]) -> u64
     longest
 }
 
-/// The scale of whiskers whose longest has this length.
 #[tactic(auto, using(crate::proofs::Paper::whisker_fits))]
 fn scale_of(longest: u64) -> Scale
     requires { longest ≤ 12000000000 }

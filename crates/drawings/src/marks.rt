@@ -34,7 +34,6 @@ fn farther(first: Place, later: Place) -> Place
     }
 }
 
-/// The place farthest to the right among a place and those of touches.
 fn farthest(first: Place, touches: &[Touch]) -> Place
     ensures { result ≡ farthest first touches.now }
 {
@@ -45,7 +44,6 @@ fn farthest(first: Place, touches: &[Touch]) -> Place
     place
 }
 
-/// The place farthest to the right among touches. There is at least one touch.
 fn farthest_of(touches: &[Touch]) -> Place
     requires { 0 < length touches.now }
     ensures { result ≡ farthest_of touches.now }

@@ -89,7 +89,6 @@ fn put_arrows(out: &mut Vec<u8>, view: &View) -> Result<(), AllocError>
     )
 }
 
-/// The letters of both axes.
 #[tactic(auto, unfolding(crate::specs::Pictures::letters_text))]
 fn put_letters(out: &mut Vec<u8>, view: &View) -> Result<(), AllocError>
     ensures { OnOk result (out.new.items ≡ out.old.items ++ letters_text view.now) }
@@ -102,7 +101,6 @@ fn put_letters(out: &mut Vec<u8>, view: &View) -> Result<(), AllocError>
     put_text(out, Position::new(12_200, view.bottom - 11_000), name)
 }
 
-/// The frame, and the axes in it.
 #[tactic(auto, unfolding(crate::specs::Pictures::axes_text))]
 fn put_axes(out: &mut Vec<u8>, view: &View) -> Result<(), AllocError>
     ensures { OnOk result (out.new.items ≡ out.old.items ++ axes_text view.now) }
@@ -134,7 +132,6 @@ fn put_way_spots(out: &mut Vec<u8>, view: &View, stops: &[Stop]) -> Result<(), A
     Ok(())
 }
 
-/// The way of the machine.
 #[tactic(auto, unfolding(crate::specs::Marks::way_text))]
 fn put_way(out: &mut Vec<u8>, view: &View, stops: &[Stop]) -> Result<(), AllocError>
     ensures { OnOk result (out.new.items ≡ out.old.items ++ way_text view.now stops.now) }

@@ -30,7 +30,6 @@ pub(crate) struct Views {
     pub front: View,
 }
 
-/// The scale of views that draw these lengths.
 #[tactic(auto, using(crate::proofs::Paper::views_fit))]
 fn scale_of(lengths: Lengths) -> Scale
     requires { AreShort lengths }

@@ -90,7 +90,6 @@ pub(crate) fn put_disc(out: &mut Vec<u8>, centre: Position, radius: u64) -> Resu
     put_markup(out, b"/>\n")
 }
 
-/// Appends a line.
 #[tactic(auto, unfolding(crate::specs::Texts::line_text))]
 pub(crate) fn put_line(out: &mut Vec<u8>, from: Position, to: Position) -> Result<(), AllocError>
     ensures { OnOk result (out.new.items ≡ out.old.items ++ line_text from to) }
@@ -138,7 +137,6 @@ pub(crate) fn end_text(out: &mut Vec<u8>) -> Result<(), AllocError>
     put_markup(out, b"</text>\n")
 }
 
-/// Appends a text.
 #[tactic(auto, unfolding(crate::specs::Texts::text_element))]
 pub(crate) fn put_text(out: &mut Vec<u8>, at: Position, text: &[u8]) -> Result<(), AllocError>
     ensures { OnOk result (out.new.items ≡ out.old.items ++ text_element at text.now) }
@@ -148,7 +146,6 @@ pub(crate) fn put_text(out: &mut Vec<u8>, at: Position, text: &[u8]) -> Result<(
     end_text(out)
 }
 
-/// Appends three digits.
 fn put_three(out: &mut Vec<u8>, number: u64) -> Result<(), AllocError>
     requires { number < 1000 }
     ensures { OnOk result (out.new.items ≡ out.old.items ++ three_digits number) }

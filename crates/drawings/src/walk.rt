@@ -39,7 +39,6 @@ struct Walk<'a> {
     points: &'a [Point],
 }
 
-/// The zero point of a frame, in machine axes.
 pub(crate) fn zero_of(frame: Frame) -> Point
     ensures { result ≡ zero_of frame }
 {
@@ -49,7 +48,6 @@ pub(crate) fn zero_of(frame: Frame) -> Point
     }
 }
 
-/// The points of the next feature.
 pub(crate) fn next_points<'a>(features: &'a [Feature]) -> &'a [Point]
     ensures { result.now ≡ next_points features.now }
 {
@@ -59,7 +57,6 @@ pub(crate) fn next_points<'a>(features: &'a [Feature]) -> &'a [Point]
     }
 }
 
-/// All features but the next one.
 pub(crate) fn later_features<'a>(features: &'a [Feature]) -> &'a [Feature]
     ensures { result.now ≡ drop 1 features.now }
 {
@@ -69,7 +66,6 @@ pub(crate) fn later_features<'a>(features: &'a [Feature]) -> &'a [Feature]
     }
 }
 
-/// All points but the next one.
 fn later_points<'a>(points: &'a [Point]) -> &'a [Point]
     ensures { result.now ≡ drop 1 points.now }
 {

@@ -21,7 +21,6 @@ pub trait Hands {
     fn carry_out(&mut self, effect: Effect<'_>)
         ensures { Carries (told self.old) (told self.new) (the_ask effect.entry) (came self.new) };
 
-    /// What came of it.
     fn answer(&self) -> Answer<'_>
         ensures { the_reply result ≡ came self.now };
 }

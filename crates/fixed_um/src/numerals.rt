@@ -153,7 +153,6 @@ fn component_on_axis(bytes: &[u8]) -> Option<i64>
     None
 }
 
-/// The component of a direction.
 fn read_component(bytes: &[u8]) -> Result<i64, NumeralFault>
     ensures { Reads 6 component_limit bytes.now result }
 {
@@ -163,7 +162,6 @@ fn read_component(bytes: &[u8]) -> Result<i64, NumeralFault>
     }
 }
 
-/// The direction with these components.
 #[inline(always)]
 fn direction(i: i64, j: i64, k: i64) -> Dir
     requires { IsDirection (record { i = i; j = j; k = k }) }

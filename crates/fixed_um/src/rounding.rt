@@ -4,7 +4,6 @@ ghost use Rattle.std.specs.Prelude.{◌≡◌, ◌<◌, ◌*◌, ◌^◌, ◌≤
 ghost use Rattle.fixed_um.specs.Limits.{wire_limit};
 ghost use Rattle.fixed_um.specs.Rounding.{RoundsUp};
 
-/// Ten to the power of a count of digits.
 fn power_of_ten(count: usize) -> u64
     requires { count ≤ 18 }
     ensures { result ≡ 10 ^ count }

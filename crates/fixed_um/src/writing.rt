@@ -87,7 +87,6 @@ fn write_component_before(text: &mut [u8], end: usize, value: i64) -> usize
     put_whole_before(text, point, value, magnitude / 1_000_000)
 }
 
-/// Appends any component.
 fn write_any_component_reserved(out: &mut Vec<u8>, value: i64)
     requires value { unsigned_abs value ≤ component_limit }
     requires room { HasRoom out.old 15 }

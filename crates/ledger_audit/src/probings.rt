@@ -68,7 +68,6 @@ pub(crate) fn same_probing(one: &Probing<'_>, other: &Probing<'_>) -> bool
         && same_point(one.point, other.point)
 }
 
-/// What the touch with a number asks for, with the point of its feature.
 pub(crate) fn asked<'l>(touches: &'l [Touch], points: &[Point], number: usize) -> Probing<'l>
     requires touch { number < length touches.now }
     requires point { number < length points.now }

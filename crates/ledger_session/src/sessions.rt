@@ -181,7 +181,6 @@ impl Session {
         }
     }
 
-    /// The present file cannot be read.
     fn blame(&mut self, notes: &str) -> Result<(), AllocError>
         ensures { OnOk result (spec.Says (notes.now ++ spec.cannot_read
             (spec.name_of self.old.slot self.old.called)) 1 self.new) }

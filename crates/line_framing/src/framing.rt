@@ -49,7 +49,6 @@ fn grow(buffer: &mut BytesMut, count: usize) -> Result<(), AllocError>
     buffer.reserve(count.max(LEAST_ROOM))
 }
 
-/// Makes room for that many bytes more. Fails only if out of memory.
 #[inline(always)]
 fn make_room(buffer: &mut BytesMut, count: usize) -> Result<(), AllocError>
     ensures items { buffer.new.items ≡ buffer.old.items }

@@ -21,7 +21,6 @@ impl Model for Finding {
 impl Finding {
     ghost use Rattle.std.specs.Prelude.{◌≡◌};
 
-    /// A finding with this sentence.
     pub(crate) fn new(remark: Remark, said: Vec<u8>) -> Finding
         ensures { (result.remark ≡ remark) × (result.said ≡ said.items) }
     {

@@ -31,14 +31,12 @@ pub enum Group {
     Other,
 }
 
-/// Whether two texts are the same.
 pub(crate) fn is_text(text: &[u8], other: &str) -> bool
     ensures { result ≡ bytes_eq text.now other.now }
 {
     text == other.as_bytes()
 }
 
-/// Whether a word identifies what is measured, or with what.
 fn is_identifying(word: &[u8]) -> bool
     ensures { result ≡ is_among word.now identifying }
 {
@@ -97,7 +95,6 @@ pub(crate) fn is_of_coordinates(word: &[u8]) -> bool
         || is_text(word, "TRANS")
 }
 
-/// Whether a word measures or calibrates, or says how.
 fn is_measuring(word: &[u8]) -> bool
     ensures { result ≡ is_among word.now measuring }
 {
@@ -138,7 +135,6 @@ fn is_branching(word: &[u8]) -> bool
         || is_text(word, "SELECT")
 }
 
-/// Whether a word calls for other statements, or computes what they need.
 fn is_calling(word: &[u8]) -> bool
     ensures { result ≡ is_among word.now calling }
 {
@@ -159,7 +155,6 @@ fn is_calling(word: &[u8]) -> bool
         || is_text(word, "XTERN")
 }
 
-/// Whether a word moves the machine, or says how it moves.
 fn is_moving(word: &[u8]) -> bool
     ensures { result ≡ is_among word.now moving }
 {
@@ -184,7 +179,6 @@ fn is_compensating(word: &[u8]) -> bool
     is_text(word, "GECOMP") || is_text(word, "TECOMP")
 }
 
-/// Whether a word is a label to which a program jumps.
 fn is_jump_label(word: &[u8]) -> bool
     ensures { result ≡ is_jump_label word.now }
 {

@@ -14,7 +14,6 @@ use std::alloc::{AllocError, Global};
 use tool_rack::Rack;
 
 impl Selected {
-    /// The frame that is selected after a step.
     fn behind(&self, step: &Step) -> Selected
         ensures { result ≡ selected_behind self.now step.now }
     {

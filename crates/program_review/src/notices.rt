@@ -132,7 +132,6 @@ fn text_meaning(params: &[Text]) -> Option<Passed>
     None
 }
 
-/// What a word changes that is passed over.
 fn passed_word(word: &[u8], params: &[Text]) -> Option<Passed>
     ensures { result ≡ passed_word word.now params.now }
 {

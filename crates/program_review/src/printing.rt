@@ -41,7 +41,6 @@ fn file_of<'a>(style: FindingStyle<'a>, what: What) -> &'a str
     }
 }
 
-/// The number of the line, if it is on one.
 fn line_of(what: What, line: u64) -> Option<u64>
     ensures { result ≡ line_of what line }
 {
@@ -207,7 +206,6 @@ fn array_text(
     Ok(text)
 }
 
-/// Findings in their form.
 pub(crate) fn printed(
     alloc: Global,
     style: FindingStyle<'_>,

@@ -16,7 +16,6 @@ pub(crate) struct Reading<'a> {
     pub(crate) lines: u64,
 }
 
-/// What a text says. Fails only if out of memory.
 pub(crate) fn read(alloc: Global, text: &[u8]) -> Result<Reading<'_>, AllocError>
     ensures { IfOk result (λ r. IsReadingOf text.now r) }
 {

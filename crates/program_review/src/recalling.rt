@@ -47,7 +47,6 @@ fn recalled_names(alloc: Global, statements: &[Statement]) -> Result<Vec<Name>, 
     Ok(names)
 }
 
-/// The name of the frame that the fields of a line store, if they store one.
 fn frame_in(alloc: Global, line: &[u8]) -> Result<Option<Name>, AllocError>
     ensures { IfOk result (λ name. name ≡ frame_in (fields_of line.now)) }
 {
@@ -64,7 +63,6 @@ fn frame_in(alloc: Global, line: &[u8]) -> Result<Option<Name>, AllocError>
     }
 }
 
-/// The name of the frame that a line of a setup stores, if it stores one. Fails only if out of memory.
 fn stored_frame(alloc: Global, line: &[u8]) -> Result<Option<Name>, AllocError>
     ensures { IfOk result (λ name. name ≡ stored_on line.now) }
 {

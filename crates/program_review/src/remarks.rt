@@ -128,7 +128,6 @@ fn with_counts(
     Ok(remarks)
 }
 
-/// Straight travels, as remarks on the touches to which they lead.
 fn travel_remarks(alloc: Global, travels: &[Travel]) -> Result<Vec<Remark>, AllocError>
     ensures { IfOk result (λ remarks. remarks.items ≡ map travel_remark travels.now) }
 {

@@ -54,7 +54,6 @@ struct Review {
     strays: Vec<Stray>,
 }
 
-/// What a setup lacks for these statements; nothing without a setup.
 fn lacks_under(
     alloc: Global,
     setup: &Option<Setup>,
@@ -68,7 +67,6 @@ fn lacks_under(
     }
 }
 
-/// Every refusal of a text with this reading.
 #[tactic(auto, using(crate::proofs::FirstLemmas::first_is))]
 fn refusals_of(
     alloc: Global,
@@ -85,7 +83,6 @@ fn refusals_of(
     Ok(found)
 }
 
-/// What is remarked on a program's text with this reading under frames, where the setup lacks this.
 fn review_under(
     alloc: Global,
     frames: &Frames,
@@ -124,7 +121,6 @@ fn review_under(
     })
 }
 
-/// What is remarked on a program's text with this reading under a setup, if one is named.
 fn review_of(alloc: Global, texts: ReviewTexts<'_>, reading: &Reading) -> Result<Review, AllocError>
     requires { IsReadingOf texts.program.now reading.now }
     ensures remarks { IfOk result (λ r.

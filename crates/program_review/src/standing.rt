@@ -55,7 +55,6 @@ fn one_less(lacking: Option<u64>) -> Option<u64>
     }
 }
 
-/// What the open block lacks after a statement that says this.
 fn lacking_said(meaning: &StatementMeaning, lacking: Option<u64>) -> Option<u64>
     ensures { result ≡ lacking_said meaning.now lacking }
 {
@@ -193,7 +192,6 @@ impl Standing {
         Ok(self.settled(frames, meaning)?)
     }
 
-    /// After a statement that is accepted.
     pub(crate) fn after_said(self, keyword: Keyword, meaning: &StatementMeaning) -> Standing
         ensures { result ≡ after_said self keyword meaning.now }
     {
@@ -205,7 +203,6 @@ impl Standing {
         }
     }
 
-    /// After a statement that is refused.
     pub(crate) fn after_refused(self, keyword: Keyword, refusal: Refusal) -> Standing
         ensures { result ≡ after_refused self keyword refusal }
     {

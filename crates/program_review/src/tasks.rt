@@ -31,7 +31,6 @@ pub struct TaskLine {
     pub line: u64,
 }
 
-/// What a statement that says this asks for.
 fn task_of(meaning: &Option<StatementMeaning>) -> Option<Task>
     ensures { result ≡ task_said meaning.now }
 {
@@ -87,7 +86,6 @@ pub(crate) struct Left<'a> {
     pub(crate) tasks: &'a [TaskLine],
 }
 
-/// What is left after the touch of this number. Does not allocate.
 pub(crate) fn left_after(tasks: &[TaskLine], touches: usize) -> Left<'_>
     ensures tool { result.tool ≡ tool_line None (up_to_touch touches tasks.now) }
     ensures frame { result.frame ≡ frame_line None (up_to_touch touches tasks.now) }

@@ -293,7 +293,6 @@ fn shifted(length: Um, zero: Um) -> i64
     length.get() + zero.get()
 }
 
-/// The square of how far two lengths are apart.
 fn squared_apart(last: i64, first: i64) -> u128
     requires last { unsigned_abs last ≤ 8000000000 }
     requires first { unsigned_abs first ≤ 8000000000 }

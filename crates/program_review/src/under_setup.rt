@@ -75,7 +75,6 @@ fn is_within(position: Point) -> bool
 }
 
 impl Selected {
-    /// The frame that is selected after a statement.
     fn after(
         &self,
         frames: &Frames,
@@ -112,7 +111,6 @@ fn when(is_so: bool, what: Lack) -> Option<Lack>
     if is_so { Some(what) } else { None }
 }
 
-/// What the setup lacks for a statement that says this.
 fn lack_of(rack: &Rack, selected: &Selected, meaning: &Option<StatementMeaning>) -> Option<Lack>
     ensures { result ≡ lack_of rack.now selected.now meaning.now }
 {

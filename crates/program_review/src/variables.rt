@@ -13,7 +13,6 @@ use dmis_text::{Statement, Text};
 use fixed_um::{Name, Um, read_um};
 use std::alloc::AllocError;
 
-/// Whether a word has names among its parameters.
 fn is_declaring(word: &[u8]) -> bool
     ensures { result ≡ is_among word.now declaring }
 {
@@ -50,7 +49,6 @@ fn push_names(names: &mut Vec<Name>, texts: &[Text]) -> Result<(), AllocError>
     Ok(())
 }
 
-/// Adds the names that a statement declares or assigns.
 pub(crate) fn push_declared(names: &mut Vec<Name>, statement: &Statement) -> Result<(), AllocError>
     ensures { OnOk result (names.new.items ≡ names.old.items ++ names_by statement.now) }
 {

@@ -71,7 +71,6 @@ fn whole_length(bytes: &[u8]) -> usize
     0
 }
 
-/// Whether the record is of this program and part.
 fn is_same(
     alloc: Global,
     found: &Record,

@@ -100,7 +100,6 @@ fn parenthesis_reason(
     }
 }
 
-/// Whether each byte is a letter.
 fn all_letters(text: &[u8]) -> bool
     ensures { result ≡ list_all is_ascii_alphabetic text.now }
 {
@@ -227,7 +226,6 @@ fn last_text(element: &[u8]) -> &[u8]
     text
 }
 
-/// The text that is not closed.
 #[tactic(auto, using(crate::proofs::ArgumentLemmas::last_or_at))]
 fn open_text<'s>(found: Found<'s, '_>) -> Word<'s>
     ensures { named_by result ≡ open_text found.entry.rest.now found.entry.statement.now }

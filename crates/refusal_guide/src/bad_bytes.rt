@@ -24,7 +24,6 @@ fn last_line(statements: &mut Statements) -> Result<u64, AllocError>
     Ok(line)
 }
 
-/// Whether the next statement has a byte that is not allowed where it is.
 fn is_next_bad(statements: &mut Statements) -> Result<bool, AllocError>
     requires { statements.old.left ≡ [] }
     ensures { IfOk result (λ bad. bad ≡ is_bad_byte statements.old.fault) }
@@ -37,7 +36,6 @@ fn is_next_bad(statements: &mut Statements) -> Result<bool, AllocError>
     }
 }
 
-/// Whether a text has a byte that is not allowed where it is.
 fn has_bad_byte(alloc: Global, text: &[u8]) -> Result<bool, AllocError>
     ensures { IfOk result (λ bad. bad ≡ has_bad_byte text.now) }
 {

@@ -33,7 +33,6 @@ fn begun(alloc: Global, statement: &Statement) -> Result<Option<Block>, AllocErr
     }))
 }
 
-/// The open block after a touch, if this one is open before it.
 fn touched(block: Option<Block>) -> Option<Block>
     ensures { option_map opened_by result
         ≡ option_map one_touch_more (option_map opened_by block) }
@@ -46,7 +45,6 @@ fn touched(block: Option<Block>) -> Option<Block>
     })
 }
 
-/// The open block after a statement, if this one is open before it.
 fn followed(
     alloc: Global,
     block: Option<Block>,
@@ -67,7 +65,6 @@ fn followed(
     }
 }
 
-/// The next statement that begins above a line.
 fn next_above<'a>(
     statements: &mut Statements<'a>,
     number: u64,
@@ -83,7 +80,6 @@ fn next_above<'a>(
     }
 }
 
-/// The block that is open before a line.
 #[tactic(auto, unfolding(crate::specs::Blocks::open_block))]
 pub(crate) fn open_block(alloc: Global, place: Place) -> Result<Option<Block>, AllocError>
     ensures { IfOk result (λ block. option_map opened_by block
@@ -98,7 +94,6 @@ pub(crate) fn open_block(alloc: Global, place: Place) -> Result<Option<Block>, A
     Ok(block)
 }
 
-/// The last of the statements that can be read.
 fn last_of<'a>(statements: &mut Statements<'a>) -> Result<Option<Statement<'a>>, AllocError>
     ensures { IfOk result (λ last. last ≡ last_or None statements.old.left) }
 {
@@ -109,7 +104,6 @@ fn last_of<'a>(statements: &mut Statements<'a>) -> Result<Option<Statement<'a>>,
     Ok(last)
 }
 
-/// The last statement of a text.
 pub(crate) fn last_statement(
     alloc: Global,
     text: &[u8],

@@ -7,7 +7,6 @@ use crate::topics::Topic;
 use dmis_program::Refusal;
 
 impl Topic {
-    /// The topic of a statement's refusal.
     pub(crate) fn of_refusal(refusal: Refusal) -> Topic
         ensures { IsTitleOf (title_of result) (refusal_text refusal) }
     {

@@ -87,7 +87,6 @@ fn push_line_byte(text: &mut String, byte: u8) -> Result<(), AllocError>
     push_visible(text, byte)
 }
 
-/// Appends bytes of a line.
 fn push_line(text: &mut String, bytes: &[u8]) -> Result<(), AllocError>
     ensures { OnOk result (string_bytes text.new
         ≡ string_bytes text.old ++ flat_map visible_in_line bytes.now) }

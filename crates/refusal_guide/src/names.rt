@@ -14,14 +14,12 @@ use std::alloc::{AllocError, Global};
 /// The most bytes that a name has (this profile).
 const LONGEST_NAME: usize = 64;
 
-/// Whether a text is a name.
 fn is_name(alloc: Global, text: &[u8]) -> Result<bool, AllocError>
     ensures { IfOk result (λ named. named ≡ is_name_text text.now) }
 {
     Ok(Name::new(alloc, text)?.is_some())
 }
 
-/// The leftmost byte that is not allowed in a name.
 fn leftmost_byte(alloc: Global, text: &[u8]) -> Result<Option<u8>, AllocError>
     ensures { IfOk result (λ byte. byte ≡ leftmost_byte text.now) }
 {
@@ -33,7 +31,6 @@ fn leftmost_byte(alloc: Global, text: &[u8]) -> Result<Option<u8>, AllocError>
     Ok(None)
 }
 
-/// Why a text is not a name.
 fn name_cause(alloc: Global, text: &[u8]) -> Result<Cause, AllocError>
     ensures { IfOk result (λ cause. cause ≡ name_cause text.now) }
 {

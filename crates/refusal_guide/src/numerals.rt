@@ -30,14 +30,12 @@ fn length_fault(text: &[u8]) -> Option<NumeralFault>
     }
 }
 
-/// Whether a text is not read as a length.
 fn is_no_length(text: &[u8]) -> bool
     ensures { result ≡ is_no_length text.now }
 {
     length_fault(text).is_some()
 }
 
-/// Why a text is not read as a component of a direction; none if it is.
 fn component_fault(text: &[u8]) -> Option<NumeralFault>
     ensures { result ≡ component_fault text.now }
 {
@@ -47,7 +45,6 @@ fn component_fault(text: &[u8]) -> Option<NumeralFault>
     }
 }
 
-/// Whether a text is not read as a component of a direction.
 fn is_no_component(text: &[u8]) -> bool
     ensures { result ≡ is_no_component text.now }
 {
@@ -80,7 +77,6 @@ pub(crate) fn leftmost_component(params: &[Text]) -> Option<usize>
     params.iter().position(|p| is_no_component(p))
 }
 
-/// The leftmost of three fields that is not read as a length; none if all are.
 fn leftmost_field<'a>(x: &'a [u8], y: &'a [u8], z: &'a [u8]) -> Option<&'a [u8]>
     ensures { option_map (λ t. t.now) result
         ≡ find is_no_length (x.now ∷ y.now ∷ z.now ∷ []) }
@@ -97,7 +93,6 @@ fn leftmost_field<'a>(x: &'a [u8], y: &'a [u8], z: &'a [u8]) -> Option<&'a [u8]>
     None
 }
 
-/// Whether an exponent begins at the byte.
 fn is_exponent(byte: u8) -> bool
     ensures { result ≡ is_exponent byte }
 {

@@ -99,7 +99,6 @@ fn place_text(
     format!(in alloc; "{name}:{number}: {line}\n{said}\n")
 }
 
-/// The place of the line of this number, and what is wrong there.
 fn numbered_place(
     alloc: Global,
     refused: Refused,

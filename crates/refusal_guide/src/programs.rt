@@ -28,7 +28,6 @@ use dmis_text::{Statement, Text};
 use session_telling::visible;
 use std::alloc::{AllocError, Global};
 
-/// That the end is missing after this statement.
 fn ended_reason(alloc: Global, last: &Statement) -> Result<Reason, AllocError>
     ensures { IfOk result (λ reason. caused_by reason ≡ ended last.now) }
 {
@@ -46,7 +45,6 @@ fn truncated(alloc: Global, place: Place) -> Result<Option<Reason>, AllocError>
     }
 }
 
-/// How long a line is that is too long.
 fn too_long(alloc: Global, place: Place) -> Result<Reason, AllocError>
     ensures { IfOk result (λ reason. caused_by reason
         ≡ long_line (length (first_of (lines place.entry.rest.now)))) }
@@ -55,7 +53,6 @@ fn too_long(alloc: Global, place: Place) -> Result<Reason, AllocError>
     Word::of_bytes(b"").because(alloc, cause, "")
 }
 
-/// That this byte is not allowed in the column after that many.
 fn column_reason(alloc: Global, at: usize, byte: u8) -> Result<Reason, AllocError>
     ensures { IfOk result (λ reason. caused_by reason
         ≡ record { cause = Cause.BadByte byte; at = at; len = 1 }) }
@@ -73,7 +70,6 @@ fn column_reason(alloc: Global, at: usize, byte: u8) -> Result<Reason, AllocErro
     })
 }
 
-/// Which byte is not allowed where it is.
 fn byte_reason(alloc: Global, place: Place) -> Result<Option<Reason>, AllocError>
     ensures { IfOk result (λ reason. IsByteReason place.entry.text.now place.entry.rest.now
         (option_map caused_by reason)) }
@@ -84,7 +80,6 @@ fn byte_reason(alloc: Global, place: Place) -> Result<Option<Reason>, AllocError
     }
 }
 
-/// That a minor word is not carried out, for this cause.
 fn unsupported_minor(
     alloc: Global,
     found: Found,
@@ -201,7 +196,6 @@ fn zero_vector(alloc: Global, found: Found) -> Result<Option<Reason>, AllocError
     Ok(Some(i.because(alloc, Cause::ZeroDirection, &others)?))
 }
 
-/// That a statement may not be inside the open block; none if no block is open.
 fn inside_block(alloc: Global, place: Place, found: Found) -> Result<Option<Reason>, AllocError>
     ensures { IfOk result (λ reason. option_map caused_by reason
         ≡ inside_block place.entry.text.now found.entry.rest.now
@@ -256,7 +250,6 @@ fn frame_named(alloc: Global, found: Found, first: &[u8]) -> Result<Option<Reaso
     }
 }
 
-/// Which frame is not stored.
 fn unknown_frame(alloc: Global, found: Found) -> Result<Option<Reason>, AllocError>
     ensures { IfOk result (λ reason. option_map caused_by reason
         ≡ unknown_frame found.entry.rest.now found.entry.statement.now) }

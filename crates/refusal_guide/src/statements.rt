@@ -38,7 +38,6 @@ pub(crate) fn next_statement<'a>(
     }
 }
 
-/// The first statement of a text.
 pub(crate) fn first_statement(
     alloc: Global,
     text: &[u8],
@@ -87,7 +86,6 @@ impl<'s, 'a> Found<'s, 'a> {
         place
     }
 
-    /// The word of these bytes, searched for from this place on.
     fn word_from(&self, place: Option<usize>, wanted: &'s [u8]) -> Word<'s>
         ensures { named_by result ≡ word_from self.now.rest.now place wanted.now }
     {
@@ -107,7 +105,6 @@ impl<'s, 'a> Found<'s, 'a> {
         self.word_from(Some(0), label)
     }
 
-    /// The major word.
     pub(crate) fn word(&self) -> Word<'s>
         ensures { named_by result ≡ word_spot self.now.rest.now self.now.statement.now }
     {

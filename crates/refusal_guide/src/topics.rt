@@ -155,7 +155,6 @@ fn code_len(title: &[u8]) -> usize
     title.iter().take_while(|byte| **byte != b' ').count()
 }
 
-/// The code with which a title begins.
 fn code_in(title: &[u8]) -> &[u8]
     ensures { result.now ≡ code_in title.now }
 {
@@ -179,7 +178,6 @@ fn find_topic(code: &[u8]) -> Option<Topic>
         .find(|topic| is_called(topic.title().as_bytes(), code))
 }
 
-/// Whether each byte is a digit.
 fn all_digits(code: &[u8]) -> bool
     ensures { result ≡ list_all is_ascii_digit code.now }
 {
@@ -193,7 +191,6 @@ fn is_error_number(code: &[u8]) -> bool
     code.len() == 4 && all_digits(code)
 }
 
-/// The topic of a code, by the table and by its form.
 fn topic_of(code: &[u8]) -> Option<Topic>
     ensures { result ≡ topic_of code.now }
 {

@@ -35,7 +35,6 @@ impl Topic {
     }
 }
 
-/// The text of a page. Fails only if out of memory.
 fn page_text(alloc: Global, page: &Page) -> Result<String, AllocError>
     ensures { IfOk result (λ text. string_bytes text ≡ page_text page.now) }
 {

@@ -22,7 +22,6 @@ impl Model for Asked {
 }
 
 impl Asked {
-    /// The feature of a label and touches.
     pub(crate) fn new(label: Name, touches: Vec<Touch>) -> Asked
         ensures { result ≡ record { label = label; touches = touches.items } }
     {

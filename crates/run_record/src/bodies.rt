@@ -138,7 +138,6 @@ impl Body {
         Ok(Some((last_frame(wanted.touches()), points)))
     }
 
-    /// Appends an act. Fails only if out of memory.
     fn tell(&mut self, connection: u64, act: Act) -> Result<(), AllocError>
         requires { IsConnection connection }
         ensures { OnOk result (self.new ≡ with_told self.old connection act) }
@@ -148,7 +147,6 @@ impl Body {
         Ok(())
     }
 
-    /// Appends an error. Fails only if out of memory.
     fn refuse(&mut self, connection: u64, text: Refusal) -> Result<(), AllocError>
         requires { IsConnection connection }
         ensures { OnOk result (self.new ≡ with_refused self.old connection text) }

@@ -17,7 +17,6 @@ use std::alloc::{AllocError, Global};
 /// The most bytes that are kept of an error that a server reported (this profile).
 const REFUSAL_MAX: usize = 400;
 
-/// What follows a prefix.
 fn after_prefix<'a>(text: &'a [u8], prefix: &[u8]) -> Option<&'a [u8]>
     ensures { MatchOption result ((rest : List ℕ) → text.now ≡ prefix.now ++ rest → ⊥)
         (λ rest. text.now ≡ prefix.now ++ rest.now) }
@@ -25,7 +24,6 @@ fn after_prefix<'a>(text: &'a [u8], prefix: &[u8]) -> Option<&'a [u8]>
     text.strip_prefix(prefix)
 }
 
-/// The error that a line reports, with the number of its connection. Fails only if out of memory.
 #[tactic(auto, using(crate::proofs::RecordFields::fields))]
 fn read_refused(alloc: Global, line: &[u8]) -> Result<Option<(u64, Refusal)>, AllocError>
     ensures { IfOk result (λ found. Finds found (λ r. IsConnection r.0 × IsRefusal r.1
@@ -48,7 +46,6 @@ fn read_refused(alloc: Global, line: &[u8]) -> Result<Option<(u64, Refusal)>, Al
     Ok(Some((connection, refusal)))
 }
 
-/// The label of the feature that a line reports complete, with the number of its connection. Fails only if out of memory.
 #[tactic(auto, using(crate::proofs::RecordFields::fields))]
 fn read_completed(alloc: Global, line: &[u8]) -> Result<Option<(u64, Name)>, AllocError>
     ensures { IfOk result (λ found. Finds found (λ c. IsConnection c.0 × IsName c.1
@@ -76,7 +73,6 @@ fn read_completed(alloc: Global, line: &[u8]) -> Result<Option<(u64, Name)>, All
     Ok(Some((connection, label)))
 }
 
-/// The entry that a line is. Fails only if out of memory.
 pub(crate) fn read_line(
     alloc: Global,
     forms: &mut Forms,

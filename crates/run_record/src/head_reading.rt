@@ -17,7 +17,6 @@ use contact_ledger::forms::Forms;
 use contact_ledger::lines::cut_line;
 use std::alloc::{AllocError, Global};
 
-/// The part that a line names. Fails only if out of memory.
 fn read_part(alloc: Global, line: &[u8]) -> Result<Option<Part>, AllocError>
     ensures { IfOk result (λ found. Finds found (λ p. IsPart p × (line.now ≡ part_line p))) }
 {

@@ -15,7 +15,6 @@ use dmis_program::{Program, Touch, Wanted};
 use fixed_um::Name;
 use std::alloc::AllocError;
 
-/// Adds the line of a part, if there is one.
 fn add_part(text: &mut Vec<u8>, part: Option<&[u8]>) -> Result<(), AllocError>
     ensures { OnOk result (text.new.items ≡ text.old.items
         ++ text_of (part_lines (option_map (λ p. p.now) part.entry))) }
@@ -31,7 +30,6 @@ fn add_part(text: &mut Vec<u8>, part: Option<&[u8]>) -> Result<(), AllocError>
     }
 }
 
-/// Adds the fields of a touch.
 #[tactic(auto, using(contact_ledger::proofs::EntryWrites::pieces))]
 fn add_touch_fields(text: &mut Vec<u8>, touch: &Touch) -> Result<(), AllocError>
     ensures text { OnOk result (text.new.items
@@ -44,7 +42,6 @@ fn add_touch_fields(text: &mut Vec<u8>, touch: &Touch) -> Result<(), AllocError>
     add_frame(text, touch.frame)
 }
 
-/// Adds the line of a touch.
 fn add_touch(text: &mut Vec<u8>, touch: &Touch) -> Result<(), AllocError>
     ensures text { OnOk result (text.new.items
         ≡ text.old.items ++ text_of (touch_line touch.now ∷ [])) }
@@ -56,7 +53,6 @@ fn add_touch(text: &mut Vec<u8>, touch: &Touch) -> Result<(), AllocError>
     Ok(())
 }
 
-/// Adds the lines of touches.
 fn add_touches(text: &mut Vec<u8>, touches: &[Touch]) -> Result<(), AllocError>
     ensures text { OnOk result (text.new.items
         ≡ text.old.items ++ text_of (map touch_line touches.now)) }
@@ -68,7 +64,6 @@ fn add_touches(text: &mut Vec<u8>, touches: &[Touch]) -> Result<(), AllocError>
     Ok(())
 }
 
-/// Adds the line of a label and a count of touches.
 fn add_feature_line(text: &mut Vec<u8>, label: &Name, count: u64) -> Result<(), AllocError>
     ensures text { OnOk result (text.new.items
         ≡ text.old.items ++ text_of (feature_line label.now count ∷ [])) }
@@ -81,7 +76,6 @@ fn add_feature_line(text: &mut Vec<u8>, label: &Name, count: u64) -> Result<(), 
     Ok(())
 }
 
-/// Adds the lines of a wanted feature.
 fn add_wanted(text: &mut Vec<u8>, wanted: &Wanted) -> Result<(), AllocError>
     ensures text { OnOk result (text.new.items
         ≡ text.old.items ++ text_of (wanted_lines wanted.now)) }
@@ -91,7 +85,6 @@ fn add_wanted(text: &mut Vec<u8>, wanted: &Wanted) -> Result<(), AllocError>
     add_touches(text, wanted.touches.as_slice())
 }
 
-/// Adds the lines of wanted features.
 fn add_asked(text: &mut Vec<u8>, wanted: &[Wanted]) -> Result<(), AllocError>
     ensures text { OnOk result (text.new.items
         ≡ text.old.items ++ text_of (asked_lines wanted.now)) }

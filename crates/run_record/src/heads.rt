@@ -38,7 +38,6 @@ impl Unfinished {
         }
     }
 
-    /// How many touches were read.
     pub(crate) fn len(&self) -> usize
         ensures { result ≡ length self.now.touches }
     {
@@ -52,7 +51,6 @@ impl Unfinished {
         self.count
     }
 
-    /// Appends a touch. Fails only if out of memory.
     pub(crate) fn push(&mut self, touch: Touch) -> Result<(), AllocError>
         ensures { OnOk result (self.new ≡ with_touch self.old touch) }
     {

@@ -22,7 +22,6 @@ impl Model for Part {
 }
 
 impl Part {
-    /// The part of this name. Fails only if out of memory.
     pub(crate) fn new(alloc: Global, text: &[u8]) -> Result<Part, AllocError>
         ensures { IfOk result (λ part. part ≡ text.now) }
     {

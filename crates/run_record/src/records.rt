@@ -39,7 +39,6 @@ impl Model for Record {
 }
 
 impl Record {
-    /// The record of a head and of what its entries left.
     pub(crate) fn new(head: Head, body: Body) -> Record
         ensures { result ≡ recorded head.part head.asked body }
     {

@@ -13,7 +13,6 @@ use std::alloc::{AllocError, Global};
 /// The most bytes that are kept of an error (this profile).
 const MOST_KEPT: usize = 400;
 
-/// Adds the line of an error.
 fn add_refused(line: &mut Vec<u8>, connection: u64, text: &[u8]) -> Result<(), AllocError>
     ensures { OnOk result (line.new.items ≡ line.old.items
         ++ text_of (refused_line connection text.now ∷ [])) }

@@ -14,7 +14,6 @@ use dmis_program::Touch;
 use fixed_um::{Dir, Frame, Name, Point};
 use std::alloc::{AllocError, Global};
 
-/// The frame of the last touch.
 pub(crate) fn last_frame(touches: &[Touch]) -> Frame
     ensures { result ≡ last_frame touches.now }
 {
@@ -54,7 +53,6 @@ pub(crate) fn behind_contacts(acts: &[(u64, Act)], count: u64) -> &[(u64, Act)]
     none
 }
 
-/// Whether a contact was asked for by a touch: its target, direction, tool and frame.
 fn is_asked(touch: &Touch, target: Point, dir: Option<Dir>, tool: &Name, frame: Frame) -> bool
     ensures { IsTrue result ↔ ((target ≡ touch.now.target) × (dir ≡ touch.now.dir)
         × (tool.now ≡ touch.now.tool) × (frame ≡ touch.now.frame)) }
@@ -65,7 +63,6 @@ fn is_asked(touch: &Touch, target: Point, dir: Option<Dir>, tool: &Name, frame: 
         && same_frame(frame, touch.frame)
 }
 
-/// The point that an act reported, if it is a contact on this connection that a touch asked for.
 fn served_point(connection: u64, touch: &Touch, on: u64, act: &Act) -> Option<Point>
     ensures { Finds result (λ p. IsServedBy connection touch.now p on act.now) }
 {

@@ -52,7 +52,6 @@ pub(crate) fn is_contact(act: &Act) -> bool
     matches!(act, Act::Contact { .. })
 }
 
-/// Adds the line of a completed feature.
 fn add_completed(text: &mut Vec<u8>, connection: u64, label: &Name) -> Result<(), AllocError>
     ensures { OnOk result (text.new.items ≡ text.old.items
         ++ text_of (completed_line connection label.now ∷ [])) }

@@ -16,7 +16,6 @@ use std::alloc::{AllocError, Global};
 /// The most touches that a feature has (this profile).
 const TOUCHES_MAX: u64 = 10_000;
 
-/// The touch that fields are, if nothing follows them. Fails only if out of memory.
 fn read_fields(alloc: Global, forms: &mut Forms, rest: &[u8]) -> Result<Option<Touch>, AllocError>
     ensures { IfOk result (λ found. Finds found (λ t. IsAskedTouch t
         × (fields_behind rest.now ≡ touch_fields t))) }
@@ -47,7 +46,6 @@ fn read_fields(alloc: Global, forms: &mut Forms, rest: &[u8]) -> Result<Option<T
     }))
 }
 
-/// The touch that a line is. Fails only if out of memory.
 #[tactic(auto, using(crate::proofs::RecordFields::fields))]
 pub(crate) fn read_touch(
     alloc: Global,
@@ -63,7 +61,6 @@ pub(crate) fn read_touch(
     read_fields(alloc, forms, rest)
 }
 
-/// The label and the count of touches that a line names. Fails only if out of memory.
 #[tactic(auto, using(crate::proofs::RecordFields::fields))]
 pub(crate) fn read_opening(alloc: Global, line: &[u8]) -> Result<Option<(Name, u64)>, AllocError>
     ensures { IfOk result (λ found. Finds found (λ o. IsName o.0 × IsPointCount o.1

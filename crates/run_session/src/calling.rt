@@ -15,7 +15,6 @@ use std::alloc::AllocError;
 const NOT_BEGUN: u8 = 3;
 
 impl Session {
-    /// What comes after the log.
     pub(crate) fn after_log(&self) -> Stage
         ensures { spec.wants result ≡ None }
     {

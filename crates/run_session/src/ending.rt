@@ -29,7 +29,6 @@ impl Session {
         Ok(())
     }
 
-    /// The report is to be printed.
     fn print(&mut self) -> Result<(), AllocError>
         ensures quiet { spec.IsQuiet self.old self.new }
         ensures due { OnOk result (spec.IsDue self.new) }

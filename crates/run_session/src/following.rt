@@ -11,14 +11,12 @@ use effects::{Answer, Cause};
 use session_parts::{cause_of, stamped, why_unwritten};
 use std::alloc::AllocError;
 
-/// Whether an error has a line: it is not empty.
 fn has_line(error: &[u8]) -> bool
     ensures { result ≡ true → IsRefusal (kept_error error.now) }
 {
     !error.is_empty()
 }
 
-/// The place of the first error that has no line.
 fn first_without(errors: &[Vec<u8>]) -> Option<usize>
     ensures within { IfSome result (λ at. at < length errors.now) }
     ensures all { IsNone result → spec.HaveLines (map (λ e. e.items) errors.now) }
@@ -31,7 +29,6 @@ fn first_without(errors: &[Vec<u8>]) -> Option<usize>
     None
 }
 
-/// The errors that have lines.
 fn with_lines(mut errors: Vec<Vec<u8>>) -> Vec<Vec<u8>>
     ensures { spec.HaveLines (map (λ e. e.items) result.items) }
 {

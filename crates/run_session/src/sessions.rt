@@ -331,7 +331,6 @@ impl Session {
         }
     }
 
-    /// What is to be done next at the end.
     fn asks_at_end(&self) -> Effect<'_>
         requires { spec.is_at_end self.now.stage ≡ true }
         ensures { spec.Asks self.now (the_ask result) }
@@ -402,7 +401,6 @@ impl Session {
         }
     }
 
-    /// The session after an answer.
     fn step(&mut self, answer: Answer<'_>) -> Result<(), AllocError>
         ensures goes { spec.GoesOn self.old (the_reply answer.entry) self.new }
         ensures pauses { spec.confirms_pause self.old.stage (the_reply answer.entry) ≡ false

@@ -47,7 +47,6 @@ impl Session {
         self.client.send()
     }
 
-    /// The client writes an abort.
     fn abort(&mut self) -> Result<(), ClientFault>
         ensures ran { spec.Keeps self.old self.new }
         ensures book { self.new.book ≡ self.old.book }
@@ -55,7 +54,6 @@ impl Session {
         self.client.abort()
     }
 
-    /// The client takes bytes.
     fn feed(&mut self, bytes: &[u8]) -> Result<(), ClientFault>
         ensures ran { spec.Keeps self.old self.new }
         ensures book { self.new.book ≡ self.old.book }
@@ -63,7 +61,6 @@ impl Session {
         self.client.feed(bytes)
     }
 
-    /// The client reads a line, if one is there.
     fn read(&mut self) -> Result<bool, ClientFault>
         ensures ran { spec.Keeps self.old self.new }
         ensures book { self.new.book ≡ self.old.book }
@@ -89,7 +86,6 @@ impl Session {
         self.broken = Some(why);
     }
 
-    /// The client has refused.
     fn refuse_core(&mut self, fault: ClientFault) -> Result<(), AllocError>
         ensures ran { spec.Keeps self.old self.new }
         ensures book { self.new.book ≡ self.old.book }

@@ -91,7 +91,6 @@ pub(crate) fn write_received(out: &mut Vec<u8>, line: &[u8])
     push_end(out, b'&');
 }
 
-/// The command is complete whose tag is written so.
 #[tactic(auto, using(crate::proofs::Writings::complete_says))]
 #[inline(always)]
 fn push_complete(out: &mut Vec<u8>, text: [u8; 5])
@@ -103,7 +102,6 @@ fn push_complete(out: &mut Vec<u8>, text: [u8; 5])
     push_end(out, b'%');
 }
 
-/// The point of a touch, whose tag is written so.
 #[tactic(auto, using(crate::proofs::Writings::point_says))]
 #[inline(always)]
 fn push_point(out: &mut Vec<u8>, text: [u8; 5], point: Point)
@@ -119,7 +117,6 @@ fn push_point(out: &mut Vec<u8>, text: [u8; 5], point: Point)
     write_line_end_reserved(out);
 }
 
-/// A command is complete.
 pub(crate) fn write_complete(out: &mut Vec<u8>, tag: Tag)
     requires { HasRoomFor tag out.old answer_line_most }
     ensures { Says out.old out.new (Reply.Done tag ∷ []) answer_line_most }
@@ -176,7 +173,6 @@ pub(crate) fn kind_of_misread(why: Misread) -> Option<Kind>
     }
 }
 
-/// The kind of what was read, if it is known.
 pub(crate) fn kind_in(reading: &Result<Command, Misread>) -> Option<Kind>
     ensures { result ≡ kind_in reading.now }
 {

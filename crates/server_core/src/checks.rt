@@ -11,7 +11,6 @@ use fixed_um::{Frame, Name, Point};
 use protocol_model::Misread;
 use tool_rack::Rack;
 
-/// Where a frame has its zero point on the machine.
 pub(crate) fn offset(frame: Frame) -> Point
     ensures { result ≡ offset frame }
 {
@@ -42,7 +41,6 @@ fn wants_home(command: &Command) -> bool
     )
 }
 
-/// The command changes to a tool that the rack lacks.
 fn lacks_tool(rack: &Rack, command: &Command) -> bool
     ensures { result ≡ lacks_tool rack.now command.now }
 {
@@ -52,7 +50,6 @@ fn lacks_tool(rack: &Rack, command: &Command) -> bool
     }
 }
 
-/// The command is a touch, and no tool is in the probe head.
 fn has_no_tool(tool: &Option<Name>, command: &Command) -> bool
     ensures { result ≡ has_no_tool tool.now command.now }
 {
@@ -75,7 +72,6 @@ fn leaves_volume(frame: Frame, command: &Command) -> bool
 }
 
 impl Controller {
-    /// The error of the first check that a command fails.
     fn first_failing(&self, command: &Command) -> Option<ErrorNumber>
         ensures { option_map number_of result ≡ first_failing (checks self.now.server command.now) }
     {

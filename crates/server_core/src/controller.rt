@@ -104,14 +104,12 @@ impl Controller {
         })
     }
 
-    /// Whether the server is on a connection.
     pub(crate) fn is_on(&self) -> bool
         ensures { result ≡ self.now.server.on }
     {
         self.on
     }
 
-    /// Whether the server may come to the connection of this number.
     pub(crate) fn may_accept(&self, number: u64) -> bool
         ensures { result ≡ may_accept number self.now.server }
     {
@@ -168,7 +166,6 @@ impl Controller {
         &self.ledger
     }
 
-    /// The job of what runs.
     pub(crate) fn job(&self) -> Option<&Job>
         ensures { MatchOption result (running_job self.now.server ≡ None)
             (λ job. running_job self.now.server ≡ Some job.now) }

@@ -22,7 +22,6 @@ use fixed_um::Point;
 use protocol_model::{Line, Outcome};
 use std::alloc::AllocError;
 
-/// Appends an act on a connection. Fails only if out of memory.
 #[inline(always)]
 pub(crate) fn record(ledger: &mut ServerLedger, connection: u64, act: Act) -> Result<(), AllocError>
     requires { IsConnection connection }

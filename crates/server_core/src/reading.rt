@@ -55,7 +55,6 @@ fn write_running_aborted(out: &mut Vec<u8>, running: &Option<Running>)
 }
 
 impl Controller {
-    /// Whether a command runs or waits under this tag.
     #[inline(always)]
     fn is_in_use(&self, tag: Tag) -> bool
         ensures { result ≡ (server.runs_under tag self.now.server.running
@@ -119,7 +118,6 @@ impl Controller {
         write_failure(out, tag, error_of(why), kind_of_misread(why));
     }
 
-    /// A line under a tag that is not in use.
     #[inline(always)]
     fn read_fresh(
         &mut self,
@@ -161,7 +159,6 @@ impl Controller {
         }
     }
 
-    /// A faulty line with a tag.
     #[inline(never)]
     fn read_misread(&mut self, out: &mut Vec<u8>, line: &[u8], tag: Tag, why: Misread)
         requires may { MayTake self.old out.old tag (Err why) }
@@ -199,7 +196,6 @@ impl Controller {
         }
     }
 
-    /// Reads a line of the connection. Fails only if out of memory.
     #[tactic(auto, using(crate::proofs::LinesRead::read_is_fit, crate::proofs::LinesRead::read_begins, crate::proofs::LinesRead::one_reading))]
     pub(crate) fn read_line(&mut self, out: &mut Vec<u8>, line: &[u8]) -> Result<(), AllocError>
         requires on { self.old.server.on ≡ true }

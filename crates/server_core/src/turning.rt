@@ -22,7 +22,6 @@ use fixed_um::{Frame, Point};
 use protocol_model::{Job, Line, Waiting};
 use std::alloc::{AllocError, Global};
 
-/// The frame that a coordinate system selects.
 fn frame_of(system: Csy, stored: Point) -> Frame
     ensures { result ≡ server.frame_of system stored }
 {
@@ -69,7 +68,6 @@ impl Controller {
         self.error = true;
     }
 
-    /// The first waiting command runs on the machine from now on. Fails only if out of memory.
     fn start(&mut self) -> Result<(), AllocError>
         requires passed { first_refusal self.old.server ≡ None }
         requires runs { runs (first_command self.old.server) ≡ true }

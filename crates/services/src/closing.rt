@@ -40,7 +40,6 @@ impl Session {
         Ok(())
     }
 
-    /// The contacts are to be printed.
     fn print(&mut self) -> Result<(), AllocError>
         ensures plain { OnOk result (spec.due self.new ≡ self.new.stage) }
         ensures ends { OnOk result (spec.Ends self.new) }

@@ -10,7 +10,6 @@ use session_parts::{cause_of, why_unconnected, why_unwritten};
 use std::alloc::AllocError;
 
 impl Session {
-    /// What comes after the log.
     fn after_log(&self) -> Stage
         ensures { result ≡ (if self.now.core.named then Stage.Looking else Stage.Listening) }
     {

@@ -171,7 +171,6 @@ impl RelaySession {
         })
     }
 
-    /// What is asked of the files of a recording.
     fn asks_of_recording(&self) -> Effect<'_>
         ensures { spec.Sends self.now.relay (the_ask result) }
     {
@@ -192,7 +191,6 @@ impl RelaySession {
         }
     }
 
-    /// What is asked before the first connection.
     fn asks_before(&self) -> Effect<'_>
         ensures { spec.Sends self.now.relay (the_ask result) }
     {
@@ -212,7 +210,6 @@ impl RelaySession {
         }
     }
 
-    /// What is asked of both ends.
     fn asks_of_ends(&self) -> Effect<'_>
         ensures { spec.Sends self.now.relay (the_ask result) }
     {

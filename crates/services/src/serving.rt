@@ -227,7 +227,6 @@ impl Session {
         Ok(())
     }
 
-    /// The connection was left.
     fn left(&mut self) -> Result<(), AllocError>
         ensures { OnOk result (spec.Continues self.old self.new) }
     {

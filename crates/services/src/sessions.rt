@@ -154,7 +154,6 @@ impl Session {
         }
     }
 
-    /// What is to be done next while it serves.
     fn asks_while(&self) -> Effect<'_>
         requires { spec.is_asking_while self.now.stage ≡ true }
         ensures { spec.Asks self.now.stage self.now.core (the_ask result) }
@@ -206,7 +205,6 @@ impl Session {
         }
     }
 
-    /// The session after an answer.
     fn step(&mut self, answer: Answer<'_>) -> Result<(), AllocError>
         ensures { OnOk result (spec.GoesOn self.old (the_reply answer.entry) self.new) }
     {

@@ -98,7 +98,6 @@ fn send_lines<'a>(
     Ok(rest)
 }
 
-/// Adds what a line of the server reports, if it reports an error. Fails only if out of memory.
 fn report_line(
     alloc: Global,
     session: &Session,

@@ -69,7 +69,6 @@ fn tasks_with(count: u64, kind: Kind) -> u64
     count
 }
 
-/// One more for a touch.
 fn touches_with(count: u64, kind: Kind) -> u64
     ensures { result ≡ touches_with count kind }
 {
@@ -89,7 +88,6 @@ impl Session {
         }
     }
 
-    /// How many touches were sent.
     fn touches(&self) -> u64
         ensures { result ≡ touches_of self.now }
     {
@@ -109,7 +107,6 @@ impl Session {
         }
     }
 
-    /// A command was sent.
     fn add(&mut self, tag: Tag, kind: Kind) -> Result<(), AllocError>
         ensures ok { OnOk result (self.new ≡ with_command self.old tag kind) }
         ensures err { OnErr result (self.new ≡ self.old) }
@@ -137,7 +134,6 @@ impl Session {
         }
     }
 
-    /// The last command that was sent under a tag.
     fn last_under(&self, tag: Tag) -> Option<Sent>
         ensures { result ≡ last_under tag self.now }
     {

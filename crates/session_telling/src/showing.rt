@@ -6,7 +6,6 @@ ghost use Rattle.session_telling.specs.Visible.{hex_digit, visible};
 
 use std::alloc::{AllocError, Global};
 
-/// A hexadecimal digit.
 fn hex_digit(value: u8) -> char
     requires { value < 16 }
     ensures digit { result ≡ hex_digit value }

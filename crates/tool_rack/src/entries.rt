@@ -67,7 +67,6 @@ fn shift_entry(number: u64, values: &[u8]) -> Result<Entry, SetupFault>
     }
 }
 
-/// What the fields of a line say.
 #[tactic(auto, unfolding(crate::specs::Entries::fields_entry))]
 fn fields_entry(alloc: Global, number: u64, line: &[u8]) -> Result<Entry, SetupFault>
     ensures value { GivesSetup result (fields_entry number (fields_of line.now)) }

@@ -33,7 +33,6 @@ pub fn is_word(name: &[u8], field: &[u8]) -> bool
     field.eq_ignore_ascii_case(name)
 }
 
-/// The bytes from the first that is no space on.
 #[tactic(auto, using(crate::proofs::FieldCuts::passes))]
 fn skip_spaces(bytes: &[u8]) -> &[u8]
     ensures same { fields_of result.now ≡ fields_of bytes.now }

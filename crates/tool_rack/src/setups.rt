@@ -110,7 +110,6 @@ impl Setup {
         }
     }
 
-    /// Adds what the line of this number says.
     fn add_line(&mut self, alloc: Global, number: u64, line: &[u8]) -> Result<(), SetupFault>
         ensures ok { OnOk result (read_line number self.old line.now ≡ Ok self.new) }
         ensures refused { IfErr result (IsDue (read_line number self.old line.now)) }

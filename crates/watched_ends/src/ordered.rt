@@ -75,7 +75,6 @@ fn come_all(
     Ok(())
 }
 
-/// The text of what a relay reports to which pieces come. Fails only if out of memory.
 fn came_text(
     alloc: Global,
     relay: &mut LimitedRelay,

@@ -31,7 +31,6 @@ fn opens(text: &[u8]) -> bool
     rest.first() == Some(&b'(')
 }
 
-/// Whether a name is that of a command that asks for values.
 fn asks_value(name: &[u8]) -> bool
     ensures { result ≡ spec.asks_value name.now }
 {

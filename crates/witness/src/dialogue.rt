@@ -260,7 +260,6 @@ impl Dialogue {
         self.uses.iter().position(|used| used.tag == tag)
     }
 
-    /// A mark under a tag of which no command is open. Fails only if out of memory.
     fn hear_unasked(&mut self, line: &[u8], tag: Tag, mark: MarkSlice<'_>) -> Result<(), AllocError>
         ensures { Leads result self.old self.new
             (spec.unasked self.old line.now tag (signal_of (the_mark mark.entry))) }

@@ -23,7 +23,6 @@ pub(crate) fn nothing() -> Known
 
 // ---- what becomes of a change
 
-/// A change after a fault.
 fn faulted(standing: Standing) -> Option<Standing>
     ensures { result ≡ spec.faulted standing standing.progress }
 {

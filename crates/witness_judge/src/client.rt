@@ -237,7 +237,6 @@ fn add_above(
     put(&mut above.previous, tag, Some(lines.len()))
 }
 
-/// The first line of the client that breaks a rule. Fails only if out of memory.
 pub(crate) fn client_break(alloc: Global, both: Both<'_>) -> Result<Option<Found>, AllocError>
     requires { said.IsCourse both.up.now (reverse both.down.now) both.course.now }
     ensures { IfOk result (λ found. found

@@ -64,7 +64,6 @@ pub struct Place {
     pub left: usize,
 }
 
-/// The place after bytes more.
 fn advance(lines: &[Line], place: Place, count: usize) -> Place
     requires at { spec.IsAt lines.now place }
     requires room { place.bytes + count < 2 ^ 63 }

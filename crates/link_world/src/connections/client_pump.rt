@@ -15,7 +15,6 @@ use crate::connections::pumps::{
 use byte_ports::{Ports, Sink, Source};
 use client_core::{Client, ClientFault};
 
-/// The client sends each command that is due.
 fn send_due(client: &mut Client) -> Result<(), PumpFault<ClientFault>>
     ensures sent { GoesOn Sending [] [] client.old client.new }
     ensures all { OnOk result (due client.new.client ≡ None) }
@@ -83,7 +82,6 @@ fn take_in<R: Source>(
     Ok(read)
 }
 
-/// The client reads each whole line.
 fn read_lines(client: &mut Client, budget: &mut Budget) -> Result<(), PumpFault<ClientFault>>
     ensures reads { ReadsOn budget.old.left budget.new.left client.old client.new }
     ensures all { OnOk result (next_of client.new.input.rest ≡ Ok None) }

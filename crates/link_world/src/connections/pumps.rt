@@ -74,7 +74,6 @@ pub(crate) struct Budget {
 }
 
 impl Budget {
-    /// Counts one step.
     pub(crate) fn count<F>(&mut self) -> Result<(), PumpFault<F>>
         ensures ok { OnOk result (self.old.left ≡ self.new.left + 1) }
         ensures spent { OnErr result (self.old.left ≡ 0) }

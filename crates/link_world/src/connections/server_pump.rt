@@ -57,7 +57,6 @@ fn take_in<R: Source>(
     Ok(read)
 }
 
-/// The server reads each whole line.
 fn read_lines(server: &mut Server, budget: &mut Budget) -> Result<(), PumpFault<ServerFault>>
     ensures reads { OnOk result ((answer : OneJob → ℕ → OneOutcome)
         → ServerGoesOn answer Reading budget.old.left budget.new.left server.old server.new) }

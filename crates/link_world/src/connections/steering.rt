@@ -44,7 +44,6 @@ impl Steering for Onward {
     }
 }
 
-/// Whether a client may abort.
 fn may_abort(state: State) -> bool
     ensures { result ≡ may_abort state }
 {

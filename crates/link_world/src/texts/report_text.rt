@@ -12,7 +12,6 @@ use fixed_um::{Point, write_um_before};
 use itoa::write_digits;
 use std::alloc::{AllocError, Global};
 
-/// The name of a state.
 fn state_name(state: State) -> &'static str
     ensures { result.now ≡ state_name state }
 {
@@ -70,7 +69,6 @@ fn put_point_row_before(text: &mut [u8], end: usize, point: Point) -> usize
     write_um_before(text, end, point.x)
 }
 
-/// Appends the line of a point. Fails only if out of memory.
 fn push_point(text: &mut Vec<u8>, point: Point) -> Result<(), AllocError>
     ensures { OnOk result (text.new.items ≡ text.old.items ++ line (printed_point point)) }
 {
@@ -138,7 +136,6 @@ fn head_text(alloc: Global, state: State, counted: usize) -> Result<String, Allo
     Ok(text)
 }
 
-/// The text of a report. Fails only if out of memory.
 fn report_text(alloc: Global, report: &Report) -> Result<Vec<u8>, AllocError>
     ensures { IfOk result (λ text. text.items ≡ report_text report.now) }
 {

@@ -50,7 +50,6 @@ impl Contacts {
         }
     }
 
-    /// The contacts of a ledger. Fails only if out of memory.
     pub(crate) fn of(alloc: Global, ledger: &ServerLedger) -> Result<Contacts, AllocError>
         ensures { IfOk result (λ contacts. contacts ≡ reported ledger.now) }
     {
@@ -88,7 +87,6 @@ pub struct Report {
     pub contacts: Contacts,
 }
 
-/// Equal features. Fails only if out of memory.
 fn copied_features(alloc: Global, features: &[Feature]) -> Result<FeatureLedger, AllocError>
     requires { HaveOrigins features.now }
     ensures { IfOk result (λ copy. copy ≡ features.now) }

@@ -47,7 +47,6 @@ fn is_number(text: &[u8]) -> bool
     all_digits(text) && text.len() >= 1 && text.len() <= 10
 }
 
-/// The number that digits write.
 #[tactic(auto, using(crate::proofs::ScheduleNumbers::numbers))]
 fn digits_value(digits: &[u8]) -> u64
     requires { is_number digits.now ≡ true }
@@ -73,7 +72,6 @@ fn number_of(text: &[u8]) -> Option<u64>
     }
 }
 
-/// What a word that is alone on its line asks for.
 fn alone(word: &[u8]) -> Option<Instruction>
     ensures { result ≡ beside alone word.now }
 {
@@ -104,7 +102,6 @@ fn alone(word: &[u8]) -> Option<Instruction>
     }
 }
 
-/// What a word asks for before a number.
 fn numbered(word: &[u8], number: u64) -> Option<Instruction>
     requires { number < 10 ^ 10 }
     ensures { result ≡ with_number word.now (Some number) }
@@ -176,7 +173,6 @@ fn of_two(word: &[u8], value: &[u8]) -> Option<Instruction>
     numbered(word, number_of(value)?)
 }
 
-/// The touch at the point that three fields write.
 fn touch(values: &[u8]) -> Option<Instruction>
     ensures { result ≡ touch (fields_of values.now) }
 {
@@ -185,7 +181,6 @@ fn touch(values: &[u8]) -> Option<Instruction>
     Some(Instruction::Once(Event::Machine(Outcome::Touched(point))))
 }
 
-/// What the fields of a line ask for.
 #[tactic(auto, unfolding(crate::specs::ScheduleTexts::instruction_of))]
 fn fields_instruction(line: &[u8]) -> Option<Instruction>
     ensures { result ≡ instruction_of (fields_of line.now) }
@@ -204,7 +199,6 @@ fn fields_instruction(line: &[u8]) -> Option<Instruction>
     }
 }
 
-/// What a line asks for.
 #[tactic(auto, unfolding(crate::specs::ScheduleTexts::instruction_on))]
 fn instruction_on(line: &[u8]) -> Option<Instruction>
     ensures { result ≡ instruction_on line.now }
@@ -216,7 +210,6 @@ fn instruction_on(line: &[u8]) -> Option<Instruction>
 }
 
 impl Schedule {
-    /// Adds what the line of this number asks for.
     fn add_line(&mut self, number: u64, line: &[u8]) -> Result<(), ScheduleFault>
         ensures ok { OnOk result (read_line number self.old line.now ≡ Ok self.new) }
         ensures refused { IfErr result (IsRefusal (read_line number self.old line.now)) }

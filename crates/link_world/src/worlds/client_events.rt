@@ -17,7 +17,6 @@ use crate::worlds::world::World;
 use client_core::{Client, State};
 use contact_ledger::CONNECTION_MAX;
 
-/// The client writes the command that is due.
 fn send(
     client: &mut Client,
     connection: &mut Connection,
@@ -43,14 +42,12 @@ fn send(
     Ok(())
 }
 
-/// Whether a client in this state may send an abort.
 fn may_abort(state: State) -> bool
     ensures { result ≡ may_abort state }
 {
     matches!(state, State::Running | State::Failing)
 }
 
-/// The client writes an abort.
 fn abort(
     client: &mut Client,
     connection: &mut Connection,
@@ -97,7 +94,6 @@ fn bring_down(
     Ok(())
 }
 
-/// Whether a client in this state may make the connection of this number.
 fn may_connect(state: State, number: u64) -> bool
     ensures { result ≡ (is_apart state && nat_le number connection_most) }
 {
@@ -123,7 +119,6 @@ impl World {
         Ok(())
     }
 
-    /// The client sends the command that is due.
     pub(crate) fn client_sends(&mut self) -> Result<(), WorldFault>
         ensures can { HappensIf result (can event.ClientSends self.old.world) }
         ensures world { Leads result self.old self.new (with_world self.old
@@ -173,7 +168,6 @@ impl World {
         Ok(())
     }
 
-    /// The client leaves its connection.
     #[tactic(auto, using(crate::proofs::ClientSteps::left_reached))]
     pub(crate) fn client_leaves(&mut self) -> Result<(), WorldFault>
         ensures can { HappensIff result (can event.ClientLeaves self.old.world) }
@@ -198,7 +192,6 @@ impl World {
         Ok(())
     }
 
-    /// The client reads a line.
     pub(crate) fn client_reads(&mut self) -> Result<(), WorldFault>
         ensures can { HappensIf result (can event.ClientReads self.old.world) }
         ensures world { Leads result self.old self.new

@@ -19,7 +19,6 @@ pub(crate) struct Connection {
 }
 
 impl Connection {
-    /// A connection on which nothing was written.
     pub(crate) fn new(alloc: Global) -> Connection
         ensures up { result.up.waiting ≡ [] }
         ensures down { result.down.waiting ≡ [] }

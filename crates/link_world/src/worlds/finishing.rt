@@ -67,7 +67,6 @@ impl World {
         Ok(())
     }
 
-    /// Whether a command is due.
     fn is_due(&self) -> bool
         ensures { result ≡ is_some (due self.now.world.client.client) }
     {

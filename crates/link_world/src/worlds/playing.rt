@@ -101,7 +101,6 @@ impl World {
         Some(Event::Machine(machine.answer(job, number)))
     }
 
-    /// An event happens, if it can.
     fn once(&mut self, event: Event, trace: &mut Trace) -> Result<(), AllocError>
         ensures { PlaysPart result (λ cut world. IsOne (Some event) cut)
             (staged self.old trace.old) (staged self.new trace.new) }
@@ -123,7 +122,6 @@ impl World {
         }
     }
 
-    /// Plays one instruction. Fails only if out of memory.
     fn follow<M: Machine>(
         &mut self,
         instruction: Instruction,

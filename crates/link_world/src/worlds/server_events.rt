@@ -30,7 +30,6 @@ pub(crate) fn server_place(server: &Server, connections: &Vec<Connection>) -> Op
     Some((number - 1) as usize)
 }
 
-/// The server reads a line and answers it.
 fn read_line(server: &mut Server, connection: &mut Connection) -> Result<(), WorldFault>
     requires quiet { server.old.end.out ≡ [] }
     requires on { server.old.end.server.on ≡ true }
@@ -154,7 +153,6 @@ impl World {
         take_turn(&mut self.server, &mut self.connections[at])
     }
 
-    /// The server reads a line.
     pub(crate) fn server_reads(&mut self) -> Result<(), WorldFault>
         ensures can { HappensIf result (can event.ServerReads self.old.world) }
         ensures world { Leads result self.old self.new
@@ -179,7 +177,6 @@ impl World {
         end_job(&mut self.server, &mut self.connections[at], outcome)
     }
 
-    /// The server leaves its connection.
     #[tactic(auto, using(crate::proofs::ServerSteps::left_reached))]
     pub(crate) fn server_leaves(&mut self) -> Result<(), WorldFault>
         ensures can { HappensIff result (can event.ServerLeaves self.old.world) }

@@ -52,7 +52,6 @@ fn server_mark(comes: bool) -> &'static str
     if comes { " < " } else { " < never delivered: " }
 }
 
-/// A line without the CR at its end.
 #[tactic(auto, using(crate::proofs::Tracing::cr_gone, crate::proofs::Tracing::cr_none, crate::proofs::Tracing::cr_empty))]
 fn without_cr(line: &[u8]) -> &[u8]
     ensures { result.now ≡ without_cr line.now }
@@ -63,7 +62,6 @@ fn without_cr(line: &[u8]) -> &[u8]
     if *last == b'\r' { front } else { line }
 }
 
-/// Appends the row of a line, if the line is not empty. Fails only if out of memory.
 #[tactic(auto, using(crate::proofs::Tracing::row_none, crate::proofs::Tracing::row_more))]
 fn push_row(
     alloc: Global,
@@ -112,7 +110,6 @@ fn push_rows(
     push_row(alloc, text, number, mark, without_cr(rest))
 }
 
-/// The bytes after the first ones.
 fn rest_of(bytes: &[u8], count: usize) -> &[u8]
     ensures { result.now ≡ drop count bytes.now }
 {
@@ -171,7 +168,6 @@ impl World {
         }
     }
 
-    /// How many connections there are.
     fn connections_made(&self) -> u64
         ensures links { result ≡ length self.now.world.links }
         ensures last { result ≡ self.now.world.client.client.last }
@@ -239,7 +235,6 @@ impl Trace {
         Ok(self.text.as_slice())
     }
 
-    /// The rows of bytes follow the text.
     #[tactic(auto, using(crate::proofs::Tracing::grows_kept, crate::proofs::Tracing::grows_lost))]
     fn keep(&mut self, number: u64, mark: &str, bytes: &[u8])
         ensures { Grows self.old self.new (rows number mark.now bytes.now) }
