@@ -23,8 +23,7 @@ use Rattle.protocol_model.proofs.plan.Blocks.{program_is_plain}
 use Rattle.protocol_model.proofs.plan.Marks.{plan_fits}
 use Rattle.protocol_model.proofs.plan.PlanLaws.{plan_ends_left}
 use Rattle.protocol_model.proofs.plan.Fitting.{unknown}
-use Rattle.client_core.proofs.Fits.{Fits, both, fits_ours, plan_fits_features, joined_more, point_fits, last_fits, fewer_are_ours}
-use Rattle.client_core.proofs.Fits.{joined_origin}
+use Rattle.client_core.proofs.Fits.{Fits, both, fits_ours, plan_fits_features, joined_more, point_fits, last_fits, fewer_are_ours, joined_origin}
 use Rattle.client_core.proofs.Fronts.{live_kinds, Fronted, fronted, none_live, live_more, stay_filled, filled_more, none_asks}
 use Rattle.client_core.proofs.Fronts.{IsAskedLast, asked_last}
 use Rattle.client_core.proofs.Homing.{once, asked, asked_more, plan_asks_once, followed_unhomed, unhomed_behind, passed_kinds, homing_kinds}

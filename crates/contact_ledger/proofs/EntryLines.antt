@@ -3,8 +3,7 @@ use Rattle.contact_ledger.proofs.Names.{[], ◌*◌, ◌++◌, ◌+◌, ◌∙�
 use Rattle.contact_ledger.proofs.Names.{Direction, direction_fields, false, fields_behind, fields_of, Frame, frame_fields, IsEntry, IsFrame, IsOnWire}
 use Rattle.contact_ledger.proofs.Names.{IsWrittenAct, length, List, Machine, None, Option, Part, Point, point_fields, refl, slice_index, Some, sym}
 use Rattle.contact_ledger.proofs.Names.{true, ℕ}
-use Rattle.contact_ledger.proofs.PlainFields.{ArePlain, plain_fields_append, decimal_plain, name_plain, point_plain, frame_plain}
-use Rattle.contact_ledger.proofs.PlainFields.{direction_plain}
+use Rattle.contact_ledger.proofs.PlainFields.{ArePlain, plain_fields_append, decimal_plain, name_plain, point_plain, frame_plain, direction_plain}
 use Rattle.contact_ledger.proofs.LineFields.{line_fields, made_of}
 
 -- ---- a number for each word

@@ -14,8 +14,7 @@ use Rattle.protocol_model.specs.Ends.{serving_accepted, serving_fed, serving_rea
 use Rattle.protocol_model.specs.declared.machine.Job.{Job}
 use Rattle.protocol_model.specs.declared.machine.Job.TheVariants as job
 use Rattle.protocol_model.specs.declared.machine.Outcome.{Outcome}
-use Rattle.server_core.specs.Serving.{ServerValue, with_end, may_accept, may_feed, may_turn, fits_running}
-use Rattle.server_core.specs.Serving.{IsFeedFault, IsReadFault, IsMachineFault}
+use Rattle.server_core.specs.Serving.{ServerValue, with_end, may_accept, may_feed, may_turn, fits_running, IsFeedFault, IsReadFault, IsMachineFault}
 use Rattle.server_core.specs.declared.faults.ServerFault.{ServerFault}
 use Rattle.server_core.specs.declared.faults.ServerFault.TheVariants as fault
 

@@ -3,8 +3,7 @@
 ghost use Rattle.std.specs.Prelude.{◌≡◌, ◌↔◌, IsOk, IfOk, IfErr, IfSome, None};
 ghost use Rattle.dme_orders.specs.Printed.{status_of};
 ghost use Rattle.dme_orders.specs.Verdicts.{status_of_state};
-ghost use Rattle.dme_orders.specs.Broken.{unexpected, client_cause, server_cause, cause_of, IsBreakShown, break_status};
-ghost use Rattle.dme_orders.specs.Broken.{is_for_a_line, is_open};
+ghost use Rattle.dme_orders.specs.Broken.{unexpected, client_cause, server_cause, cause_of, IsBreakShown, break_status, is_for_a_line, is_open};
 
 use crate::faults::OrderFault;
 use crate::verdicts::status;

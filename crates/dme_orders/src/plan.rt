@@ -6,8 +6,7 @@ ghost use Rattle.dme_line.specs.Kinds.{kind_of, is_event_kind};
 ghost use Rattle.dme_line.specs.Written.{HasVolumeLengths};
 ghost use Rattle.dme_line.specs.declared.tags.Tag.TheVariants.{Std};
 ghost use Rattle.resume_plan.specs.Sendable.{IsSendable};
-ghost use Rattle.dme_orders.specs.Plan.{count_to_touch, first_commands, is_touch, plan_text};
-ghost use Rattle.dme_orders.specs.Plan.{homing_mark, shown_line, shown_behind};
+ghost use Rattle.dme_orders.specs.Plan.{count_to_touch, first_commands, is_touch, plan_text, homing_mark, shown_line, shown_behind};
 ghost use Rattle.dme_orders.specs.Numbered.{number_behind, number_behind_all, line_under, lines_from, shown_from};
 
 use dme_line::{Command, Tag, write_command};

@@ -6,8 +6,7 @@ use Rattle.dme_words.proofs.Names.{or_else, other_fault, Outcome, plain, plain_w
 use Rattle.dme_words.proofs.Names.{settled, Shape, short_of, short_or_plain, Some, Step, step_fault, subcommand, subcommand_met, subcommand_or_other}
 use Rattle.dme_words.proofs.Names.{sym, Text, to_positional, trailing, true, turn_fault, value, Waiting, waits, Walk, walk, walk_from, walked_from}
 use Rattle.dme_words.proofs.Names.{word_fault, word_met, ℕ}
-use Rattle.clap.specs.Walk.{Names}
-use Rattle.clap.specs.Walk.{walked}
+use Rattle.clap.specs.Walk.{Names, walked}
 use Rattle.clap.specs.Faults.{walk_fault}
 
 -- no list with an element is empty

@@ -11,11 +11,8 @@ use Rattle.dme_words.proofs.Names.{short_met, short_of, short_or_plain, slice_ge
 use Rattle.dme_words.proofs.Names.{subcommand_or_other, subst, suc, sym, takes_several, takes_values, Text, to_positional, trailing, true, turn_fault}
 use Rattle.dme_words.proofs.Names.{unwrap_or_range, use_fault, used, used_as, value, ValueParser, values_fault, values_kinds, values_or_missing}
 use Rattle.dme_words.proofs.Names.{Waiting, waits, Walk, walked_from, with_default, with_values, without, word_fault, word_met, zero, ℕ}
-use Rattle.clap.specs.Walk.{Names}
-use Rattle.clap.specs.Walk.{bundle_met}
-use Rattle.clap.specs.Walk.{walked}
-use Rattle.clap.specs.Faults.{flags_fault}
-use Rattle.clap.specs.Faults.{walk_fault}
+use Rattle.clap.specs.Walk.{Names, bundle_met, walked}
+use Rattle.clap.specs.Faults.{flags_fault, walk_fault}
 use Rattle.clap.specs.declared.builder.action.ArgAction.{ArgAction}
 use Rattle.clap.specs.declared.builder.action.ArgAction.TheVariants.{Help, Set, SetTrue}
 use Rattle.clap.specs.declared.builder.range.ValueRange.{ValueRange}

@@ -5,8 +5,7 @@ use Rattle.fixed_um.proofs.Names.{fraction_behind, fraction_front, given, if◌t
 use Rattle.fixed_um.proofs.Names.{IsFraction, IsNumeral, IsSign, le-leb, length, List, lt-ltb, ltb-true, minus, nat_lt, ne_eqb, None, none, nothing}
 use Rattle.fixed_um.proofs.Names.{Numeral, numeral_with, Option, or_cases, plus, pointed, prefix_len, refl, same_Some, slice_index, Some}
 use Rattle.fixed_um.proofs.Names.{starts_with_minus, subst, sym, take-append-drop, take_at, true, without_leading_sign, ℕ}
-use Rattle.fixed_um.specs.Scan.{exponent_of}
-use Rattle.fixed_um.specs.Scan.{numeral_of}
+use Rattle.fixed_um.specs.Scan.{exponent_of, numeral_of}
 use Rattle.fixed_um.proofs.DigitLemmas.{AllDigits-front, AllDigits-to_test, short_number, digit-to_test, value-digit}
 
 -- ---- from the steps to the grammar

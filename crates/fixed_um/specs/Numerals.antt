@@ -1,8 +1,7 @@
 -- What a numeral says, and the whole number of micrometres or millionths that it stands for (this profile, for ISO 22093 and I++ DME
 -- alike).
 use Rattle.std.specs.Prelude.{◌≡◌, ℕ, ◌+◌, ◌*◌, ◌^◌, ◌<◌, ◌≤◌, Bool, true, false, ◌⊎◌, List, [], ◌++◌, length, ℤ, pos, ◌*ℤ◌, ◌-ℤ◌}
-use Rattle.std.specs.Prelude.{neg_ℤ, unsigned_abs, codes, Result, Ok, Err, if◌then◌else◌}
-use Rattle.std.specs.Prelude.{Option, Some, None}
+use Rattle.std.specs.Prelude.{neg_ℤ, unsigned_abs, codes, Result, Ok, Err, if◌then◌else◌, Option, Some, None}
 use Rattle.std.specs.Str.Parse.{digits_value, AllDigits}
 use Rattle.fixed_um.specs.Limits.{component_limit}
 use Rattle.fixed_um.specs.Shapes.{Direction, IsDirection}

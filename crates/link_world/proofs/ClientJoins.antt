@@ -7,8 +7,7 @@ use Rattle.link_world.proofs.Names.{link_same, List, may_abort, may_read, Meanin
 use Rattle.link_world.proofs.Names.{Reading, refl, run_of, Sending, sends, sends_abort, sends_next, set-get_or, slice_set, Some, Sound, Stage, start}
 use Rattle.link_world.proofs.Names.{State, steered, steering, subst, suc, sym, take, take-append-drop, Taking, Told, true, TurnLeads, with_link}
 use Rattle.link_world.proofs.Names.{World, Writing, zero, ℕ}
-use Rattle.protocol_model.specs.World.{is_any}
-use Rattle.protocol_model.specs.World.{is_faulted as is_over}
+use Rattle.protocol_model.specs.World.{is_any, is_faulted as is_over}
 use Rattle.client_core.specs.Clients.{is_faulted}
 use Rattle.link_world.specs.Pumps.{begins, has, reads, takes, writes}
 use Rattle.link_world.proofs.EventLists.{run_append, done_now, not_done}

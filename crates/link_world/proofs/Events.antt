@@ -7,8 +7,7 @@ use Rattle.link_world.proofs.Names.{take, true, with_down, with_end, with_up, wi
 use Rattle.link_world.specs.declared.worlds.world.World.TheInside.{Inside}
 use Rattle.link_world.proofs.Reached.{reached_more, server_number, taken}
 use Rattle.link_world.proofs.ClientBytes.{down_seen, down_may}
-use Rattle.link_world.proofs.ClientWriting.{writes_seen}
-use Rattle.link_world.proofs.ClientWriting.{same_seen as client_same}
+use Rattle.link_world.proofs.ClientWriting.{writes_seen, same_seen as client_same}
 use Rattle.link_world.proofs.ServerAnswers.{answers_seen, up_seen, up_may, reads_may, same_seen}
 
 -- what is seen of a world's parts

@@ -19,10 +19,7 @@ use Rattle.protocol_model.specs.Replies.{Mark}
 use Rattle.protocol_model.proofs.undisturbed_run.UndisturbedClient.{read_last}
 use Rattle.link_world.specs.Pumps as client_stage
 use Rattle.link_world.specs.ServerPumps as server_stage
-use Rattle.link_world.specs.Joined.{client_stops}
-use Rattle.link_world.specs.Joined.{client_leaves}
-use Rattle.link_world.specs.Joined.{server_stops}
-use Rattle.link_world.specs.Joined.{client_left}
+use Rattle.link_world.specs.Joined.{client_stops, client_leaves, server_stops, client_left}
 use Rattle.link_world.proofs.EventLists.{run_append}
 use Rattle.link_world.proofs.ClientJoins.{fits, sent_last, turn_joins, turn_whole, turn_written, turn_leaves}
 use Rattle.link_world.proofs.ServerJoins.{IsServing, reached_serving, serving_joins, serving_whole, serving_leaves}

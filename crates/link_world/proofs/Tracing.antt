@@ -7,8 +7,7 @@ use Rattle.link_world.proofs.Names.{read_moves, reading_of, refl, Result, row, r
 use Rattle.link_world.proofs.Names.{slice_index_or, Some, standing, subst, suc, sym, take, taken_after, traced, Traces, TraceValue, true}
 use Rattle.link_world.proofs.Names.{turned_moves, up_on, without_cr, World, WorldValue, zero, ℕ}
 use Rattle.link_world.specs.declared.worlds.standing.Standing.{Standing}
-use Rattle.link_world.specs.Traces.{passed_over, shown}
-use Rattle.link_world.specs.Traces.{Follows, Grows}
+use Rattle.link_world.specs.Traces.{passed_over, shown, Follows, Grows}
 use Rattle.link_world.proofs.EventLists.{done_now}
 use Rattle.link_world.proofs.Linking.{links_get}
 use Rattle.link_world.proofs.Reached.{links_long, made}

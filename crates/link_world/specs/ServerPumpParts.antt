@@ -1,6 +1,5 @@
 -- What calls state of the parts of a server's turn (this profile). A budget is how many steps may still be made.
-use Rattle.std.specs.Prelude.{◌≡◌, ℕ, ◌+◌, ◌*◌, ◌≤◌, Bool, ◌||◌, ⊤, Option, None, Some, is_some, List, [], ◌++◌, length}
-use Rattle.std.specs.Prelude.{Ok}
+use Rattle.std.specs.Prelude.{◌≡◌, ℕ, ◌+◌, ◌*◌, ◌≤◌, Bool, ◌||◌, ⊤, Option, None, Some, is_some, List, [], ◌++◌, length, Ok}
 use Rattle.std.specs.Io.KnownBytes.{Consumes}
 use Rattle.line_framing.specs.Next.{next_of}
 use Rattle.protocol_model.specs.Server.{Server, running_job}

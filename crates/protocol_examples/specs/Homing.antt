@@ -6,10 +6,8 @@ use Rattle.dme_line.specs.declared.commands.Command.TheVariants as command
 use Rattle.protocol_model.specs.Replies.{Mark, Reply}
 use Rattle.protocol_model.specs.Client.{Client, client_read}
 use Rattle.protocol_model.specs.Server.{Server}
-use Rattle.protocol_model.specs.Examples.{line}
-use Rattle.protocol_examples.specs.Scripts.{one_point, Cue, client_sends, client_leaves, server_leaves, connect, accept, quiet, opened}
-use Rattle.protocol_examples.specs.Scripts.{play}
-use Rattle.protocol_model.specs.Examples.{Call, call_answer}
+use Rattle.protocol_model.specs.Examples.{line, Call, call_answer}
+use Rattle.protocol_examples.specs.Scripts.{one_point, Cue, client_sends, client_leaves, server_leaves, connect, accept, quiet, opened, play}
 use Rattle.protocol_model.specs.declared.held.Datum.TheVariants as datum
 
 -- a server after calls, one after another

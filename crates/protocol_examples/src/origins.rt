@@ -4,12 +4,9 @@ ghost use Rattle.std.specs.Prelude.{◌≡◌, pos, [], ◌∷◌, ◌++◌, cod
 ghost use Rattle.fixed_um.specs.declared.frames.Frame.TheVariants.{Machine, Part};
 ghost use Rattle.protocol_model.specs.declared.states.State.TheVariants as State;
 ghost use Rattle.protocol_model.specs.Client.{joined, origin_of};
-ghost use Rattle.protocol_model.specs.Examples.{at, part};
-ghost use Rattle.protocol_examples.specs.Scripts.{one_point, two_frames, two_points};
-ghost use Rattle.protocol_examples.specs.Scripts.{connect, accept, client_leaves, server_leaves};
-ghost use Rattle.protocol_examples.specs.Scripts.{client_restart, quiet, quiet_to_the_end, opened};
-ghost use Rattle.protocol_model.specs.Examples.{feature, feature_on};
-ghost use Rattle.protocol_examples.specs.Scripts.{play, reported, report, contact};
+ghost use Rattle.protocol_model.specs.Examples.{at, part, feature, feature_on};
+ghost use Rattle.protocol_examples.specs.Scripts.{one_point, two_frames, two_points, connect, accept, client_leaves, server_leaves};
+ghost use Rattle.protocol_examples.specs.Scripts.{client_restart, quiet, quiet_to_the_end, opened, play, reported, report, contact};
 ghost use Rattle.protocol_model.specs.LedgerRows.{two_wanted, first_point};
 
 /// A feature comes from the connection on which its last point was counted, by the client's own number, and from the frame of its last

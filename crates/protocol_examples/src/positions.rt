@@ -1,7 +1,6 @@
 // Examples: where a plan continues in the steps of a program.
 
-ghost use Rattle.std.specs.Prelude.{◌≡◌, ◌++◌, ◌∷◌, [], Ok};
-ghost use Rattle.std.specs.Prelude.{codes, pos};
+ghost use Rattle.std.specs.Prelude.{◌≡◌, ◌++◌, ◌∷◌, [], Ok, codes, pos};
 ghost use Rattle.dme_line.specs.declared.commands.Csy.TheVariants.{MachineCsy};
 ghost use Rattle.dme_line.specs.declared.commands.Command.TheVariants as command;
 ghost use Rattle.dmis_program.specs.Meaning.{program_of};
@@ -9,8 +8,7 @@ ghost use Rattle.protocol_model.specs.Plan.{plan};
 ghost use Rattle.protocol_model.specs.PlanReading.{commands_of};
 ghost use Rattle.protocol_examples.specs.Positions.{moved_between};
 ghost use Rattle.protocol_model.specs.Examples.{at, from_above};
-ghost use Rattle.protocol_model.specs.declared.plans.Start.TheVariants.{NewConnection};
-ghost use Rattle.protocol_model.specs.declared.plans.Start.TheVariants.{SameConnection};
+ghost use Rattle.protocol_model.specs.declared.plans.Start.TheVariants.{NewConnection, SameConnection};
 
 /// A program with a move and another tool between a touch and the end of its block, and a move
 /// between the blocks.

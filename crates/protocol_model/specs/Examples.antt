@@ -1,6 +1,6 @@
 -- Values, claims and servers of the examples, written out (this profile). Lengths are in micrometres.
 -- No theorem cites these definitions: the examples next to them show what the others give.
-use Rattle.std.specs.Prelude.{ℕ, zero, suc, ℤ, pos, neg_ℤ, Option, Some, None, List, [], ◌∷◌, ◌++◌, codes, Ok}
+use Rattle.std.specs.Prelude.{ℕ, zero, suc, ℤ, pos, neg_ℤ, Option, Some, None, List, [], ◌∷◌, ◌++◌, codes, Ok, true}
 use Rattle.fixed_um.specs.Shapes.{Direction}
 use Rattle.fixed_um.specs.declared.lengths.Point.{Point}
 use Rattle.fixed_um.specs.declared.frames.Frame.{Frame}
@@ -14,11 +14,9 @@ use Rattle.dmis_program.specs.declared.features.Touch.{Touch}
 use Rattle.dmis_program.specs.declared.features.Wanted.{Wanted}
 use Rattle.protocol_model.specs.Replies.{Reading, Reply}
 use Rattle.protocol_model.specs.Claims.{MadeContact}
-use Rattle.protocol_model.specs.Server.{Server, Answer, server_read, server_turned, server_machined}
+use Rattle.protocol_model.specs.Server.{Server, Answer, server_read, server_turned, server_machined, new_server, server_accepted}
 use Rattle.protocol_model.specs.declared.lines.Line.{Line}
 use Rattle.protocol_model.specs.declared.machine.Outcome.{Outcome}
-use Rattle.std.specs.Prelude.{true}
-use Rattle.protocol_model.specs.Server.{new_server, server_accepted}
 
 -- ---- values
 

@@ -1,7 +1,6 @@
 -- A client and a server on connections that carry lines as values (this profile). Of each older connection the server may read whatever it
 -- likes.
-use Rattle.std.specs.Prelude.{ℕ, suc, ◌==◌, nat_lt, nat_le, Bool, true, ◌&&◌, not, if◌then◌else◌, is_none, is_some, List, [], ◌∷◌, ◌++◌}
-use Rattle.std.specs.Prelude.{length, Ok}
+use Rattle.std.specs.Prelude.{ℕ, suc, ◌==◌, nat_lt, nat_le, Bool, true, ◌&&◌, not, if◌then◌else◌, is_none, is_some, List, [], ◌∷◌, ◌++◌, length, Ok}
 use Rattle.dmis_program.specs.Meaning.{Meaning as Program}
 use Rattle.protocol_model.specs.Replies.{Reading, Reply, tag_of, mark_of}
 use Rattle.protocol_model.specs.Plan.{is_empty}

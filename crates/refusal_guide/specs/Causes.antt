@@ -1,6 +1,5 @@
 -- Why a program is refused for a statement or a line, and which word is at fault (this profile). `rest` are the bytes from the line on.
-use Rattle.std.specs.Prelude.{ℕ, ◌+◌, List, [], ◌∷◌, length, codes, Option, Some, None}
-use Rattle.std.specs.Prelude.{◌==◌, if◌then◌else◌, slice_get, slice_index_or, drop}
+use Rattle.std.specs.Prelude.{ℕ, ◌+◌, List, [], ◌∷◌, length, codes, Option, Some, None, ◌==◌, if◌then◌else◌, slice_get, slice_index_or, drop}
 use Rattle.std.specs.List.{last_or}
 use Rattle.std.specs.Option.{option_map}
 use Rattle.dmis_text.specs.declared.elements.Statement.{Statement}

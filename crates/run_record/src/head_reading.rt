@@ -4,8 +4,7 @@ ghost use Rattle.std.specs.Prelude.{◌≡◌, ◌<◌, ◌∷◌, ℕ, length, 
 ghost use Rattle.fixed_um.specs.Calls.{Finds};
 ghost use Rattle.contact_ledger.specs.Lines.{whole_lines};
 ghost use Rattle.run_record.specs.Heads.{IsPart, part_line, header};
-ghost use Rattle.run_record.specs.Stages.{Stage, Next, stage_of, IsValid, IsOpen};
-ghost use Rattle.run_record.specs.Stages.{HasHead, HasTornHead, IsBadHead};
+ghost use Rattle.run_record.specs.Stages.{Stage, Next, stage_of, IsValid, IsOpen, HasHead, HasTornHead, IsBadHead};
 ghost use Rattle.run_record.specs.declared.faults.RecordFault.TheVariants.{Damaged};
 ghost use Rattle.run_record.specs.declared.heads.Place.TheVariants.{Between, Within};
 

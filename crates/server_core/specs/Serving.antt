@@ -1,6 +1,5 @@
 -- What callers see of a server (this profile): its setup, and its end of a connection.
-use Rattle.std.specs.Prelude.{◌≡◌, ◌≢◌, ℕ, nat_lt, nat_le, Bool, not, ◌&&◌, is_none, Option, Some, None, true, false, List, [], ◌∷◌, Result}
-use Rattle.std.specs.Prelude.{Ok, Err}
+use Rattle.std.specs.Prelude.{◌≡◌, ◌≢◌, ℕ, nat_lt, nat_le, Bool, not, ◌&&◌, is_none, Option, Some, None, true, false, List, [], ◌∷◌, Result, Ok, Err}
 use Rattle.contact_ledger.specs.Ledgers.{connection_most}
 use Rattle.dme_line.specs.declared.commands.Command.{Command}
 use Rattle.dme_line.specs.declared.commands.Command.TheVariants as command

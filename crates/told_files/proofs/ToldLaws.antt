@@ -10,8 +10,7 @@ use Rattle.std.proofs.lemmas.List.Folds.{list_all-append}
 use Rattle.contact_ledger.specs.Lines.{whole_lines}
 use Rattle.contact_ledger.proofs.WrittenTexts.{line_spaced}
 use Rattle.witness.specs.Dialogues.{touched}
-use Rattle.told_files.specs.ToldTexts.{none, some}
-use Rattle.told_files.specs.ToldTexts.{entry_back}
+use Rattle.told_files.specs.ToldTexts.{none, some, entry_back}
 use Rattle.told_files.proofs.OneTold.{one_told}
 use Rattle.told_files.proofs.OtherLines.{touch_plain, moved_plain, broken_plain}
 

@@ -1,6 +1,5 @@
 -- The text of what a server reported, as it is read (this profile): version 1. The lines are those of `witness`.
-use Rattle.std.specs.Prelude.{◌≡◌, ◌≢◌, ◌≤◌, ℕ, true, if◌then◌else◌, List, [], ◌∷◌, map, codes, Option, Some, None}
-use Rattle.std.specs.Prelude.{◌-◌, length, slice_get}
+use Rattle.std.specs.Prelude.{◌≡◌, ◌≢◌, ◌≤◌, ℕ, true, if◌then◌else◌, List, [], ◌∷◌, map, codes, Option, Some, None, ◌-◌, length, slice_get}
 use Rattle.std.specs.List.{AllByRecursion, list_all}
 use Rattle.std.specs.Option.{option_map_or}
 use Rattle.std.specs.Str.{bytes_eq}

@@ -5,8 +5,7 @@ use Rattle.witness.proofs.Names.{ReadsServer, ReadsWithin, refl, Reported, Resul
 use Rattle.witness.proofs.Names.{text_more, text_of, then_one, told_line, told_lines, true, unwatched, Watching, zero, ℕ}
 use Rattle.witness.proofs.Prefixes.{prefixed, client_after, server_after}
 use Rattle.witness.specs.Relaying.{Did, FromClient, FromServer, MakeDue, Move, Read, Relaying, ToClient, ToServer, Write}
-use Rattle.witness.specs.Relaying.{begun, Course, moved, Relays, untold, with_move}
-use Rattle.witness.specs.Relaying.{client, IsAllTold, IsClientRead, IsToldOf, none, Reads, server}
+use Rattle.witness.specs.Relaying.{begun, Course, moved, Relays, untold, with_move, client, IsAllTold, IsClientRead, IsToldOf, none, Reads, server}
 use Rattle.witness.specs.Relaying.{came_down, came_up, IsHeard, read, silent}
 
 -- ---- reading

@@ -15,8 +15,7 @@ use Rattle.dme_line.proofs.HomedLemmas.{one_homed_reading}
 use Rattle.dme_line.proofs.OneCommand.{one_command_reading}
 use Rattle.dme_line.proofs.OneResponse.{one_response_reading}
 use Rattle.dme_line.proofs.PointLemmas.{one_point_reading}
-use Rattle.protocol_model.specs.Readings.{command_of, homed_of, point_of, response_of}
-use Rattle.protocol_model.specs.Readings.{reads_command, reads_homed, reads_point, reads_response}
+use Rattle.protocol_model.specs.Readings.{command_of, homed_of, point_of, response_of, reads_command, reads_homed, reads_point, reads_response}
 
 pub one_command : (line : List ℕ) (r : Result (Tag × Command) LineFault) → ReadsCommand line r → command_of line ≡ r
 one_command line r read = one_command_reading line (command_of line) r (reads_command line) read

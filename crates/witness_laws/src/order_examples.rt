@@ -2,8 +2,7 @@
 
 ghost use Rattle.std.specs.Prelude.{◌≡◌, true, false, [], ◌∷◌, ◌++◌, Some, None};
 ghost use Rattle.witness_laws.specs.Names.{list_any, Machine, Std, silence, frame_of, IsClientRead, ledger, client_read, Did, MovedSomewhere, FramedSomehow, Other, Unasked, Broken, OutOfOrder, Client, in_turn, ClaimNoMore, lines_of, lines_came, AreLinesOf, home, received, refused, ended, selected, home_2, ended_2, untagged, selecting, early, failed_before, crossing, with_end, asked_too, read_both, asked_course, course, Up, Down, said_all, ups, downs, answers, some_at_once, refuses, IsCausal, IsClear, AreFresh, AreAnswers, IsPrefix};
-ghost use Rattle.witness_laws.specs.OrderExamples.{origin, answered};
-ghost use Rattle.witness_laws.specs.OrderExamples.{homing};
+ghost use Rattle.witness_laws.specs.OrderExamples.{origin, answered, homing};
 ghost use Rattle.contact_ledger.specs.declared.acts.Act.TheVariants as act;
 
 /// A reply that is read before its command reports something else. One to no command at all may be read at any time.

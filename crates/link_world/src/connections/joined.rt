@@ -9,8 +9,7 @@ ghost use Rattle.dmis_program.specs.Programs.{IsProgram};
 ghost use Rattle.fixed_um.specs.declared.lengths.Point.{Point as OnePoint};
 ghost use Rattle.line_framing.specs.Next.{next_of};
 ghost use Rattle.protocol_model.specs.Claims.{Sound, Told};
-ghost use Rattle.protocol_model.specs.Ends.{ClientEnd, ServerEnd};
-ghost use Rattle.protocol_model.specs.Ends.{new_client_end, end_left, serving_left};
+ghost use Rattle.protocol_model.specs.Ends.{ClientEnd, ServerEnd, new_client_end, end_left, serving_left};
 ghost use Rattle.protocol_model.specs.World.{World, client_link, server_link, start, run_of};
 ghost use Rattle.protocol_model.specs.declared.events.Event.{Event as OneEvent};
 ghost use Rattle.protocol_model.specs.declared.events.Event.TheVariants as event;
@@ -20,15 +19,13 @@ ghost use Rattle.protocol_model.specs.declared.states.State.{State};
 ghost use Rattle.link_world.specs.Machines.{simulated};
 ghost use Rattle.link_world.specs.Pumps.{Stage, Writing, Reading, ClientTurn};
 ghost use Rattle.link_world.specs.ServerPumps.{ServerTurn};
-ghost use Rattle.link_world.specs.Joined.{IsClientTurn, IsServerTurn, TurnLeads, client_joined, steering};
+ghost use Rattle.link_world.specs.Joined.{IsClientTurn, IsServerTurn, TurnLeads, client_joined, steering, AreFit, server_joined};
 ghost use Rattle.link_world.specs.LinkRuns.{ClientRan, ClientRunStopped};
 ghost use Rattle.link_world.specs.Courses.{steered};
 ghost use Rattle.link_world.specs.declared.connections.pumps.PumpFault.{PumpFault as OneFault};
 ghost use Rattle.link_world.specs.declared.connections.steering.Course.{Course};
 ghost use Rattle.client_core.specs.declared.faults.ClientFault.{ClientFault as OneClientFault};
-ghost use Rattle.link_world.specs.Joined.{AreFit, server_joined};
-ghost use Rattle.link_world.specs.Joined.{EndPair, pumped_of, PumpCalls, IsOneWorld};
-ghost use Rattle.link_world.specs.Joined.{ClientCalls, AreOwnCalls};
+ghost use Rattle.link_world.specs.Joined.{EndPair, pumped_of, PumpCalls, IsOneWorld, ClientCalls, AreOwnCalls};
 
 /// A client's turn over its ports is a list of events of the world. Take every world whose client has nothing to send and is on a
 /// connection that was made, and every turn of that client, as `client_turns` makes it, from there or from where the client has been made to stop, in

@@ -5,8 +5,7 @@ use Rattle.protocol_model.proofs.Names.{Server, Some, subst, sym, Table, Tag, tr
 use Rattle.protocol_model.specs.Typed.{World}
 use Rattle.protocol_model.proofs.table.Basics.{if_true, if_false}
 use Rattle.protocol_model.proofs.table.Replying.{Reads, reads_more, IsFront, front_trans, front_more}
-use Rattle.protocol_model.proofs.invariant.Served.{Served, served_more, IsProgress, no_points, progress_other, contacts_more}
-use Rattle.protocol_model.proofs.invariant.Served.{made_up_to}
+use Rattle.protocol_model.proofs.invariant.Served.{Served, served_more, IsProgress, no_points, progress_other, contacts_more, made_up_to}
 use Rattle.protocol_model.proofs.invariant.Moves.{done_on, acts_more, acts_done, acts_elsewhere, up_to_join, up_to_done, Moves}
 use Rattle.protocol_model.proofs.invariant.Holding.{IsNear, IsTidy, IsLive, IsOff, IsHere, IsAhead, IsGone, IsIdle, Inv, know_of}
 

@@ -15,8 +15,7 @@ use Rattle.protocol_model.proofs.invariant.Served.{acts_none, Served, served_fro
 use Rattle.protocol_model.proofs.invariant.Holding.{listed, sent_now, all_received, all_sent, abort_lines, abort_helds, commands_in}
 use Rattle.protocol_model.proofs.invariant.Holding.{AreStandard, IsClearFirst, IsAskedLast, IsNear, HasState, IsLive, IsOff, IsAtRest, Inv}
 use Rattle.protocol_model.proofs.table.Asking.{with_unsent}
-use Rattle.protocol_model.proofs.invariant.LineFacts.{asked_more}
-use Rattle.protocol_model.proofs.invariant.LineFacts.{tag_is_false, standard_join, no_clears_join, sent_more, commands_more, steps_more}
+use Rattle.protocol_model.proofs.invariant.LineFacts.{asked_more, tag_is_false, standard_join, no_clears_join, sent_more, commands_more, steps_more}
 
 -- ---- what always follows
 

@@ -12,8 +12,7 @@ use Rattle.protocol_model.proofs.plan.Fitting.{Know, unknown}
 use Rattle.protocol_model.proofs.plan.Marks.{plan_fits, plan_sane, plan_touches, plan_no_abort}
 use Rattle.protocol_model.proofs.invariant.Served.{IsProgress, progress_anew, program_has}
 use Rattle.protocol_model.proofs.table.Drawing.{IsDrawn, drawn, none_drawn, event_apart}
-use Rattle.protocol_model.proofs.invariant.Holding.{listed, abort_line, abort_lines, abort_held, commands_in, IsClearFirst, IsAskedLast}
-use Rattle.protocol_model.proofs.invariant.Holding.{IsNear}
+use Rattle.protocol_model.proofs.invariant.Holding.{listed, abort_line, abort_lines, abort_held, commands_in, IsClearFirst, IsAskedLast, IsNear}
 use Rattle.protocol_model.proofs.invariant.Holding.{HasEvents, HasState, IsLive, IsOff, IsAtRest, IsHere, IsAhead, IsGone, Inv, know_of}
 use Rattle.protocol_model.proofs.each_event.ClientEvents.{no_aborts, none_received}
 

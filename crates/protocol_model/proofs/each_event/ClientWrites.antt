@@ -11,8 +11,7 @@ use Rattle.protocol_model.proofs.table.Asking.{with_unsent, AreUnasked, reads_un
 use Rattle.protocol_model.proofs.plan.Fitting.{unknown}
 use Rattle.protocol_model.proofs.plan.Marks.{HasNoAbort}
 use Rattle.protocol_model.proofs.table.Drawing.{IsDrawn, drawn, none_drawn, standard_apart, held_length}
-use Rattle.protocol_model.proofs.invariant.Holding.{HasEvents, HasState, tags_of, IsLive, IsOff, IsAtRest, IsHere, IsAhead, IsGone}
-use Rattle.protocol_model.proofs.invariant.Holding.{Inv, know_of}
+use Rattle.protocol_model.proofs.invariant.Holding.{HasEvents, HasState, tags_of, IsLive, IsOff, IsAtRest, IsHere, IsAhead, IsGone, Inv, know_of}
 use Rattle.protocol_model.proofs.each_event.ClientEvents.{failed_tags_more, count_more, distinct_more, near_sends}
 
 -- ---- a command is sent

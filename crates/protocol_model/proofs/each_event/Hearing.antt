@@ -12,8 +12,7 @@ use Rattle.protocol_model.proofs.table.Walks.{two, staged, AreDistinct}
 use Rattle.protocol_model.proofs.table.Counts.{failed_tags, is_error, none_fails, one_fails, none_left}
 use Rattle.protocol_model.proofs.table.Replying.{fine, step_cases, Reads, step_counts, step_distinct}
 use Rattle.protocol_model.proofs.invariant.Holding.{IsAborting, HasEvents, IsTidy, tags_of, IsLive, IsOff, IsHere, IsAhead, IsGone, Inv}
-use Rattle.protocol_model.proofs.each_event.HearEvent.{has_state, standard_events, failing_events, AbortLeft, there, gone, IsAbortReply}
-use Rattle.protocol_model.proofs.each_event.HearEvent.{abort_reply}
+use Rattle.protocol_model.proofs.each_event.HearEvent.{has_state, standard_events, failing_events, AbortLeft, there, gone, IsAbortReply, abort_reply}
 use Rattle.protocol_model.proofs.plan.Marks.{HasNoAbort}
 use Rattle.protocol_model.proofs.plan.PassedOver.{passed_no_abort}
 use Rattle.protocol_model.proofs.table.Asking.{step_leaves}

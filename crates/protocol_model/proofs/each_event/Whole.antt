@@ -9,8 +9,7 @@ use Rattle.protocol_model.proofs.invariant.Served.{served_sound}
 use Rattle.protocol_model.proofs.invariant.Holding.{Inv}
 use Rattle.protocol_model.proofs.each_event.ServerEvents.{reads_event, reads_old_event, turn_event, machine_event, accept_event, left_event}
 use Rattle.protocol_model.proofs.each_event.ServerEvents.{restart_event}
-use Rattle.protocol_model.proofs.each_event.ClientEvents.{served_now, told_now, never_faulted, connect_event, client_left_event}
-use Rattle.protocol_model.proofs.each_event.ClientEvents.{client_restart_event}
+use Rattle.protocol_model.proofs.each_event.ClientEvents.{served_now, told_now, never_faulted, connect_event, client_left_event, client_restart_event}
 use Rattle.protocol_model.proofs.each_event.ClientWrites.{sends_event}
 use Rattle.protocol_model.proofs.each_event.ClientResumes.{abort_event, resume_event}
 use Rattle.protocol_model.proofs.each_event.Hearing.{hear_event}

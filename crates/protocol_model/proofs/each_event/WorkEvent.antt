@@ -6,8 +6,7 @@ use Rattle.protocol_model.proofs.Names.{Outcome, PartCsy, Point, point_differenc
 use Rattle.protocol_model.proofs.Names.{server_turned, Some, stopped, subst, sym, Table, Tag, taken, touched, true, turned_to, Waiting, Wanted, ℕ}
 use Rattle.protocol_model.specs.Typed.{World}
 use Rattle.protocol_model.proofs.table.Replying.{tabled, Reads}
-use Rattle.protocol_model.proofs.plan.Fitting.{known_by, known_frame, KnowsMore, more_refl, more_than_nothing, FitsTouch, FitsFrame}
-use Rattle.protocol_model.proofs.plan.Fitting.{FitsMove, Fits}
+use Rattle.protocol_model.proofs.plan.Fitting.{known_by, known_frame, KnowsMore, more_refl, more_than_nothing, FitsTouch, FitsFrame, FitsMove, Fits}
 use Rattle.protocol_model.proofs.invariant.Served.{IsProgress}
 use Rattle.protocol_model.proofs.invariant.Moves.{Moves}
 use Rattle.protocol_model.proofs.invariant.Pairs.{done_first, given_first}

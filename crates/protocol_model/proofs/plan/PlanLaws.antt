@@ -11,8 +11,7 @@ use Rattle.fixed_um.specs.declared.frames.Frame.TheVariants.{Machine}
 use Rattle.protocol_model.specs.PlanReading.{touches_of}
 use Rattle.protocol_model.proofs.plan.Blocks.{program_is_plain}
 use Rattle.protocol_model.proofs.plan.Fitting.{Know, unknown, known_frame, known_by, FitsMove, FitsTouch, FitsFrame, FitsOne, Fits}
-use Rattle.protocol_model.proofs.plan.Marks.{Marked, marks, marks_of, touch_in, touches_in, HasNoAbort, plan_touches, plan_fits}
-use Rattle.protocol_model.proofs.plan.Marks.{plan_no_abort}
+use Rattle.protocol_model.proofs.plan.Marks.{Marked, marks, marks_of, touch_in, touches_in, HasNoAbort, plan_touches, plan_fits, plan_no_abort}
 use Rattle.protocol_model.proofs.written_lines.PlainClient.{HaveArguments, plan_arguments, standard_kind}
 
 -- ---- touches

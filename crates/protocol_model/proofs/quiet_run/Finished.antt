@@ -16,8 +16,7 @@ use Rattle.protocol_model.proofs.table.Replying.{Reads, front_refl}
 use Rattle.protocol_model.proofs.plan.Marks.{touches_in, plan_touches}
 use Rattle.protocol_model.proofs.invariant.Served.{have_drop, program_has}
 use Rattle.protocol_model.proofs.invariant.Moves.{read_moves, turned_moves, machined_moves}
-use Rattle.protocol_model.proofs.invariant.Holding.{listed, all_received, all_sent, all_wait, abort_lines, commands_in}
-use Rattle.protocol_model.proofs.invariant.Holding.{know_of, IsClean}
+use Rattle.protocol_model.proofs.invariant.Holding.{listed, all_received, all_sent, all_wait, abort_lines, commands_in, know_of, IsClean}
 use Rattle.protocol_model.proofs.invariant.LineFacts.{no_steps}
 use Rattle.protocol_model.proofs.each_event.ServerEvents.{not_nothing, on_by}
 use Rattle.protocol_model.proofs.written_lines.Writable.{command_lines, reply_lines}

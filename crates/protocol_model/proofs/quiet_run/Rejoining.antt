@@ -4,8 +4,7 @@ use Rattle.protocol_model.proofs.Names.{end_left, false, false≢true, Feature, 
 use Rattle.protocol_model.proofs.Names.{List, Meaning, nat_le, nat_lt, no_link, no_tally, not, plan, plan_left, refl, rejoined, ServerEnd}
 use Rattle.protocol_model.proofs.Names.{serving_accepted, serving_left, Start, State, subst, suc, sym, Table, true, ℕ}
 use Rattle.protocol_model.specs.World.{after, can, connected, World}
-use Rattle.protocol_model.specs.declared.events.Event.TheVariants.{Accept, Connect}
-use Rattle.protocol_model.specs.declared.events.Event.TheVariants.{ClientLeaves, ServerLeaves}
+use Rattle.protocol_model.specs.declared.events.Event.TheVariants.{Accept, Connect, ClientLeaves, ServerLeaves}
 use Rattle.protocol_model.proofs.invariant.Holding.{IsOff, IsLive, IsAtRest, IsIdle}
 use Rattle.protocol_model.proofs.whole_run.Carrying.{lined, IsCarried}
 use Rattle.protocol_model.proofs.whole_run.CarryingClient.{client_left_carried, server_left_carried}

@@ -18,8 +18,7 @@ use Rattle.protocol_model.proofs.invariant.Holding.{all_received, all_sent, wait
 use Rattle.protocol_model.proofs.each_event.FrontEvent.{IsAtFront}
 use Rattle.protocol_model.proofs.undisturbed_run.Homing.{tells_is}
 use Rattle.protocol_model.proofs.quiet_run.Jobs.{IsJob}
-use Rattle.protocol_model.proofs.quiet_run.Ready.{Allowed, Opened, opened_passed, IsReady, IsNoTouch, counts_ready}
-use Rattle.protocol_model.proofs.quiet_run.Ready.{touch_ready, rest_of}
+use Rattle.protocol_model.proofs.quiet_run.Ready.{Allowed, Opened, opened_passed, IsReady, IsNoTouch, counts_ready, touch_ready, rest_of}
 use Rattle.protocol_model.proofs.plan.Marks.{touches_in}
 
 abbrev or_else : {A : Type 0} → Option A → A → A

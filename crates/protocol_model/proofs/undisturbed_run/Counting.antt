@@ -11,10 +11,8 @@ use Rattle.protocol_model.proofs.table.Walks.{two, staged, heard_cases}
 use Rattle.protocol_model.proofs.table.Replying.{fine, step_cases, Reads, IsFront, Grows, reads_grows}
 use Rattle.protocol_model.proofs.table.Asking.{tells_unasked}
 use Rattle.protocol_model.proofs.invariant.Touching.{Keeps, measured_keeps}
-use Rattle.protocol_model.proofs.undisturbed_run.Following.{IsAskedBy}
-use Rattle.protocol_model.proofs.undisturbed_run.Following.{IsAsked, AreAsked, asked_at, acts_join, planned_more, act_stands, IsGiven}
-use Rattle.protocol_model.proofs.undisturbed_run.Following.{IsFilled}
-use Rattle.protocol_model.proofs.undisturbed_run.Following.{AreFilled, has_datum, AreCalm, HaveTags, kinds_held, kinds_of, becomes_calm}
+use Rattle.protocol_model.proofs.undisturbed_run.Following.{IsAskedBy, IsAsked, AreAsked, asked_at, acts_join, planned_more, act_stands, IsGiven}
+use Rattle.protocol_model.proofs.undisturbed_run.Following.{IsFilled, AreFilled, has_datum, AreCalm, HaveTags, kinds_held, kinds_of, becomes_calm}
 use Rattle.protocol_model.proofs.undisturbed_run.Following.{becomes_filled, no_closes, no_counts, counts_given}
 use Rattle.protocol_model.proofs.undisturbed_run.Homing.{FirstTells, first_tells_front, HasNoHoming, HasNoQuestion, followed_cons}
 use Rattle.protocol_model.proofs.undisturbed_run.Homing.{followed_passed, AreQuiet, IsQuestion, IsLeft, Asked, Unasked, IsBefore}

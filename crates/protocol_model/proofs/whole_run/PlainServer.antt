@@ -10,8 +10,7 @@ use Rattle.fixed_um.specs.declared.frames.Frame.TheVariants.{Machine}
 use Rattle.dme_line.specs.declared.tags.Tag.TheVariants.{Event}
 use Rattle.protocol_model.proofs.invariant.Holding.{listed, waits, all_wait}
 use Rattle.protocol_model.proofs.invariant.LineFacts.{wait_more}
-use Rattle.protocol_model.proofs.written_lines.Writable.{AreWritable, writable_join, AreReplies, replies_join, difference_on_wire}
-use Rattle.protocol_model.proofs.written_lines.Writable.{opposite_in_volume}
+use Rattle.protocol_model.proofs.written_lines.Writable.{AreWritable, writable_join, AreReplies, replies_join, difference_on_wire, opposite_in_volume}
 
 -- a tag that a command can have has a number with room in its digits
 pub tag_of_numbered : (t : Tag) → IsNumbered t → IsTag t

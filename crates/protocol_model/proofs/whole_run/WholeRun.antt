@@ -13,8 +13,7 @@ use Rattle.protocol_model.proofs.each_event.ClientEvents.{served_now, told_now, 
 use Rattle.protocol_model.proofs.each_event.ServerEvents.{not_nothing, on_by}
 use Rattle.protocol_model.proofs.each_event.Whole.{start_holds}
 use Rattle.protocol_model.proofs.whole_run.PlainServer.{plain_new}
-use Rattle.protocol_model.proofs.whole_run.Carrying.{lined, IsCarried, reads_carried, turn_carried, machine_carried, up_carried}
-use Rattle.protocol_model.proofs.whole_run.Carrying.{down_carried}
+use Rattle.protocol_model.proofs.whole_run.Carrying.{lined, IsCarried, reads_carried, turn_carried, machine_carried, up_carried, down_carried}
 use Rattle.protocol_model.proofs.whole_run.CarryingClient.{connect_carried, accept_carried, client_left_carried, client_restart_carried}
 use Rattle.protocol_model.proofs.whole_run.CarryingClient.{server_left_carried, server_restart_carried, sends_carried, abort_carried}
 use Rattle.protocol_model.proofs.whole_run.CarryingClient.{resume_carried, hears_carried}

@@ -3,8 +3,7 @@ use Rattle.protocol_model.proofs.Names.{[], ◌+◌, ◌∙◌, ◌∷◌, ◌�
 use Rattle.protocol_model.proofs.Names.{false≢true, feature, Frame, from_above, IsServed, List, MadeContact, None, Option, Origin, part, Point, pos}
 use Rattle.protocol_model.proofs.Names.{refl, Serves, Some, Sound, suc, sym, take, Told, tool, Touch, true, unsigned_abs, zero, ℕ}
 use Rattle.protocol_model.specs.LedgerRows.{contact_of, first_point, first_touch, one_wanted, second_point, second_touch, two_wanted}
-use Rattle.protocol_model.specs.LedgerRows.{first_contact, ledger_with, measured_as, right_ledger, second_contact, two_connections}
-use Rattle.protocol_model.specs.LedgerRows.{asked_twice}
+use Rattle.protocol_model.specs.LedgerRows.{first_contact, ledger_with, measured_as, right_ledger, second_contact, two_connections, asked_twice}
 
 -- ---- what is allowed
 

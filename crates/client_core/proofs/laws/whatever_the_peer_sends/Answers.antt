@@ -1,5 +1,4 @@
-use Rattle.client_core.proofs.Runs.{program_stays, features_are_ours, counted_are_planned, told_is_unhomed, counted_on_the_last}
-use Rattle.client_core.proofs.Runs.{counted_is_next}
+use Rattle.client_core.proofs.Runs.{program_stays, features_are_ours, counted_are_planned, told_is_unhomed, counted_on_the_last, counted_is_next}
 use Rattle.client_core.proofs.laws.whatever_the_peer_sends.Goals as goal
 
 pub returns-clause-program : goal.returns-clause-program

@@ -1,8 +1,7 @@
 use Rattle.std.proofs.Common.{◌≡◌, sym, ◌∙◌, arith}
 use Rattle.contact_ledger.proofs.Leaves.{number_is_text, number_read, not_same}
 use Rattle.contact_ledger.proofs.forms.read_number.Goals as goal
-use Rattle.contact_ledger.proofs.forms.read_number.Goals.{then-number-lt1-via-then-number-lt1}
-use Rattle.contact_ledger.proofs.forms.read_number.Goals.{then-number-lt1-via-else-number-lt1+then-number-most}
+use Rattle.contact_ledger.proofs.forms.read_number.Goals.{then-number-lt1-via-then-number-lt1, then-number-lt1-via-else-number-lt1+then-number-most}
 use Rattle.contact_ledger.proofs.forms.read_number.Goals.{then-number-lt1-via-else-number-lt1+else-number-most+then-ne}
 
 pub returns-in_default : goal.returns-in_default

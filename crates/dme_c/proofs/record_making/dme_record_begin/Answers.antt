@@ -1,8 +1,7 @@
 -- Exactly one outcome is due for the texts and the part, and the number says which.
 use Rattle.dme_c.proofs.Names.{◌∙◌, ap, IsName, RecordRefusal, RefusesBytes, subst, sym}
 use Rattle.dme_c.proofs.Beginning.{asked_of, begun_setup, begun_program, begun_part, begun_window, line_of, name_of, number_of}
-use Rattle.dme_c.proofs.Beginning.{refused_setup, refused_program, refused_part, refused_window, refused_record}
-use Rattle.dme_c.proofs.Beginning.{due_damaged, due_part, due_program}
+use Rattle.dme_c.proofs.Beginning.{refused_setup, refused_program, refused_part, refused_window, refused_record, due_damaged, due_part, due_program}
 use Rattle.dme_c.proofs.record_making.dme_record_begin.Goals as goal
 
 pub returns-in-Ok-clause-bad_setup : goal.returns-in-Ok-clause-bad_setup

@@ -1,5 +1,4 @@
-use Rattle.protocol_examples.proofs.Texts.{empty_text, one_point_text, circle_text, two_frames_text, two_points_text}
-use Rattle.protocol_examples.proofs.Texts.{same_twice_text}
+use Rattle.protocol_examples.proofs.Texts.{empty_text, one_point_text, circle_text, two_frames_text, two_points_text, same_twice_text}
 use Rattle.protocol_examples.proofs.scripts.text_rows.Goals as goal
 
 pub returns-clause-empty : goal.returns-clause-empty

@@ -2,8 +2,7 @@ use Rattle.link_world.proofs.Names.{◌<◌, arith, common_steps, Out, rules}
 use Rattle.link_world.proofs.ClientPumps.{if_err}
 use Rattle.link_world.proofs.ClientRuns.{client_starts, client_gives, client_round, client_ran, client_stops_giving, client_refuses}
 use Rattle.link_world.proofs.ClientRuns.{client_stops, client_spends}
-use Rattle.link_world.proofs.Telling.{tells_none, tells_more, tells_refused}
-use Rattle.link_world.proofs.Telling.{tells_left, tells_asked}
+use Rattle.link_world.proofs.Telling.{tells_none, tells_more, tells_refused, tells_left, tells_asked}
 use Rattle.link_world.proofs.Showing.{left_shown, turned_shown, asked_shown, stop_refused_shown}
 use Rattle.link_world.specs.Showing as show
 use Rattle.link_world.proofs.connections.links.rounds.Goals as goal

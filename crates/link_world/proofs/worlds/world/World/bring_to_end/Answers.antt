@@ -1,6 +1,5 @@
 use Rattle.link_world.proofs.Names.{AreFirstOfJoining, AreTurns, CanFinish, false, IsReached, None, rules, subst, true}
-use Rattle.link_world.proofs.Ending.{due_behind, short_behind, few_behind, finished, stopped_turning, stopped_joining, same_made}
-use Rattle.link_world.proofs.Ending.{same_turned}
+use Rattle.link_world.proofs.Ending.{due_behind, short_behind, few_behind, finished, stopped_turning, stopped_joining, same_made, same_turned}
 use Rattle.link_world.proofs.Measured.{finish_measures}
 use Rattle.link_world.proofs.Rejoining.{may_by}
 use Rattle.link_world.proofs.worlds.world.World.bring_to_end.Goals as goal
