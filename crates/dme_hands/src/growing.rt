@@ -77,7 +77,11 @@ impl Growing {
     }
 
     /// A file is locked.
-    pub fn hold<R: Files<File = File> + AllocGlobal>(&mut self, rt: &R, name: &str) -> io::Result<()> {
+    pub fn hold<R: Files<File = File> + AllocGlobal>(
+        &mut self,
+        rt: &R,
+        name: &str,
+    ) -> io::Result<()> {
         let kept = String::from_str(rt.alloc(), name)?;
         *self = Growing::Held(HeldFile::open(rt, name)?, kept);
         Ok(())

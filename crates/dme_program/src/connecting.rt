@@ -10,10 +10,10 @@ use dme_files::{Fault, Sources, of_output, refused};
 use dme_orders::{
     ConnectionEnd, FilesFault, InputFiles, LoopTask, OrderFault, loop_over, setup_and_program,
 };
-use run_opening::lacking_lines;
 use dme_words::Loop;
 use effects::Cause;
 use link_world::LoopPorts;
+use run_opening::lacking_lines;
 use session_parts::why_unconnected;
 use std::io::{self, ErrorKind};
 use std::net::{Net, TcpListener, TcpStream};
@@ -115,7 +115,13 @@ pub fn loop_program<
         Err(fault) => return Err(refused(rt.alloc(), fault, files, order.explain)),
     };
     let text = files.program.text.as_slice();
-    let lacking = lacking_lines(rt.alloc(), &program, text, &setup, files.setup.name.as_str())?;
+    let lacking = lacking_lines(
+        rt.alloc(),
+        &program,
+        text,
+        &setup,
+        files.setup.name.as_str(),
+    )?;
     let _ = eprint!(rt; "{lacking}");
     let task = Task {
         run: LoopTask {

@@ -19,9 +19,9 @@ use dme_orders::{
     check_under_setup, review_program, simulate, status,
 };
 use dme_words::{Audit, Check, Order, RecordAudit, Review, Run, Simulation, read_words};
-use run_opening::Opening;
 use ledger_session::{Job, Session, run as run_reading};
 use program_review::{FindingForm, FindingStyle};
+use run_opening::Opening;
 use std::alloc::{AllocError, Global};
 use std::env::{self, Env};
 use std::fs::File;

@@ -100,7 +100,14 @@ impl Opening {
         let run = self.run()?;
         let errors = self.errors(&client)?;
         let begun = Begun::new(
-            self.alloc, run, &mut client, number, text, &told, errors, places,
+            self.alloc,
+            run,
+            &mut client,
+            number,
+            text,
+            &told,
+            errors,
+            places,
         )?;
         self.client = Some(client);
         self.begun = Some(begun);

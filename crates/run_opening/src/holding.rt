@@ -32,7 +32,11 @@ impl Opening {
     }
 
     /// A file of this name cannot be written.
-    pub(crate) fn refuse_file(&mut self, name: Option<String>, answer: Answer<'_>) -> Result<(), AllocError> {
+    pub(crate) fn refuse_file(
+        &mut self,
+        name: Option<String>,
+        answer: Answer<'_>,
+    ) -> Result<(), AllocError> {
         let name = name.unwrap_or(String::new(self.alloc));
         let why = why_unwritten(cause_of(answer));
         let said = format!(in self.alloc; "dme: cannot write {name}{why}\n")?;

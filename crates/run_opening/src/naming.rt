@@ -77,8 +77,7 @@ impl Called {
             (Some(node), Some(number)) => node.as_slice() == number.as_slice(),
             _ => false,
         };
-        (is_written(self.at) || is_written(other.at))
-            && (is_one || meet(place, next))
+        (is_written(self.at) || is_written(other.at)) && (is_one || meet(place, next))
     }
 }
 
@@ -146,7 +145,12 @@ impl Opening {
     }
 
     /// Two files are one: that is a bad command line.
-    fn refuse_meeting(&mut self, first: usize, second: usize, named: usize) -> Result<(), AllocError> {
+    fn refuse_meeting(
+        &mut self,
+        first: usize,
+        second: usize,
+        named: usize,
+    ) -> Result<(), AllocError> {
         let (first, second) = (option_of(first), option_of(second));
         let name = name_of(&self.order, named).unwrap_or("");
         let said = format!(in self.alloc;

@@ -150,7 +150,10 @@ impl Opening {
             Stage::HoldingFeatures => Effect::Hold(Growth::Features, self.name_of(Text::Features)),
             Stage::LookingContacts => Effect::Look(self.order.contacts.as_deref().unwrap_or("")),
             Stage::HoldingContacts => {
-                Effect::Hold(Growth::Contacts, self.order.contacts.as_deref().unwrap_or(""))
+                Effect::Hold(
+                    Growth::Contacts,
+                    self.order.contacts.as_deref().unwrap_or(""),
+                )
             }
             Stage::Filling => Effect::Fill(Growth::Record, text, held, self.length),
             Stage::DiscardingFeatures => Effect::Discard(Growth::Features),

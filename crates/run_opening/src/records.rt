@@ -88,7 +88,13 @@ impl Opening {
             return Err(AllocError);
         }
         let note = if self.order.explain {
-            note(self.alloc, &refusal, (name.as_str(), self.part()), text, program)?
+            note(
+                self.alloc,
+                &refusal,
+                (name.as_str(), self.part()),
+                text,
+                program,
+            )?
         } else {
             Vec::new(self.alloc)
         };
