@@ -3,7 +3,7 @@ use Rattle.std.specs.Prelude.{◌≡◌, ℕ, Bool, List, ◌∷◌, Option, Som
 use Rattle.effects.specs.declared.vocabulary.Slot.{Slot}
 use Rattle.effects.specs.declared.vocabulary.Growth.{Growth}
 use Rattle.effects.specs.declared.vocabulary.Peer.{Peer}
-use Rattle.effects.specs.declared.vocabulary.Place.{Place}
+use Rattle.effects.specs.declared.vocabulary.Place.{Place as TextPlace}
 use Rattle.effects.specs.declared.vocabulary.Place.TheVariants as place
 use Rattle.effects.specs.declared.vocabulary.Effect.{Effect}
 use Rattle.effects.specs.declared.vocabulary.Effect.TheVariants as effect
@@ -76,7 +76,7 @@ pub data Reply : Type 0 where
   Failed : Cause → Reply
   Short : Reply
 
-abbrev pub the_place : Place → Where
+abbrev pub the_place : TextPlace → Where
 the_place (place.Named name) = Named name.now
 the_place place.Input = Input
 the_place place.Nothing = Nowhere
