@@ -9,7 +9,7 @@ pub use Rattle.dmis_program.specs.Meaning.{Meaning, program_of}
 pub use Rattle.fixed_um.specs.Names.{IsName}
 pub use Rattle.libc.specs.Heap.{chunk}
 pub use Rattle.protocol_model.specs.Ends.{ClientEnd}
-pub use Rattle.record_keeping.specs.declared.opening.RecordRefusal.{RecordRefusal}
+pub use Rattle.record_text.specs.declared.opening.RecordRefusal.{RecordRefusal}
 pub use Rattle.std.proofs.Common.{[], ◌&&◌, ◌==◌, ◌∙◌, ◌∷◌, ◌≡◌, ◌≢◌, ◌≤◌, ap, arith, Bool, bytes_eq, eq-eqb, Err, false, IfErr, inl, inr, IsErr}
 pub use Rattle.std.proofs.Common.{IsSome, length, List, None, not, Ok, Option, refl, Result, Some, subst, suc, sym, true, ℕ}
 pub use Rattle.std.proofs.alloc.Calls.{Goes-blank}

@@ -5,7 +5,7 @@ use Rattle.contact_ledger.specs.Lines.{text_of}
 use Rattle.contact_ledger.specs.declared.acts.Act.{Act}
 use Rattle.contact_ledger.specs.declared.features.Feature.{Feature}
 use Rattle.dmis_program.specs.Meaning.{Meaning}
-use Rattle.run_record.specs.Heads.{IsPartGiven, head_lines}
+use Rattle.record_text.specs.Heads.{IsPartGiven, head_lines}
 use Rattle.client_core.specs.Clients.{is_window}
 use Rattle.protocol_model.specs.Claims.{Sound}
 use Rattle.protocol_model.specs.Ends.{ClientEnd, new_client_end}

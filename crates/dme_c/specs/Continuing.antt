@@ -3,10 +3,10 @@ use Rattle.std.specs.Prelude.{◌≡◌, ◌-◌, ℕ, List, Option}
 use Rattle.dmis_program.specs.Meaning.{Meaning}
 use Rattle.dmis_program.specs.declared.features.Wanted.{Wanted}
 use Rattle.protocol_model.specs.Ends.{ClientEnd, new_client_end}
-use Rattle.record_keeping.specs.Beginnings.{BeginsWith, RefusesRun}
-use Rattle.record_keeping.specs.declared.opening.Beginning.{Beginning}
-use Rattle.record_keeping.specs.declared.opening.RecordRefusal.{RecordRefusal}
-use Rattle.record_keeping.specs.declared.opening.RecordRefusal.TheVariants as refusal
+use Rattle.record_text.specs.Beginnings.{BeginsWith, RefusesRun}
+use Rattle.record_text.specs.declared.opening.Beginning.{Beginning}
+use Rattle.record_text.specs.declared.opening.RecordRefusal.{RecordRefusal}
+use Rattle.record_text.specs.declared.opening.RecordRefusal.TheVariants as refusal
 use Rattle.dme_c.specs.Beginning.{Asks, part_of}
 use Rattle.dme_c.specs.Recordings.{RecordValue}
 use Rattle.dme_c.specs.declared.record_making.NotBegun.{NotBegun}

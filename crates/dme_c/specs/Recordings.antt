@@ -5,8 +5,8 @@ use Rattle.contact_ledger.specs.Lines.{text_of}
 use Rattle.contact_ledger.specs.declared.acts.Act.{Act}
 use Rattle.protocol_model.specs.Client.{may_resume}
 use Rattle.protocol_model.specs.Ends.{ClientEnd, end_connected, end_resumed}
-use Rattle.run_record.specs.Entries.{entry_line}
-use Rattle.run_record.specs.Tellings.{Counted, counted_after, entries_of}
+use Rattle.record_text.specs.Entries.{entry_line}
+use Rattle.record_text.specs.Tellings.{Counted, counted_after, entries_of}
 use Rattle.client_core.specs.Clients.{may_connect}
 use Rattle.client_core.specs.Refusals.{IsRefused}
 use Rattle.client_core.specs.declared.faults.ClientFault.{ClientFault}

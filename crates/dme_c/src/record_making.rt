@@ -3,7 +3,7 @@
 ghost use Rattle.std.specs.Prelude.{ℕ, List, ◌≡◌, ◌≢◌, ◌↔◌, ◌≤◌, ◌<◌, [], IfOk, OnOk, IfErr, IsSome, IfSome, IsTrue, None, option_map, length, take, drop, true};
 ghost use Rattle.fixed_um.specs.Names.{IsName};
 ghost use Rattle.contact_ledger.specs.Lines.{text_of};
-ghost use Rattle.run_record.specs.Heads.{IsPartGiven, head_lines};
+ghost use Rattle.record_text.specs.Heads.{IsPartGiven, head_lines};
 ghost use Rattle.protocol_model.specs.Claims.{Sound};
 ghost use Rattle.protocol_model.specs.Ends.{new_client_end};
 ghost use Rattle.client_core.specs.Clients.{is_window};
@@ -12,8 +12,8 @@ ghost use Rattle.dme_c.specs.Beginning.{RefusesRecord, label_in, line_in, not_be
 ghost use Rattle.dme_c.specs.Continuing.{ContinuesBytes, IsDue, IsDueFor, IsOfTexts, RefusesBytes};
 ghost use Rattle.dme_c.specs.Making.{AnswersJust, IsBadSetup, IsBadProgram, Means};
 ghost use Rattle.dme_c.specs.Recordings.{next_number};
-ghost use Rattle.record_keeping.specs.Beginnings.{BeginsWith};
-ghost use Rattle.record_keeping.specs.declared.opening.RecordRefusal.TheVariants as refusal;
+ghost use Rattle.record_text.specs.Beginnings.{BeginsWith};
+ghost use Rattle.record_text.specs.declared.opening.RecordRefusal.TheVariants as refusal;
 
 use crate::client_handles::ClientHandle;
 use crate::codes::NotMade;
@@ -26,8 +26,7 @@ use contact_ledger::{FeatureLedger, ServerLedger};
 use dmis_program::Program;
 use fixed_um::Name;
 use line_framing::ByteQueue;
-use record_keeping::{Beginning, RecordRefusal, begin_record};
-use run_record::{is_part, write_head};
+use record_text::{Beginning, RecordRefusal, begin_record, is_part, write_head};
 use std::alloc::{AllocError, Global};
 
 /// Why no client is made of a record.

@@ -10,7 +10,7 @@ ghost use Rattle.dme_c.specs.Recordings.{IsKept, connected, followed, next_numbe
 
 use client_core::{Client, ClientFault};
 use line_framing::ByteQueue;
-use run_record::Telling;
+use record_text::Telling;
 use std::marker::Model;
 
 /// What is kept of the record of a run while it follows a client.

@@ -7,7 +7,7 @@ use Rattle.contact_ledger.specs.FeatureTexts.{features_text, header}
 use Rattle.contact_ledger.specs.declared.acts.Act.{Act}
 use Rattle.contact_ledger.specs.declared.features.Feature.{Feature}
 use Rattle.dmis_program.specs.Meaning.{Meaning}
-use Rattle.run_record.specs.Records.{Recorded}
+use Rattle.record_text.specs.Records.{Recorded}
 use Rattle.dme_orders.specs.Auditing.{LeavesVerdict}
 use Rattle.dme_orders.specs.Exporting.{LeavesTable}
 use Rattle.dme_orders.specs.Input.{Named, RecordInput, ReadsHeld, WhyNoneHeld}

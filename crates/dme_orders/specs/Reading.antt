@@ -9,10 +9,10 @@ use Rattle.deviations.specs.declared.faults.RowsFault.{RowsFault}
 use Rattle.deviations.specs.declared.faults.RowsFault.TheVariants as rows
 use Rattle.tool_rack.specs.Setups.{SetupValue, setup_of}
 use Rattle.tool_rack.specs.declared.faults.SetupFault.TheVariants as setup
-use Rattle.run_record.specs.Reading.{IsDamagedRecord}
-use Rattle.run_record.specs.Reading as texts
-use Rattle.run_record.specs.Records.{Recorded}
-use Rattle.run_record.specs.declared.faults.RecordFault.TheVariants as recorded
+use Rattle.record_text.specs.Reading.{IsDamagedRecord}
+use Rattle.record_text.specs.Reading as texts
+use Rattle.record_text.specs.Records.{Recorded}
+use Rattle.record_text.specs.declared.faults.RecordFault.TheVariants as recorded
 use Rattle.link_world.specs.ScheduleTexts.{schedule_of}
 use Rattle.link_world.specs.declared.texts.schedules.Instruction.{Instruction}
 use Rattle.link_world.specs.declared.texts.schedule_faults.ScheduleFault.TheVariants as schedule

@@ -3,8 +3,8 @@ use Rattle.std.specs.Prelude.{◌≡◌, ℕ, List, [], Option, Some, None}
 use Rattle.contact_ledger.specs.declared.acts.Act.{Act}
 use Rattle.contact_ledger.specs.declared.features.Feature.{Feature}
 use Rattle.dmis_program.specs.Meaning.{Meaning}
-use Rattle.run_record.specs.Records.{Recorded}
-use Rattle.run_record.specs.Strangers.{IsFirstOther}
+use Rattle.record_text.specs.Records.{Recorded}
+use Rattle.record_text.specs.Strangers.{IsFirstOther}
 
 -- a record asked for the features of this program; one that is not begun is of any
 abbrev pub IsOfProgram : Option Recorded → Meaning → Type 0

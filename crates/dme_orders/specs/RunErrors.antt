@@ -1,8 +1,8 @@
 -- The errors that a server reported during the runs of a record's features, and the lines that name them (this profile).
 use Rattle.std.specs.Prelude.{ℕ, List, [], ◌++◌, Option, Some, None, codes}
 use Rattle.std.specs.List.{flat_map}
-use Rattle.run_record.specs.Records.{Recorded}
-use Rattle.run_record.specs.declared.run_errors.RunError.{RunError}
+use Rattle.record_text.specs.Records.{Recorded}
+use Rattle.record_text.specs.declared.run_errors.RunError.{RunError}
 use Rattle.session_telling.specs.Visible.{visible}
 
 -- the errors that a record names; a record that is not begun names none

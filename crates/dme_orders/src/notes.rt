@@ -3,8 +3,8 @@
 use crate::faults::InputFiles;
 use contact_ledger::{FeatureLedger, ServerLedger, read_features};
 use dmis_program::{Frames, Program};
+use record_text::{Record, read_record};
 use refusal_guide::{write_audit, write_other_program};
-use run_record::{Record, read_record};
 use std::alloc::{AllocError, Global};
 use told_files::{
     ToldLedger, contact_connections, doubts_of, ends_runs, is_told_file, read_audited, read_told,

@@ -24,7 +24,7 @@ use byte_ports::{Sink, Source};
 use contact_ledger::{Feature, FeatureLedger, ServerLedger, write_contacts, write_features};
 use deviations::{Form, rows_of};
 use dmis_program::Program;
-use run_record::{Record, other_feature};
+use record_text::{Record, other_feature};
 use std::alloc::{AllocError, Global};
 
 /// The files of an order over a record, as sources.

@@ -12,7 +12,7 @@ use deviations::RowsFault;
 use dmis_program::{Frames, Program, ProgramFault};
 use fixed_um::Name;
 use link_world::{Schedule, ScheduleFault};
-use run_record::{Record, RecordFault, read_record};
+use record_text::{Record, RecordFault, read_record};
 use std::alloc::{AllocError, Global};
 use told_files::read_audited;
 use tool_rack::{Setup, SetupFault};

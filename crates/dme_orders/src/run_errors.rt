@@ -4,7 +4,7 @@ ghost use Rattle.std.specs.Prelude.{◌≡◌, IfOk, string_bytes};
 ghost use Rattle.std.specs.List.{flat_map};
 ghost use Rattle.dme_orders.specs.RunErrors.{error_line, errors_in};
 
-use run_record::{Record, RunError};
+use record_text::{Record, RunError};
 use session_telling::visible;
 use std::alloc::{AllocError, Global};
 

@@ -13,7 +13,7 @@ use Rattle.clap.specs.declared.builder.value_parser.ValueParser.TheVariants.{Boo
 use Rattle.clap.specs.Words.{IsAmong, IsSignedIn, Row, Text, fault_of, first_of, kind_of, one_of, subcommand_of, without_minus}
 use Rattle.client_core.specs.Clients.{is_window}
 use Rattle.refusal_guide.specs.Codes.{is_code_of}
-use Rattle.run_record.specs.Heads.{IsPart, IsPartGiven}
+use Rattle.record_text.specs.Heads.{IsPart, IsPartGiven}
 use Rattle.refusal_guide.specs.declared.topics.Topic.{Topic}
 use Rattle.deviations.specs.declared.forms.Form.TheVariants.{Csv, Json, Svg}
 use Rattle.dme_words.specs.CommandLine.{audit_line, check_line, explain_line, export_line, judge_line, ledger_line, loop_line, run_line, serve_line, simulate_line, watch_line, whole_line}

@@ -24,8 +24,8 @@ use clap::error::ErrorKind;
 use clap::parser::ValueSource;
 use clap::{ArgMatches, Error};
 use deviations::Form;
+use record_text::is_part;
 use refusal_guide::Topic;
-use run_record::is_part;
 use std::alloc::{AllocError, Global};
 use std::fmt;
 

@@ -3,7 +3,7 @@ use Rattle.record_laws.proofs.Names.{[], ◌++◌, ◌+◌, ◌-◌, ◌∙◌, 
 use Rattle.record_laws.proofs.Names.{Completes, contacts, Counted, counted, counted_after, drop, entries_of, Entry, Feature, Follow, Follows}
 use Rattle.record_laws.proofs.Names.{IsLastRun, Kept, length, List, refl, Refused, Serves, slice_get, subst, sym, Wanted, with_completed}
 use Rattle.record_laws.proofs.Names.{with_refused, with_told, ℕ}
-use Rattle.run_record.specs.declared.entries.Entry.TheVariants.{Told}
+use Rattle.record_text.specs.declared.entries.Entry.TheVariants.{Told}
 
 -- ---- entries of acts
 

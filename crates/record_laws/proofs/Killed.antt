@@ -2,27 +2,29 @@
 use Rattle.record_laws.proofs.Names.{[], ◌++◌, ◌+◌, ◌-◌, ◌<◌, ◌∙◌, ◌∷◌, ◌≡◌, ◌≤◌, ◌⊎◌, Act, ap, append-nil, append_assoc, AreAsked, AreFit}
 use Rattle.record_laws.proofs.Names.{AreRecordLines, AreWritten, arith, BeginsWith, behind_moments, Bool, calls_in, client_behind, ClientEnd}
 use Rattle.record_laws.proofs.Names.{Completed, contacts, contacts_more, Continues, Entry, entry_line, false, false≢true, Feature, Follow, Follows}
-use Rattle.record_laws.proofs.Names.{Growth, head_lines, inl, inr, is_told, IsNew, IsPartGiven, IsProgram, IsRecorded, IsSame, IsTold, Kept, length}
-use Rattle.record_laws.proofs.Names.{length-append, List, ltb-false, ltb-true, MadeContact, map, Meaning, Moment, nat_lt, new_client_end}
-use Rattle.record_laws.proofs.Names.{nothing_kept, Option, record_lines, Recorded, recorded, refl, Refused, Sound, subst, sym, take, take-append-add}
-use Rattle.record_laws.proofs.Names.{take_all, text_of, told_behind, true, view, Wanted, whole_lines, ℕ}
+use Rattle.record_laws.proofs.Names.{Growth, head_lines, inl, inr, IsNew, IsPartGiven, IsProgram, IsRecorded, IsSame, Kept, length, length-append}
+use Rattle.record_laws.proofs.Names.{List, ltb-false, ltb-true, MadeContact, map, Meaning, Moment, nat_lt, new_client_end, nothing_kept, Option}
+use Rattle.record_laws.proofs.Names.{record_lines, Recorded, recorded, refl, Refused, Sound, subst, sym, take, take-append-add, take_all, text_of}
+use Rattle.record_laws.proofs.Names.{told_behind, true, Wanted, whole_lines, ℕ}
 use Rattle.contact_ledger.proofs.WrittenTexts.{text_more}
-use Rattle.run_record.specs.Reading.{AreTornHead, IsRecord, IsUnbegun}
-use Rattle.run_record.specs.Cuts.{begun, ReadsCut, unbegun}
-use Rattle.run_record.specs.Stages.{body, head, Leads, Stage, start, within}
-use Rattle.run_record.specs.declared.entries.Entry.TheVariants.{Told}
-use Rattle.run_record.proofs.CutTexts.{cut_read, whole_read}
-use Rattle.run_record.proofs.RecordFacts.{record_holds}
-use Rattle.run_record.proofs.RecordOnes.{not_unbegun}
-use Rattle.run_record.proofs.StageOnes.{leads_one}
-use Rattle.run_record.proofs.StageReads.{record_leads}
-use Rattle.run_record.proofs.StageShapes.{Halves, leads_split}
-use Rattle.record_keeping.specs.declared.opening.Beginning.{Beginning}
+use Rattle.record_text.specs.Reading.{AreTornHead, IsRecord, IsUnbegun}
+use Rattle.record_text.specs.Cuts.{begun, ReadsCut, unbegun}
+use Rattle.record_text.specs.Stages.{body, head, Leads, Stage, start, within}
+use Rattle.record_text.specs.declared.entries.Entry.TheVariants.{Told}
+use Rattle.record_text.proofs.CutTexts.{cut_read, whole_read}
+use Rattle.record_text.proofs.RecordFacts.{record_holds}
+use Rattle.record_text.proofs.RecordOnes.{not_unbegun}
+use Rattle.record_text.proofs.StageOnes.{leads_one}
+use Rattle.record_text.proofs.StageReads.{record_leads}
+use Rattle.record_text.proofs.StageShapes.{Halves, leads_split}
+use Rattle.record_text.specs.declared.opening.Beginning.{Beginning}
 use Rattle.record_laws.specs.Recordings.{told_now}
 use Rattle.record_laws.specs.Runs.{AreKilledRuns, HasAllOf, IsKilledRun, IsRecordOf, no_run, one_more, run_begun}
 use Rattle.record_laws.proofs.Wholes.{Found, whole_found, whole_then}
 use Rattle.record_laws.proofs.Entries.{follow_more, Parts, follow_parts, Grown, follow_grown}
 use Rattle.record_laws.proofs.Stands.{Base, due, Stands, lines_joined, Reached, moments_stand}
+use Rattle.record_laws.proofs.Tells.{is_told, IsTold}
+use Rattle.record_laws.proofs.Views.{view}
 
 -- ---- what a run begins with
 

@@ -1,4 +1,8 @@
 pub mod Names
+pub mod Sounds
+pub mod Views
+pub mod Counts
+pub mod Tells
 pub mod Wholes
 pub mod Entries
 pub mod Moves

@@ -10,9 +10,9 @@ use Rattle.fixed_um.specs.declared.frames.Frame.{Frame}
 use Rattle.dmis_program.specs.declared.features.Touch.{Touch}
 use Rattle.protocol_model.specs.Plan.{is_empty}
 use Rattle.protocol_model.specs.declared.plans.Does.{Does}
-use Rattle.told_acts.proofs.Sounds.{serves_count}
-use Rattle.run_record.specs.declared.entries.Entry.TheVariants.{Told}
-use Rattle.run_record.proofs.ContactRuns.{contacts_other}
+use Rattle.record_laws.proofs.Sounds.{serves_count}
+use Rattle.record_text.specs.declared.entries.Entry.TheVariants.{Told}
+use Rattle.record_text.proofs.ContactRuns.{contacts_other}
 
 -- the entries of acts follow what is kept, and what they leave has these features; that many points of the next one are counted, by
 -- contacts that are not used up

@@ -1,11 +1,10 @@
 -- What was reported on each connection of a world is a prefix of what its server did there.
-use Rattle.record_laws.proofs.Names.{[], ◌&&◌, ◌++◌, ◌<◌, ◌∙◌, ◌∷◌, ◌≡◌, ◌≤◌, Abort, aborts_view, Act, acts_on, and_from, and_parts, ap, append-nil}
-use Rattle.record_laws.proofs.Names.{append_assoc, arith, behind_call, behind_calls, Bool, Call, Client, ClientEnd, cond, Connected, connection_most}
-use Rattle.record_laws.proofs.Names.{done_by, done_here, drop-length, end_read, eq-eqb, eqb, eqb-true, Err, false, false≢true, Feed, Front}
-use Rattle.record_laws.proofs.Names.{front_served, Grows, grows_told, heard_grows, IsHere, IsProgram, le-leb, Leave, length, List, lt-ltb, ltb-true}
-use Rattle.record_laws.proofs.Names.{Meaning, nat_le, nat_lt, new_here, next_of, None, none_anew, none_told, not, numbered, numbered_done, Ok}
-use Rattle.record_laws.proofs.Names.{possible, read_all, ReadOne, refl, Restart, Resume, Send, sends_view, Sent, ServerEnd, Some, subst, suc, sym}
-use Rattle.record_laws.proofs.Names.{Tag, take, told_behind, told_between, told_by, told_to, true, View, view, with_none, ℕ}
+use Rattle.record_laws.proofs.Names.{[], ◌&&◌, ◌++◌, ◌<◌, ◌∙◌, ◌∷◌, ◌≡◌, ◌≤◌, Abort, Act, acts_on, and_from, and_parts, ap, append-nil, append_assoc}
+use Rattle.record_laws.proofs.Names.{arith, behind_call, behind_calls, Bool, Call, Client, ClientEnd, cond, Connected, connection_most, done_by}
+use Rattle.record_laws.proofs.Names.{drop-length, end_read, eq-eqb, eqb, eqb-true, Err, false, false≢true, Feed, Front, front_served, IsProgram}
+use Rattle.record_laws.proofs.Names.{le-leb, Leave, length, List, lt-ltb, ltb-true, Meaning, nat_le, nat_lt, next_of, None, not, numbered, Ok}
+use Rattle.record_laws.proofs.Names.{possible, ReadOne, refl, Restart, Resume, Send, Sent, ServerEnd, Some, subst, suc, sym, Tag, take, told_behind}
+use Rattle.record_laws.proofs.Names.{told_between, told_by, true, ℕ}
 use Rattle.protocol_model.specs.Claims.{Told}
 use Rattle.protocol_model.specs.Client as model
 use Rattle.protocol_model.specs.Lines.{reading_of}
@@ -20,6 +19,9 @@ use Rattle.protocol_model.proofs.whole_run.Carrying.{IsCarried, lined}
 use Rattle.protocol_model.proofs.whole_run.WholeRun.{run_carried, start_carried}
 use Rattle.client_core.specs.Clients as clients
 use Rattle.record_laws.specs.Worlds.{AreCalls, told_in}
+use Rattle.record_laws.proofs.Counts.{Grows, grows_told, heard_grows, numbered_done}
+use Rattle.record_laws.proofs.Tells.{done_here, IsHere, new_here}
+use Rattle.record_laws.proofs.Views.{aborts_view, none_anew, none_told, read_all, sends_view, told_to, View, view, with_none}
 
 -- ---- prefixes
 

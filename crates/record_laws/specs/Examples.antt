@@ -9,7 +9,7 @@ use Rattle.dmis_program.specs.declared.features.Touch.{Touch}
 use Rattle.protocol_model.specs.Client.{new_client, no_tally}
 use Rattle.protocol_model.specs.Ends.{ClientEnd, new_client_end}
 use Rattle.protocol_model.specs.declared.states.State.{State}
-use Rattle.record_keeping.specs.Growths.{Growth, begun}
+use Rattle.record_text.specs.Growths.{Growth, begun}
 
 -- a touch on the x axis, without a direction
 abbrev pub touch : Touch

@@ -5,8 +5,8 @@ use Rattle.contact_ledger.specs.ContactTexts.{IsWrittenAct}
 use Rattle.contact_ledger.specs.declared.acts.Act.{Act}
 use Rattle.protocol_model.specs.Ends.{ClientEnd}
 use Rattle.client_core.specs.Calls.{Call, Connected, Send, Feed, ReadOne, Abort, Resume, Leave, Restart, Sent, possible, behind_call}
-use Rattle.run_record.specs.Entries.{IsRefusal, kept_error}
-use Rattle.record_keeping.specs.Growths.{Growth, begun, with_acts, with_acts_unless, with_errors}
+use Rattle.record_text.specs.Entries.{IsRefusal, kept_error}
+use Rattle.record_text.specs.Growths.{Growth, begun, with_acts, with_acts_unless, with_errors}
 
 -- the lines of the acts that the client has counted are added, and those of the features that they complete
 abbrev pub told_now : ClientEnd → Growth → Growth

@@ -6,13 +6,13 @@ use Rattle.dmis_program.specs.Meaning.{Meaning}
 use Rattle.dmis_program.specs.declared.features.Wanted.{Wanted}
 use Rattle.protocol_model.specs.Claims.{Sound}
 use Rattle.protocol_model.specs.Ends.{new_client_end}
-use Rattle.run_record.specs.Reading.{IsRecord}
-use Rattle.run_record.specs.Records.{Recorded}
-use Rattle.run_record.specs.declared.run_errors.RunError.{RunError}
-use Rattle.record_keeping.specs.Beginnings.{BeginsWith, IsSame}
-use Rattle.record_keeping.specs.Growths as growths
-use Rattle.record_keeping.specs.declared.opening.Beginning.{Beginning}
-use Rattle.told_acts.specs.Told.{told_behind}
+use Rattle.record_text.specs.Reading.{IsRecord}
+use Rattle.record_text.specs.Records.{Recorded}
+use Rattle.record_text.specs.declared.run_errors.RunError.{RunError}
+use Rattle.record_text.specs.Beginnings.{BeginsWith, IsSame}
+use Rattle.record_text.specs.Growths as growths
+use Rattle.record_text.specs.declared.opening.Beginning.{Beginning}
+use Rattle.record_laws.specs.Told.{told_behind}
 use Rattle.record_laws.specs.Recordings.{Pair, Moment, behind_moments, calls_in, AreFit, AreWritten}
 
 -- a new client of a program, and the record that it continues, as `begin_record` gives them

@@ -1,16 +1,28 @@
-// Examples: what is written for clients that are written out.
+// Examples: what calls report to clients that are written out, and what is written for them.
 
 ghost use Rattle.std.specs.Prelude.{◌≡◌, [], ◌∷◌, codes, map, true, false};
+ghost use Rattle.client_core.specs.Calls.{ReadOne, Leave, Connected, Restart, Resume};
+ghost use Rattle.record_laws.specs.Told.{told_behind};
+ghost use Rattle.record_laws.specs.ToldExamples.{changing};
 ghost use Rattle.contact_ledger.specs.Lines.{text_of};
 ghost use Rattle.protocol_model.specs.World.{start};
 ghost use Rattle.protocol_model.specs.declared.events.Event.TheVariants.{ClientReads};
-ghost use Rattle.client_core.specs.Calls.{Connected, Resume, Leave, Restart};
-ghost use Rattle.run_record.specs.Entries.{entry_line};
-ghost use Rattle.run_record.specs.declared.entries.Entry.TheVariants.{Told, Refused, Completed};
-ghost use Rattle.record_keeping.specs.Growths.{with_errors};
+ghost use Rattle.record_text.specs.Entries.{entry_line};
+ghost use Rattle.record_text.specs.declared.entries.Entry.TheVariants.{Told, Refused, Completed};
+ghost use Rattle.record_text.specs.Growths.{with_errors};
 ghost use Rattle.record_laws.specs.Recordings.{Calls, Tell, AreFit, behind_moments, told_now};
 ghost use Rattle.record_laws.specs.Examples.{contact, empty, feature, halted, program};
 ghost use Rattle.record_laws.specs.Worlds.{told_in};
+ghost use Rattle.contact_ledger.specs.declared.acts.Act.TheVariants as act;
+
+/// A completed command reports its act once, under the number of the connection. Acts that were counted before are not reported again, and
+/// neither a new connection nor a restart reports any.
+pub fn told_rows()
+    ensures completed { told_behind (ReadOne ∷ Leave ∷ Connected 4 ∷ []) (changing 3 (act.Homed ∷ []))
+        ≡ (3, act.Changed (codes "P1")) ∷ [] }
+    ensures connected { told_behind (Leave ∷ Connected 4 ∷ []) (changing 3 (act.Homed ∷ [])) ≡ [] }
+    ensures restarted { told_behind (Restart 0 ∷ []) (changing 3 (act.Homed ∷ [])) ≡ [] }
+{}
 
 /// The second contact completes the feature of two touches. Lines that are added in two pieces are those that are added at once. Before a
 /// new connection the lines that are due are added, under the number of the last one.

@@ -1,23 +1,55 @@
 // What follows from the definitions. Each function has laws for its contract and does nothing.
 
-ghost use Rattle.std.specs.Prelude.{◌⊎◌, ◌≤◌, ℕ, List, ◌++◌, Option};
+ghost use Rattle.std.specs.Prelude.{◌≡◌, ℕ, List, ◌++◌, true, ◌⊎◌, ◌≤◌, Option};
+ghost use Rattle.contact_ledger.specs.declared.acts.Act.{Act};
+ghost use Rattle.contact_ledger.specs.declared.features.Feature.{Feature as OneFeature};
 ghost use Rattle.dmis_program.specs.Meaning.{Meaning};
 ghost use Rattle.dmis_program.specs.Programs.{IsProgram};
-ghost use Rattle.protocol_model.specs.Claims.{Sound, Told, acts_on};
+ghost use Rattle.protocol_model.specs.Claims.{Sound, acts_on, Told};
 ghost use Rattle.protocol_model.specs.Ends.{new_client_end};
+ghost use Rattle.client_core.specs.Calls.{Call, client_behind};
+ghost use Rattle.record_laws.specs.Told.{told_behind, EndsUnfinished};
 ghost use Rattle.protocol_model.specs.World.{World, start, run_of};
 ghost use Rattle.protocol_model.specs.declared.events.Event.{Event};
-ghost use Rattle.client_core.specs.Calls.{client_behind};
 ghost use Rattle.client_core.specs.Clients.{window_most};
-ghost use Rattle.told_acts.specs.Told.{told_behind};
-ghost use Rattle.run_record.specs.Heads.{IsPartGiven, AreAsked};
-ghost use Rattle.run_record.specs.Reading.{IsRecord, IsUnbegun};
-ghost use Rattle.run_record.specs.Records.{Recorded};
-ghost use Rattle.record_keeping.specs.Beginnings.{BeginsWith, IsSame};
-ghost use Rattle.record_keeping.specs.declared.opening.Beginning.{Beginning};
+ghost use Rattle.record_text.specs.Heads.{IsPartGiven, AreAsked};
+ghost use Rattle.record_text.specs.Reading.{IsRecord, IsUnbegun};
+ghost use Rattle.record_text.specs.Records.{Recorded};
+ghost use Rattle.record_text.specs.Beginnings.{BeginsWith, IsSame};
+ghost use Rattle.record_text.specs.declared.opening.Beginning.{Beginning};
 ghost use Rattle.record_laws.specs.Recordings.{Moment, behind_moments, calls_in, told_now, AreFit, AreWritten};
 ghost use Rattle.record_laws.specs.Runs.{run_begun, IsRecordOf, AreKilledRuns, HasAllOf};
 ghost use Rattle.record_laws.specs.Worlds.{told_in, AreCalls};
+
+/// After every list of calls of a client, from any program and any features that are sound for earlier acts, whatever bytes are fed:
+///
+/// - `sound`: the features that the client holds are sound for the earlier acts followed by the acts reported to it. So each feature has
+/// the points of its own unbroken run of reported contacts on one connection, each contact with the target, direction, tool and frame of
+/// its touch, and the runs ascend;
+/// - `unfinished`: those acts end with the contacts of the unfinished feature: the points that the client holds for it are theirs, they are
+/// one unbroken run on the client's connection, and serve the first touches of the next feature that the program wants;
+/// - `counted`: what the client has counted on its connection are the acts reported to it there.
+///
+/// The server is not ours: an act is reported where the client counts a command, and a contact's point is that of the data line.
+pub fn held_features_are_true_of_what_was_told()
+    ensures sound { (program : Meaning) (kept : List OneFeature) (window : ℕ) (calls : List Call)
+        (earlier : List (ℕ × Act)) → IsProgram program → Sound program.features kept earlier
+        → Sound program.features (client_behind calls program kept window).table.tally.features
+        (earlier ++ told_behind calls (new_client_end program kept window)) }
+    ensures unfinished { (program : Meaning) (kept : List OneFeature) (window : ℕ)
+        (calls : List Call) (earlier : List (ℕ × Act)) → IsProgram program
+        → Sound program.features kept earlier
+        → EndsUnfinished program.features
+        (client_behind calls program kept window).table.tally.features
+        (client_behind calls program kept window).table.tally.points
+        (client_behind calls program kept window).last
+        (earlier ++ told_behind calls (new_client_end program kept window)) }
+    ensures counted { (program : Meaning) (kept : List OneFeature) (window : ℕ)
+        (calls : List Call) → (client_behind calls program kept window).on ≡ true
+        → acts_on (client_behind calls program kept window).last
+        (told_behind calls (new_client_end program kept window))
+        ≡ (client_behind calls program kept window).table.tally.counted }
+{}
 
 /// A run continues from what `begin_record` gives, whatever the file held, and its record follows its client through any calls and any
 /// bytes. Whenever the lines that are due are added, the text is a record of the part and the program, in which the completed features are

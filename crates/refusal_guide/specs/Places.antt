@@ -4,7 +4,7 @@ use Rattle.dmis_program.specs.declared.faults.ProgramFault.TheVariants as progra
 use Rattle.tool_rack.specs.declared.faults.SetupFault.TheVariants as setup
 use Rattle.link_world.specs.declared.texts.schedule_faults.ScheduleFault.TheVariants as schedule
 use Rattle.contact_ledger.specs.declared.faults.TextFault.TheVariants as text
-use Rattle.run_record.specs.declared.faults.RecordFault.TheVariants as recorded
+use Rattle.record_text.specs.declared.faults.RecordFault.TheVariants as recorded
 use Rattle.refusal_guide.specs.Lines.{line_of, shown_from}
 use Rattle.refusal_guide.specs.Windows.{shown_start}
 use Rattle.refusal_guide.specs.Words.{Caused}

@@ -15,7 +15,7 @@ use crate::words::Reason;
 use contact_ledger::TextFault;
 use dmis_program::ProgramFault;
 use link_world::ScheduleFault;
-use run_record::RecordFault;
+use record_text::RecordFault;
 use std::alloc::{AllocError, Global};
 use tool_rack::SetupFault;
 

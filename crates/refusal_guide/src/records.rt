@@ -9,7 +9,7 @@ use crate::words::{Reason, Word};
 use contact_ledger::forms::{read_name, read_number};
 use contact_ledger::lines::{cut_line, first_field, next_field};
 use contact_ledger::{CONNECTION_MAX, ServerLedger};
-use run_record::{Asked, Record, RecordFault, read_record};
+use record_text::{Asked, Record, RecordFault, read_record};
 use session_telling::visible;
 use std::alloc::{AllocError, Global};
 

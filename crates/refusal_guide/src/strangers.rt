@@ -6,7 +6,7 @@ ghost use Rattle.refusal_guide.specs.Strangers.{other_part_text};
 
 use crate::touches::Request;
 use dmis_program::{Program, Touch, Wanted};
-use run_record::{Asked, Record};
+use record_text::{Asked, Record};
 use session_telling::visible;
 use std::alloc::{AllocError, Global};
 

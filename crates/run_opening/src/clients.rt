@@ -12,7 +12,7 @@ use contact_ledger::{CONNECTION_MAX, FeatureLedger, ServerLedger};
 use dme_orders::{OrderFault, kept_client};
 use effects::Answer;
 use program_review::{TextPlace, Waits, command_lines, text_places};
-use record_keeping::Beginning;
+use record_text::Beginning;
 use run_session::{Begun, Errors, Output, Run};
 use std::alloc::{AllocError, Global};
 

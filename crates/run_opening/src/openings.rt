@@ -12,7 +12,7 @@ use dme_words::Run;
 use dmis_program::Program;
 use effects::{Answer, Effect, Growth, Place, Slot};
 use program_review::{OperatorText, TaskLine};
-use record_keeping::Beginning;
+use record_text::Beginning;
 use run_session::Begun;
 use std::alloc::{AllocError, Global};
 use std::marker::Model;

@@ -6,9 +6,8 @@ use contact_ledger::Feature;
 use dme_orders::OrderFault;
 use dmis_program::Program;
 use effects::Answer;
-use record_keeping::{Beginning, RecordRefusal, begin_record};
+use record_text::{Beginning, RecordFault, RecordRefusal, begin_record, read_record};
 use refusal_guide::{Refused, write_other_part, write_other_program, write_place};
-use run_record::{RecordFault, read_record};
 use std::alloc::{AllocError, Global};
 
 /// Whether the features of a file are the first of those that a record gives back.

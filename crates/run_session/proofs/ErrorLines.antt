@@ -6,7 +6,7 @@ use Rattle.std.proofs.Common.{Fits}
 use Rattle.std.proofs.lemmas.Bool.Decides.{nat_tests}
 use Rattle.std.proofs.lemmas.List.Folds.{list_all-append}
 use Rattle.session_telling.specs.Visible.{hex_digit, visible}
-use Rattle.run_record.proofs.KeptErrors.{fits as fits_whole}
+use Rattle.record_text.proofs.KeptErrors.{fits as fits_whole}
 
 -- a byte is shown by printed bytes
 shown : (b : ℕ) → b < 256 → list_all is_printed (visible b) ≡ true

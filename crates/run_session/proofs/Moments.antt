@@ -10,11 +10,11 @@ use Rattle.contact_ledger.specs.Lines.{text_of}
 use Rattle.dmis_program.specs.Meaning.{Meaning}
 use Rattle.dmis_program.specs.Programs.{IsProgram}
 use Rattle.dmis_program.specs.declared.features.Wanted.{Wanted}
-use Rattle.record_keeping.specs.Beginnings.{BeginsWith}
-use Rattle.record_keeping.specs.declared.opening.Beginning.{Beginning}
+use Rattle.record_text.specs.Beginnings.{BeginsWith}
+use Rattle.record_text.specs.declared.opening.Beginning.{Beginning}
 use Rattle.record_laws.proofs.Killed.{says_what_was_told}
 use Rattle.record_laws.specs.Runs.{IsKilledRun, IsRecordOf, run_begun}
-use Rattle.run_record.specs.Tellings.{entries_of}
+use Rattle.record_text.specs.Tellings.{entries_of}
 use Rattle.run_session.specs.Killed.{IsBegun, IsLeft}
 use Rattle.run_session.proofs.Filing.{grows}
 use Rattle.run_session.proofs.Kept.{call_keeps, Stays, Reports, call_reports}

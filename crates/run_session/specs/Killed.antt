@@ -3,9 +3,9 @@ use Rattle.std.specs.Prelude.{◌≡◌, ℕ, true, List, ◌++◌, length, Opti
 use Rattle.client_core.specs.Clients.{may_connect}
 use Rattle.dmis_program.specs.Meaning.{Meaning}
 use Rattle.protocol_model.specs.Ends.{new_client_end, end_connected}
-use Rattle.record_keeping.specs.Beginnings.{BeginsWith}
-use Rattle.record_keeping.specs.Growths.{begun}
-use Rattle.record_keeping.specs.declared.opening.Beginning.{Beginning}
+use Rattle.record_text.specs.Beginnings.{BeginsWith}
+use Rattle.record_text.specs.Growths.{begun}
+use Rattle.record_text.specs.declared.opening.Beginning.{Beginning}
 use Rattle.record_laws.specs.Recordings.{Pair}
 use Rattle.run_session.specs.Records.{Outside}
 

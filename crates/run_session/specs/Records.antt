@@ -6,8 +6,8 @@ use Rattle.client_core.specs.Calls.{Call, Send as Sends, behind_call}
 use Rattle.link_world.specs.Reports.{report_text}
 use Rattle.link_world.specs.Showing.{IsRunCall}
 use Rattle.protocol_model.specs.Ends.{ClientEnd}
-use Rattle.run_record.specs.Entries.{IsRefusal, kept_error}
-use Rattle.record_keeping.specs.Growths.{Growth, with_errors}
+use Rattle.record_text.specs.Entries.{IsRefusal, kept_error}
+use Rattle.record_text.specs.Growths.{Growth, with_errors}
 use Rattle.record_laws.specs.Recordings.{Pair, told_unless}
 use Rattle.effects.specs.declared.vocabulary.Growth.TheVariants as growth
 use Rattle.effects.specs.declared.vocabulary.Peer.TheVariants.{Server}

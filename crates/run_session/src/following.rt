@@ -2,7 +2,7 @@
 
 ghost use Rattle.std.specs.Prelude.{◌≡◌, ◌<◌, map, length, true, IsNone, IfSome, is_some, OnOk};
 ghost use Rattle.effects.specs.Effects.{the_reply};
-ghost use Rattle.run_record.specs.Entries.{IsRefusal, kept_error};
+ghost use Rattle.record_text.specs.Entries.{IsRefusal, kept_error};
 ghost use Rattle.run_session.specs.Records as spec;
 
 use crate::runs::Kept;

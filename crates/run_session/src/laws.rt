@@ -3,9 +3,9 @@
 ghost use Rattle.std.specs.Prelude.{◌≡◌, ◌++◌, ℕ, List, Option, length, false};
 ghost use Rattle.dmis_program.specs.Meaning.{Meaning};
 ghost use Rattle.dmis_program.specs.Programs.{IsProgram};
-ghost use Rattle.run_record.specs.Heads.{IsPartGiven, AreAsked};
-ghost use Rattle.told_acts.specs.Told.{numbered};
-ghost use Rattle.record_keeping.specs.declared.opening.Beginning.{Beginning};
+ghost use Rattle.record_text.specs.Heads.{IsPartGiven, AreAsked};
+ghost use Rattle.record_laws.specs.Told.{numbered};
+ghost use Rattle.record_text.specs.declared.opening.Beginning.{Beginning};
 ghost use Rattle.record_laws.specs.Recordings.{Pair, AreWritten};
 ghost use Rattle.record_laws.specs.Runs.{IsRecordOf, IsKilledRun};
 ghost use Rattle.run_session.specs.Records.{State, Outside, IsKept};

@@ -4,7 +4,7 @@ ghost use Rattle.std.specs.Prelude.{◌≡◌, true, false, length, map, None, O
 ghost use Rattle.effects.specs.Effects.{the_ask, the_reply};
 ghost use Rattle.protocol_model.specs.Ends.{end_connected};
 ghost use Rattle.program_review.specs.Texts.{pauses_of, place_seen};
-ghost use Rattle.record_keeping.specs.Growths.{begun};
+ghost use Rattle.record_text.specs.Growths.{begun};
 ghost use Rattle.client_core.specs.Clients.{may_connect};
 ghost use Rattle.run_session.specs.Records as spec;
 
@@ -19,7 +19,7 @@ use dme_orders::RunEnding;
 use effects::{Answer, Cause, Effect, Growth as File, Peer};
 use link_world::PumpFault;
 use program_review::{TextPlace, pauses};
-use record_keeping::Growth;
+use record_text::Growth;
 use session_parts::{Lapse, Lines, Wait};
 use std::alloc::{AllocError, Global};
 use std::marker::Model;

@@ -18,7 +18,7 @@ pub use Rattle.protocol_model.specs.Readings.{response_of}
 pub use Rattle.protocol_model.specs.Replies.{Ack, Done, Error, Given}
 pub use Rattle.server_core.specs.Calls.{behind_call, reached}
 pub use Rattle.server_core.specs.Serving.{may_accept}
-pub use Rattle.told_acts.specs.Examples.{changing, completed}
+pub use Rattle.record_laws.specs.ToldExamples.{changing, completed}
 pub use Rattle.told_files.specs.Runs.{SoundByTold}
 pub use Rattle.witness.specs.Asking.{Answers, Sends, Signal}
 pub use Rattle.witness.specs.Dialogues.{Dialogue, after, foreign_event, silence}

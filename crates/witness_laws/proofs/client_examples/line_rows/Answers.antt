@@ -1,6 +1,6 @@
 use Rattle.witness_laws.proofs.Names.{answered, ap, client_sent, Command, command_read, LineFault, NotResponse, Response, Result, sent}
 use Rattle.witness_laws.proofs.Names.{server_answered, silence, Std, Tag, true, written_command}
-use Rattle.told_acts.specs.Examples.{completed}
+use Rattle.record_laws.specs.ToldExamples.{completed}
 use Rattle.witness_laws.specs.ClientExamples.{watching}
 use Rattle.witness_laws.proofs.client.ExampleLines.{completed_reads, home_seven}
 use Rattle.witness_laws.proofs.client_examples.line_rows.Goals as goal

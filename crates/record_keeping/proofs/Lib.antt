@@ -1,3 +1,0 @@
-pub mod GrowthLemmas
-pub mod Sounds
-pub mod WholeTexts

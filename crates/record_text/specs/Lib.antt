@@ -1,0 +1,13 @@
+pub mod Heads
+pub mod Entries
+pub mod Records
+pub mod Reading
+pub mod Serving
+pub mod Messages
+pub mod Tellings
+pub mod Cuts
+pub mod Unfinished
+pub mod Stages
+pub mod Strangers
+pub mod Beginnings
+pub mod Growths

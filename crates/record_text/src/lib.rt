@@ -1,0 +1,52 @@
+//! The record of a run: what was asked, what the server reported, and which features were completed, as one text that only grows. It is
+//! written line by line during a run, as the client counts, and read back before the next run, which trusts nothing in it.
+//!
+//! - `entries`: `Entry`, what a line after the head says, and `Refusal`
+//! - `parts`, `asked`: the part and the wanted features of a head
+//! - `heads`, `head_reading`, `touch_reading`: the head, line by line
+//! - `entry_reading`, `bodies`, `runs`: the entries, line by line, and what they leave
+//! - `run_errors`: the errors that were reported during the run of a feature
+//! - `records`, `record_reading`: `Record`, and reading it
+//! - `strangers`: whether a record is that of a part and a program
+//! - `opening`: what a record's text gives a run to continue from, or why the run may not continue it
+//! - `head_writing`, `telling`, `refusals`: writing
+//! - `growth`: the text of a record that grows during a run
+//! - `faults`: why a record is refused
+//! - `laws`: what follows from the definitions
+#![tactic(auto)]
+
+pub mod asked;
+mod bodies;
+mod comparing;
+pub mod entries;
+mod entry_reading;
+mod faults;
+mod growth;
+mod head_reading;
+mod head_writing;
+mod heads;
+pub mod laws;
+mod opening;
+mod parts;
+mod record_reading;
+mod records;
+mod refusals;
+pub mod run_errors;
+mod runs;
+mod strangers;
+pub mod telling;
+mod touch_reading;
+
+pub use asked::Asked;
+pub use entries::{Entry, Refusal};
+pub use faults::RecordFault;
+pub use growth::Growth;
+pub use head_writing::write_head;
+pub use opening::{Beginning, RecordRefusal, begin_record};
+pub use parts::is_part;
+pub use record_reading::read_record;
+pub use records::Record;
+pub use refusals::write_refused;
+pub use run_errors::RunError;
+pub use strangers::{is_of_part, other_feature};
+pub use telling::Telling;

@@ -1,8 +1,0 @@
-use Rattle.run_record.proofs.CutTexts.{whole_read, cut_read}
-use Rattle.run_record.proofs.laws.cut_records_are_read.Goals as goal
-
-pub returns-clause-whole : goal.returns-clause-whole
-returns-clause-whole c = whole_read
-
-pub returns-clause-cut : goal.returns-clause-cut
-returns-clause-cut c = cut_read

@@ -1,6 +1,0 @@
-use Rattle.run_record.proofs.Names.{◌≡◌, contacts, drop}
-use Rattle.run_record.proofs.runs.behind_contacts.Given as goal
-
--- the contacts that are left
-abbrev pub invariant-loop-at : goal.invariant-loop-at
-invariant-loop-at l = drop l.left (contacts (drop l.at l.acts)) ≡ drop l.count (contacts l.acts)

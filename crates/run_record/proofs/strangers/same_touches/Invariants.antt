@@ -1,6 +1,0 @@
-use Rattle.std.proofs.Common.{◌≡◌, take}
-use Rattle.run_record.proofs.strangers.same_touches.Given as goal
-
--- the touches before this one are the same
-abbrev pub invariant-loop-at : goal.invariant-loop-at
-invariant-loop-at l = take l.at l.one ≡ take l.at l.other

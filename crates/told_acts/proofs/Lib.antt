@@ -1,5 +1,0 @@
-pub mod Names
-pub mod Sounds
-pub mod Views
-pub mod Counts
-pub mod Tells
