@@ -115,7 +115,6 @@ CALLS = {
     "link_world quiet_run": (CALL, "quiets ONE 1", "SHIFT 0.002 0 0;SHIFT 0 0 0.004;SHIFT -0.001 0.001 0"),
     "link_world client_turns": (CALL, "turns REST 1", "least 9, bound 100, again 1 < 00001 &|;"),
     "link_world run_link": (CALL, "runs REST 1", "least 1, again 1 < all"),
-    "link_world watch_link": (CALL, "watches REST 1", "least 1, again 1 < all"),
     "link_world loop_link": (CALL, "loops REST 1", "least 1, again 1 < all"),
     "link_world serve_turns": (CALL, "serves#2", "least 22, bound 4, again 1 < 00001 StartSession()|;"),
     "link_world serve_link": (CALL, "connections#2", "least 1, again 1 < 00001 StartSession()|;"),

@@ -1,12 +1,12 @@
 -- A client's turn over its ports is a list of events of the world.
 use Rattle.link_world.proofs.Names.{[], ◌&&◌, ◌++◌, ◌-◌, ◌∙◌, ◌∷◌, ◌≡◌, ◌≤◌, after, always_sound, always_told, and_from, and_parts, ap, append-nil}
-use Rattle.link_world.proofs.Names.{append_assoc, arith, Bool, can, Client, client_joined, client_link, ClientEnd, ClientTurn, cond, Course, drop}
-use Rattle.link_world.proofs.Names.{due, end_aborted, end_fed, end_left, end_read, end_sent, end_taken, Event, false, fed, fed_behind, Framing}
+use Rattle.link_world.proofs.Names.{append_assoc, arith, Bool, can, Client, client_joined, client_link, ClientEnd, ClientTurn, cond, drop, due}
+use Rattle.link_world.proofs.Names.{end_aborted, end_fed, end_left, end_read, end_sent, end_taken, Event, false, fed, fed_behind, Framing}
 use Rattle.link_world.proofs.Names.{FramingFault, Front, happens, has_some, is_some, IsClientTurn, IsProgram, le-leb, length, Link, link_of}
-use Rattle.link_world.proofs.Names.{link_same, List, may_abort, may_read, Meaning, next_number, next_of, no_link, None, not, Ok, Option, Planned}
-use Rattle.link_world.proofs.Names.{Reading, refl, run_of, Sending, sends, sends_abort, sends_next, set-get_or, slice_set, Some, Sound, Stage, start}
-use Rattle.link_world.proofs.Names.{State, steered, steering, subst, suc, sym, take, take-append-drop, Taking, Told, true, TurnLeads, with_link}
-use Rattle.link_world.proofs.Names.{World, Writing, zero, ℕ}
+use Rattle.link_world.proofs.Names.{link_same, List, may_abort, may_read, Meaning, next_of, no_link, None, not, Ok, Option, Planned, Reading, refl}
+use Rattle.link_world.proofs.Names.{run_of, Sending, sends, sends_abort, sends_next, set-get_or, slice_set, Some, Sound, Stage, start, State, steered}
+use Rattle.link_world.proofs.Names.{steering, subst, suc, sym, take, take-append-drop, Taking, Told, true, TurnLeads, with_link, World, Writing, zero}
+use Rattle.link_world.proofs.Names.{ℕ}
 use Rattle.protocol_model.specs.World.{is_any, is_faulted as is_over}
 use Rattle.client_core.specs.Clients.{is_faulted}
 use Rattle.link_world.specs.Pumps.{begins, has, reads, takes, writes}
@@ -97,9 +97,9 @@ stop_starts : (w : World) → IsOn w → (b : Bool) → Starts w (cond b (happen
 stop_starts w h true = record { stands = refl; last = aborts_last w.client.client _ }
 stop_starts w h false = record { stands = begun w h; last = refl }
 
-steered_starts : (c : Course) (w : World) → IsOn w → Starts w (run_of (steering c) w) (steered c w.client)
-steered_starts Course.GoOn w h = record { stands = begun w h; last = refl }
-steered_starts Course.Stop w h = stop_starts w h (may_abort w.client.client.state)
+steered_starts : (c : Bool) (w : World) → IsOn w → Starts w (run_of (steering c) w) (steered c w.client)
+steered_starts false w h = record { stands = begun w h; last = refl }
+steered_starts true w h = stop_starts w h (may_abort w.client.client.state)
 
 sends_on : (w : World) (e : ClientEnd) → IsOn w → e.client.last ≡ w.client.client.last
     → is_some (due e.client) ≡ true
@@ -279,7 +279,7 @@ sent_leads least v w s _ _ _ _ h g front (reads e read written t may is) =
     (plays least v w s Reading read written (end_read e) h g front (reads e read written t may is))
 
 -- how far a client's turn has come, in events
-pub turn_joins : (c : Course) (least : ℕ) (w : World) (stage : Stage) (read written : List ℕ) (e : ClientEnd)
+pub turn_joins : (c : Bool) (least : ℕ) (w : World) (stage : Stage) (read written : List ℕ) (e : ClientEnd)
     → w.client.out ≡ [] → 1 ≤ w.client.client.last → w.client.client.last ≤ length w.links
     → take (length read) (client_link w).down ≡ read → ClientTurn least (steered c w.client) stage read written e
     → TurnLeads (IsClientTurn (length read)) true (run_of (steering c) w) (client_joined w e (written ++ e.out) (length read))
@@ -287,7 +287,7 @@ turn_joins c least w stage read written e out from to front t =
     let on : IsOn w = record { out = out; from = from; to = to } in
     sent_leads least (run_of (steering c) w) w (steered c w.client) stage read written e on (steered_starts c w on) front t
 
-heard_so_far : (c : Course) (least : ℕ) (w : World) (read written : List ℕ) (e : ClientEnd)
+heard_so_far : (c : Bool) (least : ℕ) (w : World) (read written : List ℕ) (e : ClientEnd)
     → w.client.out ≡ [] → 1 ≤ w.client.client.last → w.client.client.last ≤ length w.links
     → take (length read) (client_link w).down ≡ read → ClientTurn least (steered c w.client) Reading read written e
     → Hears (run_of (steering c) w) w read written e
@@ -296,7 +296,7 @@ heard_so_far c least w read written e out from to front t =
     plays least (run_of (steering c) w) w (steered c w.client) Reading read written e on (steered_starts c w on) front t
 
 -- a turn in which the client has read all
-pub turn_whole : (c : Course) (least : ℕ) (w : World) (read written : List ℕ) (e : ClientEnd)
+pub turn_whole : (c : Bool) (least : ℕ) (w : World) (read written : List ℕ) (e : ClientEnd)
     → w.client.out ≡ [] → 1 ≤ w.client.client.last → w.client.client.last ≤ length w.links
     → take (length read) (client_link w).down ≡ read → ClientTurn least (steered c w.client) Reading read written e
     → next_of e.input.rest ≡ Ok None
@@ -311,7 +311,7 @@ turn_whole c least w read written e out from to front t none =
     (none_due w p.first written p.none) p.came p.so_far (all_done Event.ClientReads p.fed v p.so_far never)
 
 -- it has then written all
-pub turn_written : (c : Course) (least : ℕ) (w : World) (read written : List ℕ) (e : ClientEnd)
+pub turn_written : (c : Bool) (least : ℕ) (w : World) (read written : List ℕ) (e : ClientEnd)
     → w.client.out ≡ [] → 1 ≤ w.client.client.last → w.client.client.last ≤ length w.links
     → take (length read) (client_link w).down ≡ read → ClientTurn least (steered c w.client) Reading read written e → e.out ≡ []
 turn_written c least w read written e out from to front t = (heard_so_far c least w read written e out from to front t).out
@@ -340,7 +340,7 @@ at_end : (w x : World) (events more : List Event) (v : World) → w ≡ run_of e
     → run_of more w ≡ x → run_of (events ++ more) v ≡ x
 at_end w x events more v is leads = run_append events more v ∙ (ap (run_of more) (sym is) ∙ leads)
 
-pub turn_sound : (c : Course) (least : ℕ) (w : World) (stage : Stage) (read written : List ℕ) (e : ClientEnd)
+pub turn_sound : (c : Bool) (least : ℕ) (w : World) (stage : Stage) (read written : List ℕ) (e : ClientEnd)
     (program : Meaning) (rack : List (List ℕ)) (window : ℕ) (events : List Event) → IsProgram program → window ≤ 16
     → w ≡ run_of events (start program rack window)
     → w.client.out ≡ [] → 1 ≤ w.client.client.last → w.client.client.last ≤ length w.links
@@ -353,7 +353,7 @@ turn_sound c least w stage read written e program rack window events is few reac
     (run_append (steering c) j.events w ∙ j.leads))
     (always_sound program rack window (events ++ (steering c ++ j.events)) is few)
 
-pub turn_told : (c : Course) (least : ℕ) (w : World) (stage : Stage) (read written : List ℕ) (e : ClientEnd)
+pub turn_told : (c : Bool) (least : ℕ) (w : World) (stage : Stage) (read written : List ℕ) (e : ClientEnd)
     (program : Meaning) (rack : List (List ℕ)) (window : ℕ) (events : List Event) → IsProgram program → window ≤ 16
     → w ≡ run_of events (start program rack window)
     → w.client.out ≡ [] → 1 ≤ w.client.client.last → w.client.client.last ≤ length w.links

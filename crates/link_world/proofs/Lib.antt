@@ -36,7 +36,6 @@ pub mod ServerPumps
 pub mod ServerRuns
 pub mod ServerSteps
 pub mod ServerWork
-pub mod Courses
 pub mod Telling
 pub mod Showing
 pub mod Thens

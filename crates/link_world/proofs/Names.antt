@@ -1,6 +1,6 @@
 -- The names of the crates below, and of the definitions of this one, that its proofs use.
 pub use Rattle.client_core.specs.Always.{FitsState}
-pub use Rattle.client_core.specs.Calls.{Abort, Send}
+pub use Rattle.client_core.specs.Calls.{Send}
 pub use Rattle.client_core.specs.Clients.{are_ours, may_connect, may_read}
 pub use Rattle.client_core.specs.Refusals.{IsReadRefused, IsRefused, IsSendRefused}
 pub use Rattle.client_core.specs.declared.faults.ClientFault.{ClientFault}
@@ -27,16 +27,15 @@ pub use Rattle.line_framing.specs.Framing.{fed, fed_behind, Framing, IsLineDue, 
 pub use Rattle.line_framing.specs.Next.{Front, IsFound, next_of}
 pub use Rattle.line_framing.specs.declared.faults.FramingFault.{FramingFault}
 pub use Rattle.link_world.specs.Claims.{first_plan, Headline, IsAnswer, IsNew, refused_by, takes_memory}
-pub use Rattle.link_world.specs.Courses.{AbortRefused, Asks, course_of, goes_on, has_stopped, Says, steered, StopRefused}
 pub use Rattle.link_world.specs.Events.{HappensIf, HappensIff}
 pub use Rattle.link_world.specs.Finishing.{AreFirstOfJoining, AreTurns, commands_most, Finishes, IsFinish, IsSameKind, Stops}
 pub use Rattle.link_world.specs.Joined.{AreCalls, AreFit, AreOnWay, AreOwnCalls, called, client_joined, client_moves, client_turn, ClientCalls}
 pub use Rattle.link_world.specs.Joined.{EndPair, IsCall, IsClientTurn, IsOneWorld, IsServerTurn, IsWorldOf, moves, no_call, no_calls, no_event}
-pub use Rattle.link_world.specs.Joined.{not_called, one_more, PumpCalls, pumped_of, server_joined, server_left, server_moves, server_turn, steering}
-pub use Rattle.link_world.specs.Joined.{stops, TurnLeads, with_client, with_server}
+pub use Rattle.link_world.specs.Joined.{not_called, one_more, PumpCalls, pumped_of, server_joined, server_left, server_moves, server_turn, steered}
+pub use Rattle.link_world.specs.Joined.{steering, stops, TurnLeads, with_client, with_server}
 pub use Rattle.link_world.specs.LinkRuns.{are_still, client_side, ClientEnds, ClientRan, ClientRun, ClientRunStopped, ClientRunWhy, ClientSide, Fresh}
 pub use Rattle.link_world.specs.LinkRuns.{is_over, LoopRan, LoopRun, LoopStopped, Out, PairMoved, PairStopped, Phase, server_leaves, server_side}
-pub use Rattle.link_world.specs.LinkRuns.{ServerEnds, ServerRun, ServerRunStopped, ServerRunWhy, ServerSide, Steered, steps_most, turns_most}
+pub use Rattle.link_world.specs.LinkRuns.{ServerRun, ServerRunStopped, ServerRunWhy, ServerSide, steps_most, turns_most}
 pub use Rattle.link_world.specs.Links.{fewer_down, fewer_up, IsReached, link_of_connection, links_of, quiet_client, quiet_server, seen, StandsOn}
 pub use Rattle.link_world.specs.Links.{with_down, with_up, with_world, WorldValue}
 pub use Rattle.link_world.specs.Machines.{fits_job, simulated}
@@ -52,14 +51,12 @@ pub use Rattle.link_world.specs.ServerPumpParts.{has_work, IsServerReadFault, Is
 pub use Rattle.link_world.specs.ServerPumpParts.{ServerReadStops, steps_of, steps_of_one}
 pub use Rattle.link_world.specs.ServerPumps.{ends, knows, of_server, ServerMoved, ServerMovedWithin, ServerStopped, ServerStoppedWithin, ServerTurn}
 pub use Rattle.link_world.specs.ServerPumps.{ServerWhy, steps_made, turns}
-pub use Rattle.link_world.specs.ServerWatching.{done_after, EndsWith, reports_of, ServerRunWatched}
 pub use Rattle.link_world.specs.Showing.{EndsShown, IsRunCall, Shown}
 pub use Rattle.link_world.specs.Traces.{client_mark, client_wrote, comes_up, down_on, Ends, is_there, lost_down, lost_up, no_trace, place, row, rows}
 pub use Rattle.link_world.specs.Traces.{server_mark, server_wrote, standing, taken_after, traced, Traces, TracesAll, TraceValue, up_on, without_cr}
 pub use Rattle.link_world.specs.Watching.{Completed, Hears, Note, notes_from, TellsRun}
 pub use Rattle.link_world.specs.declared.connections.pumps.Moved.{Moved}
 pub use Rattle.link_world.specs.declared.connections.pumps.PumpFault.{PumpFault}
-pub use Rattle.link_world.specs.declared.connections.steering.Course.{Course}
 pub use Rattle.link_world.specs.declared.texts.schedule_faults.ScheduleFault.{ScheduleFault}
 pub use Rattle.link_world.specs.declared.texts.schedules.Instruction.{Instruction}
 pub use Rattle.link_world.specs.declared.worlds.connection.Connection.{Connection}

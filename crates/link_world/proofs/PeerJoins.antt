@@ -1,14 +1,12 @@
 -- Calls of a client's pump are calls of the client, whatever its peer sends.
-use Rattle.link_world.proofs.Names.{[], ◌++◌, ◌∙◌, ◌∷◌, ◌≡◌, Abort, AbortRefused, ap, are_ours, AreOwnCalls, Bool, called, ClientCalls, ClientEnd}
-use Rattle.link_world.proofs.Names.{ClientEnds, ClientFault, ClientRan, ClientRun, ClientRunStopped, ClientTurn, cond, Course, end_aborted, end_left}
-use Rattle.link_world.proofs.Names.{false, false≢true, Feature, Fresh, inl, inr, IsProgram, IsSendRefused, le-leb, List, may_abort, Meaning, moves}
-use Rattle.link_world.proofs.Names.{new_client_end, not_called, of_client, Option, Out, Phase, PumpFault, Reading, refl, Send, Sending, sends, Stage}
-use Rattle.link_world.proofs.Names.{Steered, steered, stops, subst, sym, Taking, true, Writing, ℕ}
+use Rattle.link_world.proofs.Names.{[], ◌++◌, ◌∙◌, ◌∷◌, ◌≡◌, ap, are_ours, AreOwnCalls, Bool, called, ClientCalls, ClientEnd, ClientEnds, ClientFault}
+use Rattle.link_world.proofs.Names.{ClientRan, ClientRun, ClientRunStopped, ClientTurn, cond, false, false≢true, Feature, Fresh, IsProgram, le-leb}
+use Rattle.link_world.proofs.Names.{List, Meaning, moves, new_client_end, not_called, Option, Out, Phase, PumpFault, Reading, refl, Send, Sending}
+use Rattle.link_world.proofs.Names.{sends, Stage, stops, subst, sym, Taking, true, Writing, ℕ}
 use Rattle.client_core.specs.Calls.{behind_call, behind_calls, Call, done_by, Feed, Leave, possible, ReadOne, Sent}
 use Rattle.client_core.proofs.Runs.{features_are_ours}
 use Rattle.link_world.specs.Pumps.{begins, has, reads, takes, writes}
 use Rattle.link_world.specs.LinkRuns as run
-use Rattle.link_world.proofs.Courses.{stop_aborts}
 
 -- ---- one more call
 
@@ -72,58 +70,34 @@ pumped_features program kept window e is ours t =
 
 -- ---- a run
 
-steered_calls : (first e : ClientEnd) (c : Course) → ClientCalls first e → ClientCalls first (steered c e)
-steered_calls first e Course.GoOn h = h
-steered_calls first e Course.Stop h = called e Abort h
-
-so_far : (first : ClientEnd) (left taken : Option (List ℕ)) (phase : Phase) (turns : ℕ) (said : List Course) (read written : List ℕ)
-    (e : ClientEnd) (left_now taken_now : Option (List ℕ)) → ClientRun first left taken phase turns said read written e left_now taken_now
+so_far : (first : ClientEnd) (left taken : Option (List ℕ)) (phase : Phase) (turns : ℕ) (read written : List ℕ)
+    (e : ClientEnd) (left_now taken_now : Option (List ℕ)) → ClientRun first left taken phase turns read written e left_now taken_now
     → ClientCalls first e
-so_far first left taken _ _ _ _ _ _ _ _ run.starts = not_called
-so_far first left taken _ _ _ _ _ _ _ _ (run.gives turns said read written mid new left_mid left_now taken_mid taken_now moved t going turn) =
-    moves mid new 0 left_mid left_now taken_mid taken_now moved (so_far first left taken Fresh turns said read written mid left_mid taken_mid t)
-    turn
-so_far first left taken _ _ _ _ _ _ _ _ (run.asks turns said read written mid left_mid taken_mid answer t going asked) =
-    steered_calls first mid answer (so_far first left taken Out turns said read written mid left_mid taken_mid t)
-so_far first left taken _ _ _ _ _ _ _ _ (run.stays turns said read written mid left_mid taken_mid t going asked) =
-    so_far first left taken Out turns said read written mid left_mid taken_mid t
-so_far first left taken _ _ _ _ _ _ _ _ (run.goes turns said read written mid new left_mid left_now taken_mid taken_now moved t turn) =
-    moves mid new 1 left_mid left_now taken_mid taken_now moved
-    (so_far first left taken Steered turns said read written mid left_mid taken_mid t) turn
+so_far first left taken _ _ _ _ _ _ _ run.starts = not_called
+so_far first left taken _ _ _ _ _ _ _ (run.gives turns read written mid new left_mid left_now taken_mid taken_now moved t going turn) =
+    moves mid new 0 left_mid left_now taken_mid taken_now moved (so_far first left taken Fresh turns read written mid left_mid taken_mid t) turn
+so_far first left taken _ _ _ _ _ _ _ (run.goes turns read written mid new left_mid left_now taken_mid taken_now moved t going turn) =
+    moves mid new 1 left_mid left_now taken_mid taken_now moved (so_far first left taken Out turns read written mid left_mid taken_mid t) turn
 
-pub run_calls : (first e : ClientEnd) (left left_now taken taken_now : Option (List ℕ)) (can can_now : List Course → Bool)
-    → ClientRan first e left left_now taken taken_now can can_now → ClientCalls first e
-run_calls first e left left_now taken taken_now can can_now h =
-    so_far first left taken h.phase h.turns h.said h.read h.written e left_now taken_now h.run
+pub run_calls : (first e : ClientEnd) (left left_now taken taken_now : Option (List ℕ)) → ClientRan first e left left_now taken taken_now
+    → ClientCalls first e
+run_calls first e left left_now taken taken_now h =
+    so_far first left taken h.phase h.turns h.read h.written e left_now taken_now h.run
 
-refused_calls : (first mid last : ClientEnd) (why : ClientFault) → may_abort mid.client.state ≡ true
-    → IsSendRefused true mid last (end_aborted mid) why → ClientCalls first mid → ClientCalls first last
-refused_calls first mid last ClientFault.NotNow may r h = absurd (false≢true (sym r.2))
-refused_calls first mid last (ClientFault.Faulted cause) may (inl r) h = absurd (false≢true (sym r.0))
-refused_calls first mid last (ClientFault.Faulted cause) may (inr r) h =
-    subst (ClientCalls first) (sym (stop_aborts mid last may r.1)) (called mid Abort h)
-refused_calls first mid last ClientFault.Memory may r h = subst (ClientCalls first) (sym r) h
-
-ends_so : (first e : ClientEnd) (left left_now taken taken_now : Option (List ℕ)) (fault : PumpFault ClientFault) (said : List Course)
+ends_so : (first e : ClientEnd) (left left_now taken taken_now : Option (List ℕ)) (fault : PumpFault ClientFault)
     (read written lost : List ℕ) (last : ClientEnd)
-    → ClientEnds first e left left_now taken taken_now fault said read written lost last → ClientCalls first e
-ends_so first e left left_now taken taken_now _ _ _ _ _ _
-    (run.stops_giving turns said read written mid left_mid taken_mid fault t going few turn) =
+    → ClientEnds first e left left_now taken taken_now fault read written lost last → ClientCalls first e
+ends_so first e left left_now taken taken_now _ _ _ _ _ (run.stops_giving turns read written mid left_mid taken_mid fault t going few turn) =
     stops mid e 0 1000000 left_mid left_now taken_mid taken_now fault
-    (so_far first left taken Fresh turns said read written mid left_mid taken_mid t) turn
-ends_so first e left left_now taken taken_now _ _ _ _ _ _ (run.refuses turns said read written mid fault t going asked few abort) =
-    subst (ClientCalls first) (sym abort.leaves)
-    (called abort.last Leave (refused_calls first mid abort.last abort.why abort.can abort.refused
-    (so_far first left taken Out turns said read written mid left_now taken_now t)))
-ends_so first e left left_now taken taken_now _ _ _ _ _ _
-    (run.stops turns said read written mid left_mid taken_mid fault t few turn) =
+    (so_far first left taken Fresh turns read written mid left_mid taken_mid t) turn
+ends_so first e left left_now taken taken_now _ _ _ _ _ (run.stops turns read written mid left_mid taken_mid fault t going few turn) =
     stops mid e 1 1000000 left_mid left_now taken_mid taken_now fault
-    (so_far first left taken Steered turns said read written mid left_mid taken_mid t) turn
-ends_so first e left left_now taken taken_now _ _ _ _ _ _ (run.spends said read written last t going is) =
+    (so_far first left taken Out turns read written mid left_mid taken_mid t) turn
+ends_so first e left left_now taken taken_now _ _ _ _ _ (run.spends read written last t going is) =
     subst (ClientCalls first) (sym is)
-    (called last Leave (so_far first left taken Fresh 1000000 said read written last left_now taken_now t))
+    (called last Leave (so_far first left taken Fresh 1000000 read written last left_now taken_now t))
 
-pub broken_calls : (first e : ClientEnd) (left left_now taken taken_now : Option (List ℕ)) (can can_now : List Course → Bool)
-    (fault : PumpFault ClientFault) → ClientRunStopped first e left left_now taken taken_now can can_now fault → ClientCalls first e
-broken_calls first e left left_now taken taken_now can can_now fault h =
-    ends_so first e left left_now taken taken_now fault h.said h.read h.written h.lost h.last h.ends
+pub broken_calls : (first e : ClientEnd) (left left_now taken taken_now : Option (List ℕ)) (fault : PumpFault ClientFault)
+    → ClientRunStopped first e left left_now taken taken_now fault → ClientCalls first e
+broken_calls first e left left_now taken taken_now fault h =
+    ends_so first e left left_now taken taken_now fault h.read h.written h.lost h.last h.ends

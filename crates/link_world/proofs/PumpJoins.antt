@@ -1,19 +1,18 @@
 -- Calls of both pumps on one connection are a list of events of one world.
 use Rattle.link_world.proofs.Names.{[], ◌&&◌, ◌++◌, ◌∙◌, ◌∷◌, ◌≡◌, ◌≢◌, ◌≤◌, always_sound, always_told, and_parts, ap, append-nil, append_assoc}
 use Rattle.link_world.proofs.Names.{AreCalls, AreFit, AreOnWay, arith, Bool, Cause, Client, client_hears, client_joined, client_link, client_moves}
-use Rattle.link_world.proofs.Names.{client_read, client_turn, ClientEnd, ClientMoved, ClientStopped, ClientTurn, command_of, cond, Consumes}
-use Rattle.link_world.proofs.Names.{contact_count, count_open, Course, Datum, drop, drop-append-le, due, end_aborted, end_left, EndPair, Err, Event}
-use Rattle.link_world.proofs.Names.{false, false≢true, first_due, FramingFault, Front, front_read, front_served, given_for, given_homed, given_point}
-use Rattle.link_world.proofs.Names.{given_under, heard_on, held_under, homed_of, is_asking, is_running, is_some, IsCall, IsCarried, IsClientTurn}
-use Rattle.link_world.proofs.Names.{IsOneWorld, IsProgram, IsServerTurn, IsWorldOf, Job, Kind, left_state, length, line_read, Link, link_of}
-use Rattle.link_world.proofs.Names.{link_same, List, machined_moves, may_abort, may_read, may_turn, Meaning, never_faulted_run, next_of, no_call}
-use Rattle.link_world.proofs.Names.{no_calls, no_event, no_framing_fault, None, not, NotHomedText, NotPoint, NotResponse, Ok, one_more, Option}
-use Rattle.link_world.proofs.Names.{Outcome, Planned, Point, point_of, PumpCalls, pumped_of, read_moves, Reading, reading_of, refl, Response}
-use Rattle.link_world.proofs.Names.{response_of, response_read, Result, run_carried, run_of, running_job, Sending, sends_abort, sends_next}
-use Rattle.link_world.proofs.Names.{server_joined, server_left, server_link, server_moves, server_turn, ServerEnd, ServerMoved, ServerStopped}
-use Rattle.link_world.proofs.Names.{ServerTurn, serving_left, Some, Sound, Stage, start, start_carried, State, steered, steering, subst, suc, sym}
-use Rattle.link_world.proofs.Names.{Table, Tag, tag_is, take, take-append-le, take-append_seam, Taking, Told, true, turned_moves, TurnLeads}
-use Rattle.link_world.proofs.Names.{with_client, with_link, with_server, Working, World, Writing, zero, ℕ}
+use Rattle.link_world.proofs.Names.{client_read, client_turn, ClientEnd, ClientTurn, command_of, cond, Consumes, contact_count, count_open, Datum}
+use Rattle.link_world.proofs.Names.{drop, drop-append-le, due, end_aborted, end_left, EndPair, Err, Event, false, false≢true, first_due, FramingFault}
+use Rattle.link_world.proofs.Names.{Front, front_read, front_served, given_for, given_homed, given_point, given_under, heard_on, held_under, homed_of}
+use Rattle.link_world.proofs.Names.{is_asking, is_running, is_some, IsCall, IsCarried, IsClientTurn, IsOneWorld, IsProgram, IsServerTurn, IsWorldOf}
+use Rattle.link_world.proofs.Names.{Job, Kind, left_state, length, line_read, Link, link_of, link_same, List, machined_moves, may_abort, may_read}
+use Rattle.link_world.proofs.Names.{may_turn, Meaning, never_faulted_run, next_of, no_call, no_calls, no_event, no_framing_fault, None, not}
+use Rattle.link_world.proofs.Names.{NotHomedText, NotPoint, NotResponse, Ok, one_more, Option, Outcome, Planned, Point, point_of, PumpCalls}
+use Rattle.link_world.proofs.Names.{pumped_of, read_moves, Reading, reading_of, refl, Response, response_of, response_read, Result, run_carried}
+use Rattle.link_world.proofs.Names.{run_of, running_job, Sending, sends_abort, sends_next, server_joined, server_left, server_link, server_moves}
+use Rattle.link_world.proofs.Names.{server_turn, ServerEnd, ServerTurn, serving_left, Some, Sound, Stage, start, start_carried, State, steered}
+use Rattle.link_world.proofs.Names.{steering, subst, suc, sym, Table, Tag, tag_is, take, take-append-le, take-append_seam, Taking, Told, true}
+use Rattle.link_world.proofs.Names.{turned_moves, TurnLeads, with_client, with_link, with_server, Working, World, Writing, zero, ℕ}
 use Rattle.dme_line.specs.declared.responses.Mark.{Mark as Marked}
 use Rattle.protocol_model.specs.Replies.{Mark}
 use Rattle.protocol_model.proofs.undisturbed_run.UndisturbedClient.{read_last}
@@ -118,11 +117,11 @@ stop_stays : (e : ClientEnd) (b : Bool)
 stop_stays e true = aborts_stay e.client _
 stop_stays e false = record { on = refl; last = refl }
 
-steered_stays : (c : Course) (e : ClientEnd) → Stays e.client.on (steered c e).client.on e.client.last (steered c e).client.last
-steered_stays Course.GoOn e = record { on = refl; last = refl }
-steered_stays Course.Stop e = stop_stays e (may_abort e.client.state)
+steered_stays : (c : Bool) (e : ClientEnd) → Stays e.client.on (steered c e).client.on e.client.last (steered c e).client.last
+steered_stays false e = record { on = refl; last = refl }
+steered_stays true e = stop_stays e (may_abort e.client.state)
 
-turn_stays : (c : Course) (least : ℕ) (s : ClientEnd) (stage : Stage) (read written : List ℕ) (e : ClientEnd)
+turn_stays : (c : Bool) (least : ℕ) (s : ClientEnd) (stage : Stage) (read written : List ℕ) (e : ClientEnd)
     → ClientTurn least (steered c s) stage read written e → Stays s.client.on e.client.on s.client.last e.client.last
 turn_stays c least s stage read written e t =
     let k = client_stays least (steered c s) stage read written e t in
@@ -202,9 +201,9 @@ rests_by e true may = absurd (false≢true (sym may))
 rests_by e false may = refl
 
 -- what has left is not steered
-left_steered : (c : Course) (s x : ClientEnd) → s ≡ end_left x → steered c s ≡ end_left x
-left_steered Course.GoOn s x left = left
-left_steered Course.Stop s x left =
+left_steered : (c : Bool) (s x : ClientEnd) → s ≡ end_left x → steered c s ≡ end_left x
+left_steered false s x left = left
+left_steered true s x left =
     rests_by s (may_abort s.client.state) (ap (λ (e : ClientEnd). may_abort e.client.state) left ∙ never_aborts x.client.state) ∙ left
 
 record Still {E : Type 0} (s e : E) (read written : List ℕ) : Type 0 where
@@ -351,14 +350,14 @@ server_rests p e read written same read_none written_none = λ i. record {
 }
 
 -- the client's turn, from its connection
-record ClientSteps (c : Course) (v : World) (p : EndPair) (stage : Stage) (read written : List ℕ) (e : ClientEnd) : Type 0 where
+record ClientSteps (c : Bool) (v : World) (p : EndPair) (stage : Stage) (read written : List ℕ) (e : ClientEnd) : Type 0 where
   pub joined : TurnLeads (IsClientTurn (length read)) true (run_of (steering c) v) (client_joined v e (written ++ e.out) (length read))
   pub stays : Stays p.client.client.on e.client.on p.client.client.last e.client.last
   pub out : stage ≡ Reading → e.out ≡ []
   pub whole : stage ≡ Reading → next_of e.input.rest ≡ Ok None
       → TurnLeads (IsClientTurn (length read)) false (run_of (steering c) v) (client_joined v e written (length read))
 
-client_goes : (k : Course) (v : World) (p : EndPair) → IsCarried v → Stands v p → (least : ℕ) (stage : Stage)
+client_goes : (k : Bool) (v : World) (p : EndPair) → IsCarried v → Stands v p → (least : ℕ) (stage : Stage)
     (read written : List ℕ) (e : ClientEnd) → take (length read) p.down ≡ read
     → ClientTurn least (steered k p.client) stage read written e → ClientSteps k v p stage read written e
 client_goes k v p c s least stage read written e front t =
@@ -395,7 +394,7 @@ client_last_now : (v : World) (p : EndPair) (e : ClientEnd) → Stands v p → e
     → e.client.last ≡ v.client.client.last
 client_last_now v p e s last = last ∙ sym (ap (λ (x : ClientEnd). x.client.last) s.is.client)
 
-client_moved_on : (answer : Job → ℕ → Outcome) → (k : Course) (v : World) (p : EndPair) → IsCarried v
+client_moved_on : (answer : Job → ℕ → Outcome) → (k : Bool) (v : World) (p : EndPair) → IsCarried v
     → Stands v p → (least : ℕ)
     (read written : List ℕ) (e : ClientEnd) → p.client.client.on ≡ true → next_of e.input.rest ≡ Ok None → take (length read) p.down ≡ read
     → ClientTurn least (steered k p.client) Reading read written e → Step answer v (with_client p e read written)
@@ -428,7 +427,7 @@ client_moved_on answer k v p c s least read written e on all front t =
       };
     }
 
-client_stopped_on : (answer : Job → ℕ → Outcome) → (k : Course) (v : World) (p : EndPair) → IsCarried v
+client_stopped_on : (answer : Job → ℕ → Outcome) → (k : Bool) (v : World) (p : EndPair) → IsCarried v
     → Stands v p → (least : ℕ)
     (stage : Stage) (read written : List ℕ) (e : ClientEnd) → p.client.client.on ≡ true → take (length read) p.down ≡ read
     → ClientTurn least (steered k p.client) stage read written e → Step answer v (with_client p (end_left e) read written)
@@ -457,7 +456,7 @@ client_stopped_on answer k v p c s least stage read written e on front t =
       };
     }
 
-client_moved : (answer : Job → ℕ → Outcome) → (k : Course) (v : World) (p : EndPair) → IsCarried v → Stands v p
+client_moved : (answer : Job → ℕ → Outcome) → (k : Bool) (v : World) (p : EndPair) → IsCarried v → Stands v p
     → (least : ℕ) (read written : List ℕ) (e : ClientEnd) (b : Bool) → p.client.client.on ≡ b → next_of e.input.rest ≡ Ok None
     → take (length read) p.down ≡ read → ClientTurn least (steered k p.client) Reading read written e
     → Step answer v (with_client p e read written)
@@ -482,7 +481,7 @@ client_rest answer v p stage read written e x s left k = go stage k
     go Reading k = absurd k
     go Working k = absurd k
 
-client_stopped : (answer : Job → ℕ → Outcome) → (k : Course) (v : World) (p : EndPair) → IsCarried v
+client_stopped : (answer : Job → ℕ → Outcome) → (k : Bool) (v : World) (p : EndPair) → IsCarried v
     → Stands v p → (least : ℕ)
     (stage : Stage) (read written : List ℕ) (e : ClientEnd) (b : Bool) → p.client.client.on ≡ b → take (length read) p.down ≡ read
     → ClientTurn least (steered k p.client) stage read written e → Step answer v (with_client p (end_left e) read written)

@@ -1,15 +1,13 @@
 -- A server's turns one after another: what comes in and goes out in all of them.
-use Rattle.link_world.proofs.Names.{[], ◌++◌, ◌+◌, ◌<◌, ◌↔◌, ◌∙◌, ◌∷◌, ◌≡◌, ◌≤◌, Act, ap, append-nil, append_assoc, Appends, Appends-nil}
-use Rattle.link_world.proofs.Names.{Appends-trans, arith, Consumes, Consumes-nil, Consumes-trans, done_after, ends, EndsWith, Err, Front}
-use Rattle.link_world.proofs.Names.{front_served, Hears, IfErr, IsOk, Job, knows, length, length-append, List, Moved, next_of, None, Ok, OnOk, Option}
-use Rattle.link_world.proofs.Names.{Outcome, PumpFault, Reading, refl, reports_of, Result, rules, Sending, ServerEnd, ServerEnds, ServerFault}
-use Rattle.link_world.proofs.Names.{ServerMoved, ServerRun, ServerRunStopped, ServerRunWatched, ServerRunWhy, ServerStopped, ServerTurn, ServerWhy}
-use Rattle.link_world.proofs.Names.{serving_left, Some, Stage, steps_most, subst, sym, Taking, turns, turns_most, Working, Writing, ℕ}
+use Rattle.link_world.proofs.Names.{[], ◌++◌, ◌+◌, ◌<◌, ◌↔◌, ◌≡◌, ◌≤◌, append-nil, append_assoc, Appends, Appends-nil, Appends-trans, arith, Consumes}
+use Rattle.link_world.proofs.Names.{Consumes-nil, Consumes-trans, ends, Err, Front, front_served, IfErr, IsOk, Job, knows, length, length-append}
+use Rattle.link_world.proofs.Names.{List, Moved, next_of, None, Ok, OnOk, Option, Outcome, PumpFault, Reading, refl, Result, rules, Sending}
+use Rattle.link_world.proofs.Names.{ServerEnd, ServerFault, ServerMoved, ServerRun, ServerRunStopped, ServerRunWhy, ServerStopped, ServerTurn}
+use Rattle.link_world.proofs.Names.{ServerWhy, serving_left, Some, Stage, steps_most, subst, sym, Taking, turns, turns_most, Working, Writing, ℕ}
 use Rattle.link_world.specs.ServerPumps.{begins, has, reads, takes, writes}
 use Rattle.link_world.specs.LinkRuns as run
 use Rattle.link_world.proofs.ClientPumps.{longer}
 use Rattle.link_world.proofs.ClientRuns.{left_fewer}
-use Rattle.link_world.proofs.Telling.{hears_none, hears_more}
 
 -- ---- a server's turn
 
@@ -58,9 +56,9 @@ turn_enough answer least start _ _ _ _ (writes e read count t still none within)
 
 -- ---- turns of a server
 
--- the run so far: each turn had a byte and was reported, and no more is held than was held and came in
+-- the run so far: each turn had a byte, and no more is held than was held and came in
 pub record ServerSoFar (answer : Job → ℕ → Outcome) (turns : ℕ) (old now : ServerEnd) (left left_now taken taken_now : Option (List ℕ))
-    (told told_now : Option (List (List (ℕ × Act)))) : Type 0
+    : Type 0
   where
     pub read : List ℕ
     pub written : List ℕ
@@ -69,11 +67,10 @@ pub record ServerSoFar (answer : Job → ℕ → Outcome) (turns : ℕ) (old now
     pub appended : Appends taken taken_now written
     pub many : turns ≤ length read
     pub held : length now.input.rest ≤ length old.input.rest + length read
-    pub heard : Hears told told_now (done_after run)
 
-pub server_starts : (answer : Job → ℕ → Outcome) (e : ServerEnd) (left taken : Option (List ℕ)) (told : Option (List (List (ℕ × Act))))
-    → ServerSoFar answer 0 e e left left taken taken told told
-server_starts answer e left taken told = record {
+pub server_starts : (answer : Job → ℕ → Outcome) (e : ServerEnd) (left taken : Option (List ℕ))
+    → ServerSoFar answer 0 e e left left taken taken
+server_starts answer e left taken = record {
   read = [];
   written = [];
   run = run.starts;
@@ -81,16 +78,14 @@ server_starts answer e left taken told = record {
   appended = Appends-nil taken;
   many = omega arith;
   held = omega arith;
-  heard = hears_none told;
 }
 
 pub server_goes : (answer now : Job → ℕ → Outcome) (n : ℕ) (old mid new : ServerEnd)
     (left left_mid left_now taken taken_mid taken_now : Option (List ℕ)) (moved : Moved)
-    (told told_mid told_now : Option (List (List (ℕ × Act))))
-    → ServerSoFar answer n old mid left left_mid taken taken_mid told told_mid → now ≡ answer
-    → ServerMoved now 1 mid new left_mid left_now taken_mid taken_now moved → Hears told_mid told_now (new.server.ledger ∷ [])
-    → ServerSoFar answer (n + 1) old new left left_now taken taken_now told told_now
-server_goes answer now n old mid new left left_mid left_now taken taken_mid taken_now moved told told_mid told_now h same by one = record {
+    → ServerSoFar answer n old mid left left_mid taken taken_mid → now ≡ answer
+    → ServerMoved now 1 mid new left_mid left_now taken_mid taken_now moved
+    → ServerSoFar answer (n + 1) old new left left_now taken taken_now
+server_goes answer now n old mid new left left_mid left_now taken taken_mid taken_now moved h same by = record {
   read = h.read ++ m.read;
   written = h.written ++ m.written;
   run = run.goes n h.read h.written mid new left_mid left_now taken_mid taken_now moved h.run m;
@@ -100,7 +95,6 @@ server_goes answer now n old mid new left left_mid left_now taken taken_mid take
       let many = h.many in let total = length-append h.read m.read in omega (arith, some, many, total);
   held = let then = turn_held answer 1 mid Writing m.read m.written new turn in
       let before = h.held in let total = length-append h.read m.read in omega (arith, then, before, total);
-  heard = hears_more told told_mid told_now (done_after h.run) (new.server.ledger ∷ []) h.heard one;
 }
   where
     m : ServerMoved answer 1 mid new left_mid left_now taken_mid taken_now moved
@@ -121,102 +115,47 @@ why_of_run read written held r w held_now left_now e PumpFault.Memory most why =
 
 pub server_stops : (answer now : Job → ℕ → Outcome) (n : ℕ) (old mid new : ServerEnd)
     (left left_mid left_now taken taken_mid taken_now : Option (List ℕ)) (f : PumpFault ServerFault)
-    (told told_mid told_now : Option (List (List (ℕ × Act))))
-    → ServerSoFar answer n old mid left left_mid taken taken_mid told told_mid → n < turns_most → now ≡ answer
-    → ServerStopped now 1 steps_most mid new left_mid left_now taken_mid taken_now f → Hears told_mid told_now (new.server.ledger ∷ [])
-    → ServerRunWatched answer old new left left_now taken taken_now f told told_now
-server_stops answer now n old mid new left left_mid left_now taken taken_mid taken_now f told told_mid told_now h few same by one = record {
-  stopped = stopped;
-  heard = hears_more told told_mid told_now (done_after h.run) (new.server.ledger ∷ []) h.heard one;
+    → ServerSoFar answer n old mid left left_mid taken taken_mid → n < turns_most → now ≡ answer
+    → ServerStopped now 1 steps_most mid new left_mid left_now taken_mid taken_now f
+    → ServerRunStopped answer old new left left_now taken taken_now f
+server_stops answer now n old mid new left left_mid left_now taken taken_mid taken_now f h few same by = record {
+  read = h.read ++ s.read;
+  written = h.written ++ s.written;
+  lost = s.lost;
+  last = s.last;
+  ends = run.stops n h.read h.written mid left_mid taken_mid f h.run few s;
+  leaves = s.leaves;
+  consumed = subst (Consumes left left_now) (sym (append_assoc h.read s.read s.lost))
+      (Consumes-trans left left_mid left_now h.read (s.read ++ s.lost) h.consumed s.consumed);
+  is_lost = s.is_lost;
+  appended = Appends-trans taken taken_mid taken_now h.written s.written h.appended s.appended;
+  why = subst (λ (r : ℕ). ServerRunWhy r (length (h.written ++ s.written)) (length old.input.rest) left_now s.last f)
+      (sym (length-append h.read s.read))
+      (subst (λ (w : ℕ). ServerRunWhy (length h.read + length s.read) w (length old.input.rest) left_now s.last f)
+      (sym (length-append h.written s.written))
+      (why_of_run (length h.read) (length h.written) (length old.input.rest) (length s.read) (length s.written) (length mid.input.rest)
+      left_now s.last f h.held s.why));
 }
   where
     s : ServerStopped answer 1 steps_most mid new left_mid left_now taken_mid taken_now f
     s = subst (λ (a : Job → ℕ → Outcome). ServerStopped a 1 steps_most mid new left_mid left_now taken_mid taken_now f) same by
 
-    stopped : ServerRunStopped answer old new left left_now taken taken_now f
-    stopped = record {
-      read = h.read ++ s.read;
-      written = h.written ++ s.written;
-      lost = s.lost;
-      last = s.last;
-      ends = run.stops n h.read h.written mid left_mid taken_mid f h.run few s;
-      leaves = s.leaves;
-      consumed = subst (Consumes left left_now) (sym (append_assoc h.read s.read s.lost))
-          (Consumes-trans left left_mid left_now h.read (s.read ++ s.lost) h.consumed s.consumed);
-      is_lost = s.is_lost;
-      appended = Appends-trans taken taken_mid taken_now h.written s.written h.appended s.appended;
-      why = subst (λ (r : ℕ). ServerRunWhy r (length (h.written ++ s.written)) (length old.input.rest) left_now s.last f)
-          (sym (length-append h.read s.read))
-          (subst (λ (w : ℕ). ServerRunWhy (length h.read + length s.read) w (length old.input.rest) left_now s.last f)
-          (sym (length-append h.written s.written))
-          (why_of_run (length h.read) (length h.written) (length old.input.rest) (length s.read) (length s.written) (length mid.input.rest)
-          left_now s.last f h.held s.why));
-    }
-
 pub server_spends : (answer : Job → ℕ → Outcome) (n : ℕ) (old last new : ServerEnd) (left left_now taken taken_now : Option (List ℕ))
-    (told told_now : Option (List (List (ℕ × Act))))
-    → ServerSoFar answer n old last left left_now taken taken_now told told_now → n ≡ turns_most → new ≡ serving_left last
-    → ServerRunWatched answer old new left left_now taken taken_now PumpFault.TurnsSpent told told_now
-server_spends answer n old last new left left_now taken taken_now told told_now so_far all is = record {
-  stopped = stopped;
-  heard = h.heard;
+    → ServerSoFar answer n old last left left_now taken taken_now → n ≡ turns_most → new ≡ serving_left last
+    → ServerRunStopped answer old new left left_now taken taken_now PumpFault.TurnsSpent
+server_spends answer n old last new left left_now taken taken_now h all is = record {
+  read = h.read;
+  written = h.written;
+  lost = [];
+  last = last;
+  ends = run.spends h.read h.written last
+      (subst (λ (n : ℕ). ServerRun answer old left taken n h.read h.written last left_now taken_now) all h.run) is;
+  leaves = is;
+  consumed = subst (Consumes left left_now) (sym (append-nil h.read)) h.consumed;
+  is_lost = refl;
+  appended = h.appended;
+  why = let many = h.many in omega (arith, many, all);
 }
-  where
-    h : ServerSoFar answer turns_most old last left left_now taken taken_now told told_now
-    h = subst (λ (n : ℕ). ServerSoFar answer n old last left left_now taken taken_now told told_now) all so_far
-
-    stopped : ServerRunStopped answer old new left left_now taken taken_now PumpFault.TurnsSpent
-    stopped = record {
-      read = h.read;
-      written = h.written;
-      lost = [];
-      last = last;
-      ends = run.spends h.read h.written last h.run is;
-      leaves = is;
-      consumed = subst (Consumes left left_now) (sym (append-nil h.read)) h.consumed;
-      is_lost = refl;
-      appended = h.appended;
-      why = let many = h.many in omega (arith, many);
-    }
-
--- ---- the last report of a run
-
--- what was reported last by the end of these turns
-last_of_run : (answer : Job → ℕ → Outcome) (old : ServerEnd) (left taken : Option (List ℕ)) (n : ℕ) (read written : List ℕ)
-    (new : ServerEnd) (left_now taken_now : Option (List ℕ))
-    → (r : ServerRun answer old left taken n read written new left_now taken_now) → 0 < n
-    → (front : List (List (ℕ × Act))) × (done_after r ≡ front ++ new.server.ledger ∷ [])
-last_of_run answer old left taken _ _ _ _ _ _ run.starts some = absurd (omega (arith, some))
-last_of_run answer old left taken _ _ _ _ _ _ (run.goes n read written mid new left_mid left_now taken_mid taken_now moved r turn) some =
-    (done_after r, refl)
-
-last_of_ends : (answer : Job → ℕ → Outcome) (old new : ServerEnd) (left left_now taken taken_now : Option (List ℕ))
-    (f : PumpFault ServerFault) (read written lost : List ℕ) (last : ServerEnd)
-    → (ends : ServerEnds answer old new left left_now taken taken_now f read written lost last)
-    → (front : List (List (ℕ × Act))) × (reports_of new ends ≡ front ++ new.server.ledger ∷ [])
-last_of_ends answer old new left left_now taken taken_now _ _ _ _ _
-    (run.stops n read written mid left_mid taken_mid f front few turn) = (done_after front, refl)
-last_of_ends answer old new left left_now taken taken_now _ _ _ _ _ (run.spends read written last front leaves) =
-    (found.0, found.1 ∙ ap (λ (e : ServerEnd). found.0 ++ e.server.ledger ∷ []) (sym leaves))
-  where
-    found : (before : List (List (ℕ × Act))) × (done_after front ≡ before ++ last.server.ledger ∷ [])
-    found = last_of_run answer old left taken turns_most read written last left_now taken_now front (omega arith)
-
-ends_with : (told told_now : Option (List (List (ℕ × Act)))) (reports front : List (List (ℕ × Act))) (acts : List (ℕ × Act))
-    → Hears told told_now reports → reports ≡ front ++ acts ∷ [] → EndsWith told_now acts
-ends_with told None reports front acts h is = tt
-ends_with None (Some now) reports front acts h is = absurd h
-ends_with (Some before) (Some now) reports front acts h is =
-    (before ++ front, h ∙ ap (λ (l : List (List (ℕ × Act))). before ++ l) is ∙ sym (append_assoc before front (acts ∷ [])))
-
-pub last_is : (answer : Job → ℕ → Outcome) (old new : ServerEnd) (left left_now taken taken_now : Option (List ℕ))
-    (f : PumpFault ServerFault) (told told_now : Option (List (List (ℕ × Act))))
-    → ServerRunWatched answer old new left left_now taken taken_now f told told_now → EndsWith told_now new.server.ledger
-last_is answer old new left left_now taken taken_now f told told_now h =
-    ends_with told told_now (reports_of new h.stopped.ends) found.0 new.server.ledger h.heard found.1
-  where
-    found : (front : List (List (ℕ × Act))) × (reports_of new h.stopped.ends ≡ front ++ new.server.ledger ∷ [])
-    found = last_of_ends answer old new left left_now taken taken_now f _ _ _ _ h.stopped.ends
 
 -- ---- how a run ends by the fault of a turn
 

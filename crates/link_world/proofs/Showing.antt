@@ -1,14 +1,12 @@
 -- What the watcher of a run of a client is shown.
-use Rattle.link_world.proofs.Names.{[], ◌++◌, ◌∙◌, ◌∷◌, ◌≡◌, Abort, ap, arith, Asks, Bool, ClientEnd, ClientFault, ClientMovedWithin}
-use Rattle.link_world.proofs.Names.{ClientStoppedWithin, ClientTurn, cond, Course, course_of, end_aborted, end_left, EndsShown, Err, false}
-use Rattle.link_world.proofs.Names.{false≢true, IfErr, IfOk, inl, inr, IsRunCall, IsSendRefused, le-leb, length, length-append, List, may_abort}
-use Rattle.link_world.proofs.Names.{Moved, Ok, Option, PumpFault, Reading, refl, Result, Send, Sending, sends, Shown, Stage, steered, StopRefused}
+use Rattle.link_world.proofs.Names.{[], ◌++◌, ◌∙◌, ◌∷◌, ◌≡◌, ap, arith, Bool, ClientEnd, ClientFault, ClientMovedWithin, ClientStoppedWithin}
+use Rattle.link_world.proofs.Names.{ClientTurn, cond, end_left, EndsShown, Err, false, false≢true, IfErr, IfOk, IsRunCall, le-leb, length}
+use Rattle.link_world.proofs.Names.{length-append, List, Moved, Ok, Option, PumpFault, Reading, refl, Result, Send, Sending, sends, Shown, Stage}
 use Rattle.link_world.proofs.Names.{subst, sym, Taking, true, Writing, ℕ}
 use Rattle.client_core.specs.Calls.{Call, done_by, Feed, Leave, possible, ReadOne, Sent}
 use Rattle.link_world.specs.Pumps.{begins, has, reads, takes, writes}
 use Rattle.link_world.specs.Showing as show
 use Rattle.link_world.specs.WatchingRows.{notes_on}
-use Rattle.link_world.proofs.Courses.{stop_aborts}
 
 done_now : (call : Call) (e : ClientEnd) (b : Bool) → possible call e ≡ b → b ≡ true → cond b (done_by call e) e ≡ done_by call e
 done_now call e true is may = refl
@@ -50,31 +48,6 @@ module _ {N : Type 0} (Shows : ClientEnd → N → N → Type 0) (first : Client
       show.shows e w new
       (left_shown f.front.last e w
       (turn_shown least s w f.front.stage f.front.read f.front.written f.front.last h f.front.turn) f.front.leaves) is
-
-  -- a client that is steered
-  steered_shown : (e : ClientEnd) (c : Course) (w : N) → Shown Shows first old e w → Shown Shows first old (steered c e) w
-  steered_shown e Course.GoOn w h = h
-  steered_shown e Course.Stop w h = show.calls e w Abort h tt
-
-  pub asked_shown : (stopped stops : Bool) (e f : ClientEnd) (can can_now : List Course → Bool) (w : N)
-      → Asks stopped stops e f can can_now → Shown Shows first old e w → Shown Shows first old f w
-  asked_shown true stops e f can can_now w asks h = subst (λ (x : ClientEnd). Shown Shows first old x w) (sym asks.1) h
-  asked_shown false stops e f can can_now w asks h =
-      subst (λ (x : ClientEnd). Shown Shows first old x w) (sym asks.0) (steered_shown e (course_of stops) w h)
-
-  refused_shown : (e f : ClientEnd) (why : ClientFault) (w : N) → may_abort e.client.state ≡ true
-      → IsSendRefused true e f (end_aborted e) why → Shown Shows first old e w → Shown Shows first old f w
-  refused_shown e f ClientFault.NotNow w may r h = absurd (false≢true (sym r.2))
-  refused_shown e f (ClientFault.Faulted cause) w may (inl r) h = absurd (false≢true (sym r.0))
-  refused_shown e f (ClientFault.Faulted cause) w may (inr r) h =
-      subst (λ (x : ClientEnd). Shown Shows first old x w) (sym (stop_aborts e f may r.1)) (show.calls e w Abort h tt)
-  refused_shown e f ClientFault.Memory w may r h = subst (λ (x : ClientEnd). Shown Shows first old x w) (sym r) h
-
-  -- one whose abort is refused
-  pub stop_refused_shown : (stopped : Bool) (e f : ClientEnd) (can can_now : List Course → Bool) (fault : PumpFault ClientFault) (w : N)
-      → StopRefused stopped e f can can_now fault → Shown Shows first old e w → Shown Shows first old f w
-  stop_refused_shown stopped e f can can_now fault w r h =
-      left_shown r.abort.last f w (refused_shown e r.abort.last r.abort.why w r.abort.can r.abort.refused h) r.abort.leaves
 
 -- runs, one after another
 pub shown_more : {N : Type 0} (Shows : ClientEnd → N → N → Type 0) (first mid : ClientEnd) (old w : N) (e : ClientEnd) (now : N)

@@ -1,11 +1,9 @@
 -- What a client has counted and holds only grows in its turns, and the features by which it grew are reported to its watcher.
-use Rattle.link_world.proofs.Names.{[], ◌++◌, ◌+◌, ◌<◌, ◌∙◌, ◌∷◌, ◌≡◌, ◌≤◌, ap, append-nil, append_assoc, arith, Asks, Bool, Client, ClientEnd}
-use Rattle.link_world.proofs.Names.{ClientFault, ClientMoved, ClientMovedWithin, ClientStopped, ClientStoppedWithin, ClientTurn, Completed, cond}
-use Rattle.link_world.proofs.Names.{Course, course_of, drop, drop-append_seam, drop_more, end_aborted, end_left, Err, false, false≢true, Feature}
-use Rattle.link_world.proofs.Names.{Front, front_read, get_or, Hears, IfErr, IfOk, inl, inr, IsSendRefused, length, length-append, List, may_abort}
+use Rattle.link_world.proofs.Names.{[], ◌++◌, ◌+◌, ◌<◌, ◌∙◌, ◌∷◌, ◌≡◌, ◌≤◌, ap, append-nil, append_assoc, arith, Client, ClientEnd, ClientFault}
+use Rattle.link_world.proofs.Names.{ClientMoved, ClientMovedWithin, ClientStopped, ClientStoppedWithin, ClientTurn, Completed, drop, drop-append_seam}
+use Rattle.link_world.proofs.Names.{drop_more, end_left, Err, Feature, Front, front_read, get_or, Hears, IfErr, IfOk, length, length-append, List}
 use Rattle.link_world.proofs.Names.{Moved, next_of, None, Note, notes_from, Ok, Option, Planned, PumpFault, Reading, refl, Reply, Result, Sending}
-use Rattle.link_world.proofs.Names.{sends, sends_abort, sends_next, Some, Stage, steered, StopRefused, subst, sym, Table, Tag, Taking, TellsRun, true}
-use Rattle.link_world.proofs.Names.{Wanted, Writing, ℕ}
+use Rattle.link_world.proofs.Names.{sends, sends_next, Some, Stage, subst, sym, Table, Tag, Taking, TellsRun, Wanted, Writing, ℕ}
 use Rattle.std.proofs.Math.ListN.{drop_of_length-le}
 use Rattle.protocol_model.specs.Replies.{Mark}
 use Rattle.protocol_model.proofs.HeardTables.{heard}
@@ -184,48 +182,6 @@ tells_left old mid new told now left h =
       joined = sym (append-nil mid.client.table.tally.features);
       heard = hears_none now;
     }))
-
--- nor does one that is steered
-tells_same : (e f : ClientEnd) (told : Option (List Note)) → f.client.table.tally.features ≡ e.client.table.tally.features
-    → TellsRun e f told told
-tells_same e f told same = record {
-  completed = [];
-  joined = same ∙ sym (append-nil e.client.table.tally.features);
-  heard = hears_none told;
-}
-
-aborted_features : (c : Client) (n : Option ℕ) → (sends_abort c n).client.table.tally.features ≡ c.table.tally.features
-aborted_features c None = refl
-aborted_features c (Some n) = refl
-
-stopped_features : (e : ClientEnd) (b : Bool) → (cond b (end_aborted e) e).client.table.tally.features ≡ e.client.table.tally.features
-stopped_features e true = aborted_features e.client _
-stopped_features e false = refl
-
-steered_features : (answer : Course) (e : ClientEnd) → (steered answer e).client.table.tally.features ≡ e.client.table.tally.features
-steered_features Course.GoOn e = refl
-steered_features Course.Stop e = stopped_features e (may_abort e.client.state)
-
-pub tells_asked : (stopped stops : Bool) (e f : ClientEnd) (can can_now : List Course → Bool) (told : Option (List Note))
-    → Asks stopped stops e f can can_now → TellsRun e f told told
-tells_asked true stops e f can can_now told asks =
-    tells_same e f told (ap (λ (x : ClientEnd). x.client.table.tally.features) asks.1)
-tells_asked false stops e f can can_now told asks =
-    tells_same e f told (ap (λ (x : ClientEnd). x.client.table.tally.features) asks.0 ∙ steered_features (course_of stops) e)
-
-refused_features : (e f : ClientEnd) (why : ClientFault) → IsSendRefused true e f (end_aborted e) why
-    → f.client.table.tally.features ≡ e.client.table.tally.features
-refused_features e f ClientFault.NotNow r = absurd (false≢true (sym r.2))
-refused_features e f (ClientFault.Faulted cause) (inl r) = absurd (false≢true (sym r.0))
-refused_features e f (ClientFault.Faulted cause) (inr r) =
-    ap (λ (x : ClientEnd). x.client.table.tally.features) r.1 ∙ aborted_features e.client _
-refused_features e f ClientFault.Memory r = ap (λ (x : ClientEnd). x.client.table.tally.features) r
-
-pub tells_refused : (stopped : Bool) (e f : ClientEnd) (can can_now : List Course → Bool) (fault : PumpFault ClientFault)
-    (told : Option (List Note)) → StopRefused stopped e f can can_now fault → TellsRun e f told told
-tells_refused stopped e f can can_now fault told r =
-    tells_same e f told (ap (λ (x : ClientEnd). x.client.table.tally.features) r.abort.leaves
-    ∙ refused_features e r.abort.last r.abort.why r.abort.refused)
 
 -- a watcher that says what it received has received these notes and no others
 pub only_these : (old new : ClientEnd) (more : List Feature) (told now : List Note)

@@ -8,16 +8,13 @@ use Rattle.protocol_model.specs.declared.machine.Job.{Job}
 use Rattle.protocol_model.specs.declared.machine.Outcome.{Outcome}
 use Rattle.link_world.specs.Machines.{fits_job}
 use Rattle.protocol_model.specs.Rounds.{Then, AreWhile, IsOne, possible, AreWork}
-use Rattle.client_core.specs.Calls.{Call, behind_call, behind_calls}
+use Rattle.client_core.specs.Calls.{Abort, Call, behind_call, behind_calls}
 use Rattle.client_core.specs.declared.faults.ClientFault.{ClientFault}
 use Rattle.server_core.specs.declared.faults.ServerFault.{ServerFault}
 use Rattle.link_world.specs.declared.connections.pumps.Moved.{Moved}
 use Rattle.link_world.specs.declared.connections.pumps.PumpFault.{PumpFault}
 use Rattle.link_world.specs.Pumps.{ClientMoved, ClientStopped}
 use Rattle.link_world.specs.ServerPumps.{ServerMoved, ServerStopped}
-use Rattle.link_world.specs.Courses.{steered}
-use Rattle.link_world.specs.declared.connections.steering.Course.{Course}
-use Rattle.link_world.specs.declared.connections.steering.Course.TheVariants as course
 
 -- a client's turn as events: it sends while it can, n bytes come down (if n is not 0), and it reads while it can; a turn that is cut is a
 -- prefix of that
@@ -26,10 +23,15 @@ IsClientTurn count =
     Then (AreWhile event.ClientSends) (
     Then (λ cut w. IsOne (possible (event.Down count) w) cut) (AreWhile event.ClientReads))
 
--- an answer of what steers a client's run, as events: a stop is an abort, which changes nothing if the client cannot abort
-abbrev pub steering : Course → List Event
-steering course.GoOn = []
-steering course.Stop = event.Abort ∷ []
+-- a client before a call of its pump: if it is to stop, it aborts, which changes nothing if it cannot abort
+abbrev pub steered : (stops : Bool) → ClientEnd → ClientEnd
+steered false e = e
+steered true e = behind_call Abort e
+
+-- likewise as events
+abbrev pub steering : (stops : Bool) → List Event
+steering false = []
+steering true = event.Abort ∷ []
 
 -- a server's turn as events: n bytes come up (if n is not 0), it reads while it can, and it does all that it has to do, as its machine
 -- answers; a turn that is cut is a prefix of that
@@ -93,15 +95,15 @@ with_server p e read written = record { client = p.client; server = e; up = drop
 -- call took are the first of those on their way to its side; the client is steered before each of its calls, and may then leave
 pub data PumpCalls (answer : Job → ℕ → Outcome) (start : EndPair) : EndPair → Type 0 where
   no_calls : PumpCalls answer start start
-  client_moves : (p : EndPair) (c : Course) (e : ClientEnd) (least : ℕ) (left left_now taken taken_now : Option (List ℕ)) (moved : Moved)
+  client_moves : (p : EndPair) (c : Bool) (e : ClientEnd) (least : ℕ) (left left_now taken taken_now : Option (List ℕ)) (moved : Moved)
       → PumpCalls answer start p
       → (h : ClientMoved least (steered c p.client) e left left_now taken taken_now moved) → take (length h.read) p.down ≡ h.read
       → PumpCalls answer start (with_client p e h.read h.written)
-  client_stops : (p : EndPair) (c : Course) (e : ClientEnd) (least bound : ℕ) (left left_now taken taken_now : Option (List ℕ))
+  client_stops : (p : EndPair) (c : Bool) (e : ClientEnd) (least bound : ℕ) (left left_now taken taken_now : Option (List ℕ))
       (fault : PumpFault ClientFault) → PumpCalls answer start p
       → (h : ClientStopped least bound (steered c p.client) e left left_now taken taken_now fault) → take (length h.read) p.down ≡ h.read
       → PumpCalls answer start (with_client p e h.read h.written)
-  client_leaves : (p : EndPair) (c : Course) → PumpCalls answer start p
+  client_leaves : (p : EndPair) (c : Bool) → PumpCalls answer start p
       → PumpCalls answer start (with_client p (end_left (steered c p.client)) [] [])
   server_moves : (p : EndPair) (e : ServerEnd) (least : ℕ) (left left_now taken taken_now : Option (List ℕ)) (moved : Moved)
       → PumpCalls answer start p
@@ -128,9 +130,9 @@ pub record IsWorldOf (w : World) (p : EndPair) : Type 0 where
 -- that has left is no event
 pub data IsCall (answer : Job → ℕ → Outcome) (w : World) : List Event → Type 0 where
   no_event : IsCall answer w []
-  client_turn : (c : Course) (count : ℕ) (events : List Event) → IsClientTurn count false (run_of (steering c) w) events
+  client_turn : (c : Bool) (count : ℕ) (events : List Event) → IsClientTurn count false (run_of (steering c) w) events
       → IsCall answer w (steering c ++ events)
-  client_left : (c : Course) (count : ℕ) (events : List Event) → IsClientTurn count true (run_of (steering c) w) events
+  client_left : (c : Bool) (count : ℕ) (events : List Event) → IsClientTurn count true (run_of (steering c) w) events
       → IsCall answer w ((steering c ++ events) ++ event.ClientLeaves ∷ [])
   server_turn : (count : ℕ) (events : List Event) → IsServerTurn answer count false w events → IsCall answer w events
   server_left : (count : ℕ) (events : List Event) → IsServerTurn answer count true w events

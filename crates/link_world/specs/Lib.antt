@@ -16,11 +16,9 @@ pub mod PumpParts
 pub mod ServerPumps
 pub mod ServerPumpParts
 pub mod Joined
-pub mod Courses
 pub mod LinkRuns
 pub mod Watching
 pub mod Showing
 pub mod WatchingRows
-pub mod ServerWatching
 pub mod Traces
 pub mod TraceRows

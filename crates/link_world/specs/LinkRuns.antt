@@ -1,5 +1,5 @@
 -- Whole connections, as turns of one side or of both over their ports (this profile).
-use Rattle.std.specs.Prelude.{◌≡◌, ℕ, ◌==◌, ◌+◌, ◌*◌, ◌<◌, ◌≤◌, Bool, ◌&&◌, true, false, ⊤, Option, List, [], ◌∷◌, ◌++◌, length}
+use Rattle.std.specs.Prelude.{◌≡◌, ℕ, ◌==◌, ◌+◌, ◌*◌, ◌<◌, ◌≤◌, Bool, ◌&&◌, true, false, ⊤, Option, List, [], ◌++◌, length}
 use Rattle.std.specs.Io.KnownBytes.{Appends, Consumes, IsAtEnd}
 use Rattle.protocol_model.specs.Ends.{ClientEnd, ServerEnd, end_left, serving_left}
 use Rattle.protocol_model.specs.declared.machine.Job.{Job}
@@ -14,9 +14,6 @@ use Rattle.link_world.specs.declared.connections.links.LoopFault.{LoopFault}
 use Rattle.link_world.specs.declared.connections.links.LoopFault.TheVariants as loop_fault
 use Rattle.link_world.specs.Pumps.{ClientMoved, ClientStopped, HasRefused, IsLost}
 use Rattle.link_world.specs.ServerPumps.{ServerMoved, ServerStopped, IsServerRefusal}
-use Rattle.link_world.specs.Courses.{has_stopped, Says, steered, AbortRefused}
-use Rattle.link_world.specs.declared.connections.steering.Course.{Course}
-use Rattle.link_world.specs.declared.connections.steering.Course.TheVariants as course
 
 -- how many turns a run may have, and how many steps each of them may make
 abbrev pub turns_most : ℕ
@@ -41,70 +38,54 @@ is_over _ = false
 abbrev pub client_calls_most : ℕ
 client_calls_most = 2 * calls_most
 
--- how far a round of a client's run has come: it has not begun; all that was due has gone out; the run was steered, unless it had stopped
+-- how far a round of a client's run has come: it has not begun; or all that was due has gone out
 pub data Phase : Type 0 where
   Fresh : Phase
   Out : Phase
-  Steered : Phase
 
--- rounds of a client, one after another over the same ports, each begun while its run was not over: a turn that asks for no byte; what
--- steers the run is asked, and its answer followed, until it is to stop; and a turn that asks for at least one byte. With the count of
--- those turns, all that was answered, all the bytes that came in and all that went out, in order
+-- rounds of a client, one after another over the same ports, each turn begun while its run was not over: a turn that asks for no byte, and
+-- one that asks for at least one. With the count of the latter, all the bytes that came in and all that went out, in order
 pub data ClientRun (old : ClientEnd) (left taken : Option (List ℕ))
-    : Phase → ℕ → List Course → List ℕ → List ℕ → ClientEnd → Option (List ℕ) → Option (List ℕ) → Type 0 where
-  starts : ClientRun old left taken Fresh 0 [] [] [] old left taken
-  gives : (turns : ℕ) (said : List Course) (read written : List ℕ) (mid new : ClientEnd) (left_mid left_now taken_mid taken_now : Option (List ℕ))
-      (moved : Moved) → ClientRun old left taken Fresh turns said read written mid left_mid taken_mid → is_over mid.client.state ≡ false
+    : Phase → ℕ → List ℕ → List ℕ → ClientEnd → Option (List ℕ) → Option (List ℕ) → Type 0 where
+  starts : ClientRun old left taken Fresh 0 [] [] old left taken
+  gives : (turns : ℕ) (read written : List ℕ) (mid new : ClientEnd) (left_mid left_now taken_mid taken_now : Option (List ℕ))
+      (moved : Moved) → ClientRun old left taken Fresh turns read written mid left_mid taken_mid → is_over mid.client.state ≡ false
       → (turn : ClientMoved 0 mid new left_mid left_now taken_mid taken_now moved)
-      → ClientRun old left taken Out turns said (read ++ turn.read) (written ++ turn.written) new left_now taken_now
-  asks : (turns : ℕ) (said : List Course) (read written : List ℕ) (mid : ClientEnd) (left_mid taken_mid : Option (List ℕ)) (answer : Course)
-      → ClientRun old left taken Out turns said read written mid left_mid taken_mid → is_over mid.client.state ≡ false
-      → has_stopped said ≡ false
-      → ClientRun old left taken Steered turns (said ++ answer ∷ []) read written (steered answer mid) left_mid taken_mid
-  stays : (turns : ℕ) (said : List Course) (read written : List ℕ) (mid : ClientEnd) (left_mid taken_mid : Option (List ℕ))
-      → ClientRun old left taken Out turns said read written mid left_mid taken_mid → is_over mid.client.state ≡ false
-      → has_stopped said ≡ true → ClientRun old left taken Steered turns said read written mid left_mid taken_mid
-  goes : (turns : ℕ) (said : List Course) (read written : List ℕ) (mid new : ClientEnd) (left_mid left_now taken_mid taken_now : Option (List ℕ))
-      (moved : Moved) → ClientRun old left taken Steered turns said read written mid left_mid taken_mid
+      → ClientRun old left taken Out turns (read ++ turn.read) (written ++ turn.written) new left_now taken_now
+  goes : (turns : ℕ) (read written : List ℕ) (mid new : ClientEnd) (left_mid left_now taken_mid taken_now : Option (List ℕ))
+      (moved : Moved) → ClientRun old left taken Out turns read written mid left_mid taken_mid → is_over mid.client.state ≡ false
       → (turn : ClientMoved 1 mid new left_mid left_now taken_mid taken_now moved)
-      → ClientRun old left taken Fresh (turns + 1) said (read ++ turn.read) (written ++ turn.written) new left_now taken_now
+      → ClientRun old left taken Fresh (turns + 1) (read ++ turn.read) (written ++ turn.written) new left_now taken_now
 
--- at most the allowed number of rounds of a client: the source has lost exactly the bytes that came in, the sink has taken those that went
--- out, and what steered the run has given these answers
-pub record ClientRan (old new : ClientEnd) (left left_now taken taken_now : Option (List ℕ)) (can can_now : List Course → Bool) : Type 0
-  where
-    pub phase : Phase
-    pub turns : ℕ
-    pub said : List Course
-    pub read : List ℕ
-    pub written : List ℕ
-    pub run : ClientRun old left taken phase turns said read written new left_now taken_now
-    pub few : turns ≤ turns_most
-    pub consumed : Consumes left left_now read
-    pub appended : Appends taken taken_now written
-    pub says : Says can can_now said
+-- at most the allowed number of rounds of a client: the source has lost exactly the bytes that came in, and the sink has taken those that
+-- went out
+pub record ClientRan (old new : ClientEnd) (left left_now taken taken_now : Option (List ℕ)) : Type 0 where
+  pub phase : Phase
+  pub turns : ℕ
+  pub read : List ℕ
+  pub written : List ℕ
+  pub run : ClientRun old left taken phase turns read written new left_now taken_now
+  pub few : turns ≤ turns_most
+  pub consumed : Consumes left left_now read
+  pub appended : Appends taken taken_now written
 
--- how rounds of a client end in a fault: one more turn stops, an abort is refused, or the allowed number were made and the client leaves;
--- with all that was answered, all bytes that came in and went out, those that were discarded, and the client's end before it left
+-- how rounds of a client end in a fault: one more turn stops, or the allowed number were made and the client leaves; with all bytes that
+-- came in and went out, those that were discarded, and the client's end before it left
 pub data ClientEnds (old new : ClientEnd) (left left_now taken taken_now : Option (List ℕ))
-    : PumpFault ClientFault → List Course → List ℕ → List ℕ → List ℕ → ClientEnd → Type 0 where
-  stops_giving : (turns : ℕ) (said : List Course) (read written : List ℕ) (mid : ClientEnd) (left_mid taken_mid : Option (List ℕ))
-      (fault : PumpFault ClientFault) → ClientRun old left taken Fresh turns said read written mid left_mid taken_mid
+    : PumpFault ClientFault → List ℕ → List ℕ → List ℕ → ClientEnd → Type 0 where
+  stops_giving : (turns : ℕ) (read written : List ℕ) (mid : ClientEnd) (left_mid taken_mid : Option (List ℕ))
+      (fault : PumpFault ClientFault) → ClientRun old left taken Fresh turns read written mid left_mid taken_mid
       → is_over mid.client.state ≡ false → turns < turns_most
       → (turn : ClientStopped 0 steps_most mid new left_mid left_now taken_mid taken_now fault)
-      → ClientEnds old new left left_now taken taken_now fault said (read ++ turn.read) (written ++ turn.written) turn.lost turn.last
-  refuses : (turns : ℕ) (said : List Course) (read written : List ℕ) (mid : ClientEnd) (fault : PumpFault ClientFault)
-      → ClientRun old left taken Out turns said read written mid left_now taken_now → is_over mid.client.state ≡ false
-      → has_stopped said ≡ false → turns < turns_most → (abort : AbortRefused mid new fault)
-      → ClientEnds old new left left_now taken taken_now fault (said ++ course.Stop ∷ []) read written [] abort.last
-  stops : (turns : ℕ) (said : List Course) (read written : List ℕ) (mid : ClientEnd) (left_mid taken_mid : Option (List ℕ))
-      (fault : PumpFault ClientFault) → ClientRun old left taken Steered turns said read written mid left_mid taken_mid → turns < turns_most
+      → ClientEnds old new left left_now taken taken_now fault (read ++ turn.read) (written ++ turn.written) turn.lost turn.last
+  stops : (turns : ℕ) (read written : List ℕ) (mid : ClientEnd) (left_mid taken_mid : Option (List ℕ))
+      (fault : PumpFault ClientFault) → ClientRun old left taken Out turns read written mid left_mid taken_mid
+      → is_over mid.client.state ≡ false → turns < turns_most
       → (turn : ClientStopped 1 steps_most mid new left_mid left_now taken_mid taken_now fault)
-      → ClientEnds old new left left_now taken taken_now fault said (read ++ turn.read) (written ++ turn.written) turn.lost turn.last
-  spends : (said : List Course) (read written : List ℕ) (last : ClientEnd)
-      → ClientRun old left taken Fresh turns_most said read written last left_now taken_now
+      → ClientEnds old new left left_now taken taken_now fault (read ++ turn.read) (written ++ turn.written) turn.lost turn.last
+  spends : (read written : List ℕ) (last : ClientEnd) → ClientRun old left taken Fresh turns_most read written last left_now taken_now
       → is_over last.client.state ≡ false → new ≡ end_left last
-      → ClientEnds old new left left_now taken taken_now fault.TurnsSpent said read written [] last
+      → ClientEnds old new left left_now taken taken_now fault.TurnsSpent read written [] last
 
 -- why a client's run has stopped, from the counts of all bytes that came in, that went out and that it held unread at first, from what the
 -- source has left, and from the client's end before it left
@@ -117,21 +98,19 @@ ClientRunWhy read written held left_now last (fault.Core why) = HasRefused last 
 ClientRunWhy read written held left_now last fault.Memory = ⊤
 
 -- a client's run that has stopped in a fault: the client has left its connection, and all bytes are reported as those of one turn
-pub record ClientRunStopped (old new : ClientEnd) (left left_now taken taken_now : Option (List ℕ)) (can can_now : List Course → Bool)
-    (fault : PumpFault ClientFault) : Type 0
+pub record ClientRunStopped (old new : ClientEnd) (left left_now taken taken_now : Option (List ℕ)) (fault : PumpFault ClientFault)
+    : Type 0
   where
-    pub said : List Course
     pub read : List ℕ
     pub written : List ℕ
     pub lost : List ℕ
     pub last : ClientEnd
-    pub ends : ClientEnds old new left left_now taken taken_now fault said read written lost last
+    pub ends : ClientEnds old new left left_now taken taken_now fault read written lost last
     pub leaves : new ≡ end_left last
     pub consumed : Consumes left left_now (read ++ lost)
     pub is_lost : IsLost fault lost
     pub appended : Appends taken taken_now written
     pub why : ClientRunWhy (length read) (length written) (length old.input.rest) left_now last fault
-    pub says : Says can can_now said
 
 -- ---- the server's side
 

@@ -2,7 +2,6 @@
 //!
 //! - `pumps`: what the turns of both sides share; `client_pump`, `server_pump`: a turn of each
 //! - `links`: a whole connection of one side; `link_runs`: of both; `watching`: who receives reports of what it completes, with examples
-//! - `steering`: who says whether a run of a client continues
 //! - `machines`: who ends the jobs that a server asks for
 //! - `joined`: laws that make turns over ports events of a world
 
@@ -13,6 +12,5 @@ pub(crate) mod links;
 pub(crate) mod machines;
 pub(crate) mod pumps;
 pub(crate) mod server_pump;
-pub(crate) mod steering;
 pub(crate) mod watching;
 pub mod watching_rows;

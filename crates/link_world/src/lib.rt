@@ -16,12 +16,11 @@ pub use connections::joined::{
     turns_of_a_server_are_events, two_pumps_are_a_world,
 };
 pub use connections::link_runs::{LoopPorts, loop_link};
-pub use connections::links::{LoopFault, run_link, serve_link, watch_link, watch_server_link};
+pub use connections::links::{LoopFault, run_link, serve_link};
 pub use connections::machines::{Machine, Simulated};
 pub use connections::pumps::{Moved, PIECE, PumpFault};
 pub use connections::server_pump::serve_turns;
-pub use connections::steering::{Course, Onward, Steering};
-pub use connections::watching::{ServerWatcher, Watcher};
+pub use connections::watching::Watcher;
 pub use protocol_model::{Event, Outcome};
 pub use texts::report_rows::contacts_are_numbered_as_they_were_made;
 pub use texts::report_text::{write_contact_rows, write_report};

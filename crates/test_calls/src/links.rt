@@ -18,8 +18,7 @@ use byte_ports::{Pieces, Ports, Takes};
 use client_core::Client;
 use contact_ledger::Feature;
 use link_world::{
-    LoopPorts, Onward, Simulated, Watcher, client_turns, loop_link, run_link, serve_link,
-    serve_turns, watch_link,
+    LoopPorts, Simulated, Watcher, client_turns, loop_link, run_link, serve_link, serve_turns,
 };
 use server_core::Server;
 use std::alloc::{AllocError, Global};
@@ -131,41 +130,15 @@ fn push_held(out: &mut Vec<u8>, client: &Client, held: usize) -> Result<(), Allo
     }
 }
 
-/// A watcher that keeps the number and the label of each feature.
-#[derive(Drop)]
-struct Told {
-    text: Vec<u8>,
-    is_short: bool,
-}
+/// A watcher that keeps nothing.
+struct Unwatched;
 
-impl Told {
-    fn push(&mut self, number: usize, feature: &Feature) -> Result<(), AllocError> {
-        let text = format!(in *self.text.allocator(); "{number} ")?;
-        push_text(&mut self.text, text.as_str())?;
-        self.text.extend_from_slice(feature.label.as_bytes())?;
-        push_text(&mut self.text, ";")
-    }
-
-    /// What was reported to it, if memory sufficed.
-    fn push_to(&self, out: &mut Vec<u8>) -> Result<(), AllocError> {
-        if self.is_short {
-            return Err(AllocError);
-        }
-        push_text(out, " ")?;
-        out.extend_from_slice(self.text.as_slice())
-    }
-}
-
-impl Watcher for Told {
+impl Watcher for Unwatched {
     ghost use Rattle.std.specs.Prelude.{None};
 
     ghost told = { λ _. None };
 
-    fn completed(&mut self, number: usize, feature: &Feature) {
-        if self.push(number, feature).is_err() {
-            self.is_short = true;
-        }
-    }
+    fn completed(&mut self, _number: usize, _feature: &Feature) {}
 
     fn turned(&mut self, _client: &Client) {}
 }
@@ -188,7 +161,7 @@ trait Side {
     fn held(&self) -> usize;
 
     /// It comes to the connection of this number, and shows what the call answers and leaves.
-    fn call(&mut self, out: &mut Vec<u8>, call: &Call<'_>, number: u64, told: &mut Told) -> Pushed;
+    fn call(&mut self, out: &mut Vec<u8>, call: &Call<'_>, number: u64) -> Pushed;
 }
 
 impl Side for Client {
@@ -200,21 +173,15 @@ impl Side for Client {
         self.features().len()
     }
 
-    fn call(&mut self, out: &mut Vec<u8>, call: &Call<'_>, number: u64, told: &mut Told) -> Pushed {
+    fn call(&mut self, out: &mut Vec<u8>, call: &Call<'_>, number: u64) -> Pushed {
         self.connected(number)?;
         let asked = call.asked;
         let mut ports = asked.ports(*out.allocator(), call.script.replies)?;
-        match asked.word {
-            "turns" => {
-                let answer = client_turns(self, &mut ports, asked.least, asked.bound);
-                push_answer(out, &answer)?;
-            }
-            "runs" => push_answer(out, &run_link(self, &mut ports))?,
-            _ => {
-                let answer = watch_link(self, &mut ports, told, &mut Onward);
-                push_answer(out, &answer)?;
-                return Ok(told.push_to(out)?);
-            }
+        if asked.word == "turns" {
+            let answer = client_turns(self, &mut ports, asked.least, asked.bound);
+            push_answer(out, &answer)?;
+        } else {
+            push_answer(out, &run_link(self, &mut ports))?;
         }
         Ok(push_left(out, self, &ports.sink)?)
     }
@@ -229,13 +196,7 @@ impl Side for Server {
         0
     }
 
-    fn call(
-        &mut self,
-        out: &mut Vec<u8>,
-        call: &Call<'_>,
-        number: u64,
-        _told: &mut Told,
-    ) -> Pushed {
+    fn call(&mut self, out: &mut Vec<u8>, call: &Call<'_>, number: u64) -> Pushed {
         self.accept(number)?;
         let asked = call.asked;
         let mut ports = asked.ports(*out.allocator(), call.script.commands)?;
@@ -270,7 +231,7 @@ impl Side for Both<'_, '_> {
         self.client.features().len()
     }
 
-    fn call(&mut self, out: &mut Vec<u8>, call: &Call<'_>, number: u64, told: &mut Told) -> Pushed {
+    fn call(&mut self, out: &mut Vec<u8>, call: &Call<'_>, number: u64) -> Pushed {
         self.client.connected(number)?;
         self.server.accept(number)?;
         let alloc = *out.allocator();
@@ -279,22 +240,26 @@ impl Side for Both<'_, '_> {
             server: Asked::plain("loops").ports(alloc, call.script.commands)?,
         };
         let mut machine = Simulated::new(alloc, self.server.setup())?;
-        let answer = loop_link(self.client, self.server, &mut machine, &mut ports, told);
+        let answer = loop_link(
+            self.client,
+            self.server,
+            &mut machine,
+            &mut ports,
+            &mut Unwatched,
+        );
         push_answer(out, &answer)?;
         push_left(out, self.client, &ports.client.sink)?;
         Ok(push_served(out, self.server, &ports.server.sink)?)
     }
 }
 
-/// Calls of a side: the number of its last connection, how many features the client held before, what the last call has shown, and what was
-/// reported to a watcher in all.
+/// Calls of a side: the number of its last connection, how many features the client held before, and what the last call has shown.
 #[derive(Drop)]
 struct Calling<'a, S> {
     side: &'a mut S,
     last: u64,
     held: usize,
     shown: Vec<u8>,
-    told: Told,
 }
 
 /// What an answer of either side begins with.
@@ -317,8 +282,7 @@ impl<S: Side> Called<Call<'_>, Stop> for Calling<'_, S> {
         self.shown = Vec::new(*self.shown.allocator());
         let is_last = self.side.held() > self.held;
         let call = if is_last { call.last() } else { *call };
-        self.side
-            .call(&mut self.shown, &call, self.last, &mut self.told)?;
+        self.side.call(&mut self.shown, &call, self.last)?;
         match call.asked.again {
             0 => Ok(true),
             _ if begins(self.shown.as_slice(), b"Memory") => Err(Stop::Refused),
@@ -348,10 +312,6 @@ impl Call<'_> {
             last,
             held,
             shown: Vec::new(alloc),
-            told: Told {
-                text: Vec::new(alloc),
-                is_short: false,
-            },
         };
         let mut tries = Tries::new(alloc);
         if self.asked.again == 0 {
@@ -395,11 +355,11 @@ impl BothTask for Call<'_> {
     }
 }
 
-/// What a row of ports shows: a turn or a run of a client or a server, what is reported to a watcher, or a loop.
+/// What a row of ports shows: a turn or a run of a client or a server, or a loop.
 fn given_to<'a>(word: &str, given: &'a str, script: Script<'a>) -> Script<'a> {
     match (word, given) {
-        ("loops" | "turns" | "runs" | "watches", "all") => script,
-        ("loops" | "turns" | "runs" | "watches", _) => Script {
+        ("loops" | "turns" | "runs", "all") => script,
+        ("loops" | "turns" | "runs", _) => Script {
             replies: given,
             commands: script.commands,
             last_replies: script.last_replies,
@@ -431,7 +391,7 @@ pub(crate) fn push_row<'a>(
     };
     match word {
         "loops" => push_both(out, made, &mut call),
-        "turns" | "runs" | "watches" => push_client(out, made, &mut call),
+        "turns" | "runs" => push_client(out, made, &mut call),
         _ => push_server(out, made, &mut call),
     }
 }

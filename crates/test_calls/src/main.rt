@@ -8,7 +8,7 @@
 //! server of the setup and `world NAME W` a world, each through all rows of its part. In the others each row is independent: `setups`,
 //! `schedules`, `features` and `contacts` for texts, `values NAME` for calls of what both ends are made of, `quiets NAME W` for undisturbed
 //! runs, `client_cuts NAME W`, `server_cuts` and `both_cuts NAME W` for arbitrary bytes, and `turns NAME W`, `runs NAME W`,
-//! `watches NAME W`, `loops NAME W`, `serves` and `connections` for turns and runs over ports, into which the texts `replies NAME` and
+//! `loops NAME W`, `serves` and `connections` for turns and runs over ports, into which the texts `replies NAME` and
 //! `commands NAME` come. A line that begins with `-- ` says what the rows below it show. `files NAME W` has a schedule, which is replaced
 //! by the features and contacts files that it leaves. `stops NAME W` has a schedule: the world after each prefix of it is written as
 //! `front`, followed by each world that is stopped there in a way of `ways NAME` and brought to its end by `ending NAME`, with the number

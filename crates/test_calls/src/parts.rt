@@ -83,7 +83,7 @@ impl Answers for Alone<'_> {
             "client_cuts" | "server_cuts" | "both_cuts" => {
                 hostile::push_row(&mut out, made, words)?
             }
-            "serves" | "connections" | "loops" | "turns" | "runs" | "watches" => {
+            "serves" | "connections" | "loops" | "turns" | "runs" => {
                 links::push_row(&mut out, made, self.script, words)?
             }
             _ => return Err(Stop::Row),

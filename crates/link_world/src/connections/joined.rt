@@ -19,11 +19,9 @@ ghost use Rattle.protocol_model.specs.declared.states.State.{State};
 ghost use Rattle.link_world.specs.Machines.{simulated};
 ghost use Rattle.link_world.specs.Pumps.{Stage, Writing, Reading, ClientTurn};
 ghost use Rattle.link_world.specs.ServerPumps.{ServerTurn};
-ghost use Rattle.link_world.specs.Joined.{IsClientTurn, IsServerTurn, TurnLeads, client_joined, steering, AreFit, server_joined};
+ghost use Rattle.link_world.specs.Joined.{IsClientTurn, IsServerTurn, TurnLeads, client_joined, steered, steering, AreFit, server_joined};
 ghost use Rattle.link_world.specs.LinkRuns.{ClientRan, ClientRunStopped};
-ghost use Rattle.link_world.specs.Courses.{steered};
 ghost use Rattle.link_world.specs.declared.connections.pumps.PumpFault.{PumpFault as OneFault};
-ghost use Rattle.link_world.specs.declared.connections.steering.Course.{Course};
 ghost use Rattle.client_core.specs.declared.faults.ClientFault.{ClientFault as OneClientFault};
 ghost use Rattle.link_world.specs.Joined.{EndPair, pumped_of, PumpCalls, IsOneWorld, ClientCalls, AreOwnCalls};
 
@@ -42,26 +40,26 @@ ghost use Rattle.link_world.specs.Joined.{EndPair, pumped_of, PumpCalls, IsOneWo
 /// - `sound`, `told`: if a list of events has led to the world, what `every_run` claims holds of the client after its turn.
 #[tactic(auto, using(crate::proofs::ClientJoins::turn_joins, crate::proofs::ClientJoins::turn_whole, crate::proofs::ClientJoins::turn_written, crate::proofs::ClientJoins::turn_enough, crate::proofs::ClientJoins::turn_leaves, crate::proofs::ClientJoins::turn_sound, crate::proofs::ClientJoins::turn_told))]
 pub fn turns_of_a_client_are_events()
-    ensures joined { (course : Course) (least : ℕ) (w : World) (stage : Stage)
+    ensures joined { (stops : Bool) (least : ℕ) (w : World) (stage : Stage)
         (read written : List ℕ) (e : ClientEnd)
         → w.client.out ≡ [] → 1 ≤ w.client.client.last → w.client.client.last ≤ length w.links
         → take (length read) (client_link w).down ≡ read
-        → ClientTurn least (steered course w.client) stage read written e
-        → TurnLeads (IsClientTurn (length read)) true (run_of (steering course) w)
+        → ClientTurn least (steered stops w.client) stage read written e
+        → TurnLeads (IsClientTurn (length read)) true (run_of (steering stops) w)
         (client_joined w e (written ++ e.out) (length read)) }
-    ensures whole { (course : Course) (least : ℕ) (w : World)
+    ensures whole { (stops : Bool) (least : ℕ) (w : World)
         (read written : List ℕ) (e : ClientEnd)
         → w.client.out ≡ [] → 1 ≤ w.client.client.last → w.client.client.last ≤ length w.links
         → take (length read) (client_link w).down ≡ read
-        → ClientTurn least (steered course w.client) Reading read written e
+        → ClientTurn least (steered stops w.client) Reading read written e
         → next_of e.input.rest ≡ Ok None
-        → TurnLeads (IsClientTurn (length read)) false (run_of (steering course) w)
+        → TurnLeads (IsClientTurn (length read)) false (run_of (steering stops) w)
         (client_joined w e written (length read)) }
-    ensures written { (course : Course) (least : ℕ) (w : World)
+    ensures written { (stops : Bool) (least : ℕ) (w : World)
         (read written : List ℕ) (e : ClientEnd)
         → w.client.out ≡ [] → 1 ≤ w.client.client.last → w.client.client.last ≤ length w.links
         → take (length read) (client_link w).down ≡ read
-        → ClientTurn least (steered course w.client) Reading read written e → e.out ≡ [] }
+        → ClientTurn least (steered stops w.client) Reading read written e → e.out ≡ [] }
     ensures enough { (least : ℕ) (first : ClientEnd)
         (read written : List ℕ) (e : ClientEnd)
         → ClientTurn least first Reading read written e → least ≤ length read }
@@ -70,21 +68,21 @@ pub fn turns_of_a_client_are_events()
         → run_of events w ≡ client_joined w e text count → e.client.on ≡ true
         → run_of (events ++ event.ClientLeaves ∷ []) w
         ≡ record (client_joined w e text count) { client = end_left e } }
-    ensures sound { (course : Course) (least : ℕ) (w : World) (stage : Stage) (read written : List ℕ) (e : ClientEnd)
+    ensures sound { (stops : Bool) (least : ℕ) (w : World) (stage : Stage) (read written : List ℕ) (e : ClientEnd)
         (program : Meaning) (rack : List (List ℕ)) (window : ℕ) (events : List OneEvent)
         → IsProgram program → window ≤ 16
         → w ≡ run_of events (start program rack window)
         → w.client.out ≡ [] → 1 ≤ w.client.client.last → w.client.client.last ≤ length w.links
         → take (length read) (client_link w).down ≡ read
-        → ClientTurn least (steered course w.client) stage read written e
+        → ClientTurn least (steered stops w.client) stage read written e
         → Sound program.features e.client.table.tally.features w.server.server.ledger }
-    ensures told { (course : Course) (least : ℕ) (w : World) (stage : Stage) (read written : List ℕ) (e : ClientEnd)
+    ensures told { (stops : Bool) (least : ℕ) (w : World) (stage : Stage) (read written : List ℕ) (e : ClientEnd)
         (program : Meaning) (rack : List (List ℕ)) (window : ℕ) (events : List OneEvent)
         → IsProgram program → window ≤ 16
         → w ≡ run_of events (start program rack window)
         → w.client.out ≡ [] → 1 ≤ w.client.client.last → w.client.client.last ≤ length w.links
         → take (length read) (client_link w).down ≡ read
-        → ClientTurn least (steered course w.client) stage read written e
+        → ClientTurn least (steered stops w.client) stage read written e
         → Told e.client.table.tally.counted w.server.server.ledger e.client.last }
 {}
 
@@ -201,7 +199,7 @@ pub fn two_pumps_are_a_world()
 ///
 /// - `calls`: the client is as a list of its own calls leaves it, so that all that `client_core::whatever_the_peer_sends` specifies for
 ///   such lists holds of it;
-/// - `runs`, `broken`: a run of the client, whole or stopped, is such a list of calls, whatever steers it;
+/// - `runs`, `broken`: a run of the client, whole or stopped, is such a list of calls;
 /// - `features`: if it began with a program and features of it that were kept, those that it holds are the first of the program, by their
 ///   labels and their counts of points.
 #[tactic(auto, using(crate::proofs::PeerJoins::pumped_calls, crate::proofs::PeerJoins::pumped_features))]
@@ -209,11 +207,10 @@ pub fn a_pumped_client_holds_first_features()
     ensures calls { (first e : ClientEnd)
         → ClientCalls first e → AreOwnCalls first e }
     ensures runs { (first e : ClientEnd) (left left_now taken taken_now : Option (List ℕ))
-        (can can_now : List Course → Bool)
-        → ClientRan first e left left_now taken taken_now can can_now → ClientCalls first e }
+        → ClientRan first e left left_now taken taken_now → ClientCalls first e }
     ensures broken { (first e : ClientEnd) (left left_now taken taken_now : Option (List ℕ))
-        (can can_now : List Course → Bool) (fault : OneFault OneClientFault)
-        → ClientRunStopped first e left left_now taken taken_now can can_now fault
+        (fault : OneFault OneClientFault)
+        → ClientRunStopped first e left left_now taken taken_now fault
         → ClientCalls first e }
     ensures features { (program : Meaning) (kept : List OneFeature) (window : ℕ) (e : ClientEnd)
         → IsProgram program → are_ours program.features kept ≡ true

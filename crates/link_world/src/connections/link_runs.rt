@@ -9,8 +9,8 @@ ghost use Rattle.link_world.specs.LinkRuns.{calls_most, client_side, server_side
 use crate::connections::links::{LoopFault, STEPS_MAX, TURNS_MAX, watched_turn};
 use crate::connections::machines::Machine;
 use crate::connections::pumps::{Moved, PIECE, Piece, PumpFault};
-use crate::connections::server_pump::{Limits, watched_turns};
-use crate::connections::watching::{Silent, Watcher};
+use crate::connections::server_pump::{Limits, serve_turns_with};
+use crate::connections::watching::Watcher;
 use byte_ports::{Ports, Sink, Source};
 use client_core::Client;
 use server_core::Server;
@@ -82,14 +82,7 @@ fn pair<M: Machine, CR: Source, CW: Sink, SR: Source, SW: Sink, N: Watcher>(
         at_least: by_client.written,
         bound: STEPS_MAX,
     };
-    match watched_turns(
-        server,
-        machine,
-        &mut ports.server,
-        limits,
-        &mut Silent,
-        piece,
-    ) {
+    match serve_turns_with(server, machine, &mut ports.server, limits, piece) {
         Ok(by_server) => Ok((by_client, by_server)),
         Err(fault) => {
             client.leave();
@@ -156,7 +149,8 @@ fn pairs<M: Machine, CR: Source, CW: Sink, SR: Source, SW: Sink, N: Watcher>(
 /// asks for as many bytes as the server wrote in its last turn, at first for none, and then the server for as many as the client has just
 /// written. It ends with Ok after a pair in which no byte came in and none went out. Each feature that a turn has completed is reported to
 /// the watcher, once, in order, with its number and after that turn, even if the turn stops. The client is shown to it after each of its
-/// turns, and at the end as the run leaves it, as by `watch_link`. Whatever the watcher does, all else is the same.
+/// turns, and at the end as the run leaves it; between that it makes calls of its own only (`EndsShown`). Whatever the watcher does, all
+/// else is the same.
 ///
 /// If one side's turn stops, its fault is the answer, and the other side leaves its connection too. A turn may make 1,000,000 steps, and
 /// there may be 1,000,000 pairs; after them both sides leave, and the answer is that the client's turns are spent.

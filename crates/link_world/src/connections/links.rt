@@ -4,17 +4,13 @@ ghost use Rattle.std.specs.Prelude.{◌≡◌, ◌↔◌, ◌<◌, ◌≤◌, �
 ghost use Rattle.std.specs.Result.{IsErrOf};
 ghost use Rattle.link_world.specs.Pumps.{BlamesPorts, ClientMovedWithin, ClientStoppedWithin};
 ghost use Rattle.link_world.specs.Watching.{TellsRun};
-ghost use Rattle.link_world.specs.Showing.{Shown, EndsShown};
-ghost use Rattle.link_world.specs.ServerWatching.{EndsWith, ServerRunWatched};
-ghost use Rattle.link_world.specs.Courses.{goes_on};
 ghost use Rattle.link_world.specs.LinkRuns.{calls_most, client_calls_most, is_over, ClientRan, ClientRunStopped, ServerRunStopped};
 
 use crate::connections::client_pump::client_turns_with;
 use crate::connections::machines::Machine;
 use crate::connections::pumps::{Moved, PIECE, Piece, PumpFault};
-use crate::connections::server_pump::{Limits, watched_turns};
-use crate::connections::steering::{Onward, Steering, ask};
-use crate::connections::watching::{ServerWatcher, Silent, Watcher, tell};
+use crate::connections::server_pump::{Limits, serve_turns_with};
+use crate::connections::watching::{Watcher, tell};
 use byte_ports::{Ports, Sink, Source};
 use client_core::{Client, ClientFault, State};
 use server_core::{Server, ServerFault};
@@ -77,99 +73,23 @@ pub(crate) fn watched_turn<R: Source, W: Sink, N: Watcher>(
     result
 }
 
-/// The rounds of a run of a client, as `watch_link`, which does not show the client at the end.
-fn rounds<R: Source, W: Sink, N: Watcher, S: Steering>(
-    client: &mut Client,
-    ports: &mut Ports<R, W>,
-    watcher: &mut N,
-    steering: &mut S,
-) -> Result<(), PumpFault<ClientFault>>
-    ensures ran { OnOk result (ClientRan client.old client.new (R.left ports.old.source)
-        (R.left ports.new.source) (W.taken ports.old.sink) (W.taken ports.new.sink)
-        (S.can_have_said steering.old) (S.can_have_said steering.new)) }
-    ensures done { OnOk result (is_over client.new.client.state ≡ true) }
-    ensures stopped { IfErr result (λ fault. ClientRunStopped client.old client.new
-        (R.left ports.old.source) (R.left ports.new.source) (W.taken ports.old.sink) (W.taken ports.new.sink)
-        (S.can_have_said steering.old) (S.can_have_said steering.new) fault) }
-    ensures left { OnErr result (client.new.client.on ≡ false) }
-    ensures bounded { R.calls ports.new.source + W.calls ports.new.sink
-        ≤ R.calls ports.old.source + W.calls ports.old.sink + client_calls_most }
-    ensures blamed { BlamesPorts PumpFault.ReadFailed PumpFault.WriteFailed result
-        (R.has_failed ports.old.source) (R.has_failed ports.new.source)
-        (W.has_failed ports.old.sink) (W.has_failed ports.new.sink) }
-    ensures told { TellsRun client.old client.new (N.told watcher.old) (N.told watcher.new) }
-    ensures shown { Shown N.shows client.old watcher.old client.new watcher.new }
-{
-    let mut piece = [0; PIECE];
-    let mut turns = 0;
-    let mut has_stopped = false;
-    while !is_over(client.state()) {
-        if turns == TURNS_MAX {
-            client.leave();
-            return Err(PumpFault::TurnsSpent);
-        }
-        watched_turn(client, ports, 0, watcher, &mut piece)?;
-        if is_over(client.state()) {
-            return Ok(());
-        }
-        has_stopped = ask(client, steering, has_stopped)?;
-        watched_turn(client, ports, 1, watcher, &mut piece)?;
-        turns += 1;
-    }
-    Ok(())
-}
-
 /// A whole run of a client over the ports of its connection (this profile): rounds, until it is Done or Halted. It makes none if it is so at
-/// first. In a round all that is due goes out, in a turn that asks for no byte; then, if the run is not over, `steering` is asked whether
-/// it continues, until it has said that it stops; and a turn asks for at least one byte. If the run is to stop and the client can abort,
-/// which is so in Running and Failing, it aborts: AbortE goes out, and its end is awaited.
+/// first. In a round all that is due goes out, in a turn that asks for no byte; then, if the run is not over, a turn asks for at least one
+/// byte.
 ///
-/// Each feature that a turn has completed is reported to the watcher, once, in order, with its number and after that turn, even if the turn
-/// stops. The client is shown to the watcher after each turn, and at the end as the run leaves it, whatever the answer; between that it
-/// makes calls of its own only (`EndsShown`). Whatever the watcher does, the run is the same.
-///
-/// A fault of a turn is the answer, and the client has then left its connection; so is the refusal of an abort. A turn may make 1,000,000
-/// steps, and a run may have 1,000,000 rounds; if the client is neither Done nor Halted after them, it leaves, and the answer is
-/// `TurnsSpent`. That comes only if 1,000,000 is at most the count of the bytes that went out and of twice those that came in or were held
-/// unread at first.
-pub fn watch_link<R: Source, W: Sink, N: Watcher, S: Steering>(
-    client: &mut Client,
-    ports: &mut Ports<R, W>,
-    watcher: &mut N,
-    steering: &mut S,
-) -> Result<(), PumpFault<ClientFault>>
-    ensures ran { OnOk result (ClientRan client.old client.new (R.left ports.old.source)
-        (R.left ports.new.source) (W.taken ports.old.sink) (W.taken ports.new.sink)
-        (S.can_have_said steering.old) (S.can_have_said steering.new)) }
-    ensures done { OnOk result (is_over client.new.client.state ≡ true) }
-    ensures stopped { IfErr result (λ fault. ClientRunStopped client.old client.new
-        (R.left ports.old.source) (R.left ports.new.source) (W.taken ports.old.sink) (W.taken ports.new.sink)
-        (S.can_have_said steering.old) (S.can_have_said steering.new) fault) }
-    ensures left { OnErr result (client.new.client.on ≡ false) }
-    ensures bounded { R.calls ports.new.source + W.calls ports.new.sink
-        ≤ R.calls ports.old.source + W.calls ports.old.sink + client_calls_most }
-    ensures blamed { BlamesPorts PumpFault.ReadFailed PumpFault.WriteFailed result
-        (R.has_failed ports.old.source) (R.has_failed ports.new.source)
-        (W.has_failed ports.old.sink) (W.has_failed ports.new.sink) }
-    ensures told { TellsRun client.old client.new (N.told watcher.old) (N.told watcher.new) }
-    ensures shown { EndsShown N.shows client.old client.new watcher.old watcher.new }
-{
-    let result = rounds(client, ports, watcher, steering);
-    watcher.turned(client);
-    result
-}
-
-/// A whole run of a client over the ports of its connection, as `watch_link`, with no watcher. It always continues: it aborts nothing.
+/// A fault of a turn is the answer, and the client has then left its connection. A turn may make 1,000,000 steps, and a run may have
+/// 1,000,000 rounds; if the client is neither Done nor Halted after them, it leaves, and the answer is `TurnsSpent`. That comes only if
+/// 1,000,000 is at most the count of the bytes that went out and of twice those that came in or were held unread at first.
 pub fn run_link<R: Source, W: Sink>(
     client: &mut Client,
     ports: &mut Ports<R, W>,
 ) -> Result<(), PumpFault<ClientFault>>
     ensures ran { OnOk result (ClientRan client.old client.new (R.left ports.old.source)
-        (R.left ports.new.source) (W.taken ports.old.sink) (W.taken ports.new.sink) goes_on goes_on) }
+        (R.left ports.new.source) (W.taken ports.old.sink) (W.taken ports.new.sink)) }
     ensures done { OnOk result (is_over client.new.client.state ≡ true) }
     ensures stopped { IfErr result (λ fault. ClientRunStopped client.old client.new
         (R.left ports.old.source) (R.left ports.new.source) (W.taken ports.old.sink) (W.taken ports.new.sink)
-        goes_on goes_on fault) }
+        fault) }
     ensures left { OnErr result (client.new.client.on ≡ false) }
     ensures bounded { R.calls ports.new.source + W.calls ports.new.sink
         ≤ R.calls ports.old.source + W.calls ports.old.sink + client_calls_most }
@@ -177,7 +97,21 @@ pub fn run_link<R: Source, W: Sink>(
         (R.has_failed ports.old.source) (R.has_failed ports.new.source)
         (W.has_failed ports.old.sink) (W.has_failed ports.new.sink) }
 {
-    watch_link(client, ports, &mut Silent, &mut Onward)
+    let mut piece = [0; PIECE];
+    let mut turns = 0;
+    while !is_over(client.state()) {
+        if turns == TURNS_MAX {
+            client.leave();
+            return Err(PumpFault::TurnsSpent);
+        }
+        client_turns_with(client, ports, 0, STEPS_MAX, &mut piece)?;
+        if is_over(client.state()) {
+            return Ok(());
+        }
+        client_turns_with(client, ports, 1, STEPS_MAX, &mut piece)?;
+        turns += 1;
+    }
+    Ok(())
 }
 
 /// How a run of a server ends by the fault of a turn: the end of the input is not a fault of the run.
@@ -189,41 +123,6 @@ fn end_of(fault: PumpFault<ServerFault>) -> Result<(), PumpFault<ServerFault>>
         PumpFault::Ended => Ok(()),
         _ => Err(fault),
     }
-}
-
-/// A whole run of a server and its machine, as `serve_link`, that is reported to a watcher: one report a turn, also of the turn that stops,
-/// before the answers of that turn go out. Whatever the watcher does, the run is the same.
-pub fn watch_server_link<M: Machine, R: Source, W: Sink, N: ServerWatcher>(
-    server: &mut Server,
-    machine: &mut M,
-    ports: &mut Ports<R, W>,
-    watcher: &mut N,
-) -> Result<(), PumpFault<ServerFault>>
-    ensures ended { OnOk result (ServerRunWatched (M.answers machine.old) server.old.end
-        server.new.end (R.left ports.old.source) (R.left ports.new.source) (W.taken ports.old.sink)
-        (W.taken ports.new.sink) PumpFault.Ended (N.told watcher.old) (N.told watcher.new)) }
-    ensures stopped { IfErr result (λ fault. ServerRunWatched (M.answers machine.old)
-        server.old.end server.new.end (R.left ports.old.source) (R.left ports.new.source) (W.taken ports.old.sink)
-        (W.taken ports.new.sink) fault (N.told watcher.old) (N.told watcher.new)) }
-    ensures last { EndsWith (N.told watcher.new) server.new.end.server.ledger }
-    ensures normal { IsErrOf result PumpFault.Ended → ⊥ }
-    ensures left { server.new.end.server.on ≡ false }
-    ensures bounded { R.calls ports.new.source + W.calls ports.new.sink
-        ≤ R.calls ports.old.source + W.calls ports.old.sink + calls_most }
-    ensures setup { server.new.setup ≡ server.old.setup }
-    ensures keeps { M.answers machine.new ≡ M.answers machine.old }
-    ensures blamed { BlamesPorts PumpFault.ReadFailed PumpFault.WriteFailed result
-        (R.has_failed ports.old.source) (R.has_failed ports.new.source)
-        (W.has_failed ports.old.sink) (W.has_failed ports.new.sink) }
-{
-    let mut piece = [0; PIECE];
-    for _turn in 0..TURNS_MAX {
-        if let Err(fault) = watched_turns(server, machine, ports, LINK, watcher, &mut piece) {
-            return end_of(fault);
-        }
-    }
-    server.leave();
-    Err(PumpFault::TurnsSpent)
 }
 
 /// A whole run of a server and its machine over the ports of a connection (this profile): turns in which at least one byte comes in, until
@@ -253,5 +152,12 @@ pub fn serve_link<M: Machine, R: Source, W: Sink>(
         (R.has_failed ports.old.source) (R.has_failed ports.new.source)
         (W.has_failed ports.old.sink) (W.has_failed ports.new.sink) }
 {
-    watch_server_link(server, machine, ports, &mut Silent)
+    let mut piece = [0; PIECE];
+    for _turn in 0..TURNS_MAX {
+        if let Err(fault) = serve_turns_with(server, machine, ports, LINK, &mut piece) {
+            return end_of(fault);
+        }
+    }
+    server.leave();
+    Err(PumpFault::TurnsSpent)
 }

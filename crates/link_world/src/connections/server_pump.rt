@@ -1,18 +1,17 @@
 // A server and its machine over the ports of a connection.
 
-ghost use Rattle.std.specs.Prelude.{◌≡◌, ℕ, ◌<◌, ◌≤◌, ◌+◌, ◌*◌, Option, List, true, false, length, None, [], ◌∷◌, Ok, IfOk, OnOk, OnErr, IfErr, IfSome, option_map};
+ghost use Rattle.std.specs.Prelude.{◌≡◌, ℕ, ◌<◌, ◌≤◌, ◌+◌, ◌*◌, Option, List, true, false, length, None, [], Ok, IfOk, OnOk, IfErr, IfSome, option_map};
 ghost use Rattle.std.specs.Result.{IsErrOf};
 ghost use Rattle.contact_ledger.specs.Ledgers.{contact_count};
 ghost use Rattle.line_framing.specs.Next.{next_of};
 ghost use Rattle.protocol_model.specs.Server.{running_job, may_end};
 ghost use Rattle.protocol_model.specs.Ends.{serving_left};
 ghost use Rattle.protocol_model.specs.declared.lines.Line.{Line as OneLine};
-ghost use Rattle.server_core.specs.Serving.{may_feed, may_turn, with_end};
+ghost use Rattle.server_core.specs.Serving.{may_feed, may_turn};
 ghost use Rattle.server_core.specs.Steady.{IsRunnable};
 ghost use Rattle.protocol_model.specs.declared.machine.Job.{Job as OneJob};
 ghost use Rattle.protocol_model.specs.declared.machine.Outcome.{Outcome as OneOutcome};
 ghost use Rattle.link_world.specs.Pumps.{Blames, BlamesPorts, Reading, Working};
-ghost use Rattle.link_world.specs.Watching.{Hears};
 ghost use Rattle.link_world.specs.ServerPumps.{ServerMovedWithin, ServerStoppedWithin};
 ghost use Rattle.link_world.specs.ServerPumpParts.{ServerGoesOn, ServerCame, ServerCameShort, ServerReadStops, ReadIn, IsWorkFault, has_work, steps_of};
 
@@ -20,7 +19,6 @@ use crate::connections::machines::Machine;
 use crate::connections::pumps::{
     Budget, Moved, PIECE, Piece, PumpFault, pull_counted, push_counted,
 };
-use crate::connections::watching::{ServerWatcher, Silent};
 use byte_ports::{Ports, Sink, Source};
 use protocol_model::Outcome;
 use server_core::{Server, ServerFault};
@@ -174,13 +172,12 @@ pub(crate) struct Limits {
     pub(crate) bound: u64,
 }
 
-/// The server's turn, which does not leave. What it has done is reported before its answers go out.
-fn turn<M: Machine, R: Source, W: Sink, N: ServerWatcher>(
+/// The server's turn, which does not leave.
+fn turn<M: Machine, R: Source, W: Sink>(
     server: &mut Server,
     machine: &mut M,
     ports: &mut Ports<R, W>,
     limits: Limits,
-    watcher: &mut N,
     piece: &mut Piece,
 ) -> Result<Moved, PumpFault<ServerFault>>
     ensures moved { IfOk result (λ moved. ServerMovedWithin (M.answers machine.old) limits.bound
@@ -198,39 +195,28 @@ fn turn<M: Machine, R: Source, W: Sink, N: ServerWatcher>(
     ensures blamed { BlamesPorts PumpFault.ReadFailed PumpFault.WriteFailed result
         (R.has_failed ports.old.source) (R.has_failed ports.new.source)
         (W.has_failed ports.old.sink) (W.has_failed ports.new.sink) }
-    ensures told { Hears (N.told watcher.old) (N.told watcher.new)
-        (server.new.end.server.ledger ∷ []) }
 {
     let mut budget = Budget { left: limits.bound };
-    let read = match read_in(
+    let read = read_in(
         server,
         &mut ports.source,
         limits.at_least,
         &mut budget,
         piece,
-    ) {
-        Ok(read) => read,
-        Err(fault) => {
-            watcher.worked(server.ledger());
-            return Err(fault);
-        }
-    };
-    let worked = work(server, machine, &mut budget);
-    watcher.worked(server.ledger());
-    worked?;
+    )?;
+    work(server, machine, &mut budget)?;
     let written = server.out().len();
     push_counted(&mut ports.sink, server.out(), &mut budget)?;
     server.sent(written);
     Ok(Moved { read, written })
 }
 
-/// One turn of a server and its machine, as `serve_turns`, that is reported to a watcher, with room for the bytes of a pull.
-pub(crate) fn watched_turns<M: Machine, R: Source, W: Sink, N: ServerWatcher>(
+/// One turn of a server and its machine, as `serve_turns`, with room for the bytes of a pull.
+pub(crate) fn serve_turns_with<M: Machine, R: Source, W: Sink>(
     server: &mut Server,
     machine: &mut M,
     ports: &mut Ports<R, W>,
     limits: Limits,
-    watcher: &mut N,
     piece: &mut Piece,
 ) -> Result<Moved, PumpFault<ServerFault>>
     ensures moved { IfOk result (λ moved. ServerMovedWithin (M.answers machine.old) limits.bound
@@ -248,10 +234,8 @@ pub(crate) fn watched_turns<M: Machine, R: Source, W: Sink, N: ServerWatcher>(
     ensures blamed { BlamesPorts PumpFault.ReadFailed PumpFault.WriteFailed result
         (R.has_failed ports.old.source) (R.has_failed ports.new.source)
         (W.has_failed ports.old.sink) (W.has_failed ports.new.sink) }
-    ensures told { Hears (N.told watcher.old) (N.told watcher.new)
-        (server.new.end.server.ledger ∷ []) }
 {
-    let result = turn(server, machine, ports, limits, watcher, piece);
+    let result = turn(server, machine, ports, limits, piece);
     if result.is_err() {
         server.leave();
     }
@@ -289,12 +273,11 @@ pub fn serve_turns<M: Machine, R: Source, W: Sink>(
         (R.has_failed ports.old.source) (R.has_failed ports.new.source)
         (W.has_failed ports.old.sink) (W.has_failed ports.new.sink) }
 {
-    watched_turns(
+    serve_turns_with(
         server,
         machine,
         ports,
         Limits { at_least, bound },
-        &mut Silent,
         &mut [0; PIECE],
     )
 }

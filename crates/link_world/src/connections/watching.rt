@@ -1,12 +1,11 @@
-// Who receives reports of a run of a client or a server while it lasts, and what they are.
+// Who receives reports of a client while it runs, and what they are.
 
-ghost use Rattle.std.specs.Prelude.{◌≡◌, ⊤, ℕ, Option, List, None, [], ◌∷◌, ◌+◌, drop};
-ghost use Rattle.contact_ledger.specs.declared.acts.Act.{Act};
+ghost use Rattle.std.specs.Prelude.{◌≡◌, ⊤, Option, List, [], ◌∷◌, ◌+◌, drop};
 ghost use Rattle.protocol_model.specs.Ends.{ClientEnd};
 ghost use Rattle.link_world.specs.Watching.{Note, Completed, Hears, notes_from};
 
 use client_core::Client;
-use contact_ledger::{Feature, ServerLedger};
+use contact_ledger::Feature;
 
 /// Receives a report of each feature that a run has completed, and is shown the client after each turn.
 ///
@@ -28,36 +27,6 @@ pub trait Watcher {
     fn turned(&mut self, client: &Client)
         ensures told { told self.new ≡ told self.old }
         ensures shown { shows client.now self.old self.new };
-}
-
-/// Receives one report a turn of a server: all that the server has done by then.
-///
-/// `told` is what it has received so far, if it says so, as of a `Watcher`.
-pub trait ServerWatcher {
-    ghost told: { Self → Option (List (List (ℕ × Act))) };
-
-    /// The server has done in its turn what it could, or the turn has stopped, and nothing of what it answered has gone out yet. The turn
-    /// adds nothing to the ledger after this.
-    fn worked(&mut self, ledger: &ServerLedger)
-        ensures { Hears (told self.old) (told self.new) (ledger.now ∷ []) };
-}
-
-/// A watcher that reports to nobody.
-#[derive(Clone, Copy, Debug)]
-pub(crate) struct Silent;
-
-impl Watcher for Silent {
-    ghost told = { λ _. None };
-
-    fn completed(&mut self, _number: usize, _feature: &Feature) {}
-
-    fn turned(&mut self, _client: &Client) {}
-}
-
-impl ServerWatcher for Silent {
-    ghost told = { λ _. None };
-
-    fn worked(&mut self, _ledger: &ServerLedger) {}
 }
 
 /// Reports the features of a client after the first `held`, in order, and shows the client.

@@ -10,49 +10,49 @@ returns-in-Err-clause-stopped g c = client_stops c.in-Err.fault c.in-Err.ensures
     (g.SW.Sink.taken c.args.ports.now.server.sink))
     c.leave.ensures)
 
-pub returns-in-Err-watched_turns-clause-stopped : goal.returns-in-Err-watched_turns-clause-stopped
-returns-in-Err-watched_turns-clause-stopped g c = server_stops
+pub returns-in-Err-serve_turns_with-clause-stopped : goal.returns-in-Err-serve_turns_with-clause-stopped
+returns-in-Err-serve_turns_with-clause-stopped g c = server_stops
     (client_side c.watched_turn.new.client (g.CR.Source.left c.watched_turn.new.ports.source)
     (g.CW.Sink.taken c.watched_turn.new.ports.sink))
-    c.in-Ok.moved c.in-Err-watched_turns.fault c.in-Ok.ensures.moved.whole c.in-Err-watched_turns.ensures.stopped.front
+    c.in-Ok.moved c.in-Err-serve_turns_with.fault c.in-Ok.ensures.moved.whole c.in-Err-serve_turns_with.ensures.stopped.front
     (ap (λ (e : ClientEnd). client_side e (g.CR.Source.left c.watched_turn.new.ports.source)
     (g.CW.Sink.taken c.watched_turn.new.ports.sink))
-    c.leave-in-Err-watched_turns.ensures)
+    c.leave-in-Err-serve_turns_with.ensures)
 
 pub returns-in-Err-clause-client_bounded : goal.returns-in-Err-clause-client_bounded
 returns-in-Err-clause-client_bounded g c =
     let most = c.in-Err.ensures.stopped.within in omega (arith, most)
 
-pub returns-in-Ok-watched_turns-clause-client_bounded : goal.returns-in-Ok-watched_turns-clause-client_bounded
-returns-in-Ok-watched_turns-clause-client_bounded g c =
+pub returns-in-Ok-serve_turns_with-clause-client_bounded : goal.returns-in-Ok-serve_turns_with-clause-client_bounded
+returns-in-Ok-serve_turns_with-clause-client_bounded g c =
     let most = c.in-Ok.ensures.moved.within in omega (arith, most)
 
-pub returns-in-Ok-watched_turns-clause-server_bounded : goal.returns-in-Ok-watched_turns-clause-server_bounded
-returns-in-Ok-watched_turns-clause-server_bounded g c =
-    let most = c.in-Ok-watched_turns.ensures.moved.within in omega (arith, most)
+pub returns-in-Ok-serve_turns_with-clause-server_bounded : goal.returns-in-Ok-serve_turns_with-clause-server_bounded
+returns-in-Ok-serve_turns_with-clause-server_bounded g c =
+    let most = c.in-Ok-serve_turns_with.ensures.moved.within in omega (arith, most)
 
-pub returns-in-Err-watched_turns-clause-client_bounded : goal.returns-in-Err-watched_turns-clause-client_bounded
-returns-in-Err-watched_turns-clause-client_bounded g c =
+pub returns-in-Err-serve_turns_with-clause-client_bounded : goal.returns-in-Err-serve_turns_with-clause-client_bounded
+returns-in-Err-serve_turns_with-clause-client_bounded g c =
     let most = c.in-Ok.ensures.moved.within in omega (arith, most)
 
-pub returns-in-Err-watched_turns-clause-server_bounded : goal.returns-in-Err-watched_turns-clause-server_bounded
-returns-in-Err-watched_turns-clause-server_bounded g c =
-    let most = c.in-Err-watched_turns.ensures.stopped.within in omega (arith, most)
+pub returns-in-Err-serve_turns_with-clause-server_bounded : goal.returns-in-Err-serve_turns_with-clause-server_bounded
+returns-in-Err-serve_turns_with-clause-server_bounded g c =
+    let most = c.in-Err-serve_turns_with.ensures.stopped.within in omega (arith, most)
 
 pub returns-in-Err-clause-shown : goal.returns-in-Err-clause-shown
 returns-in-Err-clause-shown g c = turned_shown g.N.Watcher.shows c.args.client.now c.args.watcher.now 1000000 _ _ c.args.down c.args.client.now
     c.watched_turn.new.client _ _ _ _ c.watched_turn.result c.args.watcher.now c.watched_turn.new.watcher
     c.watched_turn.ensures.moved c.watched_turn.ensures.stopped show.begins c.watched_turn.ensures.shown
 
-pub returns-in-Ok-watched_turns-clause-shown : goal.returns-in-Ok-watched_turns-clause-shown
-returns-in-Ok-watched_turns-clause-shown g c = turned_shown g.N.Watcher.shows c.args.client.now c.args.watcher.now 1000000 _ _ c.args.down c.args.client.now
+pub returns-in-Ok-serve_turns_with-clause-shown : goal.returns-in-Ok-serve_turns_with-clause-shown
+returns-in-Ok-serve_turns_with-clause-shown g c = turned_shown g.N.Watcher.shows c.args.client.now c.args.watcher.now 1000000 _ _ c.args.down c.args.client.now
     c.watched_turn.new.client _ _ _ _ c.watched_turn.result c.args.watcher.now c.watched_turn.new.watcher
     c.watched_turn.ensures.moved c.watched_turn.ensures.stopped show.begins c.watched_turn.ensures.shown
 
-pub returns-in-Err-watched_turns-clause-shown : goal.returns-in-Err-watched_turns-clause-shown
-returns-in-Err-watched_turns-clause-shown g c = left_shown g.N.Watcher.shows c.args.client.now c.args.watcher.now
-    c.watched_turn.new.client c.leave-in-Err-watched_turns.new.self c.watched_turn.new.watcher
+pub returns-in-Err-serve_turns_with-clause-shown : goal.returns-in-Err-serve_turns_with-clause-shown
+returns-in-Err-serve_turns_with-clause-shown g c = left_shown g.N.Watcher.shows c.args.client.now c.args.watcher.now
+    c.watched_turn.new.client c.leave-in-Err-serve_turns_with.new.self c.watched_turn.new.watcher
     (turned_shown g.N.Watcher.shows c.args.client.now c.args.watcher.now 1000000 _ _ c.args.down c.args.client.now
     c.watched_turn.new.client _ _ _ _ c.watched_turn.result c.args.watcher.now c.watched_turn.new.watcher
     c.watched_turn.ensures.moved c.watched_turn.ensures.stopped show.begins c.watched_turn.ensures.shown)
-    c.leave-in-Err-watched_turns.ensures
+    c.leave-in-Err-serve_turns_with.ensures

@@ -1,12 +1,11 @@
 use Rattle.std.proofs.Common.{◌≡◌, ◌≤◌, ◌+◌, ◌*◌, false}
 use Rattle.link_world.proofs.ServerRuns.{ServerSoFar}
-use Rattle.link_world.proofs.connections.links.watch_server_link.Given as goal
+use Rattle.link_world.proofs.connections.links.serve_link.Given as goal
 
 abbrev pub invariant-loop-turn : goal.invariant-loop-turn
 invariant-loop-turn g l =
     ServerSoFar (g.M.Machine.answers l.initial.machine) l._turn l.initial.server.end l.server.end (g.R.Source.left l.initial.ports.source)
     (g.R.Source.left l.ports.source) (g.W.Sink.taken l.initial.ports.sink) (g.W.Sink.taken l.ports.sink)
-    (g.N.ServerWatcher.told l.initial.watcher) (g.N.ServerWatcher.told l.watcher)
     × (l.server.setup ≡ l.initial.server.setup)
     × (g.M.Machine.answers l.machine ≡ g.M.Machine.answers l.initial.machine)
     × (g.R.Source.calls l.ports.source + g.W.Sink.calls l.ports.sink
