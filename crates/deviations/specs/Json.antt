@@ -12,7 +12,10 @@ use Rattle.fixed_um.specs.declared.frames.Frame.{Frame}
 use Rattle.fixed_um.specs.declared.frames.Frame.TheVariants.{Machine, Part}
 use Rattle.fixed_um.specs.declared.lengths.Point.{Point}
 use Rattle.deviations.specs.declared.along.Deviation.{Deviation}
+use Rattle.deviations.specs.Judged.{row_verdict, verdict_word}
 use Rattle.deviations.specs.Rows.{Row}
+use Rattle.part_limits.specs.declared.entries.Limit.{Limit}
+use Rattle.part_limits.specs.declared.ranges.Verdict.{Verdict}
 
 -- tokens joined those of a writer
 abbrev pub Puts : {A E : Type 0} → Result A E → Written → Written → List Token → Type 0
@@ -90,6 +93,15 @@ unfoldable pub connection_member : Option ℕ → List Token
 connection_member (Some n) = key (codes "connection") ∷ number (decimal n) ∷ []
 connection_member None = key (codes "connection") ∷ null ∷ []
 
+abbrev pub verdict_member : Option Verdict → List Token
+verdict_member (Some verdict) = key (codes "limit") ∷ string (verdict_word verdict) ∷ []
+verdict_member None = key (codes "limit") ∷ null ∷ []
+
+-- with limits, whether the point is within its limit
+unfoldable pub limit_member : Option (List Limit) → Row → List Token
+limit_member (Some limits) r = verdict_member (row_verdict limits r)
+limit_member None r = []
+
 -- what was requested, what was found, and with which tool and where
 unfoldable pub asked_members : Row → List Token
 asked_members r = feature_member r.place.feature ++ (count_member r.place.number ++ (nominal_members r.place.touch.target
@@ -103,22 +115,23 @@ means_members r = tool_member r.place.touch.tool ++ (kind_member r.place.touch.f
     ++ connection_member r.place.connection))
 
 -- the object of a row
-unfoldable pub row_tokens : Row → List Token
-row_tokens r = begin_object ∷ (asked_members r ++ (found_members r ++ (means_members r ++ end_object ∷ [])))
+unfoldable pub row_tokens : Option (List Limit) → Row → List Token
+row_tokens limits r = begin_object ∷ (asked_members r ++ (found_members r ++ (means_members r ++ (limit_member limits r
+    ++ end_object ∷ []))))
 
 -- the objects of rows
-abbrev pub rows_tokens : List Row → List Token
-rows_tokens [] = []
-rows_tokens (r ∷ rows) = row_tokens r ++ rows_tokens rows
+abbrev pub rows_tokens : Option (List Limit) → List Row → List Token
+rows_tokens limits [] = []
+rows_tokens limits (r ∷ rows) = row_tokens limits r ++ rows_tokens limits rows
 
 -- the array of a table
-abbrev pub json_tokens : List Row → List Token
-json_tokens rows = begin_array ∷ (rows_tokens rows ++ end_array ∷ [])
+abbrev pub json_tokens : Option (List Limit) → List Row → List Token
+json_tokens limits rows = begin_array ∷ (rows_tokens limits rows ++ end_array ∷ [])
 
 -- its text
-abbrev pub array_text : List Row → List ℕ
-array_text rows = print (json_tokens rows)
+abbrev pub array_text : Option (List Limit) → List Row → List ℕ
+array_text limits rows = print (json_tokens limits rows)
 
 -- the text of a table
-abbrev pub json_of : List Row → List ℕ
-json_of rows = array_text rows ++ codes "\n"
+abbrev pub json_of : Option (List Limit) → List Row → List ℕ
+json_of limits rows = array_text limits rows ++ codes "\n"

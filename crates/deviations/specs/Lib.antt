@@ -1,4 +1,6 @@
 pub mod Along
 pub mod Rows
+pub mod Judged
+pub mod Compared
 pub mod Records
 pub mod Json

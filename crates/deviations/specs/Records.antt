@@ -12,7 +12,10 @@ use Rattle.fixed_um.specs.declared.frames.Frame.TheVariants.{Machine, Part}
 use Rattle.fixed_um.specs.declared.lengths.Point.{Point}
 use Rattle.contact_ledger.specs.Fields.{point_fields}
 use Rattle.deviations.specs.declared.along.Deviation.{Deviation}
+use Rattle.deviations.specs.Judged.{row_verdict, verdict_word}
 use Rattle.deviations.specs.Rows.{Row}
+use Rattle.part_limits.specs.declared.entries.Limit.{Limit}
+use Rattle.part_limits.specs.declared.ranges.Verdict.{Verdict}
 
 -- fields joined those of a record
 abbrev pub Joins : {A E : Type 0} → Result A E → ByteRecord → ByteRecord → List (List ℕ) → Type 0
@@ -61,11 +64,25 @@ record_of r = (r.place.feature ∷ decimal r.place.number ∷ []) ++ (point_fiel
     ++ (measured_fields r.place.measured ++ (deviation_fields r.deviation ++ (along_fields r.along ++ ((r.place.touch.tool ∷ [])
     ++ (frame_columns r.place.touch.frame ++ connection_fields r.place.connection)))))))
 
+-- whether a point is within its limit, or an empty field
+abbrev pub verdict_field : Option Verdict → List ℕ
+verdict_field (Some verdict) = verdict_word verdict
+verdict_field None = []
+
+-- with limits there is one more column
+abbrev pub limit_header : Option (List Limit) → List (List ℕ)
+limit_header (Some limits) = codes "limit" ∷ []
+limit_header None = []
+
+abbrev pub limit_fields : Option (List Limit) → Row → List (List ℕ)
+limit_fields (Some limits) r = verdict_field (row_verdict limits r) ∷ []
+limit_fields None r = []
+
 -- the text of a list of rows
-abbrev pub records_text : List Row → List ℕ
-records_text [] = []
-records_text (r ∷ rows) = row_text default_writer (record_of r) ++ records_text rows
+abbrev pub records_text : Option (List Limit) → List Row → List ℕ
+records_text limits [] = []
+records_text limits (r ∷ rows) = row_text default_writer (record_of r ++ limit_fields limits r) ++ records_text limits rows
 
 -- the text of a table
-abbrev pub csv_text : List Row → List ℕ
-csv_text rows = row_text default_writer header ++ records_text rows
+abbrev pub csv_text : Option (List Limit) → List Row → List ℕ
+csv_text limits rows = row_text default_writer (header ++ limit_header limits) ++ records_text limits rows

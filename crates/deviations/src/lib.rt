@@ -2,22 +2,27 @@
 //!
 //! - `along`: a deviation, and its part along the normal of the surface
 //! - `rows`: the measured points of features, with the touches that asked for them and how far they lie from their targets
+//! - `judged`: whether points are within limits; `compared`: the worst of each feature, and how many are out
 //! - `records`: the table as comma-separated values; `objects`: as JSON; `printed`: how values are printed
 //! - `forms`: the forms in which results are printed; the crate `drawings` makes the drawing
 //! - `faults`: why there is no table
 #![tactic(auto)]
 
 pub mod along;
+mod compared;
 mod faults;
 pub mod forms;
+mod judged;
 mod objects;
 mod printed;
 mod records;
 pub mod rows;
 
 pub use along::{Deviation, along_normal, one_length_is_along};
+pub use compared::compared;
 pub use faults::RowsFault;
 pub use forms::Form;
+pub use judged::{row_verdict, verdict_word};
 pub use objects::write_json;
 pub use records::write_csv;
 pub use rows::{Row, rows_of};

@@ -25,6 +25,8 @@ ghost use Rattle.deviations.specs.Json.{
   kind_member,
   place_members,
   connection_member,
+  verdict_member,
+  limit_member,
   asked_members,
   found_members,
   means_members,
@@ -35,10 +37,12 @@ ghost use Rattle.deviations.specs.Json.{
 };
 
 use crate::along::Deviation;
+use crate::judged::{row_verdict, verdict_word};
 use crate::printed::{Micrometres, Millionths};
 use crate::rows::Row;
 use fixed_um::{Dir, Frame, Name, Point};
 use json::Writer;
+use part_limits::{Limits, Verdict};
 use std::alloc::{AllocError, Global};
 
 #[tactic(auto, using(crate::proofs::Numbers::written_is_number))]
@@ -298,6 +302,26 @@ fn put_connection(json: &mut Writer, connection: Option<u64>) -> Result<(), Allo
     Ok(())
 }
 
+fn put_verdict(json: &mut Writer, verdict: Option<Verdict>) -> Result<(), AllocError>
+    ensures { Puts result json.old json.new (verdict_member verdict) }
+{
+    match verdict {
+        Some(verdict) => put_text(json, "limit", verdict_word(verdict)),
+        None => put_null(json, "limit"),
+    }
+}
+
+/// Whether the point is within its limit, if there are limits.
+#[tactic(auto, unfolding(crate::specs::Json::limit_member))]
+fn put_limit(json: &mut Writer, limits: &Option<Limits>, row: &Row<'_>) -> Result<(), AllocError>
+    ensures { Puts result json.old json.new (limit_member limits.now row.now) }
+{
+    match limits {
+        Some(limits) => put_verdict(json, row_verdict(limits, row)),
+        None => Ok(()),
+    }
+}
+
 /// What was requested.
 #[tactic(auto, unfolding(crate::specs::Json::asked_members))]
 fn put_asked(alloc: Global, json: &mut Writer, row: &Row<'_>) -> Result<(), AllocError>
@@ -333,13 +357,19 @@ fn put_means(alloc: Global, json: &mut Writer, row: &Row<'_>) -> Result<(), Allo
 }
 
 #[tactic(auto, unfolding(crate::specs::Json::row_tokens))]
-fn put_row(alloc: Global, json: &mut Writer, row: &Row<'_>) -> Result<(), AllocError>
-    ensures { Puts result json.old json.new (row_tokens row.now) }
+fn put_row(
+    alloc: Global,
+    json: &mut Writer,
+    limits: &Option<Limits>,
+    row: &Row<'_>,
+) -> Result<(), AllocError>
+    ensures { Puts result json.old json.new (row_tokens limits.now row.now) }
 {
     json.begin_object()?;
     put_asked(alloc, json, row)?;
     put_found(alloc, json, row)?;
     put_means(alloc, json, row)?;
+    put_limit(json, limits, row)?;
     json.end_object()?;
     Ok(())
 }
@@ -347,17 +377,23 @@ fn put_row(alloc: Global, json: &mut Writer, row: &Row<'_>) -> Result<(), AllocE
 /// Appends a table as JSON (RFC 8259), in one line that ends with LF: an array with an object for each row, its members named as the
 /// columns of `write_csv` are. A length is a number in millimetres with three decimals, a component of a normal one with six, each written
 /// exactly and without floating point; `null` is written if there is no normal, if it is not known which connection a feature comes from,
-/// or if a point was not measured. Fails only if out of memory, and then appends nothing.
-pub fn write_json(out: &mut Vec<u8>, rows: &[Row<'_>]) -> Result<(), AllocError>
-    ensures text { Writes result out.old out.new (json_of rows.now) }
-    ensures reads_back { OnOk result (tokens (array_text rows.now) ≡ json_tokens rows.now) }
+/// or if a point was not measured. With limits each object has a member `limit` too, `"in"`, `"out"`, or `null` if no limit is for the
+/// point. Fails only if out of memory, and then appends nothing.
+pub fn write_json(
+    out: &mut Vec<u8>,
+    limits: &Option<Limits>,
+    rows: &[Row<'_>],
+) -> Result<(), AllocError>
+    ensures text { Writes result out.old out.new (json_of limits.now rows.now) }
+    ensures reads_back { OnOk result (tokens (array_text limits.now rows.now)
+        ≡ json_tokens limits.now rows.now) }
 {
     let alloc = *out.allocator();
     let mut json = Writer::new(Vec::new(alloc));
     json.begin_array()?;
     let mut left = rows;
     while let [row, others @ ..] = left {
-        put_row(alloc, &mut json, row)?;
+        put_row(alloc, &mut json, limits, row)?;
         left = others;
     }
     json.end_array()?;

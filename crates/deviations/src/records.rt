@@ -16,15 +16,20 @@ ghost use Rattle.deviations.specs.Records.{
   connection_fields,
   header,
   record_of,
+  verdict_field,
+  limit_header,
+  limit_fields,
   records_text,
   csv_text,
 };
 
 use crate::along::Deviation;
+use crate::judged::{row_verdict, verdict_word};
 use crate::printed::{Micrometres, Millionths};
 use crate::rows::Row;
 use csv::{ByteRecord, WriterBuilder};
 use fixed_um::{Dir, Frame, Point};
+use part_limits::{Limits, Verdict};
 use std::alloc::{AllocError, Global};
 
 fn push_length(alloc: Global, columns: &mut ByteRecord, length: i128) -> Result<(), AllocError>
@@ -166,7 +171,8 @@ fn push_connection(
 }
 
 fn record_of(alloc: Global, row: &Row<'_>) -> Result<ByteRecord, AllocError>
-    ensures { IfOk result (λ columns. fields_of columns ≡ record_of row.now) }
+    ensures fields { IfOk result (λ columns. fields_of columns ≡ record_of row.now) }
+    ensures whole { IfOk result (λ columns. partial_of columns ≡ []) }
 {
     let mut columns = ByteRecord::new(alloc);
     columns.push_field(row.feature().as_bytes())?;
@@ -179,6 +185,43 @@ fn record_of(alloc: Global, row: &Row<'_>) -> Result<ByteRecord, AllocError>
     columns.push_field(row.tool().as_bytes())?;
     push_frame(alloc, &mut columns, row.frame())?;
     push_connection(alloc, &mut columns, row.connection())?;
+    Ok(columns)
+}
+
+fn verdict_field(verdict: Option<Verdict>) -> &'static [u8]
+    ensures { result.now ≡ verdict_field verdict }
+{
+    match verdict {
+        Some(verdict) => verdict_word(verdict).as_bytes(),
+        None => b"",
+    }
+}
+
+fn push_limit(
+    columns: &mut ByteRecord,
+    limits: &Option<Limits>,
+    row: &Row<'_>,
+) -> Result<(), AllocError>
+    requires { partial_of columns.old ≡ [] }
+    ensures { Joins result columns.old columns.new (limit_fields limits.now row.now) }
+{
+    match limits {
+        Some(limits) => columns.push_field(verdict_field(row_verdict(limits, row))),
+        None => Ok(()),
+    }
+}
+
+/// The record of a row, with its limit's column if there are limits.
+fn judged_record(
+    alloc: Global,
+    limits: &Option<Limits>,
+    row: &Row<'_>,
+) -> Result<ByteRecord, AllocError>
+    ensures { IfOk result (λ columns. fields_of columns
+        ≡ record_of row.now ++ limit_fields limits.now row.now) }
+{
+    let mut columns = record_of(alloc, row)?;
+    push_limit(&mut columns, limits, row)?;
     Ok(columns)
 }
 
@@ -197,7 +240,8 @@ fn record_text(alloc: Global, columns: &ByteRecord) -> Result<Vec<u8>, AllocErro
 }
 
 fn header(alloc: Global) -> Result<ByteRecord, AllocError>
-    ensures { IfOk result (λ columns. fields_of columns ≡ header) }
+    ensures fields { IfOk result (λ columns. fields_of columns ≡ header) }
+    ensures whole { IfOk result (λ columns. partial_of columns ≡ []) }
 {
     ByteRecord::from_fields(
         alloc,
@@ -227,17 +271,34 @@ fn header(alloc: Global) -> Result<ByteRecord, AllocError>
     )
 }
 
+/// The names of the columns, with that of limits if there are limits.
+fn judged_header(alloc: Global, limits: &Option<Limits>) -> Result<ByteRecord, AllocError>
+    ensures { IfOk result (λ columns. fields_of columns ≡ header ++ limit_header limits.now) }
+{
+    let mut columns = header(alloc)?;
+    match limits {
+        Some(_) => columns.push_field(b"limit")?,
+        None => {}
+    }
+    Ok(columns)
+}
+
 /// Appends a table as comma-separated values (RFC 4180), a header and a record for each row: lengths in millimetres with three decimals,
 /// normals with six. A field is empty if there is no normal, if it is not known which connection a feature comes from, or if a point was
-/// not measured. Lines end with LF. Fails only if out of memory, and then appends nothing.
-pub fn write_csv(out: &mut Vec<u8>, rows: &[Row<'_>]) -> Result<(), AllocError>
-    ensures { Writes result out.old out.new (csv_text rows.now) }
+/// not measured. With limits there is a last column `limit`: `in`, `out`, or empty if no limit is for the point. Lines end with LF. Fails
+/// only if out of memory, and then appends nothing.
+pub fn write_csv(
+    out: &mut Vec<u8>,
+    limits: &Option<Limits>,
+    rows: &[Row<'_>],
+) -> Result<(), AllocError>
+    ensures { Writes result out.old out.new (csv_text limits.now rows.now) }
 {
     let alloc = *out.allocator();
-    let mut text = record_text(alloc, &header(alloc)?)?;
+    let mut text = record_text(alloc, &judged_header(alloc, limits)?)?;
     let mut left = rows;
     while let [row, others @ ..] = left {
-        let columns = record_of(alloc, row)?;
+        let columns = judged_record(alloc, limits, row)?;
         let line = record_text(alloc, &columns)?;
         text.extend_from_slice(line.as_slice())?;
         left = others;

@@ -1,6 +1,6 @@
 // The rows of a table of deviations.
 
-ghost use Rattle.std.specs.Prelude.{◌≡◌, ◌≤◌, ◌+◌, ◌++◌, length, true, false, IfOk, IfErr, OnOk};
+ghost use Rattle.std.specs.Prelude.{◌≡◌, ◌≤◌, ◌+◌, ◌^◌, ◌++◌, length, true, false, IfOk, IfErr, IfSome, OnOk, unsigned_abs};
 ghost use Rattle.std.specs.List.{AllByRecursion, AllZip};
 ghost use Rattle.client_core.specs.Clients.{is_ours, are_ours};
 ghost use Rattle.contact_ledger.specs.Ledgers.{HaveOrigins};
@@ -66,10 +66,13 @@ pub struct Row<'a> {
 
 impl<'a> Model for Row<'a> {
     ghost use Rattle.deviations.specs.Rows.{Row};
+    ghost use Rattle.std.specs.Prelude.{◌≤◌, ◌^◌, IfSome, unsigned_abs};
 
     ghost Value = { Row };
 
     ghost view = { λ r. record { place = r.place; deviation = r.deviation; along = r.along } };
+
+    ghost invariant = { λ r. IfSome r.along (λ along. unsigned_abs along ≤ 2 ^ 64) };
 }
 
 fn is_ours(wanted: &Wanted, feature: &Feature) -> bool
@@ -185,7 +188,8 @@ fn places_of<'a>(
 
 fn along_of(deviation: Deviation, normal: Option<Dir>) -> Option<i128>
     requires { IsDeviation deviation }
-    ensures { IsAlongNormal deviation normal result }
+    ensures along { IsAlongNormal deviation normal result }
+    ensures within { IfSome result (λ along. unsigned_abs along ≤ 2 ^ 64) }
 {
     match normal {
         Some(direction) => Some(along_normal(deviation, direction)),
@@ -196,7 +200,8 @@ fn along_of(deviation: Deviation, normal: Option<Dir>) -> Option<i128>
 /// How far a point was measured from the target of a touch, and along its normal.
 fn away_of(measured: Option<Point>, touch: &Touch) -> (Option<Deviation>, Option<i128>)
     requires { IsInVolume touch.now.target }
-    ensures { IsAway measured touch.now result.0 result.1 }
+    ensures away { IsAway measured touch.now result.0 result.1 }
+    ensures within { IfSome result.1 (λ along. unsigned_abs along ≤ 2 ^ 64) }
 {
     match measured {
         Some(point) => {
@@ -252,7 +257,8 @@ impl<'a> Row<'a> {
 
     /// The deviation along the normal in micrometres, if the point was measured and there is a normal.
     pub fn along(&self) -> Option<i128>
-        ensures { result ≡ self.now.along }
+        ensures along { result ≡ self.now.along }
+        ensures within { IfSome result (λ along. unsigned_abs along ≤ 2 ^ 64) }
     {
         self.along
     }

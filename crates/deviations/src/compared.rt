@@ -1,0 +1,218 @@
+// The lines that compare the points of a part with limits.
+
+ghost use Rattle.std.specs.Prelude.{◌≡◌, ◌++◌, ◌≤◌, ◌^◌, take, drop, IfOk, OnOk, string_bytes, None, unsigned_abs};
+ghost use Rattle.deviations.specs.Compared.{
+  margin,
+  worse,
+  worse_row,
+  worst_after,
+  worst_line,
+  worst_text,
+  feature_text,
+  features_text,
+  is_out,
+  compared_count,
+  out_count,
+  part_text,
+  compared_text,
+};
+
+use crate::judged::{row_verdict, verdict_word};
+use crate::printed::Micrometres;
+use crate::rows::Row;
+use dmis_program::{Program, Wanted};
+use fixed_um::Name;
+use part_limits::{Limits, Range, Verdict};
+use std::alloc::{AllocError, Global};
+use std::marker::Model;
+
+/// The worst point of a feature: its number there, and its deviation along the normal.
+#[derive(Drop)]
+struct Worst {
+    number: u64,
+    along: i128,
+}
+
+impl Model for Worst {
+    ghost use Rattle.std.specs.Prelude.{◌≤◌, ◌^◌, unsigned_abs};
+    ghost use Rattle.deviations.specs.Compared.{Worst};
+
+    ghost Value = { Worst };
+
+    ghost view = { λ w. record { number = w.number; along = w.along } };
+
+    ghost invariant = { λ w. unsigned_abs w.along ≤ 2 ^ 64 };
+}
+
+fn margin(range: Range, along: i128) -> i128
+    requires { unsigned_abs along ≤ 2 ^ 64 }
+    ensures { result ≡ margin range along }
+{
+    let below = along - i128::from(range.lower.get());
+    let above = i128::from(range.upper.get()) - along;
+    below.min(above)
+}
+
+fn worse(range: Range, worst: Option<Worst>, next: Worst) -> Option<Worst>
+    ensures { result ≡ worse range worst next }
+{
+    match worst {
+        None => Some(next),
+        Some(worst) => {
+            if margin(range, next.along) < margin(range, worst.along) {
+                Some(next)
+            } else {
+                Some(worst)
+            }
+        }
+    }
+}
+
+fn worse_row(range: Range, worst: Option<Worst>, row: &Row<'_>) -> Option<Worst>
+    ensures { result ≡ worse_row range worst row.now.place.number row.now.along }
+{
+    match row.along() {
+        Some(along) => worse(
+            range,
+            worst,
+            Worst {
+                number: row.number(),
+                along,
+            },
+        ),
+        None => worst,
+    }
+}
+
+/// The first of the points with the least margin.
+fn worst_of(range: Range, rows: &[Row<'_>]) -> Option<Worst>
+    ensures { result ≡ worst_after range None rows.now }
+{
+    let mut worst = None;
+    for row in rows {
+        worst = worse_row(range, worst, row);
+    }
+    worst
+}
+
+#[tactic(auto, unfolding(crate::specs::Compared::worst_line))]
+fn push_line(text: &mut String, label: &Name, range: Range, worst: Worst) -> Result<(), AllocError>
+    ensures { OnOk result (string_bytes text.new
+        ≡ string_bytes text.old ++ worst_line label.now range worst) }
+{
+    let along = Micrometres(worst.along);
+    let number = worst.number;
+    let verdict = verdict_word(range.verdict(worst.along));
+    write!(
+        text,
+        "dme: {label}: worst {along} at point {number}: {verdict}\n"
+    )
+}
+
+/// Appends the line of a feature, if a limit is for it and one of its points has a deviation along its normal. Fails only if out of memory.
+fn push_feature(
+    text: &mut String,
+    label: &Name,
+    range: Option<Range>,
+    rows: &[Row<'_>],
+) -> Result<(), AllocError>
+    ensures { OnOk result (string_bytes text.new
+        ≡ string_bytes text.old ++ feature_text label.now range rows.now) }
+{
+    let Some(range) = range else {
+        return Ok(());
+    };
+    match worst_of(range, rows) {
+        Some(worst) => push_line(text, label, range, worst),
+        None => Ok(()),
+    }
+}
+
+/// The first rows, and those after them.
+#[tactic(auto, using(std::proofs::lemmas::List::drop_all, std::proofs::lemmas::List::take_all))]
+fn cut<'a, 'b>(rows: &'a [Row<'b>], count: usize) -> (&'a [Row<'b>], &'a [Row<'b>])
+    ensures front { result.0.now ≡ take count rows.now }
+    ensures behind { result.1.now ≡ drop count rows.now }
+{
+    if count > rows.len() {
+        return (rows, &[]);
+    }
+    rows.split_at(count)
+}
+
+fn push_features(
+    text: &mut String,
+    limits: &Limits,
+    wanted: &[Wanted],
+    rows: &[Row<'_>],
+) -> Result<(), AllocError>
+    ensures { OnOk result (string_bytes text.new
+        ≡ string_bytes text.old ++ features_text limits.now wanted.now rows.now) }
+{
+    let mut left = wanted;
+    let mut later = rows;
+    while let [first, others @ ..] = left {
+        let (own, after) = cut(later, first.touches.as_slice().len());
+        push_feature(text, &first.label, limits.range_for(&first.label), own)?;
+        left = others;
+        later = after;
+    }
+    Ok(())
+}
+
+fn is_out(verdict: Option<Verdict>) -> bool
+    ensures { result ≡ is_out verdict }
+{
+    match verdict {
+        Some(Verdict::Outside) => true,
+        Some(Verdict::Inside) => false,
+        None => false,
+    }
+}
+
+fn compared_count(limits: &Limits, rows: &[Row<'_>]) -> usize
+    ensures { result ≡ compared_count limits.now rows.now }
+{
+    rows.iter()
+        .filter(|row| row_verdict(limits, row).is_some())
+        .count()
+}
+
+fn out_count(limits: &Limits, rows: &[Row<'_>]) -> usize
+    ensures { result ≡ out_count limits.now rows.now }
+{
+    rows.iter()
+        .filter(|row| is_out(row_verdict(limits, row)))
+        .count()
+}
+
+#[tactic(auto, unfolding(crate::specs::Compared::part_text))]
+fn push_part(text: &mut String, limits: &Limits, rows: &[Row<'_>]) -> Result<(), AllocError>
+    ensures { OnOk result (string_bytes text.new
+        ≡ string_bytes text.old ++ part_text limits.now rows.now) }
+{
+    let out = out_count(limits, rows);
+    let all = compared_count(limits, rows);
+    write!(
+        text,
+        "dme: out of limits: {out} of {all} points; no fit and no other tolerance was evaluated\n"
+    )
+}
+
+/// The lines that compare the rows of a program with limits: a line for each feature that a limit is for, with its worst point,
+/// `dme: BORE: worst 0.021 at point 3: out`, and a last one with the number of points that are out, of those that have a limit. Fails
+/// only if out of memory.
+pub fn compared(
+    alloc: Global,
+    limits: &Limits,
+    program: &Program,
+    rows: &[Row<'_>],
+) -> Result<String, AllocError>
+    ensures { IfOk result (λ text. string_bytes text
+        ≡ compared_text limits.now program.now.features rows.now) }
+{
+    let mut text = String::new(alloc);
+    push_features(&mut text, limits, program.features(), rows)?;
+    push_part(&mut text, limits, rows)?;
+    Ok(text)
+}
