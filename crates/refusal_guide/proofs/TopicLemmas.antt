@@ -67,6 +67,9 @@ each_topic p h own Topic.UnknownTool = not_so (p Topic.UnknownTool) h.1.1.1.1.1.
 each_topic p h own Topic.OutOfVolume = not_so (p Topic.OutOfVolume) h.1.1.1.1.1.1.1.1.1.1.1.1.1.1.1.1.1.1.1.1.1.1.1.1.1.1.1.1.1.1.1.1.1.1.1.1.1.1.1.1.0
 each_topic p h own Topic.NoSurface = not_so (p Topic.NoSurface) h.1.1.1.1.1.1.1.1.1.1.1.1.1.1.1.1.1.1.1.1.1.1.1.1.1.1.1.1.1.1.1.1.1.1.1.1.1.1.1.1.1.0
 each_topic p h own Topic.MachineFault = not_so (p Topic.MachineFault) h.1.1.1.1.1.1.1.1.1.1.1.1.1.1.1.1.1.1.1.1.1.1.1.1.1.1.1.1.1.1.1.1.1.1.1.1.1.1.1.1.1.1.0
+each_topic p h own Topic.LimitLine = not_so (p Topic.LimitLine) h.1.1.1.1.1.1.1.1.1.1.1.1.1.1.1.1.1.1.1.1.1.1.1.1.1.1.1.1.1.1.1.1.1.1.1.1.1.1.1.1.1.1.1.0
+each_topic p h own Topic.LimitTwice = not_so (p Topic.LimitTwice) h.1.1.1.1.1.1.1.1.1.1.1.1.1.1.1.1.1.1.1.1.1.1.1.1.1.1.1.1.1.1.1.1.1.1.1.1.1.1.1.1.1.1.1.1.0
+each_topic p h own Topic.LimitRange = not_so (p Topic.LimitRange) h.1.1.1.1.1.1.1.1.1.1.1.1.1.1.1.1.1.1.1.1.1.1.1.1.1.1.1.1.1.1.1.1.1.1.1.1.1.1.1.1.1.1.1.1.1.0
 each_topic p h own Topic.ServersOwn = not_so (p Topic.ServersOwn) own
 
 -- by whether a title begins with the code, and whether it is the number of an error

@@ -5,12 +5,13 @@ use Rattle.tool_rack.specs.declared.faults.SetupFault.TheVariants as setup
 use Rattle.link_world.specs.declared.texts.schedule_faults.ScheduleFault.TheVariants as schedule
 use Rattle.contact_ledger.specs.declared.faults.TextFault.TheVariants as text
 use Rattle.record_text.specs.declared.faults.RecordFault.TheVariants as recorded
+use Rattle.part_limits.specs.declared.faults.LimitsFault.TheVariants as limits
 use Rattle.refusal_guide.specs.Lines.{line_of, shown_from}
 use Rattle.refusal_guide.specs.Windows.{shown_start}
 use Rattle.refusal_guide.specs.Words.{Caused}
 use Rattle.refusal_guide.specs.Reasons.{spot_of, IsProgramReason}
 use Rattle.refusal_guide.specs.declared.places.Refused.{Refused}
-use Rattle.refusal_guide.specs.declared.places.Refused.TheVariants.{Program, Setup, Schedule, Features, Contacts, Record}
+use Rattle.refusal_guide.specs.declared.places.Refused.TheVariants.{Program, Setup, Schedule, Features, Contacts, Record, Limits}
 
 -- the number of the line that is refused; none if out of memory
 abbrev pub number_of : Refused → Option ℕ
@@ -28,6 +29,10 @@ number_of (Contacts (text.Damaged line)) = Some line
 number_of (Contacts text.Memory) = None
 number_of (Record (recorded.Damaged line)) = Some line
 number_of (Record recorded.Memory) = None
+number_of (Limits (limits.NotLimit line)) = Some line
+number_of (Limits (limits.Twice line)) = Some line
+number_of (Limits (limits.EmptyRange line)) = Some line
+number_of (Limits limits.Memory) = None
 
 -- a file's name with a number, what is shown of the line, and a sentence about it
 abbrev pub place_text : List ℕ → ℕ → List ℕ → List ℕ → List ℕ
@@ -42,6 +47,7 @@ IsReason (Schedule fault) bytes n why = ⊤
 IsReason (Features fault) bytes n why = ⊤
 IsReason (Contacts fault) bytes n why = ⊤
 IsReason (Record fault) bytes n why = ⊤
+IsReason (Limits fault) bytes n why = ⊤
 
 -- what is shown of a line, so that the word at fault is seen
 abbrev pub shown_for : Caused → List ℕ → List ℕ

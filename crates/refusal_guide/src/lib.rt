@@ -11,7 +11,7 @@
 //! - `sentences`: the sentence on a refusal by itself
 //! - `programs`: the sentences of programs; `statements`, `blocks`, `bad_bytes`: what they are about; `arguments`, `numerals`, `names`: why
 //!   a parameter does not fit
-//! - `setups`, `schedules`, `ledgers`, `records`: the sentences of the other texts
+//! - `setups`, `schedules`, `ledgers`, `records`, `limits`: the sentences of the other texts
 //! - `hosts`: a host that has no address
 //! - `strangers`: why a record is of another part or program; `touches`: in what two touches differ
 //! - `audits`: what an audit found; `contacts`: the contacts of a ledger; `nearest`: the one
@@ -29,6 +29,7 @@ pub mod examples;
 mod faults;
 mod hosts;
 mod ledgers;
+mod limits;
 mod lines;
 mod names;
 mod nearest;

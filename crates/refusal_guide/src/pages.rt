@@ -63,6 +63,13 @@ impl Topic {
             Topic::ScheduleLine => {
                 "A line of the schedule is not an instruction: an unknown word, too many or too few fields, a number that is not one to ten digits, more than 1,000,000 rounds, or a point that is not in the machine's volume."
             }
+            Topic::LimitLine => {
+                "A line of the limits is not LIMIT label lower upper, with the label of a feature or *, and two numerals of at most three decimals without an exponent; or it has a space at its start or end, or a tab."
+            }
+            Topic::LimitTwice => {
+                "Two lines of the limits have the same label, or both are for *; lower case is read as upper case."
+            }
+            Topic::LimitRange => { "The lower limit is greater than the upper one." }
             Topic::Damaged => {
                 "A line of a features or contacts file is unexpected: the file is a different one, or was changed manually. What follows its last line end is not read and is not damage."
             }
@@ -173,6 +180,11 @@ impl Topic {
             Topic::ScheduleLine => {
                 "Compare the line with the table of instructions in docs/FILES.md."
             }
+            Topic::LimitLine => {
+                "Write one limit per line, in millimetres along the outward normal; a comment is a line of its own that begins with #."
+            }
+            Topic::LimitTwice => { "Remove one of the two lines." }
+            Topic::LimitRange => { "Exchange the two, or look for a missing sign." }
             Topic::Damaged => {
                 "Use the file as it was written. In a features file, remove the feature with this line and all that follow it: they are measured again."
             }
@@ -251,6 +263,9 @@ impl Topic {
             Topic::SetupTwice => "FRAME RIGHT 350.25 0 12.5",
             Topic::SetupNumeral => "SHIFT 0.002 0 0",
             Topic::ScheduleLine => "machine touched 1.002 0 0",
+            Topic::LimitLine => "LIMIT BORE -0.010 0.020",
+            Topic::LimitTwice => "LIMIT * -0.05 0.05",
+            Topic::LimitRange => "LIMIT BORE -0.010 0.020",
             Topic::Damaged => "FEATURE C 3 2 M",
             Topic::NotOurs => "DME-FEATURES 2",
             Topic::RecordDamaged => "1 COMPLETED C",

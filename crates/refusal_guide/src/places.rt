@@ -6,6 +6,7 @@ ghost use Rattle.refusal_guide.specs.Words.{caused_by};
 ghost use Rattle.refusal_guide.specs.Places.{number_of, place_text, IsReason, IsPlace, IsPlaceOf, Places};
 
 use crate::ledgers::{Ledger, ledger_reason};
+use crate::limits::{limit_line_reason, limit_range_reason, limit_twice_reason};
 use crate::lines::{Place, first_line, from_line, shown_line, shown_start};
 use crate::programs::whole_reason;
 use crate::records::record_reason;
@@ -15,6 +16,7 @@ use crate::words::Reason;
 use contact_ledger::TextFault;
 use dmis_program::ProgramFault;
 use link_world::ScheduleFault;
+use part_limits::LimitsFault;
 use record_text::RecordFault;
 use std::alloc::{AllocError, Global};
 use tool_rack::SetupFault;
@@ -34,6 +36,8 @@ pub enum Refused {
     Contacts(TextFault),
     /// A record.
     Record(RecordFault),
+    /// Limits.
+    Limits(LimitsFault),
 }
 
 /// The number of the line that is refused; none if out of memory.
@@ -49,12 +53,16 @@ fn line_number(refused: Refused) -> Option<u64>
         Refused::Features(TextFault::Damaged(line)) => Some(line),
         Refused::Contacts(TextFault::Damaged(line)) => Some(line),
         Refused::Record(RecordFault::Damaged(line)) => Some(line),
+        Refused::Limits(LimitsFault::NotLimit(line)) => Some(line),
+        Refused::Limits(LimitsFault::Twice(line)) => Some(line),
+        Refused::Limits(LimitsFault::EmptyRange(line)) => Some(line),
         Refused::Program(ProgramFault::Memory) => None,
         Refused::Setup(SetupFault::Memory) => None,
         Refused::Schedule(ScheduleFault::Memory) => None,
         Refused::Features(TextFault::Memory) => None,
         Refused::Contacts(TextFault::Memory) => None,
         Refused::Record(RecordFault::Memory) => None,
+        Refused::Limits(LimitsFault::Memory) => None,
     }
 }
 
@@ -76,12 +84,16 @@ fn reason(alloc: Global, refused: Refused, place: Place) -> Result<Reason, Alloc
         Refused::Features(TextFault::Damaged(_)) => ledger_reason(alloc, Ledger::Features, place),
         Refused::Contacts(TextFault::Damaged(_)) => ledger_reason(alloc, Ledger::Contacts, place),
         Refused::Record(RecordFault::Damaged(_)) => record_reason(alloc, place),
+        Refused::Limits(LimitsFault::NotLimit(_)) => limit_line_reason(alloc, place),
+        Refused::Limits(LimitsFault::Twice(_)) => limit_twice_reason(alloc, place),
+        Refused::Limits(LimitsFault::EmptyRange(_)) => limit_range_reason(alloc, place),
         Refused::Program(ProgramFault::Memory)
         | Refused::Setup(SetupFault::Memory)
         | Refused::Schedule(ScheduleFault::Memory)
         | Refused::Features(TextFault::Memory)
         | Refused::Contacts(TextFault::Memory)
-        | Refused::Record(RecordFault::Memory) => Ok(Reason::of_line(String::new(alloc))),
+        | Refused::Record(RecordFault::Memory)
+        | Refused::Limits(LimitsFault::Memory) => Ok(Reason::of_line(String::new(alloc))),
     }
 }
 

@@ -37,7 +37,7 @@ pub(crate) fn space_reason(alloc: Global, line: &[u8]) -> Result<Reason, AllocEr
 }
 
 /// How many fields a line has after its word, and how many it takes.
-fn count_reason(
+pub(crate) fn count_reason(
     alloc: Global,
     word: Word,
     values: &[u8],

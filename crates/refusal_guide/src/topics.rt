@@ -56,6 +56,12 @@ pub enum Topic {
     SetupNumeral,
     /// A line of a schedule that is not an instruction.
     ScheduleLine,
+    /// A line that is not one of limits.
+    LimitLine,
+    /// A label of limits for the second time.
+    LimitTwice,
+    /// A limit whose lower end is the greater one.
+    LimitRange,
     /// A line of a features or contacts file that is unexpected.
     Damaged,
     /// Features that are not the first ones of the program.
@@ -101,7 +107,7 @@ pub enum Topic {
 }
 
 /// Those whose titles begin with a code.
-const TOPICS: [Topic; 43] = [
+const TOPICS: [Topic; 46] = [
     Topic::NotDmis,
     Topic::Truncated,
     Topic::LineTooLong,
@@ -145,6 +151,9 @@ const TOPICS: [Topic; 43] = [
     Topic::OutOfVolume,
     Topic::NoSurface,
     Topic::MachineFault,
+    Topic::LimitLine,
+    Topic::LimitTwice,
+    Topic::LimitRange,
 ];
 
 fn code_len(title: &[u8]) -> usize
@@ -234,6 +243,9 @@ impl Topic {
             Topic::SetupTwice => "S2 Twice",
             Topic::SetupNumeral => "S3 BadNumeral",
             Topic::ScheduleLine => "H1 BadLine",
+            Topic::LimitLine => "M1 NotLimit",
+            Topic::LimitTwice => "M2 Twice",
+            Topic::LimitRange => "M3 EmptyRange",
             Topic::Damaged => "K1 Damaged",
             Topic::NotOurs => "C4 NotOurs",
             Topic::RecordDamaged => "J1 Damaged",
