@@ -76,7 +76,7 @@ explained words none = level_has (leaf explain_line) words refl
 
 export : (words : List Text) → level_fault (leaf export_line) [] nothing_held words false [] ≡ [] → Has export_line (rows_after (leaf export_line).rules [] words)
 export words none = level_has (leaf export_line) words refl
-    ((refl, inl (refl, refl)), ((refl, inl (refl, refl)), ((refl, inl (refl, refl)), ((refl, inl (refl, refl)), ((refl, inr (inl (refl, omega arith))), ((refl, inl (refl, refl)), ((refl, inr (inr refl)), tt)))))))
+    ((refl, inl (refl, refl)), ((refl, inl (refl, refl)), ((refl, inl (refl, refl)), ((refl, inl (refl, refl)), ((refl, inl (refl, refl)), ((refl, inr (inl (refl, omega arith))), ((refl, inl (refl, refl)), ((refl, inr (inr refl)), tt))))))))
     none
 
 witnessed : (words : List Text) → level_fault (leaf ledger_line) [] nothing_held words false [] ≡ [] → Has ledger_line (rows_after (leaf ledger_line).rules [] words)

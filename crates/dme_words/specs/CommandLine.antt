@@ -83,10 +83,10 @@ code_rule = record (new_rule (codes "CODE")) { required = true }
 abbrev pub explain_line : App
 explain_line = line_of (codes "explain") (code_rule ∷ [])
 
--- `export --as FORM [--setup FILE] [--features FILE] [--record FILE] [--explain] [PROGRAM]`
+-- `export --as FORM [--setup FILE] [--features FILE] [--record FILE] [--limits FILE] [--explain] [PROGRAM]`
 abbrev pub export_line : App
 export_line = line_of (codes "export") (needed_rule (codes "as") ∷ text_rule (codes "setup") ∷ text_rule (codes "features")
-    ∷ text_rule (codes "record") ∷ flag_rule (codes "explain") ∷ program_rule ∷ [])
+    ∷ text_rule (codes "record") ∷ text_rule (codes "limits") ∷ flag_rule (codes "explain") ∷ program_rule ∷ [])
 
 -- `review [--as FORM] [--setup FILE] [PROGRAM]`
 abbrev pub review_line : App

@@ -183,19 +183,22 @@ form_word (Table Svg) = codes "svg"
 form_word Features = codes "features"
 form_word Contacts = codes "contacts"
 
--- what was measured of the program, in the named form, with the named features, and with the named setup or with none if none is named; no
--- record is named
+-- what was measured of the program, in the named form, with the named features, and with the named setup and limits, each if one is named;
+-- no record is named
 abbrev pub IsExportOf : List Row → Export → Type 0
 IsExportOf rows o =
     IsValueOf (codes "as") rows (form_word (Table o.form)) × IsMaybeOf (codes "setup") rows (option_map string_bytes o.setup)
-    × IsValueOf (codes "features") rows (string_bytes o.features) × HasNone (codes "record") rows × IsExplainedOf rows o.explain
+    × IsValueOf (codes "features") rows (string_bytes o.features) × HasNone (codes "record") rows
+    × IsMaybeOf (codes "limits") rows (option_map string_bytes o.limits) × IsExplainedOf rows o.explain
     × IsProgramOf rows (string_bytes o.program)
 
--- what the named record holds, in the named form, under the program and the named setup or none if none is named; no features are named
+-- what the named record holds, in the named form, under the program and the named setup and limits, each if one is named; no features are
+-- named
 abbrev pub IsRecordExportOf : List Row → RecordExport → Type 0
 IsRecordExportOf rows o =
     IsValueOf (codes "as") rows (form_word o.form) × IsMaybeOf (codes "setup") rows (option_map string_bytes o.setup)
-    × IsValueOf (codes "record") rows (string_bytes o.record) × HasNone (codes "features") rows × IsExplainedOf rows o.explain
+    × IsValueOf (codes "record") rows (string_bytes o.record) × HasNone (codes "features") rows
+    × IsMaybeOf (codes "limits") rows (option_map string_bytes o.limits) × IsExplainedOf rows o.explain
     × IsProgramOf rows (string_bytes o.program)
 
 -- the order of `export`: that of a record just if one is named

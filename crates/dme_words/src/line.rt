@@ -81,6 +81,9 @@ const RECORD_HELP: &str =
 
 const MEASURED_HELP: &str = "The features that were measured; - is standard input";
 
+const LIMITS_HELP: &str =
+    "The limits that the points are compared with, along the normal; - is standard input";
+
 const FEATURES_HELP: &str =
     "The features that are there already, and the file that they are written to";
 
@@ -275,6 +278,7 @@ const LINES: [Line; 12] = [
             SETUP,
             Text("features", "FILE", MEASURED_HELP),
             RECORD,
+            Text("limits", "FILE", LIMITS_HELP),
             EXPLAIN,
             PROGRAM,
         ],

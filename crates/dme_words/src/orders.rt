@@ -186,6 +186,8 @@ pub struct Export {
     pub setup: Option<String>,
     /// The file of the features that were measured; `-` is standard input.
     pub features: String,
+    /// The file of the limits that the points are compared with; `-` is standard input.
+    pub limits: Option<String>,
     /// Whether a line that is refused is shown, with what is wrong with it.
     pub explain: bool,
     /// The file of the program; `-` is standard input.
@@ -212,6 +214,8 @@ pub struct RecordExport {
     pub setup: Option<String>,
     /// The file of the record; `-` is standard input.
     pub record: String,
+    /// The file of the limits that the points are compared with; `-` is standard input.
+    pub limits: Option<String>,
     /// Whether a line that is refused is shown, with what is wrong with it.
     pub explain: bool,
     /// The file of the program; `-` is standard input.

@@ -484,6 +484,7 @@ fn record_export(
         form,
         setup: copied_maybe(alloc, values, "setup")?,
         record: file,
+        limits: copied_maybe(alloc, values, "limits")?,
         explain: flag_of(values, "explain"),
         program: copied_program(alloc, values)?,
     }))
@@ -517,6 +518,7 @@ fn features_export(
         form,
         setup: copied_maybe(alloc, values, "setup")?,
         features,
+        limits: copied_maybe(alloc, values, "limits")?,
         explain: flag_of(values, "explain"),
         program: copied_program(alloc, values)?,
     }))
