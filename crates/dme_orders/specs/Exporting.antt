@@ -1,8 +1,9 @@
 -- What exporting what was measured leaves (this profile).
-use Rattle.std.specs.Prelude.{◌≡◌, ◌⊎◌, ℕ, List, true, false, Result, codes}
+use Rattle.std.specs.Prelude.{◌≡◌, ◌⊎◌, ℕ, List, [], true, false, Option, Some, None, Result, codes, string_bytes}
 use Rattle.std.specs.List.{AllZip}
 use Rattle.client_core.specs.Clients.{are_ours}
 use Rattle.contact_ledger.specs.declared.features.Feature.{Feature}
+use Rattle.deviations.specs.Compared.{compared_text}
 use Rattle.deviations.specs.Json.{json_of}
 use Rattle.deviations.specs.Records.{csv_text}
 use Rattle.deviations.specs.Rows.{IsRow, Row, places_of}
@@ -11,11 +12,12 @@ use Rattle.deviations.specs.declared.forms.Form.TheVariants.{Csv, Json, Svg}
 use Rattle.dmis_program.specs.Meaning.{Meaning}
 use Rattle.drawings.specs.Drawing.{IsDrawing}
 use Rattle.drawings.specs.Texts.{Adds}
-use Rattle.dme_orders.specs.Input.{Named, ExportInput, ReadsExport, WhyNoExport}
+use Rattle.part_limits.specs.declared.entries.Limit.{Limit}
+use Rattle.dme_orders.specs.Input.{Named, ExportInput, ReadsExport, WhyNoExport, AreUntouched, Limited, ReadsLimited, WhyNoLimited}
 use Rattle.dme_orders.specs.Missing.{IsMissing}
 use Rattle.dme_orders.specs.Orders.{Went, Carries}
 use Rattle.dme_orders.specs.Reading.{Came}
-use Rattle.dme_orders.specs.declared.missing.Missing.{Missing}
+use Rattle.dme_orders.specs.declared.exporting.Exported.{Exported}
 use Rattle.dme_orders.specs.declared.reading.FilesFault.{FilesFault}
 use Rattle.dme_orders.specs.declared.reading.FilesFault.TheVariants as files
 
@@ -24,22 +26,34 @@ unfoldable pub xml : List ℕ
 xml = codes "<?xml version=\"1.0\" encoding=\"UTF-8\"?>\n"
 
 -- the text is that of a table in a form: a drawing is one of the program and of the features
-abbrev pub IsInForm : Form → Meaning → List Feature → List Row → List ℕ → Type 0
-IsInForm Csv program features rows text = text ≡ csv_text rows
-IsInForm Json program features rows text = text ≡ json_of rows
-IsInForm Svg program features rows text = Adds (IsDrawing program features) xml text
+abbrev pub IsInForm : Form → Option (List Limit) → Meaning → List Feature → List Row → List ℕ → Type 0
+IsInForm Csv limits program features rows text = text ≡ csv_text limits rows
+IsInForm Json limits program features rows text = text ≡ json_of limits rows
+IsInForm Svg limits program features rows text = Adds (IsDrawing program features) xml text
 
 -- the features are the first ones of the program, and the text is their table in a form: a row for each touch of the program, in order
-pub record LeavesTable (form : Form) (program : Meaning) (features : List Feature) (text : List ℕ) : Type 0 where
+pub record LeavesTable (form : Form) (limits : Option (List Limit)) (program : Meaning) (features : List Feature) (text : List ℕ) : Type 0 where
   pub rows : List Row
   pub ours : are_ours program.features features ≡ true
   pub are : AllZip IsRow (places_of program.features features) rows
-  pub told : IsInForm form program features rows text
+  pub told : IsInForm form limits program features rows text
 
--- the table of features was written, and these are missing
-pub record LeavesExport (form : Form) (input : ExportInput) (missing : Missing) (text : List ℕ) : Type 0 where
-  pub table : LeavesTable form input.program input.features text
-  pub lacks : IsMissing input.program.features input.features missing
+-- the lines that compare the rows of features with limits
+pub record ComparesRows (limits : List Limit) (program : Meaning) (features : List Feature) (lines : List ℕ) : Type 0 where
+  pub rows : List Row
+  pub are : AllZip IsRow (places_of program.features features) rows
+  pub is : lines ≡ compared_text limits program.features rows
+
+-- likewise, and no lines without limits
+abbrev pub Compares : Option (List Limit) → Meaning → List Feature → List ℕ → Type 0
+Compares (Some limits) program features lines = ComparesRows limits program features lines
+Compares None program features lines = lines ≡ []
+
+-- the table of features was written, these are missing, and these lines compare them with limits
+pub record LeavesExport (form : Form) (read : Limited ExportInput) (end : Exported) (text : List ℕ) : Type 0 where
+  pub table : LeavesTable form read.limits read.input.program read.input.features text
+  pub lacks : IsMissing read.input.program.features read.input.features end.missing
+  pub compares : Compares read.limits read.input.program read.input.features (string_bytes end.compared)
 
 -- the features are not the first ones of the program; or memory ran out
 abbrev pub RefusesFeatures : Meaning → List Feature → FilesFault → Type 0
@@ -55,6 +69,6 @@ module _ {S F R W : Type 0} (form : Form) (s : Named S) (f : Came F) (r : Came R
     pub not_ours : are_ours input.program.features input.features ≡ false
 
   -- the table was written, or the export was not carried out: a file is blamed, or the features are not the first ones of the program
-  abbrev pub Exports : Result Missing FilesFault → Type 0
-  Exports = Carries (ReadsExport s f r) (LeavesExport form) w
-      (λ cause. WhyNoExport s f r cause ⊎ IsNotOurs cause)
+  abbrev pub Exports : {L : Type 0} → Named L → Result Exported FilesFault → Type 0
+  Exports l = Carries (ReadsLimited l (ReadsExport s f r)) (LeavesExport form) w
+      (λ cause. WhyNoLimited l (AreUntouched s f r) (WhyNoExport s f r) cause ⊎ IsNotOurs cause)

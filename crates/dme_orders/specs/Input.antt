@@ -1,15 +1,17 @@
 -- The files of an order, each read to its end and understood before the next is read (this profile).
-use Rattle.std.specs.Prelude.{◌⊎◌, ℕ, List, Bool, Option, Some, None}
+use Rattle.std.specs.Prelude.{◌≡◌, ◌⊎◌, ℕ, List, Bool, Option, Some, None}
 use Rattle.contact_ledger.specs.declared.acts.Act.{Act}
 use Rattle.contact_ledger.specs.declared.features.Feature.{Feature}
 use Rattle.dmis_program.specs.Meaning.{Meaning}
 use Rattle.link_world.specs.declared.texts.schedules.Instruction.{Instruction}
+use Rattle.part_limits.specs.declared.entries.Limit.{Limit}
 use Rattle.record_text.specs.Records.{Recorded}
 use Rattle.tool_rack.specs.Setups.{SetupValue}
 use Rattle.program_review.specs.Reviews.{frames_under}
 use Rattle.dme_orders.specs.declared.reading.FilesFault.{FilesFault}
 use Rattle.dme_orders.specs.Reading.{Came, came, IsUntouched, ReadsSetup, WhyNoSetup, ReadsSchedule, WhyNoSchedule, ReadsFeatures}
-use Rattle.dme_orders.specs.Reading.{WhyNoFeatures, ReadsContacts, WhyNoContacts, ReadsRecord, WhyNoRecord, ReadsProgram, WhyNoProgram}
+use Rattle.dme_orders.specs.Reading.{WhyNoFeatures, ReadsContacts, WhyNoContacts, ReadsRecord, WhyNoRecord, ReadsLimits, WhyNoLimits}
+use Rattle.dme_orders.specs.Reading.{ReadsProgram, WhyNoProgram}
 
 -- a file comes before others: it is blamed for a reason of its own, and the others are untouched; or it is accepted, and one of the others
 -- is blamed
@@ -46,6 +48,41 @@ ReadsNamed n said = IsNamed n.left n.has_failed n.old n.new said
 
 abbrev pub WhyNoNamed : {S : Type 0} → Named S → FilesFault → Type 0
 WhyNoNamed n fault = IsBlamed n.left n.has_failed n.old n.new fault
+
+-- ---- limits that may be named
+
+module _ {L : Type 0} (left : L → Option (List ℕ)) (has_failed : L → Bool) where
+  -- the limits that are named, or none if none are named
+  abbrev pub AreNamed : (old new : Option L) → Option (List Limit) → Type 0
+  AreNamed (Some old) (Some new) (Some said) = ReadsLimits (came left has_failed old new) said
+  AreNamed None None None = Unit {0}
+  AreNamed _ _ _ = ⊥
+
+  -- why those that are named are not read
+  abbrev pub AreBlamed : (old new : Option L) → FilesFault → Type 0
+  AreBlamed (Some old) (Some new) fault = WhyNoLimits (came left has_failed old new) fault
+  AreBlamed _ _ fault = ⊥
+
+abbrev pub ReadsNamedLimits : {L : Type 0} → Named L → Option (List Limit) → Type 0
+ReadsNamedLimits n said = AreNamed n.left n.has_failed n.old n.new said
+
+abbrev pub WhyNoNamedLimits : {L : Type 0} → Named L → FilesFault → Type 0
+WhyNoNamedLimits n fault = AreBlamed n.left n.has_failed n.old n.new fault
+
+-- limits, if they are named, and what other files say
+pub record Limited (A : Type 0) : Type 0 where
+  pub limits : Option (List Limit)
+  pub input : A
+
+module _ {L A : Type 0} (l : Named L) (Reads : A → Type 0) where
+  -- limits if they are named, then other files
+  pub record ReadsLimited (input : Limited A) : Type 0 where
+    pub ranges : ReadsNamedLimits l input.limits
+    pub read : Reads input.input
+
+-- the limits are blamed, and the other files are untouched; or one of those is blamed
+abbrev pub WhyNoLimited : {L : Type 0} → Named L → (others : Type 0) → (WhyNo : FilesFault → Type 0) → FilesFault → Type 0
+WhyNoLimited l others WhyNo = InTurn (ReadsNamedLimits l) (WhyNoNamedLimits l) others (λ limits. WhyNo)
 
 -- ---- the files of each order
 
@@ -125,6 +162,9 @@ module _ {S F R : Type 0} (s : Named S) (f : Came F) (r : Came R) where
     pub said : ReadsNamed s input.setup
     pub held : ReadsFeatures f input.features
     pub accepted : ReadsProgram r (frames_under input.setup) input.program
+
+  abbrev pub AreUntouched : Type 0
+  AreUntouched = (s.new ≡ s.old) × IsUntouched f × IsUntouched r
 
   abbrev pub WhyNoExport : FilesFault → Type 0
   WhyNoExport = InTurn (ReadsNamed s) (WhyNoNamed s) (IsUntouched f × IsUntouched r) (λ setup.

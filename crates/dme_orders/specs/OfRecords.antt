@@ -9,13 +9,14 @@ use Rattle.contact_ledger.specs.declared.features.Feature.{Feature}
 use Rattle.dmis_program.specs.Meaning.{Meaning}
 use Rattle.record_text.specs.Records.{Recorded}
 use Rattle.dme_orders.specs.Auditing.{LeavesVerdict}
-use Rattle.dme_orders.specs.Exporting.{LeavesTable}
-use Rattle.dme_orders.specs.Input.{Named, RecordInput, ReadsHeld, WhyNoneHeld}
+use Rattle.dme_orders.specs.Exporting.{LeavesTable, Compares}
+use Rattle.dme_orders.specs.Input.{Named, RecordInput, ReadsHeld, WhyNoneHeld, AreUntouched, Limited, ReadsLimited, WhyNoLimited}
 use Rattle.dme_orders.specs.Missing.{IsMissing}
 use Rattle.dme_orders.specs.Orders.{Went, Carries}
 use Rattle.dme_orders.specs.Reading.{Came}
 use Rattle.dme_orders.specs.Recorded.{IsOfProgram, DiffersAt, features_in, told_in}
-use Rattle.dme_orders.specs.declared.missing.Missing.{Missing}
+use Rattle.dme_orders.specs.declared.exporting.Exported.{Exported}
+use Rattle.part_limits.specs.declared.entries.Limit.{Limit}
 use Rattle.dme_orders.specs.RunErrors.{errors_in, error_line}
 use Rattle.dme_orders.specs.declared.of_records.RecordNotes.{RecordNotes}
 use Rattle.dme_orders.specs.declared.of_records.RecordText.{RecordText}
@@ -41,16 +42,17 @@ pub record LeavesRecordVerdict (input : RecordInput) (end : ℕ × RecordNotes) 
   pub errors : string_bytes end.1.errors ≡ flat_map error_line (errors_in input.held)
 
 -- a text in a form: the table of the features, or the text of a features file, or the text of a contacts file
-abbrev pub IsRecordText : RecordText → Meaning → List Feature → List (ℕ × Act) → List ℕ → Type 0
-IsRecordText (Table form) program features told text = LeavesTable form program features text
-IsRecordText Features program features told text = (are_ours program.features features ≡ true) × IsFeaturesText features text
-IsRecordText Contacts program features told text = text ≡ contacts_text told
+abbrev pub IsRecordText : RecordText → Option (List Limit) → Meaning → List Feature → List (ℕ × Act) → List ℕ → Type 0
+IsRecordText (Table form) limits program features told text = LeavesTable form limits program features text
+IsRecordText Features limits program features told text = (are_ours program.features features ≡ true) × IsFeaturesText features text
+IsRecordText Contacts limits program features told text = text ≡ contacts_text told
 
--- the record is of the program, this is its text in a form, and these features are missing
-pub record LeavesRecordText (form : RecordText) (input : RecordInput) (missing : Missing) (text : List ℕ) : Type 0 where
-  pub same : IsOfProgram input.held input.program
-  pub is : IsRecordText form input.program (features_in input.held) (told_in input.held) text
-  pub lacks : IsMissing input.program.features (features_in input.held) missing
+-- the record is of the program, this is its text in a form, these features are missing, and these lines compare the others with limits
+pub record LeavesRecordText (form : RecordText) (read : Limited RecordInput) (end : Exported) (text : List ℕ) : Type 0 where
+  pub same : IsOfProgram read.input.held read.input.program
+  pub is : IsRecordText form read.limits read.input.program (features_in read.input.held) (told_in read.input.held) text
+  pub lacks : IsMissing read.input.program.features (features_in read.input.held) end.missing
+  pub compares : Compares read.limits read.input.program (features_in read.input.held) (string_bytes end.compared)
 
 module _ {S J R W : Type 0} (s : Named S) (j : Came J) (r : Came R) (w : Went W) where
   -- all files were read, and the record is not of the program: this feature differs
@@ -73,6 +75,6 @@ module _ {S J R W : Type 0} (s : Named S) (j : Came J) (r : Came R) (w : Went W)
   AuditsRecord = Carries (ReadsHeld s j r) LeavesRecordVerdict w (λ cause. WhyNoneHeld s j r cause ⊎ IsOtherProgram cause)
 
   -- the text was written, or the export was not carried out: a file is blamed, or the record is of another program, or has other features
-  abbrev pub ExportsRecord : RecordText → Result Missing FilesFault → Type 0
-  ExportsRecord form = Carries (ReadsHeld s j r) (LeavesRecordText form) w
-      (λ cause. WhyNoneHeld s j r cause ⊎ (IsOtherProgram cause ⊎ HoldsOthers cause))
+  abbrev pub ExportsRecord : {L : Type 0} → Named L → RecordText → Result Exported FilesFault → Type 0
+  ExportsRecord l form = Carries (ReadsLimited l (ReadsHeld s j r)) (LeavesRecordText form) w
+      (λ cause. WhyNoLimited l (AreUntouched s j r) (WhyNoneHeld s j r) cause ⊎ (IsOtherProgram cause ⊎ HoldsOthers cause))

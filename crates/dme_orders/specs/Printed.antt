@@ -3,6 +3,7 @@ use Rattle.std.specs.Prelude.{◌≡◌, ℕ, Bool, ◌||◌, false, List, [], s
 use Rattle.tool_rack.specs.declared.faults.SetupFault.TheVariants as setup
 use Rattle.dmis_program.specs.declared.faults.ProgramFault.TheVariants as program
 use Rattle.link_world.specs.declared.texts.schedule_faults.ScheduleFault.TheVariants as schedule
+use Rattle.part_limits.specs.declared.faults.LimitsFault.TheVariants as limits
 use Rattle.record_text.specs.declared.faults.RecordFault.TheVariants as recorded
 use Rattle.dme_orders.specs.declared.reading.FilesFault.{FilesFault}
 use Rattle.dme_orders.specs.declared.reading.FilesFault.TheVariants as files
@@ -25,6 +26,7 @@ status_of (fault.Schedule cause) = 1
 status_of (fault.Features cause) = 1
 status_of (fault.Contacts cause) = 1
 status_of (fault.Record cause) = 1
+status_of (fault.Limits cause) = 1
 status_of (fault.OtherProgram label) = 1
 status_of (fault.CannotRead file) = 1
 status_of fault.CannotWriteOutput = 1
@@ -45,12 +47,13 @@ file_in files role.Schedule = files.schedule
 file_in files role.Features = files.features
 file_in files role.Contacts = files.contacts
 file_in files role.Record = files.record
+file_in files role.Limits = files.limits
 file_in files role.Program = files.program
 
 -- there was no memory to keep the whole text of one of them
 abbrev pub is_short : InputFiles → Bool
 is_short files = files.setup.is_short || (files.schedule.is_short || (files.features.is_short || (files.contacts.is_short
-    || (files.record.is_short || files.program.is_short))))
+    || (files.record.is_short || (files.limits.is_short || files.program.is_short)))))
 
 -- a file without a name, of which nothing was read
 pub record IsUnnamed (file : InputFile) : Type 0 where
@@ -70,6 +73,8 @@ IsFaultShown (files.Contacts ledger.Memory) file shown = shown ≡ fault.Memory
 IsFaultShown (files.Contacts cause) file shown = shown ≡ fault.Contacts cause
 IsFaultShown (files.Record recorded.Memory) file shown = shown ≡ fault.Memory
 IsFaultShown (files.Record cause) file shown = shown ≡ fault.Record cause
+IsFaultShown (files.Limits limits.Memory) file shown = shown ≡ fault.Memory
+IsFaultShown (files.Limits cause) file shown = shown ≡ fault.Limits cause
 IsFaultShown (files.OtherProgram label) file shown = shown ≡ fault.OtherProgram label
 IsFaultShown (files.Program program.Memory) file shown = shown ≡ fault.Memory
 IsFaultShown (files.Program cause) file shown = shown ≡ fault.Program cause
@@ -91,6 +96,7 @@ IsPlaceShown (files.Contacts cause) file shown = IsPlaceIn (refused.Contacts cau
 IsPlaceShown (files.Program cause) file shown = IsPlaceIn (refused.Program cause) (file role.Program) shown
 IsPlaceShown (files.Unread unread) file shown = shown ≡ []
 IsPlaceShown (files.Record cause) file shown = IsPlaceIn (refused.Record cause) (file role.Record) shown
+IsPlaceShown (files.Limits cause) file shown = IsPlaceIn (refused.Limits cause) (file role.Limits) shown
 IsPlaceShown (files.OtherProgram label) file shown = shown ≡ []
 IsPlaceShown files.NotOurs file shown = shown ≡ []
 IsPlaceShown files.Write file shown = shown ≡ []

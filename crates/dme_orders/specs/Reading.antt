@@ -9,6 +9,9 @@ use Rattle.deviations.specs.declared.faults.RowsFault.{RowsFault}
 use Rattle.deviations.specs.declared.faults.RowsFault.TheVariants as rows
 use Rattle.tool_rack.specs.Setups.{SetupValue, setup_of}
 use Rattle.tool_rack.specs.declared.faults.SetupFault.TheVariants as setup
+use Rattle.part_limits.specs.Limits.{limits_of}
+use Rattle.part_limits.specs.declared.entries.Limit.{Limit}
+use Rattle.part_limits.specs.declared.faults.LimitsFault.TheVariants as limits
 use Rattle.record_text.specs.Reading.{IsDamagedRecord}
 use Rattle.record_text.specs.Reading as texts
 use Rattle.record_text.specs.Records.{Recorded}
@@ -112,6 +115,16 @@ module _ {S : Type 0} (c : Came S) where
   abbrev pub WhyNoRecord : FilesFault → Type 0
   WhyNoRecord (fault.Record (recorded.Damaged n)) = Reads c (λ text. IsDamagedRecord text n)
   WhyNoRecord given = WhyNoText role.Record given
+
+  -- the limits of a source
+  abbrev pub ReadsLimits : List Limit → Type 0
+  ReadsLimits said = Reads c (λ text. limits_of text ≡ Ok said)
+
+  -- why there are no such values
+  abbrev pub WhyNoLimits : FilesFault → Type 0
+  WhyNoLimits (fault.Limits limits.Memory) = ⊥
+  WhyNoLimits (fault.Limits cause) = Reads c (λ text. limits_of text ≡ Err cause)
+  WhyNoLimits given = WhyNoText role.Limits given
 
   -- the program of a source under frames
   abbrev pub ReadsProgram : List (List ℕ × Point) → Meaning → Type 0

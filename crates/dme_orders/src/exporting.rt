@@ -1,23 +1,24 @@
 // An export as a whole, over ports: what was measured of features next to what a program asks for.
 
-ghost use Rattle.std.specs.Prelude.{◌≡◌, ◌<◌, length, Option, IfOk, IfErr};
+ghost use Rattle.std.specs.Prelude.{◌≡◌, ◌<◌, length, Option, IfOk, IfErr, string_bytes};
 ghost use Rattle.tool_rack.specs.Setups.{SetupValue};
 ghost use Rattle.drawings.specs.Drawing.{IsDrawing};
 ghost use Rattle.drawings.specs.Texts.{Adds};
-ghost use Rattle.dme_orders.specs.Exporting.{xml, IsInForm, LeavesTable, RefusesFeatures, Exports};
-ghost use Rattle.dme_orders.specs.Input.{named, ReadsExport, WhyNoExport};
+ghost use Rattle.dme_orders.specs.Exporting.{xml, IsInForm, LeavesTable, Compares, RefusesFeatures, Exports};
+ghost use Rattle.dme_orders.specs.Input.{named, ReadsExport, WhyNoExport, AreUntouched, ReadsLimited, WhyNoLimited};
 ghost use Rattle.dme_orders.specs.Missing.{IsMissing};
 ghost use Rattle.dme_orders.specs.Orders.{went};
 ghost use Rattle.dme_orders.specs.Reading.{came};
 
 use crate::missing::{Missing, missing_of};
-use crate::reading::{FilesFault, features_from, named_setup, program_under};
+use crate::reading::{FilesFault, features_from, named_limits, named_setup, program_under};
 use crate::simulating::write_text;
 use byte_ports::{Sink, Source};
 use contact_ledger::{Feature, FeatureLedger};
-use deviations::{Form, Row, rows_of, write_csv, write_json};
+use deviations::{Form, Row, compared, rows_of, write_csv, write_json};
 use dmis_program::Program;
 use drawings::write_drawing;
+use part_limits::Limits;
 use std::alloc::{AllocError, Global};
 
 /// The files of an export, as sources.
@@ -29,6 +30,16 @@ pub struct ExportFiles<S, F, R> {
     pub features: F,
     /// The DMIS program.
     pub program: R,
+}
+
+/// What an export says besides what it prints.
+#[derive(Debug, Drop)]
+pub struct Exported {
+    /// Which features of the program are missing.
+    pub missing: Missing,
+    /// With limits, a line for the worst point of each feature, as `dme: BORE: worst 0.021 at point 3: out`, and one for how many points
+    /// are out; else empty.
+    pub compared: String,
 }
 
 /// Reads a setup if one is named, then features, then a program under the setup's frames, each to the end of its text and understood
@@ -50,6 +61,38 @@ fn export_input<S: Source, F: Source, R: Source>(
     let features = features_from(alloc, &mut files.features)?;
     let program = program_under(alloc, &setup, &mut files.program)?;
     Ok((features, program))
+}
+
+/// Likewise, and before them limits if they are named.
+fn limited_input<L: Source, S: Source, F: Source, R: Source>(
+    alloc: Global,
+    limits: &mut Option<L>,
+    files: &mut ExportFiles<S, F, R>,
+) -> Result<(Option<Limits>, FeatureLedger, Program), FilesFault>
+    ensures ok { IfOk result (λ read. (said : Option SetupValue)
+        × ReadsLimited (named L.left L.has_failed limits.old limits.new)
+        (ReadsExport (named S.left S.has_failed files.old.setup files.new.setup)
+        (came F.left F.has_failed files.old.features files.new.features)
+        (came R.left R.has_failed files.old.program files.new.program))
+        (record {
+          limits = read.0;
+          input = record {
+            setup = said;
+            features = read.1;
+            program = read.2;
+          };
+        })) }
+    ensures err { IfErr result (WhyNoLimited (named L.left L.has_failed limits.old limits.new)
+        (AreUntouched (named S.left S.has_failed files.old.setup files.new.setup)
+        (came F.left F.has_failed files.old.features files.new.features)
+        (came R.left R.has_failed files.old.program files.new.program))
+        (WhyNoExport (named S.left S.has_failed files.old.setup files.new.setup)
+        (came F.left F.has_failed files.old.features files.new.features)
+        (came R.left R.has_failed files.old.program files.new.program))) }
+{
+    let limits = named_limits(alloc, limits)?;
+    let (features, program) = export_input(alloc, files)?;
+    Ok((limits, features, program))
 }
 
 /// The declaration of a text in XML, with its line's end. Fails only if out of memory.
@@ -76,18 +119,19 @@ fn drawn(alloc: Global, program: &Program, features: &[Feature]) -> Result<Vec<u
 fn form_text(
     alloc: Global,
     form: Form,
+    limits: &Option<Limits>,
     rows: &[Row<'_>],
     program: &Program,
     features: &[Feature],
 ) -> Result<Vec<u8>, AllocError>
-    ensures text { IfOk result (λ text. IsInForm form program.now features.now rows.now
-        text.items) }
+    ensures text { IfOk result (λ text. IsInForm form limits.now program.now features.now
+        rows.now text.items) }
     ensures some { IfOk result (λ text. 0 < length text.items) }
 {
     let mut text = Vec::new(alloc);
     match form {
-        Form::Csv => write_csv(&mut text, rows)?,
-        Form::Json => write_json(&mut text, rows)?,
+        Form::Csv => write_csv(&mut text, limits, rows)?,
+        Form::Json => write_json(&mut text, limits, rows)?,
         Form::Svg => return drawn(alloc, program, features),
     }
     Ok(text)
@@ -97,53 +141,81 @@ fn form_text(
 pub(crate) fn table_text(
     alloc: Global,
     form: Form,
+    limits: &Option<Limits>,
     program: &Program,
     features: &[Feature],
 ) -> Result<Vec<u8>, FilesFault>
-    ensures leaves { IfOk result (λ text. LeavesTable form program.now features.now text.items) }
+    ensures leaves { IfOk result (λ text. LeavesTable form limits.now program.now features.now
+        text.items) }
     ensures some { IfOk result (λ text. 0 < length text.items) }
     ensures refused { IfErr result (RefusesFeatures program.now features.now) }
 {
     let rows = rows_of(alloc, program, features)?;
-    Ok(form_text(alloc, form, rows.as_slice(), program, features)?)
+    Ok(form_text(alloc, form, limits, rows.as_slice(), program, features)?)
 }
 
-/// Likewise, with the features of the program that are missing.
+/// The lines that compare features with limits; none without limits. They are refused only if they are not the first ones of the program.
+pub(crate) fn compared_lines(
+    alloc: Global,
+    limits: &Option<Limits>,
+    program: &Program,
+    features: &[Feature],
+) -> Result<String, FilesFault>
+    ensures compares { IfOk result (λ lines. Compares limits.now program.now features.now
+        (string_bytes lines)) }
+    ensures refused { IfErr result (RefusesFeatures program.now features.now) }
+{
+    let Some(limits) = limits else {
+        return Ok(String::new(alloc));
+    };
+    let rows = rows_of(alloc, program, features)?;
+    Ok(compared(alloc, limits, program, rows.as_slice())?)
+}
+
+/// The table of features in a form, and what is said besides it.
 fn table_of_part(
     alloc: Global,
     form: Form,
+    limits: &Option<Limits>,
     program: &Program,
     features: &[Feature],
-) -> Result<(Missing, Vec<u8>), FilesFault>
-    ensures leaves { IfOk result (λ end. LeavesTable form program.now features.now end.1.items) }
-    ensures lacks { IfOk result (λ end. IsMissing program.now.features features.now end.0) }
+) -> Result<(Exported, Vec<u8>), FilesFault>
+    ensures leaves { IfOk result (λ end. LeavesTable form limits.now program.now features.now
+        end.1.items) }
+    ensures lacks { IfOk result (λ end. IsMissing program.now.features features.now
+        end.0.missing) }
+    ensures compares { IfOk result (λ end. Compares limits.now program.now features.now
+        (string_bytes end.0.compared)) }
     ensures some { IfOk result (λ end. 0 < length end.1.items) }
     ensures refused { IfErr result (RefusesFeatures program.now features.now) }
 {
     let missing = missing_of(alloc, program, features)?;
-    let text = table_text(alloc, form, program, features)?;
-    Ok((missing, text))
+    let compared = compared_lines(alloc, limits, program, features)?;
+    let text = table_text(alloc, form, limits, program, features)?;
+    Ok((Exported { missing, compared }, text))
 }
 
-/// Reads a setup if one is named, then features, then a program under the setup's frames, each to the end of its text and understood
-/// before the next is read; and writes the table of the features in a form: a row for each touch of the program, and how far the measured
+/// Reads limits if they are named, then a setup if one is named, then features, then a program under the setup's frames, each to the end of
+/// its text and understood before the next is read; and writes the table of the features in a form: a row for each touch of the program, and how far the measured
 /// point lies from where the program asks for it. Features that are not the first ones of the program are `NotOurs`. The answer is which
-/// features are missing: their rows have no measured point.
+/// features are missing, whose rows have no measured point, and with limits what they say of the points.
 ///
 /// It writes only once the whole table is there. A file is blamed only for its own first refusal, or because it could not be read.
-pub fn export_files<S: Source, F: Source, R: Source, W: Sink>(
+pub fn export_files<L: Source, S: Source, F: Source, R: Source, W: Sink>(
     alloc: Global,
     form: Form,
+    limits: &mut Option<L>,
     files: &mut ExportFiles<S, F, R>,
     sink: &mut W,
-) -> Result<Missing, FilesFault>
+) -> Result<Exported, FilesFault>
     ensures { Exports form (named S.left S.has_failed files.old.setup files.new.setup)
         (came F.left F.has_failed files.old.features files.new.features)
         (came R.left R.has_failed files.old.program files.new.program)
-        (went W.taken W.has_failed sink.old sink.new) result }
+        (went W.taken W.has_failed sink.old sink.new)
+        (named L.left L.has_failed limits.old limits.new) result }
 {
-    let (features, program) = export_input(alloc, files)?;
-    let (missing, text) = table_of_part(alloc, form, &program, features.list())?;
+    let (ranges, features, program) = limited_input(alloc, limits, files)?;
+    let (exported, text) = table_of_part(alloc, form, &ranges, &program, features.list())?;
     write_text(sink, text.as_slice())?;
-    Ok(missing)
+    Ok(exported)
 }

@@ -9,7 +9,7 @@ use contact_ledger::TextFault;
 use dmis_program::ProgramFault;
 use fixed_um::Name;
 use link_world::ScheduleFault;
-use record_text::RecordFault;
+use part_limits::LimitsFault;
 use refusal_guide::{Refused, write_place};
 use std::alloc::{AllocError, AllocFailed, Global};
 use thiserror::Error;
@@ -36,6 +36,9 @@ pub enum OrderFault {
     /// A record that is refused; never because memory ran out.
     #[error("dme: {0} in record\n")]
     Record(RecordFault),
+    /// Limits that are refused; never because memory ran out.
+    #[error("dme: {0} in limits\n")]
+    Limits(LimitsFault),
     /// A record that is not of the program: this feature differs.
     #[error("dme: J3 OtherProgram (feature {0}) in record\n")]
     OtherProgram(Name),
@@ -90,6 +93,7 @@ impl OrderFault {
             OrderFault::Program(_) | OrderFault::Setup(_) | OrderFault::Schedule(_) => 1,
             OrderFault::Features(_) | OrderFault::Contacts(_) => 1,
             OrderFault::Record(_) | OrderFault::OtherProgram(_) => 1,
+            OrderFault::Limits(_) => 1,
             OrderFault::CannotRead(_)
             | OrderFault::CannotWriteOutput
             | OrderFault::CannotWrite(_) => 1,
@@ -129,6 +133,7 @@ pub struct InputFiles {
     pub features: InputFile,
     pub contacts: InputFile,
     pub record: InputFile,
+    pub limits: InputFile,
     pub program: InputFile,
 }
 
@@ -140,6 +145,7 @@ impl InputFiles {
         ensures features { IsUnnamed result.features }
         ensures contacts { IsUnnamed result.contacts }
         ensures record_of { IsUnnamed result.record }
+        ensures limits { IsUnnamed result.limits }
         ensures program { IsUnnamed result.program }
     {
         InputFiles {
@@ -148,6 +154,7 @@ impl InputFiles {
             features: InputFile::unnamed(alloc),
             contacts: InputFile::unnamed(alloc),
             record: InputFile::unnamed(alloc),
+            limits: InputFile::unnamed(alloc),
             program: InputFile::unnamed(alloc),
         }
     }
@@ -161,6 +168,7 @@ impl InputFiles {
             || self.features.is_short
             || self.contacts.is_short
             || self.record.is_short
+            || self.limits.is_short
             || self.program.is_short
     }
 
@@ -174,6 +182,7 @@ impl InputFiles {
             Role::Features => self.features,
             Role::Contacts => self.contacts,
             Role::Record => self.record,
+            Role::Limits => self.limits,
             Role::Program => self.program,
         }
     }
@@ -205,6 +214,7 @@ pub fn place_of(
         FilesFault::Contacts(cause) => (Refused::Contacts(*cause), &files.contacts),
         FilesFault::Program(cause) => (Refused::Program(*cause), &files.program),
         FilesFault::Record(cause) => (Refused::Record(*cause), &files.record),
+        FilesFault::Limits(cause) => (Refused::Limits(*cause), &files.limits),
         FilesFault::Unread(_)
         | FilesFault::OtherProgram(_)
         | FilesFault::NotOurs
@@ -226,6 +236,7 @@ pub fn shown_fault(fault: FilesFault, files: InputFiles) -> OrderFault
         | FilesFault::Features(TextFault::Memory)
         | FilesFault::Contacts(TextFault::Memory)
         | FilesFault::Record(RecordFault::Memory)
+        | FilesFault::Limits(LimitsFault::Memory)
         | FilesFault::Program(ProgramFault::Memory)
         | FilesFault::Memory => OrderFault::Memory,
         FilesFault::Setup(cause) => OrderFault::Setup(cause),
@@ -233,6 +244,7 @@ pub fn shown_fault(fault: FilesFault, files: InputFiles) -> OrderFault
         FilesFault::Features(cause) => OrderFault::Features(cause),
         FilesFault::Contacts(cause) => OrderFault::Contacts(cause),
         FilesFault::Record(cause) => OrderFault::Record(cause),
+        FilesFault::Limits(cause) => OrderFault::Limits(cause),
         FilesFault::OtherProgram(label) => OrderFault::OtherProgram(label),
         FilesFault::Program(cause) => OrderFault::Program(cause),
         FilesFault::Unread(role) => OrderFault::CannotRead(files.into_file(role).name),

@@ -53,7 +53,7 @@ pub use confirming::is_confirmed;
 pub use ended::{ConnectionEnd, shown_break};
 pub use ends::{end_report, kept_client};
 pub use explaining::explain;
-pub use exporting::{ExportFiles, export_files};
+pub use exporting::{ExportFiles, Exported, export_files};
 pub use faults::{InputFile, InputFiles, OrderFault, place_of, shown_fault};
 pub use looping::{LoopTask, loop_over};
 pub use missing::Missing;

@@ -1,29 +1,30 @@
 // The record of a run is audited and exported, over ports.
 
-ghost use Rattle.std.specs.Prelude.{◌≡◌, ◌<◌, length, Option, OnOk, IfOk, IfErr, true};
+ghost use Rattle.std.specs.Prelude.{◌≡◌, ◌<◌, length, Option, OnOk, IfOk, IfErr, true, string_bytes};
 ghost use Rattle.client_core.specs.Clients.{are_ours};
 ghost use Rattle.contact_ledger.specs.ContactTexts.{contacts_text};
 ghost use Rattle.contact_ledger.specs.Ledgers.{HaveOrigins};
 ghost use Rattle.tool_rack.specs.Setups.{SetupValue};
 ghost use Rattle.dme_orders.specs.Auditing.{LeavesVerdict};
 ghost use Rattle.dme_orders.specs.OfRecords.{IsFeaturesText, RefusesRecord, IsRecordText, AuditsRecord, ExportsRecord};
-ghost use Rattle.dme_orders.specs.Exporting.{RefusesFeatures};
-ghost use Rattle.dme_orders.specs.Input.{named, ReadsHeld, WhyNoneHeld};
+ghost use Rattle.dme_orders.specs.Exporting.{Compares, RefusesFeatures};
+ghost use Rattle.dme_orders.specs.Input.{named, ReadsHeld, WhyNoneHeld, AreUntouched, ReadsLimited, WhyNoLimited};
 ghost use Rattle.dme_orders.specs.Missing.{IsMissing};
 ghost use Rattle.dme_orders.specs.Orders.{went};
 ghost use Rattle.dme_orders.specs.Reading.{came};
 ghost use Rattle.dme_orders.specs.Recorded.{IsOfProgram, features_in, told_in};
 
 use crate::auditing::audited;
-use crate::exporting::table_text;
+use crate::exporting::{Exported, compared_lines, table_text};
 use crate::missing::{Missing, missing_of};
-use crate::reading::{FilesFault, named_setup, program_under, record_from};
+use crate::reading::{FilesFault, named_limits, named_setup, program_under, record_from};
 use crate::run_errors::errors_of;
 use crate::simulating::write_text;
 use byte_ports::{Sink, Source};
 use contact_ledger::{Feature, FeatureLedger, ServerLedger, write_contacts, write_features};
 use deviations::{Form, rows_of};
 use dmis_program::Program;
+use part_limits::Limits;
 use record_text::{Record, other_feature};
 use std::alloc::{AllocError, Global};
 
@@ -68,6 +69,38 @@ fn record_input<S: Source, J: Source, R: Source>(
     let held = record_from(alloc, &mut files.record)?;
     let program = program_under(alloc, &setup, &mut files.program)?;
     Ok((held, program))
+}
+
+/// Likewise, and before them limits if they are named.
+fn limited_input<L: Source, S: Source, J: Source, R: Source>(
+    alloc: Global,
+    limits: &mut Option<L>,
+    files: &mut RecordFiles<S, J, R>,
+) -> Result<(Option<Limits>, Option<Record>, Program), FilesFault>
+    ensures ok { IfOk result (λ read. (said : Option SetupValue)
+        × ReadsLimited (named L.left L.has_failed limits.old limits.new)
+        (ReadsHeld (named S.left S.has_failed files.old.setup files.new.setup)
+        (came J.left J.has_failed files.old.record files.new.record)
+        (came R.left R.has_failed files.old.program files.new.program))
+        (record {
+          limits = read.0;
+          input = record {
+            setup = said;
+            held = read.1;
+            program = read.2;
+          };
+        })) }
+    ensures err { IfErr result (WhyNoLimited (named L.left L.has_failed limits.old limits.new)
+        (AreUntouched (named S.left S.has_failed files.old.setup files.new.setup)
+        (came J.left J.has_failed files.old.record files.new.record)
+        (came R.left R.has_failed files.old.program files.new.program))
+        (WhyNoneHeld (named S.left S.has_failed files.old.setup files.new.setup)
+        (came J.left J.has_failed files.old.record files.new.record)
+        (came R.left R.has_failed files.old.program files.new.program))) }
+{
+    let limits = named_limits(alloc, limits)?;
+    let (held, program) = record_input(alloc, files)?;
+    Ok((limits, held, program))
 }
 
 /// Refuses a record that is not of this program. One that is not begun is of any.
@@ -182,64 +215,73 @@ fn contacts_text(alloc: Global, ledger: &ServerLedger) -> Result<Vec<u8>, AllocE
 fn text_in(
     alloc: Global,
     form: RecordText,
+    limits: &Option<Limits>,
     program: &Program,
     features: &[Feature],
     ledger: &ServerLedger,
 ) -> Result<Vec<u8>, FilesFault>
     requires { HaveOrigins features.now }
-    ensures leaves { IfOk result (λ text. IsRecordText form program.now features.now ledger.now
-        text.items) }
+    ensures leaves { IfOk result (λ text. IsRecordText form limits.now program.now features.now
+        ledger.now text.items) }
     ensures some { IfOk result (λ text. 0 < length text.items) }
     ensures refused { IfErr result (RefusesFeatures program.now features.now) }
 {
     match form {
-        RecordText::Table(form) => table_text(alloc, form, program, features),
+        RecordText::Table(form) => table_text(alloc, form, limits, program, features),
         RecordText::Features => features_text(alloc, program, features),
         RecordText::Contacts => Ok(contacts_text(alloc, ledger)?),
     }
 }
 
-/// Likewise, with the features of the program that are missing.
+/// Likewise, and what is said besides it.
 fn text_of_part(
     alloc: Global,
     form: RecordText,
+    limits: &Option<Limits>,
     program: &Program,
     features: &[Feature],
     ledger: &ServerLedger,
-) -> Result<(Missing, Vec<u8>), FilesFault>
+) -> Result<(Exported, Vec<u8>), FilesFault>
     requires { HaveOrigins features.now }
-    ensures leaves { IfOk result (λ end. IsRecordText form program.now features.now ledger.now
-        end.1.items) }
-    ensures lacks { IfOk result (λ end. IsMissing program.now.features features.now end.0) }
+    ensures leaves { IfOk result (λ end. IsRecordText form limits.now program.now features.now
+        ledger.now end.1.items) }
+    ensures lacks { IfOk result (λ end. IsMissing program.now.features features.now
+        end.0.missing) }
+    ensures compares { IfOk result (λ end. Compares limits.now program.now features.now
+        (string_bytes end.0.compared)) }
     ensures some { IfOk result (λ end. 0 < length end.1.items) }
     ensures refused { IfErr result (RefusesFeatures program.now features.now) }
 {
     let missing = missing_of(alloc, program, features)?;
-    let text = text_in(alloc, form, program, features, ledger)?;
-    Ok((missing, text))
+    let compared = compared_lines(alloc, limits, program, features)?;
+    let text = text_in(alloc, form, limits, program, features, ledger)?;
+    Ok((Exported { missing, compared }, text))
 }
 
-/// Reads a setup if one is named, then a record, then a program under the setup's frames, each to the end of its text and understood before
-/// the next is read; and writes what the record holds in a form: the table of its features as `export_files` writes it, or the text of a
-/// features file or of a contacts file. The answer is which features of the program are missing. A record of another program is
+/// Reads limits if they are named, then a setup if one is named, then a record, then a program under the setup's frames, each to the end of
+/// its text and understood before the next is read; and writes what the record holds in a form: the table of its features as `export_files` writes it, or the text of a
+/// features file or of a contacts file. The answer is which features of the program are missing, and with limits what they say of the
+/// points. A record of another program is
 /// `OtherProgram`; its part is not compared.
 ///
 /// It writes only once the whole text is there. A file is blamed only for its own first refusal, or because it could not be read.
-pub fn export_record<S: Source, J: Source, R: Source, W: Sink>(
+pub fn export_record<L: Source, S: Source, J: Source, R: Source, W: Sink>(
     alloc: Global,
     form: RecordText,
+    limits: &mut Option<L>,
     files: &mut RecordFiles<S, J, R>,
     sink: &mut W,
-) -> Result<Missing, FilesFault>
+) -> Result<Exported, FilesFault>
     ensures { ExportsRecord (named S.left S.has_failed files.old.setup files.new.setup)
         (came J.left J.has_failed files.old.record files.new.record)
         (came R.left R.has_failed files.old.program files.new.program)
-        (went W.taken W.has_failed sink.old sink.new) form result }
+        (went W.taken W.has_failed sink.old sink.new)
+        (named L.left L.has_failed limits.old limits.new) form result }
 {
-    let (held, program) = record_input(alloc, files)?;
+    let (ranges, held, program) = limited_input(alloc, limits, files)?;
     of_program(alloc, &held, &program)?;
     let (features, ledger) = parts_of(alloc, held);
-    let (missing, text) = text_of_part(alloc, form, &program, features.list(), &ledger)?;
+    let (exported, text) = text_of_part(alloc, form, &ranges, &program, features.list(), &ledger)?;
     write_text(sink, text.as_slice())?;
-    Ok(missing)
+    Ok(exported)
 }

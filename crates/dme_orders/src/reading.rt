@@ -3,8 +3,9 @@
 ghost use Rattle.std.specs.Prelude.{◌≡◌, Ok, IfOk, IfErr};
 ghost use Rattle.dme_orders.specs.Reading.{came, Reads, WhyNoText, ReadsSetup, WhyNoSetup, ReadsSchedule, WhyNoSchedule, ReadsProgram, WhyNoProgram};
 ghost use Rattle.dme_orders.specs.Reading.{ReadsFeatures, WhyNoFeatures, ReadsContacts, WhyNoContacts, ReadsRecord, WhyNoRecord};
+ghost use Rattle.dme_orders.specs.Reading.{ReadsLimits, WhyNoLimits};
 ghost use Rattle.program_review.specs.Reviews.{frames_under};
-ghost use Rattle.dme_orders.specs.Input.{named, ReadsNamed, WhyNoNamed};
+ghost use Rattle.dme_orders.specs.Input.{named, ReadsNamed, WhyNoNamed, ReadsNamedLimits, WhyNoNamedLimits};
 
 use byte_ports::{PullFault, Source, pull_all};
 use contact_ledger::{FeatureLedger, ServerLedger, TextFault, read_features};
@@ -12,6 +13,7 @@ use deviations::RowsFault;
 use dmis_program::{Frames, Program, ProgramFault};
 use fixed_um::Name;
 use link_world::{Schedule, ScheduleFault};
+use part_limits::{Limits, LimitsFault};
 use record_text::{Record, RecordFault, read_record};
 use std::alloc::{AllocError, Global};
 use told_files::read_audited;
@@ -30,6 +32,8 @@ pub enum Role {
     Contacts,
     /// The record of a run.
     Record,
+    /// The limits of a part.
+    Limits,
     /// The DMIS program.
     Program,
 }
@@ -47,6 +51,8 @@ pub enum FilesFault {
     Contacts(TextFault),
     /// The record is refused; never because memory ran out.
     Record(RecordFault),
+    /// The limits are refused; never because memory ran out.
+    Limits(LimitsFault),
     /// The program is refused, under the setup's frames; never because memory ran out.
     Program(ProgramFault),
     /// A source has failed, or a million pulls have not come to the end of its text.
@@ -185,6 +191,34 @@ pub(crate) fn record_from<S: Source>(
         Ok(held) => Ok(held),
         Err(RecordFault::Memory) => Err(FilesFault::Memory),
         Err(refused) => Err(FilesFault::Record(refused)),
+    }
+}
+
+fn limits_from<S: Source>(alloc: Global, source: &mut S) -> Result<Limits, FilesFault>
+    ensures ok { IfOk result (ReadsLimits (came S.left S.has_failed source.old source.new)) }
+    ensures err { IfErr result (WhyNoLimits (came S.left S.has_failed source.old source.new)) }
+{
+    let text = read_text(alloc, source, Role::Limits)?;
+    let read = Limits::read(alloc, text.as_slice());
+    drop(text);
+    match read {
+        Ok(limits) => Ok(limits),
+        Err(LimitsFault::Memory) => Err(FilesFault::Memory),
+        Err(refused) => Err(FilesFault::Limits(refused)),
+    }
+}
+
+pub(crate) fn named_limits<S: Source>(
+    alloc: Global,
+    source: &mut Option<S>,
+) -> Result<Option<Limits>, FilesFault>
+    ensures ok { IfOk result (ReadsNamedLimits (named S.left S.has_failed source.old source.new)) }
+    ensures err { IfErr result (WhyNoNamedLimits (named S.left S.has_failed source.old
+        source.new)) }
+{
+    match source {
+        Some(source) => Ok(Some(limits_from(alloc, source)?)),
+        None => Ok(None),
     }
 }
 

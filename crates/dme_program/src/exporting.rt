@@ -3,8 +3,8 @@
 use byte_ports::Writing;
 use dme_files::{Fault, NamedSource, Sources, of_output, refused};
 use dme_orders::{
-    ExportFiles, InputFiles, Missing, RecordFiles, RecordNotes, RecordText, explain, export_files,
-    export_record,
+    ExportFiles, Exported, InputFiles, Missing, RecordFiles, RecordNotes, RecordText, explain,
+    export_files, export_record,
 };
 use dme_words::{Export, RecordExport, RecordForm};
 use refusal_guide::Topic;
@@ -24,6 +24,14 @@ pub fn tell_notes<R: Eprint>(rt: &R, notes: &RecordNotes) {
     let _ = eprint!(rt; "{errors}");
 }
 
+/// Says on standard error what an export says besides what it prints. A line that cannot be written changes nothing.
+fn tell_exported<R: Eprint>(rt: &R, exported: &Exported) -> u8 {
+    tell_missing(rt, &exported.missing);
+    let compared = &exported.compared;
+    let _ = eprint!(rt; "{compared}");
+    exported.missing.status()
+}
+
 /// The order `export`: its exit status.
 #[inline(never)]
 pub fn export<R: Files + Input + Print + Eprint + AllocGlobal>(
@@ -36,12 +44,10 @@ pub fn export<R: Files + Input + Print + Eprint + AllocGlobal>(
         features: sources.file(order.features),
         program: sources.file(order.program),
     };
+    let mut limits = sources.maybe(order.limits);
     let mut sink = Writing::new(io::writer(rt));
-    let fault = match export_files(rt.alloc(), order.form, &mut sought, &mut sink) {
-        Ok(missing) => {
-            tell_missing(rt, &missing);
-            return Ok(missing.status());
-        }
+    let fault = match export_files(rt.alloc(), order.form, &mut limits, &mut sought, &mut sink) {
+        Ok(exported) => return Ok(tell_exported(rt, &exported)),
         Err(fault) => fault,
     };
     let ExportFiles {
@@ -55,6 +61,9 @@ pub fn export<R: Files + Input + Print + Eprint + AllocGlobal>(
     }
     files.features = features.into_file();
     files.program = program.into_file();
+    if let Some(limits) = limits {
+        files.limits = limits.into_file();
+    }
     Err(refused(rt.alloc(), fault, files, order.explain))
 }
 
@@ -79,14 +88,18 @@ pub fn export_of_record<R: Files + Input + Print + Eprint + AllocGlobal>(
         record: sources.file(order.record),
         program: sources.file(order.program),
     };
+    let mut limits = sources.maybe(order.limits);
     let mut sink = Writing::new(io::writer(rt));
-    match export_record(rt.alloc(), text_of(order.form), &mut sought, &mut sink) {
-        Ok(missing) => {
-            tell_missing(rt, &missing);
-            Ok(missing.status())
-        }
-        Err(fault) => Err(refused(rt.alloc(), fault, record_files(rt, sought), order.explain)),
+    let form = text_of(order.form);
+    let fault = match export_record(rt.alloc(), form, &mut limits, &mut sought, &mut sink) {
+        Ok(exported) => return Ok(tell_exported(rt, &exported)),
+        Err(fault) => fault,
+    };
+    let mut files = record_files(rt, sought);
+    if let Some(limits) = limits {
+        files.limits = limits.into_file();
     }
+    Err(refused(rt.alloc(), fault, files, order.explain))
 }
 
 /// The files of an order over a record, as far as they were read.

@@ -4,11 +4,14 @@ use Rattle.dme_orders.proofs.exporting.export_files.Goals as goal
 
 pub returns-in_err-write_text : goal.returns-in_err-write_text
 returns-in_err-write_text g c = torn_as _ _ _ _ c.from_residual-in_err-write_text.result (search rules) (record {
-  input = record { setup = c.in_ok-features.ensures.ok.0; features = c.in_ok-features.features; program = c.in_ok-features.program };
-  read = c.in_ok-features.ensures.ok.1;
-  end = c.in_ok-missing.missing;
+  input = record {
+    limits = c.in_ok-ranges.ranges;
+    input = record { setup = c.in_ok-ranges.ensures.ok.0; features = c.in_ok-ranges.features; program = c.in_ok-ranges.program };
+  };
+  read = c.in_ok-ranges.ensures.ok.1;
+  end = c.in_ok-exported.exported;
   text = c.as_slice.result.now;
-  leaves = record { table = search rules; lacks = search rules };
+  leaves = record { table = search rules; lacks = search rules; compares = search rules };
   front = search rules;
   fails = search rules;
 })
