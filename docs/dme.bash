@@ -8,7 +8,7 @@ _dme()
         return
     fi
     case $before in
-        --setup | --schedule | --features | --contacts | --record | --log | --stop | --up | --down | --told | --record-bytes)
+        --setup | --schedule | --features | --contacts | --record | --limits | --log | --stop | --up | --down | --told | --record-bytes)
             mapfile -t COMPREPLY < <(compgen -f -- "$word")
             return ;;
         --as)
@@ -29,13 +29,13 @@ _dme()
         loop) options="--setup --window --progress --trace --explain" ;;
         serve) options="--setup --listen --port --connections --endless --contacts --progress --trace --log --timeout --stop --explain" ;;
         run) options="--setup --host --port --window --features --record --part --contacts --progress --trace --log --timeout --wait --stop --confirm --pause --explain" ;;
-        export) options="--as --setup --features --record --explain" ;;
+        export) options="--as --setup --features --record --limits --explain" ;;
         review) options="--as --setup" ;;
         ledger) options="--up --down --connection" ;;
         judge) options="--up --down" ;;
         watch) options="--listen --host --port --told --record-bytes --connections --endless --trace --log --timeout" ;;
         explain)
-            options="P1 P2 P3 P4 P5 P6 P7 P8 P9 P10 P11 P12 P13 P14 P15 P16 N1 N2 N3 S1 S2 S3 H1 K1 J1 J2 J3 C4"
+            options="P1 P2 P3 P4 P5 P6 P7 P8 P9 P10 P11 P12 P13 P14 P15 P16 N1 N2 N3 S1 S2 S3 H1 M1 M2 M3 K1 J1 J2 J3 C4"
             options+=" 9001 9002 9003 9004 9005 9006 9007 9008 9009 9010 9011 9012 9013 9014 9015"
             [[ $word == [a-z]* ]] && options=${options,,}
             [[ $word == -* ]] && options=--help
