@@ -74,11 +74,9 @@ pub record Limited (A : Type 0) : Type 0 where
   pub limits : Option (List Limit)
   pub input : A
 
-module _ {L A : Type 0} (l : Named L) (Reads : A → Type 0) where
-  -- limits if they are named, then other files
-  pub record ReadsLimited (input : Limited A) : Type 0 where
-    pub ranges : ReadsNamedLimits l input.limits
-    pub read : Reads input.input
+-- limits were read if they are named, then other files
+abbrev pub ReadsLimited : {L A : Type 0} → Named L → (Reads : A → Type 0) → Limited A → Type 0
+ReadsLimited l Reads input = ReadsNamedLimits l input.limits × Reads input.input
 
 -- the limits are blamed, and the other files are untouched; or one of those is blamed
 abbrev pub WhyNoLimited : {L : Type 0} → Named L → (others : Type 0) → (WhyNo : FilesFault → Type 0) → FilesFault → Type 0
