@@ -44,17 +44,17 @@ impl Model for Worst {
     ghost invariant = { λ w. unsigned_abs w.along ≤ 2 ^ 64 };
 }
 
-fn margin(range: Range, along: i128) -> i128
+fn margin(range: &Range, along: i128) -> i128
     requires { unsigned_abs along ≤ 2 ^ 64 }
-    ensures { result ≡ margin range along }
+    ensures { result ≡ margin range.now along }
 {
     let below = along - i128::from(range.lower.get());
     let above = i128::from(range.upper.get()) - along;
     below.min(above)
 }
 
-fn worse(range: Range, worst: Option<Worst>, next: Worst) -> Option<Worst>
-    ensures { result ≡ worse range worst next }
+fn worse(range: &Range, worst: Option<Worst>, next: Worst) -> Option<Worst>
+    ensures { result ≡ worse range.now worst next }
 {
     match worst {
         None => Some(next),
@@ -68,8 +68,8 @@ fn worse(range: Range, worst: Option<Worst>, next: Worst) -> Option<Worst>
     }
 }
 
-fn worse_row(range: Range, worst: Option<Worst>, row: &Row<'_>) -> Option<Worst>
-    ensures { result ≡ worse_row range worst row.now.place.number row.now.along }
+fn worse_row(range: &Range, worst: Option<Worst>, row: &Row<'_>) -> Option<Worst>
+    ensures { result ≡ worse_row range.now worst row.now.place.number row.now.along }
 {
     match row.along() {
         Some(along) => worse(
@@ -85,8 +85,8 @@ fn worse_row(range: Range, worst: Option<Worst>, row: &Row<'_>) -> Option<Worst>
 }
 
 /// The first of the points with the least margin.
-fn worst_of(range: Range, rows: &[Row<'_>]) -> Option<Worst>
-    ensures { result ≡ worst_after range None rows.now }
+fn worst_of(range: &Range, rows: &[Row<'_>]) -> Option<Worst>
+    ensures { result ≡ worst_after range.now None rows.now }
 {
     let mut worst = None;
     for row in rows {
@@ -122,22 +122,34 @@ fn push_feature(
     let Some(range) = range else {
         return Ok(());
     };
-    match worst_of(range, rows) {
+    match worst_of(&range, rows) {
         Some(worst) => push_line(text, label, range, worst),
         None => Ok(()),
     }
 }
 
-/// The first rows, and those after them.
-#[tactic(auto, using(std::proofs::lemmas::List::drop_all, std::proofs::lemmas::List::take_all))]
-fn cut<'a, 'b>(rows: &'a [Row<'b>], count: usize) -> (&'a [Row<'b>], &'a [Row<'b>])
-    ensures front { result.0.now ≡ take count rows.now }
-    ensures behind { result.1.now ≡ drop count rows.now }
+/// The first rows, up to this many.
+#[tactic(auto, using(std::proofs::lemmas::List::take_all))]
+fn front<'a, 'b>(rows: &'a [Row<'b>], count: usize) -> &'a [Row<'b>]
+    ensures { result.now ≡ take count rows.now }
 {
     if count > rows.len() {
-        return (rows, &[]);
+        return rows;
     }
-    rows.split_at(count)
+    let (front, _) = rows.split_at(count);
+    front
+}
+
+/// The rows after those.
+#[tactic(auto, using(std::proofs::lemmas::List::drop_all))]
+fn behind<'a, 'b>(rows: &'a [Row<'b>], count: usize) -> &'a [Row<'b>]
+    ensures { result.now ≡ drop count rows.now }
+{
+    if count > rows.len() {
+        return &[];
+    }
+    let (_, behind) = rows.split_at(count);
+    behind
 }
 
 fn push_features(
@@ -152,10 +164,11 @@ fn push_features(
     let mut left = wanted;
     let mut later = rows;
     while let [first, others @ ..] = left {
-        let (own, after) = cut(later, first.touches.as_slice().len());
-        push_feature(text, &first.label, limits.range_for(&first.label), own)?;
+        let count = first.touches.as_slice().len();
+        let range = limits.range_for(&first.label);
+        push_feature(text, &first.label, range, front(later, count))?;
         left = others;
-        later = after;
+        later = behind(later, count);
     }
     Ok(())
 }
