@@ -4,7 +4,7 @@ _dme()
     local word=${COMP_WORDS[COMP_CWORD]} before=${COMP_WORDS[COMP_CWORD - 1]} options
     COMPREPLY=()
     if (( COMP_CWORD == 1 )); then
-        mapfile -t COMPREPLY < <(compgen -W "check simulate audit loop serve run explain export review ledger judge watch help --help --version" -- "$word")
+        mapfile -t COMPREPLY < <(compgen -W "check simulate audit loop serve run explain export review lower ledger judge watch help --help --version" -- "$word")
         return
     fi
     case $before in
@@ -31,6 +31,7 @@ _dme()
         run) options="--setup --host --port --window --features --record --part --contacts --progress --trace --log --timeout --wait --stop --confirm --pause --explain" ;;
         export) options="--as --setup --features --record --limits --explain" ;;
         review) options="--as --setup" ;;
+        lower) options="--setup --no-clearing --compensated --explain" ;;
         ledger) options="--up --down --connection" ;;
         judge) options="--up --down" ;;
         watch) options="--listen --host --port --told --record-bytes --connections --endless --trace --log --timeout" ;;
@@ -41,7 +42,7 @@ _dme()
             [[ $word == -* ]] && options=--help
             mapfile -t COMPREPLY < <(compgen -W "$options" -- "$word")
             return ;;
-        help) options="check simulate audit loop serve run explain export review ledger judge watch" ;;
+        help) options="check simulate audit loop serve run explain export review lower ledger judge watch" ;;
         *) return ;;
     esac
     if [[ ${COMP_WORDS[1]} == help || $word == -* ]]; then

@@ -11,15 +11,17 @@ use crate::serving::serve;
 use crate::tracing::ErrorOutput;
 use crate::version;
 use crate::watching::watch;
-use byte_ports::Writing;
+use byte_ports::{Writing, push_all};
 use dme_files::{Fault, NamedSource, Sources, refused, tell_audit};
 use dme_hands::RealHands;
 use dme_orders::{
     AuditFiles, FilesFault, InputFiles, RecordFiles, SimulationFiles, audit_files, audit_record,
     check_under_setup, review_program, simulate, status,
 };
-use dme_words::{Audit, Check, Order, RecordAudit, Review, Run, Simulation, read_words};
+use dme_words::{Audit, Check, Lower, Order, RecordAudit, Review, Run, Simulation, read_words};
 use ledger_session::{Job, Session, run as run_reading};
+use lower_order::lower_program;
+use program_lowering::{Choices, SourceNames};
 use program_review::{FindingForm, FindingStyle};
 use run_opening::Opening;
 use std::alloc::{AllocError, Global};
@@ -132,6 +134,35 @@ fn review<R: Files + Input + Print + AllocGlobal>(rt: &R, order: Review) -> Resu
     match review_program(rt.alloc(), style, &mut setup, &mut program, &mut sink) {
         Ok(status) => Ok(status),
         Err(fault) => Err(refused_program(rt.alloc(), fault, setup, program, false)),
+    }
+}
+
+/// The order `lower`: its exit status. Standard error shows what was decided.
+#[inline(never)]
+fn lower<R: Files + Input + Print + Eprint + AllocGlobal>(
+    rt: &R,
+    order: Lower,
+) -> Result<u8, Fault> {
+    let choices = Choices {
+        no_clearing: order.no_clearing,
+        compensated: order.compensated,
+    };
+    let name = String::from_str(rt.alloc(), order.program.as_str())?;
+    let setup_name = name_of(rt.alloc(), &order.setup)?;
+    let names = SourceNames {
+        program: name.as_str(),
+        setup: setup_name.as_str(),
+    };
+    let mut sources = Sources::new(rt, order.explain);
+    let mut setup = sources.maybe(order.setup);
+    let mut program = sources.file(order.program);
+    let mut sink = Writing::new(io::writer(rt));
+    match lower_program(rt.alloc(), names, choices, &mut setup, &mut program, &mut sink) {
+        Ok(flat) => {
+            let _ = push_all(&mut ErrorOutput::new(rt), flat.notes.as_slice());
+            Ok(0)
+        }
+        Err(fault) => Err(refused_program(rt.alloc(), fault, setup, program, order.explain)),
     }
 }
 
@@ -310,6 +341,7 @@ fn carry_out<
         }
         Order::Judge(order) => read_recordings(rt, Job::Judge, order.up, order.down),
         Order::Watch(order) => watch(rt, order),
+        Order::Lower(order) => lower(rt, order),
     }
 }
 

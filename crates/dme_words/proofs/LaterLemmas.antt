@@ -1,5 +1,5 @@
--- Which values the last eight subcommands have, by their names.
-use Rattle.dme_words.proofs.Names.{◌∙◌, ◌≡◌, bytes_eq-Decides, codes, Has, inl, inr, IsLaterAskable, List, Row, run_line, serve_line, sym, Text}
+-- Which values the last nine subcommands have, by their names.
+use Rattle.dme_words.proofs.Names.{◌∙◌, ◌≡◌, bytes_eq-Decides, codes, Has, inl, inr, IsLaterAskable, List, lower_line, Row, run_line, serve_line, sym, Text}
 use Rattle.dme_words.proofs.Names.{true≢false, watch_line}
 
 pub has_service : (p : Text × List Row) → IsLaterAskable p → p.0 ≡ codes "serve" → Has serve_line p.1
@@ -10,7 +10,8 @@ has_service p (inr (inr (inr (inl (is, has))))) serve = absurd (true≢false (sy
 has_service p (inr (inr (inr (inr (inl is))))) serve = absurd (true≢false (sym ((bytes_eq-Decides (codes "review") (codes "serve")).1 (sym is ∙ serve))))
 has_service p (inr (inr (inr (inr (inr (inl (is, has))))))) serve = absurd (true≢false (sym ((bytes_eq-Decides (codes "ledger") (codes "serve")).1 (sym is ∙ serve))))
 has_service p (inr (inr (inr (inr (inr (inr (inl (is, has)))))))) serve = absurd (true≢false (sym ((bytes_eq-Decides (codes "judge") (codes "serve")).1 (sym is ∙ serve))))
-has_service p (inr (inr (inr (inr (inr (inr (inr (is, has)))))))) serve = absurd (true≢false (sym ((bytes_eq-Decides (codes "watch") (codes "serve")).1 (sym is ∙ serve))))
+has_service p (inr (inr (inr (inr (inr (inr (inr (inl (is, has))))))))) serve = absurd (true≢false (sym ((bytes_eq-Decides (codes "watch") (codes "serve")).1 (sym is ∙ serve))))
+has_service p (inr (inr (inr (inr (inr (inr (inr (inr (is, has))))))))) serve = absurd (true≢false (sym ((bytes_eq-Decides (codes "lower") (codes "serve")).1 (sym is ∙ serve))))
 
 pub has_run : (p : Text × List Row) → IsLaterAskable p → p.0 ≡ codes "run" → Has run_line p.1
 has_run p (inl (is, has)) run = absurd (true≢false (sym ((bytes_eq-Decides (codes "serve") (codes "run")).1 (sym is ∙ run))))
@@ -20,7 +21,8 @@ has_run p (inr (inr (inr (inl (is, has))))) run = absurd (true≢false (sym ((by
 has_run p (inr (inr (inr (inr (inl is))))) run = absurd (true≢false (sym ((bytes_eq-Decides (codes "review") (codes "run")).1 (sym is ∙ run))))
 has_run p (inr (inr (inr (inr (inr (inl (is, has))))))) run = absurd (true≢false (sym ((bytes_eq-Decides (codes "ledger") (codes "run")).1 (sym is ∙ run))))
 has_run p (inr (inr (inr (inr (inr (inr (inl (is, has)))))))) run = absurd (true≢false (sym ((bytes_eq-Decides (codes "judge") (codes "run")).1 (sym is ∙ run))))
-has_run p (inr (inr (inr (inr (inr (inr (inr (is, has)))))))) run = absurd (true≢false (sym ((bytes_eq-Decides (codes "watch") (codes "run")).1 (sym is ∙ run))))
+has_run p (inr (inr (inr (inr (inr (inr (inr (inl (is, has))))))))) run = absurd (true≢false (sym ((bytes_eq-Decides (codes "watch") (codes "run")).1 (sym is ∙ run))))
+has_run p (inr (inr (inr (inr (inr (inr (inr (inr (is, has))))))))) run = absurd (true≢false (sym ((bytes_eq-Decides (codes "lower") (codes "run")).1 (sym is ∙ run))))
 
 pub has_watch : (p : Text × List Row) → IsLaterAskable p → p.0 ≡ codes "watch" → Has watch_line p.1
 has_watch p (inl (is, has)) watch = absurd (true≢false (sym ((bytes_eq-Decides (codes "serve") (codes "watch")).1 (sym is ∙ watch))))
@@ -30,4 +32,16 @@ has_watch p (inr (inr (inr (inl (is, has))))) watch = absurd (true≢false (sym 
 has_watch p (inr (inr (inr (inr (inl is))))) watch = absurd (true≢false (sym ((bytes_eq-Decides (codes "review") (codes "watch")).1 (sym is ∙ watch))))
 has_watch p (inr (inr (inr (inr (inr (inl (is, has))))))) watch = absurd (true≢false (sym ((bytes_eq-Decides (codes "ledger") (codes "watch")).1 (sym is ∙ watch))))
 has_watch p (inr (inr (inr (inr (inr (inr (inl (is, has)))))))) watch = absurd (true≢false (sym ((bytes_eq-Decides (codes "judge") (codes "watch")).1 (sym is ∙ watch))))
-has_watch p (inr (inr (inr (inr (inr (inr (inr (is, has)))))))) watch = has
+has_watch p (inr (inr (inr (inr (inr (inr (inr (inl (is, has))))))))) watch = has
+has_watch p (inr (inr (inr (inr (inr (inr (inr (inr (is, has))))))))) watch = absurd (true≢false (sym ((bytes_eq-Decides (codes "lower") (codes "watch")).1 (sym is ∙ watch))))
+
+pub has_lower : (p : Text × List Row) → IsLaterAskable p → p.0 ≡ codes "lower" → Has lower_line p.1
+has_lower p (inl (is, has)) lower = absurd (true≢false (sym ((bytes_eq-Decides (codes "serve") (codes "lower")).1 (sym is ∙ lower))))
+has_lower p (inr (inl (is, has))) lower = absurd (true≢false (sym ((bytes_eq-Decides (codes "run") (codes "lower")).1 (sym is ∙ lower))))
+has_lower p (inr (inr (inl (is, has)))) lower = absurd (true≢false (sym ((bytes_eq-Decides (codes "explain") (codes "lower")).1 (sym is ∙ lower))))
+has_lower p (inr (inr (inr (inl (is, has))))) lower = absurd (true≢false (sym ((bytes_eq-Decides (codes "export") (codes "lower")).1 (sym is ∙ lower))))
+has_lower p (inr (inr (inr (inr (inl is))))) lower = absurd (true≢false (sym ((bytes_eq-Decides (codes "review") (codes "lower")).1 (sym is ∙ lower))))
+has_lower p (inr (inr (inr (inr (inr (inl (is, has))))))) lower = absurd (true≢false (sym ((bytes_eq-Decides (codes "ledger") (codes "lower")).1 (sym is ∙ lower))))
+has_lower p (inr (inr (inr (inr (inr (inr (inl (is, has)))))))) lower = absurd (true≢false (sym ((bytes_eq-Decides (codes "judge") (codes "lower")).1 (sym is ∙ lower))))
+has_lower p (inr (inr (inr (inr (inr (inr (inr (inl (is, has))))))))) lower = absurd (true≢false (sym ((bytes_eq-Decides (codes "watch") (codes "lower")).1 (sym is ∙ lower))))
+has_lower p (inr (inr (inr (inr (inr (inr (inr (inr (is, has))))))))) lower = has

@@ -18,6 +18,7 @@ Usage: dme <COMMAND>
 
 Before a run:
   review    Lists everything that stands between a DMIS program and its run
+  lower     Writes the flat program that a DMIS program stands for
   check     Prints the I++ DME command lines of a DMIS program
   loop      Runs a DMIS program on a simulated machine over a connection to itself, and prints the report
 
@@ -153,6 +154,11 @@ const PAUSE_HELP: &str =
 
 const EXPLAIN_HELP: &str = "Shows the line of a file that is refused, and what is wrong with it";
 
+const NO_CLEARING_HELP: &str =
+    "Leaves out statements on clearing: nothing moves between features by itself";
+
+const COMPENSATED_HELP: &str = "Says that the machine corrects for temperature";
+
 const PROGRAM_HELP: &str = "The DMIS program; - is standard input";
 
 const SETUP: Argument = Text("setup", "FILE", SETUP_HELP);
@@ -188,7 +194,7 @@ const UP: Argument = Needed("up", "FILE", UP_HELP);
 const DOWN: Argument = Needed("down", "FILE", DOWN_HELP);
 
 /// The commands.
-const LINES: [Line; 12] = [
+const LINES: [Line; 13] = [
     Line(
         "check",
         "Prints the I++ DME command lines of a DMIS program",
@@ -316,6 +322,17 @@ const LINES: [Line; 12] = [
             TRACE,
             LOG,
             TIMEOUT,
+        ],
+    ),
+    Line(
+        "lower",
+        "Writes the flat program that a DMIS program stands for",
+        &[
+            SETUP,
+            Flag("no-clearing", NO_CLEARING_HELP),
+            Flag("compensated", COMPENSATED_HELP),
+            EXPLAIN,
+            PROGRAM,
         ],
     ),
 ];

@@ -34,6 +34,8 @@ pub enum Order {
     Judge(Judge),
     /// Stand between a client and a server, and write what the server reports.
     Watch(Watch),
+    /// Write the flat program that a program stands for.
+    Lower(Lower),
 }
 
 /// The values of `check`.
@@ -274,4 +276,19 @@ pub struct Watch {
     pub log: Option<String>,
     /// How many seconds both ends may be silent, from 1 to 86,400; no limit if none are named.
     pub timeout: Option<u32>,
+}
+
+/// The values of `lower`.
+#[derive(Debug, Drop)]
+pub struct Lower {
+    /// The file of the machine's setup, whose frames the program may recall; `-` is standard input.
+    pub setup: Option<String>,
+    /// Whether statements on clearing are left out.
+    pub no_clearing: bool,
+    /// Whether the machine corrects for temperature.
+    pub compensated: bool,
+    /// Whether a line that is refused is shown, with what is wrong with it.
+    pub explain: bool,
+    /// The file of the program; `-` is standard input.
+    pub program: String,
 }

@@ -5,11 +5,11 @@ ghost use Rattle.std.specs.Option.{option_map};
 ghost use Rattle.clap.specs.Words.{first_of, found_of, rows_of, subcommand_rows_of};
 ghost use Rattle.client_core.specs.Clients.{is_window};
 ghost use Rattle.dme_words.specs.CommandLine.{audit_line, check_line, explain_line, export_line, judge_line, ledger_line};
-ghost use Rattle.dme_words.specs.CommandLine.{loop_line, run_line, serve_line, simulate_line, watch_line};
+ghost use Rattle.dme_words.specs.CommandLine.{loop_line, lower_line, run_line, serve_line, simulate_line, watch_line};
 ghost use Rattle.dme_words.specs.Ordered.{Asks, AsksForNothing, ExportMisfits, Has, HasFlag, HasNoAudit, HasNoExport, HasNoPart, HasNoReview};
 ghost use Rattle.dme_words.specs.Ordered.{HasNoRun, HasNoRunValue, HasNoSeconds, HasNoTopic, HasNone, HasNumber, HasValue, IsAnyAuditOf};
 ghost use Rattle.dme_words.specs.Ordered.{IsAnyExportOf, IsAskable, IsCalled, IsCheckOf, IsCodeOf, IsConnectionsOf, IsExplainOf, IsFindingFormOf};
-ghost use Rattle.dme_words.specs.Ordered.{IsFlagOf, IsJudgeOf, IsLaterAskable, IsLedgerOf, IsLoopOf, IsMaybeOf, IsNoCode, IsNoForm, IsNoSeconds};
+ghost use Rattle.dme_words.specs.Ordered.{IsFlagOf, IsJudgeOf, IsLaterAskable, IsLedgerOf, IsLoopOf, IsLowerOf, IsMaybeOf, IsNoCode, IsNoForm, IsNoSeconds};
 ghost use Rattle.dme_words.specs.Ordered.{IsNumber, IsNumberOf, IsOrderOf, IsPartOf, IsProgramOf, IsReady, IsRefusal, IsRefusedOf, IsReviewOf};
 ghost use Rattle.dme_words.specs.Ordered.{IsRunOf, IsSecondsOf, IsServeOf, IsSimulateOf, IsValueOf, IsWatchOf, IsWindowOf, NamesItsPart, form_word};
 ghost use Rattle.dme_words.specs.Ordered.{is_lacking};
@@ -17,7 +17,7 @@ ghost use Rattle.dme_words.specs.Ordered.{is_lacking};
 use crate::line::whole_command;
 use crate::misfits::{Lacks, Misfit};
 use crate::orders::{
-    Audit, Check, Export, Judge, Ledger, Loop, Order, RecordAudit, RecordExport, RecordForm,
+    Audit, Check, Export, Judge, Ledger, Loop, Lower, Order, RecordAudit, RecordExport, RecordForm,
     Review, Run, Service, Simulation, Watch,
 };
 use clap::error::ErrorKind;
@@ -625,7 +625,21 @@ fn watch_order(alloc: Global, values: &ArgMatches) -> Result<Watch, WordsFault>
     })
 }
 
-/// The order of one of the last eight subcommands, with its values.
+/// The values of `lower`. Fails only if out of memory.
+fn lower_order(alloc: Global, values: &ArgMatches) -> Result<Lower, AllocError>
+    requires { Has lower_line (rows_of (found_of values.now)) }
+    ensures { IfOk result (IsLowerOf (rows_of (found_of values.now))) }
+{
+    Ok(Lower {
+        setup: copied_maybe(alloc, values, "setup")?,
+        no_clearing: flag_of(values, "no-clearing"),
+        compensated: flag_of(values, "compensated"),
+        explain: flag_of(values, "explain"),
+        program: copied_program(alloc, values)?,
+    })
+}
+
+/// The order of one of the last nine subcommands, with its values.
 fn later_order(alloc: Global, name: &str, values: &ArgMatches) -> Result<Order, WordsFault>
     requires { IsLaterAskable (name.now, rows_of (found_of values.now)) }
     ensures named { IfOk result (IsOrderOf (Some (name.now, rows_of (found_of values.now)))) }
@@ -641,6 +655,7 @@ fn later_order(alloc: Global, name: &str, values: &ArgMatches) -> Result<Order, 
         "ledger" => Ok(Order::Ledger(ledger_order(alloc, values)?)),
         "judge" => Ok(Order::Judge(judge_order(alloc, values)?)),
         "watch" => Ok(Order::Watch(watch_order(alloc, values)?)),
+        "lower" => Ok(Order::Lower(lower_order(alloc, values)?)),
         _ => unreachable!(),
     }
 }

@@ -1,5 +1,5 @@
 use Rattle.clap.specs.Words.{found_of, rows_of}
-use Rattle.dme_words.proofs.LaterLemmas.{has_run, has_service, has_watch}
+use Rattle.dme_words.proofs.LaterLemmas.{has_lower, has_run, has_service, has_watch}
 use Rattle.dme_words.proofs.words.later_order.Goals as goal
 
 pub serve_order-requires : goal.serve_order-requires
@@ -10,3 +10,6 @@ run_order-requires c = has_run (c.args.name.now, rows_of (found_of c.args.values
 
 pub watch_order-requires : goal.watch_order-requires
 watch_order-requires c = has_watch (c.args.name.now, rows_of (found_of c.args.values.now)) c.requires c.in-watch.is
+
+pub lower_order-requires : goal.lower_order-requires
+lower_order-requires c = has_lower (c.args.name.now, rows_of (found_of c.args.values.now)) c.requires c.in-lower.is

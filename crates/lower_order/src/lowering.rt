@@ -1,0 +1,112 @@
+// A program is made flat, over ports.
+
+ghost use Rattle.std.specs.Prelude.{◌≡◌, IfOk, IfErr};
+ghost use Rattle.dme_orders.specs.Input.{named, ReadsNamed, WhyNoNamed};
+ghost use Rattle.dme_orders.specs.Orders.{went};
+ghost use Rattle.dme_orders.specs.Reading.{came, Reads, WhyNoText};
+ghost use Rattle.program_lowering.specs.Heads.{names_of};
+ghost use Rattle.program_review.specs.Reviews.{frames_under};
+ghost use Rattle.lower_order.specs.Lower.{Lowers, ReadsFlat, WhyNoFlat};
+
+use byte_ports::{Failed, PullFault, Sink, Source, pull_all, push_all};
+use dme_orders::{FilesFault, Role, read_setup};
+use dmis_program::{Frames, ProgramFault};
+use program_lowering::{Choices, Lowered, SourceNames, lower};
+use std::alloc::Global;
+use tool_rack::Setup;
+
+/// The setup that a source gives, if there is one.
+fn named_setup<S: Source>(
+    alloc: Global,
+    source: &mut Option<S>,
+) -> Result<Option<Setup>, FilesFault>
+    ensures ok { IfOk result (ReadsNamed (named S.left S.has_failed source.old source.new)) }
+    ensures err { IfErr result (WhyNoNamed (named S.left S.has_failed source.old source.new)) }
+{
+    match source {
+        Some(source) => Ok(Some(read_setup(alloc, source)?)),
+        None => Ok(None),
+    }
+}
+
+/// The whole text of a program.
+fn program_text<R: Source>(alloc: Global, source: &mut R) -> Result<Vec<u8>, FilesFault>
+    ensures ok { IfOk result (λ text. Reads (came R.left R.has_failed source.old source.new)
+        (λ told. text.items ≡ told)) }
+    ensures unread { IfErr result (WhyNoText (came R.left R.has_failed source.old source.new)
+        Role.Program) }
+{
+    match pull_all(alloc, source, 1_000_000) {
+        Ok(text) => Ok(text),
+        Err(PullFault::Failed | PullFault::TooMany) => Err(FilesFault::Unread(Role::Program)),
+        Err(PullFault::Memory) => Err(FilesFault::Memory),
+    }
+}
+
+/// The flat program of the text that a source gives under these frames, and what was decided.
+fn read_flat<R: Source>(
+    alloc: Global,
+    names: SourceNames<'_>,
+    choices: Choices,
+    frames: &Frames,
+    source: &mut R,
+) -> Result<Lowered, FilesFault>
+    ensures ok { IfOk result (λ flat. ReadsFlat
+        (names_of names.entry.program.now names.entry.setup.now) choices frames.now
+        (came R.left R.has_failed source.old source.new) (flat.text.items, flat.notes.items)) }
+    ensures err { IfErr result (WhyNoFlat choices frames.now
+        (came R.left R.has_failed source.old source.new)) }
+{
+    let text = program_text(alloc, source)?;
+    match lower(alloc, names, choices, frames, text.as_slice()) {
+        Ok(flat) => Ok(flat),
+        Err(ProgramFault::Memory) => Err(FilesFault::Memory),
+        Err(refused) => Err(FilesFault::Program(refused)),
+    }
+}
+
+/// Likewise under the frames of a setup, and under no frames without one.
+fn flat_under<R: Source>(
+    alloc: Global,
+    names: SourceNames<'_>,
+    choices: Choices,
+    setup: &Option<Setup>,
+    source: &mut R,
+) -> Result<Lowered, FilesFault>
+    ensures ok { IfOk result (λ flat. ReadsFlat
+        (names_of names.entry.program.now names.entry.setup.now) choices (frames_under setup.now)
+        (came R.left R.has_failed source.old source.new) (flat.text.items, flat.notes.items)) }
+    ensures err { IfErr result (WhyNoFlat choices (frames_under setup.now)
+        (came R.left R.has_failed source.old source.new)) }
+{
+    match setup {
+        Some(setup) => read_flat(alloc, names, choices, setup.frames(), source),
+        None => read_flat(alloc, names, choices, &Frames::new(alloc), source),
+    }
+}
+
+/// Reads a setup if one is named, then a DMIS program, each to the end of its text, and writes the flat program that it stands for, with a
+/// head that names both files, the digest of the program's text, and what was chosen. The answer has this text, and what was decided.
+///
+/// It writes only once the whole text is there. The setup is read and refused before the program is read at all. Each file is blamed only
+/// for its own first refusal, or because it could not be read. A sink that fails is blamed, and has taken a prefix of the text.
+pub fn lower_program<S: Source, R: Source, W: Sink>(
+    alloc: Global,
+    names: SourceNames<'_>,
+    choices: Choices,
+    setup: &mut Option<S>,
+    program: &mut R,
+    sink: &mut W,
+) -> Result<Lowered, FilesFault>
+    ensures { Lowers (names_of names.entry.program.now names.entry.setup.now) choices
+        (named S.left S.has_failed setup.old setup.new)
+        (came R.left R.has_failed program.old program.new)
+        (went W.taken W.has_failed sink.old sink.new) result }
+{
+    let setup = named_setup(alloc, setup)?;
+    let flat = flat_under(alloc, names, choices, &setup, program)?;
+    match push_all(sink, flat.text.as_slice()) {
+        Ok(()) => Ok(flat),
+        Err(Failed) => Err(FilesFault::Write),
+    }
+}

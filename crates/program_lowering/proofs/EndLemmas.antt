@@ -1,0 +1,122 @@
+-- What the code gives at each end of a text.
+use Rattle.std.proofs.Common.{◌≡◌, ℕ, Bool, true, false, List, [], ◌∷◌, length, Option, Some, None, Result, Ok, Err, refl, sym, subst, ◌∙◌, ap}
+use Rattle.std.specs.Prelude.{IsErrAnd}
+use Rattle.std.specs.Str.Lines.{lines}
+use Rattle.dmis_text.specs.Reading.{IsDue, Unread, text_reading}
+use Rattle.dmis_text.specs.declared.elements.Statement.{Statement}
+use Rattle.dmis_text.specs.declared.reading.TextFault.{TextFault}
+use Rattle.dmis_text.specs.declared.reading.TextFault.TheVariants as text_fault
+use Rattle.fixed_um.specs.declared.lengths.Point.{Point}
+use Rattle.dmis_program.specs.Meaning.{Meaning, ended, meaning_of, meaning_with, meant, steps_from, without_end}
+use Rattle.dmis_program.specs.Outcomes.{fault_at, refused_at, text_refused}
+use Rattle.dmis_program.specs.declared.faults.ProgramFault.{ProgramFault}
+use Rattle.dmis_program.specs.declared.faults.StatementFault.{StatementFault}
+use Rattle.dmis_program.specs.declared.faults.StatementFault.TheVariants as faults
+use Rattle.dmis_program.specs.declared.faults.Refusal.{Refusal}
+use Rattle.dmis_program.specs.declared.steps.Step.{Step}
+use Rattle.program_lowering.specs.Carried.{AreLines, Carried, GivesLines, GivesStep, nothing_carried, step}
+use Rattle.program_lowering.specs.Lowering.{ended_lines, flat_lines, flat_program, kept, lowered_meaning, notes_from, notes_of}
+use Rattle.program_lowering.proofs.RunLemmas.{run_from_start, with_texts}
+use Rattle.program_lowering.proofs.Runs.{Written, run}
+use Rattle.program_lowering.specs.declared.lowering.Lowered.{Lowered}
+use Rattle.program_lowering.specs.declared.words.Choices.{Choices}
+
+-- all of a text
+abbrev pub run_of : List (List ℕ × Point) → Choices → List ℕ → Result Written (Refusal × ℕ)
+run_of frames choices text = run frames choices (text_reading text).fault (length (lines text)) (text_reading text).statements nothing_carried
+
+record HasTexts (r : Result (List Step) (Refusal × ℕ)) (text notes : List ℕ) (w : Written) : Type 0 where
+  steps : List Step
+  is : r ≡ Ok steps
+  text_is : w.text ≡ text
+  notes_are : w.notes ≡ notes
+
+has_texts : (r : Result (List Step) (Refusal × ℕ)) (text notes : List ℕ) (w : Written) → with_texts r text notes ≡ Ok w → HasTexts r text notes w
+has_texts (Ok steps) text notes w h =
+    let same : record { text = text; notes = notes } ≡ w = cc in
+    record { steps = steps; is = refl; text_is = ap (λ (v : Written). v.text) (sym same); notes_are = ap (λ (v : Written). v.notes) (sym same) }
+has_texts (Err e) text notes w h = absurd cc
+
+has_refusal : (r : Result (List Step) (Refusal × ℕ)) (text notes : List ℕ) (e : Refusal × ℕ) → with_texts r text notes ≡ Err e → meant r ≡ Err e
+has_refusal (Ok steps) text notes e h = absurd cc
+has_refusal (Err refusal) text notes e h = cc
+
+pub written_of : (frames : List (List ℕ × Point)) (choices : Choices) (text : List ℕ) (w : Written) → run_of frames choices text ≡ Ok w
+    → AreLines frames choices text w.text w.notes
+unfolding meaning_of
+written_of frames choices text w h =
+    let statements = (text_reading text).statements in
+    let t = has_texts (steps_from frames (text_reading text).fault (length (lines text)) [] (kept choices statements))
+    (ended_lines (flat_lines (kept choices statements))) (notes_from choices statements) w
+    (sym (run_from_start frames choices (text_reading text).fault (length (lines text)) statements) ∙ h) in
+    record { meaning = meaning_with t.steps; accepted = ap meant t.is; flat = t.text_is; notes_are = t.notes_are }
+
+pub refused_of : (frames : List (List ℕ × Point)) (choices : Choices) (text : List ℕ) (e : Refusal × ℕ) → run_of frames choices text ≡ Err e
+    → lowered_meaning frames choices text ≡ Err e
+unfolding meaning_of
+refused_of frames choices text e h =
+    let statements = (text_reading text).statements in
+    has_refusal (steps_from frames (text_reading text).fault (length (lines text)) [] (kept choices statements))
+    (ended_lines (flat_lines (kept choices statements))) (notes_from choices statements) e
+    (sym (run_from_start frames choices (text_reading text).fault (length (lines text)) statements) ∙ h)
+
+-- one statement more, by what the code gives at it
+pub goes_past : (frames : List (List ℕ × Point)) (choices : Choices) (fault : Option TextFault) (n : ℕ) (s : Statement) (all left : List Statement)
+    (c d : Carried) → all ≡ s ∷ left → step frames choices c s ≡ Ok (false, d)
+    → run frames choices fault n left d ≡ run frames choices fault n all c
+goes_past frames choices fault n s all left c d split e = rw (split, e) refl
+
+pub closes_at : (frames : List (List ℕ × Point)) (choices : Choices) (fault : Option TextFault) (n : ℕ) (s : Statement) (all left : List Statement)
+    (c d : Carried) → all ≡ s ∷ left → step frames choices c s ≡ Ok (true, d)
+    → run frames choices fault n all c ≡ Ok (record { text = d.text; notes = d.notes })
+closes_at frames choices fault n s all left c d split e = rw (split, e) refl
+
+pub refused_at_statement : (frames : List (List ℕ × Point)) (choices : Choices) (fault : Option TextFault) (n : ℕ) (s : Statement)
+    (all left : List Statement) (c : Carried) (refusal : Refusal) → all ≡ s ∷ left → step frames choices c s ≡ Err refusal
+    → run frames choices fault n all c ≡ Err (refusal, s.line)
+refused_at_statement frames choices fault n s all left c refusal split e = rw (split, e) refl
+
+pub ends_at : (frames : List (List ℕ × Point)) (choices : Choices) (fault : Option TextFault) (n : ℕ) (all : List Statement) (c : Carried)
+    → all ≡ [] → run frames choices fault n all c ≡ Err (ended fault c.above.number n)
+ends_at frames choices fault n all c e = rw e refl
+
+-- what is answered where a statement is refused
+pub at_statement : (frames : List (List ℕ × Point)) (choices : Choices) (text : List ℕ) (refused : StatementFault) (s : Statement)
+    (fault : Option TextFault) (n : ℕ) (all left : List Statement) (c d : Carried) → all ≡ s ∷ left
+    → GivesStep (Err refused) d (step frames choices c s) → run frames choices fault n all c ≡ run_of frames choices text
+    → GivesLines frames choices text (Err (fault_at refused s.line))
+at_statement frames choices text (faults.Refused refusal) s fault n all left c d split given same =
+    refused_of frames choices text (refusal, s.line)
+    (sym same ∙ refused_at_statement frames choices fault n s all left c refusal split given)
+at_statement frames choices text faults.Memory s fault n all left c d split given same = tt
+
+-- where a line cannot be read
+at_line : (frames : List (List ℕ × Point)) (choices : Choices) (text : List ℕ) (due fault : Option TextFault) (n : ℕ) (all : List Statement)
+    (c : Carried) → all ≡ [] → fault ≡ due → run frames choices fault n all c ≡ run_of frames choices text
+    → lowered_meaning frames choices text ≡ Err (ended due c.above.number n)
+at_line frames choices text due fault n all c none is same =
+    refused_of frames choices text (ended due c.above.number n)
+    (sym same ∙ ends_at frames choices fault n all c none ∙ ap (λ (f : Option TextFault). Err (ended f c.above.number n)) is)
+
+pub at_fault : (frames : List (List ℕ × Point)) (choices : Choices) (text : List ℕ) (fault : TextFault) (u : Unread) (c : Carried)
+    → IsDue u fault → run frames choices u.fault u.lines u.left c ≡ run_of frames choices text
+    → GivesLines frames choices text (Err (text_refused fault))
+at_fault frames choices text (text_fault.LineTooLong line) u c due same =
+    at_line frames choices text (Some (text_fault.LineTooLong line)) u.fault u.lines u.left c due.0 due.1 same
+at_fault frames choices text (text_fault.BadByte line) u c due same =
+    at_line frames choices text (Some (text_fault.BadByte line)) u.fault u.lines u.left c due.0 due.1 same
+at_fault frames choices text text_fault.Memory u c due same = tt
+
+-- and where the text ends
+pub at_end : (frames : List (List ℕ × Point)) (choices : Choices) (text : List ℕ) (u : Unread) (c : Carried) → u.left ≡ [] → u.fault ≡ None
+    → run frames choices u.fault u.lines u.left c ≡ run_of frames choices text
+    → GivesLines frames choices text (Err (refused_at (without_end c.above.number u.lines)))
+at_end frames choices text u c none is same = at_line frames choices text None u.fault u.lines u.left c none is same
+
+-- where the reader answers that
+pub at_error : (frames : List (List ℕ × Point)) (choices : Choices) (text : List ℕ) (u : Unread) (c : Carried) (r : Result Lowered ProgramFault)
+    (f : ProgramFault) → IsErrAnd r (λ given. given ≡ f) → ((due : TextFault) × (f ≡ text_refused due) × IsDue u due)
+    → run frames choices u.fault u.lines u.left c ≡ run_of frames choices text → GivesLines frames choices text r
+at_error frames choices text u c (Ok lines) f is due same = absurd is
+at_error frames choices text u c (Err given) f is due same =
+    subst (λ (g : ProgramFault). GivesLines frames choices text (Err g)) (sym (is ∙ due.1)) (at_fault frames choices text due.0 u c due.2 same)

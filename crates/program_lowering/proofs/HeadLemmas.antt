@@ -1,0 +1,123 @@
+-- The head of a flat program is comments.
+use Rattle.std.proofs.Common.{◌≡◌, ℕ, suc, zero, ◌+◌, ◌/◌, ◌%◌, ◌^◌, ◌≤◌, ◌<◌, Bool, true, false, cond, List, [], ◌∷◌, ◌++◌, length, map, take}
+use Rattle.std.proofs.Common.{refl, sym, arith, codes, length-append}
+use Rattle.std.specs.Prelude.{nat_lt, slice_index}
+use Rattle.std.specs.Int.{byte_at, bytes_high_first, to_be_bytes, w32}
+use Rattle.std.specs.List.{list_all, AllByRecursion}
+use Rattle.std.proofs.lemmas.Bool.{and_from, and_parts, ltb-true}
+use Rattle.std.proofs.lemmas.Bool.Decides.{nat_tests}
+use Rattle.std.proofs.lemmas.List.Folds.{list_all-append, list_all_at}
+use Rattle.sha2.specs.Sha256.{digest_bytes, sha256}
+use Rattle.sha2.proofs.Facts256.{length-sha256}
+use Rattle.hex.specs.Hex.{encode_lower, encode_with, lower_digits}
+use Rattle.hex.proofs.HexLemmas.{length-encode_with}
+use Rattle.dmis_text.specs.Texts.{may_stand}
+use Rattle.program_lowering.specs.Heads.{IsComment, Names, shown_byte, setup_name, shown_name}
+use Rattle.program_lowering.specs.Heads.{options_text, head_lines}
+use Rattle.program_lowering.specs.declared.words.Choices.{Choices}
+
+abbrev clean : List ℕ → Bool
+clean = list_all (may_stand true)
+
+shown_clean : (c : ℕ) → may_stand true (shown_byte c) ≡ true
+shown_clean c = go (may_stand true c) refl
+  where
+    go : (b : Bool) → may_stand true c ≡ b → may_stand true (cond b c 63) ≡ true
+    go true e = e
+    go false e = refl
+
+name_clean : (n : ℕ) (name : List ℕ) → clean (map shown_byte (take n name)) ≡ true
+name_clean zero name = refl
+name_clean (suc n) [] = refl
+name_clean (suc n) (c ∷ cs) = and_from (may_stand true (shown_byte c)) (clean (map shown_byte (take n cs))) (shown_clean c) (name_clean n cs)
+
+name_short : (n : ℕ) (name : List ℕ) → length (map shown_byte (take n name)) ≤ n
+name_short zero name = omega arith
+name_short (suc n) [] = omega arith
+name_short (suc n) (c ∷ cs) = omega (arith, name_short n cs)
+
+-- the digits of bytes
+digit_clean : (n : ℕ) → n < 16 → may_stand true (slice_index lower_digits n) ≡ true
+digit_clean n h = go (may_stand true (slice_index lower_digits n)) refl
+  where
+    go : (b : Bool) → may_stand true (slice_index lower_digits n) ≡ b → b ≡ true
+    go true e = refl
+    go false e = sym (list_all_at (may_stand true) lower_digits n 0 h e)
+
+abbrev is_byte : ℕ → Bool
+is_byte c = nat_lt c 256
+
+digits_clean : (bytes : List ℕ) → list_all is_byte bytes ≡ true → clean (encode_lower bytes) ≡ true
+unfolding encode_with
+digits_clean [] h = refl
+digits_clean (c ∷ cs) h =
+    let both = and_parts (is_byte c) (list_all is_byte cs) h in
+    let few : c < 256 = ltb-true c 256 both.0 in
+    rw (digit_clean (c / 16) (omega (arith, few)), digit_clean (c % 16) (omega arith)) (digits_clean cs both.1)
+
+low : (n : ℕ) → is_byte (n % 256) ≡ true
+low n = grind (arith, nat_tests)
+
+low_byte : (k n : ℕ) → is_byte (byte_at k n) ≡ true
+low_byte zero n = low n
+low_byte (suc k) n = low (n / 256 ^ suc k)
+
+low_bytes : (k n : ℕ) → list_all is_byte (bytes_high_first k n) ≡ true
+low_bytes zero n = refl
+low_bytes (suc k) n = and_from (is_byte (byte_at k n)) (list_all is_byte (bytes_high_first k n)) (low_byte k n) (low_bytes k n)
+
+digest_low : (h : List ℕ) (n : ℕ) → list_all is_byte (digest_bytes h n) ≡ true
+unfolding digest_bytes
+digest_low h zero = refl
+digest_low h (suc n) =
+    rw (list_all-append is_byte (digest_bytes h n) (to_be_bytes w32 (slice_index h n)), digest_low h n) (low_bytes 4 (slice_index h n))
+
+digest_is_low : (text : List ℕ) → list_all is_byte (sha256 text) ≡ true
+unfolding sha256
+digest_is_low text = digest_low _ 8
+
+digest_clean : (text : List ℕ) → clean (encode_lower (sha256 text)) ≡ true
+digest_clean text = digits_clean (sha256 text) (digest_is_low text)
+
+options_clean : (choices : Choices) → (clean (options_text choices) ≡ true) × (length (options_text choices) ≤ 100)
+options_clean choices = go choices.no_clearing choices.compensated
+  where
+    go : (a b : Bool) → (clean (cond a (cond b (codes "--no-clearing --compensated") (codes "--no-clearing"))
+        (cond b (codes "--compensated") (codes "none"))) ≡ true)
+        × (length (cond a (cond b (codes "--no-clearing --compensated") (codes "--no-clearing"))
+        (cond b (codes "--compensated") (codes "none"))) ≤ 100)
+    go true true = (refl, omega arith)
+    go true false = (refl, omega arith)
+    go false true = (refl, omega arith)
+    go false false = (refl, omega arith)
+
+-- a comment of a front and what follows it
+comment : (front rest : List ℕ) → clean front ≡ true → length front ≤ 100 → clean rest ≡ true → length rest ≤ 1000
+    → IsComment (36 ∷ 36 ∷ (front ++ rest))
+comment front rest h g k p = record {
+  text = front ++ rest;
+  is = refl;
+  clean = rw (list_all-append (may_stand true) front rest, h) k;
+  short = omega (arith, length-append front rest, g, p);
+}
+
+pub are_comments : (names : Names) (choices : Choices) (text : List ℕ) → AllByRecursion IsComment (head_lines names choices text)
+are_comments names choices text = (
+  comment (codes " flat program, written by dme lower") [] refl (omega arith) refl (omega arith),
+  (
+    comment (codes " source: ") (shown_name names.program) refl (omega arith) (name_clean 1000 names.program) (name_short 1000 names.program),
+    (
+      comment (codes " SHA-256 of the source: ") (encode_lower (sha256 text)) refl (omega arith) (digest_clean text)
+          (omega (arith, length-encode_with lower_digits (sha256 text), length-sha256 text)),
+      (
+        comment (codes " setup: ") (shown_name (setup_name names.setup)) refl (omega arith) (name_clean 1000 (setup_name names.setup))
+            (name_short 1000 (setup_name names.setup)),
+        (
+          comment (codes " options: ") (options_text choices) refl (omega arith) (options_clean choices).0
+              (omega (arith, (options_clean choices).1)),
+          tt,
+        ),
+      ),
+    ),
+  ),
+)

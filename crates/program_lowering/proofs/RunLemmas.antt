@@ -1,0 +1,201 @@
+-- Carrying forward gives what looking back gives.
+use Rattle.std.proofs.Common.{◌≡◌, ℕ, suc, zero, ◌+◌, Bool, true, false, not, ◌&&◌, List, [], ◌∷◌, ◌++◌, length, Result, Ok, Err}
+use Rattle.std.proofs.Common.{Option, Some, None, refl, ap, sym, ◌∙◌, arith, subst, cond, append-nil, append_assoc, is_none}
+use Rattle.std.specs.Prelude.{◌==◌, filter, flat_map}
+use Rattle.std.proofs.lemmas.Bool.{ne_eqb}
+use Rattle.dmis_text.specs.Statements.{has_open_text}
+use Rattle.dmis_text.specs.declared.elements.Statement.{Statement}
+use Rattle.dmis_text.specs.declared.reading.TextFault.{TextFault}
+use Rattle.fixed_um.specs.declared.lengths.Point.{Point}
+use Rattle.dmis_program.specs.Outcomes.{◌>>=◌}
+use Rattle.dmis_program.specs.Keywords.{keyword_of}
+use Rattle.dmis_program.specs.LookBack.{Context, context_at, saying}
+use Rattle.dmis_program.specs.Sayings.{said_of, said_by, is_badly_formed}
+use Rattle.dmis_program.specs.Judging.{judged, word_refusal}
+use Rattle.dmis_program.specs.Meaning.{Meaning, closes, ended, steps_of, steps_from, continued, with_front, meant, meaning_of}
+use Rattle.dmis_program.specs.declared.faults.Refusal.{Refusal}
+use Rattle.dmis_program.specs.declared.keywords.Keyword.{Keyword}
+use Rattle.dmis_program.specs.declared.keywords.Keyword.TheVariants as word
+use Rattle.dmis_program.specs.declared.sayings.StatementMeaning.{StatementMeaning}
+use Rattle.dmis_program.specs.declared.sayings.StatementMeaning.TheVariants as said
+use Rattle.dmis_program.specs.declared.steps.Step.{Step}
+use Rattle.program_lowering.specs.Words.{left_out, reason_of, is_unknown}
+use Rattle.program_lowering.specs.Flats.{flat_said}
+use Rattle.program_lowering.specs.Lowering.{is_kept, kept, kept_reading, lowered_meaning, is_closing, flat_of, line_for, flat_lines, ended_lines}
+use Rattle.program_lowering.specs.Lowering.{flat_program, unwritten, passed_over, note_for, notes_from, notes_of}
+use Rattle.program_lowering.specs.Carried.{Carried, nothing_carried, none_above, due, after_said, followed, noted, left_out_after, stepped, step}
+use Rattle.program_lowering.proofs.AboveLemmas.{Stands, due_is, stands_after, IsAccepted, accepted_if}
+use Rattle.program_lowering.proofs.Runs.{Written, ran, run}
+use Rattle.program_lowering.specs.declared.words.Choices.{Choices}
+use Rattle.program_lowering.specs.declared.words.Reason.{Reason}
+
+-- lines with their ends, one list after the other
+pub ended_append : (xs ys : List (List ℕ)) → ended_lines (xs ++ ys) ≡ ended_lines xs ++ ended_lines ys
+ended_append [] ys = refl
+ended_append (x ∷ xs) ys = ap (λ (rest : List ℕ). (x ++ 10 ∷ []) ++ rest) (ended_append xs ys)
+    ∙ sym (append_assoc (x ++ 10 ∷ []) (ended_lines xs) (ended_lines ys))
+
+-- a verdict with these texts, where there is no refusal
+abbrev pub with_texts : Result (List Step) (Refusal × ℕ) → List ℕ → List ℕ → Result Written (Refusal × ℕ)
+with_texts (Ok steps) text notes = Ok (record { text = text; notes = notes })
+with_texts (Err e) text notes = Err e
+
+with_texts_front : (front : List Step) (r : Result (List Step) (Refusal × ℕ)) (text notes : List ℕ)
+    → with_texts (with_front front r) text notes ≡ with_texts r text notes
+with_texts_front front (Ok steps) text notes = refl
+with_texts_front front (Err e) text notes = refl
+
+two_refusals : (b : Bool) (x y : Refusal) → ◌≡◌ {A = Option Refusal} (cond b (Some x) (Some y)) None → ⊥
+two_refusals true x y h = cc
+two_refusals false x y h = cc
+
+-- a word that is no flat program's is refused, so none is accepted
+unknown_refused : (k : Keyword) (n : ℕ) (wanted : Option ℕ) (params : List (List ℕ)) → word_refusal n wanted k params ≡ None
+    → is_unknown k ≡ false
+unknown_refused word.Dmismn n wanted params h = refl
+unknown_refused word.Goto n wanted params h = refl
+unknown_refused word.Meas n wanted params h = refl
+unknown_refused word.Ptmeas n wanted params h = refl
+unknown_refused word.Endmes n wanted params h = refl
+unknown_refused word.Snslct n wanted params h = refl
+unknown_refused word.Recall n wanted params h = refl
+unknown_refused word.Endfil n wanted params h = refl
+unknown_refused word.Units n wanted params h = refl
+unknown_refused word.Mode n wanted params h = refl
+unknown_refused word.Definition n wanted params h = refl
+unknown_refused word.Passed n wanted params h = refl
+unknown_refused word.Unknown n wanted params h = absurd (two_refusals _ _ _ h)
+
+pub accepted_known : (frames : List (List ℕ × Point)) (c : Context) (s : Statement) (m : StatementMeaning) → IsAccepted frames c s m
+    → is_unknown (keyword_of s.word) ≡ false
+accepted_known frames c s m h = unknown_refused (keyword_of s.word) c.number c.wanted s.params h.known
+
+-- a statement that is left out has a word that is no flat program's, and closes nothing
+left_out_unknown : (k unclosed : Bool) (o : Option Reason) (reason : Reason) → cond (k && not unclosed) o None ≡ Some reason → k ≡ true
+left_out_unknown true unclosed o reason h = refl
+left_out_unknown false unclosed o reason h = absurd cc
+
+unknown_closes : (k : Keyword) (params : List (List ℕ)) → is_unknown k ≡ true → is_closing (said_by k params) ≡ false
+unfolding said_by
+unknown_closes word.Dmismn params h = absurd cc
+unknown_closes word.Goto params h = absurd cc
+unknown_closes word.Meas params h = absurd cc
+unknown_closes word.Ptmeas params h = absurd cc
+unknown_closes word.Endmes params h = absurd cc
+unknown_closes word.Snslct params h = absurd cc
+unknown_closes word.Recall params h = absurd cc
+unknown_closes word.Endfil params h = absurd cc
+unknown_closes word.Units params h = absurd cc
+unknown_closes word.Mode params h = absurd cc
+unknown_closes word.Definition params h = absurd cc
+unknown_closes word.Passed params h = absurd cc
+unknown_closes word.Unknown params h = refl
+
+passes_or_not : (b : Bool) (e : Refusal) (k : Keyword) (params : List (List ℕ)) → is_unknown k ≡ true
+    → is_closing (cond b (Err e) (said_by k params)) ≡ false
+passes_or_not true e k params h = refl
+passes_or_not false e k params h = unknown_closes k params h
+
+closes_nothing : (s : Statement) → is_unknown (keyword_of s.word) ≡ true → is_closing (saying s) ≡ false
+unfolding said_of
+closes_nothing s h = passes_or_not (is_badly_formed (keyword_of s.word) s) _ (keyword_of s.word) s.params h
+
+-- what is to come of the statements below others, with what was written so far
+abbrev RunsAs : List (List ℕ × Point) → Choices → Option TextFault → ℕ → List Statement → List Statement → List Statement → Carried → Type 0
+RunsAs frames choices fault lines aboves statements below c = run frames choices fault lines statements c
+    ≡ with_texts (steps_from frames fault lines aboves below) (c.text ++ ended_lines (flat_lines below))
+    (c.notes ++ notes_from choices statements)
+
+-- what follows a statement that says this, by whether it closes the program
+by_end : (frames : List (List ℕ × Point)) (choices : Choices) (fault : Option TextFault) (lines : ℕ) (aboves : List Statement) (s : Statement)
+    (statements below : List Statement) (c : Carried) (m : StatementMeaning) (b : Bool) → closes m ≡ b
+    → (b ≡ false → RunsAs frames choices fault lines (s ∷ aboves) statements below (followed c s m))
+    → ran s.line (Ok (b, followed c s m)) (run frames choices fault lines statements)
+    ≡ with_texts (cond b (Ok []) (with_front (steps_of frames (context_at frames aboves) m) (steps_from frames fault lines (s ∷ aboves) below)))
+    (c.text ++ ended_lines (line_for s.line (flat_said (keyword_of s.word) s.params m) ++ cond b [] (flat_lines below)))
+    (c.notes ++ (note_for s (passed_over s (Ok m)) ++ cond b [] (notes_from choices statements)))
+by_end frames choices fault lines aboves s statements below c m true e behind =
+    rw (append-nil (line_for s.line (flat_said (keyword_of s.word) s.params m)), append-nil (note_for s (passed_over s (Ok m)))) refl
+by_end frames choices fault lines aboves s statements below c m false e behind =
+    rw (
+      behind refl,
+      ended_append (line_for s.line (flat_said (keyword_of s.word) s.params m)) (flat_lines below),
+      with_texts_front (steps_of frames (context_at frames aboves) m) (steps_from frames fault lines (s ∷ aboves) below) _ _,
+      append_assoc c.text (ended_lines (line_for s.line (flat_said (keyword_of s.word) s.params m))) (ended_lines (flat_lines below)),
+      append_assoc c.notes (note_for s (passed_over s (Ok m))) (notes_from choices statements),
+    )
+    refl
+
+-- a statement that counts
+by_judgement : (frames : List (List ℕ × Point)) (choices : Choices) (fault : Option TextFault) (lines : ℕ) (aboves : List Statement)
+    (s : Statement) (statements below : List Statement) (c : Carried) (r : Result StatementMeaning Refusal)
+    → ((m : StatementMeaning) → r ≡ Ok m → (saying s ≡ Ok m) × (is_unknown (keyword_of s.word) ≡ false))
+    → ((m : StatementMeaning) → r ≡ Ok m → RunsAs frames choices fault lines (s ∷ aboves) statements below (followed c s m))
+    → ran s.line (r >>= λ m. Ok (closes m, followed c s m)) (run frames choices fault lines statements)
+    ≡ with_texts (continued s.line r (steps_of frames (context_at frames aboves)) (steps_from frames fault lines (s ∷ aboves) below))
+    (c.text ++ ended_lines (flat_lines (s ∷ below))) (c.notes ++ notes_from choices (s ∷ statements))
+by_judgement frames choices fault lines aboves s statements below c (Err e) says behind = refl
+by_judgement frames choices fault lines aboves s statements below c (Ok m) says behind =
+    let known = says m refl in
+    rw (known.0, known.1) (by_end frames choices fault lines aboves s statements below c m (closes m) refl (λ e. behind m refl))
+
+accepted_says : (frames : List (List ℕ × Point)) (aboves : List Statement) (s : Statement) (m : StatementMeaning)
+    → judged frames (context_at frames aboves) s ≡ Ok m → (saying s ≡ Ok m) × (is_unknown (keyword_of s.word) ≡ false)
+accepted_says frames aboves s m e =
+    let a = accepted_if frames (context_at frames aboves) s m e in
+    (a.says, accepted_known frames (context_at frames aboves) s m a)
+
+-- the same if it is not left out
+counts : (frames : List (List ℕ × Point)) (choices : Choices) (fault : Option TextFault) (lines : ℕ) (aboves : List Statement) (s : Statement)
+    (statements below : List Statement) (c : Carried) → Stands aboves c.above
+    → ((m : StatementMeaning) → Stands (s ∷ aboves) (after_said c.above m)
+    → RunsAs frames choices fault lines (s ∷ aboves) statements below (followed c s m))
+    → ran s.line (stepped frames c s None) (run frames choices fault lines statements)
+    ≡ with_texts (steps_from frames fault lines aboves (s ∷ below)) (c.text ++ ended_lines (flat_lines (s ∷ below)))
+    (c.notes ++ notes_from choices (s ∷ statements))
+counts frames choices fault lines aboves s statements below c stands behind =
+    rw (due_is frames aboves c.above s stands) (by_judgement frames choices fault lines aboves s statements below c
+    (judged frames (context_at frames aboves) s) (accepted_says frames aboves s) (λ m e.
+    behind m (stands_after aboves c.above s m stands (accepted_says frames aboves s m e).0)))
+
+some_above : (n : ℕ) → (suc n == 0) ≡ false
+some_above n = ne_eqb (suc n) 0 (λ z. omega arith)
+
+-- a statement that may be left out
+by_reason : (frames : List (List ℕ × Point)) (choices : Choices) (fault : Option TextFault) (lines : ℕ) (aboves : List Statement)
+    (s : Statement) (statements : List Statement) (c : Carried) (o : Option Reason) → left_out choices s ≡ o → Stands aboves c.above
+    → ((d : Carried) → Stands aboves d.above → RunsAs frames choices fault lines aboves statements (filter (is_kept choices) statements) d)
+    → ((m : StatementMeaning) → Stands (s ∷ aboves) (after_said c.above m)
+    → RunsAs frames choices fault lines (s ∷ aboves) statements (filter (is_kept choices) statements) (followed c s m))
+    → ran s.line (stepped frames c s o) (run frames choices fault lines statements)
+    ≡ with_texts (steps_from frames fault lines aboves (filter (is_kept choices) (s ∷ statements)))
+    (c.text ++ ended_lines (flat_lines (filter (is_kept choices) (s ∷ statements)))) (c.notes ++ notes_from choices (s ∷ statements))
+by_reason frames choices fault lines aboves s statements c None e stands without behind =
+    let keeps : is_kept choices s ≡ true = ap (λ (o : Option Reason). is_none o) e in
+    rw keeps (counts frames choices fault lines aboves s statements (filter (is_kept choices) statements) c stands behind)
+by_reason frames choices fault lines aboves s statements c (Some reason) e stands without behind =
+    let unknown = left_out_unknown (is_unknown (keyword_of s.word)) (has_open_text s) (reason_of choices s.word s.params) reason e in
+    rw (e, unknown, closes_nothing s unknown, ← append_assoc c.notes (note_for s (Some reason)) (notes_from choices statements))
+    (without (noted c s (Some reason)) stands)
+
+pub run_is : (frames : List (List ℕ × Point)) (choices : Choices) (fault : Option TextFault) (lines : ℕ) (s : Statement)
+    (aboves statements : List Statement) (c : Carried) → Stands (s ∷ aboves) c.above
+    → RunsAs frames choices fault lines (s ∷ aboves) statements (filter (is_kept choices) statements) c
+run_is frames choices fault lines s aboves [] c stands = rw stands.number refl
+run_is frames choices fault lines s aboves (next ∷ statements) c stands =
+    let some : (c.above.number == 0) ≡ false = ap (λ (n : ℕ). n == 0) stands.number ∙ some_above (length aboves) in
+    rw some (by_reason frames choices fault lines (s ∷ aboves) next statements c (left_out choices next) refl stands
+    (λ d held. run_is frames choices fault lines s aboves statements d held)
+    (λ m held. run_is frames choices fault lines next (s ∷ aboves) statements (followed c next m) held))
+
+none_stand : Stands [] none_above
+none_stand = record { number = refl; tool = refl; wanted = refl; touched = refl }
+
+pub run_from_start : (frames : List (List ℕ × Point)) (choices : Choices) (fault : Option TextFault) (lines : ℕ) (statements : List Statement)
+    → run frames choices fault lines statements nothing_carried
+    ≡ with_texts (steps_from frames fault lines [] (kept choices statements)) (ended_lines (flat_lines (kept choices statements)))
+    (notes_from choices statements)
+run_from_start frames choices fault lines [] = refl
+run_from_start frames choices fault lines (s ∷ statements) =
+    counts frames choices fault lines [] s statements (filter (is_kept choices) statements) nothing_carried none_stand
+    (λ m held. run_is frames choices fault lines s [] statements (followed nothing_carried s m) held)

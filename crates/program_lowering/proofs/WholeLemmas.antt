@@ -1,0 +1,29 @@
+-- A flat program with its head is read back.
+use Rattle.std.proofs.Common.{◌≡◌, ℕ, ◌^◌, ◌<◌, List, ◌++◌, length, ap, ◌∙◌}
+use Rattle.fixed_um.specs.declared.lengths.Point.{Point}
+use Rattle.dmis_program.specs.Meaning.{program_of}
+use Rattle.program_lowering.specs.Carried.{AreLines}
+use Rattle.program_lowering.specs.Heads.{Names, head_lines, whole_text}
+use Rattle.program_lowering.specs.Lowered.{IsLowered}
+use Rattle.program_lowering.specs.Lowering.{ended_lines}
+use Rattle.program_lowering.specs.declared.words.Choices.{Choices}
+use Rattle.program_lowering.proofs.HeadLemmas.{are_comments}
+use Rattle.program_lowering.proofs.LawLemmas.{programs_read_back}
+
+pub whole_of : (frames : List (List ℕ × Point)) (names : Names) (choices : Choices) (source text lines notes : List ℕ)
+    → AreLines frames choices source lines notes → length source < 2 ^ 64
+    → text ≡ ended_lines (head_lines names choices source) ++ lines
+    → IsLowered names choices frames source text notes
+whole_of frames names choices source text lines notes h few e =
+    let whole : text ≡ whole_text names choices source = e ∙ ap (λ (t : List ℕ). ended_lines (head_lines names choices source) ++ t) h.flat in
+    record {
+      meaning = h.meaning;
+      accepted = h.accepted;
+      is = whole;
+      reads_back = ap (λ (t : List ℕ). program_of frames t) whole
+          ∙ programs_read_back frames choices source (head_lines names choices source) h.meaning few
+          (are_comments names choices source) h.accepted;
+      decided = h.notes_are;
+    }
+
+pub ruleset wholes = (whole_of)

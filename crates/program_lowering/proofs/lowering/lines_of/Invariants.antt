@@ -1,0 +1,14 @@
+use Rattle.std.proofs.Common.{◌≡◌, length}
+use Rattle.dmis_text.specs.Reading.{text_reading}
+use Rattle.std.specs.Str.Lines.{lines}
+use Rattle.program_lowering.specs.Carried.{nothing_carried}
+use Rattle.program_lowering.proofs.Runs.{run}
+use Rattle.program_lowering.proofs.lowering.lines_of.Given as goal
+
+-- what is carried and the statements left give what the whole text gives
+abbrev pub invariant-loop-lowering : goal.invariant-loop-lowering
+invariant-loop-lowering l = run l.frames l.choices l.statements.fault l.statements.lines l.statements.left l.lowering
+    ≡ run l.frames l.choices (text_reading l.bytes).fault (length (lines l.bytes)) (text_reading l.bytes).statements nothing_carried
+
+abbrev pub decreases-loop-lowering : goal.decreases-loop-lowering
+decreases-loop-lowering l = length l.statements.left

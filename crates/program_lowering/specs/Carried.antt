@@ -1,0 +1,108 @@
+-- What the code carries from statement to statement: no public clause cites it. specs/Lowering.antt looks back instead.
+use Rattle.std.specs.Prelude.{◌≡◌, ℕ, ◌+◌, ◌==◌, Bool, true, false, List, [], ◌++◌, Option, Some, None, Result, Ok, Err, if◌then◌else◌}
+use Rattle.dmis_text.specs.declared.elements.Statement.{Statement}
+use Rattle.fixed_um.specs.declared.frames.Frame.TheVariants.{Machine}
+use Rattle.fixed_um.specs.declared.lengths.Point.{Point}
+use Rattle.dmis_program.specs.Outcomes.{◌>>=◌}
+use Rattle.dmis_program.specs.Keywords.{keyword_of}
+use Rattle.dmis_program.specs.LookBack.{Context}
+use Rattle.dmis_program.specs.Judging.{judged}
+use Rattle.dmis_program.specs.Meaning.{Meaning, closes}
+use Rattle.dmis_program.specs.declared.faults.Refusal.{Refusal}
+use Rattle.dmis_program.specs.declared.faults.StatementFault.{StatementFault}
+use Rattle.dmis_program.specs.declared.faults.StatementFault.TheVariants as faults
+use Rattle.dmis_program.specs.declared.faults.ProgramFault.{ProgramFault}
+use Rattle.dmis_program.specs.declared.faults.ProgramFault.TheVariants as program
+use Rattle.dmis_program.specs.declared.sayings.StatementMeaning.{StatementMeaning}
+use Rattle.dmis_program.specs.declared.sayings.StatementMeaning.TheVariants as said
+use Rattle.program_lowering.specs.Words.{left_out, passed_reason, is_unknown}
+use Rattle.program_lowering.specs.Flats.{flat_said}
+use Rattle.program_lowering.specs.Lowering.{ended_lines, flat_program, line_for, lowered_meaning, note_for, notes_of, passed_over}
+use Rattle.program_lowering.specs.Lowered.{Refuses}
+use Rattle.program_lowering.specs.declared.above.Above.{Above}
+use Rattle.program_lowering.specs.declared.lowering.Lowered.{Lowered}
+use Rattle.program_lowering.specs.declared.words.Choices.{Choices}
+use Rattle.program_lowering.specs.declared.words.Reason.{Reason}
+
+-- before any statement
+abbrev pub none_above : Above
+none_above = record { number = 0; has_tool = false; wanted = None; touched = 0 }
+
+-- some tool, or none
+abbrev pub some_tool : Bool → Option (List ℕ)
+some_tool true = Some []
+some_tool false = None
+
+-- what decides over the next statement, where the frame plays no part
+abbrev pub context_of : Above → Context
+context_of above = record {
+  number = above.number;
+  tool = some_tool above.has_tool;
+  frame = Machine;
+  wanted = above.wanted;
+  touched = above.touched;
+}
+
+-- what it says there, or the refusal that is due
+abbrev pub due : List (List ℕ × Point) → Above → Statement → Result StatementMeaning Refusal
+due frames above s = judged frames (context_of above) s
+
+-- what is above the statement after one that says this
+abbrev pub one_more : Above → Above
+one_more above = record above { number = above.number + 1 }
+
+abbrev pub after_said : Above → StatementMeaning → Above
+after_said above (said.Begins name count) = record (one_more above) { wanted = Some count; touched = 0 }
+after_said above (said.Touches target direction) = record (one_more above) { touched = above.touched + 1 }
+after_said above said.Ends = record (one_more above) { wanted = None; touched = 0 }
+after_said above (said.Selects name) = record (one_more above) { has_tool = true }
+after_said above _ = one_more above
+
+-- what is above, and what was written so far
+pub record Carried : Type 0 where
+  pub above : Above
+  pub text : List ℕ
+  pub notes : List ℕ
+
+abbrev pub nothing_carried : Carried
+nothing_carried = record { above = none_above; text = []; notes = [] }
+
+-- after a statement that is left out, and after one that says this
+abbrev pub noted : Carried → Statement → Option Reason → Carried
+noted c s reason = record c { notes = c.notes ++ note_for s reason }
+
+abbrev pub followed : Carried → Statement → StatementMeaning → Carried
+followed c s meaning = record {
+  above = after_said c.above meaning;
+  text = c.text ++ ended_lines (line_for s.line (flat_said (keyword_of s.word) s.params meaning));
+  notes = c.notes ++ note_for s (passed_over s (Ok meaning));
+}
+
+-- the first statement is never left out
+abbrev pub left_out_after : Choices → ℕ → Statement → Option Reason
+left_out_after choices number s = if number == 0 then None else left_out choices s
+
+abbrev pub stepped : List (List ℕ × Point) → Carried → Statement → Option Reason → Result (Bool × Carried) Refusal
+stepped frames c s (Some reason) = Ok (false, noted c s (Some reason))
+stepped frames c s None = due frames c.above s >>= λ meaning. Ok (closes meaning, followed c s meaning)
+
+-- after a statement: whether the program ends there, and what is carried on; or the refusal that is due
+abbrev pub step : List (List ℕ × Point) → Choices → Carried → Statement → Result (Bool × Carried) Refusal
+step frames choices c s = stepped frames c s (left_out_after choices c.above.number s)
+
+-- what a call gives and leaves is what is due, unless memory ran out
+abbrev pub GivesStep : Result Bool StatementFault → Carried → Result (Bool × Carried) Refusal → Type 0
+GivesStep (Ok closed) new due = due ≡ Ok (closed, new)
+GivesStep (Err (faults.Refused refusal)) new due = due ≡ Err refusal
+GivesStep (Err faults.Memory) new due = Unit {0}
+
+-- the lines of the flat program of a text, and what was decided; or why there are none
+pub record AreLines (frames : List (List ℕ × Point)) (choices : Choices) (source text notes : List ℕ) : Type 0 where
+  pub meaning : Meaning
+  pub accepted : lowered_meaning frames choices source ≡ Ok meaning
+  pub flat : text ≡ flat_program choices source
+  pub notes_are : notes ≡ notes_of choices source
+
+abbrev pub GivesLines : List (List ℕ × Point) → Choices → List ℕ → Result Lowered ProgramFault → Type 0
+GivesLines frames choices source (Ok lines) = AreLines frames choices source lines.text.items lines.notes.items
+GivesLines frames choices source (Err fault) = Refuses frames choices source fault

@@ -1,0 +1,54 @@
+-- The comments before a flat program: what it was written of, and how (this profile).
+use Rattle.std.specs.Prelude.{◌≡◌, ℕ, ◌≤◌, true, List, [], ◌∷◌, ◌++◌, length, map, take, codes, if◌then◌else◌}
+use Rattle.std.specs.List.{list_all}
+use Rattle.sha2.specs.Sha256.{sha256}
+use Rattle.hex.specs.Hex.{encode_lower}
+use Rattle.dmis_text.specs.Texts.{may_stand}
+use Rattle.program_lowering.specs.Lowering.{ended_lines, flat_program}
+use Rattle.program_lowering.specs.declared.words.Choices.{Choices}
+
+-- a line that is a comment: `$$`, and bytes that may be in one. A `$` is 36
+pub record IsComment (line : List ℕ) : Type 0 where
+  pub text : List ℕ
+  pub is : line ≡ 36 ∷ 36 ∷ text
+  pub clean : list_all (may_stand true) text ≡ true
+  pub short : length line ≤ 4096
+
+-- the names of the files that a flat program was written of; an empty one of the setup says that none was named
+pub record Names : Type 0 where
+  pub program : List ℕ
+  pub setup : List ℕ
+
+abbrev pub names_of : List ℕ → List ℕ → Names
+names_of program setup = record { program = program; setup = setup }
+
+-- a name in a comment: its first 1,000 bytes, with a `?` for one that may not be there
+abbrev pub shown_byte : ℕ → ℕ
+shown_byte c = if may_stand true c then c else 63
+
+abbrev pub shown_name : List ℕ → List ℕ
+shown_name name = map shown_byte (take 1000 name)
+
+-- the setup's, or that there is none
+abbrev pub setup_name : List ℕ → List ℕ
+setup_name [] = codes "none"
+setup_name (c ∷ cs) = c ∷ cs
+
+-- the options that were given
+abbrev pub options_text : Choices → List ℕ
+options_text choices =
+    if choices.no_clearing then (if choices.compensated then codes "--no-clearing --compensated" else codes "--no-clearing")
+    else (if choices.compensated then codes "--compensated" else codes "none")
+
+abbrev pub head_lines : Names → Choices → List ℕ → List (List ℕ)
+head_lines names choices text =
+    codes "$$ flat program, written by dme lower"
+    ∷ (codes "$$ source: " ++ shown_name names.program)
+    ∷ (codes "$$ SHA-256 of the source: " ++ encode_lower (sha256 text))
+    ∷ (codes "$$ setup: " ++ shown_name (setup_name names.setup))
+    ∷ (codes "$$ options: " ++ options_text choices)
+    ∷ []
+
+-- the flat program with its head
+abbrev pub whole_text : Names → Choices → List ℕ → List ℕ
+whole_text names choices text = ended_lines (head_lines names choices text) ++ flat_program choices text

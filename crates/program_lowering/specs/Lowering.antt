@@ -1,0 +1,88 @@
+-- The flat program that a program stands for, and what was decided about it (this profile).
+use Rattle.std.specs.Prelude.{ℕ, Bool, true, false, List, [], ◌∷◌, ◌++◌, length, codes, decimal, filter, flat_map, Option, Some, None}
+use Rattle.std.specs.Prelude.{Result, Ok, Err, is_none, if◌then◌else◌}
+use Rattle.std.specs.Str.Lines.{lines}
+use Rattle.dmis_text.specs.Reading.{Reading, text_reading}
+use Rattle.dmis_text.specs.declared.elements.Statement.{Statement}
+use Rattle.fixed_um.specs.declared.lengths.Point.{Point}
+use Rattle.dmis_program.specs.Keywords.{keyword_of}
+use Rattle.dmis_program.specs.LookBack.{saying}
+use Rattle.dmis_program.specs.Meaning.{Meaning, closes, meaning_of}
+use Rattle.dmis_program.specs.declared.faults.Refusal.{Refusal}
+use Rattle.dmis_program.specs.declared.sayings.StatementMeaning.{StatementMeaning}
+use Rattle.dmis_program.specs.declared.sayings.StatementMeaning.TheVariants as said
+use Rattle.program_lowering.specs.Words.{left_out, is_unknown, passed_reason}
+use Rattle.program_lowering.specs.Flats.{Flat, flat_said, flat_line}
+use Rattle.program_lowering.specs.Reasons.{reason_text}
+use Rattle.program_lowering.specs.declared.words.Choices.{Choices}
+use Rattle.program_lowering.specs.declared.words.Reason.{Reason}
+
+-- the statements that count: the first, which begins the program, and of the others those that are not left out
+abbrev pub is_kept : Choices → Statement → Bool
+is_kept choices s = is_none (left_out choices s)
+
+abbrev pub kept : Choices → List Statement → List Statement
+kept choices [] = []
+kept choices (s ∷ statements) = s ∷ filter (is_kept choices) statements
+
+abbrev pub kept_reading : Choices → Reading → Reading
+kept_reading choices reading = record { statements = kept choices reading.statements; fault = reading.fault }
+
+-- what the text means without those that are left out, or its first refusal with its line
+abbrev pub lowered_meaning : List (List ℕ × Point) → Choices → List ℕ → Result Meaning (Refusal × ℕ)
+lowered_meaning frames choices text = meaning_of frames (kept_reading choices (text_reading text)) (length (lines text))
+
+-- a statement that closes the program
+abbrev pub is_closing : Result StatementMeaning Refusal → Bool
+is_closing (Ok meaning) = closes meaning
+is_closing (Err refusal) = false
+
+-- what is written of a statement, by what it says
+abbrev pub flat_of : Statement → Result StatementMeaning Refusal → Option Flat
+flat_of s (Ok meaning) = flat_said (keyword_of s.word) s.params meaning
+flat_of s (Err refusal) = None
+
+-- the line that is written, if one is
+abbrev pub line_for : ℕ → Option Flat → List (List ℕ)
+line_for line None = []
+line_for line (Some f) = flat_line f line ∷ []
+
+-- the lines of statements up to the one that closes the program
+abbrev pub flat_lines : List Statement → List (List ℕ)
+flat_lines [] = []
+flat_lines (s ∷ statements) = line_for s.line (flat_of s (saying s)) ++ (if is_closing (saying s) then [] else flat_lines statements)
+
+-- a line with its end, and lines with their ends: LF is 10
+abbrev pub ended : List ℕ → List ℕ
+ended line = line ++ 10 ∷ []
+
+abbrev pub ended_lines : List (List ℕ) → List ℕ
+ended_lines written = flat_map ended written
+
+-- the flat program of a text, but for its head
+abbrev pub flat_program : Choices → List ℕ → List ℕ
+flat_program choices text = ended_lines (flat_lines (kept choices (text_reading text).statements))
+
+-- why nothing is written of a statement: it is left out, or commands nothing
+abbrev pub passed_over : Statement → Result StatementMeaning Refusal → Option Reason
+passed_over s (Ok said.Passes) = passed_reason (keyword_of s.word) s.word
+passed_over s _ = None
+
+abbrev pub unwritten : Choices → Statement → Option Reason
+unwritten choices s = if is_unknown (keyword_of s.word) then left_out choices s else passed_over s (saying s)
+
+-- the line that says so
+unfoldable pub note_start : Statement → List ℕ
+note_start s = codes "dme: line " ++ (decimal s.line ++ (codes ": " ++ s.word))
+
+abbrev pub note_for : Statement → Option Reason → List ℕ
+note_for s None = []
+note_for s (Some reason) = note_start s ++ ended (codes " is left out: " ++ reason_text reason)
+
+-- one for each such statement, up to the one that closes the program
+abbrev pub notes_from : Choices → List Statement → List ℕ
+notes_from choices [] = []
+notes_from choices (s ∷ statements) = note_for s (unwritten choices s) ++ (if is_closing (saying s) then [] else notes_from choices statements)
+
+abbrev pub notes_of : Choices → List ℕ → List ℕ
+notes_of choices text = notes_from choices (text_reading text).statements

@@ -1,0 +1,15 @@
+-- The reasons as they are printed (this profile).
+use Rattle.std.specs.Prelude.{List, ℕ, codes}
+use Rattle.program_lowering.specs.declared.words.Reason.{Reason}
+use Rattle.program_lowering.specs.declared.words.Reason.TheVariants.{Printing, Naming, Evaluating, Motion, Clearing, Uncompensated}
+use Rattle.program_lowering.specs.declared.words.Reason.TheVariants.{Compensated, Passed}
+
+abbrev pub reason_text : Reason → List ℕ
+reason_text Printing = codes "it says what is printed or shown, and where"
+reason_text Naming = codes "it names what is measured, by whom, or on what"
+reason_text Evaluating = codes "it computes with touches that are made already"
+reason_text Motion = codes "a setting of motion or probing; the machine keeps its own"
+reason_text Clearing = codes "it clears the part between features; nothing moves there by itself"
+reason_text Uncompensated = codes "nothing is corrected for temperature"
+reason_text Compensated = codes "the machine corrects for temperature"
+reason_text Passed = codes "it commands nothing"

@@ -1,0 +1,111 @@
+// The comments before a flat program.
+
+ghost use Rattle.std.specs.Prelude.{◌≡◌, ◌++◌, IfOk, string_bytes};
+ghost use Rattle.hex.specs.Hex.{encode_lower};
+ghost use Rattle.sha2.specs.Sha256.{sha256};
+ghost use Rattle.program_lowering.specs.Heads.{head_lines, names_of, options_text, setup_name, shown_byte, shown_name};
+ghost use Rattle.program_lowering.specs.Lowering.{ended_lines};
+
+use crate::flats::{front, push_named};
+use crate::words::Choices;
+use sha2::{Digest, Sha256};
+use std::alloc::{AllocError, Global};
+
+/// The names of the files that a flat program is written of, as its head names them.
+#[derive(Clone, Copy)]
+pub struct SourceNames<'a> {
+    /// The program's.
+    pub program: &'a str,
+    /// The setup's; empty if none is named.
+    pub setup: &'a str,
+}
+
+/// A byte in a comment: `?` for one that may not be there.
+fn shown_byte(byte: u8) -> u8
+    ensures { result ≡ shown_byte byte }
+{
+    if byte == 9 || (byte >= 32 && byte <= 126) || byte >= 128 {
+        byte
+    } else {
+        b'?'
+    }
+}
+
+/// A name in a comment.
+fn shown_name(alloc: Global, name: &[u8]) -> Result<Vec<u8>, AllocError>
+    ensures { IfOk result (λ shown. shown.items ≡ shown_name name.now) }
+{
+    front(name, 1000)
+        .iter()
+        .map(|byte| shown_byte(*byte))
+        .collect(alloc)
+}
+
+/// The setup's name, or that there is none.
+fn setup_name(setup: &[u8]) -> &[u8]
+    ensures { result.now ≡ setup_name setup.now }
+{
+    match setup {
+        [] => b"none",
+        _ => setup,
+    }
+}
+
+/// The digest of a text.
+fn digest_of(alloc: Global, text: &[u8]) -> Result<String, AllocError>
+    ensures { IfOk result (λ digits. string_bytes digits ≡ encode_lower (sha256 text.now)) }
+{
+    let digest = Sha256::digest(text);
+    hex::encode(alloc, digest)
+}
+
+/// The options that were given.
+fn options_text(choices: Choices) -> &'static [u8]
+    ensures { result.now ≡ options_text choices }
+{
+    match (choices.no_clearing, choices.compensated) {
+        (true, true) => b"--no-clearing --compensated",
+        (true, false) => b"--no-clearing",
+        (false, true) => b"--compensated",
+        (false, false) => b"none",
+    }
+}
+
+/// The head of a flat program: the name of its source with the digest of that text, the name of the setup, and the options.
+fn head(
+    alloc: Global,
+    names: SourceNames<'_>,
+    choices: Choices,
+    source: &[u8],
+) -> Result<Vec<u8>, AllocError>
+    ensures { IfOk result (λ head. head.items ≡ ended_lines (head_lines
+        (names_of names.entry.program.now names.entry.setup.now) choices source.now)) }
+{
+    let program = shown_name(alloc, names.program.as_bytes())?;
+    let digest = digest_of(alloc, source)?;
+    let setup = shown_name(alloc, setup_name(names.setup.as_bytes()))?;
+    let mut head = Vec::new(alloc);
+    push_named(&mut head, b"$$ flat program, written by dme lower", b"")?;
+    push_named(&mut head, b"$$ source: ", program.as_slice())?;
+    push_named(&mut head, b"$$ SHA-256 of the source: ", digest.as_bytes())?;
+    push_named(&mut head, b"$$ setup: ", setup.as_slice())?;
+    push_named(&mut head, b"$$ options: ", options_text(choices))?;
+    Ok(head)
+}
+
+/// The lines of a flat program with the head before them.
+pub(crate) fn with_head(
+    alloc: Global,
+    names: SourceNames<'_>,
+    choices: Choices,
+    source: &[u8],
+    lines: &[u8],
+) -> Result<Vec<u8>, AllocError>
+    ensures { IfOk result (λ text. text.items ≡ ended_lines (head_lines
+        (names_of names.entry.program.now names.entry.setup.now) choices source.now)
+        ++ lines.now) }
+{
+    let mut text = head(alloc, names, choices, source)?;
+    text.extend_from_slice(lines)?;
+    Ok(text)
+}

@@ -1,0 +1,52 @@
+// What follows from the definitions alone. Each function has laws for its contract and does nothing.
+ghost use Rattle.std.specs.Prelude.{◌≡◌, ◌<◌, ◌^◌, ◌++◌, ◌∷◌, [], ℕ, List, length, codes, Some, None, Ok};
+ghost use Rattle.std.specs.List.{AllByRecursion};
+ghost use Rattle.fixed_um.specs.declared.lengths.Point.{Point};
+ghost use Rattle.dmis_program.specs.Meaning.{Meaning, program_of};
+ghost use Rattle.program_lowering.specs.Heads.{IsComment, Names, head_lines};
+ghost use Rattle.program_lowering.specs.Lowering.{ended_lines, flat_program, lowered_meaning};
+ghost use Rattle.program_lowering.specs.Examples.{all_choices, bare, plain_choices};
+ghost use Rattle.program_lowering.specs.Flats.{flat, flat_text};
+ghost use Rattle.program_lowering.specs.Words.{left_out};
+ghost use Rattle.program_lowering.specs.declared.words.Choices.{Choices};
+ghost use Rattle.program_lowering.specs.declared.words.Reason.TheVariants as reason;
+
+/// A flat program is accepted as it is written, and has the features and steps of the program that it was written of, whatever comments
+/// are before it.
+pub fn flat_programs_read_back()
+    ensures { (frames : List (List ℕ × Point)) (choices : Choices) (text : List ℕ)
+        (heads : List (List ℕ)) (m : Meaning) → length text < 2 ^ 64
+        → AllByRecursion IsComment heads → lowered_meaning frames choices text ≡ Ok m
+        → program_of frames (ended_lines heads ++ flat_program choices text) ≡ Ok m }
+{}
+
+/// The head of a flat program is comments alone.
+pub fn heads_are_comments()
+    ensures { (names : Names) (choices : Choices) (text : List ℕ)
+        → AllByRecursion IsComment (head_lines names choices text) }
+{}
+
+/// A program that is flat already keeps its features and steps, whatever is chosen.
+pub fn flat_sources_keep_their_meaning()
+    ensures { (frames : List (List ℕ × Point)) (choices : Choices) (text : List ℕ) (m : Meaning)
+        → program_of frames text ≡ Ok m → lowered_meaning frames choices text ≡ Ok m }
+{}
+
+/// Examples: what is left out, and how a statement is written.
+pub fn examples()
+    ensures printing { left_out plain_choices (bare (codes "VFORM") (codes "ALL" ∷ []))
+        ≡ Some reason.Printing }
+    ensures naming { left_out plain_choices (bare (codes "LOTID") []) ≡ Some reason.Naming }
+    ensures evaluating { left_out plain_choices (bare (codes "EVAL") []) ≡ Some reason.Evaluating }
+    ensures motion { left_out plain_choices (bare (codes "RAPID") []) ≡ Some reason.Motion }
+    ensures clearing { left_out plain_choices (bare (codes "CLRSRF") (codes "20" ∷ [])) ≡ None }
+    ensures no_clearing { left_out all_choices (bare (codes "CLRSRF") (codes "20" ∷ []))
+        ≡ Some reason.Clearing }
+    ensures uncompensated { left_out plain_choices (bare (codes "TECOMP") (codes "OFF" ∷ []))
+        ≡ Some reason.Uncompensated }
+    ensures compensated { left_out plain_choices (bare (codes "TECOMP") (codes "ON" ∷ [])) ≡ None }
+    ensures loop_stays { left_out all_choices (bare (codes "DO") (codes "I" ∷ [])) ≡ None }
+    ensures open_text { left_out all_choices (bare (codes "PARTID") (codes "'A" ∷ [])) ≡ None }
+    ensures written { flat_text (flat (codes "PTMEAS") (codes "CART" ∷ (codes "1.000" ∷ [])))
+        ≡ codes "PTMEAS/CART,1.000" }
+{}

@@ -1,0 +1,21 @@
+//! A DMIS program (ISO 22093) as departments have it, made flat: the same features and steps in the statements that `dmis_program` reads.
+//!
+//! - `words`: the words that a flat program does not have, and why each is left out
+//! - `flats`: the statement that is written for one that commands something
+//! - `heads`: the comments before a flat program
+//! - `above`: what the statements above leave for the one that is judged
+//! - `lowering`: `lower`, the flat program of a text, or its first refusal; `laws`: what follows from the definitions
+//!
+//! What a program stands for is said by `lowered_meaning`, `flat_program` and `notes_of` of specs/Lowering.antt.
+#![tactic(auto)]
+
+mod above;
+mod flats;
+mod heads;
+pub mod laws;
+mod lowering;
+mod words;
+
+pub use heads::SourceNames;
+pub use lowering::{Lowered, lower};
+pub use words::{Choices, Reason};

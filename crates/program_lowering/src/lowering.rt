@@ -1,0 +1,270 @@
+// The flat program of a text.
+
+ghost use Rattle.std.specs.Prelude.{◌≡◌, ◌≤◌, ◌<◌, ◌++◌, ◌∷◌, [], codes, decimal, OnOk, IfOk, IfSome, IfNone, IfErr, Ok, None, Option, Some};
+ghost use Rattle.dmis_text.specs.Reading.{IsDue};
+ghost use Rattle.dmis_text.specs.declared.reading.TextFault.{TextFault};
+ghost use Rattle.dmis_program.specs.Keywords.{keyword_of};
+ghost use Rattle.dmis_program.specs.Meaning.{closes, without_end};
+ghost use Rattle.dmis_program.specs.Outcomes.{fault_at, refused_at, text_refused};
+ghost use Rattle.program_lowering.specs.Carried.{Carried, GivesLines, GivesStep, after_said, followed, left_out_after, noted, nothing_carried, step};
+ghost use Rattle.program_lowering.specs.Lowering.{lowered_meaning, flat_program, note_for, note_start, notes_of, passed_over, unwritten};
+ghost use Rattle.program_lowering.specs.Heads.{names_of};
+ghost use Rattle.program_lowering.specs.Lowered.{GivesLowered};
+
+use crate::above::Above;
+use crate::flats::{push_line, push_named, push_number};
+use crate::heads::{SourceNames, with_head};
+use crate::words::{Choices, Reason, left_out, passed_reason, reason_text};
+use dmis_program::{
+    Frames, Keyword, ProgramFault, Refusal, StatementFault, StatementMeaning, keyword_of_word,
+};
+use dmis_text::{Statement, Statements};
+use std::alloc::{AllocError, Global};
+use std::marker::Model;
+
+/// The flat program of a text, and what was decided about it.
+#[derive(Debug, Drop)]
+pub struct Lowered {
+    /// The flat program.
+    pub text: Vec<u8>,
+    /// One line for each statement of which nothing is written, with the reason.
+    pub notes: Vec<u8>,
+}
+
+/// What is carried from statement to statement.
+#[derive(Drop)]
+struct Lowering {
+    alloc: Global,
+    above: Above,
+    text: Vec<u8>,
+    notes: Vec<u8>,
+}
+
+impl Model for Lowering {
+    ghost use Rattle.std.specs.Prelude.{◌≤◌};
+    ghost use Rattle.program_lowering.specs.Carried.{Carried};
+
+    ghost Value = { Carried };
+
+    ghost view = { λ l. record { above = l.above; text = l.text.items; notes = l.notes.items } };
+
+    ghost invariant = { λ l. (l.above.number ≤ 10000) × (l.above.touched ≤ l.above.number) };
+}
+
+/// Appends what names a statement: its line and its word.
+#[tactic(auto, unfolding(crate::specs::Lowering::note_start))]
+fn push_start(notes: &mut Vec<u8>, statement: &Statement) -> Result<(), AllocError>
+    ensures { OnOk result (notes.new.items ≡ notes.old.items ++ note_start statement.now) }
+{
+    notes.extend_from_slice(b"dme: line ")?;
+    push_number(notes, statement.line)?;
+    notes.extend_from_slice(b": ")?;
+    notes.extend_from_slice(&statement.word)
+}
+
+/// Appends the line that says why nothing is written of a statement; nothing, if something is.
+fn push_note(
+    notes: &mut Vec<u8>,
+    statement: &Statement,
+    reason: Option<Reason>,
+) -> Result<(), AllocError>
+    ensures { OnOk result (notes.new.items ≡ notes.old.items ++ note_for statement.now reason) }
+{
+    let Some(reason) = reason else {
+        return Ok(());
+    };
+    push_start(notes, statement)?;
+    push_named(notes, b" is left out: ", reason_text(reason))
+}
+
+/// Why nothing is written of a statement with this keyword that says this.
+fn passed_over(
+    keyword: Keyword,
+    statement: &Statement,
+    meaning: &StatementMeaning,
+) -> Option<Reason>
+    requires { keyword ≡ keyword_of statement.now.word }
+    ensures { result ≡ passed_over statement.now (Ok meaning.now) }
+{
+    match meaning {
+        StatementMeaning::Passes => passed_reason(keyword, &statement.word),
+        _ => None,
+    }
+}
+
+/// Whether a statement that says this closes the program.
+fn closes(meaning: &StatementMeaning) -> bool
+    ensures { result ≡ closes meaning.now }
+{
+    match meaning {
+        StatementMeaning::Closes => true,
+        _ => false,
+    }
+}
+
+/// The fault of a statement that begins on this line.
+fn fault_at(fault: StatementFault, line: u64) -> ProgramFault
+    ensures { result ≡ fault_at fault line }
+{
+    match fault {
+        StatementFault::Refused(refusal) => ProgramFault::Refused(refusal, line),
+        StatementFault::Memory => ProgramFault::Memory,
+    }
+}
+
+/// The next statement of a text, or none at its end.
+fn next_statement<'a>(
+    statements: &mut Statements<'a>,
+) -> Result<Option<Statement<'a>>, ProgramFault>
+    ensures statement { IfOk result (λ given. IfSome given
+        (λ s. statements.old.left ≡ s ∷ statements.new.left)) }
+    ensures end { IfOk result (λ given. IfNone given ((statements.old.left ≡ [])
+        × (statements.old.fault ≡ None) × (statements.new ≡ statements.old))) }
+    ensures due { IfErr result (λ fault. (text : TextFault) × (fault ≡ text_refused text)
+        × IsDue statements.old text) }
+    ensures fault { statements.new.fault ≡ statements.old.fault }
+    ensures lines { statements.new.lines ≡ statements.old.lines }
+{
+    Ok(statements.next()?)
+}
+
+impl Lowering {
+    /// Before any statement.
+    fn new(alloc: Global) -> Lowering
+        ensures { result ≡ nothing_carried }
+    {
+        Lowering {
+            alloc,
+            above: Above::none(),
+            text: Vec::new(alloc),
+            notes: Vec::new(alloc),
+        }
+    }
+
+    /// Why a statement with this keyword is left out. The first never is.
+    fn left_out(&self, choices: Choices, keyword: Keyword, statement: &Statement) -> Option<Reason>
+        requires { keyword ≡ keyword_of statement.now.word }
+        ensures { result ≡ left_out_after choices self.now.above.number statement.now }
+    {
+        if self.above.number == 0 {
+            return None;
+        }
+        left_out(choices, keyword, statement)
+    }
+
+    /// Writes a statement with this keyword that says this.
+    fn follow(
+        &mut self,
+        keyword: Keyword,
+        statement: &Statement,
+        meaning: &StatementMeaning,
+    ) -> Result<(), AllocError>
+        requires keyword { keyword ≡ keyword_of statement.now.word }
+        requires few { self.old.above.number < 10000 }
+        ensures { OnOk result (self.new ≡ followed self.old statement.now meaning.now) }
+    {
+        push_line(
+            &mut self.text,
+            statement.line,
+            keyword,
+            &statement.params,
+            meaning,
+        )?;
+        push_note(
+            &mut self.notes,
+            statement,
+            passed_over(keyword, statement, meaning),
+        )?;
+        self.above = self.above.after(meaning);
+        Ok(())
+    }
+
+    /// Takes the next statement. True at the end of the program. If memory runs out, what was carried is of no use.
+    fn take(
+        &mut self,
+        choices: Choices,
+        frames: &Frames,
+        statement: &Statement,
+    ) -> Result<bool, StatementFault>
+        ensures { GivesStep result self.new (step frames.now choices self.old statement.now) }
+    {
+        let keyword = keyword_of_word(&statement.word);
+        if let Some(reason) = self.left_out(choices, keyword, statement) {
+            push_note(&mut self.notes, statement, Some(reason))?;
+            return Ok(false);
+        }
+        let meaning = self.above.judge(self.alloc, frames, keyword, statement)?;
+        self.follow(keyword, statement, &meaning)?;
+        Ok(closes(&meaning))
+    }
+
+    /// The refusal of a text that ends here, without an `ENDFIL`, and has that many lines.
+    fn missing_end(&self, lines: u64) -> ProgramFault
+        ensures { result ≡ refused_at (without_end self.now.above.number lines) }
+    {
+        if self.above.number == 0 {
+            ProgramFault::Refused(Refusal::NotDmis, 1)
+        } else {
+            ProgramFault::Refused(Refusal::Truncated, lines)
+        }
+    }
+
+    /// The flat program, and what was decided.
+    fn finish(self) -> Lowered
+        ensures text { result.text.items ≡ self.text }
+        ensures notes { result.notes.items ≡ self.notes }
+    {
+        let Lowering {
+            alloc: _,
+            above: _,
+            text,
+            notes,
+        } = self;
+        Lowered { text, notes }
+    }
+}
+
+/// The lines of the flat program of a text, up to its `ENDFIL`, with what was decided.
+fn lines_of(
+    alloc: Global,
+    bytes: &[u8],
+    frames: &Frames,
+    choices: Choices,
+) -> Result<Lowered, ProgramFault>
+    ensures { GivesLines frames.now choices bytes.now result }
+{
+    let mut statements = Statements::new(alloc, bytes);
+    let mut lowering = Lowering::new(alloc);
+    while let Some(statement) = next_statement(&mut statements)? {
+        match lowering.take(choices, frames, &statement) {
+            Ok(true) => return Ok(lowering.finish()),
+            Ok(false) => statements.take_back(statement),
+            Err(fault) => return Err(fault_at(fault, statement.line)),
+        }
+    }
+    Err(lowering.missing_end(statements.lines()))
+}
+
+/// The flat program that a text stands for, up to its `ENDFIL`, with a head and with what was decided; `frames` are those that it may
+/// recall.
+///
+/// Statements that measure and move nothing, and those that the choices name, are left out. What else a flat program cannot have is
+/// refused. The first refusal is answered with its line, as `Program::read` refuses the text without the statements that are left out.
+/// Each line that is written is that of one statement, and names its line.
+#[tactic(auto, using(crate::proofs::WholeLemmas::wholes))]
+pub fn lower(
+    alloc: Global,
+    names: SourceNames<'_>,
+    choices: Choices,
+    frames: &Frames,
+    source: &[u8],
+) -> Result<Lowered, ProgramFault>
+    ensures { GivesLowered (names_of names.entry.program.now names.entry.setup.now) choices
+        frames.now source.now result }
+{
+    let Lowered { text, notes } = lines_of(alloc, source, frames, choices)?;
+    match with_head(alloc, names, choices, source, text.as_slice()) {
+        Ok(text) => Ok(Lowered { text, notes }),
+        Err(_) => Err(ProgramFault::Memory),
+    }
+}

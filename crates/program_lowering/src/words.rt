@@ -1,0 +1,181 @@
+// The words that a flat program does not have.
+
+ghost use Rattle.std.specs.Prelude.{◌≡◌};
+ghost use Rattle.std.specs.Str.{bytes_eq};
+ghost use Rattle.dmis_program.specs.Keywords.{is_among, keyword_of};
+ghost use Rattle.program_lowering.specs.Words.{clearing, compensation, left_out, naming, passed_motion};
+ghost use Rattle.program_lowering.specs.Words.{passed_reason, printing, reason_of};
+ghost use Rattle.program_lowering.specs.Reasons.{reason_text};
+
+use dmis_program::Keyword;
+use dmis_text::{Statement, Text};
+
+/// What is left out besides what measures and moves nothing.
+#[derive(Clone, Copy, Debug)]
+pub struct Choices {
+    /// Statements on clearing are left out: the machine clears nothing between features.
+    pub no_clearing: bool,
+    /// The machine corrects for temperature, so that a program need not ask for it.
+    pub compensated: bool,
+}
+
+/// Why nothing is written of a statement.
+#[derive(Clone, Copy, Debug)]
+pub enum Reason {
+    /// It says what is printed or shown, and where.
+    Printing,
+    /// It names what is measured, by whom, or on what.
+    Naming,
+    /// It computes with touches that are made already.
+    Evaluating,
+    /// A setting of motion or of probing.
+    Motion,
+    /// It clears the part between features.
+    Clearing,
+    /// It says that nothing is corrected for temperature.
+    Uncompensated,
+    /// It asks for a correction that the machine makes.
+    Compensated,
+    /// It commands nothing.
+    Passed,
+}
+
+/// Whether two texts are the same.
+fn is_text(text: &[u8], other: &str) -> bool
+    ensures { result ≡ bytes_eq text.now other.now }
+{
+    text == other.as_bytes()
+}
+
+/// How results are printed, and where.
+fn is_printing(word: &[u8]) -> bool
+    ensures { result ≡ is_among word.now printing }
+{
+    is_text(word, "VFORM")
+        || is_text(word, "DECPL")
+        || is_text(word, "DEVICE")
+        || is_text(word, "OPEN")
+        || is_text(word, "CLOSE")
+        || is_text(word, "REPORT")
+}
+
+/// What is measured, by whom, by which plan, and on what it is clamped.
+fn is_naming(word: &[u8]) -> bool
+    ensures { result ≡ is_among word.now naming }
+{
+    is_text(word, "PARTID")
+        || is_text(word, "PARTRV")
+        || is_text(word, "PARTSN")
+        || is_text(word, "LOTID")
+        || is_text(word, "OPERID")
+        || is_text(word, "PLANID")
+        || is_text(word, "PREVOP")
+        || is_text(word, "PROCID")
+        || is_text(word, "MFGDEV")
+        || is_text(word, "CLMPID")
+        || is_text(word, "CLMPSN")
+        || is_text(word, "FIXTID")
+        || is_text(word, "FIXTSN")
+}
+
+/// Where the machine clears the part.
+fn is_clearing(word: &[u8]) -> bool
+    ensures { result ≡ is_among word.now clearing }
+{
+    is_text(word, "CLRSRF")
+        || is_text(word, "CLRPLN")
+        || is_text(word, "CZONE")
+        || is_text(word, "CZSLCT")
+}
+
+/// `TECOMP`.
+fn compensation(compensated: bool, params: &[Text]) -> Option<Reason>
+    ensures { result ≡ compensation compensated params.now }
+{
+    let (first, _) = params.split_first()?;
+    if is_text(first, "OFF") {
+        return Some(Reason::Uncompensated);
+    }
+    if compensated && is_text(first, "ON") {
+        return Some(Reason::Compensated);
+    }
+    None
+}
+
+/// Why a word that no flat program has may be left out.
+fn reason_of(choices: Choices, word: &[u8], params: &[Text]) -> Option<Reason>
+    ensures { result ≡ reason_of choices word.now params.now }
+{
+    if is_printing(word) {
+        return Some(Reason::Printing);
+    }
+    if is_naming(word) {
+        return Some(Reason::Naming);
+    }
+    if is_text(word, "GEOALG") || is_text(word, "CONST") || is_text(word, "EVAL") {
+        return Some(Reason::Evaluating);
+    }
+    if is_text(word, "FLY") || is_text(word, "RAPID") {
+        return Some(Reason::Motion);
+    }
+    if is_clearing(word) {
+        return if choices.no_clearing {
+            Some(Reason::Clearing)
+        } else {
+            None
+        };
+    }
+    if is_text(word, "TECOMP") {
+        return compensation(choices.compensated, params);
+    }
+    None
+}
+
+/// Why a statement with this keyword is left out.
+pub(crate) fn left_out(choices: Choices, keyword: Keyword, statement: &Statement) -> Option<Reason>
+    requires { keyword ≡ keyword_of statement.now.word }
+    ensures { result ≡ left_out choices statement.now }
+{
+    if keyword == Keyword::Unknown && !statement.is_open() {
+        return reason_of(choices, &statement.word, &statement.params);
+    }
+    None
+}
+
+/// The settings that a flat program passes over.
+fn is_passed_motion(word: &[u8]) -> bool
+    ensures { result ≡ is_among word.now passed_motion }
+{
+    is_text(word, "FEDRAT")
+        || is_text(word, "ACLRAT")
+        || is_text(word, "SNSET")
+        || is_text(word, "FINPOS")
+        || is_text(word, "PRCOMP")
+}
+
+/// Why a flat program's word that commands nothing is not written out.
+pub(crate) fn passed_reason(keyword: Keyword, word: &[u8]) -> Option<Reason>
+    ensures { result ≡ passed_reason keyword word.now }
+{
+    match keyword {
+        Keyword::Passed if is_passed_motion(word) => Some(Reason::Motion),
+        Keyword::Passed | Keyword::Definition | Keyword::Recall => Some(Reason::Passed),
+        _ => None,
+    }
+}
+
+/// A reason as it is printed.
+pub(crate) fn reason_text(reason: Reason) -> &'static [u8]
+    ensures { result.now ≡ reason_text reason }
+{
+    match reason {
+        Reason::Printing => b"it says what is printed or shown, and where",
+        Reason::Naming => b"it names what is measured, by whom, or on what",
+        Reason::Evaluating => b"it computes with touches that are made already",
+        Reason::Motion => b"a setting of motion or probing; the machine keeps its own",
+        Reason::Clearing => b"it clears the part between features; nothing moves there by itself",
+        Reason::Uncompensated => b"nothing is corrected for temperature",
+        Reason::Compensated => b"the machine corrects for temperature",
+        Reason::Passed => b"it commands nothing",
+    }
+}
