@@ -1,19 +1,11 @@
 -- What is carried decides as what is looked back for.
-use Rattle.std.proofs.Common.{◌≡◌, ℕ, suc, Bool, true, false, List, [], ◌∷◌, length, Result, Ok, Err, Option, Some, None, refl, ap}
-use Rattle.std.proofs.Common.{sym, ◌∙◌, arith, subst, is_none, cond, nat_le}
-use Rattle.std.specs.Prelude.{is_some}
-use Rattle.dmis_text.specs.declared.elements.Statement.{Statement}
-use Rattle.fixed_um.specs.declared.lengths.Point.{Point}
-use Rattle.dmis_program.specs.Outcomes.{◌>>=◌}
-use Rattle.dmis_program.specs.Keywords.{keyword_of}
-use Rattle.dmis_program.specs.LookBack.{Context, context_at, saying, or_else, tool_said, bound_said, nearest, bound_count, touched_with, touched}
-use Rattle.dmis_program.specs.Judging.{judged, settled, word_refusal, refused_by, is_too_few}
+use Rattle.program_lowering.proofs.Names.{◌>>=◌, ◌∙◌, ◌∷◌, ◌≡◌, after_said, ap, arith, Bool, bound_count, bound_said, cond, Context, context_at}
+use Rattle.program_lowering.proofs.Names.{context_of, due, Err, false, is_none, is_some, is_too_few, keyword_of, length, List, nat_le, nearest, None}
+use Rattle.program_lowering.proofs.Names.{Ok, Option, or_else, Point, refl, Refusal, refused_by, Result, saying, settled, Some, some_tool, Statement}
+use Rattle.program_lowering.proofs.Names.{StatementMeaning, subst, suc, sym, tool_said, TooLarge, touched, touched_with, true, word_refusal, ℕ}
+use Rattle.dmis_program.specs.Judging.{judged}
 use Rattle.dmis_program.specs.Offsets.{offset_of}
-use Rattle.dmis_program.specs.declared.faults.Refusal.{Refusal}
-use Rattle.dmis_program.specs.declared.faults.Refusal.TheVariants.{TooLarge, NoTool}
-use Rattle.dmis_program.specs.declared.sayings.StatementMeaning.{StatementMeaning}
 use Rattle.dmis_program.specs.declared.sayings.StatementMeaning.TheVariants as said
-use Rattle.program_lowering.specs.Carried.{some_tool, context_of, due, after_said}
 use Rattle.program_lowering.specs.declared.above.Above.{Above}
 
 -- which tool is selected does not matter, but whether one is

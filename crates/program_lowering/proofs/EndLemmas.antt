@@ -1,25 +1,16 @@
 -- What the code gives at each end of a text.
-use Rattle.std.proofs.Common.{◌≡◌, ℕ, Bool, true, false, List, [], ◌∷◌, length, Option, Some, None, Result, Ok, Err, refl, sym, subst, ◌∙◌, ap}
-use Rattle.std.specs.Prelude.{IsErrAnd}
-use Rattle.std.specs.Str.Lines.{lines}
-use Rattle.dmis_text.specs.Reading.{IsDue, Unread, text_reading}
-use Rattle.dmis_text.specs.declared.elements.Statement.{Statement}
-use Rattle.dmis_text.specs.declared.reading.TextFault.{TextFault}
+use Rattle.program_lowering.proofs.Names.{[], ◌∙◌, ◌∷◌, ◌≡◌, ap, AreLines, Carried, Choices, ended_lines, Err, false, fault_at, flat_lines}
+use Rattle.program_lowering.proofs.Names.{GivesLines, GivesStep, IsDue, IsErrAnd, kept, length, lines, List, lowered_meaning, meaning_with, meant}
+use Rattle.program_lowering.proofs.Names.{None, notes_from, nothing_carried, Ok, Option, Point, refl, Refusal, refused_at, Result, Some, Statement}
+use Rattle.program_lowering.proofs.Names.{Step, step, subst, sym, text_reading, text_refused, TextFault, true, Unread, without_end, ℕ}
 use Rattle.dmis_text.specs.declared.reading.TextFault.TheVariants as text_fault
-use Rattle.fixed_um.specs.declared.lengths.Point.{Point}
-use Rattle.dmis_program.specs.Meaning.{Meaning, ended, meaning_of, meaning_with, meant, steps_from, without_end}
-use Rattle.dmis_program.specs.Outcomes.{fault_at, refused_at, text_refused}
+use Rattle.dmis_program.specs.Meaning.{ended, meaning_of}
 use Rattle.dmis_program.specs.declared.faults.ProgramFault.{ProgramFault}
 use Rattle.dmis_program.specs.declared.faults.StatementFault.{StatementFault}
 use Rattle.dmis_program.specs.declared.faults.StatementFault.TheVariants as faults
-use Rattle.dmis_program.specs.declared.faults.Refusal.{Refusal}
-use Rattle.dmis_program.specs.declared.steps.Step.{Step}
-use Rattle.program_lowering.specs.Carried.{AreLines, Carried, GivesLines, GivesStep, nothing_carried, step}
-use Rattle.program_lowering.specs.Lowering.{ended_lines, flat_lines, flat_program, kept, lowered_meaning, notes_from, notes_of}
 use Rattle.program_lowering.proofs.RunLemmas.{run_from_start, with_texts}
-use Rattle.program_lowering.proofs.Runs.{Written, run}
+use Rattle.program_lowering.proofs.Runs.{Written, run, steps_up_to}
 use Rattle.program_lowering.specs.declared.lowering.Lowered.{Lowered}
-use Rattle.program_lowering.specs.declared.words.Choices.{Choices}
 
 -- all of a text
 abbrev pub run_of : List (List ℕ × Point) → Choices → List ℕ → Result Written (Refusal × ℕ)
@@ -46,7 +37,7 @@ pub written_of : (frames : List (List ℕ × Point)) (choices : Choices) (text :
 unfolding meaning_of
 written_of frames choices text w h =
     let statements = (text_reading text).statements in
-    let t = has_texts (steps_from frames (text_reading text).fault (length (lines text)) [] (kept choices statements))
+    let t = has_texts (steps_up_to frames (text_reading text).fault (length (lines text)) [] (kept choices statements))
     (ended_lines (flat_lines (kept choices statements))) (notes_from choices statements) w
     (sym (run_from_start frames choices (text_reading text).fault (length (lines text)) statements) ∙ h) in
     record { meaning = meaning_with t.steps; accepted = ap meant t.is; flat = t.text_is; notes_are = t.notes_are }
@@ -56,7 +47,7 @@ pub refused_of : (frames : List (List ℕ × Point)) (choices : Choices) (text :
 unfolding meaning_of
 refused_of frames choices text e h =
     let statements = (text_reading text).statements in
-    has_refusal (steps_from frames (text_reading text).fault (length (lines text)) [] (kept choices statements))
+    has_refusal (steps_up_to frames (text_reading text).fault (length (lines text)) [] (kept choices statements))
     (ended_lines (flat_lines (kept choices statements))) (notes_from choices statements) e
     (sym (run_from_start frames choices (text_reading text).fault (length (lines text)) statements) ∙ h)
 

@@ -1,9 +1,10 @@
 -- The examples, computed.
-use Rattle.std.proofs.Common.{◌≡◌, ℕ, List, [], ◌∷◌, Option, Some, None, refl, codes}
+use Rattle.program_lowering.proofs.Names.{[], ◌++◌, ◌∷◌, ◌≡◌, ◌≤◌, arith, as_read, BadByte, codes, decimal, false, flat, flat_line, flat_meant}
+use Rattle.program_lowering.proofs.Names.{flat_text, is_operator_text, left_out, length, length-append, length-decimal-le, nat_lt, nat_tests, None}
+use Rattle.program_lowering.proofs.Names.{Ok, passed_over, Passes, refl, Some, text_refusal, true}
+use Rattle.std.specs.Option.{option_map}
 use Rattle.dmis_program.specs.Keywords.{keyword_of}
-use Rattle.program_lowering.specs.Examples.{all_choices, bare, plain_choices}
-use Rattle.program_lowering.specs.Flats.{flat, flat_text}
-use Rattle.program_lowering.specs.Words.{left_out}
+use Rattle.program_lowering.specs.Examples.{all_choices, bare, plain_choices, to_operator}
 use Rattle.program_lowering.specs.declared.words.Reason.TheVariants as reason
 
 pub printing : left_out plain_choices (bare (codes "VFORM") (codes "ALL" ∷ [])) ≡ Some reason.Printing
@@ -48,3 +49,42 @@ open_text = refl
 
 pub written : flat_text (flat (codes "PTMEAS") (codes "CART" ∷ codes "1.000" ∷ [])) ≡ codes "PTMEAS/CART,1.000"
 written = refl
+
+pub text_oper : option_map flat_text (flat_meant to_operator Passes) ≡ Some (codes "TEXT/OPER,'Turn, then /go'")
+text_oper = refl
+
+pub text_man : is_operator_text (bare (codes "TEXT") (codes "MAN" ∷ [])) ≡ true
+text_man = refl
+
+pub text_outfil : flat_meant (bare (codes "TEXT") (codes "OUTFIL" ∷ codes "'A'" ∷ [])) Passes ≡ None
+unfolding keyword_of
+text_outfil = refl
+
+pub text_display : is_operator_text (bare (codes "DISPLY") (codes "OPER" ∷ [])) ≡ false
+text_display = refl
+
+pub text_noted : passed_over to_operator (Ok Passes) ≡ None
+text_noted = refl
+
+text_short : length (flat_line (as_read to_operator) 1) ≤ 4096
+text_short =
+    omega (
+      arith,
+      length-append (flat_text (as_read to_operator)) (codes " $$ line " ++ decimal 1),
+      length-append (codes " $$ line ") (decimal 1),
+      length-decimal-le 20 1 (omega arith) (omega arith) (omega arith),
+    )
+
+pub text_fits : text_refusal to_operator ≡ None
+text_fits =
+    let long : nat_lt 4096 (length (flat_line (as_read to_operator) 1)) ≡ false = grind (arith, nat_tests, text_short) in
+    rw long refl
+
+pub text_dollar : text_refusal (bare (codes "TEXT") (codes "OPER" ∷ codes "A$B" ∷ [])) ≡ Some BadByte
+text_dollar = refl
+
+pub text_blank : text_refusal (bare (codes "TEXT") (codes "MAN" ∷ codes "'A' 'B'" ∷ [])) ≡ Some BadByte
+text_blank = refl
+
+pub text_others : text_refusal (bare (codes "TEXT") (codes "OUTFIL" ∷ codes "A$B" ∷ [])) ≡ None
+text_others = refl

@@ -1,38 +1,23 @@
 -- The flat statement that is written of a statement says what that says.
-use Rattle.std.proofs.Common.{◌≡◌, ℕ, suc, zero, ◌+◌, ◌*◌, ◌^◌, ◌≤◌, ◌<◌, Bool, true, false, not, ◌&&◌, cond, List, [], ◌∷◌, ◌++◌, length, map, take}
-use Rattle.std.proofs.Common.{Option, Some, None, Result, Ok, Err, refl, ap, sym, ◌∙◌, arith, codes, ℤ, pos}
-use Rattle.std.specs.Prelude.{nat_le, nat_lt, decimal, unsigned_abs, IfSome}
-use Rattle.std.specs.List.{list_all}
-use Rattle.std.specs.Char.{to_ascii_uppercase, is_ascii_alphabetic}
-use Rattle.std.proofs.lemmas.Bool.{and_parts, and_from, leb-true, le-leb, lt-leb}
-use Rattle.std.proofs.lemmas.Bool.Decides.{nat_tests}
-use Rattle.std.proofs.lemmas.Fmt.{decimal_is_IsNumeral, length-decimal-le}
-use Rattle.fixed_um.specs.Limits.{volume_limit}
-use Rattle.fixed_um.specs.Names.{IsName}
+use Rattle.program_lowering.proofs.Names.{[], ◌++◌, ◌∙◌, ◌∷◌, ◌≡◌, ◌≤◌, and_parts, ap, arith, Bool, codes, components, count_of, decimal}
+use Rattle.program_lowering.proofs.Names.{decimal_is_IsNumeral, direction_of, false, Flat, flat, flat_passed, flat_said, has_open_text, IfSome}
+use Rattle.program_lowering.proofs.Names.{inside_after, is_ascii_alphabetic, is_letters, is_unsupported, IsName, Keyword, kind_of, le-leb, length}
+use Rattle.program_lowering.proofs.Names.{length-decimal-le, length_of, List, list_all, map, name_within, nat_le, nat_lt, nat_tests, None, Ok, Option}
+use Rattle.program_lowering.proofs.Names.{place, Point, pos, refl, SaidBy, saying, Some, StatementMeaning, suc, sym, take, to_ascii_uppercase, true}
+use Rattle.program_lowering.proofs.Names.{unsigned_abs, volume_limit, within, written, written_component, ℕ, ℤ}
 use Rattle.fixed_um.specs.Points.{IsInVolume}
 use Rattle.fixed_um.specs.Shapes.{Direction, IsDirection}
-use Rattle.fixed_um.specs.Written.{written, written_component}
-use Rattle.fixed_um.specs.declared.lengths.Point.{Point}
-use Rattle.fixed_um.proofs.WrittenLemmas.{written_reads_back, direction_reads_back}
-use Rattle.dmis_text.specs.Statements.{has_open_text}
-use Rattle.dmis_text.specs.declared.elements.Statement.{Statement}
+use Rattle.fixed_um.proofs.WrittenLemmas.{direction_reads_back, written_reads_back}
 use Rattle.dmis_program.specs.Keywords.{keyword_of}
-use Rattle.dmis_program.specs.LookBack.{saying}
-use Rattle.dmis_program.specs.Positions.{length_of, position_of, direction_of}
-use Rattle.dmis_program.specs.Parameters.{is_letters, count_of, name_within}
-use Rattle.dmis_program.specs.Judging.{is_unsupported}
+use Rattle.dmis_program.specs.Positions.{position_of}
 use Rattle.dmis_program.specs.Sayings.{said_by, said_of}
-use Rattle.dmis_program.proofs.PositionLemmas.{length_of-is, direction_of-is}
+use Rattle.dmis_program.proofs.PositionLemmas.{direction_of-is, length_of-is}
 use Rattle.dmis_program.proofs.CountLemmas.{counted}
 use Rattle.dmis_program.proofs.ParenthesisLemmas as parenthesis
-use Rattle.dmis_program.proofs.Sound.{SaidBy}
-use Rattle.dmis_program.specs.declared.keywords.Keyword.{Keyword}
 use Rattle.dmis_program.specs.declared.keywords.Keyword.TheVariants as word
-use Rattle.dmis_program.specs.declared.sayings.StatementMeaning.{StatementMeaning}
 use Rattle.dmis_program.specs.declared.sayings.StatementMeaning.TheVariants as said
-use Rattle.program_lowering.specs.Flats.{Flat, flat, flat_said, flat_passed, kind_of, within, place, components}
 use Rattle.program_lowering.proofs.Solid.{solid, IsSolid}
-use Rattle.program_lowering.proofs.SolidLemmas.{closed_after}
+use Rattle.program_lowering.proofs.SolidLemmas.{closed_after, solid_plain}
 use Rattle.program_lowering.proofs.SolidParts.{decimal_solid, decimal_ascii, written_solid, written_short, component_solid, component_short}
 use Rattle.program_lowering.proofs.SolidParts.{within_solid, within_short, letters_solid, letters_stay, letters_short}
 use Rattle.program_lowering.proofs.LineLemmas.{flat_statement}
@@ -78,6 +63,10 @@ units_word = refl
 mode_word : keyword_of (codes "MODE") ≡ word.Mode
 unfolding keyword_of
 mode_word = refl
+
+-- no text is open after a solid one
+closed_solid : (xs : List ℕ) → solid xs ≡ true → inside_after false xs ≡ false
+closed_solid xs h = closed_after false xs (solid_plain xs h)
 
 -- lengths, directions and names read back
 length_back : (z : ℤ) → unsigned_abs z ≤ volume_limit → length_of (written z) ≡ Ok z
@@ -141,7 +130,7 @@ goes_flat params p h = record {
   word = goto_word;
   supported = λ b e. refl;
   says = λ n. said_as word.Goto (flat (codes "GOTO") (codes "CART" ∷ place p)) n (said.Goes p) goto_word
-      (closed_after (written p.z) (written_solid p.z h.z)) (goes_says p h);
+      (closed_solid (written p.z) (written_solid p.z h.z)) (goes_says p h);
 }
 
 -- a touch
@@ -172,7 +161,7 @@ touch_flat params p None h g = record {
   word = ptmeas_word;
   supported = λ b e. refl;
   says = λ n. said_as word.Ptmeas (flat (codes "PTMEAS") (codes "CART" ∷ (place p ++ components None))) n (said.Touches p None) ptmeas_word
-      (closed_after (written p.z) (written_solid p.z h.z)) (touch_says_none p h);
+      (closed_solid (written p.z) (written_solid p.z h.z)) (touch_says_none p h);
 }
 touch_flat params p (Some d) h g = record {
   is_solid = record {
@@ -200,7 +189,7 @@ touch_flat params p (Some d) h g = record {
   word = ptmeas_word;
   supported = λ b e. refl;
   says = λ n. said_as word.Ptmeas (flat (codes "PTMEAS") (codes "CART" ∷ (place p ++ components (Some d)))) n (said.Touches p (Some d))
-      ptmeas_word (closed_after (written_component d.k) (component_solid d.k g.k_within)) (touch_says_some p d h g);
+      ptmeas_word (closed_solid (written_component d.k) (component_solid d.k g.k_within)) (touch_says_some p d h g);
 }
 
 -- the beginning of a feature
@@ -251,7 +240,7 @@ begins_flat params name count h some few letters = record {
   word = meas_word;
   supported = λ b e. refl;
   says = λ n. said_as word.Meas (flat (codes "MEAS") (begin_params params name count)) n (said.Begins name count) meas_word
-      (closed_after (decimal count) (decimal_solid count (omega (arith, few)))) (begins_says params name count h some few letters);
+      (closed_solid (decimal count) (decimal_solid count (omega (arith, few)))) (begins_says params name count h some few letters);
 }
 
 -- a name alone
@@ -281,7 +270,7 @@ selects_flat params name h = record {
   word = snslct_word;
   supported = λ b e. refl;
   says = λ n. said_as word.Snslct (flat (codes "SNSLCT") (within (codes "S(") name ∷ [])) n (said.Selects name) snslct_word
-      (closed_after (within (codes "S(") name) (within_solid (codes "S(") name refl h)) (selects_says name h);
+      (closed_solid (within (codes "S(") name) (within_solid (codes "S(") name refl h)) (selects_says name h);
 }
 
 recalls_flat : (params : List (List ℕ)) (name : List ℕ) → IsName name
@@ -291,7 +280,7 @@ recalls_flat params name h = record {
   word = recall_word;
   supported = λ b e. refl;
   says = λ n. said_as word.Recall (flat (codes "RECALL") (within (codes "D(") name ∷ [])) n (said.Recalls name) recall_word
-      (closed_after (within (codes "D(") name) (within_solid (codes "D(") name refl h)) (recalls_says name h);
+      (closed_solid (within (codes "D(") name) (within_solid (codes "D(") name refl h)) (recalls_says name h);
 }
 
 -- a literal statement

@@ -1,21 +1,12 @@
 -- Nothing is left out of a program that is flat.
-use Rattle.std.proofs.Common.{◌≡◌, ℕ, Bool, true, false, not, ◌&&◌, cond, List, [], ◌∷◌, Result, Ok, Err, Option, Some, None, refl, ap, sym}
-use Rattle.std.specs.Prelude.{filter}
-use Rattle.dmis_text.specs.declared.elements.Statement.{Statement}
-use Rattle.dmis_text.specs.declared.reading.TextFault.{TextFault}
-use Rattle.fixed_um.specs.declared.lengths.Point.{Point}
-use Rattle.dmis_program.specs.LookBack.{context_at}
-use Rattle.dmis_program.specs.Judging.{judged}
-use Rattle.dmis_program.specs.Meaning.{Meaning, closes, continued, meant, steps_from, steps_of, with_front}
-use Rattle.dmis_program.specs.declared.faults.Refusal.{Refusal}
-use Rattle.dmis_program.specs.declared.sayings.StatementMeaning.{StatementMeaning}
-use Rattle.dmis_program.specs.declared.steps.Step.{Step}
-use Rattle.program_lowering.specs.Words.{left_out}
-use Rattle.program_lowering.specs.Lowering.{is_kept, kept}
+use Rattle.program_lowering.proofs.Names.{[], ◌∷◌, ◌≡◌, AllByRecursion, ap, Bool, Choices, closes, cond, context_at, continued, Err, false, filter}
+use Rattle.program_lowering.proofs.Names.{is_kept, judged, kept, List, Meaning, meant, None, Ok, Option, Point, refl, Refusal, Result, Statement}
+use Rattle.program_lowering.proofs.Names.{StatementMeaning, Step, steps_from, steps_of, sym, text_refusal, TextFault, true, up_to_refused, with_front}
+use Rattle.program_lowering.proofs.Names.{ℕ}
 use Rattle.program_lowering.proofs.AboveLemmas.{accepted_if}
 use Rattle.program_lowering.proofs.RunLemmas.{accepted_known}
 use Rattle.program_lowering.proofs.ReadBackLemmas.{meant_steps}
-use Rattle.program_lowering.specs.declared.words.Choices.{Choices}
+use Rattle.program_lowering.proofs.Runs.{steps_up_to}
 
 -- what follows a statement that says this may be exchanged for what has the same steps
 same_front : (b : Bool) (front : List Step) (r q : Result (List Step) (Refusal × ℕ)) (steps : List Step)
@@ -65,9 +56,32 @@ flat_kept frames choices fault lines (s ∷ below) steps h =
     by_judged frames choices fault lines [] s below steps (judged frames (context_at frames []) s) refl
     (λ more g. all_kept frames choices fault lines (s ∷ []) below more g) h
 
+-- one line can hold each text for the operator
+abbrev Fit : List Statement → Type 0
+Fit = AllByRecursion (λ (s : Statement). text_refusal s ≡ None)
+
+all_fit : (fault : Option TextFault) (statements : List Statement) → Fit statements
+    → up_to_refused fault statements ≡ record { statements = statements; fault = fault }
+all_fit fault [] h = refl
+all_fit fault (s ∷ statements) h = rw (h.0, all_fit fault statements h.1) refl
+
+filter_fits : (choices : Choices) (statements : List Statement) → Fit statements → Fit (filter (is_kept choices) statements)
+filter_fits choices [] h = tt
+filter_fits choices (s ∷ statements) h = go (is_kept choices s) (filter_fits choices statements h.1)
+  where
+    go : (b : Bool) → Fit (filter (is_kept choices) statements)
+        → Fit (cond b (s ∷ filter (is_kept choices) statements) (filter (is_kept choices) statements))
+    go true rest = (h.0, rest)
+    go false rest = rest
+
+kept_fits : (choices : Choices) (statements : List Statement) → Fit statements → Fit (kept choices statements)
+kept_fits choices [] h = tt
+kept_fits choices (s ∷ statements) h = (h.0, filter_fits choices statements h.1)
+
 pub flat_source : (frames : List (List ℕ × Point)) (choices : Choices) (fault : Option TextFault) (lines : ℕ) (statements : List Statement)
-    (m : Meaning) → meant (steps_from frames fault lines [] statements) ≡ Ok m
-    → meant (steps_from frames fault lines [] (kept choices statements)) ≡ Ok m
-flat_source frames choices fault lines statements m h =
+    (m : Meaning) → AllByRecursion (λ (s : Statement). text_refusal s ≡ None) statements → meant (steps_from frames fault lines [] statements) ≡ Ok m
+    → meant (steps_up_to frames fault lines [] (kept choices statements)) ≡ Ok m
+flat_source frames choices fault lines statements m fit h =
     let found = meant_steps m (steps_from frames fault lines [] statements) h in
-    rw (flat_kept frames choices fault lines statements found.0 found.1) (ap (λ (all : Meaning). Ok all) (sym found.2))
+    rw (all_fit fault (kept choices statements) (kept_fits choices statements fit), flat_kept frames choices fault lines statements found.0 found.1)
+    (ap (λ (all : Meaning). Ok all) (sym found.2))

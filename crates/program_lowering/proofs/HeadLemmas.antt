@@ -1,20 +1,13 @@
 -- The head of a flat program is comments.
-use Rattle.std.proofs.Common.{◌≡◌, ℕ, suc, zero, ◌+◌, ◌/◌, ◌%◌, ◌^◌, ◌≤◌, ◌<◌, Bool, true, false, cond, List, [], ◌∷◌, ◌++◌, length, map, take}
-use Rattle.std.proofs.Common.{refl, sym, arith, codes, length-append}
-use Rattle.std.specs.Prelude.{nat_lt, slice_index}
+use Rattle.program_lowering.proofs.Names.{[], ◌%◌, ◌++◌, ◌/◌, ◌<◌, ◌^◌, ◌∷◌, ◌≡◌, ◌≤◌, AllByRecursion, and_from, and_parts, arith, Bool, Choices}
+use Rattle.program_lowering.proofs.Names.{codes, cond, encode_lower, false, head_lines, IsComment, length, length-append, List, list_all}
+use Rattle.program_lowering.proofs.Names.{list_all-append, list_all_at, lower_digits, ltb-true, map, may_stand, Names, nat_lt, nat_tests}
+use Rattle.program_lowering.proofs.Names.{options_text, refl, setup_name, shown_byte, shown_name, slice_index, suc, sym, take, true, zero, ℕ}
 use Rattle.std.specs.Int.{byte_at, bytes_high_first, to_be_bytes, w32}
-use Rattle.std.specs.List.{list_all, AllByRecursion}
-use Rattle.std.proofs.lemmas.Bool.{and_from, and_parts, ltb-true}
-use Rattle.std.proofs.lemmas.Bool.Decides.{nat_tests}
-use Rattle.std.proofs.lemmas.List.Folds.{list_all-append, list_all_at}
 use Rattle.sha2.specs.Sha256.{digest_bytes, sha256}
 use Rattle.sha2.proofs.Facts256.{length-sha256}
-use Rattle.hex.specs.Hex.{encode_lower, encode_with, lower_digits}
+use Rattle.hex.specs.Hex.{encode_with}
 use Rattle.hex.proofs.HexLemmas.{length-encode_with}
-use Rattle.dmis_text.specs.Texts.{may_stand}
-use Rattle.program_lowering.specs.Heads.{IsComment, Names, shown_byte, setup_name, shown_name}
-use Rattle.program_lowering.specs.Heads.{options_text, head_lines}
-use Rattle.program_lowering.specs.declared.words.Choices.{Choices}
 
 abbrev clean : List ℕ → Bool
 clean = list_all (may_stand true)

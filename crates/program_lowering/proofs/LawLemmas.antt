@@ -1,21 +1,14 @@
 -- The laws of whole texts.
-use Rattle.std.proofs.Common.{◌≡◌, ℕ, ◌+◌, ◌^◌, ◌<◌, ◌≤◌, Bool, true, false, cond, List, [], ◌∷◌, ◌++◌, length, Result, Ok, Err, Option, Some, None, refl, sym, ap, ◌∙◌, arith}
-use Rattle.std.specs.Prelude.{filter}
-use Rattle.std.specs.List.{AllByRecursion}
-use Rattle.std.specs.Str.Lines.{lines}
-use Rattle.dmis_text.specs.Reading.{text_reading}
+use Rattle.program_lowering.proofs.Names.{[], ◌++◌, ◌+◌, ◌<◌, ◌^◌, ◌∙◌, ◌∷◌, ◌≡◌, ◌≤◌, acts_of, AllByRecursion, ap, arith, Bool, Choices, cond}
+use Rattle.program_lowering.proofs.Names.{ended_lines, false, filter, flat_lines, flat_program, is_kept, IsComment, kept, length, lines, List}
+use Rattle.program_lowering.proofs.Names.{lowered_meaning, Meaning, Ok, Point, program_of, Statement, sym, text_reading, TextsFit, true, ℕ}
 use Rattle.dmis_text.specs.Numbers.{AreNumbered}
-use Rattle.dmis_text.specs.declared.elements.Statement.{Statement}
 use Rattle.dmis_text.proofs.NumberLaws.{numbered_is}
-use Rattle.fixed_um.specs.declared.lengths.Point.{Point}
-use Rattle.dmis_program.specs.Meaning.{Meaning, meaning_of, program_of}
-use Rattle.program_lowering.specs.Heads.{IsComment}
-use Rattle.program_lowering.specs.Lowering.{ended_lines, flat_lines, flat_program, is_kept, kept, lowered_meaning}
+use Rattle.dmis_program.specs.Meaning.{meaning_of}
 use Rattle.program_lowering.proofs.FlatSourceLemmas.{flat_source}
 use Rattle.program_lowering.proofs.LineCounts.{lines_few}
-use Rattle.program_lowering.proofs.ReadBackLemmas.{HasShortLine, reads_back}
+use Rattle.program_lowering.proofs.ReadBackLemmas.{HasShortLine, acts_back, reads_back}
 use Rattle.program_lowering.proofs.RunLemmas.{ended_append}
-use Rattle.program_lowering.specs.declared.words.Choices.{Choices}
 
 -- the numbers of lines are small where the text has few lines
 numbers_short : (from to : ℕ) (statements : List Statement) → to ≤ 2 ^ 64 → AreNumbered from to statements → AllByRecursion HasShortLine statements
@@ -47,8 +40,19 @@ programs_read_back frames choices text heads m few comments h =
     ∙ reads_back frames (text_reading text).fault (length (lines text)) (kept choices (text_reading text).statements) heads m
     (kept_short choices (text_reading text).statements short) comments h
 
-pub sources_keep : (frames : List (List ℕ × Point)) (choices : Choices) (text : List ℕ) (m : Meaning) → program_of frames text ≡ Ok m
+pub texts_stay : (frames : List (List ℕ × Point)) (choices : Choices) (text : List ℕ) (heads : List (List ℕ)) (m : Meaning)
+    → length text < 2 ^ 64 → AllByRecursion IsComment heads → lowered_meaning frames choices text ≡ Ok m
+    → acts_of frames (text_reading (ended_lines heads ++ flat_program choices text)).statements
+    ≡ acts_of frames (kept choices (text_reading text).statements)
+unfolding meaning_of
+texts_stay frames choices text heads m few comments h =
+    let short = numbers_short 1 (1 + length (lines text)) (text_reading text).statements (omega (arith, few, lines_few text)) (numbered_is 1 (lines text)).0 in
+    ap (λ (t : List ℕ). acts_of frames (text_reading t).statements) (sym (ended_append heads (flat_lines (kept choices (text_reading text).statements))))
+    ∙ acts_back frames (text_reading text).fault (length (lines text)) (kept choices (text_reading text).statements) heads m
+    (kept_short choices (text_reading text).statements short) comments h
+
+pub sources_keep : (frames : List (List ℕ × Point)) (choices : Choices) (text : List ℕ) (m : Meaning) → TextsFit text → program_of frames text ≡ Ok m
     → lowered_meaning frames choices text ≡ Ok m
 unfolding meaning_of
-sources_keep frames choices text m h =
-    flat_source frames choices (text_reading text).fault (length (lines text)) (text_reading text).statements m h
+sources_keep frames choices text m fit h =
+    flat_source frames choices (text_reading text).fault (length (lines text)) (text_reading text).statements m fit h

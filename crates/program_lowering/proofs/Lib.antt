@@ -1,3 +1,4 @@
+pub mod Names
 pub mod AboveLemmas
 pub mod Runs
 pub mod RunLemmas
@@ -7,6 +8,7 @@ pub mod SolidParts
 pub mod LineLemmas
 pub mod SaidLemmas
 pub mod FlatLemmas
+pub mod TextLemmas
 pub mod ReadBackLemmas
 pub mod FlatSourceLemmas
 pub mod LawLemmas

@@ -1,8 +1,6 @@
 -- A text has no more lines than bytes.
-use Rattle.std.proofs.Common.{◌≡◌, ℕ, suc, ◌+◌, ◌≤◌, Bool, true, false, cond, eqb, List, [], ◌∷◌, length, arith}
-use Rattle.std.specs.Prelude.{◌==◌}
-use Rattle.std.specs.List.{slice_split, onto_first}
-use Rattle.std.specs.Str.Lines.{lines, lines_of_parts}
+use Rattle.program_lowering.proofs.Names.{[], ◌+◌, ◌==◌, ◌∷◌, ◌≡◌, ◌≤◌, arith, Bool, cond, eqb, false, length, lines, lines_of_parts, List}
+use Rattle.program_lowering.proofs.Names.{onto_first, slice_split, suc, true, ℕ}
 use Rattle.std.proofs.lemmas.List.Splits.{length-slice_split}
 use Rattle.dmis_text.proofs.LineEnds.{lines_of_more}
 

@@ -1,15 +1,12 @@
 -- Lines are written part by part.
-use Rattle.std.proofs.Common.{◌≡◌, ℕ, Bool, List, [], ◌∷◌, ◌++◌, Option, Some, None, Result, Ok, Err, refl, ◌∙◌, append-nil, append_assoc, codes}
-use Rattle.std.specs.Prelude.{decimal, is_some, OnOk}
-use Rattle.hex.specs.Hex.{encode_lower}
+use Rattle.program_lowering.proofs.Names.{[], ◌++◌, ◌∙◌, ◌∷◌, ◌≡◌, after_word, ap, append-nil, append_assoc, as_read, Bool, Choices, codes, decimal}
+use Rattle.program_lowering.proofs.Names.{encode_lower, ended_lines, Err, false, Flat, flat_line, flat_meant, flat_said, flat_text, head_lines}
+use Rattle.program_lowering.proofs.Names.{is_operator_text, is_some, keyword_of, line_end, line_for, List, marked, Names, None, note_for, note_start}
+use Rattle.program_lowering.proofs.Names.{Ok, OnOk, Option, options_text, Reason, refl, Result, setup_name, shown_name, Some, Statement}
+use Rattle.program_lowering.proofs.Names.{StatementMeaning, sym, text_for, true, with_commas, ℕ}
 use Rattle.sha2.specs.Sha256.{sha256}
-use Rattle.dmis_text.specs.declared.elements.Statement.{Statement}
-use Rattle.program_lowering.specs.Flats.{Flat, flat_text, line_end, text_for}
-use Rattle.program_lowering.specs.Heads.{Names, head_lines, options_text, setup_name, shown_name}
-use Rattle.program_lowering.specs.Lowering.{ended, ended_lines, line_for, note_for, note_start}
+use Rattle.program_lowering.specs.Lowering.{ended}
 use Rattle.program_lowering.specs.Reasons.{reason_text}
-use Rattle.program_lowering.specs.declared.words.Choices.{Choices}
-use Rattle.program_lowering.specs.declared.words.Reason.{Reason}
 
 parts : (line : ℕ) (old : List ℕ) (o : Option Flat)
     → ((old ++ text_for o) ++ line_end line (is_some o)) ≡ (old ++ ended_lines (line_for line o))
@@ -62,4 +59,31 @@ head_is names choices source none one two three four last program digest setup o
     (ended (codes "$$ SHA-256 of the source: " ++ encode_lower (sha256 source))) (ended (codes "$$ setup: " ++ shown_name (setup_name names.setup)))
     (ended (codes "$$ options: " ++ options_text choices)))
 
-pub ruleset lines = (line_is)
+-- a text for the operator
+pub text_line_is : (s : Statement) (m : StatementMeaning) (old middle new : List ℕ) → is_operator_text s ≡ true
+    → middle ≡ old ++ flat_line (as_read s) s.line → new ≡ middle ++ 10 ∷ [] → new ≡ old ++ ended_lines (line_for s.line (flat_meant s m))
+text_line_is s m old middle new is e h =
+    rw (is, h, e, append-nil (flat_line (as_read s) s.line ++ 10 ∷ [])) (append_assoc old (flat_line (as_read s) s.line) (10 ∷ []))
+
+pub other_line_is : (s : Statement) (m : StatementMeaning) (old middle new : List ℕ) (written : Bool) → is_operator_text s ≡ false
+    → middle ≡ old ++ text_for (flat_said (keyword_of s.word) s.params m) → written ≡ is_some (flat_said (keyword_of s.word) s.params m)
+    → new ≡ middle ++ line_end s.line written → new ≡ old ++ ended_lines (line_for s.line (flat_meant s m))
+other_line_is s m old middle new written is e h g =
+    rw is (line_is s.line (flat_said (keyword_of s.word) s.params m) old middle new written e h g)
+
+-- parameters, each after its mark
+commas_are : (mark : ℕ) (p : List ℕ) (ps : List (List ℕ)) → mark ∷ with_commas p ps ≡ marked mark (p ∷ ps)
+commas_are mark p [] = ap (λ (xs : List ℕ). mark ∷ xs) (sym (append-nil p))
+commas_are mark p (q ∷ ps) = ap (λ (xs : List ℕ). mark ∷ (p ++ xs)) (commas_are 44 q ps)
+
+marked_is : (ps : List (List ℕ)) → marked 47 ps ≡ after_word ps
+marked_is [] = refl
+marked_is (p ∷ ps) = sym (commas_are 47 p ps)
+
+pub as_read_is : (s : Statement) (old middle new : List ℕ) → middle ≡ old ++ s.word → new ≡ middle ++ marked 47 s.params
+    → new ≡ old ++ flat_text (as_read s)
+as_read_is s old middle new e h = rw (h, e, append_assoc old s.word (marked 47 s.params)) (ap (λ (xs : List ℕ). old ++ (s.word ++ xs)) (marked_is s.params))
+
+pub ruleset marks = (as_read_is)
+
+pub ruleset lines = (text_line_is, other_line_is)

@@ -1,50 +1,29 @@
 -- A flat program is read back: it has the steps of the program that it was written of.
-use Rattle.std.proofs.Common.{◌≡◌, ℕ, suc, zero, ◌+◌, ◌*◌, ◌^◌, ◌≤◌, ◌<◌, Bool, true, false, not, ◌&&◌, cond, eqb, List, [], ◌∷◌, ◌++◌, length}
-use Rattle.std.proofs.Common.{Option, Some, None, Result, Ok, Err, refl, ap, sym, subst, ◌∙◌, arith, codes, add-zero}
-use Rattle.std.specs.Prelude.{◌==◌, nat_le, nat_lt, IfSome, filter}
-use Rattle.std.specs.List.{list_all, AllByRecursion}
-use Rattle.std.proofs.lemmas.Bool.{and_from, ne_eqb}
-use Rattle.std.proofs.lemmas.Bool.Decides.{nat_tests}
-use Rattle.std.proofs.lemmas.List.Folds.{list_all-append}
-use Rattle.dmis_text.specs.Texts.{may_stand, is_clean, before_comment, all_blank}
-use Rattle.dmis_text.specs.Contents.{is_line, lacks}
-use Rattle.dmis_text.specs.Statements.{statement_of}
-use Rattle.dmis_text.specs.Reading.{Reading, text_reading, reading_of, with_first, line_role}
-use Rattle.dmis_text.specs.Reading.Role.{Last, Dropped}
-use Rattle.dmis_text.specs.declared.elements.Statement.{Statement}
-use Rattle.dmis_text.specs.declared.reading.TextFault.{TextFault}
+use Rattle.program_lowering.proofs.Names.{[], ◌&&◌, ◌++◌, ◌+◌, ◌<◌, ◌==◌, ◌^◌, ◌∙◌, ◌∷◌, ◌≡◌, ◌≤◌, Act, acts_from, add-zero, AllByRecursion, and_from}
+use Rattle.program_lowering.proofs.Names.{ap, arith, as_read, before_refused, Bool, bound_count, bound_said, closes, cond, context_at, continued}
+use Rattle.program_lowering.proofs.Names.{Does, Dropped, ended_lines, Err, false, Flat, flat_line, flat_lines, flat_meant, flat_passed, flat_said}
+use Rattle.program_lowering.proofs.Names.{frame_said, IfSome, is_line, is_operator_text, is_start, is_unsupported, IsComment, judged, Keyword}
+use Rattle.program_lowering.proofs.Names.{keyword_of, length, line_for, line_role, List, list_all, list_all-append, map, Meaning, meaning_with, meant}
+use Rattle.program_lowering.proofs.Names.{misplaced, nat_le, nat_lt, nat_tests, ne_eqb, nearest, None, not, NotDmis, Ok, Option, or_else, Point}
+use Rattle.program_lowering.proofs.Names.{program_of, reading_of, refl, Refusal, Result, saying, shown_by, Some, Statement, StatementMeaning, Step}
+use Rattle.program_lowering.proofs.Names.{steps_from, steps_of, subst, suc, sym, text_reading, text_refusal, TextFault, tool_said, touched}
+use Rattle.program_lowering.proofs.Names.{touched_with, true, Unsupported, up_to_refused, with_first, with_front, word_refusal, ℕ}
 use Rattle.dmis_text.proofs.LineLaws.{lines_written}
-use Rattle.fixed_um.specs.declared.frames.Frame.{Frame}
-use Rattle.fixed_um.specs.declared.lengths.Point.{Point}
-use Rattle.dmis_program.specs.Outcomes.{◌>>=◌}
-use Rattle.dmis_program.specs.Keywords.{keyword_of}
-use Rattle.dmis_program.specs.LookBack.{Context, context_at, saying, or_else, nearest, tool_said, frame_said, bound_said, bound_count, frame_at}
-use Rattle.dmis_program.specs.LookBack.{touched_with, touched}
-use Rattle.dmis_program.specs.Judging.{judged, word_refusal, is_start, is_unsupported, misplaced}
-use Rattle.dmis_program.specs.Meaning.{Meaning, closes, continued, meaning_of, meaning_with, meant, program_of, steps_from, steps_of, with_front}
-use Rattle.dmis_program.specs.declared.faults.Refusal.{Refusal}
-use Rattle.dmis_program.specs.declared.faults.Refusal.TheVariants.{NotDmis, Unsupported}
-use Rattle.dmis_program.specs.declared.keywords.Keyword.{Keyword}
+use Rattle.dmis_program.specs.Meaning.{meaning_of}
 use Rattle.dmis_program.specs.declared.keywords.Keyword.TheVariants as word
-use Rattle.dmis_program.specs.declared.sayings.StatementMeaning.{StatementMeaning}
 use Rattle.dmis_program.specs.declared.sayings.StatementMeaning.TheVariants as said
-use Rattle.dmis_program.specs.declared.steps.Step.{Step}
-use Rattle.program_lowering.specs.Flats.{Flat, flat_said, flat_passed, flat_line, flat_text}
-use Rattle.program_lowering.specs.Heads.{IsComment}
-use Rattle.program_lowering.specs.Lowering.{ended_lines, flat_lines, flat_of, is_closing, line_for}
 use Rattle.program_lowering.proofs.AboveLemmas.{IsAccepted, accepted_if, accepts}
-use Rattle.program_lowering.proofs.FlatLemmas.{IsFlatOf, flat_is}
-use Rattle.program_lowering.proofs.LineLemmas.{flat_statement, line_read, statement_read, flat_is_line, comment_is_line}
-use Rattle.program_lowering.proofs.SaidLemmas.{says, tells}
-use Rattle.program_lowering.proofs.Solid.{IsSolid}
+use Rattle.program_lowering.proofs.LineLemmas.{IsHeld, flat_statement, line_read, statement_read, flat_is_line, comment_is_line}
+use Rattle.program_lowering.proofs.Runs.{steps_up_to}
+use Rattle.program_lowering.proofs.TextLemmas.{IsWrittenOf, written_is}
 
 -- ---- the lines of a flat program
 
 -- a written line is a statement
-pub line_first : (n k : ℕ) (f : Flat) (rest : List (List ℕ)) → IsSolid f 100 → k < 2 ^ 64
+pub line_first : (n k : ℕ) (f : Flat) (rest : List (List ℕ)) → IsHeld f k
     → reading_of n (flat_line f k ∷ rest) ≡ with_first (flat_statement f n) (reading_of (n + 1) rest)
-line_first n k f rest h few =
-    rw (line_read f k h few) (ap (λ (s : Statement). with_first s (reading_of (n + 1) rest)) (statement_read n f.word f.params h.word h.params))
+line_first n k f rest h =
+    rw (line_read f k h) (ap (λ (s : Statement). with_first s (reading_of (n + 1) rest)) (statement_read n f.word f.params h.word h.params))
 
 -- a comment is not a statement
 comment_role : (line : List ℕ) → IsComment line → line_role false line ≡ Dropped
@@ -157,7 +136,7 @@ few_flat n k h few = grind (arith, nat_tests)
 
 -- a flat statement is accepted where the one that it was written of is
 accepted_flat : (frames : List (List ℕ × Point)) (aboves flats : List Statement) (s : Statement) (m : StatementMeaning) (f : Flat) (n : ℕ)
-    → Similar aboves flats → IsAccepted frames (context_at frames aboves) s m → IsFlatOf (keyword_of s.word) s.params m f
+    → Similar aboves flats → IsAccepted frames (context_at frames aboves) s m → IsWrittenOf s m f
     → IsAccepted frames (context_at frames flats) (flat_statement f n) m
 accepted_flat frames aboves flats s m f n h a g =
     record {
@@ -216,9 +195,10 @@ HasShortLine s = s.line < 2 ^ 64
 
 -- the flat lines are lines, and have these steps from line n on
 record Reads (frames : List (List ℕ × Point)) (end n : ℕ) (flats : List Statement) (steps : List Step)
-    (written : List (List ℕ)) : Type 0 where
+    (acts : List Act) (written : List (List ℕ)) : Type 0 where
   are_lines : list_all is_line written ≡ true
   steps_are : (fault : Option TextFault) → steps_from frames fault end flats (reading_of n written).statements ≡ Ok steps
+  acts_are : acts_from frames flats (reading_of n written).statements ≡ acts
 
 record Fronted (front steps : List Step) (r : Result (List Step) (Refusal × ℕ)) : Type 0 where
   more : List Step
@@ -232,84 +212,108 @@ fronted front steps (Err e) h = absurd cc
 -- what follows a statement, wherever its flat lines begin
 abbrev Later : List (List ℕ × Point) → Option TextFault → ℕ → ℕ → List Statement → List Statement → Type 0
 Later frames fault lines end aboves below = (n : ℕ) (flats : List Statement) (more : List Step) → Similar aboves flats
-    → steps_from frames fault lines aboves below ≡ Ok more → Reads frames end n flats more (flat_lines below)
+    → steps_up_to frames fault lines aboves below ≡ Ok more → Reads frames end n flats more (acts_from frames aboves below) (flat_lines below)
 
 -- a statement that is not written
 past : (frames : List (List ℕ × Point)) (fault : Option TextFault) (lines end n : ℕ) (aboves flats : List Statement) (s : Statement)
     (below : List Statement) (steps : List Step) → Similar aboves flats → (length flats == 0) ≡ false → saying s ≡ Ok said.Passes
-    → with_front [] (steps_from frames fault lines (s ∷ aboves) below) ≡ Ok steps → Later frames fault lines end (s ∷ aboves) below
-    → Reads frames end n flats steps (flat_lines below)
-past frames fault lines end n aboves flats s below steps h some says e later =
-    let f = fronted [] steps (steps_from frames fault lines (s ∷ aboves) below) e in
-    subst (λ (all : List Step). Reads frames end n flats all (flat_lines below)) (sym f.is)
-    (later n flats f.more (similar_passed aboves flats s h some says) f.rest)
+    → is_operator_text s ≡ false → with_front [] (steps_up_to frames fault lines (s ∷ aboves) below) ≡ Ok steps → Later frames fault lines end (s ∷ aboves) below
+    → Reads frames end n flats steps (shown_by s ++ acts_from frames (s ∷ aboves) below) (flat_lines below)
+past frames fault lines end n aboves flats s below steps h some says none e later =
+    let f = fronted [] steps (steps_up_to frames fault lines (s ∷ aboves) below) e in
+    rw none (subst (λ (all : List Step). Reads frames end n flats all (acts_from frames (s ∷ aboves) below) (flat_lines below)) (sym f.is)
+    (later n flats f.more (similar_passed aboves flats s h some says) f.rest))
 
 -- the line of a statement, and what follows it
 line_then : (frames : List (List ℕ × Point)) (end n : ℕ) (flats : List Statement) (m : StatementMeaning) (f : Flat) (line : ℕ)
-    (written : List (List ℕ)) (steps more : List Step) (b : Bool) → closes m ≡ b → IsSolid f 100 → line < 2 ^ 64
-    → judged frames (context_at frames flats) (flat_statement f n) ≡ Ok m → list_all is_line written ≡ true
+    (written : List (List ℕ)) (steps : List Step) (acts : List Act) (b : Bool) → closes m ≡ b → IsHeld f line
+    → judged frames (context_at frames flats) (flat_statement f n) ≡ Ok m → saying (flat_statement f n) ≡ Ok m → list_all is_line written ≡ true
     → ((fault : Option TextFault) → cond b (Ok []) (with_front (steps_of frames (context_at frames flats) m)
     (steps_from frames fault end (flat_statement f n ∷ flats) (reading_of (n + 1) written).statements)) ≡ Ok steps)
-    → Reads frames end n flats steps (flat_line f line ∷ written)
-line_then frames end n flats m f line written steps more b e h few g all then = record {
-  are_lines = rw (flat_is_line f line h few) all;
-  steps_are = λ fault. rw (line_first n line f written h few, g, e) (then fault);
+    → cond b [] (shown_by (flat_statement f n) ++ (map (λ (t : Step). Does t) (steps_of frames (context_at frames flats) m)
+    ++ acts_from frames (flat_statement f n ∷ flats) (reading_of (n + 1) written).statements)) ≡ acts
+    → Reads frames end n flats steps acts (flat_line f line ∷ written)
+line_then frames end n flats m f line written steps acts b e h g says all then shows = record {
+  are_lines = rw (flat_is_line f line h) all;
+  steps_are = λ fault. rw (line_first n line f written h, g, e) (then fault);
+  acts_are = rw (line_first n line f written h, says, e) shows;
 }
 
 by_end : (frames : List (List ℕ × Point)) (fault : Option TextFault) (lines end n : ℕ) (aboves flats : List Statement) (s : Statement)
-    (below : List Statement) (steps : List Step) (m : StatementMeaning) (f : Flat) (b : Bool) → closes m ≡ b → s.line < 2 ^ 64
-    → Similar aboves flats → IsAccepted frames (context_at frames aboves) s m → IsFlatOf (keyword_of s.word) s.params m f
-    → cond b (Ok []) (with_front (steps_of frames (context_at frames aboves) m) (steps_from frames fault lines (s ∷ aboves) below)) ≡ Ok steps
+    (below : List Statement) (steps : List Step) (m : StatementMeaning) (f : Flat) (b : Bool) → closes m ≡ b
+    → Similar aboves flats → IsAccepted frames (context_at frames aboves) s m → IsWrittenOf s m f
+    → cond b (Ok []) (with_front (steps_of frames (context_at frames aboves) m) (steps_up_to frames fault lines (s ∷ aboves) below)) ≡ Ok steps
     → Later frames fault lines end (s ∷ aboves) below
-    → Reads frames end n flats steps (flat_line f s.line ∷ cond b [] (flat_lines below))
-by_end frames fault lines end n aboves flats s below steps m f true e few h a g ends later =
-    line_then frames end n flats m f s.line [] steps [] true e g.is_solid few
-    (accepts frames (context_at frames flats) (flat_statement f n) m (accepted_flat frames aboves flats s m f n h a g)) refl (λ _. ends)
-by_end frames fault lines end n aboves flats s below steps m f false e few h a g ends later =
-    let front = fronted (steps_of frames (context_at frames aboves) m) steps (steps_from frames fault lines (s ∷ aboves) below) ends in
+    → Reads frames end n flats steps (cond b [] (shown_by s ++ (map (λ (t : Step). Does t) (steps_of frames (context_at frames aboves) m)
+    ++ acts_from frames (s ∷ aboves) below))) (flat_line f s.line ∷ cond b [] (flat_lines below))
+by_end frames fault lines end n aboves flats s below steps m f true e h a g ends later =
+    line_then frames end n flats m f s.line [] steps _ true e g.held
+    (accepts frames (context_at frames flats) (flat_statement f n) m (accepted_flat frames aboves flats s m f n h a g)) (g.says n) refl (λ _. ends) refl
+by_end frames fault lines end n aboves flats s below steps m f false e h a g ends later =
+    let front = fronted (steps_of frames (context_at frames aboves) m) steps (steps_up_to frames fault lines (s ∷ aboves) below) ends in
     let rest = later (n + 1) (flat_statement f n ∷ flats) front.more (similar_written aboves flats s (flat_statement f n) m h a.says (g.says n))
     front.rest in
-    line_then frames end n flats m f s.line (flat_lines below) steps [] false e g.is_solid few
-    (accepts frames (context_at frames flats) (flat_statement f n) m (accepted_flat frames aboves flats s m f n h a g)) rest.are_lines
+    line_then frames end n flats m f s.line (flat_lines below) steps _ false e g.held
+    (accepts frames (context_at frames flats) (flat_statement f n) m (accepted_flat frames aboves flats s m f n h a g)) (g.says n) rest.are_lines
     (λ fault. rw (rest.steps_are fault, steps_alike frames aboves flats m h) (ap (λ (all : List Step). Ok all) (sym front.is)))
+    (rw (g.shown n, steps_alike frames aboves flats m h, rest.acts_are) refl)
+
+no_text : (b : Bool) (f : Flat) (o : Option Flat) → cond b (Some f) o ≡ None → o ≡ None
+no_text true f o h = absurd cc
+no_text false f o h = h
+
+is_no_text : (b : Bool) (f : Flat) (o : Option Flat) → cond b (Some f) o ≡ None → b ≡ false
+is_no_text true f o h = absurd cc
+is_no_text false f o h = refl
 
 taken : (o : Option Flat) (P : Flat → Type 0) (f : Flat) → o ≡ Some f → IfSome o P → P f
 taken o P f e h = rw e at h
 
 by_flat : (frames : List (List ℕ × Point)) (fault : Option TextFault) (lines end n : ℕ) (aboves flats : List Statement) (s : Statement)
-    (below : List Statement) (steps : List Step) (m : StatementMeaning) (o : Option Flat) → flat_said (keyword_of s.word) s.params m ≡ o
-    → s.line < 2 ^ 64 → Similar aboves flats → IsAccepted frames (context_at frames aboves) s m
-    → continued s.line (Ok m) (steps_of frames (context_at frames aboves)) (steps_from frames fault lines (s ∷ aboves) below) ≡ Ok steps
+    (below : List Statement) (steps : List Step) (m : StatementMeaning) (o : Option Flat) → flat_meant s m ≡ o
+    → text_refusal s ≡ None → s.line < 2 ^ 64 → Similar aboves flats → IsAccepted frames (context_at frames aboves) s m
+    → continued s.line (Ok m) (steps_of frames (context_at frames aboves)) (steps_up_to frames fault lines (s ∷ aboves) below) ≡ Ok steps
     → Later frames fault lines end (s ∷ aboves) below
-    → Reads frames end n flats steps (line_for s.line o ++ cond (closes m) [] (flat_lines below))
-by_flat frames fault lines end n aboves flats s below steps m (Some f) e few h a ends later =
-    let g = taken (flat_said (keyword_of s.word) s.params m) (IsFlatOf (keyword_of s.word) s.params m) f e
-    (flat_is (keyword_of s.word) s.params m (says (keyword_of s.word) s m a.says) (tells (keyword_of s.word) s m a.says)) in
-    by_end frames fault lines end n aboves flats s below steps m f (closes m) refl few h a g ends later
-by_flat frames fault lines end n aboves flats s below steps m None e few h a ends later =
-    let p = only_passes (keyword_of s.word) s.params m e in
+    → Reads frames end n flats steps (cond (closes m) [] (shown_by s ++ (map (λ (t : Step). Does t) (steps_of frames (context_at frames aboves) m)
+    ++ acts_from frames (s ∷ aboves) below))) (line_for s.line o ++ cond (closes m) [] (flat_lines below))
+by_flat frames fault lines end n aboves flats s below steps m (Some f) e none few h a ends later =
+    let g = taken (flat_meant s m) (IsWrittenOf s m) f e (written_is s m a.says none few) in
+    by_end frames fault lines end n aboves flats s below steps m f (closes m) refl h a g ends later
+by_flat frames fault lines end n aboves flats s below steps m None e none few h a ends later =
+    let p = only_passes (keyword_of s.word) s.params m (no_text (is_operator_text s) (as_read s) (flat_said (keyword_of s.word) s.params m) e) in
     let tests = by_tests (length aboves) (bound_count (nearest bound_said aboves)) (keyword_of s.word) s.params a.known in
     let some = first_written (length aboves == 0) (keyword_of s.word) tests.first p.1 in
     let ends2 = subst (λ (k : StatementMeaning). continued s.line (Ok k) (steps_of frames (context_at frames aboves))
-    (steps_from frames fault lines (s ∷ aboves) below) ≡ Ok steps) p.0 ends in
-    rw p.0 (past frames fault lines end n aboves flats s below steps h (h.start ∙ some) (a.says ∙ ap (λ (k : StatementMeaning). Ok k) p.0) ends2 later)
+    (steps_up_to frames fault lines (s ∷ aboves) below) ≡ Ok steps) p.0 ends in
+    rw p.0 (past frames fault lines end n aboves flats s below steps h (h.start ∙ some) (a.says ∙ ap (λ (k : StatementMeaning). Ok k) p.0)
+    (is_no_text (is_operator_text s) (as_read s) (flat_said (keyword_of s.word) s.params m) e) ends2 later)
 
 by_judged : (frames : List (List ℕ × Point)) (fault : Option TextFault) (lines end n : ℕ) (aboves flats : List Statement) (s : Statement)
     (below : List Statement) (steps : List Step) (r : Result StatementMeaning Refusal) → judged frames (context_at frames aboves) s ≡ r
-    → s.line < 2 ^ 64 → Similar aboves flats
-    → continued s.line r (steps_of frames (context_at frames aboves)) (steps_from frames fault lines (s ∷ aboves) below) ≡ Ok steps
+    → text_refusal s ≡ None → s.line < 2 ^ 64 → Similar aboves flats
+    → continued s.line r (steps_of frames (context_at frames aboves)) (steps_up_to frames fault lines (s ∷ aboves) below) ≡ Ok steps
     → Later frames fault lines end (s ∷ aboves) below
-    → Reads frames end n flats steps (flat_lines (s ∷ below))
-by_judged frames fault lines end n aboves flats s below steps (Err refusal) e few h ends later = absurd cc
-by_judged frames fault lines end n aboves flats s below steps (Ok m) e few h ends later =
+    → Reads frames end n flats steps (acts_from frames aboves (s ∷ below)) (flat_lines (s ∷ below))
+by_judged frames fault lines end n aboves flats s below steps (Err refusal) e none few h ends later = absurd cc
+by_judged frames fault lines end n aboves flats s below steps (Ok m) e none few h ends later =
     let a = accepted_if frames (context_at frames aboves) s m e in
-    rw a.says (by_flat frames fault lines end n aboves flats s below steps m (flat_said (keyword_of s.word) s.params m) refl few h a ends later)
+    rw a.says (by_flat frames fault lines end n aboves flats s below steps m (flat_meant s m) refl none few h a ends later)
+
+by_text : (frames : List (List ℕ × Point)) (fault : Option TextFault) (lines end n : ℕ) (aboves flats : List Statement) (s : Statement)
+    (below : List Statement) (steps : List Step) (o : Option Refusal) → text_refusal s ≡ o → s.line < 2 ^ 64 → Similar aboves flats
+    → steps_from frames (before_refused s o (up_to_refused fault below)).fault lines aboves
+    (before_refused s o (up_to_refused fault below)).statements ≡ Ok steps
+    → Later frames fault lines end (s ∷ aboves) below
+    → Reads frames end n flats steps (acts_from frames aboves (s ∷ below)) (flat_lines (s ∷ below))
+by_text frames fault lines end n aboves flats s below steps (Some refusal) e few h ends later = absurd cc
+by_text frames fault lines end n aboves flats s below steps None e few h ends later =
+    by_judged frames fault lines end n aboves flats s below steps (judged frames (context_at frames aboves) s) refl e few h ends later
 
 reads : (frames : List (List ℕ × Point)) (fault : Option TextFault) (lines end : ℕ) (aboves below : List Statement)
     → AllByRecursion HasShortLine below → Later frames fault lines end aboves below
 reads frames fault lines end aboves [] short n flats steps h e = absurd cc
 reads frames fault lines end aboves (s ∷ below) short n flats steps h e =
-    by_judged frames fault lines end n aboves flats s below steps (judged frames (context_at frames aboves) s) refl short.0 h e
+    by_text frames fault lines end n aboves flats s below steps (text_refusal s) refl short.0 h e
     (reads frames fault lines end (s ∷ aboves) below short.1)
 
 none_similar : Similar [] []
@@ -330,11 +334,11 @@ meant_steps m (Err e) h = absurd cc
 -- a text of comments and of the flat lines of statements means what those mean
 pub reads_back : (frames : List (List ℕ × Point)) (fault : Option TextFault) (n : ℕ) (statements : List Statement) (heads : List (List ℕ))
     (m : Meaning) → AllByRecursion HasShortLine statements → AllByRecursion IsComment heads
-    → meant (steps_from frames fault n [] statements) ≡ Ok m
+    → meant (steps_up_to frames fault n [] statements) ≡ Ok m
     → program_of frames (ended_lines (heads ++ flat_lines statements)) ≡ Ok m
 unfolding meaning_of
 reads_back frames fault n statements heads m short comments h =
-    let found = meant_steps m (steps_from frames fault n [] statements) h in
+    let found = meant_steps m (steps_up_to frames fault n [] statements) h in
     let end = length (heads ++ flat_lines statements) in
     let back = reads frames fault n end [] statements short (1 + length heads) [] found.0 none_similar found.1 in
     let all : list_all is_line (heads ++ flat_lines statements) ≡ true =
@@ -345,3 +349,15 @@ reads_back frames fault n statements heads m short comments h =
       back.steps_are (reading_of (1 + length heads) (flat_lines statements)).fault,
     )
     (ap (λ (all : Meaning). Ok all) (sym found.2))
+
+-- and shows the same texts in the same places
+pub acts_back : (frames : List (List ℕ × Point)) (fault : Option TextFault) (n : ℕ) (statements : List Statement) (heads : List (List ℕ))
+    (m : Meaning) → AllByRecursion HasShortLine statements → AllByRecursion IsComment heads
+    → meant (steps_up_to frames fault n [] statements) ≡ Ok m
+    → acts_from frames [] (text_reading (ended_lines (heads ++ flat_lines statements))).statements ≡ acts_from frames [] statements
+acts_back frames fault n statements heads m short comments h =
+    let found = meant_steps m (steps_up_to frames fault n [] statements) h in
+    let back = reads frames fault n 0 [] statements short (1 + length heads) [] found.0 none_similar found.1 in
+    let all : list_all is_line (heads ++ flat_lines statements) ≡ true =
+    rw (list_all-append is_line heads (flat_lines statements), heads_are_lines heads comments) back.are_lines in
+    rw (lines_written (heads ++ flat_lines statements) all, comments_first 1 heads (flat_lines statements) comments) back.acts_are

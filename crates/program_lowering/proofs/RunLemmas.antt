@@ -1,33 +1,17 @@
 -- Carrying forward gives what looking back gives.
-use Rattle.std.proofs.Common.{◌≡◌, ℕ, suc, zero, ◌+◌, Bool, true, false, not, ◌&&◌, List, [], ◌∷◌, ◌++◌, length, Result, Ok, Err}
-use Rattle.std.proofs.Common.{Option, Some, None, refl, ap, sym, ◌∙◌, arith, subst, cond, append-nil, append_assoc, is_none}
-use Rattle.std.specs.Prelude.{◌==◌, filter, flat_map}
-use Rattle.std.proofs.lemmas.Bool.{ne_eqb}
-use Rattle.dmis_text.specs.Statements.{has_open_text}
-use Rattle.dmis_text.specs.declared.elements.Statement.{Statement}
-use Rattle.dmis_text.specs.declared.reading.TextFault.{TextFault}
-use Rattle.fixed_um.specs.declared.lengths.Point.{Point}
-use Rattle.dmis_program.specs.Outcomes.{◌>>=◌}
-use Rattle.dmis_program.specs.Keywords.{keyword_of}
-use Rattle.dmis_program.specs.LookBack.{Context, context_at, saying}
-use Rattle.dmis_program.specs.Sayings.{said_of, said_by, is_badly_formed}
-use Rattle.dmis_program.specs.Judging.{judged, word_refusal}
-use Rattle.dmis_program.specs.Meaning.{Meaning, closes, ended, steps_of, steps_from, continued, with_front, meant, meaning_of}
-use Rattle.dmis_program.specs.declared.faults.Refusal.{Refusal}
-use Rattle.dmis_program.specs.declared.keywords.Keyword.{Keyword}
+use Rattle.program_lowering.proofs.Names.{[], ◌&&◌, ◌++◌, ◌==◌, ◌>>=◌, ◌∙◌, ◌∷◌, ◌≡◌, after_said, ap, append-nil, append_assoc, arith, BadByte}
+use Rattle.program_lowering.proofs.Names.{before_refused, Bool, Carried, Choices, closes, cond, Context, context_at, continued, due, ended_lines, Err}
+use Rattle.program_lowering.proofs.Names.{false, fault_for, filter, flat_lines, flat_meant, followed, has_open_text, is_badly_formed, is_closing}
+use Rattle.program_lowering.proofs.Names.{is_kept, is_none, is_operator_text, is_unknown, judged, kept, Keyword, keyword_of, left_out, length}
+use Rattle.program_lowering.proofs.Names.{line_for, LineTooLong, List, ne_eqb, None, none_above, not, note_for, noted, notes_from, nothing_carried}
+use Rattle.program_lowering.proofs.Names.{Ok, Option, passed_over, Point, Reason, reason_of, refl, Refusal, refused_by, Result, saying, Some}
+use Rattle.program_lowering.proofs.Names.{Statement, StatementMeaning, Step, stepped, steps_from, steps_of, subst, suc, sym, text_refusal, TextFault}
+use Rattle.program_lowering.proofs.Names.{true, up_to_refused, with_front, word_refusal, ℕ}
+use Rattle.dmis_program.specs.Sayings.{said_by, said_of}
+use Rattle.dmis_program.specs.Meaning.{ended}
 use Rattle.dmis_program.specs.declared.keywords.Keyword.TheVariants as word
-use Rattle.dmis_program.specs.declared.sayings.StatementMeaning.{StatementMeaning}
-use Rattle.dmis_program.specs.declared.sayings.StatementMeaning.TheVariants as said
-use Rattle.dmis_program.specs.declared.steps.Step.{Step}
-use Rattle.program_lowering.specs.Words.{left_out, reason_of, is_unknown}
-use Rattle.program_lowering.specs.Flats.{flat_said}
-use Rattle.program_lowering.specs.Lowering.{is_kept, kept, kept_reading, lowered_meaning, is_closing, flat_of, line_for, flat_lines, ended_lines}
-use Rattle.program_lowering.specs.Lowering.{flat_program, unwritten, passed_over, note_for, notes_from, notes_of}
-use Rattle.program_lowering.specs.Carried.{Carried, nothing_carried, none_above, due, after_said, followed, noted, left_out_after, stepped, step}
 use Rattle.program_lowering.proofs.AboveLemmas.{Stands, due_is, stands_after, IsAccepted, accepted_if}
-use Rattle.program_lowering.proofs.Runs.{Written, ran, run}
-use Rattle.program_lowering.specs.declared.words.Choices.{Choices}
-use Rattle.program_lowering.specs.declared.words.Reason.{Reason}
+use Rattle.program_lowering.proofs.Runs.{Written, ran, run, steps_up_to}
 
 -- lines with their ends, one list after the other
 pub ended_append : (xs ys : List (List ℕ)) → ended_lines (xs ++ ys) ≡ ended_lines xs ++ ended_lines ys
@@ -103,7 +87,7 @@ closes_nothing s h = passes_or_not (is_badly_formed (keyword_of s.word) s) _ (ke
 -- what is to come of the statements below others, with what was written so far
 abbrev RunsAs : List (List ℕ × Point) → Choices → Option TextFault → ℕ → List Statement → List Statement → List Statement → Carried → Type 0
 RunsAs frames choices fault lines aboves statements below c = run frames choices fault lines statements c
-    ≡ with_texts (steps_from frames fault lines aboves below) (c.text ++ ended_lines (flat_lines below))
+    ≡ with_texts (steps_up_to frames fault lines aboves below) (c.text ++ ended_lines (flat_lines below))
     (c.notes ++ notes_from choices statements)
 
 -- what follows a statement that says this, by whether it closes the program
@@ -111,17 +95,17 @@ by_end : (frames : List (List ℕ × Point)) (choices : Choices) (fault : Option
     (statements below : List Statement) (c : Carried) (m : StatementMeaning) (b : Bool) → closes m ≡ b
     → (b ≡ false → RunsAs frames choices fault lines (s ∷ aboves) statements below (followed c s m))
     → ran s.line (Ok (b, followed c s m)) (run frames choices fault lines statements)
-    ≡ with_texts (cond b (Ok []) (with_front (steps_of frames (context_at frames aboves) m) (steps_from frames fault lines (s ∷ aboves) below)))
-    (c.text ++ ended_lines (line_for s.line (flat_said (keyword_of s.word) s.params m) ++ cond b [] (flat_lines below)))
+    ≡ with_texts (cond b (Ok []) (with_front (steps_of frames (context_at frames aboves) m) (steps_up_to frames fault lines (s ∷ aboves) below)))
+    (c.text ++ ended_lines (line_for s.line (flat_meant s m) ++ cond b [] (flat_lines below)))
     (c.notes ++ (note_for s (passed_over s (Ok m)) ++ cond b [] (notes_from choices statements)))
 by_end frames choices fault lines aboves s statements below c m true e behind =
-    rw (append-nil (line_for s.line (flat_said (keyword_of s.word) s.params m)), append-nil (note_for s (passed_over s (Ok m)))) refl
+    rw (append-nil (line_for s.line (flat_meant s m)), append-nil (note_for s (passed_over s (Ok m)))) refl
 by_end frames choices fault lines aboves s statements below c m false e behind =
     rw (
       behind refl,
-      ended_append (line_for s.line (flat_said (keyword_of s.word) s.params m)) (flat_lines below),
-      with_texts_front (steps_of frames (context_at frames aboves) m) (steps_from frames fault lines (s ∷ aboves) below) _ _,
-      append_assoc c.text (ended_lines (line_for s.line (flat_said (keyword_of s.word) s.params m))) (ended_lines (flat_lines below)),
+      ended_append (line_for s.line (flat_meant s m)) (flat_lines below),
+      with_texts_front (steps_of frames (context_at frames aboves) m) (steps_up_to frames fault lines (s ∷ aboves) below) _ _,
+      append_assoc c.text (ended_lines (line_for s.line (flat_meant s m))) (ended_lines (flat_lines below)),
       append_assoc c.notes (note_for s (passed_over s (Ok m))) (notes_from choices statements),
     )
     refl
@@ -132,7 +116,7 @@ by_judgement : (frames : List (List ℕ × Point)) (choices : Choices) (fault : 
     → ((m : StatementMeaning) → r ≡ Ok m → (saying s ≡ Ok m) × (is_unknown (keyword_of s.word) ≡ false))
     → ((m : StatementMeaning) → r ≡ Ok m → RunsAs frames choices fault lines (s ∷ aboves) statements below (followed c s m))
     → ran s.line (r >>= λ m. Ok (closes m, followed c s m)) (run frames choices fault lines statements)
-    ≡ with_texts (continued s.line r (steps_of frames (context_at frames aboves)) (steps_from frames fault lines (s ∷ aboves) below))
+    ≡ with_texts (continued s.line r (steps_of frames (context_at frames aboves)) (steps_up_to frames fault lines (s ∷ aboves) below))
     (c.text ++ ended_lines (flat_lines (s ∷ below))) (c.notes ++ notes_from choices (s ∷ statements))
 by_judgement frames choices fault lines aboves s statements below c (Err e) says behind = refl
 by_judgement frames choices fault lines aboves s statements below c (Ok m) says behind =
@@ -145,18 +129,46 @@ accepted_says frames aboves s m e =
     let a = accepted_if frames (context_at frames aboves) s m e in
     (a.says, accepted_known frames (context_at frames aboves) s m a)
 
+-- a text for the operator is refused on its line
+refusal_is : (s : Statement) (n lines : ℕ) (r : Refusal) → text_refusal s ≡ Some r → ended (Some (fault_for s.line r)) n lines ≡ (r, s.line)
+refusal_is s n lines r = go (is_operator_text s) _ _
+  where
+    go : (a b c : Bool) → cond a (cond b (Some BadByte) (cond c (Some LineTooLong) None)) None ≡ Some r
+        → ended (Some (fault_for s.line r)) n lines ≡ (r, s.line)
+    go false b c h = absurd cc
+    go true true c h =
+        let e : BadByte ≡ r = cc in
+        subst (λ (x : Refusal). ended (Some (fault_for s.line x)) n lines ≡ (x, s.line)) e refl
+    go true false true h =
+        let e : LineTooLong ≡ r = cc in
+        subst (λ (x : Refusal). ended (Some (fault_for s.line x)) n lines ≡ (x, s.line)) e refl
+    go true false false h = absurd cc
+
 -- the same if it is not left out
+by_text : (frames : List (List ℕ × Point)) (choices : Choices) (fault : Option TextFault) (lines : ℕ) (aboves : List Statement) (s : Statement)
+    (statements below : List Statement) (c : Carried) (o : Option Refusal) → text_refusal s ≡ o → Stands aboves c.above
+    → ((m : StatementMeaning) → Stands (s ∷ aboves) (after_said c.above m)
+    → RunsAs frames choices fault lines (s ∷ aboves) statements below (followed c s m))
+    → ran s.line (refused_by o (due frames c.above s >>= λ m. Ok (closes m, followed c s m))) (run frames choices fault lines statements)
+    ≡ with_texts (steps_from frames (before_refused s o (up_to_refused fault below)).fault lines aboves
+    (before_refused s o (up_to_refused fault below)).statements) (c.text ++ ended_lines (flat_lines (s ∷ below)))
+    (c.notes ++ notes_from choices (s ∷ statements))
+by_text frames choices fault lines aboves s statements below c (Some refusal) e stands behind =
+    rw (refusal_is s (length aboves) lines refusal e) refl
+by_text frames choices fault lines aboves s statements below c None e stands behind =
+    rw (due_is frames aboves c.above s stands) (by_judgement frames choices fault lines aboves s statements below c
+    (judged frames (context_at frames aboves) s) (accepted_says frames aboves s) (λ m e.
+    behind m (stands_after aboves c.above s m stands (accepted_says frames aboves s m e).0)))
+
 counts : (frames : List (List ℕ × Point)) (choices : Choices) (fault : Option TextFault) (lines : ℕ) (aboves : List Statement) (s : Statement)
     (statements below : List Statement) (c : Carried) → Stands aboves c.above
     → ((m : StatementMeaning) → Stands (s ∷ aboves) (after_said c.above m)
     → RunsAs frames choices fault lines (s ∷ aboves) statements below (followed c s m))
     → ran s.line (stepped frames c s None) (run frames choices fault lines statements)
-    ≡ with_texts (steps_from frames fault lines aboves (s ∷ below)) (c.text ++ ended_lines (flat_lines (s ∷ below)))
+    ≡ with_texts (steps_up_to frames fault lines aboves (s ∷ below)) (c.text ++ ended_lines (flat_lines (s ∷ below)))
     (c.notes ++ notes_from choices (s ∷ statements))
 counts frames choices fault lines aboves s statements below c stands behind =
-    rw (due_is frames aboves c.above s stands) (by_judgement frames choices fault lines aboves s statements below c
-    (judged frames (context_at frames aboves) s) (accepted_says frames aboves s) (λ m e.
-    behind m (stands_after aboves c.above s m stands (accepted_says frames aboves s m e).0)))
+    by_text frames choices fault lines aboves s statements below c (text_refusal s) refl stands behind
 
 some_above : (n : ℕ) → (suc n == 0) ≡ false
 some_above n = ne_eqb (suc n) 0 (λ z. omega arith)
@@ -168,7 +180,7 @@ by_reason : (frames : List (List ℕ × Point)) (choices : Choices) (fault : Opt
     → ((m : StatementMeaning) → Stands (s ∷ aboves) (after_said c.above m)
     → RunsAs frames choices fault lines (s ∷ aboves) statements (filter (is_kept choices) statements) (followed c s m))
     → ran s.line (stepped frames c s o) (run frames choices fault lines statements)
-    ≡ with_texts (steps_from frames fault lines aboves (filter (is_kept choices) (s ∷ statements)))
+    ≡ with_texts (steps_up_to frames fault lines aboves (filter (is_kept choices) (s ∷ statements)))
     (c.text ++ ended_lines (flat_lines (filter (is_kept choices) (s ∷ statements)))) (c.notes ++ notes_from choices (s ∷ statements))
 by_reason frames choices fault lines aboves s statements c None e stands without behind =
     let keeps : is_kept choices s ≡ true = ap (λ (o : Option Reason). is_none o) e in
@@ -193,7 +205,7 @@ none_stand = record { number = refl; tool = refl; wanted = refl; touched = refl 
 
 pub run_from_start : (frames : List (List ℕ × Point)) (choices : Choices) (fault : Option TextFault) (lines : ℕ) (statements : List Statement)
     → run frames choices fault lines statements nothing_carried
-    ≡ with_texts (steps_from frames fault lines [] (kept choices statements)) (ended_lines (flat_lines (kept choices statements)))
+    ≡ with_texts (steps_up_to frames fault lines [] (kept choices statements)) (ended_lines (flat_lines (kept choices statements)))
     (notes_from choices statements)
 run_from_start frames choices fault lines [] = refl
 run_from_start frames choices fault lines (s ∷ statements) =

@@ -1,12 +1,7 @@
 -- What only proofs speak of.
-use Rattle.std.specs.Prelude.{ℕ, Bool, true, false, List, [], ◌∷◌, Option, Result, Ok, Err}
-use Rattle.dmis_text.specs.declared.elements.Statement.{Statement}
-use Rattle.dmis_text.specs.declared.reading.TextFault.{TextFault}
-use Rattle.fixed_um.specs.declared.lengths.Point.{Point}
+use Rattle.program_lowering.proofs.Names.{[], ◌∷◌, Bool, Carried, Choices, Err, false, List, Ok, Option, Point, Refusal, Result, Statement, Step}
+use Rattle.program_lowering.proofs.Names.{step, steps_from, TextFault, true, up_to_refused, ℕ}
 use Rattle.dmis_program.specs.Meaning.{ended}
-use Rattle.dmis_program.specs.declared.faults.Refusal.{Refusal}
-use Rattle.program_lowering.specs.Carried.{Carried, step}
-use Rattle.program_lowering.specs.declared.words.Choices.{Choices}
 
 -- the text and the notes, or the refusal with its line
 pub record Written : Type 0 where
@@ -22,3 +17,7 @@ ran line (Ok (false, c)) behind = behind c
 abbrev pub run : List (List ℕ × Point) → Choices → Option TextFault → ℕ → List Statement → Carried → Result Written (Refusal × ℕ)
 run frames choices fault lines [] c = Err (ended fault c.above.number lines)
 run frames choices fault lines (s ∷ statements) c = ran s.line (step frames choices c s) (run frames choices fault lines statements)
+
+-- the steps of statements up to a text for the operator that one line cannot hold
+abbrev pub steps_up_to : List (List ℕ × Point) → Option TextFault → ℕ → List Statement → List Statement → Result (List Step) (Refusal × ℕ)
+steps_up_to frames fault lines aboves below = steps_from frames (up_to_refused fault below).fault lines aboves (up_to_refused fault below).statements

@@ -1,32 +1,16 @@
 -- What a statement says, by its keyword.
-use Rattle.std.proofs.Common.{◌≡◌, ℕ, ◌≤◌, Bool, true, false, not, ◌&&◌, cond, List, [], ◌∷◌, ◌++◌, drop, length, Result, Ok, Err, Option, Some, None}
-use Rattle.std.proofs.Common.{refl, codes}
-use Rattle.std.specs.Prelude.{IfOk, IfSome, nat_le, option_and_then}
-use Rattle.std.specs.Char.{is_ascii_digit}
-use Rattle.std.specs.List.{list_all, list_any}
-use Rattle.std.specs.Str.Parse.{digits_value}
-use Rattle.std.proofs.lemmas.Bool.{and_parts, leb-true}
-use Rattle.std.specs.Str.{bytes_eq}
-use Rattle.fixed_um.specs.Names.{IsName, is_name_text, folded}
-use Rattle.fixed_um.specs.Points.{IsInVolume}
-use Rattle.fixed_um.specs.Shapes.{IsDirection}
+use Rattle.program_lowering.proofs.Names.{[], ◌&&◌, ◌∷◌, ◌≡◌, ◌≤◌, and_parts, BadArguments, Begins, begins, begins_block, begun, Bool, bytes_eq}
+use Rattle.program_lowering.proofs.Names.{Closes, codes, cond, digits_value, direction_of, Ends, Err, false, Goes, goes, IfOk, IfSome, is_ascii_digit}
+use Rattle.program_lowering.proofs.Names.{is_badly_formed, is_letters, IsName, Keyword, leb-true, List, list_all, list_any, mode, name_within, nat_le}
+use Rattle.program_lowering.proofs.Names.{None, Ok, Option, Passes, position_of, recalled, Recalls, recalls, recalls_frame, refl, Refusal, Result}
+use Rattle.program_lowering.proofs.Names.{SaidBy, selected, Selects, selects, Some, Statement, StatementMeaning, Touches, touches, touches_at, true}
+use Rattle.program_lowering.proofs.Names.{units, within_count, without_cart, without_parameters, ℕ}
 use Rattle.fixed_um.proofs.NameLemmas.{name-from_folded}
-use Rattle.dmis_text.specs.declared.elements.Statement.{Statement}
-use Rattle.dmis_program.specs.Outcomes.{◌>>=◌}
-use Rattle.dmis_program.specs.Positions.{position_of, direction_of}
-use Rattle.dmis_program.specs.Parameters.{is_letters, begins, before_close, name_of, name_within, count_of, within_count, without_cart}
-use Rattle.dmis_program.specs.Judging.{word_refusal}
-use Rattle.dmis_program.specs.Sayings.{goes, begun, begins_block, touches_at, touches, without_parameters, selected, selects, recalled}
-use Rattle.dmis_program.specs.Sayings.{recalls_frame, recalls, units, mode, said_by, said_of, is_badly_formed}
-use Rattle.dmis_program.proofs.SayingLemmas.{bind_if, unless_if, said_of_if}
+use Rattle.dmis_program.specs.Parameters.{count_of}
+use Rattle.dmis_program.specs.Sayings.{said_by, said_of}
+use Rattle.dmis_program.proofs.SayingLemmas.{bind_if, said_of_if, unless_if}
 use Rattle.dmis_program.proofs.ParenthesisLemmas.{only}
-use Rattle.dmis_program.proofs.Sound.{SaidBy}
-use Rattle.dmis_program.specs.declared.faults.Refusal.{Refusal}
-use Rattle.dmis_program.specs.declared.faults.Refusal.TheVariants.{BadArguments}
-use Rattle.dmis_program.specs.declared.keywords.Keyword.{Keyword}
 use Rattle.dmis_program.specs.declared.keywords.Keyword.TheVariants as word
-use Rattle.dmis_program.specs.declared.sayings.StatementMeaning.{StatementMeaning}
-use Rattle.dmis_program.specs.declared.sayings.StatementMeaning.TheVariants.{Goes, Begins, Touches, Ends, Selects, Recalls, Closes, Passes}
 
 -- the first parameter
 abbrev pub first_of : List (List ℕ) → List ℕ

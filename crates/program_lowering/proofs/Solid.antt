@@ -1,8 +1,6 @@
 -- Texts of the bytes that a flat statement is made of.
-use Rattle.std.specs.Prelude.{◌≡◌, ℕ, ◌≤◌, Bool, true, not, ◌&&◌, ◌==◌, List, length, nat_le}
-use Rattle.std.specs.List.{list_all}
-use Rattle.std.specs.Char.{to_ascii_uppercase}
-use Rattle.program_lowering.specs.Flats.{Flat}
+use Rattle.program_lowering.proofs.Names.{[], ◌&&◌, ◌==◌, ◌∷◌, ◌≡◌, ◌≤◌, Bool, Flat, if◌then◌else◌, length, List, list_all, may_stand, nat_le, not}
+use Rattle.program_lowering.proofs.Names.{to_ascii_uppercase, true, turned, ℕ}
 
 -- a byte from 33 to 126 that opens no text, ends no element and begins no comment, and is no small letter
 abbrev pub is_solid : ℕ → Bool
@@ -12,9 +10,13 @@ is_solid c = (nat_le 33 c && nat_le c 126) && (not (c == 36) && (not (c == 39) &
 abbrev pub solid : List ℕ → Bool
 solid = list_all is_solid
 
--- such a byte, or a mark between elements
-abbrev pub is_inner : ℕ → Bool
-is_inner c = (nat_le 33 c && nat_le c 126) && (not (c == 36) && not (c == 39))
+-- outside texts a byte from 33 to 126 that begins no comment; each text is closed
+abbrev pub is_bare : ℕ → Bool
+is_bare c = (nat_le 33 c && nat_le c 126) && not (c == 36)
+
+abbrev pub stands : Bool → List ℕ → Bool
+stands inside [] = not inside
+stands inside (c ∷ cs) = (if inside then may_stand true c else is_bare c) && stands (turned inside c) cs
 
 -- a word and parameters of such bytes, of that many at most
 pub record IsSolid (f : Flat) (most : ℕ) : Type 0 where

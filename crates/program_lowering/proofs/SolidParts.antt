@@ -1,19 +1,11 @@
 -- What a flat statement is made of is solid.
-use Rattle.std.proofs.Common.{◌≡◌, ℕ, suc, zero, ◌+◌, ◌*◌, ◌/◌, ◌%◌, ◌^◌, ◌≤◌, ◌<◌, Bool, true, false, not, ◌&&◌, eqb, List, [], ◌∷◌, ◌++◌, length, map, take}
-use Rattle.std.proofs.Common.{refl, ap, sym, ◌∙◌, arith, codes, length-append, ℤ, pos, negsuc}
-use Rattle.std.specs.Prelude.{nat_le, unsigned_abs, decimal}
-use Rattle.std.specs.List.{list_all}
-use Rattle.std.specs.Char.{digit_value, to_ascii_uppercase, is_ascii_alphabetic, is_ascii_digit}
-use Rattle.std.specs.Str.Parse.{AllDigits}
-use Rattle.std.proofs.lemmas.Bool.{and_parts, and_from, leb-true}
-use Rattle.std.proofs.lemmas.Bool.Decides.{nat_tests}
-use Rattle.std.proofs.lemmas.Fmt.{decimal_is_IsNumeral, length-decimal-le}
-use Rattle.std.proofs.lemmas.List.Folds.{list_all-append}
-use Rattle.fixed_um.specs.Limits.{volume_limit, component_limit}
-use Rattle.fixed_um.specs.Names.{IsName, is_name_byte, is_name_text, folded}
-use Rattle.fixed_um.specs.Written.{minus_sign, last_digit, three_digits, six_digits, written, written_component}
-use Rattle.dmis_program.specs.Parameters.{is_letters}
-use Rattle.program_lowering.specs.Flats.{within}
+use Rattle.program_lowering.proofs.Names.{[], ◌%◌, ◌++◌, ◌+◌, ◌/◌, ◌<◌, ◌^◌, ◌∷◌, ◌≡◌, ◌≤◌, AllDigits, and_from, and_parts, arith, codes}
+use Rattle.program_lowering.proofs.Names.{component_limit, decimal, decimal_is_IsNumeral, digit_value, is_ascii_alphabetic, is_ascii_digit}
+use Rattle.program_lowering.proofs.Names.{is_name_byte, is_name_text, IsName, last_digit, leb-true, length, length-append, length-decimal-le, List}
+use Rattle.program_lowering.proofs.Names.{list_all, list_all-append, map, minus_sign, nat_le, nat_tests, negsuc, pos, refl, six_digits, suc, take}
+use Rattle.program_lowering.proofs.Names.{three_digits, to_ascii_uppercase, true, unsigned_abs, volume_limit, within, zero, ℕ, ℤ}
+use Rattle.fixed_um.specs.Names.{folded}
+use Rattle.fixed_um.specs.Written.{written, written_component}
 use Rattle.program_lowering.proofs.Solid.{is_solid, solid}
 
 -- digits

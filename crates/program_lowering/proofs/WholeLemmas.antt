@@ -1,12 +1,7 @@
 -- A flat program with its head is read back.
-use Rattle.std.proofs.Common.{◌≡◌, ℕ, ◌^◌, ◌<◌, List, ◌++◌, length, ap, ◌∙◌}
-use Rattle.fixed_um.specs.declared.lengths.Point.{Point}
-use Rattle.dmis_program.specs.Meaning.{program_of}
-use Rattle.program_lowering.specs.Carried.{AreLines}
-use Rattle.program_lowering.specs.Heads.{Names, head_lines, whole_text}
+use Rattle.program_lowering.proofs.Names.{◌++◌, ◌<◌, ◌^◌, ◌∙◌, ◌≡◌, ap, AreLines, Choices, ended_lines, head_lines, length, List, Names, Point}
+use Rattle.program_lowering.proofs.Names.{program_of, whole_text, ℕ}
 use Rattle.program_lowering.specs.Lowered.{IsLowered}
-use Rattle.program_lowering.specs.Lowering.{ended_lines}
-use Rattle.program_lowering.specs.declared.words.Choices.{Choices}
 use Rattle.program_lowering.proofs.HeadLemmas.{are_comments}
 use Rattle.program_lowering.proofs.LawLemmas.{programs_read_back}
 

@@ -4,19 +4,17 @@ use Rattle.dmis_text.specs.declared.elements.Statement.{Statement}
 use Rattle.fixed_um.specs.declared.frames.Frame.TheVariants.{Machine}
 use Rattle.fixed_um.specs.declared.lengths.Point.{Point}
 use Rattle.dmis_program.specs.Outcomes.{◌>>=◌}
-use Rattle.dmis_program.specs.Keywords.{keyword_of}
 use Rattle.dmis_program.specs.LookBack.{Context}
-use Rattle.dmis_program.specs.Judging.{judged}
+use Rattle.dmis_program.specs.Judging.{judged, refused_by}
 use Rattle.dmis_program.specs.Meaning.{Meaning, closes}
 use Rattle.dmis_program.specs.declared.faults.Refusal.{Refusal}
 use Rattle.dmis_program.specs.declared.faults.StatementFault.{StatementFault}
 use Rattle.dmis_program.specs.declared.faults.StatementFault.TheVariants as faults
 use Rattle.dmis_program.specs.declared.faults.ProgramFault.{ProgramFault}
-use Rattle.dmis_program.specs.declared.faults.ProgramFault.TheVariants as program
 use Rattle.dmis_program.specs.declared.sayings.StatementMeaning.{StatementMeaning}
 use Rattle.dmis_program.specs.declared.sayings.StatementMeaning.TheVariants as said
-use Rattle.program_lowering.specs.Words.{left_out, passed_reason, is_unknown}
-use Rattle.program_lowering.specs.Flats.{flat_said}
+use Rattle.program_lowering.specs.Words.{left_out}
+use Rattle.program_lowering.specs.OperatorTexts.{flat_meant, text_refusal}
 use Rattle.program_lowering.specs.Lowering.{ended_lines, flat_program, line_for, lowered_meaning, note_for, notes_of, passed_over}
 use Rattle.program_lowering.specs.Lowered.{Refuses}
 use Rattle.program_lowering.specs.declared.above.Above.{Above}
@@ -74,7 +72,7 @@ noted c s reason = record c { notes = c.notes ++ note_for s reason }
 abbrev pub followed : Carried → Statement → StatementMeaning → Carried
 followed c s meaning = record {
   above = after_said c.above meaning;
-  text = c.text ++ ended_lines (line_for s.line (flat_said (keyword_of s.word) s.params meaning));
+  text = c.text ++ ended_lines (line_for s.line (flat_meant s meaning));
   notes = c.notes ++ note_for s (passed_over s (Ok meaning));
 }
 
@@ -84,7 +82,7 @@ left_out_after choices number s = if number == 0 then None else left_out choices
 
 abbrev pub stepped : List (List ℕ × Point) → Carried → Statement → Option Reason → Result (Bool × Carried) Refusal
 stepped frames c s (Some reason) = Ok (false, noted c s (Some reason))
-stepped frames c s None = due frames c.above s >>= λ meaning. Ok (closes meaning, followed c s meaning)
+stepped frames c s None = refused_by (text_refusal s) (due frames c.above s >>= λ meaning. Ok (closes meaning, followed c s meaning))
 
 -- after a statement: whether the program ends there, and what is carried on; or the refusal that is due
 abbrev pub step : List (List ℕ × Point) → Choices → Carried → Statement → Result (Bool × Carried) Refusal

@@ -1,5 +1,5 @@
 -- What the examples of this crate speak of.
-use Rattle.std.specs.Prelude.{ℕ, List, true, false, None}
+use Rattle.std.specs.Prelude.{ℕ, List, [], ◌∷◌, codes, true, false, None}
 use Rattle.dmis_text.specs.declared.elements.Statement.{Statement}
 use Rattle.program_lowering.specs.declared.words.Choices.{Choices}
 
@@ -13,3 +13,7 @@ all_choices = record { no_clearing = true; compensated = true }
 -- a statement without a label
 abbrev pub bare : List ℕ → List (List ℕ) → Statement
 bare word params = record { line = 1; label = None; word = word; params = params }
+
+-- a text for the operator
+abbrev pub to_operator : Statement
+to_operator = bare (codes "TEXT") (codes "OPER" ∷ codes "'Turn, then /go'" ∷ [])

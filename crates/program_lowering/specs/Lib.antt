@@ -1,6 +1,8 @@
 pub mod Words
 pub mod Reasons
 pub mod Flats
+pub mod OperatorTexts
+pub mod Acts
 pub mod Lowering
 pub mod Heads
 pub mod Lowered

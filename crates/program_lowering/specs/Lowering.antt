@@ -1,5 +1,5 @@
 -- The flat program that a program stands for, and what was decided about it (this profile).
-use Rattle.std.specs.Prelude.{ℕ, Bool, true, false, List, [], ◌∷◌, ◌++◌, length, codes, decimal, filter, flat_map, Option, Some, None}
+use Rattle.std.specs.Prelude.{ℕ, Bool, false, List, [], ◌∷◌, ◌++◌, length, codes, decimal, filter, flat_map, Option, Some, None}
 use Rattle.std.specs.Prelude.{Result, Ok, Err, is_none, if◌then◌else◌}
 use Rattle.std.specs.Str.Lines.{lines}
 use Rattle.dmis_text.specs.Reading.{Reading, text_reading}
@@ -12,7 +12,8 @@ use Rattle.dmis_program.specs.declared.faults.Refusal.{Refusal}
 use Rattle.dmis_program.specs.declared.sayings.StatementMeaning.{StatementMeaning}
 use Rattle.dmis_program.specs.declared.sayings.StatementMeaning.TheVariants as said
 use Rattle.program_lowering.specs.Words.{left_out, is_unknown, passed_reason}
-use Rattle.program_lowering.specs.Flats.{Flat, flat_said, flat_line}
+use Rattle.program_lowering.specs.Flats.{Flat, flat_line}
+use Rattle.program_lowering.specs.OperatorTexts.{flat_meant, is_operator_text, up_to_refused}
 use Rattle.program_lowering.specs.Reasons.{reason_text}
 use Rattle.program_lowering.specs.declared.words.Choices.{Choices}
 use Rattle.program_lowering.specs.declared.words.Reason.{Reason}
@@ -25,8 +26,9 @@ abbrev pub kept : Choices → List Statement → List Statement
 kept choices [] = []
 kept choices (s ∷ statements) = s ∷ filter (is_kept choices) statements
 
+-- up to a text for the operator that one line cannot hold
 abbrev pub kept_reading : Choices → Reading → Reading
-kept_reading choices reading = record { statements = kept choices reading.statements; fault = reading.fault }
+kept_reading choices reading = up_to_refused reading.fault (kept choices reading.statements)
 
 -- what the text means without those that are left out, or its first refusal with its line
 abbrev pub lowered_meaning : List (List ℕ × Point) → Choices → List ℕ → Result Meaning (Refusal × ℕ)
@@ -39,7 +41,7 @@ is_closing (Err refusal) = false
 
 -- what is written of a statement, by what it says
 abbrev pub flat_of : Statement → Result StatementMeaning Refusal → Option Flat
-flat_of s (Ok meaning) = flat_said (keyword_of s.word) s.params meaning
+flat_of s (Ok meaning) = flat_meant s meaning
 flat_of s (Err refusal) = None
 
 -- the line that is written, if one is
@@ -65,7 +67,7 @@ flat_program choices text = ended_lines (flat_lines (kept choices (text_reading 
 
 -- why nothing is written of a statement: it is left out, or commands nothing
 abbrev pub passed_over : Statement → Result StatementMeaning Refusal → Option Reason
-passed_over s (Ok said.Passes) = passed_reason (keyword_of s.word) s.word
+passed_over s (Ok said.Passes) = if is_operator_text s then None else passed_reason (keyword_of s.word) s.word
 passed_over s _ = None
 
 abbrev pub unwritten : Choices → Statement → Option Reason

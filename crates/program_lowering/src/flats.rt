@@ -4,8 +4,8 @@ ghost use Rattle.std.specs.Prelude.{◌≡◌, ◌++◌, ◌∷◌, [], ℕ, Lis
 ghost use Rattle.std.specs.Char.{to_ascii_uppercase};
 ghost use Rattle.fixed_um.specs.Written.{written};
 ghost use Rattle.dmis_program.specs.declared.sayings.StatementMeaning.TheVariants as said;
-ghost use Rattle.program_lowering.specs.Flats.{components, components_text, flat_passed, flat_said, kind_of, line_end, place_text, text_for, within};
-ghost use Rattle.program_lowering.specs.Lowering.{ended, ended_lines, line_for};
+ghost use Rattle.program_lowering.specs.Flats.{components, components_text, flat_passed, flat_said, kind_of, place_text, text_for, within};
+ghost use Rattle.program_lowering.specs.Lowering.{ended};
 
 use dmis_program::{Keyword, StatementMeaning};
 use dmis_text::Text;
@@ -124,7 +124,7 @@ fn passed_text(keyword: Keyword) -> &'static [u8]
 }
 
 /// Appends what is written of a statement with this keyword and these parameters that says this; nothing, if nothing is.
-fn push_text(
+pub(crate) fn push_text(
     out: &mut Vec<u8>,
     keyword: Keyword,
     params: &[Text],
@@ -159,7 +159,7 @@ fn push_text(
 }
 
 /// Whether a statement with this keyword that says this is written.
-fn is_written(keyword: Keyword, meaning: &StatementMeaning) -> bool
+pub(crate) fn is_written(keyword: Keyword, meaning: &StatementMeaning) -> bool
     ensures { (params : List (List ℕ)) → result ≡ is_some (flat_said keyword params meaning.now) }
 {
     match meaning {
@@ -169,33 +169,4 @@ fn is_written(keyword: Keyword, meaning: &StatementMeaning) -> bool
         },
         _ => true,
     }
-}
-
-/// Appends what ends the line of a statement, if it is written: the line of the source in a comment.
-fn push_end(out: &mut Vec<u8>, line: u64, is_written: bool) -> Result<(), AllocError>
-    ensures { OnOk result (out.new.items ≡ out.old.items ++ line_end line is_written) }
-{
-    if !is_written {
-        return Ok(());
-    }
-    out.extend_from_slice(b" $$ line ")?;
-    push_number(out, line)?;
-    out.extend_from_slice(b"\n")
-}
-
-/// Appends the line that is written of a statement with this keyword and these parameters that says this, and that begins on this line of
-/// the source; nothing, if nothing is.
-#[tactic(auto, using(crate::proofs::LineParts::lines))]
-pub(crate) fn push_line(
-    out: &mut Vec<u8>,
-    line: u64,
-    keyword: Keyword,
-    params: &[Text],
-    meaning: &StatementMeaning,
-) -> Result<(), AllocError>
-    ensures { OnOk result (out.new.items ≡ out.old.items
-        ++ ended_lines (line_for line (flat_said keyword params.now meaning.now))) }
-{
-    push_text(out, keyword, params, meaning)?;
-    push_end(out, line, is_written(keyword, meaning))
 }

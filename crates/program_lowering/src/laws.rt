@@ -1,12 +1,18 @@
 // What follows from the definitions alone. Each function has laws for its contract and does nothing.
-ghost use Rattle.std.specs.Prelude.{◌≡◌, ◌<◌, ◌^◌, ◌++◌, ◌∷◌, [], ℕ, List, length, codes, Some, None, Ok};
+ghost use Rattle.std.specs.Prelude.{◌≡◌, ◌<◌, ◌^◌, ◌++◌, ◌∷◌, [], ℕ, List, length, codes, false, true, Some, None, Ok};
+ghost use Rattle.std.specs.Option.{option_map};
+ghost use Rattle.dmis_program.specs.declared.faults.Refusal.TheVariants.{BadByte};
+ghost use Rattle.dmis_program.specs.declared.sayings.StatementMeaning.TheVariants.{Passes};
 ghost use Rattle.std.specs.List.{AllByRecursion};
 ghost use Rattle.fixed_um.specs.declared.lengths.Point.{Point};
 ghost use Rattle.dmis_program.specs.Meaning.{Meaning, program_of};
+ghost use Rattle.dmis_text.specs.Reading.{text_reading};
+ghost use Rattle.program_lowering.specs.Acts.{acts_of};
 ghost use Rattle.program_lowering.specs.Heads.{IsComment, Names, head_lines};
-ghost use Rattle.program_lowering.specs.Lowering.{ended_lines, flat_program, lowered_meaning};
-ghost use Rattle.program_lowering.specs.Examples.{all_choices, bare, plain_choices};
+ghost use Rattle.program_lowering.specs.Lowering.{ended_lines, flat_program, kept, lowered_meaning, passed_over};
+ghost use Rattle.program_lowering.specs.Examples.{all_choices, bare, plain_choices, to_operator};
 ghost use Rattle.program_lowering.specs.Flats.{flat, flat_text};
+ghost use Rattle.program_lowering.specs.OperatorTexts.{TextsFit, flat_meant, is_operator_text, text_refusal};
 ghost use Rattle.program_lowering.specs.Words.{left_out};
 ghost use Rattle.program_lowering.specs.declared.words.Choices.{Choices};
 ghost use Rattle.program_lowering.specs.declared.words.Reason.TheVariants as reason;
@@ -20,16 +26,44 @@ pub fn flat_programs_read_back()
         → program_of frames (ended_lines heads ++ flat_program choices text) ≡ Ok m }
 {}
 
+/// A flat program shows the texts for the operator of its source, unchanged and in their places between the steps.
+pub fn texts_stay_in_their_places()
+    ensures { (frames : List (List ℕ × Point)) (choices : Choices) (text : List ℕ)
+        (heads : List (List ℕ)) (m : Meaning) → length text < 2 ^ 64
+        → AllByRecursion IsComment heads → lowered_meaning frames choices text ≡ Ok m
+        → acts_of frames (text_reading (ended_lines heads ++ flat_program choices text)).statements
+        ≡ acts_of frames (kept choices (text_reading text).statements) }
+{}
+
 /// The head of a flat program is comments alone.
 pub fn heads_are_comments()
     ensures { (names : Names) (choices : Choices) (text : List ℕ)
         → AllByRecursion IsComment (head_lines names choices text) }
 {}
 
-/// A program that is flat already keeps its features and steps, whatever is chosen.
+/// A program that is flat already keeps its features and steps, whatever is chosen, if one line can hold each of its texts for the operator.
 pub fn flat_sources_keep_their_meaning()
     ensures { (frames : List (List ℕ × Point)) (choices : Choices) (text : List ℕ) (m : Meaning)
-        → program_of frames text ≡ Ok m → lowered_meaning frames choices text ≡ Ok m }
+        → TextsFit text → program_of frames text ≡ Ok m
+        → lowered_meaning frames choices text ≡ Ok m }
+{}
+
+/// Examples: a text for the operator is written as it is read, and refused if it has a mark outside its texts; other texts are not written.
+pub fn examples_of_texts()
+    ensures oper { option_map flat_text (flat_meant to_operator Passes)
+        ≡ Some (codes "TEXT/OPER,'Turn, then /go'") }
+    ensures man { is_operator_text (bare (codes "TEXT") (codes "MAN" ∷ [])) ≡ true }
+    ensures outfil { flat_meant (bare (codes "TEXT") (codes "OUTFIL" ∷ (codes "'A'" ∷ []))) Passes
+        ≡ None }
+    ensures display { is_operator_text (bare (codes "DISPLY") (codes "OPER" ∷ [])) ≡ false }
+    ensures noted { passed_over to_operator (Ok Passes) ≡ None }
+    ensures fits { text_refusal to_operator ≡ None }
+    ensures dollar { text_refusal (bare (codes "TEXT") (codes "OPER" ∷ (codes "A$B" ∷ [])))
+        ≡ Some BadByte }
+    ensures blank { text_refusal (bare (codes "TEXT") (codes "MAN" ∷ (codes "'A' 'B'" ∷ [])))
+        ≡ Some BadByte }
+    ensures others { text_refusal (bare (codes "TEXT") (codes "OUTFIL" ∷ (codes "A$B" ∷ [])))
+        ≡ None }
 {}
 
 /// Examples: what is left out, and how a statement is written.

@@ -12,8 +12,9 @@ ghost use Rattle.program_lowering.specs.Heads.{names_of};
 ghost use Rattle.program_lowering.specs.Lowered.{GivesLowered};
 
 use crate::above::Above;
-use crate::flats::{push_line, push_named, push_number};
+use crate::flats::{push_named, push_number};
 use crate::heads::{SourceNames, with_head};
+use crate::lines::{is_operator_text, push_line, text_refusal};
 use crate::words::{Choices, Reason, left_out, passed_reason, reason_text};
 use dmis_program::{
     Frames, Keyword, ProgramFault, Refusal, StatementFault, StatementMeaning, keyword_of_word,
@@ -87,6 +88,7 @@ fn passed_over(
     ensures { result ≡ passed_over statement.now (Ok meaning.now) }
 {
     match meaning {
+        StatementMeaning::Passes if is_operator_text(statement) => None,
         StatementMeaning::Passes => passed_reason(keyword, &statement.word),
         _ => None,
     }
@@ -163,13 +165,7 @@ impl Lowering {
         requires few { self.old.above.number < 10000 }
         ensures { OnOk result (self.new ≡ followed self.old statement.now meaning.now) }
     {
-        push_line(
-            &mut self.text,
-            statement.line,
-            keyword,
-            &statement.params,
-            meaning,
-        )?;
+        push_line(&mut self.text, keyword, statement, meaning)?;
         push_note(
             &mut self.notes,
             statement,
@@ -192,6 +188,9 @@ impl Lowering {
         if let Some(reason) = self.left_out(choices, keyword, statement) {
             push_note(&mut self.notes, statement, Some(reason))?;
             return Ok(false);
+        }
+        if let Some(refusal) = text_refusal(self.alloc, statement)? {
+            return Err(StatementFault::Refused(refusal));
         }
         let meaning = self.above.judge(self.alloc, frames, keyword, statement)?;
         self.follow(keyword, statement, &meaning)?;

@@ -41,7 +41,7 @@ pub enum Reason {
 }
 
 /// Whether two texts are the same.
-fn is_text(text: &[u8], other: &str) -> bool
+pub(crate) fn is_text(text: &[u8], other: &str) -> bool
     ensures { result ≡ bytes_eq text.now other.now }
 {
     text == other.as_bytes()

@@ -1,5 +1,4 @@
-use Rattle.std.proofs.Common.{◌≡◌, ◌++◌, drop, map}
-use Rattle.std.specs.Char.{to_ascii_uppercase}
+use Rattle.program_lowering.proofs.Names.{◌++◌, ◌≡◌, drop, map, to_ascii_uppercase}
 use Rattle.program_lowering.proofs.flats.push_capitals.Given as goal
 
 abbrev pub invariant-loop-letter : goal.invariant-loop-letter

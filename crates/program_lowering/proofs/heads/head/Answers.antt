@@ -1,5 +1,4 @@
-use Rattle.std.proofs.Common.{rules}
-use Rattle.program_lowering.specs.Heads.{names_of}
+use Rattle.program_lowering.proofs.Names.{names_of, rules}
 use Rattle.program_lowering.proofs.LineParts.{head_is}
 use Rattle.program_lowering.proofs.heads.head.Goals as goal
 

@@ -1,4 +1,4 @@
-use Rattle.std.proofs.Common.{rules, ◌≡◌, sym, ◌∙◌}
+use Rattle.std.proofs.Common.{rules, sym, ◌∙◌}
 use Rattle.program_lowering.proofs.EndLemmas.{goes_past, closes_at, at_statement, at_error, at_end, written_of}
 use Rattle.program_lowering.proofs.lowering.lines_of.Goals as goal
 

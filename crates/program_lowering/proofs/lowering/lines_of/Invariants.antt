@@ -1,7 +1,4 @@
-use Rattle.std.proofs.Common.{◌≡◌, length}
-use Rattle.dmis_text.specs.Reading.{text_reading}
-use Rattle.std.specs.Str.Lines.{lines}
-use Rattle.program_lowering.specs.Carried.{nothing_carried}
+use Rattle.program_lowering.proofs.Names.{◌≡◌, length, lines, nothing_carried, text_reading}
 use Rattle.program_lowering.proofs.Runs.{run}
 use Rattle.program_lowering.proofs.lowering.lines_of.Given as goal
 

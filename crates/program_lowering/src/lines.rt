@@ -1,0 +1,172 @@
+// The line that is written of a statement. Texts for the operator are written as they are read.
+
+ghost use Rattle.std.specs.Prelude.{◌≡◌, ◌++◌, codes, decimal, false, true, OnOk, IfOk};
+ghost use Rattle.std.specs.List.{list_all};
+ghost use Rattle.dmis_text.specs.Texts.{may_stand};
+ghost use Rattle.dmis_program.specs.Keywords.{keyword_of};
+ghost use Rattle.program_lowering.specs.Flats.{flat_line, flat_text, line_end};
+ghost use Rattle.program_lowering.specs.Lowering.{ended_lines, line_for};
+ghost use Rattle.program_lowering.specs.OperatorTexts as spec;
+
+use crate::flats::{is_written, push_number, push_text};
+use crate::words::is_text;
+use dmis_program::{Keyword, Refusal, StatementMeaning};
+use dmis_text::{Statement, Text};
+use std::alloc::{AllocError, Global};
+
+/// The most bytes of a line without its end (this profile).
+const LONGEST_LINE: usize = 4096;
+
+/// Whether the first parameter is this text.
+fn begins_with(other: &str, params: &[Text]) -> bool
+    ensures { result ≡ spec.begins_with other.now params.now }
+{
+    match params.split_first() {
+        Some((first, _)) => is_text(first, other),
+        None => false,
+    }
+}
+
+/// Whether a statement is a text for the operator.
+pub(crate) fn is_operator_text(statement: &Statement) -> bool
+    ensures { result ≡ spec.is_operator_text statement.now }
+{
+    if statement.label.is_some() || statement.is_open() {
+        return false;
+    }
+    is_text(&statement.word, "TEXT")
+        && (begins_with("OPER", &statement.params) || begins_with("MAN", &statement.params))
+}
+
+/// Whether a byte outside texts may be in a parameter.
+fn is_outer(byte: u8) -> bool
+    ensures { result ≡ spec.is_outer byte }
+{
+    byte >= 33 && byte <= 126 && byte != b'$' && byte != b',' && byte.to_ascii_uppercase() == byte
+}
+
+/// Whether a byte in a text may be there.
+fn is_inner(byte: u8) -> bool
+    ensures { result ≡ may_stand true byte }
+{
+    byte == 9 || (byte >= 32 && byte <= 126) || byte >= 128
+}
+
+/// Whether a parameter is read back as it is written.
+fn is_plain(param: &[u8]) -> bool
+    ensures { result ≡ spec.is_plain false param.now }
+{
+    let mut inside = false;
+    for byte in param {
+        if !(if inside {
+            is_inner(*byte)
+        } else {
+            is_outer(*byte)
+        }) {
+            return false;
+        }
+        if *byte == b'\'' {
+            inside = !inside;
+        }
+    }
+    !inside
+}
+
+/// Appends parameters, each after its mark.
+fn push_params(out: &mut Vec<u8>, params: &[Text]) -> Result<(), AllocError>
+    ensures { OnOk result (out.new.items ≡ out.old.items ++ spec.marked 47 params.now) }
+{
+    let mut mark = b'/';
+    for param in params {
+        out.push(mark)?;
+        out.extend_from_slice(param)?;
+        mark = b',';
+    }
+    Ok(())
+}
+
+/// Appends the text of a statement as it is read.
+#[tactic(auto, using(crate::proofs::LineParts::marks))]
+fn push_as_read(out: &mut Vec<u8>, statement: &Statement) -> Result<(), AllocError>
+    ensures { OnOk result (out.new.items
+        ≡ out.old.items ++ flat_text (spec.as_read statement.now)) }
+{
+    out.extend_from_slice(&statement.word)?;
+    push_params(out, &statement.params)
+}
+
+/// Whether each of these parameters is read back as it is written.
+fn are_plain(params: &[Text]) -> bool
+    ensures { result ≡ list_all (spec.is_plain false) params.now }
+{
+    params.iter().all(|param| is_plain(param))
+}
+
+/// Appends the comment that names a line of the source.
+fn push_comment(out: &mut Vec<u8>, line: u64) -> Result<(), AllocError>
+    ensures { OnOk result (out.new.items ≡ out.old.items ++ (codes " $$ line " ++ decimal line)) }
+{
+    out.extend_from_slice(b" $$ line ")?;
+    push_number(out, line)
+}
+
+/// Appends the line of a text for the operator, without its end.
+fn push_text_line(out: &mut Vec<u8>, statement: &Statement) -> Result<(), AllocError>
+    ensures { OnOk result (out.new.items
+        ≡ out.old.items ++ flat_line (spec.as_read statement.now) statement.now.line) }
+{
+    push_as_read(out, statement)?;
+    push_comment(out, statement.line)
+}
+
+/// Why no line can hold a statement that is a text for the operator; none for other statements.
+pub(crate) fn text_refusal(
+    alloc: Global,
+    statement: &Statement,
+) -> Result<Option<Refusal>, AllocError>
+    ensures { IfOk result (λ refusal. refusal ≡ spec.text_refusal statement.now) }
+{
+    if !is_operator_text(statement) {
+        return Ok(None);
+    }
+    if !are_plain(&statement.params) {
+        return Ok(Some(Refusal::BadByte));
+    }
+    let mut line = Vec::new(alloc);
+    push_text_line(&mut line, statement)?;
+    if line.len() > LONGEST_LINE {
+        return Ok(Some(Refusal::LineTooLong));
+    }
+    Ok(None)
+}
+
+/// Appends what ends the line of a statement, if it is written: the line of the source in a comment.
+fn push_end(out: &mut Vec<u8>, line: u64, is_written: bool) -> Result<(), AllocError>
+    ensures { OnOk result (out.new.items ≡ out.old.items ++ line_end line is_written) }
+{
+    if !is_written {
+        return Ok(());
+    }
+    push_comment(out, line)?;
+    Ok(out.push(b'\n')?)
+}
+
+/// Appends the line that is written of a statement with this keyword that says this; nothing, if nothing is.
+#[tactic(auto, using(crate::proofs::LineParts::lines))]
+pub(crate) fn push_line(
+    out: &mut Vec<u8>,
+    keyword: Keyword,
+    statement: &Statement,
+    meaning: &StatementMeaning,
+) -> Result<(), AllocError>
+    requires { keyword ≡ keyword_of statement.now.word }
+    ensures { OnOk result (out.new.items ≡ out.old.items
+        ++ ended_lines (line_for statement.now.line (spec.flat_meant statement.now meaning.now))) }
+{
+    if is_operator_text(statement) {
+        push_text_line(out, statement)?;
+        return Ok(out.push(b'\n')?);
+    }
+    push_text(out, keyword, &statement.params, meaning)?;
+    push_end(out, statement.line, is_written(keyword, meaning))
+}
