@@ -2,7 +2,7 @@
 use Rattle.std.specs.Prelude.{◌≡◌, ℕ, Bool, true, false, List, [], ◌∷◌, ◌++◌, length, take, drop, codes, decimal, ℤ, ◌-ℤ◌, int_lt}
 use Rattle.std.specs.Prelude.{Option, Some, None, is_some, fold, if◌then◌else◌}
 use Rattle.std.specs.List.{filter}
-use Rattle.core.specs.Int.{int_min}
+use Rattle.std.specs.Int.{int_min}
 use Rattle.dmis_program.specs.declared.features.Wanted.{Wanted}
 use Rattle.fixed_um.specs.Written.{written}
 use Rattle.part_limits.specs.Limits.{range_for}

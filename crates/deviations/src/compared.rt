@@ -215,7 +215,7 @@ fn push_part(text: &mut String, limits: &Limits, rows: &[Row<'_>]) -> Result<(),
 /// The lines that compare the rows of a program with limits: a line for each feature that a limit is for, with its worst point,
 /// `dme: BORE: worst 0.021 at point 3: out`, and a last one with the number of points that are out, of those that have a limit. Fails
 /// only if out of memory.
-pub fn compared(
+pub fn limit_lines(
     alloc: Global,
     limits: &Limits,
     program: &Program,

@@ -19,7 +19,7 @@ mod records;
 pub mod rows;
 
 pub use along::{Deviation, along_normal, one_length_is_along};
-pub use compared::compared;
+pub use compared::limit_lines;
 pub use faults::RowsFault;
 pub use forms::Form;
 pub use judged::{row_verdict, verdict_word};

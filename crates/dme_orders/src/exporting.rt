@@ -15,7 +15,7 @@ use crate::reading::{FilesFault, features_from, named_limits, named_setup, progr
 use crate::simulating::write_text;
 use byte_ports::{Sink, Source};
 use contact_ledger::{Feature, FeatureLedger};
-use deviations::{Form, Row, compared, rows_of, write_csv, write_json};
+use deviations::{Form, Row, limit_lines, rows_of, write_csv, write_json};
 use dmis_program::Program;
 use drawings::write_drawing;
 use part_limits::Limits;
@@ -169,7 +169,7 @@ pub(crate) fn compared_lines(
         return Ok(String::new(alloc));
     };
     let rows = rows_of(alloc, program, features)?;
-    Ok(compared(alloc, limits, program, rows.as_slice())?)
+    Ok(limit_lines(alloc, limits, program, rows.as_slice())?)
 }
 
 /// The table of features in a form, and what is said besides it.
