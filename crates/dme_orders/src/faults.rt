@@ -10,6 +10,7 @@ use dmis_program::ProgramFault;
 use fixed_um::Name;
 use link_world::ScheduleFault;
 use part_limits::LimitsFault;
+use record_text::RecordFault;
 use refusal_guide::{Refused, write_place};
 use std::alloc::{AllocError, AllocFailed, Global};
 use thiserror::Error;
