@@ -1,6 +1,6 @@
 -- The last apostrophe, and the last parameter.
-use Rattle.refusal_guide.proofs.Names.{[], ◌++◌, ◌-◌, ◌<◌, ◌==◌, ◌∙◌, ◌∷◌, ◌≡◌, ◌≢◌, ◌≤◌, ap, arith, last_or, length, length-take-le, List, ne_eqb}
-use Rattle.refusal_guide.proofs.Names.{not, Option, refl, slice_index, Some, suffix_len, sym, take, ℕ}
+use Rattle.refusal_guide.proofs.Outside.{[], ◌++◌, ◌-◌, ◌<◌, ◌==◌, ◌∙◌, ◌∷◌, ◌≡◌, ◌≢◌, ◌≤◌, ap, arith, last_or, length, length-take-le, List, ne_eqb}
+use Rattle.refusal_guide.proofs.Outside.{not, Option, refl, slice_index, Some, suffix_len, sym, take, ℕ}
 use Rattle.std.proofs.lemmas.List.Sums.{suffix_len_is}
 use Rattle.refusal_guide.specs.Arguments.{last_apostrophe}
 

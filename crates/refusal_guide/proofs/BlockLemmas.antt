@@ -1,6 +1,6 @@
 -- The open block after one statement more.
-use Rattle.refusal_guide.proofs.Names.{◌+◌, ◌∙◌, ◌∷◌, ◌≡◌, above_line, ap, arith, block_after, Bool, fold, List, nat_lt, OpenBlock, Option}
-use Rattle.refusal_guide.proofs.Names.{prefix_len, Statement, suc, sym, take, true, ℕ}
+use Rattle.refusal_guide.proofs.Outside.{◌+◌, ◌∙◌, ◌∷◌, ◌≡◌, above_line, ap, arith, block_after, Bool, fold, List, nat_lt, OpenBlock, Option}
+use Rattle.refusal_guide.proofs.Outside.{prefix_len, Statement, suc, sym, take, true, ℕ}
 
 pub block_step : (n : ℕ) (b next t : Option OpenBlock) (s : Statement) (all rest : List Statement) → all ≡ s ∷ rest → nat_lt s.line n ≡ true
     → next ≡ block_after b s → fold block_after b (above_line n all) ≡ t → fold block_after next (above_line n rest) ≡ t

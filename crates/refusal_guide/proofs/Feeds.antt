@@ -1,7 +1,7 @@
 -- What follows line feeds, and its lines.
-use Rattle.refusal_guide.proofs.Names.{[], ◌+◌, ◌-◌, ◌<◌, ◌∙◌, ◌∷◌, ◌≡◌, ◌≤◌, after_feeds, ap, arith, Bool, cond, drop, drop_all, eqb, false, length}
-use Rattle.refusal_guide.proofs.Names.{length-drop, lines, List, ltb, ltb-false, None, Option, position, position_or_len, refl, Some, suc, sym, true}
-use Rattle.refusal_guide.proofs.Names.{zero, ℕ}
+use Rattle.refusal_guide.proofs.Outside.{[], ◌+◌, ◌-◌, ◌<◌, ◌∙◌, ◌∷◌, ◌≡◌, ◌≤◌, after_feeds, ap, arith, Bool, cond, drop, drop_all, eqb, false, length}
+use Rattle.refusal_guide.proofs.Outside.{length-drop, lines, List, ltb, ltb-false, None, Option, position, position_or_len, refl, Some, suc, sym, true}
+use Rattle.refusal_guide.proofs.Outside.{zero, ℕ}
 use Rattle.std.proofs.lemmas.Option.{cond_some}
 use Rattle.dmis_text.proofs.LineEnds.{lines_at, lines_one}
 

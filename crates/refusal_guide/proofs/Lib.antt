@@ -1,4 +1,4 @@
-pub mod Names
+pub mod Outside
 pub mod TopicLemmas
 pub mod Feeds
 pub mod LineSteps

@@ -1,5 +1,5 @@
 -- Lines that are passed one by one.
-use Rattle.refusal_guide.proofs.Names.{◌+◌, ◌-◌, ◌<◌, ◌∙◌, ◌≡◌, ◌≤◌, ap, arith, drop, drop-drop, length, length-drop, List, min, ℕ}
+use Rattle.refusal_guide.proofs.Outside.{◌+◌, ◌-◌, ◌<◌, ◌∙◌, ◌≡◌, ◌≤◌, ap, arith, drop, drop-drop, length, length-drop, List, min, ℕ}
 
 -- that many lines of all are passed
 pub record IsPassed (number left : ℕ) (all rest : List (List ℕ)) : Type 0 where

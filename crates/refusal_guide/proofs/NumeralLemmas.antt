@@ -1,6 +1,6 @@
 -- The fault of a component, from the reading of a direction whose other components are zero.
-use Rattle.refusal_guide.proofs.Names.{◌≡◌, ap, codes, component_limit, Err, false≢true, fault_in, inl, inr, is_some, List, None, NumeralFault, Ok}
-use Rattle.refusal_guide.proofs.Names.{Option, pos, Reads, ReadsDirection, Result, Some, sym, value_of, value_of-is, ℕ, ℤ}
+use Rattle.refusal_guide.proofs.Outside.{◌≡◌, ap, codes, component_limit, Err, false≢true, fault_in, inl, inr, is_some, List, None, NumeralFault, Ok}
+use Rattle.refusal_guide.proofs.Outside.{Option, pos, Reads, ReadsDirection, Result, Some, sym, value_of, value_of-is, ℕ, ℤ}
 use Rattle.fixed_um.specs.Shapes.{Direction}
 use Rattle.fixed_um.specs.Scan.{exponent_of, numeral_of}
 use Rattle.refusal_guide.specs.Numerals.{component_fault}

@@ -1,6 +1,6 @@
 -- The place of a refusal, from what its parts are.
-use Rattle.refusal_guide.proofs.Names.{◌++◌, ◌∙◌, ◌≡◌, ap, Caused, cond, Err, first_of, is_ok, length, line_of, lines_from, List, Ok, OnOk, Result}
-use Rattle.refusal_guide.proofs.Names.{shown_from, ℕ}
+use Rattle.refusal_guide.proofs.Outside.{◌++◌, ◌∙◌, ◌≡◌, ap, Caused, cond, Err, first_of, is_ok, length, line_of, lines_from, List, Ok, OnOk, Result}
+use Rattle.refusal_guide.proofs.Outside.{shown_from, ℕ}
 use Rattle.refusal_guide.specs.Windows.{shown_start}
 use Rattle.refusal_guide.specs.Places.{IsPlace, IsPlaceOf, IsReason, number_of, place_text, Places, shown_for}
 use Rattle.refusal_guide.specs.declared.places.Refused.{Refused}

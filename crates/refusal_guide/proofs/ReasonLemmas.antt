@@ -1,7 +1,7 @@
 -- The cause of a place, from that of its statement or of its line.
-use Rattle.refusal_guide.proofs.Names.{◌≡◌, ap, bytes_from, Caused, caused_by, IfSome, IsOfEither, IsOfLine, IsOfPlace, IsOfStatement}
-use Rattle.refusal_guide.proofs.Names.{IsProgramReason, None, Option, option_map, refl, slice_get, Some, Spot, spot_at, spot_of, Statement, subst}
-use Rattle.refusal_guide.proofs.Names.{text_reading}
+use Rattle.refusal_guide.proofs.Outside.{◌≡◌, ap, bytes_from, Caused, caused_by, IfSome, IsOfEither, IsOfLine, IsOfPlace, IsOfStatement}
+use Rattle.refusal_guide.proofs.Outside.{IsProgramReason, None, Option, option_map, refl, slice_get, Some, Spot, spot_at, spot_of, Statement, subst}
+use Rattle.refusal_guide.proofs.Outside.{text_reading}
 use Rattle.dmis_program.specs.declared.faults.Refusal.{Refusal}
 use Rattle.refusal_guide.specs.declared.words.Reason.{Reason}
 use Rattle.refusal_guide.specs.declared.lines.Place.{Place}

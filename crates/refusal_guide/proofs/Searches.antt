@@ -1,6 +1,6 @@
 -- The first of ascending numbers that passes a test.
-use Rattle.refusal_guide.proofs.Names.{◌+◌, ◌-◌, ◌<◌, ◌∙◌, ◌≡◌, ◌≤◌, ap, arith, Bool, cond, false, false≢true, find, None, Option, range_with_len}
-use Rattle.refusal_guide.proofs.Names.{refl, Some, suc, sym, true, zero, ℕ}
+use Rattle.refusal_guide.proofs.Outside.{◌+◌, ◌-◌, ◌<◌, ◌∙◌, ◌≡◌, ◌≤◌, ap, arith, Bool, cond, false, false≢true, find, None, Option, range_with_len}
+use Rattle.refusal_guide.proofs.Outside.{refl, Some, suc, sym, true, zero, ℕ}
 
 not_first : (p : ℕ → Bool) (from at : ℕ) → p from ≡ true → ((k : ℕ) → from ≤ k → k < at → p k ≡ false) → from < at → ⊥
 not_first p from at e below l = false≢true (sym (below from (omega arith) l) ∙ e)

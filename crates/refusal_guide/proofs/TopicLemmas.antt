@@ -1,6 +1,6 @@
 -- The topics are all in the table.
-use Rattle.refusal_guide.proofs.Names.{[], ◌∙◌, ◌∷◌, ◌≡◌, Bool, cond, false, false≢true, find, List, MatchOption, None, Option, option_or, refl, Some}
-use Rattle.refusal_guide.proofs.Names.{subst, sym, true, ℕ}
+use Rattle.refusal_guide.proofs.Outside.{[], ◌∙◌, ◌∷◌, ◌≡◌, Bool, cond, false, false≢true, find, List, MatchOption, None, Option, option_or, refl, Some}
+use Rattle.refusal_guide.proofs.Outside.{subst, sym, true, ℕ}
 use Rattle.refusal_guide.specs.Codes.{is_code_of, is_error_number, titled, topic_of}
 use Rattle.refusal_guide.specs.declared.topics.Topic.{Topic}
 use Rattle.refusal_guide.specs.declared.topics.TheConstants.{TOPICS}

@@ -1,4 +1,4 @@
-use Rattle.refusal_guide.proofs.Names.{◌<◌, ◌≡◌, ◌≢◌, ◌≤◌, length, slice_index, ℕ}
+use Rattle.refusal_guide.proofs.Outside.{◌<◌, ◌≡◌, ◌≢◌, ◌≤◌, length, slice_index, ℕ}
 use Rattle.refusal_guide.proofs.arguments.last_apostrophe.Given as goal
 
 -- the bytes from `end` on are no apostrophes

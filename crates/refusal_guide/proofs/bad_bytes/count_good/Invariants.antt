@@ -1,4 +1,4 @@
-use Rattle.refusal_guide.proofs.Names.{◌+◌, ◌-◌, ◌<◌, ◌≡◌, ◌≤◌, false, has_bad_byte, length, take, true}
+use Rattle.refusal_guide.proofs.Outside.{◌+◌, ◌-◌, ◌<◌, ◌≡◌, ◌≤◌, false, has_bad_byte, length, take, true}
 use Rattle.refusal_guide.proofs.bad_bytes.count_good.Given as goal
 
 -- the prefix that ends at `before` has no bad byte, the one that ends at `behind` has one, and that is within the bytes

@@ -1,4 +1,4 @@
-use Rattle.refusal_guide.proofs.Names.{◌≡◌, length, line_of_last}
+use Rattle.refusal_guide.proofs.Outside.{◌≡◌, length, line_of_last}
 use Rattle.refusal_guide.proofs.bad_bytes.last_line.Given as goal
 
 -- the line of the last so far, or of the last of those that are left

@@ -1,4 +1,4 @@
-use Rattle.refusal_guide.proofs.Names.{◌≡◌, last_or, length, None}
+use Rattle.refusal_guide.proofs.Outside.{◌≡◌, last_or, length, None}
 use Rattle.refusal_guide.proofs.blocks.last_of.Given as goal
 
 -- the last so far and those that are left are all of them

@@ -1,4 +1,4 @@
-use Rattle.refusal_guide.proofs.Names.{◌∙◌, ◌∷◌, ap, opened_by, option_map, sym, Unread}
+use Rattle.refusal_guide.proofs.Outside.{◌∙◌, ◌∷◌, ap, opened_by, option_map, sym, Unread}
 use Rattle.refusal_guide.proofs.BlockLemmas.{block_step}
 use Rattle.refusal_guide.proofs.blocks.open_block.Goals as goal
 

@@ -1,4 +1,4 @@
-use Rattle.refusal_guide.proofs.Names.{◌≡◌, above_line, block_after, fold, length, None, open_block, opened_by, option_map}
+use Rattle.refusal_guide.proofs.Outside.{◌≡◌, above_line, block_after, fold, length, None, open_block, opened_by, option_map}
 use Rattle.refusal_guide.proofs.blocks.open_block.Given as goal
 
 -- the block so far, followed by the statements that are left

@@ -1,4 +1,4 @@
-use Rattle.refusal_guide.proofs.Names.{◌∙◌, arith, drop_all}
+use Rattle.refusal_guide.proofs.Outside.{◌∙◌, arith, drop_all}
 use Rattle.refusal_guide.proofs.Feeds.{fed_some, fed_none, lines_some, lines_none}
 use Rattle.refusal_guide.proofs.lines.after_feed.Goals as goal
 

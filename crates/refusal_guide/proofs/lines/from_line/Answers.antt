@@ -1,4 +1,4 @@
-use Rattle.refusal_guide.proofs.Names.{◌+◌, ◌-◌, ◌<◌, ◌∙◌, ◌≡◌, after_feeds, ap, arith, length, lines, rules, suc, sym, ℕ}
+use Rattle.refusal_guide.proofs.Outside.{◌+◌, ◌-◌, ◌<◌, ◌∙◌, ◌≡◌, after_feeds, ap, arith, length, lines, rules, suc, sym, ℕ}
 use Rattle.refusal_guide.proofs.Feeds.{one_feed_more, some_line, last_line}
 use Rattle.refusal_guide.proofs.LineSteps.{at_last, asked_there, one_more}
 use Rattle.refusal_guide.proofs.lines.from_line.Goals as goal

@@ -1,4 +1,4 @@
-use Rattle.refusal_guide.proofs.Names.{◌-◌, ◌≡◌, after_feeds, lines}
+use Rattle.refusal_guide.proofs.Outside.{◌-◌, ◌≡◌, after_feeds, lines}
 use Rattle.refusal_guide.proofs.LineSteps.{IsPassed}
 use Rattle.refusal_guide.proofs.lines.from_line.Given as goal
 

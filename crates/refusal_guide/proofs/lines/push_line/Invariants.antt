@@ -1,4 +1,4 @@
-use Rattle.refusal_guide.proofs.Names.{◌++◌, ◌≡◌, drop, flat_map, string_bytes, visible_in_line}
+use Rattle.refusal_guide.proofs.Outside.{◌++◌, ◌≡◌, drop, flat_map, string_bytes, visible_in_line}
 use Rattle.refusal_guide.proofs.lines.push_line.Given as goal
 
 -- what is written and what is left are all bytes

@@ -1,5 +1,5 @@
-use Rattle.refusal_guide.proofs.Names.{◌∙◌, ◌≡◌, ap, fault_in, List, NumeralFault, pos, Reads, Result, sym, unsigned_abs, value_of, value_of-is}
-use Rattle.refusal_guide.proofs.Names.{volume_limit, ℕ, ℤ}
+use Rattle.refusal_guide.proofs.Outside.{◌∙◌, ◌≡◌, ap, fault_in, List, NumeralFault, pos, Reads, Result, sym, unsigned_abs, value_of, value_of-is}
+use Rattle.refusal_guide.proofs.Outside.{volume_limit, ℕ, ℤ}
 use Rattle.refusal_guide.specs.Lengths.{length_fault}
 use Rattle.refusal_guide.proofs.numerals.length_fault.Goals as goal
 

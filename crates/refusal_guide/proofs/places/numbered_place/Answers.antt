@@ -1,4 +1,4 @@
-use Rattle.refusal_guide.proofs.Names.{caused_by, IfOk-weaker}
+use Rattle.refusal_guide.proofs.Outside.{caused_by, IfOk-weaker}
 use Rattle.refusal_guide.proofs.PlaceLemmas.{placed}
 use Rattle.refusal_guide.proofs.places.numbered_place.Goals as goal
 

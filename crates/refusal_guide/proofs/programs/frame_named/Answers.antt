@@ -1,4 +1,4 @@
-use Rattle.refusal_guide.proofs.Names.{◌∙◌, ap, caused, List, option_map, param_spot, Some, ℕ}
+use Rattle.refusal_guide.proofs.Outside.{◌∙◌, ap, caused, List, option_map, param_spot, Some, ℕ}
 use Rattle.refusal_guide.proofs.programs.frame_named.Goals as goal
 use Rattle.refusal_guide.specs.declared.causes.Cause.{Cause}
 

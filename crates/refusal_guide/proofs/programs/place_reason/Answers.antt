@@ -1,4 +1,4 @@
-use Rattle.refusal_guide.proofs.Names.{◌∙◌, caused_by, IfOk-weaker, option_map, spot_at, sym}
+use Rattle.refusal_guide.proofs.Outside.{◌∙◌, caused_by, IfOk-weaker, option_map, spot_at, sym}
 use Rattle.refusal_guide.proofs.ReasonLemmas.{on_statement, on_line}
 use Rattle.refusal_guide.proofs.programs.place_reason.Goals as goal
 

@@ -1,4 +1,4 @@
-use Rattle.refusal_guide.proofs.Names.{IfOk-weaker, spot_at}
+use Rattle.refusal_guide.proofs.Outside.{IfOk-weaker, spot_at}
 use Rattle.refusal_guide.proofs.ReasonLemmas.{reasoned}
 use Rattle.refusal_guide.proofs.programs.program_reason.Goals as goal
 

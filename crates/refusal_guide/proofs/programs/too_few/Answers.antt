@@ -1,4 +1,4 @@
-use Rattle.refusal_guide.proofs.Names.{◌∙◌, ap, opened_by, option_map, Some, sym}
+use Rattle.refusal_guide.proofs.Outside.{◌∙◌, ap, opened_by, option_map, Some, sym}
 use Rattle.refusal_guide.specs.Causes.{few_touches}
 use Rattle.refusal_guide.proofs.programs.too_few.Goals as goal
 

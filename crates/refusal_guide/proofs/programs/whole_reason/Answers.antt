@@ -1,4 +1,4 @@
-use Rattle.refusal_guide.proofs.Names.{caused_by, IfOk-weaker, IsProgramReason, Spot, subst}
+use Rattle.refusal_guide.proofs.Outside.{caused_by, IfOk-weaker, IsProgramReason, Spot, subst}
 use Rattle.refusal_guide.proofs.ReasonLemmas.{spot_is}
 use Rattle.refusal_guide.proofs.programs.whole_reason.Goals as goal
 

@@ -1,4 +1,4 @@
-use Rattle.refusal_guide.proofs.Names.{◌≡◌, arith, is_at, rules, sym, true}
+use Rattle.refusal_guide.proofs.Outside.{◌≡◌, arith, is_at, rules, sym, true}
 use Rattle.refusal_guide.proofs.Searches.{found_first, found_none}
 use Rattle.refusal_guide.proofs.words.place_from.Goals as goal
 

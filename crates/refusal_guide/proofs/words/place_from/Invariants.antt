@@ -1,4 +1,4 @@
-use Rattle.refusal_guide.proofs.Names.{◌<◌, ◌≡◌, ◌≤◌, false, is_at, ℕ}
+use Rattle.refusal_guide.proofs.Outside.{◌<◌, ◌≡◌, ◌≤◌, false, is_at, ℕ}
 use Rattle.refusal_guide.proofs.words.place_from.Given as goal
 
 -- the bytes are at no place so far

@@ -1,4 +1,4 @@
-use Rattle.refusal_guide.proofs.Names.{◌≡◌, after_word, drop, fold}
+use Rattle.refusal_guide.proofs.Outside.{◌≡◌, after_word, drop, fold}
 use Rattle.refusal_guide.proofs.statements.Found.behind_params.Given as goal
 
 -- the words so far and those that are left are all of them
