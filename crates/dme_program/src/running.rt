@@ -20,8 +20,7 @@ use dme_orders::{
 };
 use dme_words::{Audit, Check, Lower, Order, RecordAudit, Review, Run, Simulation, read_words};
 use ledger_session::{Job, Session, run as run_reading};
-use lower_order::lower_program;
-use program_lowering::{Choices, SourceNames};
+use program_lowering::{Choices, SourceNames, lower_program};
 use program_review::{FindingForm, FindingStyle};
 use run_opening::Opening;
 use std::alloc::{AllocError, Global};

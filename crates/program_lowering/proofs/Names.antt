@@ -39,8 +39,9 @@ pub use Rattle.program_lowering.specs.Flats.{place, text_for, with_commas, withi
 pub use Rattle.program_lowering.specs.Heads.{head_lines, IsComment, Names, names_of, options_text, setup_name, shown_byte, shown_name, whole_text}
 pub use Rattle.program_lowering.specs.Lowering.{ended_lines, flat_lines, flat_program, is_closing, is_kept, kept, line_for, lowered_meaning, note_for}
 pub use Rattle.program_lowering.specs.Lowering.{note_start, notes_from, passed_over}
-pub use Rattle.program_lowering.specs.OperatorTexts.{as_read, before_refused, fault_for, flat_meant, is_operator_text, is_outer, is_plain}
+pub use Rattle.program_lowering.specs.OperatorTexts.{as_read, before_refused, fault_for, flat_meant, is_outer, is_plain}
 pub use Rattle.program_lowering.specs.OperatorTexts.{line_refusal, marked, text_refusal, TextsFit, up_to_refused}
+pub use Rattle.program_review.specs.Texts.{is_operator_text}
 pub use Rattle.program_lowering.specs.Words.{is_unknown, left_out, reason_of}
 pub use Rattle.program_lowering.specs.declared.words.Choices.{Choices}
 pub use Rattle.program_lowering.specs.declared.words.Reason.{Reason}

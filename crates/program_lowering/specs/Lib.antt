@@ -6,5 +6,6 @@ pub mod Acts
 pub mod Lowering
 pub mod Heads
 pub mod Lowered
+pub mod Orders
 pub mod Carried
 pub mod Examples

@@ -13,7 +13,8 @@ use Rattle.dmis_program.specs.declared.sayings.StatementMeaning.{StatementMeanin
 use Rattle.dmis_program.specs.declared.sayings.StatementMeaning.TheVariants as said
 use Rattle.program_lowering.specs.Words.{left_out, is_unknown, passed_reason}
 use Rattle.program_lowering.specs.Flats.{Flat, flat_line}
-use Rattle.program_lowering.specs.OperatorTexts.{flat_meant, is_operator_text, up_to_refused}
+use Rattle.program_review.specs.Texts.{is_operator_text}
+use Rattle.program_lowering.specs.OperatorTexts.{flat_meant, up_to_refused}
 use Rattle.program_lowering.specs.Reasons.{reason_text}
 use Rattle.program_lowering.specs.declared.words.Choices.{Choices}
 use Rattle.program_lowering.specs.declared.words.Reason.{Reason}

@@ -1,31 +1,19 @@
 -- Texts for the operator, at which a run may wait: they are written as they are read (ISO 22093; what a line can hold is this profile's).
-use Rattle.std.specs.Prelude.{◌≡◌, ℕ, Bool, true, false, not, ◌&&◌, ◌||◌, ◌==◌, List, [], ◌∷◌, ◌++◌, codes, length, nat_le, nat_lt, Option, Some, None}
+use Rattle.std.specs.Prelude.{◌≡◌, ℕ, Bool, true, false, not, ◌&&◌, ◌==◌, List, [], ◌∷◌, ◌++◌, length, nat_le, nat_lt, Option, Some, None}
 use Rattle.std.specs.Prelude.{if◌then◌else◌}
 use Rattle.std.specs.Char.{to_ascii_uppercase}
 use Rattle.std.specs.List.{AllByRecursion, list_all}
-use Rattle.std.specs.Str.{bytes_eq}
 use Rattle.dmis_text.specs.Reading.{Reading, refused, text_reading, with_first}
 use Rattle.dmis_text.specs.Texts.{may_stand, turned}
 use Rattle.dmis_text.specs.declared.elements.Statement.{Statement}
 use Rattle.dmis_text.specs.declared.reading.TextFault.{TextFault}
 use Rattle.dmis_text.specs.declared.reading.TextFault.TheVariants as fault
 use Rattle.dmis_program.specs.Keywords.{keyword_of}
-use Rattle.dmis_program.specs.Sayings.{is_badly_formed}
 use Rattle.dmis_program.specs.declared.faults.Refusal.{Refusal}
 use Rattle.dmis_program.specs.declared.faults.Refusal.TheVariants.{BadByte, LineTooLong}
-use Rattle.dmis_program.specs.declared.keywords.Keyword.TheVariants as word
 use Rattle.dmis_program.specs.declared.sayings.StatementMeaning.{StatementMeaning}
+use Rattle.program_review.specs.Texts.{is_operator_text}
 use Rattle.program_lowering.specs.Flats.{Flat, flat, flat_line, flat_said}
-
--- the first parameter is this text
-abbrev pub begins_with : List ℕ → List (List ℕ) → Bool
-begins_with text [] = false
-begins_with text (first ∷ rest) = bytes_eq first text
-
--- `TEXT/OPER` and `TEXT/MAN`, unless the statement is refused for its form
-abbrev pub is_operator_text : Statement → Bool
-is_operator_text s = if is_badly_formed word.Passed s then false else
-    bytes_eq s.word (codes "TEXT") && (begins_with (codes "OPER") s.params || begins_with (codes "MAN") s.params)
 
 -- its word and its parameters as they are read
 abbrev pub as_read : Statement → Flat

@@ -6,6 +6,7 @@
 //! - `heads`: the comments before a flat program
 //! - `above`: what the statements above leave for the one that is judged
 //! - `lowering`: `lower`, the flat program of a text, or its first refusal; `laws`: what follows from the definitions
+//! - `orders`: `lower_program`, the order over ports
 //!
 //! What a program stands for is said by `lowered_meaning`, `flat_program` and `notes_of` of specs/Lowering.antt.
 #![tactic(auto)]
@@ -16,8 +17,10 @@ mod heads;
 pub mod laws;
 mod lines;
 mod lowering;
+mod orders;
 mod words;
 
 pub use heads::SourceNames;
 pub use lowering::{Lowered, lower};
+pub use orders::lower_program;
 pub use words::{Choices, Reason};

@@ -7,6 +7,8 @@ ghost use Rattle.dmis_program.specs.Keywords.{keyword_of};
 ghost use Rattle.program_lowering.specs.Flats.{flat_line, flat_text, line_end};
 ghost use Rattle.program_lowering.specs.Lowering.{ended_lines, line_for};
 ghost use Rattle.program_lowering.specs.OperatorTexts as spec;
+ghost use Rattle.program_review.specs.Notices.{begins_with};
+ghost use Rattle.program_review.specs.Texts.{is_operator_text};
 
 use crate::flats::{is_written, push_number, push_text};
 use crate::words::is_text;
@@ -19,7 +21,7 @@ const LONGEST_LINE: usize = 4096;
 
 /// Whether the first parameter is this text.
 fn begins_with(other: &str, params: &[Text]) -> bool
-    ensures { result ≡ spec.begins_with other.now params.now }
+    ensures { result ≡ begins_with other.now params.now }
 {
     match params.split_first() {
         Some((first, _)) => is_text(first, other),
@@ -29,7 +31,7 @@ fn begins_with(other: &str, params: &[Text]) -> bool
 
 /// Whether a statement is a text for the operator.
 pub(crate) fn is_operator_text(statement: &Statement) -> bool
-    ensures { result ≡ spec.is_operator_text statement.now }
+    ensures { result ≡ is_operator_text statement.now }
 {
     if statement.label.is_some() || statement.is_open() {
         return false;

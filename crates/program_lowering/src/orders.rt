@@ -1,4 +1,4 @@
-// A program is made flat, over ports.
+// The order `lower` over ports.
 
 ghost use Rattle.std.specs.Prelude.{◌≡◌, IfOk, IfErr};
 ghost use Rattle.dme_orders.specs.Input.{named, ReadsNamed, WhyNoNamed};
@@ -6,12 +6,14 @@ ghost use Rattle.dme_orders.specs.Orders.{went};
 ghost use Rattle.dme_orders.specs.Reading.{came, Reads, WhyNoText};
 ghost use Rattle.program_lowering.specs.Heads.{names_of};
 ghost use Rattle.program_review.specs.Reviews.{frames_under};
-ghost use Rattle.lower_order.specs.Lower.{Lowers, ReadsFlat, WhyNoFlat};
+ghost use Rattle.program_lowering.specs.Orders.{Lowers, ReadsFlat, WhyNoFlat};
 
+use crate::heads::SourceNames;
+use crate::lowering::{Lowered, lower};
+use crate::words::Choices;
 use byte_ports::{Failed, PullFault, Sink, Source, pull_all, push_all};
 use dme_orders::{FilesFault, Role, read_setup};
 use dmis_program::{Frames, ProgramFault};
-use program_lowering::{Choices, Lowered, SourceNames, lower};
 use std::alloc::Global;
 use tool_rack::Setup;
 
