@@ -108,7 +108,7 @@ first_piece = piece_before false
 pub last_piece : (xs : List ℕ) → is_plain false xs ≡ true → pieces false (xs ++ 32 ∷ []) ≡ (xs ++ 32 ∷ []) ∷ []
 last_piece = piece_at_end false
 
--- a plain text stands in a line
+-- a plain text may be in a line
 pub plain_stands : (inside : Bool) (xs : List ℕ) → is_plain inside xs ≡ true → stands inside xs ≡ true
 plain_stands inside [] h = h
 plain_stands true (c ∷ cs) h = let b = first_plain true c cs h in rw b.0 (plain_stands (turned true c) cs b.1)
