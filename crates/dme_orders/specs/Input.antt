@@ -89,18 +89,6 @@ module _ {S R : Type 0} (s : Came S) (r : Came R) where
   abbrev pub WhyNoProgramUnder : FilesFault → Type 0
   WhyNoProgramUnder = InTurn (ReadsSetup s) (WhyNoSetup s) (IsUntouched r) (λ setup. WhyNoProgram r setup.frames)
 
-module _ {S F R : Type 0} (s : Came S) (f : Came F) (r : Came R) where
-  -- a setup, then features, then a program under the setup's frames
-  pub record ReadsRun (features : List Feature) (program : Meaning) : Type 0 where
-    pub setup : SetupValue
-    pub said : ReadsSetup s setup
-    pub held : ReadsFeatures f features
-    pub accepted : ReadsProgram r setup.frames program
-
-  abbrev pub WhyNoRun : FilesFault → Type 0
-  WhyNoRun = InTurn (ReadsSetup s) (WhyNoSetup s) (IsUntouched f × IsUntouched r) (λ setup.
-      InTurn (ReadsFeatures f) (WhyNoFeatures f) (IsUntouched r) (λ features. WhyNoProgram r setup.frames))
-
 -- a setup if one is named, and a program under its frames
 pub record CheckInput : Type 0 where
   pub setup : Option SetupValue

@@ -61,7 +61,7 @@ pub use notes::{audit_notes, other_program_notes};
 pub use of_records::{RecordFiles, RecordNotes, RecordText, audit_record, export_record};
 pub use orders::check_under_setup;
 pub use plan::{first_lines, plan_text};
-pub use preparing::{features_and_program, setup_and_program};
+pub use preparing::setup_and_program;
 pub use reading::{FilesFault, Role, read_setup};
 pub use reviewing::review_program;
 pub use run_beginnings::kept_text;

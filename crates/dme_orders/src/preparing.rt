@@ -1,12 +1,11 @@
 // The files of an order over a connection are read before there is one.
 
 ghost use Rattle.std.specs.Prelude.{IfOk, IfErr};
-ghost use Rattle.dme_orders.specs.Input.{WhyNoProgramUnder, ReadsRun, WhyNoRun};
+ghost use Rattle.dme_orders.specs.Input.{WhyNoProgramUnder};
 ghost use Rattle.dme_orders.specs.Reading.{came, ReadsSetup, ReadsProgram};
 
-use crate::reading::{FilesFault, features_from, read_program, read_setup};
+use crate::reading::{FilesFault, read_program, read_setup};
 use byte_ports::Source;
-use contact_ledger::FeatureLedger;
 use dmis_program::Program;
 use std::alloc::Global;
 use tool_rack::Setup;
@@ -28,25 +27,4 @@ pub fn setup_and_program<S: Source, R: Source>(
     let setup = read_setup(alloc, setup)?;
     let program = read_program(alloc, setup.frames(), program)?;
     Ok((setup, program))
-}
-
-/// Reads a setup, then features, then a program under the setup's frames, each to the end of its text and understood before the next is
-/// read. A file is blamed only for its own first refusal, or because it could not be read.
-pub fn features_and_program<S: Source, F: Source, R: Source>(
-    alloc: Global,
-    setup: &mut S,
-    features: &mut F,
-    program: &mut R,
-) -> Result<(FeatureLedger, Program), FilesFault>
-    ensures ok { IfOk result (λ read. ReadsRun (came S.left S.has_failed setup.old setup.new)
-        (came F.left F.has_failed features.old features.new)
-        (came R.left R.has_failed program.old program.new) read.0 read.1) }
-    ensures err { IfErr result (WhyNoRun (came S.left S.has_failed setup.old setup.new)
-        (came F.left F.has_failed features.old features.new)
-        (came R.left R.has_failed program.old program.new)) }
-{
-    let setup = read_setup(alloc, setup)?;
-    let features = features_from(alloc, features)?;
-    let program = read_program(alloc, setup.frames(), program)?;
-    Ok((features, program))
 }
