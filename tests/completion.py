@@ -49,7 +49,7 @@ def is_whole(name):
         codes = completed("explain", "")
         small = completed("explain", "p")
         known = all(told("explain", it)[0] == 0 for it in codes | small)
-        return len(codes) == 43 and small == {it.lower() for it in codes if it[0] == "P"} and known
+        return len(codes) == 46 and small == {it.lower() for it in codes if it[0] == "P"} and known
     if name == "forms":
         return forms_are_whole("export", "--features", "none") and forms_are_whole("review")
     return completed(name, "--") == options(name)
