@@ -1,6 +1,7 @@
 // The lines that compare the points of a part with limits.
 
 ghost use Rattle.std.specs.Prelude.{◌≡◌, ◌++◌, ◌≤◌, ◌^◌, take, drop, IfOk, OnOk, string_bytes, None, unsigned_abs};
+ghost use Rattle.std.specs.Int.{int_min};
 ghost use Rattle.deviations.specs.Compared.{
   margin,
   worse,
@@ -44,13 +45,19 @@ impl Model for Worst {
     ghost invariant = { λ w. unsigned_abs w.along ≤ 2 ^ 64 };
 }
 
+fn lesser(one: i128, other: i128) -> i128
+    ensures { result ≡ int_min one other }
+{
+    if other < one { other } else { one }
+}
+
 fn margin(range: &Range, along: i128) -> i128
     requires { unsigned_abs along ≤ 2 ^ 64 }
     ensures { result ≡ margin range.now along }
 {
     let below = along - i128::from(range.lower.get());
     let above = i128::from(range.upper.get()) - along;
-    below.min(above)
+    lesser(below, above)
 }
 
 fn worse(range: &Range, worst: Option<Worst>, next: Worst) -> Option<Worst>
@@ -146,7 +153,8 @@ fn behind<'a, 'b>(rows: &'a [Row<'b>], count: usize) -> &'a [Row<'b>]
     ensures { result.now ≡ drop count rows.now }
 {
     if count > rows.len() {
-        return &[];
+        let (_, nothing) = rows.split_at(rows.len());
+        return nothing;
     }
     let (_, behind) = rows.split_at(count);
     behind
