@@ -1,6 +1,6 @@
 // The lines that compare the points of a part with limits.
 
-ghost use Rattle.std.specs.Prelude.{◌≡◌, ◌++◌, ◌≤◌, ◌^◌, take, drop, IfOk, OnOk, string_bytes, None, unsigned_abs};
+ghost use Rattle.std.specs.Prelude.{◌≡◌, ◌-ℤ◌, ◌++◌, ◌≤◌, ◌^◌, take, drop, IfOk, OnOk, string_bytes, None, unsigned_abs};
 ghost use Rattle.std.specs.Int.{int_min};
 ghost use Rattle.deviations.specs.Compared.{
   margin,
@@ -51,12 +51,20 @@ fn lesser(one: i128, other: i128) -> i128
     if other < one { other } else { one }
 }
 
+fn less(one: i128, other: i128) -> i128
+    requires one { unsigned_abs one ≤ 2 ^ 64 }
+    requires other { unsigned_abs other ≤ 2 ^ 64 }
+    ensures { result ≡ one -ℤ other }
+{
+    one - other
+}
+
 fn margin(range: &Range, along: i128) -> i128
     requires { unsigned_abs along ≤ 2 ^ 64 }
     ensures { result ≡ margin range.now along }
 {
-    let below = along - i128::from(range.lower.get());
-    let above = i128::from(range.upper.get()) - along;
+    let below = less(along, i128::from(range.lower.get()));
+    let above = less(i128::from(range.upper.get()), along);
     lesser(below, above)
 }
 
