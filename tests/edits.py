@@ -13,8 +13,8 @@ RECORD = ROOT / "tools" / "edits.txt"
 PARTS = ("src", "specs", "proofs", "must-fail*")
 HEAD = """\
 # With which content the edits of a crate were last tried, each of which a goal then refused. `tools/edits` writes this file.
-# A line: the crate, the SHA-256 of its files in src/, specs/, proofs/ and must-fail*/ (names, and bytes but for comments, imports and blank
-# lines), how many edits it has.
+# A line: the crate, the SHA-256 of its files in src/, specs/, proofs/ and must-fail*/ (names, and words but for comments and imports), how many
+# edits it has.
 # The crates below it are not in its checksum, although an edit may be refused by what a contract below promises.
 """
 
@@ -29,7 +29,8 @@ def crates_with_edits():
 
 
 def without_prose(path):
-    """The bytes of a file; of a source, a definition or a proof, its lines but for comments, imports and those without a word."""
+    """The bytes of a file; of a source, a definition or a proof, its words, but for comments, imports and, of the latter two, the lines that name
+    modules. What an import calls a type does not count where a name is written with it, as in `kind.PtMeas`."""
     text = path.read_bytes()
     if path.suffix not in (".rt", ".antt"):
         return text
@@ -37,12 +38,12 @@ def without_prose(path):
     kept, is_import = [], False
     for line in text.decode().splitlines():
         word = line.strip()
-        begins = re.match(r"(ghost )?use ", word) is not None
+        begins = re.match(r"(ghost )?use " if path.suffix == ".rt" else r"(pub )?(use|mod) ", word) is not None
         if not (is_import or begins or not word or word.startswith(comment)):
-            kept.append(line)
+            kept.append(line if path.suffix == ".rt" else re.sub(r"\b\w+\.(?=[A-Z])", "", line))
         # An import of a source ends with a semicolon, perhaps some lines below.
         is_import = path.suffix == ".rt" and (is_import or begins) and not word.endswith(";")
-    return "\n".join(kept).encode()
+    return " ".join("\n".join(kept).split()).encode()
 
 
 def content_of(crate):
@@ -51,7 +52,8 @@ def content_of(crate):
     whole = hashlib.sha256()
     for name in sorted(files):
         text = without_prose(files[name])
-        whole.update(f"{name}\n{len(text)}\n".encode() + text)
+        if text:
+            whole.update(f"{name}\n{len(text)}\n".encode() + text)
     return f"{whole.hexdigest()} {len(edits_of(crate))}"
 
 
