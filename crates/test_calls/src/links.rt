@@ -131,6 +131,7 @@ fn push_held(out: &mut Vec<u8>, client: &Client, held: usize) -> Result<(), Allo
 }
 
 /// A watcher that keeps nothing.
+#[derive(Clone, Copy, Debug)]
 struct Unwatched;
 
 impl Watcher for Unwatched {
