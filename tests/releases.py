@@ -3,6 +3,8 @@
 
   edits    all edits, most of which the gate does not try (tools/edits): the prover must refuse each
   events   a world of nine million events, of which a million can happen when they come (tests/stopped.py)
+  faults   each call of a run, its service and a relay for their files and their connection, failing or the last (tests/faults.py); with faults=N
+           each N-th
   growths  every row of calls and every row of tests/program/ without another end, with each growth of its program refused in turn: the program
            ends with its own words for out of memory, or gives what it gives with all memory, and never anything else. With growths=N it
            refuses only the first N growths of each.
@@ -12,7 +14,8 @@
   reviews  3,000 generated programs and their reviews (tests/reviews.py)
 
 usage: tests/releases.py [PART ..]     by default all parts; a part may be limited: edits=CRATE, events=COUNT, growths=N, kills=MOMENTS, lies=SESSIONS,
-relayed=CUTS, reviews=PROGRAMS
+relayed=CUTS, reviews=PROGRAMS,
+faults=STEP
 
 It needs the executables that `tests/run` has built.
 """
@@ -26,6 +29,7 @@ import sys
 import tempfile
 import time
 
+from faults import check_faults
 from growths import CALLS, PROGRAM, ROOT, WANT, Refusing, Wrong, ended, must, parts_of
 from killed import WINDOWS, check_killed
 from lying import check_lying
@@ -60,6 +64,10 @@ def edits(portion):
 def events(portion):
     done = subprocess.run([sys.executable, str(TESTS / "stopped.py"), portion or str(EVENTS)])
     return (1, 0) if done.returncode == 0 else (0, 1)
+
+
+def faults(portion):
+    return check_faults(int(portion or 1))
 
 
 def lies(portion):
@@ -188,7 +196,7 @@ def growths(portion):
     return right, len(jobs) - right
 
 
-PARTS = {"edits": edits, "events": events, "growths": growths, "kills": kills, "lies": lies, "relayed": relayed, "reviews": reviews}
+PARTS = {"edits": edits, "events": events, "faults": faults, "growths": growths, "kills": kills, "lies": lies, "relayed": relayed, "reviews": reviews}
 
 
 def main(names):

@@ -1,0 +1,223 @@
+"""Each call that a run, a service or a relay makes of the system for its files and its connection fails once, or is the last: the program is killed.
+
+A short program is run with a record, a features file, a file of contacts and a log; then again with the first of these calls made to fail
+(`strace` answers an error in its place), then the second, up to the last; likewise the service that it drives, and a relay between them. Then:
+
+- what the run has shown as complete is in its record and in its features file, as `killed.py` reads them, and what the record says was reported
+  is a front of what the server's contacts file says that it did;
+- each act that was reported is in the contacts file of the server, and in the told file of the relay;
+- a status of 0 is that of a run that is Done, and nothing then differs from a run that nothing disturbs; any other comes with a line that begins
+  with `dme: `, and with no line twice;
+- the same call, made again, comes to its end: each feature once, and its audit over the server's contacts answers RUNS.
+
+`run` calls this with some of the calls; by itself: tests/faults.py [STEP], which takes each STEP-th call.
+"""
+
+import pathlib
+import re
+import signal
+import subprocess
+import sys
+import tempfile
+
+from growths import PROGRAM, Wrong, must
+from killed import Record, dme
+from listening import free_port, wait_for_listener
+
+SECONDS = 30
+STEP = 11
+LABELS = ("A", "B", "C")
+SETUP = "TOOL P1\nFRAME PART 100 50 10\nSHIFT 0.002 0 0\n"
+# The calls that are disturbed, and how each of them fails.
+ERRORS = {
+    "openat": ("EACCES", "EMFILE"), "flock": ("EAGAIN", "EIO"), "read": ("EIO",), "write": ("ENOSPC", "EIO"), "fdatasync": ("EIO",),
+    "fsync": ("EIO",), "rename": ("ENOSPC",), "unlink": ("EACCES",), "ftruncate": ("EIO",), "lseek": ("EIO",), "statx": ("EIO",),
+    "fstat": ("EIO",), "lstat": ("EIO",), "stat": ("EIO",), "newfstatat": ("EIO",), "readlink": ("EIO",), "fchmod": ("EACCES",), "socket": ("EMFILE",),
+    "connect": ("ECONNREFUSED", "ETIMEDOUT"), "bind": ("EADDRINUSE",), "listen": ("EADDRINUSE",), "accept4": ("ECONNABORTED",),
+    "sendto": ("EPIPE", "ECONNRESET"), "recvfrom": ("ECONNRESET",), "setsockopt": ("EINVAL",), "shutdown": ("ENOTCONN",),
+}
+KILL = "signal=KILL"
+FILES = ("part.record", "part.features", "part.contacts", "part.log", "server.contacts", "told", "1.up", "1.down")
+
+
+def program():
+    lines = ["DMISMN/'FAULTS',05.2", "UNITS/MM", "SNSLCT/S(P1)", "RECALL/D(PART)"]
+    for number, label in enumerate(LABELS):
+        lines += [f"MEAS/POINT,F({label}),2", f"PTMEAS/CART,{number},0,0,0,0,1", f"PTMEAS/CART,{number},1,0,0,0,1", "ENDMES"]
+    return "\n".join([*lines, "ENDFIL"]) + "\n"
+
+
+class Room:
+    """A folder in which a run, a service and perhaps a relay meet; one of them, by its name, under `strace` with these options."""
+
+    def __init__(self, folder, disturbed, options, through=False):
+        self.folder, self.disturbed, self.options, self.through = folder, disturbed, options, through
+        (folder / "machine.setup").write_text(SETUP)
+        (folder / "part.dmis").write_text(program())
+
+    def begin(self, name, *words):
+        words = [str(PROGRAM), *words]
+        if name == self.disturbed:
+            words = ["strace", "-o", "calls", *self.options, *words]
+        return subprocess.Popen(words, cwd=self.folder, stdout=subprocess.PIPE, stderr=subprocess.PIPE, text=True)
+
+    def listening(self, name, option, *words):
+        port = free_port()
+        process = self.begin(name, *words, option, str(port))
+        wait_for_listener(port, lambda: process.poll() is not None, SECONDS)
+        return process, port
+
+    def whole(self):
+        """What each of them ends with: its status, standard output and standard error."""
+        server, port = self.listening("server", "--port", "serve", "--setup", "machine.setup", "--contacts", "server.contacts")
+        ends = {"server": server}
+        if self.through:
+            ends["relay"], port = self.listening("relay", "--listen", "watch", "--host", "127.0.0.1", "--port", str(port), "--told", "told",
+                                                 "--record-bytes", ".", "--connections", "1")
+        ends["run"] = self.begin("run", *run_words(port, 2 if self.disturbed else SECONDS))
+        results = {"run": ended(ends.pop("run"))}
+        for name, process in ends.items():
+            try:
+                results[name] = (process.returncode, *process.communicate(timeout=0.3 if results["run"][0] else SECONDS))
+            except subprocess.TimeoutExpired:
+                process.send_signal(signal.SIGTERM)
+                process.communicate()
+                results[name] = (0, "", "")
+            else:
+                results[name] = (process.returncode, *results[name][1:])
+        return results
+
+
+def run_words(port, seconds):
+    files = ("--record", "part.record", "--part", "0042/7", "--features", "part.features", "--contacts", "part.contacts", "--log", "part.log")
+    return ("run", "--setup", "machine.setup", "--host", "127.0.0.1", "--port", str(port), *files, "--progress", "--timeout", str(seconds), "part.dmis")
+
+
+def ended(process):
+    out, error = process.communicate(timeout=SECONDS)
+    return process.returncode, out, error
+
+
+def read(folder, name):
+    file = folder / name
+    return file.read_text() if file.exists() else ""
+
+
+def shown(error):
+    """The features that a run has shown as complete."""
+    return re.findall(r"(?m)^feature \d+ of \d+: (\w+)$", error)
+
+
+def listed(text):
+    """The whole features of a features file."""
+    return [label for label, count in re.findall(r"(?ms)^FEATURE (\w+) (\d+) [^\n]*\n(?:[^\n]*\n)*?END\n", text)]
+
+
+def acts(text, number=None):
+    """The acts of a file of contacts, each without the number of its connection, of one connection or of all."""
+    lines = [it.split(" ", 1) for it in text.split("\n")[1:-1]]
+    return [rest for found, rest in lines if number in (None, found)]
+
+
+def must_be_kept(folder, error):
+    """What was shown and reported is where it is to be."""
+    record = Record(read(folder, "part.record"))
+    done = [it[0] for it in record.features]
+    if (folder / "part.record").exists() and "cannot write part.record" not in error:
+        must(done[: len(shown(error))] == shown(error), "shown, and not in the record", shown(error), done)
+    if (folder / "part.features").exists() and "cannot write part.features" not in error:
+        must(set(shown(error)) <= set(listed(read(folder, "part.features"))), "shown, and not in the features file", shown(error))
+    return [f"{word} {rest}".rstrip() for _, word, rest in record.told]
+
+
+def must_be_front(front, whole, name):
+    must(whole[: len(front)] == front, "reported, and not in", name, len(front), len(whole))
+
+
+def must_be_said(result, who):
+    status, out, error = result
+    if status < 0:
+        return
+    lines = [it for it in error.split("\n") if it.startswith("dme: ")]
+    must(status == 0 or lines, who, "says nothing, and ends with", status)
+    must(len(set(lines)) == len(lines), who, "says twice", error)
+
+
+def must_come_to_its_end(folder, was):
+    """The same run, made again over a service of its own, is Done, with each feature once, from the contacts of both."""
+    (folder / "server.contacts").unlink(missing_ok=True)
+    results = Room(folder, "", ()).whole()
+    status, out, error = results["run"]
+    must(status == 0 and (out.startswith("STATE Done\n")), "made again, it ends with", status, out, error, "after", was)
+    record = Record(read(folder, "part.record"))
+    must(tuple(it[0] for it in record.features) == LABELS, "features", [it[0] for it in record.features])
+    must(tuple(listed(read(folder, "part.features"))) == LABELS, "features file", read(folder, "part.features"))
+    (folder / "all.contacts").write_text(record.contacts_text())
+    words = ["audit", "--setup", "machine.setup", "--features", "part.features", "--contacts", "all.contacts", "part.dmis"]
+    must(ended(dme(folder, *words))[1].startswith("RUNS "), "audit after", was)
+
+
+def disturb(folder, who, call, path, number, fault):
+    """One call of one of them is disturbed."""
+    named = ("-P", path) if path else ()
+    room = Room(folder, who, (*named, "-e", f"trace={call}", "-e", f"inject={call}:{fault}:when={number}"), who == "relay")
+    results = room.whole()
+    told = must_be_kept(folder, results["run"][2])
+    must_be_front(told, acts(read(folder, "server.contacts")), "the server's contacts")
+    if who == "relay" and results["relay"][0] == 0 and not results["relay"][2]:
+        must_be_front(told, acts(read(folder, "told")), "the told file")
+    for name, result in results.items():
+        must_be_said(result, name)
+    status, out, _ = results["run"]
+    must(status != 0 or out.startswith("STATE Done\n"), "status 0", out)
+    must_come_to_its_end(folder, results)
+
+
+def calls_of(who):
+    """The calls of one of them for its files and its connection, in a run that nothing disturbs: each with its file, or none, and its number."""
+    with tempfile.TemporaryDirectory() as folder:
+        folder = pathlib.Path(folder)
+        results = Room(folder, who, ("-y", "-e", "trace=" + ",".join(ERRORS)), who == "relay").whole()
+        must(all(it[0] == 0 for it in results.values()), "undisturbed", results)
+        lines = (folder / "calls").read_text().split("\n")
+    counts, found = {}, []
+    for line in lines:
+        call = line.split("(", 1)[0]
+        path = next((it for it in FILES if re.search(rf'[/"<]{re.escape(it)}(\.new)?[">]', line)), None)
+        is_net = "<TCP" in line or "<socket:" in line or call in ("socket", "connect", "bind", "listen", "accept4")
+        if call not in ERRORS or path is None and not is_net:
+            continue
+        counts[call, path] = counts.get((call, path), 0) + 1
+        found.append((call, path, counts[call, path]))
+    return found
+
+
+def check_all(step):
+    """How many disturbances leave all as it is to be, of how many."""
+    count = wrong = 0
+    for who in ("run", "server", "relay"):
+        faults = [(*it, fault) for it in calls_of(who) for fault in (*(f"error={e}" for e in ERRORS[it[0]]), KILL)]
+        for call, path, number, fault in faults[::step]:
+            count += 1
+            with tempfile.TemporaryDirectory() as folder:
+                try:
+                    disturb(pathlib.Path(folder), who, call, path, number, fault)
+                except (Wrong, OSError, subprocess.SubprocessError, IndexError, ValueError) as why:
+                    wrong += 1
+                    print(f"faults: {who}: {call} of {path or 'a socket'}, number {number}, {fault}: {str(why)[:600]}")
+    return count, wrong
+
+
+def check_faults(step=STEP):
+    """How many checks hold, and how many do not."""
+    try:
+        count, wrong = check_all(step)
+    except (Wrong, OSError, subprocess.SubprocessError) as why:
+        print(f"faults: {why}")
+        count, wrong = 0, 1
+    print(f"calls of the system that fail, or are the last: {count - wrong} of {count}", flush=True)
+    return (0, 1) if wrong else (1, 0)
+
+
+if __name__ == "__main__":
+    sys.exit(check_faults(int(sys.argv[1]) if sys.argv[1:] else STEP)[1])
