@@ -1,4 +1,5 @@
 -- What the file of a record has during its run.
+use Rattle.run_session.proofs.Names.{HasFiled}
 use Rattle.run_session.proofs.Names.{[], ◌++◌, ◌∙◌, ◌∷◌, ◌≡◌, ◌≤◌, ◌⊎◌, AddsErrors, ap, append-nil, append_assoc, arith, At, begins, Book, Bool}
 use Rattle.run_session.proofs.Names.{Bytes, calls, ClientEnd, cond, confirms, Done, drop, drop-append_seam, End, Err, error_lines, Failed, false}
 use Rattle.run_session.proofs.Names.{false≢true, filed, filed_by, Found, GoesOn, Growth, HaveLines, inl, inr, is_some, IsKept, IsSafe, Keeps, lacking}
@@ -45,8 +46,8 @@ moved_on s t reply quiet keeps same = λ first o n k.
     subst (λ (w : Option Bool). IsKept first t (outcome_by n w (lacking s) reply o)) (sym quiet) (moved first s t o keeps same k)
 
 -- later ones after an answer
-pub goes_further : (s m t : State) (reply : Reply) → GoesOn s reply m → Keeps m t → t.book ≡ m.book → GoesOn s reply t
-goes_further s m t reply goes keeps same = λ first o n k. moved first m t (outcome n s reply o) keeps (ap of_file same) (goes first o n k)
+pub goes_further : (s m t : State) (reply : Reply) → GoesOn s reply m → Keeps m t → of_file t.book ≡ of_file m.book → GoesOn s reply t
+goes_further s m t reply goes keeps same = λ first o n k. moved first m t (outcome n s reply o) keeps same (goes first o n k)
 
 -- one with the same client, record and pauses
 same_ran : (first : Pair) (s t : State) → t.pair ≡ s.pair → t.book.pauses ≡ s.book.pauses → Ran first s.book.pauses s.pair
@@ -82,6 +83,10 @@ all_of first s o k is =
     (ap (λ (x : List ℕ). drop s.book.filed x) (sym k.front.1)
     ∙ (ap (λ (x : ℕ). drop x (o.file ++ k.front.0)) (sym (k.filed is)) ∙ drop-append_seam o.file k.front.0))
     ∙ k.front.1)
+
+-- the file has all of the text if it lacks nothing
+pub has_all : (first : Pair) (s : State) (o : Outside) → IsKept first s o → s.book.lost ≡ false → HasFiled s → o.file ≡ s.pair.recording.text
+has_all first s o k is none = sym (append-nil o.file) ∙ (ap (λ (x : List ℕ). o.file ++ x) (sym none) ∙ all_of first s o k is)
 
 -- more is written after what is safe
 within_more : (o : Outside) (text : List ℕ) → (rest : List ℕ) × (o.safe ++ rest ≡ o.file)
@@ -244,6 +249,8 @@ pub new_kept : (s : State) → s.book ≡ record {
   filed = length s.pair.recording.text;
   settled = s.pair.recording.telling.counted.features;
   pauses = s.book.pauses;
+  keeps = s.book.keeps;
+  short = s.book.short;
 }
     → IsKept s.pair s (record { file = s.pair.recording.text; safe = s.pair.recording.text })
 new_kept s book = record {

@@ -3,6 +3,7 @@ pub mod ErrorLines
 pub mod Growing
 pub mod ClientCalls
 pub mod Filing
+pub mod Paces
 pub mod Kept
 pub mod Moments
 pub mod Pauses

@@ -1,4 +1,5 @@
 -- A run is a list of moments, whose record's file is what a killed run leaves.
+use Rattle.run_session.proofs.Names.{HasFollowed, HasTold, IsAt, pace, Pace, Filed}
 use Rattle.run_session.proofs.Names.{[], ◌++◌, ◌+◌, ◌∙◌, ◌∷◌, ◌≡◌, ◌≤◌, Abort, Act, ap, append-nil, append_assoc, AreAsked, AreErrors, AreFit}
 use Rattle.run_session.proofs.Names.{AreWritten, arith, begins, behind_call, behind_calls, behind_moments, Bool, Call, Calls, calls, calls_in}
 use Rattle.run_session.proofs.Names.{ClientEnd, cond, confirms, Connected, done_by, drop, drop-length, end_connected, entry_line, false, false≢true}
@@ -16,7 +17,7 @@ use Rattle.record_laws.proofs.Killed.{says_what_was_told}
 use Rattle.record_laws.specs.Runs.{IsKilledRun, IsRecordOf, run_begun}
 use Rattle.record_text.specs.Tellings.{entries_of}
 use Rattle.run_session.specs.Killed.{IsBegun, IsLeft}
-use Rattle.run_session.proofs.Filing.{grows}
+use Rattle.run_session.proofs.Filing.{grows, has_all}
 use Rattle.run_session.proofs.Kept.{call_keeps, Stays, Reports, call_reports}
 
 same_cond : (b : Bool) (g : Growth) → cond b g g ≡ g
@@ -207,10 +208,13 @@ nothing_due e g all =
 pub whole : (p : Meaning) (part : Option (List ℕ)) (bytes : List ℕ) (b : Beginning) (window : ℕ) (first : Pair) (s : State) (o : Outside)
     → IsProgram p → IsPartGiven part → AreAsked p.features → IsBegun p part bytes b window first → IsKept first s o
     → AreWritten (numbered b.connection s.pair.end.client.table.tally.counted)
-    → s.pair.recording.told ≡ length s.pair.end.client.table.tally.counted → o.file ≡ s.pair.recording.text
+    → HasFollowed s → s.book.short ≡ false → pace s.stage ≡ Filed → s.book.keeps ≡ true → s.book.lost ≡ false
     → IsRecordOf part p.features s.pair.end.client.table.tally.features
     (b.told ++ numbered b.connection s.pair.end.client.table.tally.counted) o.file
-whole p part bytes b window first s o program given asked h k written all file =
+whole p part bytes b window first s o program given asked h k written followed long filed keeps sound =
+    let at : IsAt Filed s = subst (λ (x : Pace). IsAt x s) filed (followed long) in
+    let all : s.pair.recording.told ≡ length s.pair.end.client.table.tally.counted = at.0 keeps in
+    let file : o.file ≡ s.pair.recording.text = has_all first s o k sound at.1 in
     let l : Led p b window s.pair = led p part bytes b window s.book.pauses first s.pair h k.ran in
     let start : ClientEnd = new_client_end p b.features window in
     let says = says_what_was_told p part bytes b window l.moments program given asked h.begins l.fit (subst AreWritten (sym l.told) written) in
@@ -225,3 +229,9 @@ whole p part bytes b window first s o program given asked h k written all file =
     (subst (λ (told : List (ℕ × Act)). IsRecordOf part p.features (behind_calls (calls_in l.moments) start).client.table.tally.features
     (b.told ++ told)
     (told_now (behind_moments l.moments (run_begun p window b)).end (behind_moments l.moments (run_begun p window b)).recording).text) l.told says))
+
+-- before the client has counted anything, all of it has its line
+pub told : (p : Meaning) (part : Option (List ℕ)) (bytes : List ℕ) (b : Beginning) (window : ℕ) (s : State) → IsBegun p part bytes b window s.pair
+    → HasTold s
+told p part bytes b window s h = λ keeps.
+    ap (λ (x : Pair). x.recording.told) h.start ∙ sym (ap (λ (x : Pair). length x.end.client.table.tally.counted) h.start)

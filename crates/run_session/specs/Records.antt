@@ -6,12 +6,13 @@ use Rattle.client_core.specs.Calls.{Call, Send as Sends, behind_call}
 use Rattle.link_world.specs.Reports.{report_text}
 use Rattle.link_world.specs.Showing.{IsRunCall}
 use Rattle.protocol_model.specs.Ends.{ClientEnd}
+use Rattle.protocol_model.specs.declared.states.State.TheVariants as state
 use Rattle.record_text.specs.Entries.{IsRefusal, kept_error}
 use Rattle.record_text.specs.Growths.{Growth, with_errors}
 use Rattle.record_laws.specs.Recordings.{Pair, told_unless}
 use Rattle.effects.specs.declared.vocabulary.Growth.TheVariants as growth
 use Rattle.effects.specs.declared.vocabulary.Peer.TheVariants.{Server}
-use Rattle.effects.specs.Effects.{Ask, Append, Keep, Send, Replace, Print, Reply, Done, Bytes}
+use Rattle.effects.specs.Effects.{Ask, Append, Keep, Send, Replace, Print, Exit, Reply, Done, Bytes}
 use Rattle.dme_orders.specs.Ends.{end_shown}
 use Rattle.dme_orders.specs.OfRecords.{IsFeaturesText}
 use Rattle.run_session.specs.declared.stages.Stage.{Stage}
@@ -49,6 +50,8 @@ pub record Book : Type 0 where
   pub filed : ℕ  -- how many bytes of the record's text it has
   pub settled : ℕ  -- how many features are complete in what no crash takes away
   pub pauses : List ℕ  -- how many commands are held back at each pause that is to come
+  pub keeps : Bool  -- whether there is a record
+  pub short : Bool  -- whether memory has run out before the client was on its connection
 
 pub record State : Type 0 where
   pub stage : Stage
@@ -65,6 +68,7 @@ Keeps s t = (first : Pair) → Ran first s.book.pauses s.pair → Ran first t.bo
 pub record Start : Type 0 where
   pub growth : Growth
   pub pauses : List ℕ
+  pub keeps : Bool
 
 -- what the record's file has: with what may not be on the device, and what no crash takes away
 pub record Outside : Type 0 where
@@ -122,11 +126,9 @@ GoesOn s reply t = (first : Pair) (o : Outside) (n : ℕ) → IsKept first s o �
 
 -- what is known of the file once it has all of the record's text, and that is forced or not
 abbrev pub filed_by : Option Bool → State → Book
-filed_by (Some true) s = record {
-  lost = s.book.lost;
+filed_by (Some true) s = record (s.book) {
   filed = length s.pair.recording.text;
   settled = s.pair.recording.telling.counted.features;
-  pauses = s.book.pauses;
 }
 filed_by forced s = record (s.book) { filed = length s.pair.recording.text }
 
@@ -135,7 +137,7 @@ filed s = filed_by (writes s.stage) s
 
 -- what is known of the file alone
 abbrev pub of_file : Book → Book
-of_file b = record b { pauses = [] }
+of_file b = record b { pauses = []; short = false }
 
 -- an answer by which the operator confirms a pause: the end of an empty line
 abbrev pub confirms_pause : Stage → Reply → Bool
@@ -200,6 +202,11 @@ IsQuietAsk (Append growth.Record text) = ⊥
 IsQuietAsk (Keep growth.Record text) = ⊥
 IsQuietAsk ask = ⊤
 
+-- the exit status is 0 only once the client has measured all that was asked for
+abbrev pub IsExit : State → Ask → Type 0
+IsExit s (Exit status) = status ≡ 0 → s.pair.end.client.state ≡ state.Done
+IsExit s ask = ⊥
+
 abbrev pub AsksAt : Stage → State → Ask → Type 0
 AsksAt stage.Recording s ask = ask ≡ Append growth.Record (lacking s)
 AsksAt stage.Settling s ask = ask ≡ Keep growth.Record (lacking s)
@@ -207,6 +214,7 @@ AsksAt stage.Sending s ask = ask ≡ Send Server s.pair.end.out
 AsksAt stage.ReplacingRecord s ask = IsReplace s.pair.recording.text ask
 AsksAt stage.ReplacingFeatures s ask = IsReplace s.list ask
 AsksAt stage.Printing s ask = ask ≡ Print s.text
+AsksAt stage.Exiting s ask = IsExit s ask
 AsksAt st s ask = IsQuietAsk ask
 
 abbrev pub Asks : State → Ask → Type 0
@@ -233,6 +241,50 @@ IsDueBy (Some Unforced) s = s.pair.recording.telling.counted.features ≤ s.book
 
 abbrev pub IsDue : State → Type 0
 IsDue s = IsDueBy (wants s.stage) s
+
+-- the record has the line of each act that the client has counted, if there is one
+abbrev pub HasTold : State → Type 0
+HasTold s = s.book.keeps ≡ true → s.pair.recording.told ≡ length s.pair.end.client.table.tally.counted
+
+-- its file has all of its text, or could not be kept
+abbrev pub HasFiled : State → Type 0
+HasFiled s = lacking s ≡ []
+
+-- how far a record has followed its client before an effect: its text has all that was counted, and then its file has it; or that is not known
+pub data Pace : Type 0 where
+  Unknown : Pace
+  Told : Pace
+  Filed : Pace
+
+-- it is not known once memory has run out
+abbrev pub pace : Stage → Pace
+pace stage.Tracing = Told
+pace stage.Stamping = Told
+pace stage.Logging = Told
+pace stage.Recording = Told
+pace stage.Settling = Told
+pace stage.Telling = Unknown
+pace stage.Exiting = Unknown
+pace st = Filed
+
+abbrev pub IsAt : Pace → State → Type 0
+IsAt Unknown s = ⊤
+IsAt Told s = HasTold s
+IsAt Filed s = HasTold s × HasFiled s
+
+-- whatever is sent, received, shown as complete or printed, the record's file has all that the client had counted before, or could not be kept
+abbrev pub HasFollowed : State → Type 0
+HasFollowed s = s.book.short ≡ false → IsAt (pace s.stage) s
+
+abbrev pub StaysTold : State → State → Type 0
+StaysTold s t = HasTold s → HasTold t
+
+-- a record that has followed its client follows it further
+abbrev pub Follows : State → State → Type 0
+Follows s t = HasTold s → HasFiled s → HasFollowed t
+
+abbrev pub FollowsTold : State → State → Type 0
+FollowsTold s t = HasTold s → HasFollowed t
 
 -- what is neither the client's nor the record's changes
 abbrev pub IsQuiet : State → State → Type 0

@@ -15,6 +15,7 @@ impl Session {
         ensures ran { spec.Keeps self.old self.new }
         ensures book { self.new.book ≡ self.old.book }
         ensures due { OnOk result (spec.IsDue self.new) }
+        ensures followed { OnOk result (spec.Follows self.old self.new) }
     {
         if !self.run.grows(Kept::Features) {
             return self.begin_contacts();
@@ -29,6 +30,7 @@ impl Session {
         ensures ran { spec.Keeps self.old self.new }
         ensures book { self.new.book ≡ self.old.book }
         ensures due { OnOk result (spec.IsDue self.new) }
+        ensures followed { OnOk result (spec.Follows self.old self.new) }
     {
         if self.run.grows(Kept::Contacts) {
             self.stage = Stage::MakingContacts;
@@ -43,6 +45,7 @@ impl Session {
         ensures ran { spec.Keeps self.old self.new }
         ensures book { self.new.book ≡ self.old.book }
         ensures due { OnOk result (spec.IsDue self.new) }
+        ensures followed { OnOk result (spec.Follows self.old self.new) }
     {
         self.is_on = true;
         self.has_begun = true;
@@ -53,6 +56,7 @@ impl Session {
     fn refuse(&mut self, kept: Kept, answer: Answer<'_>) -> Result<(), AllocError>
         ensures quiet { spec.IsQuiet self.old self.new }
         ensures due { OnOk result (spec.IsDue self.new) }
+        ensures followed { OnOk result (spec.Follows self.old self.new) }
     {
         let why = why_unwritten(cause_of(answer));
         let name = self.run.name(kept);
@@ -67,6 +71,7 @@ impl Session {
         ensures ran { spec.Keeps self.old self.new }
         ensures book { self.new.book ≡ self.old.book }
         ensures due { OnOk result (spec.IsDue self.new) }
+        ensures followed { OnOk result (spec.Follows self.old self.new) }
     {
         match (self.stage, answer) {
             (_, Answer::Short) => Err(AllocError),

@@ -11,12 +11,13 @@ use refusal_guide::unknown_host;
 use session_parts::{cause_of, why_unconnected};
 use std::alloc::AllocError;
 
-/// The exit status of a run that its stop file has kept from beginning: that of a run that is Halted.
-const NOT_BEGUN: u8 = 3;
+/// The exit status of a run that is not Done though nothing has failed, as one that its stop file has kept from beginning.
+pub(crate) const NOT_DONE: u8 = 3;
 
 impl Session {
     pub(crate) fn after_log(&self) -> Stage
-        ensures { spec.wants result ≡ None }
+        ensures plain { spec.wants result ≡ None }
+        ensures paced { spec.pace result ≡ spec.Filed }
     {
         if self.run.wait.is_some() {
             Stage::Beginning
@@ -27,7 +28,8 @@ impl Session {
 
     /// What comes before the server is called.
     fn before_call(&self) -> Stage
-        ensures { spec.wants result ≡ None }
+        ensures plain { spec.wants result ≡ None }
+        ensures paced { spec.pace result ≡ spec.Filed }
     {
         if self.run.stop.is_some() {
             Stage::Peeking
@@ -53,12 +55,13 @@ impl Session {
     fn not_begun(&mut self) -> Result<(), AllocError>
         ensures quiet { spec.IsQuiet self.old self.new }
         ensures due { OnOk result (spec.IsDue self.new) }
+        ensures followed { OnOk result (spec.Follows self.old self.new) }
     {
         let name = self.run.stop_name();
         let line = format!(in self.alloc; "dme: {name} exists: nothing was begun\n")?;
         self.unwritten.push_str(line.as_str())?;
         self.early = Some(RunEnding::NotBegun);
-        self.status = NOT_BEGUN;
+        self.status = NOT_DONE;
         self.stage = Stage::Leaving;
         Ok(())
     }
@@ -67,6 +70,7 @@ impl Session {
     fn uncalled(&mut self) -> Result<(), AllocError>
         ensures quiet { spec.IsQuiet self.old self.new }
         ensures due { OnOk result (spec.IsDue self.new) }
+        ensures followed { OnOk result (spec.Follows self.old self.new) }
     {
         let host = self.run.host.as_str();
         let line = match self.missed {
@@ -84,6 +88,7 @@ impl Session {
     fn miss(&mut self, cause: Cause) -> Result<(), AllocError>
         ensures quiet { spec.IsQuiet self.old self.new }
         ensures due { OnOk result (spec.IsDue self.new) }
+        ensures followed { OnOk result (spec.Follows self.old self.new) }
     {
         self.missed = cause;
         if self.run.wait.is_some() {
@@ -98,6 +103,7 @@ impl Session {
     fn try_again(&mut self, now: u64) -> Result<(), AllocError>
         ensures quiet { spec.IsQuiet self.old self.new }
         ensures due { OnOk result (spec.IsDue self.new) }
+        ensures followed { OnOk result (spec.Follows self.old self.new) }
     {
         let most = u64::from(self.run.wait.unwrap_or(0)) * 1000;
         self.left = most.saturating_sub(now.saturating_sub(self.began));
@@ -114,6 +120,7 @@ impl Session {
         ensures ran { spec.Keeps self.old self.new }
         ensures book { self.new.book ≡ self.old.book }
         ensures due { OnOk result (spec.IsDue self.new) }
+        ensures followed { OnOk result (spec.Follows self.old self.new) }
     {
         let is_limited = self.run.timeout.is_some() || self.run.stop.is_some();
         if is_limited || !self.pauses.is_empty() {
@@ -129,6 +136,7 @@ impl Session {
         ensures ran { spec.Keeps self.old self.new }
         ensures book { self.new.book ≡ self.old.book }
         ensures due { OnOk result (spec.IsDue self.new) }
+        ensures followed { OnOk result (spec.Follows self.old self.new) }
     {
         match (self.stage, answer) {
             (Stage::Logged, Answer::Done) => self.stage = self.after_log(),

@@ -18,6 +18,7 @@ impl Session {
     pub(crate) fn end(&mut self) -> Result<(), AllocError>
         ensures quiet { spec.IsQuiet self.old self.new }
         ensures due { OnOk result (spec.IsDue self.new) }
+        ensures followed { OnOk result (spec.Follows self.old self.new) }
     {
         self.is_on = false;
         self.judge()?;
@@ -32,6 +33,7 @@ impl Session {
     fn print(&mut self) -> Result<(), AllocError>
         ensures quiet { spec.IsQuiet self.old self.new }
         ensures due { OnOk result (spec.IsDue self.new) }
+        ensures followed { OnOk result (spec.Follows self.old self.new) }
     {
         self.text = end_report(self.alloc, &self.client)?;
         self.stage = Stage::Printing;
@@ -57,6 +59,7 @@ impl Session {
     fn fail_to_print(&mut self) -> Result<(), AllocError>
         ensures quiet { spec.IsQuiet self.old self.new }
         ensures due { OnOk result (spec.IsDue self.new) }
+        ensures followed { OnOk result (spec.Follows self.old self.new) }
     {
         self.unwritten.clear();
         self.verdict = String::from_str(self.alloc, UNPRINTED)?;
@@ -67,7 +70,8 @@ impl Session {
 
     /// What comes after the report: the server is left in order if it may still end the last command.
     fn after_report(&self) -> Stage
-        ensures { spec.wants result ≡ None }
+        ensures plain { spec.wants result ≡ None }
+        ensures paced { spec.pace result ≡ spec.Filed }
     {
         if self.broken.is_none() && self.client.state() == State::Halted {
             Stage::Closing
@@ -79,6 +83,7 @@ impl Session {
     pub(crate) fn end_on(&mut self, answer: Answer<'_>) -> Result<(), AllocError>
         ensures quiet { spec.IsQuiet self.old self.new }
         ensures due { OnOk result (spec.IsDue self.new) }
+        ensures followed { OnOk result (spec.Follows self.old self.new) }
     {
         match (self.stage, answer) {
             (Stage::ReplacingFeatures, Answer::Done) => self.print(),
@@ -98,6 +103,7 @@ impl Session {
     pub(crate) fn close(&mut self) -> Result<(), AllocError>
         ensures quiet { spec.IsQuiet self.old self.new }
         ensures due { OnOk result (spec.IsDue self.new) }
+        ensures followed { OnOk result (spec.Follows self.old self.new) }
     {
         if self.is_short {
             self.tell();
@@ -118,6 +124,7 @@ impl Session {
     fn close_contacts(&mut self) -> Result<(), AllocError>
         ensures quiet { spec.IsQuiet self.old self.new }
         ensures due { OnOk result (spec.IsDue self.new) }
+        ensures followed { OnOk result (spec.Follows self.old self.new) }
     {
         if self.has_begun && self.run.contacts.is_some() {
             self.stage = Stage::ReplacingContacts;
@@ -130,6 +137,7 @@ impl Session {
     pub(crate) fn close_on(&mut self, answer: Answer<'_>) -> Result<(), AllocError>
         ensures quiet { spec.IsQuiet self.old self.new }
         ensures due { OnOk result (spec.IsDue self.new) }
+        ensures followed { OnOk result (spec.Follows self.old self.new) }
     {
         match (self.stage, answer) {
             (Stage::Standing | Stage::ReplacingRecord, Answer::Done) => self.close_contacts(),

@@ -1,10 +1,11 @@
 // Examples: what is asked and what comes of it. Each function has laws for its contract and does nothing.
 
-ghost use Rattle.std.specs.Prelude.{◌≡◌, ℕ, [], ◌∷◌, true, false, Some};
-ghost use Rattle.effects.specs.Effects.{Append, Keep, Done, Short};
+ghost use Rattle.std.specs.Prelude.{◌≡◌, ℕ, [], ◌∷◌, true, false, length, Some};
+ghost use Rattle.effects.specs.Effects.{Append, Keep, Exit, Done, Short};
+ghost use Rattle.protocol_model.specs.declared.states.State.TheVariants.{Running};
 ghost use Rattle.effects.specs.declared.vocabulary.Growth.TheVariants.{Record, Features};
-ghost use Rattle.run_session.specs.Records.{State, Outside, IsQuietAsk, AsksAt, IsDueBy, Unforced, appended, kept, filed_by, lacking};
-ghost use Rattle.run_session.specs.declared.stages.Stage.TheVariants.{Recording, Settling, Sending};
+ghost use Rattle.run_session.specs.Records.{State, Outside, IsQuietAsk, AsksAt, IsDueBy, Unforced, HasTold, HasFollowed, appended, kept, filed_by, lacking};
+ghost use Rattle.run_session.specs.declared.stages.Stage.TheVariants.{Recording, Settling, Sending, Receiving, Telling, Exiting};
 
 /// What was added is in the file, and on the device only if it was forced there; of what was not written the file has the first bytes, and
 /// what was safe stays so.
@@ -18,7 +19,7 @@ pub fn file_rows()
 {}
 
 /// What completes a feature is not added without being forced; the record's file is written by two stages only; the features file is another
-/// one; and nothing is added to a file that could not be kept.
+/// one; nothing is added to a file that could not be kept; and an exit with status 0 is that of a client that is Done.
 pub fn ask_rows()
     ensures unforced { (s : State) → s.pair.recording.telling.counted.features ≡ 2
         → s.book.settled ≡ 1 → IsDueBy (Some Unforced) s → ⊥ }
@@ -26,4 +27,20 @@ pub fn ask_rows()
     ensures other_stage { (s : State) → AsksAt Sending s (Keep Record (lacking s)) → ⊥ }
     ensures other_file { IsQuietAsk (Keep Features (7 ∷ [])) }
     ensures lost { (s : State) → s.book.lost ≡ true → lacking s ≡ [] }
+    ensures exit { (s : State) → s.pair.end.client.state ≡ Running → AsksAt Exiting s (Exit 0) → ⊥ }
+    ensures failure { (s : State) → AsksAt Exiting s (Exit 3) }
+{}
+
+/// Nothing is sent before an act that was counted has its line, nor received before the file has it; while it is added the file may lack it;
+/// without a record no act needs a line; and nothing is known of the last message, which is that of memory that has run out.
+pub fn follow_rows()
+    ensures untold { (s : State) → s.stage ≡ Sending → s.book.short ≡ false → s.book.keeps ≡ true
+        → length s.pair.end.client.table.tally.counted ≡ 1 → s.pair.recording.told ≡ 0
+        → HasFollowed s → ⊥ }
+    ensures unfiled { (s : State) → s.stage ≡ Receiving → s.book.short ≡ false
+        → lacking s ≡ 7 ∷ [] → HasFollowed s → ⊥ }
+    ensures adding { (s : State) → s.stage ≡ Recording → HasTold s → HasFollowed s }
+    ensures without { (s : State) → s.stage ≡ Sending → s.book.keeps ≡ false → lacking s ≡ []
+        → HasFollowed s }
+    ensures last { (s : State) → s.stage ≡ Telling → HasFollowed s }
 {}

@@ -43,6 +43,7 @@ impl Session {
     fn tell_acts(&mut self) -> Result<(), AllocError>
         ensures ran { spec.Keeps self.old self.new }
         ensures book { self.new.book ≡ self.old.book }
+        ensures told { OnOk result (spec.HasTold self.new) }
     {
         self.growth.tell(&self.client)
     }
@@ -51,6 +52,7 @@ impl Session {
     fn tell_errors(&mut self) -> Result<(), AllocError>
         ensures ran { spec.Keeps self.old self.new }
         ensures book { self.new.book ≡ self.old.book }
+        ensures told { spec.StaysTold self.old self.new }
     {
         let errors = with_lines(self.errors.take());
         self.growth.tell_errors(errors.as_slice())
@@ -61,6 +63,7 @@ impl Session {
         ensures ran { spec.Keeps self.old self.new }
         ensures book { self.new.book ≡ self.old.book }
         ensures due { OnOk result (spec.IsDue self.new) }
+        ensures followed { OnOk result (spec.HasFollowed self.new) }
     {
         if self.run.record.is_some() {
             self.tell_acts()?;
@@ -80,6 +83,7 @@ impl Session {
         ensures ran { spec.Keeps self.old self.new }
         ensures book { self.new.book ≡ self.old.book }
         ensures due { OnOk result (spec.IsDue self.new) }
+        ensures followed { OnOk result (spec.FollowsTold self.old self.new) }
     {
         if self.shown.is_empty() {
             return self.log();
@@ -92,6 +96,7 @@ impl Session {
         ensures ran { spec.Keeps self.old self.new }
         ensures book { self.new.book ≡ self.old.book }
         ensures due { OnOk result (spec.IsDue self.new) }
+        ensures followed { OnOk result (spec.FollowsTold self.old self.new) }
     {
         if self.logged.is_empty() {
             return self.record();
@@ -105,6 +110,7 @@ impl Session {
         ensures ran { spec.Keeps self.old self.new }
         ensures book { self.new.book ≡ self.old.book }
         ensures due { OnOk result (spec.IsDue self.new) }
+        ensures followed { OnOk result (spec.FollowsTold self.old self.new) }
     {
         match (self.stage, answer) {
             (Stage::Tracing, _) => {
@@ -129,10 +135,12 @@ impl Session {
     }
 
     /// The record gets what it lacks; forced, if that completes a feature.
+    #[tactic(auto, using(crate::proofs::Paces::enough_filed))]
     fn record(&mut self) -> Result<(), AllocError>
         ensures ran { spec.Keeps self.old self.new }
         ensures book { self.new.book ≡ self.old.book }
         ensures due { OnOk result (spec.IsDue self.new) }
+        ensures followed { OnOk result (spec.FollowsTold self.old self.new) }
     {
         if self.is_lost {
             return self.report();
@@ -160,10 +168,14 @@ impl Session {
     }
 
     /// The record's file has all of its text.
+    #[tactic(auto, using(crate::proofs::Paces::enough_filed))]
     fn file(&mut self)
         ensures pair { self.new.pair ≡ self.old.pair }
         ensures book { self.new.book ≡ spec.filed self.old }
         ensures pauses { self.new.book.pauses ≡ self.old.book.pauses }
+        ensures short { self.new.book.short ≡ self.old.book.short }
+        ensures told { spec.StaysTold self.old self.new }
+        ensures whole { spec.HasFiled self.new }
     {
         self.filed = self.growth.text().len();
         if let Stage::Settling = self.stage {
@@ -175,6 +187,8 @@ impl Session {
     fn lose_record(&mut self)
         ensures pair { self.new.pair ≡ self.old.pair }
         ensures book { self.new.book ≡ record (self.old.book) { lost = true } }
+        ensures told { spec.StaysTold self.old self.new }
+        ensures whole { spec.HasFiled self.new }
     {
         self.is_lost = true;
     }
@@ -184,7 +198,9 @@ impl Session {
         requires { is_some (spec.writes self.old.stage) ≡ true }
         ensures goes { spec.GoesOn self.old (the_reply answer.entry) self.new }
         ensures pauses { self.new.book.pauses ≡ self.old.book.pauses }
+        ensures short { self.new.book.short ≡ self.old.book.short }
         ensures due { OnOk result (spec.IsDue self.new) }
+        ensures followed { OnOk result (spec.FollowsTold self.old self.new) }
     {
         match answer {
             Answer::Done if !self.is_lost => {
@@ -203,6 +219,7 @@ impl Session {
         ensures ran { spec.Keeps self.old self.new }
         ensures book { self.new.book ≡ self.old.book }
         ensures due { OnOk result (spec.IsDue self.new) }
+        ensures followed { OnOk result (spec.Follows self.old self.new) }
     {
         let is_kept = self.run.grows(Kept::Contacts) && !self.reported.has_failed;
         if !is_kept || self.reported.lacking().is_empty() {
@@ -217,6 +234,7 @@ impl Session {
         ensures ran { spec.Keeps self.old self.new }
         ensures book { self.new.book ≡ self.old.book }
         ensures due { OnOk result (spec.IsDue self.new) }
+        ensures followed { OnOk result (spec.Follows self.old self.new) }
     {
         if let Answer::Done = answer {
             self.reported.settle();
@@ -233,6 +251,7 @@ impl Session {
         ensures ran { spec.Keeps self.old self.new }
         ensures book { self.new.book ≡ self.old.book }
         ensures due { OnOk result (spec.IsDue self.new) }
+        ensures followed { OnOk result (spec.Follows self.old self.new) }
     {
         if self.listed.has_failed || self.listed.text.is_empty() {
             return self.show_features();
@@ -246,6 +265,7 @@ impl Session {
         ensures ran { spec.Keeps self.old self.new }
         ensures book { self.new.book ≡ self.old.book }
         ensures due { OnOk result (spec.IsDue self.new) }
+        ensures followed { OnOk result (spec.Follows self.old self.new) }
     {
         self.listed.settle();
         if let Answer::Done = answer {
@@ -294,6 +314,7 @@ impl Session {
         ensures ran { spec.Keeps self.old self.new }
         ensures book { self.new.book ≡ self.old.book }
         ensures due { OnOk result (spec.IsDue self.new) }
+        ensures followed { OnOk result (spec.Follows self.old self.new) }
     {
         let count = self.complete();
         if self.run.progress {
@@ -314,6 +335,7 @@ impl Session {
         ensures ran { spec.Keeps self.old self.new }
         ensures book { self.new.book ≡ self.old.book }
         ensures due { OnOk result (spec.IsDue self.new) }
+        ensures followed { OnOk result (spec.Follows self.old self.new) }
     {
         self.shown.clear();
         self.go_on()

@@ -1,6 +1,6 @@
 // What follows from the definitions. Each function has laws for its contract and does nothing.
 
-ghost use Rattle.std.specs.Prelude.{◌≡◌, ◌++◌, ℕ, List, Option, length, false};
+ghost use Rattle.std.specs.Prelude.{◌≡◌, ◌++◌, ℕ, List, Option, length, true, false};
 ghost use Rattle.dmis_program.specs.Meaning.{Meaning};
 ghost use Rattle.dmis_program.specs.Programs.{IsProgram};
 ghost use Rattle.record_text.specs.Heads.{IsPartGiven, AreAsked};
@@ -8,15 +8,17 @@ ghost use Rattle.record_laws.specs.Told.{numbered};
 ghost use Rattle.record_text.specs.declared.opening.Beginning.{Beginning};
 ghost use Rattle.record_laws.specs.Recordings.{Pair, AreWritten};
 ghost use Rattle.record_laws.specs.Runs.{IsRecordOf, IsKilledRun};
-ghost use Rattle.run_session.specs.Records.{State, Outside, IsKept};
+ghost use Rattle.run_session.specs.Records.{State, Outside, IsKept, HasFollowed, HasTold, pace, Filed};
 ghost use Rattle.run_session.specs.Killed.{IsBegun, IsLeft};
 
 /// A run that begins as `begin_record` gives it (`IsBegun`):
 ///
 /// - `begins`: a new session of it, whose record is on the device, `IsKept`; and so it stays, whatever is answered (`Session::take`);
-/// - `whole`: once the record has all that the client has counted, and the file has all of its text, the file holds a record of the part and
-/// the program, in which the completed features are exactly those that the client holds, and the acts exactly those that were found and then
-/// those that it has counted on its connection;
+/// - `told`: its record has all that its client has counted on its connection, which is nothing; so a new session of it `HasFollowed`, and so it
+/// stays, whatever is answered;
+/// - `whole`: then the file, before whatever is sent, received, shown as complete or printed, unless it could not be kept, holds a record of the
+/// part and the program, in which the completed features are exactly those that the client holds, and the acts exactly those that were found
+/// and then those that it has counted on its connection;
 /// - `killed`: while it is so, its record's file is what a killed run leaves, also if the program is killed and any of what is not on the device
 /// is lost: so `killed_runs_lose_nothing` speaks of it.
 ///
@@ -27,6 +29,8 @@ pub fn runs_keep_their_records()
       filed = length s.pair.recording.text;
       settled = s.pair.recording.telling.counted.features;
       pauses = s.book.pauses;
+      keeps = s.book.keeps;
+      short = s.book.short;
     }
         → IsKept s.pair s (record {
           file = s.pair.recording.text;
@@ -37,10 +41,13 @@ pub fn runs_keep_their_records()
         → IsProgram program → IsPartGiven part → AreAsked program.features
         → IsBegun program part bytes b window first → IsKept first s o
         → AreWritten (numbered b.connection s.pair.end.client.table.tally.counted)
-        → s.pair.recording.told ≡ length s.pair.end.client.table.tally.counted
-        → o.file ≡ s.pair.recording.text
+        → HasFollowed s → s.book.short ≡ false → pace s.stage ≡ Filed
+        → s.book.keeps ≡ true → s.book.lost ≡ false
         → IsRecordOf part program.features s.pair.end.client.table.tally.features
         (b.told ++ numbered b.connection s.pair.end.client.table.tally.counted) o.file }
+    ensures told { (program : Meaning) (part : Option (List ℕ)) (bytes : List ℕ)
+        (b : Beginning) (window : ℕ) (s : State)
+        → IsBegun program part bytes b window s.pair → HasTold s }
     ensures killed { (program : Meaning) (part : Option (List ℕ)) (bytes : List ℕ)
         (b : Beginning) (window : ℕ) (first : Pair) (s : State) (o : Outside) (left : List ℕ)
         → IsBegun program part bytes b window first → IsKept first s o

@@ -34,6 +34,7 @@ impl Session {
     pub(crate) fn ask(&mut self) -> Result<(), AllocError>
         ensures quiet { spec.IsQuiet self.old self.new }
         ensures due { OnOk result (spec.IsDue self.new) }
+        ensures followed { OnOk result (spec.Follows self.old self.new) }
     {
         self.is_asked = true;
         self.shown.push_str(ASKED)?;
@@ -72,6 +73,9 @@ impl Session {
     fn end_pause(&mut self)
         ensures ran { spec.Keeps self.old self.new }
         ensures book { spec.of_file self.new.book ≡ spec.of_file self.old.book }
+        ensures short { self.new.book.short ≡ self.old.book.short }
+        ensures told { spec.StaysTold self.old self.new }
+        ensures lacks { spec.lacking self.new ≡ spec.lacking self.old }
     {
         if !self.pauses.is_empty() && self.client.uncounted() <= self.held() {
             self.pauses.remove(0);
@@ -82,7 +86,9 @@ impl Session {
     fn confirm(&mut self)
         ensures ran { spec.Keeps self.old self.new }
         ensures book { spec.of_file self.new.book ≡ spec.of_file self.old.book }
+        ensures short { self.new.book.short ≡ self.old.book.short }
         ensures due { spec.IsDue self.new }
+        ensures followed { spec.Follows self.old self.new }
     {
         self.is_asked = false;
         self.wait = Wait::new(self.wait.limit);
@@ -95,6 +101,7 @@ impl Session {
         ensures ran { spec.Keeps self.old self.new }
         ensures book { self.new.book ≡ self.old.book }
         ensures due { OnOk result (spec.IsDue self.new) }
+        ensures followed { OnOk result (spec.Follows self.old self.new) }
     {
         self.is_declined = true;
         self.stop()
@@ -104,9 +111,11 @@ impl Session {
     pub(crate) fn typed(&mut self, answer: Answer<'_>) -> Result<(), AllocError>
         ensures ran { spec.Keeps self.old self.new }
         ensures book { spec.of_file self.new.book ≡ spec.of_file self.old.book }
+        ensures short { self.new.book.short ≡ self.old.book.short }
         ensures pauses { spec.confirms_pause self.old.stage (the_reply answer.entry) ≡ false
             → self.new.book.pauses ≡ self.old.book.pauses }
         ensures due { OnOk result (spec.IsDue self.new) }
+        ensures followed { OnOk result (spec.Follows self.old self.new) }
     {
         match (self.stage, answer) {
             (Stage::Awaiting | Stage::Returning, Answer::Bytes([b'\n'])) => self.confirm(),

@@ -1,13 +1,15 @@
 // A session: what it asks, and what it does with an answer.
 
-ghost use Rattle.std.specs.Prelude.{◌≡◌, true, false, length, map, None, OnOk, IfOk};
+ghost use Rattle.std.specs.Prelude.{◌≡◌, true, false, length, map, is_some, None, OnOk, IfOk};
 ghost use Rattle.effects.specs.Effects.{the_ask, the_reply};
 ghost use Rattle.protocol_model.specs.Ends.{end_connected};
 ghost use Rattle.program_review.specs.Texts.{pauses_of, place_seen};
 ghost use Rattle.record_text.specs.Growths.{begun};
 ghost use Rattle.client_core.specs.Clients.{may_connect};
+ghost use Rattle.protocol_model.specs.declared.states.State.TheVariants.{Done};
 ghost use Rattle.run_session.specs.Records as spec;
 
+use crate::calling::NOT_DONE;
 use crate::errors::Errors;
 use crate::listed::Listed;
 use crate::reported::Reported;
@@ -49,7 +51,13 @@ impl Model for Begun {
 
     ghost Value = { Start };
 
-    ghost view = { λ b. record { growth = b.growth; pauses = b.pauses.items } };
+    ghost use Rattle.std.specs.Prelude.{is_some};
+
+    ghost view = { λ b. record {
+      growth = b.growth;
+      pauses = b.pauses.items;
+      keeps = is_some b.run.record;
+    } };
 }
 
 impl Begun {
@@ -71,6 +79,7 @@ impl Begun {
             ≡ begun number 0 (length client.old.client.table.tally.features) text.items) }
         ensures pauses { IfOk result (λ b. b.pauses
             ≡ pauses_of (map place_seen places.items)) }
+        ensures keeps { IfOk result (λ b. b.keeps ≡ is_some run.record) }
     {
         let pauses = pauses(alloc, places.as_slice())?;
         let reported = Reported::new(alloc, told)?;
@@ -163,6 +172,7 @@ pub struct Session {
 
 impl Model for Session {
     ghost use Rattle.run_session.specs.Records.{State as OneState};
+    ghost use Rattle.std.specs.Prelude.{is_some};
 
     ghost Value = { OneState };
 
@@ -174,6 +184,8 @@ impl Model for Session {
         filed = s.filed;
         settled = s.settled;
         pauses = s.pauses.items;
+        keeps = is_some s.run.record;
+        short = s.is_short;
       };
       text = s.text.items;
       list = s.listed.text.items;
@@ -182,6 +194,7 @@ impl Model for Session {
 
 impl Session {
     /// A session of this client, with what it begins with.
+    #[tactic(auto, using(crate::proofs::Paces::enough_filed))]
     pub fn new(client: Client, begun: Begun) -> Session
         ensures pair { result.pair ≡ record { end = client; recording = begun.growth } }
         ensures book { result.book ≡ record {
@@ -189,8 +202,11 @@ impl Session {
           filed = length begun.growth.text;
           settled = begun.growth.telling.counted.features;
           pauses = begun.pauses;
+          keeps = begun.keeps;
+          short = false;
         } }
         ensures due { spec.IsDue result }
+        ensures followed { spec.HasTold result → spec.HasFollowed result }
     {
         let Begun {
             alloc,
@@ -331,6 +347,17 @@ impl Session {
         }
     }
 
+    /// The exit status: 0 only once all that was asked for is measured.
+    fn exit_status(&self) -> u8
+        ensures { result ≡ 0 → self.now.pair.end.client.state ≡ Done }
+    {
+        if self.status == 0 && self.client.state() != State::Done {
+            NOT_DONE
+        } else {
+            self.status
+        }
+    }
+
     fn asks_at_end(&self) -> Effect<'_>
         requires { spec.is_at_end self.now.stage ≡ true }
         ensures { spec.Asks self.now (the_ask result) }
@@ -360,7 +387,7 @@ impl Session {
             ),
             Stage::Ending => Effect::Say(self.said.as_str()),
             Stage::Telling => Effect::Say(self.message),
-            _ => Effect::Exit(self.status),
+            _ => Effect::Exit(self.exit_status()),
         }
     }
 
@@ -395,6 +422,7 @@ impl Session {
         ensures pauses { spec.confirms_pause self.old.stage (the_reply answer.entry) ≡ false
             → self.new.book.pauses ≡ self.old.book.pauses }
         ensures due { spec.IsDue self.new }
+        ensures followed { spec.HasFollowed self.old → spec.HasFollowed self.new }
     {
         if self.step(answer).is_err() {
             self.run_short();
@@ -406,6 +434,7 @@ impl Session {
         ensures pauses { spec.confirms_pause self.old.stage (the_reply answer.entry) ≡ false
             → self.new.book.pauses ≡ self.old.book.pauses }
         ensures due { OnOk result (spec.IsDue self.new) }
+        ensures followed { OnOk result (spec.HasFollowed self.old → spec.HasFollowed self.new) }
     {
         match self.stage {
             Stage::Logged | Stage::Beginning | Stage::Peeking | Stage::Connecting => {
@@ -442,6 +471,7 @@ impl Session {
     pub(crate) fn tell(&mut self)
         ensures quiet { spec.IsQuiet self.old self.new }
         ensures due { spec.IsDue self.new }
+        ensures followed { spec.HasFollowed self.new }
     {
         self.message = OUT_OF_MEMORY;
         self.status = 4;
@@ -453,6 +483,7 @@ impl Session {
         ensures ran { spec.Keeps self.old self.new }
         ensures book { self.new.book ≡ self.old.book }
         ensures due { spec.IsDue self.new }
+        ensures followed { spec.HasFollowed self.new }
     {
         self.break_off(PumpFault::Memory);
         if self.follow().is_err() {
@@ -462,8 +493,11 @@ impl Session {
 
     /// Memory has run out before the connection: files that did not begin are left as they were.
     fn give_up(&mut self)
-        ensures quiet { spec.IsQuiet self.old self.new }
+        ensures ran { spec.Keeps self.old self.new }
+        ensures book { spec.of_file self.new.book ≡ spec.of_file self.old.book }
+        ensures pauses { self.new.book.pauses ≡ self.old.book.pauses }
         ensures due { spec.IsDue self.new }
+        ensures followed { spec.HasFollowed self.new }
     {
         self.is_short = true;
         self.stage = Stage::Leaving;
@@ -472,8 +506,10 @@ impl Session {
     /// Memory has run out. At the end that is said at once.
     fn run_short(&mut self)
         ensures ran { spec.Keeps self.old self.new }
-        ensures book { self.new.book ≡ self.old.book }
+        ensures book { spec.of_file self.new.book ≡ spec.of_file self.old.book }
+        ensures pauses { self.new.book.pauses ≡ self.old.book.pauses }
         ensures due { spec.IsDue self.new }
+        ensures followed { spec.HasFollowed self.new }
     {
         if self.is_on {
             self.is_on = false;

@@ -33,6 +33,8 @@ impl Session {
     fn leave(&mut self)
         ensures ran { spec.Keeps self.old self.new }
         ensures book { self.new.book ≡ self.old.book }
+        ensures told { spec.StaysTold self.old self.new }
+        ensures lacks { spec.lacking self.new ≡ spec.lacking self.old }
     {
         self.client.leave();
     }
@@ -43,6 +45,8 @@ impl Session {
             < length self.old.pair.end.client.table.tally.unsent }
         ensures ran { spec.Keeps self.old self.new }
         ensures book { self.new.book ≡ self.old.book }
+        ensures told { spec.StaysTold self.old self.new }
+        ensures lacks { spec.lacking self.new ≡ spec.lacking self.old }
     {
         self.client.send()
     }
@@ -50,6 +54,8 @@ impl Session {
     fn abort(&mut self) -> Result<(), ClientFault>
         ensures ran { spec.Keeps self.old self.new }
         ensures book { self.new.book ≡ self.old.book }
+        ensures told { spec.StaysTold self.old self.new }
+        ensures lacks { spec.lacking self.new ≡ spec.lacking self.old }
     {
         self.client.abort()
     }
@@ -72,6 +78,8 @@ impl Session {
     fn clear(&mut self)
         ensures ran { spec.Keeps self.old self.new }
         ensures book { self.new.book ≡ self.old.book }
+        ensures told { spec.StaysTold self.old self.new }
+        ensures lacks { spec.lacking self.new ≡ spec.lacking self.old }
     {
         let count = self.client.out().len();
         self.client.sent(count);
@@ -81,6 +89,8 @@ impl Session {
     pub(crate) fn break_off(&mut self, why: PumpFault<ClientFault>)
         ensures ran { spec.Keeps self.old self.new }
         ensures book { self.new.book ≡ self.old.book }
+        ensures told { spec.StaysTold self.old self.new }
+        ensures lacks { spec.lacking self.new ≡ spec.lacking self.old }
     {
         self.leave();
         self.broken = Some(why);
@@ -89,6 +99,8 @@ impl Session {
     fn refuse_core(&mut self, fault: ClientFault) -> Result<(), AllocError>
         ensures ran { spec.Keeps self.old self.new }
         ensures book { self.new.book ≡ self.old.book }
+        ensures told { spec.StaysTold self.old self.new }
+        ensures lacks { spec.lacking self.new ≡ spec.lacking self.old }
     {
         if let ClientFault::Memory = fault {
             return Err(AllocError);
@@ -101,6 +113,8 @@ impl Session {
     fn send_due(&mut self) -> Result<(), AllocError>
         ensures ran { spec.Keeps self.old self.new }
         ensures book { self.new.book ≡ self.old.book }
+        ensures told { spec.StaysTold self.old self.new }
+        ensures lacks { spec.lacking self.new ≡ spec.lacking self.old }
     {
         for _command in 0..u64::MAX {
             if self.client.due().is_none() || self.client.unsent() <= self.held() {
@@ -118,6 +132,7 @@ impl Session {
         ensures ran { spec.Keeps self.old self.new }
         ensures book { self.new.book ≡ self.old.book }
         ensures due { OnOk result (spec.IsDue self.new) }
+        ensures followed { OnOk result (spec.Follows self.old self.new) }
     {
         if !self.is_over() {
             self.send_due()?;
@@ -137,7 +152,8 @@ impl Session {
 
     /// What comes before bytes are received.
     pub(crate) fn await_bytes(&self) -> Stage
-        ensures { spec.wants result ≡ None }
+        ensures plain { spec.wants result ≡ None }
+        ensures paced { spec.pace result ≡ spec.Filed }
     {
         if self.run.stop.is_some() && !self.is_stopped {
             Stage::Checking
@@ -148,7 +164,8 @@ impl Session {
 
     /// Likewise, once the stop file was looked for.
     fn await_unstopped(&self) -> Stage
-        ensures { spec.wants result ≡ None }
+        ensures plain { spec.wants result ≡ None }
+        ensures paced { spec.pace result ≡ spec.Filed }
     {
         if self.is_asked {
             Stage::Awaiting
@@ -164,6 +181,7 @@ impl Session {
         ensures ran { spec.Keeps self.old self.new }
         ensures book { self.new.book ≡ self.old.book }
         ensures due { OnOk result (spec.IsDue self.new) }
+        ensures followed { OnOk result (spec.Follows self.old self.new) }
     {
         self.is_stopped = true;
         self.is_asked = false;
@@ -186,6 +204,7 @@ impl Session {
         ensures ran { spec.Keeps self.old self.new }
         ensures book { self.new.book ≡ self.old.book }
         ensures due { OnOk result (spec.IsDue self.new) }
+        ensures followed { OnOk result (spec.HasFollowed self.new) }
     {
         self.lapse = Some(lapse);
         self.fail(why)
@@ -196,6 +215,7 @@ impl Session {
         ensures ran { spec.Keeps self.old self.new }
         ensures book { self.new.book ≡ self.old.book }
         ensures due { OnOk result (spec.IsDue self.new) }
+        ensures followed { OnOk result (spec.HasFollowed self.new) }
     {
         self.break_off(why);
         self.follow()
@@ -205,6 +225,7 @@ impl Session {
         ensures ran { spec.Keeps self.old self.new }
         ensures book { self.new.book ≡ self.old.book }
         ensures due { OnOk result (spec.IsDue self.new) }
+        ensures followed { OnOk result (spec.Follows self.old self.new) }
     {
         match (self.stage, answer) {
             (Stage::Checking, Answer::Found) => return self.stop(),
@@ -271,6 +292,7 @@ impl Session {
         ensures ran { spec.Keeps self.old self.new }
         ensures book { self.new.book ≡ self.old.book }
         ensures due { OnOk result (spec.IsDue self.new) }
+        ensures followed { OnOk result (spec.HasFollowed self.new) }
     {
         self.wait.came(piece);
         for line in piece.split_inclusive(|byte| *byte == b'\n') {
@@ -286,6 +308,7 @@ impl Session {
         ensures ran { spec.Keeps self.old self.new }
         ensures book { self.new.book ≡ self.old.book }
         ensures due { OnOk result (spec.IsDue self.new) }
+        ensures followed { OnOk result (spec.FollowsTold self.old self.new) }
     {
         match answer {
             Answer::Done => self.has_sent(),
@@ -300,6 +323,7 @@ impl Session {
         ensures ran { spec.Keeps self.old self.new }
         ensures book { self.new.book ≡ self.old.book }
         ensures due { OnOk result (spec.IsDue self.new) }
+        ensures followed { OnOk result (spec.FollowsTold self.old self.new) }
     {
         let sent = Vec::from_slice(self.alloc, self.client.out())?;
         self.errors.send(sent.as_slice())?;

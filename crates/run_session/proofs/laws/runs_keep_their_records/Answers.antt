@@ -1,5 +1,5 @@
 use Rattle.run_session.proofs.Filing.{new_kept}
-use Rattle.run_session.proofs.Moments.{killed, whole}
+use Rattle.run_session.proofs.Moments.{killed, told, whole}
 use Rattle.run_session.proofs.laws.runs_keep_their_records.Goals as goal
 
 pub returns-clause-begins : goal.returns-clause-begins
@@ -10,3 +10,6 @@ returns-clause-whole c = whole
 
 pub returns-clause-killed : goal.returns-clause-killed
 returns-clause-killed c = killed
+
+pub returns-clause-told : goal.returns-clause-told
+returns-clause-told c = told

@@ -1,5 +1,6 @@
-use Rattle.run_session.proofs.Names.{refl, Stage, the_reply}
+use Rattle.run_session.proofs.Names.{ap, Book, Filed, refl, Stage, State, the_reply, Told}
 use Rattle.run_session.proofs.Filing.{is_quiet, or_quiet, arm, arm_on}
+use Rattle.run_session.proofs.Paces.{also_filed, is_paced, on_filed, on_told, or_paced}
 use Rattle.run_session.proofs.sessions.Session.step.Goals as goal
 
 pub returns-in-Logged-clause-goes : goal.returns-in-Logged-clause-goes
@@ -45,3 +46,51 @@ returns-in-Listing-clause-goes c = arm _ c.args.self.now c.has_listed.new.self (
 pub returns-in-Showing-clause-goes : goal.returns-in-Showing-clause-goes
 returns-in-Showing-clause-goes c = arm _ c.args.self.now c.has_shown.new.self (the_reply c.args.answer) c.self.view_is
     (is_quiet c.self.inside.stage Stage.Showing refl c.in-Showing.is) c.has_shown.ensures.ran c.has_shown.ensures.book
+
+pub returns-in-Logged-clause-followed : goal.returns-in-Logged-clause-followed
+returns-in-Logged-clause-followed c = on_filed c.call.result _ c.args.self.now c.call.new.self c.self.view_is
+    (or_paced Filed c.self.inside.stage Stage.Logged refl (or_paced Filed c.self.inside.stage Stage.Beginning refl (or_paced Filed c.self.inside.stage Stage.Peeking refl (is_paced Filed c.self.inside.stage Stage.Connecting refl))) c.in-Logged.is) (ap (λ (b : Book). b.short) c.call.ensures.book) c.call.ensures.followed
+
+pub returns-in-Warning-clause-followed : goal.returns-in-Warning-clause-followed
+returns-in-Warning-clause-followed c = on_filed c.call-in-Warning.result _ c.args.self.now c.call-in-Warning.new.self c.self.view_is
+    (or_paced Filed c.self.inside.stage Stage.Warning refl (or_paced Filed c.self.inside.stage Stage.Elapsing refl (or_paced Filed c.self.inside.stage Stage.Pausing refl (is_paced Filed c.self.inside.stage Stage.Limiting refl))) c.in-Warning.is) (ap (λ (b : Book). b.short) c.call-in-Warning.ensures.book) c.call-in-Warning.ensures.followed
+
+pub returns-in-MakingFeatures-clause-followed : goal.returns-in-MakingFeatures-clause-followed
+returns-in-MakingFeatures-clause-followed c = on_filed c.begin.result _ c.args.self.now c.begin.new.self c.self.view_is
+    (or_paced Filed c.self.inside.stage Stage.MakingFeatures refl (is_paced Filed c.self.inside.stage Stage.BeginningFeatures refl) c.in-MakingFeatures.is) (ap (λ (b : Book). b.short) c.begin.ensures.book) c.begin.ensures.followed
+
+pub returns-in-MakingContacts-clause-followed : goal.returns-in-MakingContacts-clause-followed
+returns-in-MakingContacts-clause-followed c = on_filed c.begin-in-MakingContacts.result _ c.args.self.now c.begin-in-MakingContacts.new.self c.self.view_is
+    (or_paced Filed c.self.inside.stage Stage.MakingContacts refl (is_paced Filed c.self.inside.stage Stage.BeginningContacts refl) c.in-MakingContacts.is) (ap (λ (b : Book). b.short) c.begin-in-MakingContacts.ensures.book) c.begin-in-MakingContacts.ensures.followed
+
+pub returns-in-Checking-clause-followed : goal.returns-in-Checking-clause-followed
+returns-in-Checking-clause-followed c = on_filed c.receive.result _ c.args.self.now c.receive.new.self c.self.view_is
+    (or_paced Filed c.self.inside.stage Stage.Checking refl (or_paced Filed c.self.inside.stage Stage.Timing refl (is_paced Filed c.self.inside.stage Stage.Receiving refl)) c.in-Checking.is) (ap (λ (b : Book). b.short) c.receive.ensures.book) c.receive.ensures.followed
+
+pub returns-in-Sending-clause-followed : goal.returns-in-Sending-clause-followed
+returns-in-Sending-clause-followed c = on_filed c.sent.result _ c.args.self.now c.sent.new.self c.self.view_is
+    (is_paced Filed c.self.inside.stage Stage.Sending refl c.in-Sending.is) (ap (λ (b : Book). b.short) c.sent.ensures.book) (also_filed c.sent.result c.args.self.now c.sent.new.self c.sent.ensures.followed)
+
+pub returns-in-Awaiting-clause-followed : goal.returns-in-Awaiting-clause-followed
+returns-in-Awaiting-clause-followed c = on_filed c.typed.result _ c.args.self.now c.typed.new.self c.self.view_is
+    (or_paced Filed c.self.inside.stage Stage.Awaiting refl (is_paced Filed c.self.inside.stage Stage.Returning refl) c.in-Awaiting.is) c.typed.ensures.short c.typed.ensures.followed
+
+pub returns-in-Tracing-clause-followed : goal.returns-in-Tracing-clause-followed
+returns-in-Tracing-clause-followed c = on_told c.show_on.result _ c.args.self.now c.show_on.new.self c.self.view_is
+    (or_paced Told c.self.inside.stage Stage.Tracing refl (or_paced Told c.self.inside.stage Stage.Stamping refl (is_paced Told c.self.inside.stage Stage.Logging refl)) c.in-Tracing.is) (ap (λ (b : Book). b.short) c.show_on.ensures.book) c.show_on.ensures.followed
+
+pub returns-in-Reporting-clause-followed : goal.returns-in-Reporting-clause-followed
+returns-in-Reporting-clause-followed c = on_filed c.has_reported.result _ c.args.self.now c.has_reported.new.self c.self.view_is
+    (is_paced Filed c.self.inside.stage Stage.Reporting refl c.in-Reporting.is) (ap (λ (b : Book). b.short) c.has_reported.ensures.book) c.has_reported.ensures.followed
+
+pub returns-in-Listing-clause-followed : goal.returns-in-Listing-clause-followed
+returns-in-Listing-clause-followed c = on_filed c.has_listed.result _ c.args.self.now c.has_listed.new.self c.self.view_is
+    (is_paced Filed c.self.inside.stage Stage.Listing refl c.in-Listing.is) (ap (λ (b : Book). b.short) c.has_listed.ensures.book) c.has_listed.ensures.followed
+
+pub returns-in-Showing-clause-followed : goal.returns-in-Showing-clause-followed
+returns-in-Showing-clause-followed c = on_filed c.has_shown.result _ c.args.self.now c.has_shown.new.self c.self.view_is
+    (is_paced Filed c.self.inside.stage Stage.Showing refl c.in-Showing.is) (ap (λ (b : Book). b.short) c.has_shown.ensures.book) c.has_shown.ensures.followed
+
+pub returns-in-Parting-clause-followed : goal.returns-in-Parting-clause-followed
+returns-in-Parting-clause-followed c = on_filed c.leave_on.result _ c.args.self.now c.leave_on.new.self c.self.view_is
+    (or_paced Filed c.self.inside.stage Stage.Parting refl (or_paced Filed c.self.inside.stage Stage.Closing refl (or_paced Filed c.self.inside.stage Stage.Draining refl (is_paced Filed c.self.inside.stage Stage.Leaving refl))) c.in-Parting.is) (ap (λ (s : State). s.book.short) c.leave_on.ensures.quiet) c.leave_on.ensures.followed
