@@ -1,6 +1,7 @@
 // Files that begin anew and grow.
 
-use dme_files::{HeldFile, NextFile, has_name, is_bare, is_whole};
+use crate::locked_files::{HeldFile, NextFile, has_name, is_bare};
+use crate::text_files::is_whole;
 use effects::Growth;
 use std::fs::{self, File};
 use std::io::{self, ErrorKind, Write};

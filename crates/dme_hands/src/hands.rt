@@ -3,8 +3,9 @@
 use crate::connections::Connections;
 use crate::files::Reader;
 use crate::growing::{Growing, GrowingFiles};
+use crate::names::place_of;
+use crate::text_files::{is_plain, replace_file};
 use crate::written::{Written, names_in};
-use dme_files::{is_plain, place_of, replace_file};
 use effects::{Answer, Came, Effect, Growth, Hands, Peer, Place, Slot};
 use jiff::Timestamp;
 use std::alloc::AllocError;

@@ -5,8 +5,10 @@ ghost use Rattle.client_core.specs.Clients.{is_window};
 
 use crate::progress::Progress;
 use crate::tracing::TracingPort;
+use crate::explaining::{of_output, refused};
+use crate::faults::Fault;
+use crate::files::Sources;
 use byte_ports::{Ports, Reading, Writing};
-use dme_files::{Fault, Sources, of_output, refused};
 use dme_orders::{
     ConnectionEnd, FilesFault, InputFiles, LoopTask, OrderFault, loop_over, setup_and_program,
 };

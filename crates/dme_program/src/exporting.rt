@@ -1,7 +1,9 @@
 // The orders `export` and `explain`, on files and the standard streams.
 
+use crate::explaining::{of_output, refused};
+use crate::faults::Fault;
+use crate::files::{NamedSource, Sources};
 use byte_ports::Writing;
-use dme_files::{Fault, NamedSource, Sources, of_output, refused};
 use dme_orders::{
     ExportFiles, Exported, InputFiles, Missing, RecordFiles, RecordNotes, RecordText, explain,
     export_files, export_record,

@@ -3,17 +3,20 @@
 //!
 //! What an order does is in `dme_orders`, over ports. This is the edge, where files, sockets and the standard streams are those ports.
 //!
-//! `dme_files` has the files of its commands. `dme_run` has what `run` does before it calls its server.
-//!
 //! - `running`: an order is carried out on files and the standard streams
 //! - `connecting`: the order `loop`, over a connection of the process to itself; `tracing`: the lines of that connection
 //! - `serving`, `watching`: the orders `serve` and `watch`, by their sessions
 //! - `exporting`: what was measured is printed, and what a refusal means
 //! - `version`: which program this is
+//! - `files`: the files that a command reads, as sources; `explaining`: what is shown for an order whose files are refused
+//! - `faults`: what is printed on standard error, and the exit status
 #![tactic(auto)]
 
 mod connecting;
+mod explaining;
 mod exporting;
+mod faults;
+mod files;
 mod progress;
 mod running;
 mod serving;

@@ -11,8 +11,10 @@ use crate::serving::serve;
 use crate::tracing::ErrorOutput;
 use crate::version;
 use crate::watching::watch;
+use crate::explaining::{refused, tell_audit};
+use crate::faults::Fault;
+use crate::files::{NamedSource, Sources};
 use byte_ports::{Writing, push_all};
-use dme_files::{Fault, NamedSource, Sources, refused, tell_audit};
 use dme_hands::RealHands;
 use dme_orders::{
     AuditFiles, FilesFault, InputFiles, RecordFiles, SimulationFiles, audit_files, audit_record,

@@ -1,6 +1,8 @@
 // The order `serve`: its session, with hands on files and sockets.
 
-use dme_files::{Fault, Sources, refused};
+use crate::explaining::refused;
+use crate::faults::Fault;
+use crate::files::Sources;
 use dme_hands::RealHands;
 use dme_orders::{InputFiles, read_setup};
 use dme_words::Service;

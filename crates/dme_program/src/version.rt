@@ -1,6 +1,6 @@
 // Which program this is. `tools/release` writes the commit and the toolchain.
 
-use dme_files::Fault;
+use crate::faults::Fault;
 use dme_orders::OrderFault;
 
 /// The version of `dme`.

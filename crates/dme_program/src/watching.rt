@@ -1,6 +1,6 @@
 // The order `watch`: its session, with hands on files and sockets.
 
-use dme_files::Fault;
+use crate::faults::Fault;
 use dme_hands::RealHands;
 use dme_words::Watch;
 use services::{Relay, RelaySession, run_relay};

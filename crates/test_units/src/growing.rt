@@ -1,15 +1,14 @@
 // Files that grow: those that were locked before, and whether they still stand.
 
 use crate::hands::{gives, has};
-use dme_files::HeldFile;
 use dme_hands::RealHands;
 use effects::{Answer, Cause, Effect, Growth};
 use std::fs::{self, File};
 use std::net::{Net, TcpListener, TcpStream};
 use std::rt::{Clock, Files};
 
-/// Lends hands a file of this name that is locked, to begin or as one that has begun; whether it could be locked.
-fn lends<
+/// Whether the file of this name is locked: other hands cannot lock it.
+fn is_locked<
     R: Files<File = File>
         + Input
         + Print
@@ -19,21 +18,16 @@ fn lends<
         + AllocGlobal
         + Clone
         + Drop,
->(rt: &R, hands: &mut RealHands<R>, (growth, name): (Growth, &str), has_begun: bool) -> bool {
-    let (Ok(file), Ok(name)) = (HeldFile::open(rt, name), String::from_str(rt.alloc(), name)) else {
+>(rt: &R, name: &str) -> bool {
+    let Ok(own) = rt.clone() else {
         return false;
     };
-    if has_begun {
-        hands.grow(growth, file, name);
-    } else {
-        hands.hold(growth, file, name);
-    }
-    true
-}
-
-/// Whether the file of this name is locked.
-fn is_locked<R: Files<File = File>>(rt: &R, name: &str) -> bool {
-    HeldFile::open(rt, name).is_err()
+    let mut other = RealHands::new(own);
+    gives(
+        &mut other,
+        Effect::Hold(Growth::Told, name),
+        Answer::Failed(Cause::Locked),
+    )
 }
 
 const HELD: &str = "/tmp/dme_hands.held";
@@ -44,7 +38,7 @@ const HELD_BESIDE: &str = "/tmp/dme_hands.held.new";
 fn a_file_is_locked_from_when_it_is_held_until_the_hands_are_gone(rt: HostRuntime) {
     assert!(rt; fs::write(&rt, HELD, b"old\n".as_slice()).is_ok());
     let mut hands = RealHands::new(rt);
-    assert!(rt; lends(&rt, &mut hands, (Growth::Features, HELD), false));
+    assert!(rt; gives(&mut hands, Effect::Hold(Growth::Features, HELD), Answer::Done));
     assert!(rt; is_locked(&rt, HELD));
     let make = Effect::Make(Growth::Features, HELD, HELD_BESIDE, b"HEAD\n".as_slice());
     assert!(rt; gives(&mut hands, make, Answer::Found));
@@ -69,8 +63,8 @@ const FIRST: &str = "/tmp/dme_hands.first";
 fn a_held_file_that_is_let_go_is_as_it_was(rt: HostRuntime) {
     assert!(rt; fs::write(&rt, LEFT, b"old\n".as_slice()).is_ok());
     let mut hands = RealHands::new(rt);
-    assert!(rt; lends(&rt, &mut hands, (Growth::Contacts, LEFT), false));
-    assert!(rt; lends(&rt, &mut hands, (Growth::Record, FIRST), false));
+    assert!(rt; gives(&mut hands, Effect::Hold(Growth::Contacts, LEFT), Answer::Done));
+    assert!(rt; gives(&mut hands, Effect::Hold(Growth::Record, FIRST), Answer::Done));
     assert!(rt; gives(&mut hands, Effect::Exists(FIRST), Answer::Found));
     assert!(rt; gives(&mut hands, Effect::Discard(Growth::Contacts), Answer::Done));
     assert!(rt; gives(&mut hands, Effect::Discard(Growth::Record), Answer::Done));
@@ -85,7 +79,7 @@ const NO_NEXT: &str = "/tmp/dme_hands.no_next";
 #[test]
 fn a_held_file_whose_next_text_cannot_be_made_is_let_go(rt: HostRuntime) {
     let mut hands = RealHands::new(rt);
-    assert!(rt; lends(&rt, &mut hands, (Growth::Features, NO_NEXT), false));
+    assert!(rt; gives(&mut hands, Effect::Hold(Growth::Features, NO_NEXT), Answer::Done));
     let make = Effect::Make(Growth::Features, NO_NEXT, "/tmp", b"HEAD\n".as_slice());
     assert!(rt; gives(&mut hands, make, Answer::Failed(Cause::Taken)));
     assert!(rt; gives(&mut hands, Effect::Exists(NO_NEXT), Answer::Done));
@@ -101,7 +95,9 @@ const BEGUN_BESIDE: &str = "/tmp/dme_hands.begun.new";
 fn a_record_that_has_begun_grows_and_stands_as_long_as_it_is_whole(rt: HostRuntime) {
     assert!(rt; fs::write(&rt, BEGUN, b"HEAD\n".as_slice()).is_ok());
     let mut hands = RealHands::new(rt);
-    assert!(rt; lends(&rt, &mut hands, (Growth::Record, BEGUN), true));
+    assert!(rt; gives(&mut hands, Effect::Hold(Growth::Record, BEGUN), Answer::Done));
+    let fill = Effect::Fill(Growth::Record, b"HEAD\n".as_slice(), 5, 5);
+    assert!(rt; gives(&mut hands, fill, Answer::Done));
     let keep = Effect::Keep(Growth::Record, b"act\n".as_slice());
     assert!(rt; gives(&mut hands, keep, Answer::Done));
     assert!(rt; has(&rt, BEGUN, b"HEAD\nact\n".as_slice()));

@@ -1,7 +1,7 @@
 // What is printed on standard error, and the status that goes with it.
 
 ghost use Rattle.std.specs.Prelude.{◌≡◌, ◌≢◌, ◌↔◌};
-ghost use Rattle.dme_files.specs.Printed.{exit_status, short};
+ghost use Rattle.dme_program.specs.Printed.{exit_status, short};
 
 use dme_orders::OrderFault;
 use dme_words::WordsFault;
@@ -37,7 +37,7 @@ impl fmt::Display for Fault {
 
 impl From<WordsFault> for Fault {
     ghost use Rattle.std.specs.Prelude.{◌≡◌};
-    ghost use Rattle.dme_files.specs.Printed.{words_shown};
+    ghost use Rattle.dme_program.specs.Printed.{words_shown};
 
     ghost from_gives = { λ fault e. e ≡ words_shown fault };
 
@@ -51,7 +51,7 @@ impl From<WordsFault> for Fault {
 
 impl From<AllocError> for Fault {
     ghost use Rattle.std.specs.Prelude.{◌≡◌};
-    ghost use Rattle.dme_files.specs.Printed.{short};
+    ghost use Rattle.dme_program.specs.Printed.{short};
 
     ghost from_gives = { λ _ e. e ≡ short };
 
@@ -62,7 +62,7 @@ impl From<AllocError> for Fault {
 
 impl From<OrderFault> for Fault {
     ghost use Rattle.std.specs.Prelude.{◌≡◌};
-    ghost use Rattle.dme_files.specs.declared.faults.Fault.TheVariants as fault;
+    ghost use Rattle.dme_program.specs.declared.faults.Fault.TheVariants as fault;
 
     ghost from_gives = { λ cause e. e ≡ fault.Order cause };
 

@@ -4,8 +4,8 @@ use Rattle.dme_words.specs.declared.words.WordsFault.{WordsFault}
 use Rattle.dme_words.specs.declared.words.WordsFault.TheVariants as words
 use Rattle.dme_orders.specs.Printed.{status_of}
 use Rattle.dme_orders.specs.declared.faults.OrderFault.TheVariants as order
-use Rattle.dme_files.specs.declared.faults.Fault.{Fault}
-use Rattle.dme_files.specs.declared.faults.Fault.TheVariants as fault
+use Rattle.dme_program.specs.declared.faults.Fault.{Fault}
+use Rattle.dme_program.specs.declared.faults.Fault.TheVariants as fault
 
 -- the program is out of memory
 abbrev pub short : Fault
