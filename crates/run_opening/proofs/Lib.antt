@@ -1,0 +1,3 @@
+pub mod Names
+pub mod Beginnings
+pub mod Begun

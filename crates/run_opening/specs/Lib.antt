@@ -1,2 +1,4 @@
+pub mod Asking
+pub mod Begun
 pub mod Names
 pub mod Openings

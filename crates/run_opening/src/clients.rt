@@ -1,8 +1,9 @@
 // The client of a run, and what is said before its server is called.
 
-ghost use Rattle.std.specs.Prelude.{◌≡◌, ◌≤◌, true};
+ghost use Rattle.std.specs.Prelude.{◌≡◌, ◌≤◌, true, OnOk};
 ghost use Rattle.client_core.specs.Clients.{may_connect};
 ghost use Rattle.contact_ledger.specs.Ledgers.{connection_most};
+ghost use Rattle.run_opening.specs.Openings as spec;
 
 use crate::openings::Opening;
 use crate::sayings::{kept_lines, next_lines, text_lines, touches_of};
@@ -39,7 +40,9 @@ struct Before {
 
 impl Opening {
     /// The run continues from these features of a file, without a record.
-    pub(crate) fn take_kept(&mut self, features: FeatureLedger) -> Result<(), AllocError> {
+    pub(crate) fn take_kept(&mut self, features: FeatureLedger) -> Result<(), AllocError>
+        ensures { OnOk result (spec.Keeps features self.old self.new) }
+    {
         let before = Before {
             number: 1,
             told: ServerLedger::new(self.alloc),
@@ -49,7 +52,9 @@ impl Opening {
     }
 
     /// The run continues from its record, which has its text.
-    pub(crate) fn take_beginning(&mut self) -> Result<(), AllocError> {
+    pub(crate) fn take_beginning(&mut self) -> Result<(), AllocError>
+        ensures { OnOk result (spec.Leads spec.IsFilled self.old self.new) }
+    {
         let Some(beginning) = self.beginning.take() else {
             return Err(AllocError);
         };
@@ -76,6 +81,8 @@ impl Opening {
     fn take_client(&mut self, features: FeatureLedger, before: Before) -> Result<(), AllocError>
         requires first { 1 ≤ before.number }
         requires most { before.number ≤ connection_most }
+        ensures { OnOk result (spec.TakesClient features before.number before.text.items self.old
+            self.new) }
     {
         let Some(program) = self.program.take() else {
             return Err(AllocError);
@@ -87,9 +94,12 @@ impl Opening {
     }
 
     /// What comes first is to be said, and what the run begins with is made.
-    fn prepare(&mut self, mut client: Client, before: Before) -> Result<(), AllocError>
+    fn prepare(&mut self, client: Client, before: Before) -> Result<(), AllocError>
         requires { may_connect before.number client.client ≡ true }
+        ensures { OnOk result (spec.StartsClient client before.number before.text.items self.old
+            self.new) }
     {
+        let mut client = client;
         let kept = client.features().len();
         self.say_kept(&client)?;
         let places = self.places(&client)?;
@@ -112,33 +122,38 @@ impl Opening {
         self.client = Some(client);
         self.begun = Some(begun);
         if self.said.is_empty() {
-            return self.told();
+            self.told();
+        } else {
+            self.stage = Stage::Telling;
         }
-        self.stage = Stage::Telling;
         Ok(())
     }
 
     /// It was said: the answer is awaited, or the run begins.
-    pub(crate) fn told(&mut self) -> Result<(), AllocError> {
+    pub(crate) fn told(&mut self)
+        ensures { spec.Leads spec.IsOpened self.old self.new }
+    {
         if self.order.confirm {
             self.stage = Stage::Confirming;
-            return Ok(());
+        } else {
+            self.stage = Stage::Ready;
         }
-        self.begin()
     }
 
-    /// The run begins.
-    pub(crate) fn begin(&mut self) -> Result<(), AllocError> {
-        self.stage = Stage::Ready;
-        Ok(())
+    /// The name of the file that gives features back: the record, or else the features file.
+    fn kept_name(&self) -> Option<&str> {
+        match &self.order.record {
+            Some(name) => Some(name.as_str()),
+            None => self.order.features.as_deref(),
+        }
     }
 
     /// How many features are given back by the record, or by the features file.
-    fn say_kept(&mut self, client: &Client) -> Result<(), AllocError> {
-        let name = match (&self.order.record, &self.order.features) {
-            (Some(name), _) => name.as_str(),
-            (None, Some(name)) => name.as_str(),
-            (None, None) => return Ok(()),
+    fn say_kept(&mut self, client: &Client) -> Result<(), AllocError>
+        ensures { self.new ≡ self.old }
+    {
+        let Some(name) = self.kept_name() else {
+            return Ok(());
         };
         let (kept, wanted) = (client.features(), client.program().features());
         self.said = kept_lines(self.alloc, name, kept, wanted)?;
@@ -146,7 +161,9 @@ impl Opening {
     }
 
     /// What comes next, and what is asked.
-    fn say_next(&mut self, client: &Client, places: &[TextPlace]) -> Result<(), AllocError> {
+    fn say_next(&mut self, client: &Client, places: &[TextPlace]) -> Result<(), AllocError>
+        ensures { self.new ≡ self.old }
+    {
         let next = next_lines(self.alloc, client, self.tasks.as_slice())?;
         self.said.push_str(next.as_str())?;
         if self.order.confirm {
@@ -177,7 +194,9 @@ impl Opening {
     }
 
     /// The values of the run on its connection.
-    fn run(&mut self) -> Result<Run, AllocError> {
+    fn run(&mut self) -> Result<Run, AllocError>
+        ensures { spec.HasGiven self.old self.new }
+    {
         let alloc = self.alloc;
         let features = output(alloc, self.order.features.take(), self.has_features)?;
         let contacts = output(alloc, self.order.contacts.take(), self.has_contacts)?;

@@ -5,12 +5,15 @@
 //! - `reading`: what it reads, and understands; `records`: the record that it continues
 //! - `clients`: its client, and what it says before its server is called; `confirming`: the answer to it
 //! - `sayings`: what it says; `refusing`: how it ends, if nothing is begun
+//! - `laws`: the run that is begun; `examples`: of what is known at its stages
 //! - `running`: the session with hands that carry its effects out, and then the run itself
 #![tactic(auto)]
 
 mod clients;
 mod confirming;
+pub mod examples;
 mod holding;
+mod laws;
 mod naming;
 mod openings;
 mod reading;
@@ -20,6 +23,7 @@ mod running;
 mod sayings;
 mod stages;
 
+pub use laws::ready_runs_begin;
 pub use openings::Opening;
 pub use running::run;
 pub use sayings::lacking_lines;

@@ -1,7 +1,9 @@
 // The files that a run names: none that is written may be another, or take the place of another's next text.
 
-ghost use Rattle.std.specs.Prelude.{◌≡◌, ◌↔◌, true};
+ghost use Rattle.std.specs.Prelude.{◌≡◌, ◌↔◌, true, OnOk};
+ghost use Rattle.effects.specs.Effects.{the_reply};
 ghost use Rattle.run_opening.specs.Names.{IsNext, Meet};
+ghost use Rattle.run_opening.specs.Openings as spec;
 
 use crate::openings::Opening;
 use crate::stages::Stage;
@@ -81,6 +83,26 @@ impl Called {
     }
 }
 
+/// The number of the next file that is named, from this one on.
+fn next_named(order: &Run, from: usize) -> Option<usize> {
+    for at in from..COUNT {
+        if name_of(order, at).is_some() {
+            return Some(at);
+        }
+    }
+    None
+}
+
+/// The first of these files that the other one meets.
+fn met<'a>(called: &'a [Called], other: &Called) -> Option<&'a Called> {
+    for earlier in called {
+        if earlier.disturbs(other) {
+            return Some(earlier);
+        }
+    }
+    None
+}
+
 impl Opening {
     /// The name of the file that is compared next.
     pub(crate) fn called_name(&self) -> &str {
@@ -88,19 +110,23 @@ impl Opening {
     }
 
     /// The next file that is named is to be compared with those before it.
-    pub(crate) fn compare_next(&mut self) {
-        for at in self.at..COUNT {
-            self.at = at;
-            if name_of(&self.order, at).is_some() {
+    pub(crate) fn compare_next(&mut self)
+        ensures { spec.Leads spec.HasNone self.old self.new }
+    {
+        match next_named(&self.order, self.at) {
+            Some(at) => {
+                self.at = at;
                 self.stage = Stage::Placing;
-                return;
             }
+            None => self.hold_record(),
         }
-        self.hold_record();
     }
 
     /// Its place, or that nothing is put there.
-    pub(crate) fn placed(&mut self, answer: Answer<'_>) -> Result<(), AllocError> {
+    pub(crate) fn placed(&mut self, answer: Answer<'_>) -> Result<(), AllocError>
+        requires { self.old.stage ≡ Stage.Placing }
+        ensures { OnOk result (spec.GoesOn self.old (the_reply answer.entry) self.new) }
+    {
         match answer {
             Answer::Bytes(place) => {
                 self.text.clear();
@@ -109,7 +135,7 @@ impl Opening {
             }
             Answer::Short => return Err(AllocError),
             _ => {
-                self.at += 1;
+                self.at = self.at.saturating_add(1);
                 self.compare_next();
             }
         }
@@ -117,7 +143,10 @@ impl Opening {
     }
 
     /// Its number, if it exists.
-    pub(crate) fn numbered(&mut self, answer: Answer<'_>) -> Result<(), AllocError> {
+    pub(crate) fn numbered(&mut self, answer: Answer<'_>) -> Result<(), AllocError>
+        requires { self.old.stage ≡ Stage.Numbering }
+        ensures { OnOk result (spec.GoesOn self.old (the_reply answer.entry) self.new) }
+    {
         let node = match answer {
             Answer::Bytes(node) => Some(Vec::from_slice(self.alloc, node)?),
             Answer::Short => return Err(AllocError),
@@ -129,17 +158,16 @@ impl Opening {
     }
 
     /// The file joins those before it, unless it meets one of them.
-    fn add(&mut self, called: Called) -> Result<(), AllocError> {
-        for index in 0..self.called.len() {
-            let earlier = &self.called[index];
-            if earlier.disturbs(&called) {
-                let is_before = is_next(called.place.as_slice(), earlier.place.as_slice());
-                let (first, second) = (earlier.at, called.at);
-                return self.refuse_meeting(first, second, if is_before { first } else { second });
-            }
+    fn add(&mut self, called: Called) -> Result<(), AllocError>
+        ensures { OnOk result (spec.Leads spec.HasNone self.old self.new) }
+    {
+        if let Some(earlier) = met(self.called.as_slice(), &called) {
+            let is_before = is_next(called.place.as_slice(), earlier.place.as_slice());
+            let (first, second) = (earlier.at, called.at);
+            return self.refuse_meeting(first, second, if is_before { first } else { second });
         }
         self.called.push(called)?;
-        self.at += 1;
+        self.at = self.at.saturating_add(1);
         self.compare_next();
         Ok(())
     }
@@ -150,7 +178,9 @@ impl Opening {
         first: usize,
         second: usize,
         named: usize,
-    ) -> Result<(), AllocError> {
+    ) -> Result<(), AllocError>
+        ensures { OnOk result (spec.Ends self.new) }
+    {
         let (first, second) = (option_of(first), option_of(second));
         let name = name_of(&self.order, named).unwrap_or("");
         let said = format!(in self.alloc;

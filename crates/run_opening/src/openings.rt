@@ -1,7 +1,10 @@
 // A session that opens a run: what it asks, and what it does with an answer.
 
-ghost use Rattle.std.specs.Prelude.{◌≡◌, true};
+ghost use Rattle.std.specs.Prelude.{◌≡◌, ◌↔◌, true, OnOk, IsSome, IfSome};
 ghost use Rattle.client_core.specs.Clients.{is_window};
+ghost use Rattle.effects.specs.Effects.{the_ask, the_reply, the_place, Reply};
+ghost use Rattle.run_opening.specs.Openings as spec;
+ghost use Rattle.run_opening.specs.Asking as asking;
 
 use crate::naming::Called;
 use crate::stages::{Stage, Text};
@@ -13,7 +16,7 @@ use dmis_program::Program;
 use effects::{Answer, Effect, Growth, Place, Slot};
 use program_review::{OperatorText, TaskLine};
 use record_text::Beginning;
-use run_session::Begun;
+use run_session::{Begun, Session};
 use std::alloc::{AllocError, Global};
 use std::marker::Model;
 use tool_rack::Setup;
@@ -65,9 +68,18 @@ impl Model for Opening {
 
     ghost view = { λ s. record {
       stage = s.stage;
-      stopped = s.is_stopped;
-      client = s.client;
-      begun = s.begun;
+      text = s.text.items;
+      status = s.status;
+      core = record {
+        order = s.order;
+        setup = s.setup;
+        features = s.features;
+        program = s.program;
+        stopped = s.is_stopped;
+        beginning = s.beginning;
+        client = s.client;
+        begun = s.begun;
+      };
     } };
 
     ghost invariant = { λ s. is_window s.order.window ≡ true };
@@ -77,6 +89,7 @@ impl Opening {
     /// A run of these values.
     pub fn new(alloc: Global, order: Run) -> Opening
         requires { is_window order.window ≡ true }
+        ensures { spec.Holds order result spec.untouched }
     {
         let mut opening = Opening {
             alloc,
@@ -110,12 +123,16 @@ impl Opening {
     }
 
     /// Whether the run may begin.
-    pub fn is_ready(&self) -> bool {
-        self.stage == Stage::Ready
+    pub fn is_ready(&self) -> bool
+        ensures { result ≡ true ↔ self.now.stage ≡ Stage.Ready }
+    {
+        matches!(self.stage, Stage::Ready)
     }
 
     /// The name of a text that is read.
-    fn name_of(&self, text: Text) -> &str {
+    pub(crate) fn name_of(&self, text: Text) -> &str
+        ensures { result.now ≡ asking.name_of text self.now.core.order }
+    {
         match text {
             Text::Setup => self.order.setup.as_str(),
             Text::Features => self.order.features.as_deref().unwrap_or(""),
@@ -125,7 +142,9 @@ impl Opening {
     }
 
     /// Where a text is: standard input gives one of them, and nothing to another.
-    fn place_of(&self, text: Text) -> Place<'_> {
+    fn place_of(&self, text: Text) -> Place<'_>
+        ensures { asking.IsFrom (asking.name_of text self.now.core.order) (the_place result) }
+    {
         match (text, self.name_of(text)) {
             (Text::Setup | Text::Program, "-") if self.input_is_taken => Place::Nothing,
             (Text::Setup | Text::Program, "-") => Place::Input,
@@ -134,7 +153,9 @@ impl Opening {
     }
 
     /// The text that the record is to have, and how many bytes of it its file has.
-    fn record_text(&self) -> (&[u8], usize) {
+    fn text_of_record(&self) -> (&[u8], usize)
+        ensures { asking.IsTextOf self.now.core.beginning result.0.now result.1 }
+    {
         match &self.beginning {
             Some(beginning) => (beginning.text.as_slice(), beginning.held),
             None => (&[], 0),
@@ -142,19 +163,20 @@ impl Opening {
     }
 
     /// What is to be done next with files that are locked.
-    fn asks_of_files(&self) -> Effect<'_> {
-        let (text, held) = self.record_text();
+    fn asks_of_files(&self) -> Effect<'_>
+        requires { asking.is_of_files self.now.stage ≡ true }
+        ensures { asking.Asks self.now (the_ask result) }
+    {
+        let (text, held) = self.text_of_record();
         match self.stage {
             Stage::HoldingRecord => Effect::Hold(Growth::Record, self.name_of(Text::Record)),
             Stage::LookingFeatures => Effect::Look(self.name_of(Text::Features)),
             Stage::HoldingFeatures => Effect::Hold(Growth::Features, self.name_of(Text::Features)),
             Stage::LookingContacts => Effect::Look(self.order.contacts.as_deref().unwrap_or("")),
-            Stage::HoldingContacts => {
-                Effect::Hold(
-                    Growth::Contacts,
-                    self.order.contacts.as_deref().unwrap_or(""),
-                )
-            }
+            Stage::HoldingContacts => Effect::Hold(
+                Growth::Contacts,
+                self.order.contacts.as_deref().unwrap_or(""),
+            ),
             Stage::Filling => Effect::Fill(Growth::Record, text, held, self.length),
             Stage::DiscardingFeatures => Effect::Discard(Growth::Features),
             Stage::DiscardingContacts => Effect::Discard(Growth::Contacts),
@@ -163,7 +185,9 @@ impl Opening {
     }
 
     /// What is to be done next.
-    pub fn asks(&self) -> Effect<'_> {
+    pub fn asks(&self) -> Effect<'_>
+        ensures { asking.Asks self.now (the_ask result) }
+    {
         match self.stage {
             Stage::Placing => Effect::Place(self.called_name()),
             Stage::Numbering => Effect::Node(self.called_name()),
@@ -180,7 +204,9 @@ impl Opening {
     }
 
     /// What came of it. If memory runs out meanwhile, nothing is begun.
-    pub fn take(&mut self, answer: Answer<'_>) {
+    pub fn take(&mut self, answer: Answer<'_>)
+        ensures { spec.GoesOn self.old (the_reply answer.entry) self.new }
+    {
         if self.step(answer).is_err() {
             self.message = OUT_OF_MEMORY;
             self.status = 4;
@@ -188,7 +214,9 @@ impl Opening {
         }
     }
 
-    fn step(&mut self, answer: Answer<'_>) -> Result<(), AllocError> {
+    fn step(&mut self, answer: Answer<'_>) -> Result<(), AllocError>
+        ensures { OnOk result (spec.GoesOn self.old (the_reply answer.entry) self.new) }
+    {
         match self.stage {
             Stage::Placing => self.placed(answer),
             Stage::Numbering => self.numbered(answer),
@@ -204,7 +232,11 @@ impl Opening {
             }
             Stage::Peeking => self.peeked(answer),
             Stage::Filling => self.filled(answer),
-            Stage::Telling => self.told(),
+            Stage::Telling => {
+                self.told();
+                Ok(())
+            }
+            Stage::Ready => Ok(()),
             Stage::Confirming | Stage::Returning => self.confirmed(answer),
             _ => {
                 self.end_on();
@@ -214,12 +246,29 @@ impl Opening {
     }
 
     /// The next step of an end.
-    fn end_on(&mut self) {
+    fn end_on(&mut self)
+        requires { spec.is_ending self.old.stage ≡ true }
+        ensures { (reply : Reply) → spec.GoesOn self.old reply self.new }
+    {
         self.stage = match self.stage {
             Stage::DiscardingFeatures => Stage::DiscardingContacts,
             Stage::DiscardingContacts => Stage::DiscardingRecord,
             Stage::DiscardingRecord => Stage::Ending,
             _ => Stage::Exiting,
         };
+    }
+
+    /// The run itself, if it may begin.
+    pub fn session(&mut self) -> Option<Session>
+        ensures ready { IsSome result → self.old.stage ≡ Stage.Ready }
+        ensures session { IfSome result (λ session.
+            asking.IsSessionOf self.old.core.client self.old.core.begun session.pair) }
+    {
+        if !self.is_ready() {
+            return None;
+        }
+        let client = self.client.take()?;
+        let begun = self.begun.take()?;
+        Some(Session::new(client, begun))
     }
 }

@@ -1,5 +1,9 @@
 // The texts that a run reads, one after another, each understood before the next is opened.
 
+ghost use Rattle.std.specs.Prelude.{◌≡◌, ℕ, List, Option, Some, OnOk, IfOk};
+ghost use Rattle.effects.specs.Effects.{the_reply};
+ghost use Rattle.run_opening.specs.Openings as spec;
+
 use crate::openings::Opening;
 use crate::sayings::lacking_lines;
 use crate::stages::{Stage, Text};
@@ -24,16 +28,23 @@ fn role_of(text: Text) -> Role {
     }
 }
 
+/// Whether a file is there.
+fn is_there(answer: Answer<'_>) -> bool
+    ensures { result ≡ spec.is_there (the_reply answer.entry) }
+{
+    match answer {
+        Answer::Found => true,
+        Answer::Done | Answer::Missing | Answer::Nothing | Answer::End | Answer::Short => false,
+        Answer::Bytes(_) | Answer::At(_) | Answer::Took(_) | Answer::Failed(_) => false,
+    }
+}
+
 impl Opening {
     /// A text cannot be read.
-    fn refuse_unread(&mut self, text: Text) -> Result<(), AllocError> {
-        let name = match text {
-            Text::Setup => self.order.setup.as_str(),
-            Text::Features => self.order.features.as_deref().unwrap_or(""),
-            Text::Program => self.order.program.as_str(),
-            Text::Record => self.order.record.as_deref().unwrap_or(""),
-        };
-        let name = String::from_str(self.alloc, name)?;
+    fn refuse_unread(&mut self, text: Text) -> Result<(), AllocError>
+        ensures { OnOk result (spec.Ends self.new) }
+    {
+        let name = String::from_str(self.alloc, self.name_of(text))?;
         *self.name_in(text) = name;
         self.refuse_text(FilesFault::Unread(role_of(text)))
     }
@@ -49,7 +60,10 @@ impl Opening {
     }
 
     /// A text is open, or is not there: features and a record may be lacking.
-    pub(crate) fn opened(&mut self, text: Text, answer: Answer<'_>) -> Result<(), AllocError> {
+    pub(crate) fn opened(&mut self, text: Text, answer: Answer<'_>) -> Result<(), AllocError>
+        requires { self.old.stage ≡ Stage.Opening text }
+        ensures { OnOk result (spec.GoesOn self.old (the_reply answer.entry) self.new) }
+    {
         self.text.clear();
         self.pieces = 0;
         match (text, answer) {
@@ -58,13 +72,17 @@ impl Opening {
                 Ok(())
             }
             (_, Answer::Short) => Err(AllocError),
-            (Text::Features | Text::Record, Answer::Missing) => self.understand(text),
+            (Text::Features, Answer::Missing) => self.understand(Text::Features),
+            (Text::Record, Answer::Missing) => self.understand(Text::Record),
             _ => self.refuse_unread(text),
         }
     }
 
     /// The next bytes of a text, or its end.
-    pub(crate) fn read(&mut self, text: Text, answer: Answer<'_>) -> Result<(), AllocError> {
+    pub(crate) fn read(&mut self, text: Text, answer: Answer<'_>) -> Result<(), AllocError>
+        requires { self.old.stage ≡ Stage.Reading text }
+        ensures { OnOk result (spec.GoesOn self.old (the_reply answer.entry) self.new) }
+    {
         match answer {
             Answer::Bytes(piece) if self.pieces < MOST => {
                 self.pieces += 1;
@@ -77,7 +95,9 @@ impl Opening {
     }
 
     /// A whole text is understood.
-    fn understand(&mut self, text: Text) -> Result<(), AllocError> {
+    fn understand(&mut self, text: Text) -> Result<(), AllocError>
+        ensures { OnOk result (spec.Takes text self.old.text self.old self.new) }
+    {
         let bytes = std::mem::replace(&mut self.text, Vec::new(self.alloc));
         match text {
             Text::Setup => self.take_setup(bytes),
@@ -88,7 +108,9 @@ impl Opening {
     }
 
     /// A file that was read, with its name, as it is blamed.
-    fn file(&self, name: &str, text: Vec<u8>) -> Result<InputFile, AllocError> {
+    fn file(&self, name: &str, text: Vec<u8>) -> Result<InputFile, AllocError>
+        ensures { IfOk result (λ file. file.text ≡ text) }
+    {
         Ok(InputFile {
             name: String::from_str(self.alloc, name)?,
             text,
@@ -96,17 +118,19 @@ impl Opening {
         })
     }
 
-    fn take_setup(&mut self, bytes: Vec<u8>) -> Result<(), AllocError> {
+    fn take_setup(&mut self, bytes: Vec<u8>) -> Result<(), AllocError>
+        ensures { OnOk result (spec.Takes Text.Setup bytes.items self.old self.new) }
+    {
         self.input_is_taken = self.order.setup.as_str() == "-";
         self.files.setup = self.file(self.order.setup.as_str(), bytes)?;
         match Setup::read(self.alloc, self.files.setup.text.as_slice()) {
             Ok(setup) => {
                 self.setup = Some(setup);
-                self.stage = Stage::Opening(if self.order.features.is_some() {
-                    Text::Features
+                if self.order.features.is_some() {
+                    self.stage = Stage::Opening(Text::Features);
                 } else {
-                    Text::Program
-                });
+                    self.stage = Stage::Opening(Text::Program);
+                }
                 Ok(())
             }
             Err(SetupFault::Memory) => Err(AllocError),
@@ -114,7 +138,9 @@ impl Opening {
         }
     }
 
-    fn take_features(&mut self, bytes: Vec<u8>) -> Result<(), AllocError> {
+    fn take_features(&mut self, bytes: Vec<u8>) -> Result<(), AllocError>
+        ensures { OnOk result (spec.Takes Text.Features bytes.items self.old self.new) }
+    {
         let name = self.order.features.as_deref().unwrap_or("");
         self.files.features = self.file(name, bytes)?;
         match read_features(self.alloc, self.files.features.text.as_slice()) {
@@ -129,17 +155,22 @@ impl Opening {
     }
 
     /// The program that these bytes are under the frames of the setup.
-    fn program_of(&self) -> Result<Program, ProgramFault> {
-        let bytes = self.files.program.text.as_slice();
+    fn program_of(&self, bytes: &[u8]) -> Result<Program, ProgramFault>
+        ensures { IfOk result (λ p. (stored : Option (List ℕ))
+            → spec.IsSetupRead self.now.core.setup stored
+            → spec.IsProgramRead self.now.core.setup (Some p) (Some bytes.now)) }
+    {
         match &self.setup {
             Some(setup) => Program::read(self.alloc, bytes, setup.frames()),
             None => Program::read(self.alloc, bytes, &Frames::new(self.alloc)),
         }
     }
 
-    fn take_program(&mut self, bytes: Vec<u8>) -> Result<(), AllocError> {
+    fn take_program(&mut self, bytes: Vec<u8>) -> Result<(), AllocError>
+        ensures { OnOk result (spec.Takes Text.Program bytes.items self.old self.new) }
+    {
         self.files.program = self.file(self.order.program.as_str(), bytes)?;
-        match self.program_of() {
+        match self.program_of(self.files.program.text.as_slice()) {
             Ok(program) => self.accept(program),
             Err(ProgramFault::Memory) => Err(AllocError),
             Err(cause) => self.refuse_text(FilesFault::Program(cause)),
@@ -147,7 +178,9 @@ impl Opening {
     }
 
     /// The program is accepted: what the setup lacks for it is to be said.
-    fn accept(&mut self, program: Program) -> Result<(), AllocError> {
+    fn accept(&mut self, program: Program) -> Result<(), AllocError>
+        ensures { OnOk result (spec.Accepts program self.old self.new) }
+    {
         let text = self.files.program.text.as_slice();
         self.asked = program.features().len();
         self.tasks = task_lines(self.alloc, text)?;
@@ -170,7 +203,9 @@ impl Opening {
     }
 
     /// The stop file is looked for, if one is named.
-    pub(crate) fn peek(&mut self) -> Result<(), AllocError> {
+    pub(crate) fn peek(&mut self) -> Result<(), AllocError>
+        ensures { OnOk result (spec.Leads spec.IsUnderstood self.old self.new) }
+    {
         if self.order.stop.is_some() {
             self.stage = Stage::Peeking;
             Ok(())
@@ -180,19 +215,21 @@ impl Opening {
     }
 
     /// The stop file is there, or not.
-    pub(crate) fn peeked(&mut self, answer: Answer<'_>) -> Result<(), AllocError> {
-        match answer {
-            Answer::Found => {
-                self.is_stopped = true;
-                self.continue_record()
-            }
-            Answer::Short => Err(AllocError),
-            _ => self.continue_record(),
+    pub(crate) fn peeked(&mut self, answer: Answer<'_>) -> Result<(), AllocError>
+        requires { self.old.stage ≡ Stage.Peeking }
+        ensures { OnOk result (spec.GoesOn self.old (the_reply answer.entry) self.new) }
+    {
+        if let Answer::Short = answer {
+            return Err(AllocError);
         }
+        self.is_stopped = is_there(answer);
+        self.continue_record()
     }
 
     /// The record is read, if one is named.
-    fn continue_record(&mut self) -> Result<(), AllocError> {
+    fn continue_record(&mut self) -> Result<(), AllocError>
+        ensures { OnOk result (spec.Leads spec.IsLookedAt self.old self.new) }
+    {
         if self.order.record.is_some() {
             self.stage = Stage::Opening(Text::Record);
             return Ok(());
@@ -204,13 +241,16 @@ impl Opening {
         if self.is_stopped {
             return self.stop(Some(kept));
         }
-        let features = self.features.take();
-        let features = features.unwrap_or(FeatureLedger::new(self.alloc));
-        self.take_kept(features)
+        match self.features.take() {
+            Some(features) => self.take_kept(features),
+            None => self.take_kept(FeatureLedger::new(self.alloc)),
+        }
     }
 
     /// The stop file is there: nothing is begun.
-    pub(crate) fn stop(&mut self, kept: Option<usize>) -> Result<(), AllocError> {
+    pub(crate) fn stop(&mut self, kept: Option<usize>) -> Result<(), AllocError>
+        ensures { OnOk result (spec.Ends self.new) }
+    {
         let name = self.order.stop.as_deref().unwrap_or("");
         let said = format!(in self.alloc; "dme: {name} exists: nothing was begun\n")?;
         let last = match kept {

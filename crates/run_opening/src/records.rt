@@ -1,7 +1,11 @@
 // The record that a run continues.
 
+ghost use Rattle.std.specs.Prelude.{◌≡◌, Some, option_map, OnOk, IfOk};
+ghost use Rattle.effects.specs.Effects.{the_reply};
+ghost use Rattle.run_opening.specs.Openings as spec;
+
 use crate::openings::Opening;
-use crate::stages::Stage;
+use crate::stages::{Stage, Text};
 use contact_ledger::Feature;
 use dme_orders::OrderFault;
 use dmis_program::Program;
@@ -51,12 +55,20 @@ fn note(
 }
 
 impl Opening {
-    fn part(&self) -> Option<&[u8]> {
-        self.order.part.as_ref().map(|part| part.as_bytes())
+    fn part(&self) -> Option<&[u8]>
+        ensures { option_map (λ part. part.now) result ≡ spec.part_of self.now.core.order }
+    {
+        match &self.order.part {
+            Some(part) => Some(part.as_bytes()),
+            None => None,
+        }
     }
 
     /// How the run continues from the text of its record.
-    fn beginning_of(&self, text: &[u8]) -> Result<Beginning, RecordRefusal> {
+    fn beginning_of(&self, text: &[u8]) -> Result<Beginning, RecordRefusal>
+        ensures { IfOk result (λ b. spec.IsRecordRead (spec.part_of self.now.core.order)
+            self.now.core.program (Some b) (Some text.now)) }
+    {
         match &self.program {
             Some(program) => begin_record(self.alloc, text, program, self.part()),
             None => Err(RecordRefusal::Memory),
@@ -64,7 +76,9 @@ impl Opening {
     }
 
     /// The whole text of the record.
-    pub(crate) fn take_record(&mut self, text: Vec<u8>) -> Result<(), AllocError> {
+    pub(crate) fn take_record(&mut self, text: Vec<u8>) -> Result<(), AllocError>
+        ensures { OnOk result (spec.Takes Text.Record text.items self.old self.new) }
+    {
         let beginning = self.beginning_of(text.as_slice());
         if self.is_stopped {
             return match beginning {
@@ -79,7 +93,9 @@ impl Opening {
     }
 
     /// The record is not continued, and what is wrong with it is said, if that is asked for.
-    fn refuse_record(&mut self, refusal: RecordRefusal, text: &[u8]) -> Result<(), AllocError> {
+    fn refuse_record(&mut self, refusal: RecordRefusal, text: &[u8]) -> Result<(), AllocError>
+        ensures { OnOk result (spec.Ends self.new) }
+    {
         let (Some(program), Some(name)) = (&self.program, &self.order.record) else {
             return Err(AllocError);
         };
@@ -104,7 +120,9 @@ impl Opening {
     }
 
     /// The record is to get the text that the run continues from, unless it does not give back the features of the file.
-    fn fill(&mut self, beginning: Beginning, length: usize) -> Result<(), AllocError> {
+    fn fill(&mut self, beginning: Beginning, length: usize) -> Result<(), AllocError>
+        ensures { OnOk result (spec.Fills beginning self.old self.new) }
+    {
         let is_ours = match &self.features {
             Some(features) => are_first(features.list(), beginning.features.list()),
             None => true,
@@ -119,7 +137,10 @@ impl Opening {
     }
 
     /// The record has it, or cannot be written.
-    pub(crate) fn filled(&mut self, answer: Answer<'_>) -> Result<(), AllocError> {
+    pub(crate) fn filled(&mut self, answer: Answer<'_>) -> Result<(), AllocError>
+        requires { self.old.stage ≡ Stage.Filling }
+        ensures { OnOk result (spec.GoesOn self.old (the_reply answer.entry) self.new) }
+    {
         match answer {
             Answer::Done => self.take_beginning(),
             Answer::Short => Err(AllocError),

@@ -1,5 +1,8 @@
 // How a run ends if nothing is begun.
 
+ghost use Rattle.std.specs.Prelude.{◌≡◌, ◌<◌, OnOk};
+ghost use Rattle.run_opening.specs.Openings as spec;
+
 use crate::openings::Opening;
 use crate::stages::Stage;
 use dme_orders::{Counts, FilesFault, InputFiles, LastLine, OrderFault, place_of, shown_fault};
@@ -7,14 +10,19 @@ use std::alloc::AllocError;
 
 impl Opening {
     /// Nothing is begun: this is said, and the status is this.
-    pub(crate) fn refuse(&mut self, said: String, status: u8) {
+    pub(crate) fn refuse(&mut self, said: String, status: u8)
+        ensures { 0 < status → spec.Ends self.new }
+    {
         self.said = said;
         self.status = status;
         self.stage = Stage::DiscardingFeatures;
     }
 
     /// Likewise, for a fault of an order.
-    pub(crate) fn refuse_order(&mut self, fault: OrderFault) -> Result<(), AllocError> {
+    #[tactic(auto, using(crate::proofs::Beginnings::positive))]
+    pub(crate) fn refuse_order(&mut self, fault: OrderFault) -> Result<(), AllocError>
+        ensures { OnOk result (spec.Ends self.new) }
+    {
         let status = fault.status();
         let said = format!(in self.alloc; "{fault}")?;
         self.refuse(said, status);
@@ -22,7 +30,10 @@ impl Opening {
     }
 
     /// A file is refused: where, and what is wrong there, is said, if that is asked for.
-    pub(crate) fn refuse_text(&mut self, fault: FilesFault) -> Result<(), AllocError> {
+    #[tactic(auto, using(crate::proofs::Beginnings::positive))]
+    pub(crate) fn refuse_text(&mut self, fault: FilesFault) -> Result<(), AllocError>
+        ensures { OnOk result (spec.Ends self.new) }
+    {
         let place = if self.order.explain {
             place_of(self.alloc, &fault, &self.files)?
         } else {
@@ -52,7 +63,9 @@ impl Opening {
         said: &str,
         last: Option<LastLine>,
         status: u8,
-    ) -> Result<(), AllocError> {
+    ) -> Result<(), AllocError>
+        ensures { OnOk result (0 < status → spec.Ends self.new) }
+    {
         let said = match last {
             Some(last) => format!(in self.alloc; "{said}{last}")?,
             None => String::from_str(self.alloc, said)?,

@@ -2,7 +2,6 @@
 
 use crate::openings::Opening;
 use effects::{Effect, Hands};
-use run_session::Session;
 
 /// Opens a run: its exit status, if nothing is begun.
 fn open<H: Hands>(opening: &mut Opening, hands: &mut H) -> Option<u8> {
@@ -25,8 +24,6 @@ pub fn run<H: Hands>(opening: &mut Opening, hands: &mut H) -> Option<u8> {
     if let Some(status) = open(opening, hands) {
         return Some(status);
     }
-    let client = opening.client.take()?;
-    let begun = opening.begun.take()?;
-    let mut session = Session::new(client, begun);
+    let mut session = opening.session()?;
     run_session::run(&mut session, hands)
 }

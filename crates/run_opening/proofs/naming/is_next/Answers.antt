@@ -1,7 +1,5 @@
-use Rattle.std.proofs.Common.{◌≡◌, ◌-◌, ◌++◌, length, drop, codes, ap, sym, ◌∙◌}
-use Rattle.std.proofs.lemmas.List.{append_cancel_right, take-append-drop}
-use Rattle.std.proofs.lemmas.Slice.Eq.{bytes_eq-Decides}
-use Rattle.dme_files.proofs.names.is_next.Goals as goal
+use Rattle.run_opening.proofs.Names.{◌++◌, ◌-◌, ◌∙◌, ◌≡◌, ap, append_cancel_right, bytes_eq-Decides, codes, drop, length, sym, take-append-drop}
+use Rattle.run_opening.proofs.naming.is_next.Goals as goal
 
 pub returns-in-Some : goal.returns-in-Some
 returns-in-Some c =
