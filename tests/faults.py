@@ -3,8 +3,8 @@
 A short program is run with a record, a features file, a file of contacts and a log; then again with the first of these calls made to fail
 (`strace` answers an error in its place), then the second, up to the last; likewise the service that it drives, and a relay between them. Then:
 
-- what the run has shown as complete is in its record and in its features file, as `killed.py` reads them, and what the record says was reported
-  is a front of what the server's contacts file says that it did;
+- what the run has shown as complete is in its record and in its features file, as `killed.py` reads them, and what was reported by the
+  record is a prefix of what the server did by its contacts file;
 - each act that was reported is in the contacts file of the server, and in the told file of the relay;
 - a status of 0 is that of a run that is Done, and nothing then differs from a run that nothing disturbs; any other comes with a line that begins
   with `dme: `, and with no line twice;
@@ -120,7 +120,7 @@ def acts(text, number=None):
 
 
 def must_be_kept(folder, error):
-    """What was shown and reported is where it is to be."""
+    """The acts that were reported; what was shown as complete is in the files that could be written."""
     record = Record(read(folder, "part.record"))
     done = [it[0] for it in record.features]
     if (folder / "part.record").exists() and "cannot write part.record" not in error:
