@@ -234,17 +234,24 @@ impl Opening {
             self.stage = Stage::Opening(Text::Record);
             return Ok(());
         }
-        let kept = match &self.features {
-            Some(features) => features.list().len(),
-            None => 0,
-        };
         if self.is_stopped {
-            return self.stop(Some(kept));
+            return self.stop_alone();
         }
         match self.features.take() {
             Some(features) => self.take_kept(features),
             None => self.take_kept(FeatureLedger::new(self.alloc)),
         }
+    }
+
+    /// The stop file is there, and no record is named.
+    fn stop_alone(&mut self) -> Result<(), AllocError>
+        ensures { OnOk result (spec.Ends self.new) }
+    {
+        let kept = match &self.features {
+            Some(features) => features.list().len(),
+            None => 0,
+        };
+        self.stop(Some(kept))
     }
 
     /// The stop file is there: nothing is begun.
