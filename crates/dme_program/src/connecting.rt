@@ -3,11 +3,11 @@
 ghost use Rattle.std.specs.Prelude.{◌≡◌, true};
 ghost use Rattle.client_core.specs.Clients.{is_window};
 
-use crate::progress::Progress;
-use crate::tracing::TracingPort;
 use crate::explaining::{of_output, refused};
 use crate::faults::Fault;
 use crate::files::Sources;
+use crate::progress::Progress;
+use crate::tracing::TracingPort;
 use byte_ports::{Ports, Reading, Writing};
 use dme_orders::{
     ConnectionEnd, FilesFault, InputFiles, LoopTask, OrderFault, loop_over, setup_and_program,

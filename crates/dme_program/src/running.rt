@@ -6,14 +6,14 @@ ghost use Rattle.dme_words.specs.Ordered.{IsReady};
 ghost use Rattle.dme_program.specs.Blamed.{OnSetup};
 
 use crate::connecting::loop_program;
+use crate::explaining::{refused, tell_audit};
 use crate::exporting::{explain_topic, export, export_of_record, record_files, tell_notes};
+use crate::faults::Fault;
+use crate::files::{NamedSource, Sources};
 use crate::serving::serve;
 use crate::tracing::ErrorOutput;
 use crate::version;
 use crate::watching::watch;
-use crate::explaining::{refused, tell_audit};
-use crate::faults::Fault;
-use crate::files::{NamedSource, Sources};
 use byte_ports::{Writing, push_all};
 use dme_hands::RealHands;
 use dme_orders::{
@@ -158,7 +158,14 @@ fn lower<R: Files + Input + Print + Eprint + AllocGlobal>(
     let mut setup = sources.maybe(order.setup);
     let mut program = sources.file(order.program);
     let mut sink = Writing::new(io::writer(rt));
-    match lower_program(rt.alloc(), names, choices, &mut setup, &mut program, &mut sink) {
+    match lower_program(
+        rt.alloc(),
+        names,
+        choices,
+        &mut setup,
+        &mut program,
+        &mut sink,
+    ) {
         Ok(flat) => {
             let _ = push_all(&mut ErrorOutput::new(rt), flat.notes.as_slice());
             Ok(0)

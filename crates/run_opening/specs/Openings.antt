@@ -352,7 +352,7 @@ Keeps kept s t = (run : Run) (o : Outside) → IsNearlyOpened run s.core o.answe
 abbrev pub TakesClient : List Feature → ℕ → List ℕ → State → State → Type 0
 TakesClient kept n text s t = (run : Run) (o : Outside) → IsNearlyOpened run s.core o.answered
     → ((p : Meaning) (client : Option ClientEnd) (start : Option Start) → s.core.program ≡ Some p → are_ours p.features kept ≡ true
-        → Starts n (new_client_end p kept s.core.order.window) text client start → Begins run o.answered client start)
+    → Starts n (new_client_end p kept s.core.order.window) text client start → Begins run o.answered client start)
     → Holds run t o
 
 abbrev pub StartsClient : ClientEnd → ℕ → List ℕ → State → State → Type 0

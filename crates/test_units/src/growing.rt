@@ -38,7 +38,13 @@ const HELD_BESIDE: &str = "/tmp/dme_hands.held.new";
 fn a_file_is_locked_from_when_it_is_held_until_the_hands_are_gone(rt: HostRuntime) {
     assert!(rt; fs::write(&rt, HELD, b"old\n".as_slice()).is_ok());
     let mut hands = RealHands::new(rt);
-    assert!(rt; gives(&mut hands, Effect::Hold(Growth::Features, HELD), Answer::Done));
+    assert!(rt;
+        gives(
+            &mut hands,
+            Effect::Hold(Growth::Features, HELD),
+            Answer::Done
+        )
+    );
     assert!(rt; is_locked(&rt, HELD));
     let make = Effect::Make(Growth::Features, HELD, HELD_BESIDE, b"HEAD\n".as_slice());
     assert!(rt; gives(&mut hands, make, Answer::Found));
@@ -63,8 +69,20 @@ const FIRST: &str = "/tmp/dme_hands.first";
 fn a_held_file_that_is_let_go_is_as_it_was(rt: HostRuntime) {
     assert!(rt; fs::write(&rt, LEFT, b"old\n".as_slice()).is_ok());
     let mut hands = RealHands::new(rt);
-    assert!(rt; gives(&mut hands, Effect::Hold(Growth::Contacts, LEFT), Answer::Done));
-    assert!(rt; gives(&mut hands, Effect::Hold(Growth::Record, FIRST), Answer::Done));
+    assert!(rt;
+        gives(
+            &mut hands,
+            Effect::Hold(Growth::Contacts, LEFT),
+            Answer::Done
+        )
+    );
+    assert!(rt;
+        gives(
+            &mut hands,
+            Effect::Hold(Growth::Record, FIRST),
+            Answer::Done
+        )
+    );
     assert!(rt; gives(&mut hands, Effect::Exists(FIRST), Answer::Found));
     assert!(rt; gives(&mut hands, Effect::Discard(Growth::Contacts), Answer::Done));
     assert!(rt; gives(&mut hands, Effect::Discard(Growth::Record), Answer::Done));
@@ -79,7 +97,13 @@ const NO_NEXT: &str = "/tmp/dme_hands.no_next";
 #[test]
 fn a_held_file_whose_next_text_cannot_be_made_is_let_go(rt: HostRuntime) {
     let mut hands = RealHands::new(rt);
-    assert!(rt; gives(&mut hands, Effect::Hold(Growth::Features, NO_NEXT), Answer::Done));
+    assert!(rt;
+        gives(
+            &mut hands,
+            Effect::Hold(Growth::Features, NO_NEXT),
+            Answer::Done
+        )
+    );
     let make = Effect::Make(Growth::Features, NO_NEXT, "/tmp", b"HEAD\n".as_slice());
     assert!(rt; gives(&mut hands, make, Answer::Failed(Cause::Taken)));
     assert!(rt; gives(&mut hands, Effect::Exists(NO_NEXT), Answer::Done));
@@ -95,7 +119,13 @@ const BEGUN_BESIDE: &str = "/tmp/dme_hands.begun.new";
 fn a_record_that_has_begun_grows_and_stands_as_long_as_it_is_whole(rt: HostRuntime) {
     assert!(rt; fs::write(&rt, BEGUN, b"HEAD\n".as_slice()).is_ok());
     let mut hands = RealHands::new(rt);
-    assert!(rt; gives(&mut hands, Effect::Hold(Growth::Record, BEGUN), Answer::Done));
+    assert!(rt;
+        gives(
+            &mut hands,
+            Effect::Hold(Growth::Record, BEGUN),
+            Answer::Done
+        )
+    );
     let fill = Effect::Fill(Growth::Record, b"HEAD\n".as_slice(), 5, 5);
     assert!(rt; gives(&mut hands, fill, Answer::Done));
     let keep = Effect::Keep(Growth::Record, b"act\n".as_slice());
