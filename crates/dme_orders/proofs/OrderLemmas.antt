@@ -34,6 +34,18 @@ pub stops_at : {A B W : Type 0} (Reads : A → Type 0) (Leaves : A → B → Lis
 stops_at Reads Leaves w WhyNo f (Ok end) is why same = absurd is
 stops_at Reads Leaves w WhyNo f (Err given) is why same = blamed (subst WhyNo (sym is) why) same
 
+-- all files were read: one is blamed, or memory ran out
+pub refuses : {A B W : Type 0} (Reads : A → Type 0) (Leaves : A → B → List ℕ → Type 0) (w : Went W) (WhyNo : FilesFault → Type 0)
+    (f : FilesFault) (r : Result B FilesFault) → IsErrAnd r (λ given. given ≡ f) → (input : A) → Reads input → w.new ≡ w.old
+    → WhyNo f ⊎ (f ≡ FilesFault.Memory) → Carries Reads Leaves w WhyNo r
+refuses Reads Leaves w WhyNo f (Ok end) is input read same why = absurd is
+refuses Reads Leaves w WhyNo f (Err given) is input read same (inl why) = blamed (subst WhyNo (sym is) why) same
+refuses Reads Leaves w WhyNo f (Err given) is input read same (inr short) = no_memory (subst (λ (x : FilesFault). x ≡ FilesFault.Memory) (sym is) short) input read same
+
+pub first_why : {P M Q : Type 0} → (P → Q) → P ⊎ M → Q ⊎ M
+first_why h (inl p) = inl (h p)
+first_why h (inr m) = inr m
+
 -- the sink works, unless there was nothing to write
 pub works_or_empty : (failed : Bool) (Same : Type 0) (xs : List ℕ) → (0 < length xs → failed ≡ false) → (length xs ≡ 0 → Same)
     → (failed ≡ false) ⊎ ((xs ≡ []) × Same)
