@@ -143,9 +143,9 @@ fn push_feature(
     }
 }
 
-/// The first rows, up to this many.
+/// The first rows, up to this many. Does not allocate.
 #[tactic(auto, using(std::proofs::lemmas::List::take_all))]
-fn front<'a, 'b>(rows: &'a [Row<'b>], count: usize) -> &'a [Row<'b>]
+pub fn first_rows<'a, 'b>(rows: &'a [Row<'b>], count: usize) -> &'a [Row<'b>]
     ensures { result.now ≡ take count rows.now }
 {
     if count > rows.len() {
@@ -155,9 +155,9 @@ fn front<'a, 'b>(rows: &'a [Row<'b>], count: usize) -> &'a [Row<'b>]
     front
 }
 
-/// The rows after those.
+/// The rows after the first ones, if these are this many. Does not allocate.
 #[tactic(auto, using(std::proofs::lemmas::List::drop_all))]
-fn behind<'a, 'b>(rows: &'a [Row<'b>], count: usize) -> &'a [Row<'b>]
+pub fn later_rows<'a, 'b>(rows: &'a [Row<'b>], count: usize) -> &'a [Row<'b>]
     ensures { result.now ≡ drop count rows.now }
 {
     if count > rows.len() {
@@ -182,9 +182,9 @@ fn push_features(
     while let [first, others @ ..] = left {
         let count = first.touches.as_slice().len();
         let range = limits.range_for(&first.label);
-        push_feature(text, &first.label, range, front(later, count))?;
+        push_feature(text, &first.label, range, first_rows(later, count))?;
         left = others;
-        later = behind(later, count);
+        later = later_rows(later, count);
     }
     Ok(())
 }
@@ -199,7 +199,8 @@ fn is_out(verdict: Option<Verdict>) -> bool
     }
 }
 
-fn compared_count(limits: &Limits, rows: &[Row<'_>]) -> usize
+/// How many rows are compared with a limit. Does not allocate.
+pub fn compared_count(limits: &Limits, rows: &[Row<'_>]) -> usize
     ensures { result ≡ compared_count limits.now rows.now }
 {
     rows.iter()
@@ -207,7 +208,8 @@ fn compared_count(limits: &Limits, rows: &[Row<'_>]) -> usize
         .count()
 }
 
-fn out_count(limits: &Limits, rows: &[Row<'_>]) -> usize
+/// How many of them are out of their limits. Does not allocate.
+pub fn out_count(limits: &Limits, rows: &[Row<'_>]) -> usize
     ensures { result ≡ out_count limits.now rows.now }
 {
     rows.iter()

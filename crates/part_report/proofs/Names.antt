@@ -1,0 +1,7 @@
+-- The names of the crates below, and of the definitions of this one, that its proofs use.
+pub use Rattle.part_report.specs.Bars.{magnitude}
+pub use Rattle.part_report.specs.Markup.{escaped, escaped_byte, is_plain}
+pub use Rattle.part_report.specs.Sections.{rows_text, sections_text}
+pub use Rattle.std.proofs.Common.{[], ◌++◌, ◌<◌, ◌∷◌, ◌≡◌, drop, length, List, max, refl, true, ℕ}
+pub use Rattle.std.specs.Prelude.{fold}
+pub use Rattle.std.specs.List.{list_all}

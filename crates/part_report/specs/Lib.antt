@@ -1,0 +1,4 @@
+pub mod Markup
+pub mod Bars
+pub mod Sections
+pub mod Pages
