@@ -60,7 +60,7 @@ pub(crate) fn feature_noun(count: usize) -> &'static str
 }
 
 /// Appends labels, each after a comma. Fails only if out of memory.
-fn push_more(text: &mut String, labels: &[Name]) -> Result<(), AllocError>
+pub(crate) fn push_more(text: &mut String, labels: &[Name]) -> Result<(), AllocError>
     ensures { OnOk result (string_bytes text.new
         ≡ string_bytes text.old ++ more_labels labels.now) }
 {

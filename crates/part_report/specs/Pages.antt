@@ -9,7 +9,18 @@ use Rattle.part_limits.specs.declared.entries.Limit.{Limit}
 use Rattle.part_report.specs.Bars.{greatest}
 use Rattle.part_report.specs.Markup.{markup, escaped, between, news}
 use Rattle.part_report.specs.Sections.{sections_text}
-use Rattle.part_report.specs.declared.pages.Facts.{Facts}
+
+-- what a page says of a part besides its points: the part, the program, how many features were measured, of how many, which are missing,
+-- whether each has its run of contacts, the line of that verdict, and the lines of the server's errors
+pub record PageFacts : Type 0 where
+  pub part : List ℕ
+  pub program : List ℕ
+  pub measured : ℕ
+  pub asked : ℕ
+  pub missing : List ℕ
+  pub sound : Bool
+  pub verdict : List ℕ
+  pub errors : List ℕ
 
 -- the start of the page, with the part as its title
 unfoldable pub head_text : List ℕ → List ℕ
@@ -21,9 +32,9 @@ head_text part = markup (codes "<!DOCTYPE html>\n<html lang=\"en\"><head><meta c
     ++ markup (codes "tr,h2{break-inside:avoid}h2{break-after:avoid}</style></head><body>\n"))))))
 
 -- whether the part is complete, and the features that are missing
-unfoldable pub complete_text : Facts → List ℕ
+unfoldable pub complete_text : PageFacts → List ℕ
 complete_text facts = markup (news (facts.measured == facts.asked)) ++ (decimal facts.measured ++ (markup (codes " of ")
-    ++ (decimal facts.asked ++ between (codes " features measured") facts.missing.now (codes "</p>\n"))))
+    ++ (decimal facts.asked ++ between (codes " features measured") facts.missing (codes "</p>\n"))))
 
 -- how many points are out of limits, of how many that have one
 unfoldable pub within_text : List Limit → List Row → List ℕ
@@ -36,15 +47,15 @@ limits_text (Some limits) rows = within_text limits rows
 limits_text None rows = markup (codes "<p>No limits were named.</p>\n")
 
 -- the verdict of the audit, and the errors that the server reported
-unfoldable pub audit_text : Facts → List ℕ
-audit_text facts = markup (news facts.sound) ++ (between (codes "Audit: ") facts.verdict.now (codes "</p>\n")
-    ++ between (codes "<pre>") facts.errors.now (codes "</pre>\n"))
+unfoldable pub audit_text : PageFacts → List ℕ
+audit_text facts = markup (news facts.sound) ++ (between (codes "Audit: ") facts.verdict (codes "</p>\n")
+    ++ between (codes "<pre>") facts.errors (codes "</pre>\n"))
 
 -- what the page says first
-unfoldable pub summary_text : Facts → Option (List Limit) → List Row → List ℕ
-summary_text facts limits rows = between (codes "<h1>Part ") facts.part.now (codes "</h1>\n")
+unfoldable pub summary_text : PageFacts → Option (List Limit) → List Row → List ℕ
+summary_text facts limits rows = between (codes "<h1>Part ") facts.part (codes "</h1>\n")
     ++ (complete_text facts ++ (limits_text limits rows ++ (audit_text facts
-    ++ between (codes "<p>Program: ") facts.program.now (codes "</p>\n"))))
+    ++ between (codes "<p>Program: ") facts.program (codes "</p>\n"))))
 
 -- how to check the page
 unfoldable pub end_text : List ℕ
@@ -52,9 +63,9 @@ end_text = markup (codes "<h2>How to check this page</h2>\n<p>dme audit --record
     ++ markup (codes "dme export --as csv --record prints the same numbers.</p>\n</body></html>\n")
 
 -- the page of a part, with a drawing of its program and features
-pub record IsPage (facts : Facts) (program : Meaning) (features : List Feature) (limits : Option (List Limit)) (rows : List Row)
+pub record IsPage (facts : PageFacts) (program : Meaning) (features : List Feature) (limits : Option (List Limit)) (rows : List Row)
     (text : List ℕ) : Type 0 where
   pub drawing : List ℕ
   pub drawn : IsDrawing program features drawing
-  pub is : text ≡ head_text facts.part.now ++ (summary_text facts limits rows
+  pub is : text ≡ head_text facts.part ++ (summary_text facts limits rows
       ++ (sections_text (greatest rows) limits program.features rows ++ (drawing ++ end_text)))

@@ -15,6 +15,7 @@ use dmis_program::Program;
 use drawings::write_drawing;
 use part_limits::Limits;
 use std::alloc::{AllocError, Global};
+use std::marker::Model;
 
 /// What a page says of a part besides its points.
 #[derive(Drop)]
@@ -35,6 +36,23 @@ pub struct Facts<'a> {
     pub verdict: &'a [u8],
     /// A line for each error that the server reported during the run of a feature.
     pub errors: &'a [u8],
+}
+
+impl<'a> Model for Facts<'a> {
+    ghost use Rattle.part_report.specs.Pages.{PageFacts};
+
+    ghost Value = { PageFacts };
+
+    ghost view = { λ f. record {
+      part = f.part.now;
+      program = f.program.now;
+      measured = f.measured;
+      asked = f.asked;
+      missing = f.missing.now;
+      sound = f.sound;
+      verdict = f.verdict.now;
+      errors = f.errors.now;
+    } };
 }
 
 #[tactic(auto, unfolding(crate::specs::Pages::head_text))]

@@ -1,0 +1,56 @@
+-- What the page of a record's part leaves (this profile).
+use Rattle.std.specs.Prelude.{◌≡◌, ◌⊎◌, ◌==◌, ℕ, List, [], ◌∷◌, ◌++◌, length, drop, codes, Option, Some, None, unwrap_or, Result}
+use Rattle.std.specs.List.{AllZip, flat_map}
+use Rattle.deviations.specs.Rows.{Row, IsRow, places_of}
+use Rattle.part_report.specs.Pages.{PageFacts, IsPage}
+use Rattle.record_text.specs.Records.{Recorded}
+use Rattle.dme_orders.specs.Auditing.{LeavesVerdict}
+use Rattle.dme_orders.specs.Input.{Named, RecordInput, ReadsHeld, WhyNoneHeld, AreUntouched, Limited, ReadsLimited, WhyNoLimited}
+use Rattle.dme_orders.specs.Missing.{IsMissing, labels_of, more_labels}
+use Rattle.dme_orders.specs.OfRecords.{IsOtherProgram, HoldsOthers}
+use Rattle.dme_orders.specs.Orders.{Went, Carries}
+use Rattle.dme_orders.specs.Reading.{Came}
+use Rattle.dme_orders.specs.Recorded.{IsOfProgram, features_in, told_in}
+use Rattle.dme_orders.specs.RunErrors.{errors_in, error_line}
+use Rattle.dme_orders.specs.declared.missing.Missing.{Missing}
+use Rattle.dme_orders.specs.declared.reading.FilesFault.{FilesFault}
+
+-- the part that a record names; nothing if it names none
+abbrev pub part_in : Option Recorded → List ℕ
+part_in None = []
+part_in (Some held) = unwrap_or held.part []
+
+-- which features are missing, after how many were measured
+abbrev pub missing_words : List (List ℕ) → List ℕ
+missing_words [] = []
+missing_words (label ∷ labels) = codes ", missing: " ++ (label ++ more_labels labels)
+
+-- what a page says of a record besides its points
+abbrev pub facts_of : List ℕ → RecordInput → ℕ → List ℕ → PageFacts
+facts_of name input status verdict = record {
+  part = part_in input.held;
+  program = name;
+  measured = length (features_in input.held);
+  asked = length input.program.features;
+  missing = missing_words (labels_of (drop (length (features_in input.held)) input.program.features));
+  sound = status == 0;
+  verdict = verdict;
+  errors = flat_map error_line (errors_in input.held);
+}
+
+-- the record is of the program, this is the page of its part, and these features are missing
+pub record LeavesPage (name : List ℕ) (read : Limited RecordInput) (missing : Missing) (text : List ℕ) : Type 0 where
+  pub same : IsOfProgram read.input.held read.input.program
+  pub rows : List Row
+  pub are : AllZip IsRow (places_of read.input.program.features (features_in read.input.held)) rows
+  pub status : ℕ
+  pub verdict : List ℕ
+  pub judged : LeavesVerdict read.input.program (features_in read.input.held) (told_in read.input.held) status verdict
+  pub is : IsPage (facts_of name read.input status verdict) read.input.program (features_in read.input.held) read.limits rows text
+  pub lacks : IsMissing read.input.program.features (features_in read.input.held) missing
+
+module _ {S J R W : Type 0} (s : Named S) (j : Came J) (r : Came R) (w : Went W) where
+  -- the page was written, or it was not: a file is blamed, or the record is of another program, or has other features
+  abbrev pub ReportsRecord : {L : Type 0} → Named L → List ℕ → Result Missing FilesFault → Type 0
+  ReportsRecord l name = Carries (ReadsLimited l (ReadsHeld s j r)) (LeavesPage name) w
+      (λ cause. WhyNoLimited l (AreUntouched s j r) (WhyNoneHeld s j r) cause ⊎ (IsOtherProgram s j r cause ⊎ HoldsOthers s j r cause))
