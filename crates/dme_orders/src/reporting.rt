@@ -86,8 +86,10 @@ fn page_of(
         alloc,
         &mut text,
         &facts,
-        (program, features),
-        (limits, rows.as_slice()),
+        program,
+        features,
+        limits,
+        rows.as_slice(),
     )?;
     Ok((missing, text))
 }

@@ -183,8 +183,10 @@ fn put_page(
     alloc: Global,
     out: &mut Vec<u8>,
     facts: &Facts<'_>,
-    (program, features): (&Program, &[Feature]),
-    (limits, rows): (&Option<Limits>, &[Row<'_>]),
+    program: &Program,
+    features: &[Feature],
+    limits: &Option<Limits>,
+    rows: &[Row<'_>],
 ) -> Result<(), AllocError>
     ensures { OnOk result (Adds (IsPage facts.now program.now features.now limits.now rows.now)
         out.old.items out.new.items) }
@@ -204,14 +206,16 @@ pub fn write_report(
     alloc: Global,
     out: &mut Vec<u8>,
     facts: &Facts<'_>,
-    (program, features): (&Program, &[Feature]),
-    (limits, rows): (&Option<Limits>, &[Row<'_>]),
+    program: &Program,
+    features: &[Feature],
+    limits: &Option<Limits>,
+    rows: &[Row<'_>],
 ) -> Result<(), AllocError>
     ensures ok { OnOk result (Adds (IsPage facts.now program.now features.now limits.now rows.now)
         out.old.items out.new.items) }
     ensures err { OnErr result (out.new.items ≡ out.old.items) }
 {
     let mut text = Vec::new(alloc);
-    put_page(alloc, &mut text, facts, (program, features), (limits, rows))?;
+    put_page(alloc, &mut text, facts, program, features, limits, rows)?;
     out.extend_from_slice(text.as_slice())
 }

@@ -176,7 +176,8 @@ fn put_section(
     out: &mut Vec<u8>,
     most: u128,
     limits: &Option<Limits>,
-    (label, rows): (&Name, &[Row<'_>]),
+    label: &Name,
+    rows: &[Row<'_>],
 ) -> Result<(), AllocError>
     requires { 0 < most }
     ensures { OnOk result (out.new.items
@@ -206,7 +207,7 @@ pub(crate) fn put_sections(
     while let [first, others @ ..] = left {
         let count = first.touches.as_slice().len();
         let own = first_rows(later, count);
-        put_section(alloc, out, most, limits, (&first.label, own))?;
+        put_section(alloc, out, most, limits, &first.label, own)?;
         left = others;
         later = later_rows(later, count);
     }
