@@ -6,7 +6,7 @@ use crate::files::{NamedSource, Sources};
 use byte_ports::Writing;
 use dme_orders::{
     ExportFiles, Exported, InputFiles, Missing, RecordFiles, RecordNotes, RecordText, explain,
-    export_files, export_record,
+    export_files, export_record, report_record,
 };
 use dme_words::{Export, PartReport, RecordExport, RecordForm};
 use refusal_guide::Topic;
