@@ -1,7 +1,12 @@
 -- What the page of a record's part leaves (this profile).
 use Rattle.std.specs.Prelude.{◌≡◌, ◌⊎◌, ◌==◌, ℕ, List, [], ◌∷◌, ◌++◌, length, drop, codes, Option, Some, None, unwrap_or, Result}
 use Rattle.std.specs.List.{AllZip, flat_map}
+use Rattle.contact_ledger.specs.declared.acts.Act.{Act}
+use Rattle.contact_ledger.specs.declared.features.Feature.{Feature}
 use Rattle.deviations.specs.Rows.{Row, IsRow, places_of}
+use Rattle.dmis_program.specs.Meaning.{Meaning}
+use Rattle.dmis_program.specs.declared.features.Wanted.{Wanted}
+use Rattle.part_limits.specs.declared.entries.Limit.{Limit}
 use Rattle.part_report.specs.Pages.{PageFacts, IsPage}
 use Rattle.record_text.specs.Records.{Recorded}
 use Rattle.dme_orders.specs.Auditing.{LeavesVerdict}
@@ -25,28 +30,35 @@ abbrev pub missing_words : List (List ℕ) → List ℕ
 missing_words [] = []
 missing_words (label ∷ labels) = codes ", missing: " ++ (label ++ more_labels labels)
 
--- what a page says of a record besides its points
-abbrev pub facts_of : List ℕ → RecordInput → ℕ → List ℕ → PageFacts
-facts_of name input status verdict = record {
-  part = part_in input.held;
+-- what a page says besides its points, of a part, the name of its program, what that asks for, what was measured, the lines of the server's
+-- errors, and the status and the line of the audit
+abbrev pub facts_of : (part name : List ℕ) → List Wanted → List Feature → (errors : List ℕ) → ℕ → List ℕ → PageFacts
+facts_of part name wanted features errors status verdict = record {
+  part = part;
   program = name;
-  measured = length (features_in input.held);
-  asked = length input.program.features;
-  missing = missing_words (labels_of (drop (length (features_in input.held)) input.program.features));
+  measured = length features;
+  asked = length wanted;
+  missing = missing_words (labels_of (drop (length features) wanted));
   sound = status == 0;
   verdict = verdict;
-  errors = flat_map error_line (errors_in input.held);
+  errors = errors;
 }
+
+-- the page of features, with the rows that are theirs and the audit of them by acts
+pub record IsPageOf (part name errors : List ℕ) (limits : Option (List Limit)) (program : Meaning) (features : List Feature)
+    (told : List (ℕ × Act)) (text : List ℕ) : Type 0 where
+  pub rows : List Row
+  pub are : AllZip IsRow (places_of program.features features) rows
+  pub status : ℕ
+  pub verdict : List ℕ
+  pub judged : LeavesVerdict program features told status verdict
+  pub is : IsPage (facts_of part name program.features features errors status verdict) program features limits rows text
 
 -- the record is of the program, this is the page of its part, and these features are missing
 pub record LeavesPage (name : List ℕ) (read : Limited RecordInput) (missing : Missing) (text : List ℕ) : Type 0 where
   pub same : IsOfProgram read.input.held read.input.program
-  pub rows : List Row
-  pub are : AllZip IsRow (places_of read.input.program.features (features_in read.input.held)) rows
-  pub status : ℕ
-  pub verdict : List ℕ
-  pub judged : LeavesVerdict read.input.program (features_in read.input.held) (told_in read.input.held) status verdict
-  pub is : IsPage (facts_of name read.input status verdict) read.input.program (features_in read.input.held) read.limits rows text
+  pub is : IsPageOf (part_in read.input.held) name (flat_map error_line (errors_in read.input.held)) read.limits read.input.program
+      (features_in read.input.held) (told_in read.input.held) text
   pub lacks : IsMissing read.input.program.features (features_in read.input.held) missing
 
 module _ {S J R W : Type 0} (s : Named S) (j : Came J) (r : Came R) (w : Went W) where

@@ -1,14 +1,12 @@
 // The page of a record's part, over ports.
 
 ghost use Rattle.std.specs.Prelude.{◌≡◌, ◌<◌, length, IfOk, IfErr, string_bytes};
-ghost use Rattle.std.specs.List.{AllZip};
-ghost use Rattle.deviations.specs.Rows.{IsRow, places_of};
 ghost use Rattle.dme_orders.specs.Exporting.{RefusesFeatures};
 ghost use Rattle.dme_orders.specs.Input.{named};
 ghost use Rattle.dme_orders.specs.Missing.{IsMissing};
 ghost use Rattle.dme_orders.specs.Orders.{went};
 ghost use Rattle.dme_orders.specs.Reading.{came};
-ghost use Rattle.dme_orders.specs.Reporting.{part_in, missing_words, ReportsRecord};
+ghost use Rattle.dme_orders.specs.Reporting.{part_in, missing_words, IsPageOf, ReportsRecord};
 
 use crate::auditing::verdict_line;
 use crate::missing::{Missing, missing_of, push_more};
@@ -22,7 +20,7 @@ use deviations::rows_of;
 use dmis_program::Program;
 use fixed_um::Name;
 use part_limits::Limits;
-use part_report::{Facts, write_report};
+use part_report::{Facts, report_text};
 use record_text::Record;
 use std::alloc::{AllocError, Global};
 
@@ -52,6 +50,7 @@ fn missing_words(alloc: Global, labels: &[Name]) -> Result<String, AllocError>
 }
 
 /// What a page names of a record: its part, its program, and the errors of its server.
+#[derive(Drop)]
 struct Named<'a> {
     part: &'a [u8],
     program: &'a [u8],
@@ -66,7 +65,13 @@ fn page_of(
     program: &Program,
     features: &[Feature],
     ledger: &ServerLedger,
-) -> Result<(Missing, Vec<u8>), FilesFault> {
+) -> Result<(Missing, Vec<u8>), FilesFault>
+    ensures page { IfOk result (λ end. IsPageOf named.now.part.now named.now.program.now
+        named.now.errors.now limits.now program.now features.now ledger.now end.1.items) }
+    ensures lacks { IfOk result (λ end. IsMissing program.now.features features.now end.0) }
+    ensures some { IfOk result (λ end. 0 < length end.1.items) }
+    ensures refused { IfErr result (RefusesFeatures program.now features.now) }
+{
     let rows = rows_of(alloc, program, features)?;
     let missing = missing_of(alloc, program, features)?;
     let lacking = missing_words(alloc, missing.labels.as_slice())?;
@@ -81,16 +86,7 @@ fn page_of(
         verdict: verdict.as_slice(),
         errors: named.errors,
     };
-    let mut text = Vec::new(alloc);
-    write_report(
-        alloc,
-        &mut text,
-        &facts,
-        program,
-        features,
-        limits,
-        rows.as_slice(),
-    )?;
+    let text = report_text(alloc, &facts, program, features, limits, rows.as_slice())?;
     Ok((missing, text))
 }
 

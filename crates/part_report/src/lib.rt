@@ -13,4 +13,4 @@ pub mod markup;
 mod pages;
 mod sections;
 
-pub use pages::{Facts, write_report};
+pub use pages::{Facts, report_text};

@@ -1,6 +1,6 @@
 // The whole page.
 
-ghost use Rattle.std.specs.Prelude.{◌≡◌, ◌==◌, ◌++◌, decimal, OnOk, OnErr};
+ghost use Rattle.std.specs.Prelude.{◌≡◌, ◌==◌, ◌<◌, ◌++◌, decimal, length, IfOk, OnOk};
 ghost use Rattle.drawings.specs.Texts.{Adds};
 ghost use Rattle.deviations.specs.Compared.{compared_count, out_count};
 ghost use Rattle.part_report.specs.Markup.{news};
@@ -198,24 +198,23 @@ fn put_page(
     put_end(out)
 }
 
-/// Appends the page of a part (HTML, complete in itself): whether it is complete, within its limits and audited; the rows of each feature of
-/// its program, with a bar for each deviation along the normal; and a drawing. Texts are escaped, and the numbers are those of the rows.
-///
-/// Fails only if out of memory, and then appends nothing.
-pub fn write_report(
+/// The page of a part (HTML, complete in itself): whether it is complete, within its limits and audited; the rows of each feature of its
+/// program, with a bar for each deviation along the normal; and a drawing. Texts are escaped, and the numbers are those of the rows. Fails
+/// only if out of memory.
+#[tactic(auto, using(crate::proofs::Filled::page_added, crate::proofs::Filled::page_has_text))]
+pub fn report_text(
     alloc: Global,
-    out: &mut Vec<u8>,
     facts: &Facts<'_>,
     program: &Program,
     features: &[Feature],
     limits: &Option<Limits>,
     rows: &[Row<'_>],
-) -> Result<(), AllocError>
-    ensures ok { OnOk result (Adds (IsPage facts.now program.now features.now limits.now rows.now)
-        out.old.items out.new.items) }
-    ensures err { OnErr result (out.new.items ≡ out.old.items) }
+) -> Result<Vec<u8>, AllocError>
+    ensures page { IfOk result (λ text. IsPage facts.now program.now features.now limits.now
+        rows.now text.items) }
+    ensures some { IfOk result (λ text. 0 < length text.items) }
 {
     let mut text = Vec::new(alloc);
     put_page(alloc, &mut text, facts, program, features, limits, rows)?;
-    out.extend_from_slice(text.as_slice())
+    Ok(text)
 }
