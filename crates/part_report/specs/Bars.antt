@@ -15,7 +15,7 @@ greatest rows = fold (λ most r. max most (magnitude r.along)) 1 rows
 
 -- how long a bar is, in units of which 50 are half of the cell
 abbrev pub bar_length : ℕ → ℕ → ℕ
-bar_length most n = min 50 (n * 50 / most)
+bar_length most n = min (n * 50 / most) 50
 
 -- a bar of a deviation below zero is turned to the left
 abbrev pub turn : ℤ → List ℕ
