@@ -7,6 +7,8 @@ use Rattle.dmis_program.specs.Judging.{judged}
 use Rattle.dmis_program.specs.Offsets.{offset_of}
 use Rattle.dmis_program.specs.declared.sayings.StatementMeaning.TheVariants as said
 use Rattle.program_lowering.specs.declared.above.Above.{Above}
+use Rattle.program_lowering.specs.Inches.{stated}
+use Rattle.program_lowering.proofs.InchLemmas.{judged_stated}
 
 -- which tool is selected does not matter, but whether one is
 settled_same : (frames : List (List ℕ × Point)) (t u : Option (List ℕ)) (wanted : Option ℕ) (n : ℕ) (m : StatementMeaning)
@@ -52,10 +54,11 @@ none_of : (o : Option (List ℕ)) → is_none (some_tool (is_some o)) ≡ is_non
 none_of None = refl
 none_of (Some name) = refl
 
-pub due_is : (frames : List (List ℕ × Point)) (aboves : List Statement) (a : Above) (s : Statement) → Stands aboves a
-    → due frames a s ≡ judged frames (context_at frames aboves) s
-due_is frames aboves a s h =
-    judged_alike frames (context_of a) (context_at frames aboves) s record {
+pub due_is : (frames : List (List ℕ × Point)) (aboves : List Statement) (a : Above) (b : Bool) (s : Statement) → Stands aboves a
+    → due frames a b s ≡ judged frames (context_at frames aboves) (stated b s)
+due_is frames aboves a b s h =
+    judged_stated frames (context_of a) b s
+    ∙ judged_alike frames (context_of a) (context_at frames aboves) (stated b s) record {
       number = h.number;
       tool = ap (λ (b : Bool). is_none (some_tool b)) h.tool ∙ none_of (nearest tool_said aboves);
       wanted = h.wanted;

@@ -11,6 +11,7 @@ use Rattle.dmis_program.specs.declared.faults.StatementFault.TheVariants as faul
 use Rattle.program_lowering.proofs.RunLemmas.{run_from_start, with_texts}
 use Rattle.program_lowering.proofs.Runs.{Written, run, steps_up_to}
 use Rattle.program_lowering.specs.declared.lowering.Lowered.{Lowered}
+use Rattle.program_lowering.specs.Inches.{all_stated}
 
 -- all of a text
 abbrev pub run_of : List (List ℕ × Point) → Choices → List ℕ → Result Written (Refusal × ℕ)
@@ -37,8 +38,8 @@ pub written_of : (frames : List (List ℕ × Point)) (choices : Choices) (text :
 unfolding meaning_of
 written_of frames choices text w h =
     let statements = (text_reading text).statements in
-    let t = has_texts (steps_up_to frames (text_reading text).fault (length (lines text)) [] (kept choices statements))
-    (ended_lines (flat_lines (kept choices statements))) (notes_from choices statements) w
+    let t = has_texts (steps_up_to frames (text_reading text).fault (length (lines text)) [] (all_stated [] (kept choices statements)))
+    (ended_lines (flat_lines (all_stated [] (kept choices statements)))) (notes_from choices statements) w
     (sym (run_from_start frames choices (text_reading text).fault (length (lines text)) statements) ∙ h) in
     record { meaning = meaning_with t.steps; accepted = ap meant t.is; flat = t.text_is; notes_are = t.notes_are }
 
@@ -47,8 +48,8 @@ pub refused_of : (frames : List (List ℕ × Point)) (choices : Choices) (text :
 unfolding meaning_of
 refused_of frames choices text e h =
     let statements = (text_reading text).statements in
-    has_refusal (steps_up_to frames (text_reading text).fault (length (lines text)) [] (kept choices statements))
-    (ended_lines (flat_lines (kept choices statements))) (notes_from choices statements) e
+    has_refusal (steps_up_to frames (text_reading text).fault (length (lines text)) [] (all_stated [] (kept choices statements)))
+    (ended_lines (flat_lines (all_stated [] (kept choices statements)))) (notes_from choices statements) e
     (sym (run_from_start frames choices (text_reading text).fault (length (lines text)) statements) ∙ h)
 
 -- one statement more, by what the code gives at it

@@ -6,6 +6,7 @@ use Rattle.std.specs.Option.{option_map}
 use Rattle.dmis_program.specs.Keywords.{keyword_of}
 use Rattle.program_lowering.specs.Examples.{all_choices, bare, plain_choices, to_operator}
 use Rattle.program_lowering.specs.declared.words.Reason.TheVariants as reason
+use Rattle.program_lowering.specs.Inches.{in_inches, stated}
 
 pub printing : left_out plain_choices (bare (codes "VFORM") (codes "ALL" ∷ [])) ≡ Some reason.Printing
 unfolding keyword_of
@@ -88,3 +89,23 @@ text_blank = refl
 
 pub text_others : text_refusal (bare (codes "TEXT") (codes "OUTFIL" ∷ codes "A$B" ∷ [])) ≡ None
 text_others = refl
+
+pub unit_inch : (stated false (bare (codes "UNITS") (codes "INCH" ∷ codes "ANGDEC" ∷ []))).params ≡ codes "MM" ∷ codes "ANGDEC" ∷ []
+unfolding keyword_of
+unit_inch = refl
+
+pub unit_other : (stated false (bare (codes "UNITS") (codes "FEET" ∷ []))).params ≡ codes "FEET" ∷ []
+unfolding keyword_of
+unit_other = refl
+
+pub unit_on : in_inches (bare (codes "ENDMES") [] ∷ bare (codes "UNITS") (codes "INCH" ∷ []) ∷ []) ≡ true
+unfolding keyword_of
+unit_on = refl
+
+pub unit_off : in_inches (bare (codes "UNITS") (codes "MM" ∷ []) ∷ bare (codes "UNITS") (codes "INCH" ∷ []) ∷ []) ≡ false
+unfolding keyword_of
+unit_off = refl
+
+pub unit_polar : (stated true (bare (codes "GOTO") (codes "POL" ∷ codes "1" ∷ []))).params ≡ codes "POL" ∷ codes "1" ∷ []
+unfolding keyword_of
+unit_polar = refl

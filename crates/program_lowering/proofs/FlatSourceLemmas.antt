@@ -7,6 +7,20 @@ use Rattle.program_lowering.proofs.AboveLemmas.{accepted_if}
 use Rattle.program_lowering.proofs.RunLemmas.{accepted_known}
 use Rattle.program_lowering.proofs.ReadBackLemmas.{meant_steps}
 use Rattle.program_lowering.proofs.Runs.{steps_up_to}
+use Rattle.std.proofs.Common.{codes, ◌∙◌}
+use Rattle.std.specs.Str.{bytes_eq}
+use Rattle.std.proofs.lemmas.Slice.Eq.{bytes_eq-Decides}
+use Rattle.dmis_text.specs.Statements.{has_open_text}
+use Rattle.dmis_program.specs.Keywords.{keyword_of}
+use Rattle.dmis_program.specs.LookBack.{saying}
+use Rattle.dmis_program.specs.Sayings.{is_badly_formed, said_by, said_of, units}
+use Rattle.dmis_program.specs.declared.faults.Refusal.TheVariants.{BadArguments, NotMillimetres}
+use Rattle.dmis_program.specs.declared.keywords.Keyword.{Keyword}
+use Rattle.dmis_program.specs.declared.keywords.Keyword.TheVariants as word
+use Rattle.dmis_program.specs.declared.sayings.StatementMeaning.TheVariants.{Passes}
+use Rattle.program_lowering.specs.Inches.{all_stated, in_inches, inches_after, is_unit, params_in, stated, unit_params}
+use Rattle.program_review.specs.Notices.{begins_with}
+use Rattle.program_lowering.proofs.StatedLemmas.{text_same}
 
 -- what follows a statement that says this may be exchanged for what has the same steps
 same_front : (b : Bool) (front : List Step) (r q : Result (List Step) (Refusal × ℕ)) (steps : List Step)
@@ -78,10 +92,91 @@ kept_fits : (choices : Choices) (statements : List Statement) → Fit statements
 kept_fits choices [] h = tt
 kept_fits choices (s ∷ statements) h = (h.0, filter_fits choices statements h.1)
 
+-- a unit that is accepted is the millimetre
+same_units : (params : List (List ℕ)) (m : StatementMeaning) → units params ≡ Ok m → (begins_with (codes "INCH") params ≡ false) × (unit_params params ≡ params)
+same_units [] m h = absurd cc
+same_units (first ∷ rest) m h = go (bytes_eq first (codes "MM")) refl h
+  where
+    go : (b : Bool) → bytes_eq first (codes "MM") ≡ b → cond b (Ok Passes) (Err NotMillimetres) ≡ Ok m
+        → (bytes_eq first (codes "INCH") ≡ false) × (cond (bytes_eq first (codes "INCH")) (codes "MM") first ∷ rest ≡ first ∷ rest)
+    go false e g = absurd cc
+    go true e g = let is = (bytes_eq-Decides first (codes "MM")).0 e in rw is (refl, refl)
+
+-- a statement of a flat program is in millimetres already
+record InMillimetres (s : Statement) : Type 0 where
+  same : stated false s ≡ s
+  unit : inches_after false s ≡ false
+
+said_units : (s : Statement) (m : StatementMeaning) → said_of word.Units s ≡ Ok m → units s.params ≡ Ok m
+unfolding said_of said_by
+said_units s m h = go (is_badly_formed word.Units s) h
+  where
+    go : (b : Bool) → cond b (Err BadArguments) (units s.params) ≡ Ok m → units s.params ≡ Ok m
+    go true h = absurd cc
+    go false h = h
+
+by_word : (s : Statement) (k : Keyword) (m : StatementMeaning) → keyword_of s.word ≡ k → said_of k s ≡ Ok m
+    → (params_in k false s.params ≡ s.params) × (cond (is_unit k) (begins_with (codes "INCH") s.params) false ≡ false)
+by_word s word.Units m e h = let u = same_units s.params m (said_units s m h) in (u.1, u.0)
+by_word s word.Goto m e h = (refl, refl)
+by_word s word.Ptmeas m e h = (refl, refl)
+by_word s word.Dmismn m e h = (refl, refl)
+by_word s word.Meas m e h = (refl, refl)
+by_word s word.Endmes m e h = (refl, refl)
+by_word s word.Snslct m e h = (refl, refl)
+by_word s word.Recall m e h = (refl, refl)
+by_word s word.Endfil m e h = (refl, refl)
+by_word s word.Mode m e h = (refl, refl)
+by_word s word.Definition m e h = (refl, refl)
+by_word s word.Passed m e h = (refl, refl)
+by_word s word.Unknown m e h = (refl, refl)
+
+in_millimetres_already : (s : Statement) (m : StatementMeaning) → saying s ≡ Ok m → InMillimetres s
+in_millimetres_already s m h =
+    let w = by_word s (keyword_of s.word) m refl h in
+    record {
+      same = ap (λ (params : List (List ℕ)). record s { params = params }) (either (has_open_text s) _ w.0);
+      unit = w.1;
+    }
+  where
+    either : (o : Bool) (y : List (List ℕ)) → y ≡ s.params → cond o s.params y ≡ s.params
+    either true y e = refl
+    either false y e = e
+
+stated_on : (frames : List (List ℕ × Point)) (fault : Option TextFault) (lines : ℕ) (aboves sources : List Statement) (s : Statement)
+    (below : List Statement) (steps : List Step) (r : Result StatementMeaning Refusal) → judged frames (context_at frames aboves) s ≡ r
+    → in_inches sources ≡ false
+    → ((more : List Step) → in_inches (s ∷ sources) ≡ false → steps_from frames fault lines (s ∷ aboves) below ≡ Ok more
+    → steps_from frames fault lines (s ∷ aboves) (all_stated (s ∷ sources) below) ≡ Ok more)
+    → continued s.line r (steps_of frames (context_at frames aboves)) (steps_from frames fault lines (s ∷ aboves) below) ≡ Ok steps
+    → steps_from frames fault lines aboves (all_stated sources (s ∷ below)) ≡ Ok steps
+stated_on frames fault lines aboves sources s below steps (Err refusal) e unit behind h = absurd cc
+stated_on frames fault lines aboves sources s below steps (Ok m) e unit behind h =
+    let mm = in_millimetres_already s m (accepted_if frames (context_at frames aboves) s m e).says in
+    let next : in_inches (s ∷ sources) ≡ false = ap (λ (b : Bool). inches_after b s) unit ∙ mm.unit in
+    let same : stated (in_inches sources) s ≡ s = ap (λ (b : Bool). stated b s) unit ∙ mm.same in
+    rw (same, e) (same_front (closes m) (steps_of frames (context_at frames aboves) m) (steps_from frames fault lines (s ∷ aboves) below)
+    (steps_from frames fault lines (s ∷ aboves) (all_stated (s ∷ sources) below)) steps (λ more g. behind more next g) h)
+
+stated_alike : (frames : List (List ℕ × Point)) (fault : Option TextFault) (lines : ℕ) (aboves sources below : List Statement) (steps : List Step)
+    → in_inches sources ≡ false → steps_from frames fault lines aboves below ≡ Ok steps
+    → steps_from frames fault lines aboves (all_stated sources below) ≡ Ok steps
+stated_alike frames fault lines aboves sources [] steps unit h = h
+stated_alike frames fault lines aboves sources (s ∷ below) steps unit h =
+    stated_on frames fault lines aboves sources s below steps (judged frames (context_at frames aboves) s) refl unit
+    (λ more next g. stated_alike frames fault lines (s ∷ aboves) (s ∷ sources) below more next g) h
+
+stated_fits : (sources statements : List Statement) → Fit statements → Fit (all_stated sources statements)
+stated_fits sources [] h = tt
+stated_fits sources (s ∷ statements) h = (text_same (in_inches sources) s ∙ h.0, stated_fits (s ∷ sources) statements h.1)
+
 pub flat_source : (frames : List (List ℕ × Point)) (choices : Choices) (fault : Option TextFault) (lines : ℕ) (statements : List Statement)
     (m : Meaning) → AllByRecursion (λ (s : Statement). text_refusal s ≡ None) statements → meant (steps_from frames fault lines [] statements) ≡ Ok m
-    → meant (steps_up_to frames fault lines [] (kept choices statements)) ≡ Ok m
+    → meant (steps_up_to frames fault lines [] (all_stated [] (kept choices statements))) ≡ Ok m
 flat_source frames choices fault lines statements m fit h =
     let found = meant_steps m (steps_from frames fault lines [] statements) h in
-    rw (all_fit fault (kept choices statements) (kept_fits choices statements fit), flat_kept frames choices fault lines statements found.0 found.1)
+    rw (
+      all_fit fault (all_stated [] (kept choices statements)) (stated_fits [] (kept choices statements) (kept_fits choices statements fit)),
+      stated_alike frames fault lines [] [] (kept choices statements) found.0 refl (flat_kept frames choices fault lines statements found.0 found.1),
+    )
     (ap (λ (all : Meaning). Ok all) (sym found.2))

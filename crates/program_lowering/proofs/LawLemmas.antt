@@ -9,6 +9,7 @@ use Rattle.program_lowering.proofs.FlatSourceLemmas.{flat_source}
 use Rattle.program_lowering.proofs.LineCounts.{lines_few}
 use Rattle.program_lowering.proofs.ReadBackLemmas.{HasShortLine, acts_back, reads_back}
 use Rattle.program_lowering.proofs.RunLemmas.{ended_append}
+use Rattle.program_lowering.specs.Inches.{all_stated}
 
 -- the numbers of lines are small where the text has few lines
 numbers_short : (from to : ℕ) (statements : List Statement) → to ≤ 2 ^ 64 → AreNumbered from to statements → AllByRecursion HasShortLine statements
@@ -30,26 +31,30 @@ kept_short : (choices : Choices) (statements : List Statement) → AllByRecursio
 kept_short choices [] h = tt
 kept_short choices (s ∷ statements) h = (h.0, filter_short choices statements h.1)
 
+stated_short : (sources statements : List Statement) → AllByRecursion HasShortLine statements → AllByRecursion HasShortLine (all_stated sources statements)
+stated_short sources [] h = tt
+stated_short sources (s ∷ statements) h = (h.0, stated_short (s ∷ sources) statements h.1)
+
 pub programs_read_back : (frames : List (List ℕ × Point)) (choices : Choices) (text : List ℕ) (heads : List (List ℕ)) (m : Meaning)
     → length text < 2 ^ 64 → AllByRecursion IsComment heads → lowered_meaning frames choices text ≡ Ok m
     → program_of frames (ended_lines heads ++ flat_program choices text) ≡ Ok m
 unfolding meaning_of
 programs_read_back frames choices text heads m few comments h =
     let short = numbers_short 1 (1 + length (lines text)) (text_reading text).statements (omega (arith, few, lines_few text)) (numbered_is 1 (lines text)).0 in
-    ap (λ (t : List ℕ). program_of frames t) (sym (ended_append heads (flat_lines (kept choices (text_reading text).statements))))
-    ∙ reads_back frames (text_reading text).fault (length (lines text)) (kept choices (text_reading text).statements) heads m
-    (kept_short choices (text_reading text).statements short) comments h
+    ap (λ (t : List ℕ). program_of frames t) (sym (ended_append heads (flat_lines (all_stated [] (kept choices (text_reading text).statements)))))
+    ∙ reads_back frames (text_reading text).fault (length (lines text)) (all_stated [] (kept choices (text_reading text).statements)) heads m
+    (stated_short [] (kept choices (text_reading text).statements) (kept_short choices (text_reading text).statements short)) comments h
 
 pub texts_stay : (frames : List (List ℕ × Point)) (choices : Choices) (text : List ℕ) (heads : List (List ℕ)) (m : Meaning)
     → length text < 2 ^ 64 → AllByRecursion IsComment heads → lowered_meaning frames choices text ≡ Ok m
     → acts_of frames (text_reading (ended_lines heads ++ flat_program choices text)).statements
-    ≡ acts_of frames (kept choices (text_reading text).statements)
+    ≡ acts_of frames (all_stated [] (kept choices (text_reading text).statements))
 unfolding meaning_of
 texts_stay frames choices text heads m few comments h =
     let short = numbers_short 1 (1 + length (lines text)) (text_reading text).statements (omega (arith, few, lines_few text)) (numbered_is 1 (lines text)).0 in
-    ap (λ (t : List ℕ). acts_of frames (text_reading t).statements) (sym (ended_append heads (flat_lines (kept choices (text_reading text).statements))))
-    ∙ acts_back frames (text_reading text).fault (length (lines text)) (kept choices (text_reading text).statements) heads m
-    (kept_short choices (text_reading text).statements short) comments h
+    ap (λ (t : List ℕ). acts_of frames (text_reading t).statements) (sym (ended_append heads (flat_lines (all_stated [] (kept choices (text_reading text).statements)))))
+    ∙ acts_back frames (text_reading text).fault (length (lines text)) (all_stated [] (kept choices (text_reading text).statements)) heads m
+    (stated_short [] (kept choices (text_reading text).statements) (kept_short choices (text_reading text).statements short)) comments h
 
 pub sources_keep : (frames : List (List ℕ × Point)) (choices : Choices) (text : List ℕ) (m : Meaning) → TextsFit text → program_of frames text ≡ Ok m
     → lowered_meaning frames choices text ≡ Ok m

@@ -5,10 +5,12 @@ pub mod RunLemmas
 pub mod Solid
 pub mod SolidLemmas
 pub mod SolidParts
+pub mod InchLemmas
 pub mod LineLemmas
 pub mod SaidLemmas
 pub mod FlatLemmas
 pub mod TextLemmas
+pub mod StatedLemmas
 pub mod ReadBackLemmas
 pub mod FlatSourceLemmas
 pub mod LawLemmas

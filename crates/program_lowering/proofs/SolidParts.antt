@@ -73,6 +73,10 @@ pub written_solid : (z : ℤ) → unsigned_abs z ≤ volume_limit → solid (wri
 unfolding written
 written_solid z h = number_solid z (unsigned_abs z / 1000) (three_digits (unsigned_abs z)) (omega (arith, h)) (three_solid (unsigned_abs z))
 
+pub wire_solid : (z : ℤ) → unsigned_abs z ≤ 4000000000 → solid (written z) ≡ true
+unfolding written
+wire_solid z h = number_solid z (unsigned_abs z / 1000) (three_digits (unsigned_abs z)) (omega (arith, h)) (three_solid (unsigned_abs z))
+
 pub written_short : (z : ℤ) → unsigned_abs z ≤ volume_limit → length (written z) ≤ 100
 unfolding written
 written_short z h = number_short z (unsigned_abs z / 1000) (three_digits (unsigned_abs z)) (omega (arith, h)) (omega arith)

@@ -21,11 +21,11 @@ pub record IsWrittenOf (s : Statement) (m : StatementMeaning) (f : Flat) : Type 
   pub says : (n : ℕ) → saying (flat_statement f n) ≡ Ok m
   pub shown : (n : ℕ) → shown_by (flat_statement f n) ≡ shown_by s
 
-record IsText (s : Statement) : Type 0 where
-  formed : is_badly_formed word.Passed s ≡ false
-  word_is : s.word ≡ codes "TEXT"
+pub record IsText (s : Statement) : Type 0 where
+  pub formed : is_badly_formed word.Passed s ≡ false
+  pub word_is : s.word ≡ codes "TEXT"
 
-is_text : (s : Statement) → is_operator_text s ≡ true → IsText s
+pub is_text : (s : Statement) → is_operator_text s ≡ true → IsText s
 is_text s h = from (is_badly_formed word.Passed s) (bytes_eq s.word (codes "TEXT")) _ refl refl h
   where
     from : (a b c : Bool) → is_badly_formed word.Passed s ≡ a → bytes_eq s.word (codes "TEXT") ≡ b → cond a false (b && c) ≡ true → IsText s
@@ -37,7 +37,7 @@ second_false : (a b : Bool) → (a || b) ≡ false → b ≡ false
 second_false true b h = absurd cc
 second_false false b h = h
 
-text_word : keyword_of (codes "TEXT") ≡ word.Passed
+pub text_word : keyword_of (codes "TEXT") ≡ word.Passed
 unfolding keyword_of
 text_word = refl
 

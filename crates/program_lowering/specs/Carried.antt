@@ -1,19 +1,22 @@
 -- What the code carries from statement to statement: no public clause cites it. specs/Lowering.antt looks back instead.
-use Rattle.std.specs.Prelude.{◌≡◌, ℕ, ◌+◌, ◌==◌, Bool, true, false, List, [], ◌++◌, Option, Some, None, Result, Ok, Err, if◌then◌else◌}
+use Rattle.std.specs.Prelude.{◌≡◌, ℕ, ◌+◌, ◌==◌, nat_le, Bool, true, false, List, [], ◌++◌, Option, Some, None, Result, Ok, Err, if◌then◌else◌}
 use Rattle.dmis_text.specs.declared.elements.Statement.{Statement}
 use Rattle.fixed_um.specs.declared.frames.Frame.TheVariants.{Machine}
 use Rattle.fixed_um.specs.declared.lengths.Point.{Point}
 use Rattle.dmis_program.specs.Outcomes.{◌>>=◌}
+use Rattle.dmis_program.specs.Keywords.{keyword_of}
 use Rattle.dmis_program.specs.LookBack.{Context}
-use Rattle.dmis_program.specs.Judging.{judged, refused_by}
+use Rattle.dmis_program.specs.Judging.{refused_by, settled, word_refusal}
 use Rattle.dmis_program.specs.Meaning.{Meaning, closes}
 use Rattle.dmis_program.specs.declared.faults.Refusal.{Refusal}
+use Rattle.dmis_program.specs.declared.faults.Refusal.TheVariants.{TooLarge}
 use Rattle.dmis_program.specs.declared.faults.StatementFault.{StatementFault}
 use Rattle.dmis_program.specs.declared.faults.StatementFault.TheVariants as faults
 use Rattle.dmis_program.specs.declared.faults.ProgramFault.{ProgramFault}
 use Rattle.dmis_program.specs.declared.sayings.StatementMeaning.{StatementMeaning}
 use Rattle.dmis_program.specs.declared.sayings.StatementMeaning.TheVariants as said
 use Rattle.program_lowering.specs.Words.{left_out}
+use Rattle.program_lowering.specs.Inches.{inches_after, said_stated}
 use Rattle.program_lowering.specs.OperatorTexts.{flat_meant, text_refusal}
 use Rattle.program_lowering.specs.Lowering.{ended_lines, flat_program, line_for, lowered_meaning, note_for, notes_of, passed_over}
 use Rattle.program_lowering.specs.Lowered.{Refuses}
@@ -41,9 +44,15 @@ context_of above = record {
   touched = above.touched;
 }
 
--- what it says there, or the refusal that is due
-abbrev pub due : List (List ℕ × Point) → Above → Statement → Result StatementMeaning Refusal
-due frames above s = judged frames (context_of above) s
+-- what it says there, where the unit is the inch or not, or the refusal that is due
+unfoldable pub judged_in : List (List ℕ × Point) → Context → Bool → Statement → Result StatementMeaning Refusal
+judged_in frames c inches s =
+    if nat_le 10000 c.number then Err TooLarge else
+    refused_by (word_refusal c.number c.wanted (keyword_of s.word) s.params)
+    (said_stated inches (keyword_of s.word) s >>= settled frames c.tool c.wanted c.touched)
+
+abbrev pub due : List (List ℕ × Point) → Above → Bool → Statement → Result StatementMeaning Refusal
+due frames above inches s = judged_in frames (context_of above) inches s
 
 -- what is above the statement after one that says this
 abbrev pub one_more : Above → Above
@@ -59,11 +68,12 @@ after_said above _ = one_more above
 -- what is above, and what was written so far
 pub record Carried : Type 0 where
   pub above : Above
+  pub inches : Bool
   pub text : List ℕ
   pub notes : List ℕ
 
 abbrev pub nothing_carried : Carried
-nothing_carried = record { above = none_above; text = []; notes = [] }
+nothing_carried = record { above = none_above; inches = false; text = []; notes = [] }
 
 -- after a statement that is left out, and after one that says this
 abbrev pub noted : Carried → Statement → Option Reason → Carried
@@ -72,6 +82,7 @@ noted c s reason = record c { notes = c.notes ++ note_for s reason }
 abbrev pub followed : Carried → Statement → StatementMeaning → Carried
 followed c s meaning = record {
   above = after_said c.above meaning;
+  inches = inches_after c.inches s;
   text = c.text ++ ended_lines (line_for s.line (flat_meant s meaning));
   notes = c.notes ++ note_for s (passed_over s (Ok meaning));
 }
@@ -82,7 +93,7 @@ left_out_after choices number s = if number == 0 then None else left_out choices
 
 abbrev pub stepped : List (List ℕ × Point) → Carried → Statement → Option Reason → Result (Bool × Carried) Refusal
 stepped frames c s (Some reason) = Ok (false, noted c s (Some reason))
-stepped frames c s None = refused_by (text_refusal s) (due frames c.above s >>= λ meaning. Ok (closes meaning, followed c s meaning))
+stepped frames c s None = refused_by (text_refusal s) (due frames c.above c.inches s >>= λ meaning. Ok (closes meaning, followed c s meaning))
 
 -- after a statement: whether the program ends there, and what is carried on; or the refusal that is due
 abbrev pub step : List (List ℕ × Point) → Choices → Carried → Statement → Result (Bool × Carried) Refusal

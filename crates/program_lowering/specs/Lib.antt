@@ -2,6 +2,7 @@ pub mod Words
 pub mod Reasons
 pub mod Flats
 pub mod OperatorTexts
+pub mod Inches
 pub mod Acts
 pub mod Lowering
 pub mod Heads

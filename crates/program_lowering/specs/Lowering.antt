@@ -14,6 +14,7 @@ use Rattle.dmis_program.specs.declared.sayings.StatementMeaning.TheVariants as s
 use Rattle.program_lowering.specs.Words.{left_out, is_unknown, passed_reason}
 use Rattle.program_lowering.specs.Flats.{Flat, flat_line}
 use Rattle.program_review.specs.Texts.{is_operator_text}
+use Rattle.program_lowering.specs.Inches.{all_stated}
 use Rattle.program_lowering.specs.OperatorTexts.{flat_meant, up_to_refused}
 use Rattle.program_lowering.specs.Reasons.{reason_text}
 use Rattle.program_lowering.specs.declared.words.Choices.{Choices}
@@ -27,9 +28,9 @@ abbrev pub kept : Choices → List Statement → List Statement
 kept choices [] = []
 kept choices (s ∷ statements) = s ∷ filter (is_kept choices) statements
 
--- up to a text for the operator that one line cannot hold
+-- each in millimetres, up to a text for the operator that one line cannot hold
 abbrev pub kept_reading : Choices → Reading → Reading
-kept_reading choices reading = up_to_refused reading.fault (kept choices reading.statements)
+kept_reading choices reading = up_to_refused reading.fault (all_stated [] (kept choices reading.statements))
 
 -- what the text means without those that are left out, or its first refusal with its line
 abbrev pub lowered_meaning : List (List ℕ × Point) → Choices → List ℕ → Result Meaning (Refusal × ℕ)
@@ -64,7 +65,7 @@ ended_lines written = flat_map ended written
 
 -- the flat program of a text, but for its head
 abbrev pub flat_program : Choices → List ℕ → List ℕ
-flat_program choices text = ended_lines (flat_lines (kept choices (text_reading text).statements))
+flat_program choices text = ended_lines (flat_lines (all_stated [] (kept choices (text_reading text).statements)))
 
 -- why nothing is written of a statement: it is left out, or commands nothing
 abbrev pub passed_over : Statement → Result StatementMeaning Refusal → Option Reason

@@ -6,9 +6,8 @@ ghost use Rattle.dmis_program.specs.Judging.{is_too_few, settled, judged};
 ghost use Rattle.dmis_program.specs.Keywords.{keyword_of};
 ghost use Rattle.program_lowering.specs.Carried.{none_above, some_tool, due, after_said};
 
-use dmis_program::{
-    Frames, Keyword, Refusal, StatementFault, StatementMeaning, said_of, word_refusal,
-};
+use crate::inches::said_in;
+use dmis_program::{Frames, Keyword, Refusal, StatementFault, StatementMeaning, word_refusal};
 use dmis_text::Statement;
 use std::alloc::Global;
 
@@ -85,17 +84,18 @@ impl Above {
         }
     }
 
-    /// What a statement with this keyword says here, or the refusal that is due.
-    #[tactic(auto, unfolding(dmis_program::specs::Judging::judged))]
+    /// What a statement with this keyword says here, where the unit is the inch or not, or the refusal that is due.
+    #[tactic(auto, unfolding(crate::specs::Carried::judged_in))]
     pub(crate) fn judge(
         self,
         alloc: Global,
         frames: &Frames,
+        inches: bool,
         keyword: Keyword,
         statement: &Statement,
     ) -> Result<StatementMeaning, StatementFault>
         requires { keyword ≡ keyword_of statement.now.word }
-        ensures due { Gives result (due frames.now self statement.now) }
+        ensures due { Gives result (due frames.now self inches statement.now) }
         ensures few { IfOk result (λ _. self.number < 10000) }
     {
         if self.number >= MOST_STATEMENTS {
@@ -104,7 +104,7 @@ impl Above {
         if let Some(refusal) = word_refusal(self.number, self.wanted, keyword, &statement.params) {
             return Err(StatementFault::Refused(refusal));
         }
-        let meaning = said_of(alloc, keyword, statement)?;
+        let meaning = said_in(alloc, inches, keyword, statement)?;
         Ok(self.settled(frames, meaning)?)
     }
 

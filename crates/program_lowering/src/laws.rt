@@ -1,5 +1,5 @@
 // What follows from the definitions alone. Each function has laws for its contract and does nothing.
-ghost use Rattle.std.specs.Prelude.{◌≡◌, ◌<◌, ◌^◌, ◌++◌, ◌∷◌, [], ℕ, List, length, codes, false, true, Some, None, Ok};
+ghost use Rattle.std.specs.Prelude.{◌≡◌, ◌<◌, ◌^◌, ◌++◌, ◌∷◌, ◌*◌, [], ℕ, ℤ, pos, neg_ℤ, int_lt, unsigned_abs, List, length, codes, false, true, Some, None, Ok};
 ghost use Rattle.std.specs.Option.{option_map};
 ghost use Rattle.dmis_program.specs.declared.faults.Refusal.TheVariants.{BadByte};
 ghost use Rattle.dmis_program.specs.declared.sayings.StatementMeaning.TheVariants.{Passes};
@@ -10,6 +10,10 @@ ghost use Rattle.dmis_text.specs.Reading.{text_reading};
 ghost use Rattle.program_lowering.specs.Acts.{acts_of};
 ghost use Rattle.program_lowering.specs.Heads.{IsComment, Names, head_lines};
 ghost use Rattle.program_lowering.specs.Lowering.{ended_lines, flat_program, kept, lowered_meaning, passed_over};
+ghost use Rattle.fixed_um.specs.Limits.{component_limit};
+ghost use Rattle.fixed_um.specs.Numerals.{IsRounded, Reads, signed};
+ghost use Rattle.dmis_program.specs.Positions.{length_of};
+ghost use Rattle.program_lowering.specs.Inches.{all_stated, in_inches, in_millimetres, inch_length, stated};
 ghost use Rattle.program_lowering.specs.Examples.{all_choices, bare, plain_choices, to_operator};
 ghost use Rattle.program_lowering.specs.Flats.{flat, flat_text};
 ghost use Rattle.program_review.specs.Texts.{is_operator_text};
@@ -33,7 +37,31 @@ pub fn texts_stay_in_their_places()
         (heads : List (List ℕ)) (m : Meaning) → length text < 2 ^ 64
         → AllByRecursion IsComment heads → lowered_meaning frames choices text ≡ Ok m
         → acts_of frames (text_reading (ended_lines heads ++ flat_program choices text)).statements
-        ≡ acts_of frames (kept choices (text_reading text).statements) }
+        ≡ acts_of frames (all_stated [] (kept choices (text_reading text).statements)) }
+{}
+
+/// An inch is exactly 25.4 millimetres: a length in inches, read to a millionth, is written as the whole micrometre nearest to it.
+pub fn inches_are_exact()
+    ensures nearest { (z : ℤ) → IsRounded (signed (int_lt z (pos 0)) (254 * unsigned_abs z)) 10000
+        (inch_length z) }
+    ensures written { (text : List ℕ) (z : ℤ) → Reads 6 component_limit text (Ok z)
+        → length_of (in_millimetres text) ≡ Ok (inch_length z) }
+    ensures one_inch { inch_length (pos 1000000) ≡ pos 25400 }
+    ensures ten_thousandth { inch_length (neg_ℤ (pos 100)) ≡ neg_ℤ (pos 3) }
+{}
+
+/// Examples: a unit is the inch from its `UNITS` on, and is written as the millimetre.
+pub fn examples_of_units()
+    ensures inch { (stated false (bare (codes "UNITS") (codes "INCH" ∷ (codes "ANGDEC" ∷ [])))).params
+        ≡ codes "MM" ∷ (codes "ANGDEC" ∷ []) }
+    ensures other { (stated false (bare (codes "UNITS") (codes "FEET" ∷ []))).params
+        ≡ codes "FEET" ∷ [] }
+    ensures on { in_inches (bare (codes "ENDMES") [] ∷ (bare (codes "UNITS") (codes "INCH" ∷ []) ∷ []))
+        ≡ true }
+    ensures off { in_inches (bare (codes "UNITS") (codes "MM" ∷ [])
+        ∷ (bare (codes "UNITS") (codes "INCH" ∷ []) ∷ [])) ≡ false }
+    ensures polar { (stated true (bare (codes "GOTO") (codes "POL" ∷ (codes "1" ∷ [])))).params
+        ≡ codes "POL" ∷ (codes "1" ∷ []) }
 {}
 
 /// The head of a flat program is comments alone.

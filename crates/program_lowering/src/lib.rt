@@ -3,6 +3,7 @@
 //! - `words`: the words that a flat program does not have, and why each is left out
 //! - `flats`: the statement that is written for one that commands something
 //! - `lines`: the line that is written of a statement; texts for the operator are written as they are read
+//! - `inches`: what a statement says whose lengths are in inches
 //! - `heads`: the comments before a flat program
 //! - `above`: what the statements above leave for the one that is judged
 //! - `lowering`: `lower`, the flat program of a text, or its first refusal; `laws`: what follows from the definitions
@@ -14,6 +15,7 @@
 mod above;
 mod flats;
 mod heads;
+mod inches;
 pub mod laws;
 mod lines;
 mod lowering;

@@ -20,7 +20,7 @@ use std::alloc::{AllocError, Global};
 const LONGEST_LINE: usize = 4096;
 
 /// Whether the first parameter is this text.
-fn begins_with(other: &str, params: &[Text]) -> bool
+pub(crate) fn begins_with(other: &str, params: &[Text]) -> bool
     ensures { result ≡ begins_with other.now params.now }
 {
     match params.split_first() {

@@ -14,6 +14,7 @@ ghost use Rattle.program_lowering.specs.Lowered.{GivesLowered};
 use crate::above::Above;
 use crate::flats::{push_named, push_number};
 use crate::heads::{SourceNames, with_head};
+use crate::inches::inches_after;
 use crate::lines::{is_operator_text, push_line, text_refusal};
 use crate::words::{Choices, Reason, left_out, passed_reason, reason_text};
 use dmis_program::{
@@ -37,6 +38,7 @@ pub struct Lowered {
 struct Lowering {
     alloc: Global,
     above: Above,
+    inches: bool,
     text: Vec<u8>,
     notes: Vec<u8>,
 }
@@ -47,7 +49,7 @@ impl Model for Lowering {
 
     ghost Value = { Carried };
 
-    ghost view = { λ l. record { above = l.above; text = l.text.items; notes = l.notes.items } };
+    ghost view = { λ l. record { above = l.above; inches = l.inches; text = l.text.items; notes = l.notes.items } };
 
     ghost invariant = { λ l. (l.above.number ≤ 10000) × (l.above.touched ≤ l.above.number) };
 }
@@ -138,6 +140,7 @@ impl Lowering {
         Lowering {
             alloc,
             above: Above::none(),
+            inches: false,
             text: Vec::new(alloc),
             notes: Vec::new(alloc),
         }
@@ -172,6 +175,7 @@ impl Lowering {
             passed_over(keyword, statement, meaning),
         )?;
         self.above = self.above.after(meaning);
+        self.inches = inches_after(self.inches, keyword, statement);
         Ok(())
     }
 
@@ -192,7 +196,9 @@ impl Lowering {
         if let Some(refusal) = text_refusal(self.alloc, statement)? {
             return Err(StatementFault::Refused(refusal));
         }
-        let meaning = self.above.judge(self.alloc, frames, keyword, statement)?;
+        let meaning = self
+            .above
+            .judge(self.alloc, frames, self.inches, keyword, statement)?;
         self.follow(keyword, statement, &meaning)?;
         Ok(closes(&meaning))
     }
@@ -216,6 +222,7 @@ impl Lowering {
         let Lowering {
             alloc: _,
             above: _,
+            inches: _,
             text,
             notes,
         } = self;
