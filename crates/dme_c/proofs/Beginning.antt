@@ -3,7 +3,7 @@ use Rattle.dme_c.proofs.Names.{[], ◌∙◌, ◌≡◌, ◌≢◌, ◌≤◌, A
 use Rattle.dme_c.proofs.Names.{IsBadSetup, IsDue, IsDueFor, IsName, IsOfTexts, List, Meaning, Ok, RecordRefusal, RecordValue, refl, RefusesBytes}
 use Rattle.dme_c.proofs.Names.{Result, subst, sym, true, ℕ}
 use Rattle.dme_c.specs.Beginning.{IsAsked, IsBadPart, IsBegun, IsLabel, IsNoWindow, IsNumberOf, IsOfRecord, IsWhyNot, label_in, line_in}
-use Rattle.dme_c.specs.Beginning.{not_begun_number, RefusesRecord, Asks, part_of}
+use Rattle.dme_c.specs.Beginning.{Asks, not_begun_number, part_of, RefusesRecord}
 use Rattle.dme_c.specs.declared.record_making.NotBegun.{NotBegun}
 use Rattle.dme_c.proofs.Making.{setup_first, no_bad_setup, no_bad_program, here, elsewhere, unknown}
 

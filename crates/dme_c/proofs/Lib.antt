@@ -1,5 +1,6 @@
 -- What is proved of handles and calls.
 pub mod Names
+pub mod Boxed
 mod Beginning
 mod Calls
 mod Making

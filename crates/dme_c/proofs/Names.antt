@@ -18,3 +18,43 @@ pub use Rattle.std.proofs.lemmas.Bool.{false≢true}
 pub use Rattle.std.proofs.raw_atomic.Walks.{leaves, proved}
 pub use Rattle.std.specs.Box.Ownership.{box_owns}
 pub use Rattle.std.specs.contracts.impls.GlobalAllocator.TheImpl.{dict, ghosts}
+pub use base.Fml.{flft, ftrue}
+pub use base.Fraction.{full_share}
+pub use base.Logic.{emp, fst∗, id⊢, never}
+pub use borrow.Fn.Glue.{glue_by}
+pub use borrow.Fn.Impl.{method_Known, via_longer}
+pub use borrow.Fn.Kinds.{ended_of, ParamKind, r_unit, stays}
+pub use borrow.Fn.Run.{Over}
+pub use borrow.Kind.Owned.{p_owned}
+pub use contract.BorrowLft.{◌⊑◌}
+pub use contract.Monad.{fact, fact_i}
+pub use contract.Running.{tables}
+pub use denote.Exit.{no, yes}
+pub use denote.Laws.{shows}
+pub use denote.Memory.{cell_at, lone}
+pub use denote.Param.{arg, layout, layouts, param}
+pub use denote.Param.Laws.{arg_laws, Laws, param_laws, Told}
+pub use denote.Param.Mute.{Mute-seen}
+pub use denote.Param.NoDrop.{glues}
+pub use denote.RattleType.{RattleType, Valss}
+pub use denote.RawPtr.{block_ptr, in_a_block, null_ptr, Ptr, ptr_val, RawPtr}
+pub use denote.Ref.{mut_Tells, mut_vals, MutRef}
+pub use denote.Signature.{plain}
+pub use denote.Steps.{closes, heard, nothing, only, opens, peeks}
+pub use denote.Struct.Owning.{shape}
+pub use denote.Struct.Struct.{within}
+pub use denote.Triple.Call.{calls_at, calls_at_last}
+pub use denote.Triple.Carry.{AllWithin}
+pub use denote.Triple.Clauses.{at_exit, Lasts, lasts}
+pub use denote.Triple.Spec.{triple_of}
+pub use denote.Triple.Table.{framed}
+pub use denote.Triple.Walked.{Fit, Goes-dropped, Goes-ref, stay_dropped, stay_ref, Stays, walk_of}
+pub use mir.Syntax.{Dict, dnil, impl, method, named, tcons, tnil}
+pub use mir.Val.{Val, vptr, vunit}
+pub use types.ByLocal.{alloc_all, env, free_all, get, lands_as, lands_last, look_at, pass_all, sets, through}
+pub use types.Kit.{◌$◌, ◌∵◌, ◌⊛◌, !, at_ret, await, by, drop, feq_i, feq_l, fjoin, fjoin3, fpack, fsplit, fsplit3, group, join, keep, later, move}
+pub use types.Kit.{pick, qed, rewrite, some, split, split3, use0, use1, ‵}
+pub use types.Logic.{sem}
+pub use types.Part.{look_in, store_in, sub, whole}
+pub use types.Run.{and_then, assigns, blocks, enter, exec, first, fld, load, no_more, of_opd, returns, stop, unit_lit}
+pub use types.Tokens.{lft_new}

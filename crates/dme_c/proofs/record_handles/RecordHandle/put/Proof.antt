@@ -1,45 +1,18 @@
 -- `put` has what `into_raw` gives.
-use Rattle.dme_c.proofs.Names.{[], ◌∙◌, ◌∷◌, ◌≡◌, ap, box_owns, chunk, dict, ghosts, Goes-blank, leaves, List, passed, proved, refl, Some}
-use base.Fraction.{full_share}
-use base.Logic.{id⊢, fst∗, never, emp}
-use base.Fml.{ftrue, flft}
-use borrow.Fn.Glue.{glue_by}
-use borrow.Fn.Impl.{via_longer, method_Known}
-use borrow.Fn.Kinds.{ParamKind, ended_of, stays, r_unit}
-use borrow.Fn.Run.{Over}
-use borrow.Kind.Owned.{p_owned}
-use mir.Syntax.{Dict, named, impl, method, tcons, tnil, dnil}
+use Rattle.dme_c.proofs.Names.{[], ◌$◌, ◌∙◌, ◌∵◌, ◌∷◌, ◌≡◌, ◌⊑◌, ◌⊛◌, !, alloc_all, AllWithin, and_then, ap, arg, arg_laws, assigns, at_exit, await}
+use Rattle.dme_c.proofs.Names.{block_ptr, box_owns, by, calls_at, cell_at, chunk, closes, Dict, dict, dnil, drop, emp, ended_of, enter, fact, fact_i}
+use Rattle.dme_c.proofs.Names.{feq_i, feq_l, Fit, fjoin, fld, flft, fpack, framed, free_all, fsplit3, fst∗, ftrue, full_share, get, ghosts, glue_by}
+use Rattle.dme_c.proofs.Names.{glues, Goes-blank, Goes-ref, group, id⊢, impl, in_a_block, join, keep, lands_as, Lasts, lasts, later, Laws, layout}
+use Rattle.dme_c.proofs.Names.{layouts, leaves, lft_new, List, lone, look_at, method, method_Known, move, mut_Tells, mut_vals, Mute-seen, MutRef}
+use Rattle.dme_c.proofs.Names.{named, never, no, no_more, nothing, null_ptr, of_opd, only, opens, Over, p_owned, param, param_laws, ParamKind}
+use Rattle.dme_c.proofs.Names.{pass_all, passed, peeks, pick, plain, proved, Ptr, ptr_val, qed, r_unit, RattleType, RawPtr, refl, returns, rewrite}
+use Rattle.dme_c.proofs.Names.{sem, sets, shape, shows, Some, some, split, split3, stay_dropped, stay_ref, Stays, stays, stop, store_in, sub, tables}
+use Rattle.dme_c.proofs.Names.{tcons, through, tnil, Told, triple_of, unit_lit, use0, use1, Val, Valss, via_longer, vptr, vunit, walk_of, whole}
+use Rattle.dme_c.proofs.Names.{within, yes, ‵}
 use mir.Raw.{raw as bare}
-use mir.Val.{Val, vptr, vunit}
-use contract.Monad.{fact, fact_i}
-use contract.BorrowLft.{◌⊑◌}
-use contract.Running.{tables, tables_of}
-use types.Logic.{sem}
-use types.Kit.{‵, raw, ◌⊛◌, some, later, ◌$◌, ◌∵◌, !, qed, by, move, keep, drop, use0, use1, split, split3, join, fsplit3, fjoin, fpack, feq_i, feq_l, pick, await, rewrite, group}
-use types.Tokens.{lft_new}
-use types.Run.{enter, of_opd, unit_lit, stop, fld, no_more, and_then, assigns, returns}
-use types.ByLocal.{alloc_all, pass_all, free_all, look_at, get, through, sets, lands_as}
-use types.Part.{whole, sub, store_in}
-use denote.Exit.{yes, no}
-use denote.Laws.{shows}
-use denote.Memory.{cell_at, lone}
-use denote.Param.{layout, layouts, arg, param}
-use denote.Param.Laws.{Laws, Told, arg_laws, param_laws}
-use denote.Param.Mute.{Mute-seen}
-use denote.Param.NoDrop.{glues}
-use denote.RattleType.{RattleType, Valss}
-use denote.RawPtr.{Ptr, RawPtr, block_ptr, null_ptr, ptr_val, in_a_block}
-use denote.Ref.{MutRef, mut_vals, mut_Tells}
-use denote.Signature.{plain}
-use denote.Steps.{nothing, only, opens, closes, peeks}
-use denote.Struct.Owning.{shape}
-use denote.Struct.Struct.{within}
-use denote.Triple.Call.{calls_at}
-use denote.Triple.Carry.{AllWithin}
-use denote.Triple.Clauses.{Lasts, lasts, at_exit}
-use denote.Triple.Spec.{triple_of}
-use denote.Triple.Table.{framed}
-use denote.Triple.Walked.{Fit, Stays, walk_of, stay_ref, stay_dropped, Goes-ref}
+use contract.Running.{tables_of}
+use types.Kit.{raw}
+use Rattle.dme_c.proofs.Boxed.{Z, Z_laws}
 use Rattle.std.specs.contracts.alloc.Global as G
 use Rattle.std.proofs.alloc.Global.TheLaws as G'
 use Rattle.std.specs.contracts.boxed.Box as box
@@ -58,18 +31,12 @@ use Rattle.dme_c.specs.contracts.record_handles.RecordHandle.put as f
 use Rattle.dme_c.proofs.record_handles.RecordHandle.put.Statement.{statement}
 use Rattle.dme_c.proofs.record_handles.RecordHandle.put.Code as code
 
--- the value and the allocator, as `into_raw` is passed them
+-- the value, as `into_raw` is passed it
 abbrev X : RattleType
 X = arg (bare (layout C.the_row)) no C.the_row
 
-abbrev Z : RattleType
-Z = arg (bare (layout G.the_row)) no G.the_row
-
 abbrev X_laws : Laws X
 X_laws = arg_laws (bare (layout C.the_row)) no C.the_row C'.the_row_laws refl
-
-abbrev Z_laws : Laws Z
-Z_laws = arg_laws (bare (layout G.the_row)) no G.the_row G'.the_row_laws refl
 
 abbrev B : RattleType
 B = box.the_row C.the_row G.the_row ghosts

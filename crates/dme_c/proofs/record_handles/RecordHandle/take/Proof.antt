@@ -1,37 +1,15 @@
 -- `take` gives what the handle owns to `from_raw`.
-use Rattle.dme_c.proofs.Names.{[], ◌∙◌, ◌∷◌, ◌≡◌, ap, box_owns, chunk, dict, ghosts, held_at, IsSome, leaves, List, None, Option, passed, proved}
-use Rattle.dme_c.proofs.Names.{refl, Some, sym}
-use base.Fraction.{full_share}
-use base.Logic.{id⊢, fst∗, never, emp}
-use base.Fml.{ftrue, flft}
-use mir.Syntax.{named, impl, tcons, tnil, dnil}
+use Rattle.dme_c.proofs.Names.{[], ◌$◌, ◌∙◌, ◌∵◌, ◌∷◌, ◌≡◌, ◌⊑◌, ◌⊛◌, !, alloc_all, and_then, ap, arg, arg_laws, at_ret, await, block_ptr, blocks}
+use Rattle.dme_c.proofs.Names.{box_owns, by, calls_at_last, cell_at, chunk, closes, dict, dnil, drop, emp, enter, env, exec, fact, fact_i, feq_i}
+use Rattle.dme_c.proofs.Names.{first, fjoin, fjoin3, fld, flft, framed, free_all, fsplit, fsplit3, fst∗, ftrue, full_share, get, ghosts, glues}
+use Rattle.dme_c.proofs.Names.{Goes-dropped, Goes-ref, group, heard, held_at, id⊢, impl, in_a_block, IsSome, join, keep, lands_last, Lasts, lasts}
+use Rattle.dme_c.proofs.Names.{later, Laws, layout, leaves, lft_new, List, load, lone, look_at, look_in, move, mut_Tells, mut_vals, MutRef, named}
+use Rattle.dme_c.proofs.Names.{never, no, no_more, None, nothing, null_ptr, of_opd, opens, Option, pass_all, passed, peeks, pick, plain, proved, Ptr}
+use Rattle.dme_c.proofs.Names.{qed, RattleType, refl, returns, rewrite, sem, sets, shows, Some, some, split, split3, stay_dropped, stay_ref, Stays}
+use Rattle.dme_c.proofs.Names.{stop, sub, sym, tables, tcons, through, tnil, triple_of, use0, use1, Val, vptr, walk_of, whole, yes, ‵}
 use mir.Raw.{raw as bare}
-use mir.Val.{Val, vptr}
-use contract.Monad.{fact, fact_i}
-use contract.BorrowLft.{◌⊑◌}
-use contract.Running.{tables}
-use types.Logic.{sem}
-use types.Kit.{‵, raw, ◌⊛◌, some, later, at_ret, ◌$◌, ◌∵◌, !, qed, by, move, keep, drop, use0, use1, split, split3, join, fsplit, fsplit3, fjoin, fjoin3, feq_i, pick, await, rewrite, group}
-use types.Tokens.{lft_new}
-use types.Run.{enter, of_opd, load, stop, fld, no_more, and_then, first, blocks, exec, returns}
-use types.ByLocal.{alloc_all, pass_all, free_all, look_at, get, through, sets, lands_last, env}
-use types.Part.{whole, sub, look_in}
-use denote.Param.{layout, arg}
-use denote.Param.Laws.{Laws, arg_laws}
-use denote.RattleType.{RattleType}
-use denote.Param.NoDrop.{glues}
-use denote.Laws.{shows}
-use denote.Memory.{cell_at, lone}
-use denote.RawPtr.{Ptr, block_ptr, null_ptr, in_a_block}
-use denote.Ref.{MutRef, mut_vals, mut_Tells}
-use denote.Exit.{yes, no}
-use denote.Signature.{plain}
-use denote.Steps.{nothing, opens, closes, peeks, heard}
-use denote.Triple.Call.{calls_at_last}
-use denote.Triple.Clauses.{Lasts, lasts}
-use denote.Triple.Spec.{triple_of}
-use denote.Triple.Table.{framed}
-use denote.Triple.Walked.{Stays, walk_of, stay_ref, stay_dropped, Goes-ref, Goes-dropped}
+use types.Kit.{raw}
+use Rattle.dme_c.proofs.Boxed.{Z, Z_laws}
 use Rattle.std.specs.contracts.alloc.Global as G
 use Rattle.std.proofs.alloc.Global.TheLaws as G'
 use Rattle.std.specs.contracts.boxed.Box as box
@@ -47,18 +25,12 @@ use Rattle.dme_c.specs.contracts.record_handles.RecordHandle.take as f
 use Rattle.dme_c.proofs.record_handles.RecordHandle.take.Statement.{statement}
 use Rattle.dme_c.proofs.record_handles.RecordHandle.take.Code as code
 
--- the value and the allocator, as `from_raw` is passed them
+-- the value, as `from_raw` is passed it
 abbrev X : RattleType
 X = arg (bare (layout C.the_row)) no C.the_row
 
-abbrev Z : RattleType
-Z = arg (bare (layout G.the_row)) no G.the_row
-
 abbrev X_laws : Laws X
 X_laws = arg_laws (bare (layout C.the_row)) no C.the_row C'.the_row_laws refl
-
-abbrev Z_laws : Laws Z
-Z_laws = arg_laws (bare (layout G.the_row)) no G.the_row G'.the_row_laws refl
 
 abbrev B : RattleType
 B = box.the_row C.the_row G.the_row ghosts
