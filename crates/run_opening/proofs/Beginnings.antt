@@ -1,8 +1,9 @@
 -- What a run begins with is due, and a refusal has a status.
-use Rattle.run_opening.proofs.Names.{[], Answered, ap, are_ours, AreFeaturesRead, arith, Beginning, Begins, Bool, ClientEnd, Err, false, Feature}
-use Rattle.run_opening.proofs.Names.{is_some, IsFilled, IsLookedAt, IsProgramOf, IsProgramRead, IsRecordRead, IsSetupRead, Keeps, Leads, List}
-use Rattle.run_opening.proofs.Names.{Meaning, new_client_end, None, Ok, OnOk, Option, OrderFault, part_of, Result, Run, SetupValue, Some, Start}
-use Rattle.run_opening.proofs.Names.{Starts, State, status_of, subst, sym, TakesClient, true, true≢false, ℕ, ◌<◌, ◌∙◌, ◌≡◌}
+use Rattle.run_opening.proofs.Names.{[], Answered, ap, are_ours, AreFeaturesRead, arith, Beginning, Begins, begun, Bool, ClientEnd, end_connected}
+use Rattle.run_opening.proofs.Names.{Err, false, Feature, HasClient, HasGiven, is_some, IsFilled, IsLookedAt, IsOpened, IsProgramOf, IsProgramRead}
+use Rattle.run_opening.proofs.Names.{IsRecordRead, IsSetupRead, Keeps, Leads, length, List, may_connect, Meaning, new_client_end, None, Ok, OnOk}
+use Rattle.run_opening.proofs.Names.{Option, OrderFault, part_of, Result, Run, SetupValue, Some, Start, Starts, StartsClient, State, status_of, subst}
+use Rattle.run_opening.proofs.Names.{sym, TakesClient, true, true≢false, ℕ, ◌<◌, ◌∙◌, ◌≡◌}
 use Rattle.dme_orders.specs.declared.faults.OrderFault.TheVariants as fault
 
 program_read : (setup : Option SetupValue) (a : Answered) (p : Meaning) → IsSetupRead setup a.setup → IsProgramRead setup (Some p) a.program
@@ -53,6 +54,17 @@ alone_begins run setup program a kept s r named none without p client start is o
 pub on_ok : {T E : Type 0} (P Q : Type 0) (r : Result T E) → (P → Q) → OnOk r P → OnOk r Q
 on_ok P Q (Ok x) f p = f p
 on_ok P Q (Err e) f p = tt
+
+-- a client that was made
+pub opened_starts : (e f : ClientEnd) (n : ℕ) (text : List ℕ) (b : Start) (s v u t : State) → may_connect n e.client ≡ true → HasGiven s v
+    → f ≡ end_connected n e → b.growth ≡ begun n 0 (length e.client.table.tally.features) text → HasClient f b v u → Leads IsOpened u t
+    → StartsClient e n text s t
+opened_starts e f n text b s v u t can given same growth has leads run o nearly begins = leads run o (subst (λ (x : State). IsOpened run x.core o.answered) (sym has) (record {
+  confirm = given.confirm ∙ ap (λ (r : Run). r.confirm) nearly.0;
+  held = nearly.1.0;
+  free = nearly.1.1;
+  begins = begins (Some f) (Some b) (can, (same, growth));
+}))
 
 -- a run that keeps these features
 pub kept_keeps : (kept : List Feature) (s t : State) (text : List ℕ) → text ≡ [] → TakesClient kept 1 text s t → Keeps kept s t

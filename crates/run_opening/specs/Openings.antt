@@ -391,3 +391,7 @@ pub record HasGiven (s t : State) : Type 0 where
   pub stage : t.stage ≡ s.stage
   pub confirm : t.core.order.confirm ≡ s.core.order.confirm
   pub core : t.core ≡ record (s.core) { order = t.core.order }
+
+-- the run has its client
+abbrev pub HasClient : ClientEnd → Start → State → State → Type 0
+HasClient e start s t = t ≡ record s { core = record (s.core) { client = Some e; begun = Some start } }

@@ -1,8 +1,10 @@
 // The client of a run, and what is said before its server is called.
 
-ghost use Rattle.std.specs.Prelude.{◌≡◌, ◌≤◌, true, OnOk};
+ghost use Rattle.std.specs.Prelude.{◌≡◌, ◌≤◌, true, length, OnOk, IfOk};
 ghost use Rattle.client_core.specs.Clients.{may_connect};
 ghost use Rattle.contact_ledger.specs.Ledgers.{connection_most};
+ghost use Rattle.protocol_model.specs.Ends.{end_connected};
+ghost use Rattle.record_text.specs.Growths.{begun};
 ghost use Rattle.run_opening.specs.Openings as spec;
 
 use crate::openings::Opening;
@@ -93,39 +95,68 @@ impl Opening {
         }
     }
 
+    /// What comes first is to be said.
+    fn say_first(&mut self, client: &Client, places: &[TextPlace]) -> Result<(), AllocError>
+        ensures { self.new ≡ self.old }
+    {
+        self.say_kept(client)?;
+        if client.features().len() > 0 || self.order.confirm {
+            self.say_next(client, places)?;
+        }
+        Ok(())
+    }
+
+    /// What the run begins with, of this client, which comes to its connection.
+    fn begun_of(
+        &mut self,
+        client: &mut Client,
+        before: Before,
+        places: Vec<TextPlace>,
+    ) -> Result<Begun, AllocError>
+        requires { may_connect before.number client.old.client ≡ true }
+        ensures given { spec.HasGiven self.old self.new }
+        ensures client { OnOk result (client.new ≡ end_connected before.number client.old) }
+        ensures growth { IfOk result (λ b. b.growth ≡ begun before.number 0
+            (length client.old.client.table.tally.features) before.text.items) }
+    {
+        let Before { number, told, text } = before;
+        let run = self.run()?;
+        let errors = self.errors(client)?;
+        Begun::new(self.alloc, run, client, number, text, &told, errors, places)
+    }
+
+    /// The run has its client.
+    fn hold_client(&mut self, client: Client, begun: Begun)
+        ensures { spec.HasClient client begun self.old self.new }
+    {
+        self.client = Some(client);
+        self.begun = Some(begun);
+    }
+
+    /// What is to be said is said next.
+    fn tell(&mut self)
+        ensures { spec.Leads spec.IsOpened self.old self.new }
+    {
+        if self.said.is_empty() {
+            self.told();
+        } else {
+            self.stage = Stage::Telling;
+        }
+    }
+
     /// What comes first is to be said, and what the run begins with is made.
+    #[tactic(auto, using(crate::proofs::Beginnings::opened_starts))]
     fn prepare(&mut self, client: Client, before: Before) -> Result<(), AllocError>
         requires { may_connect before.number client.client ≡ true }
         ensures { OnOk result (spec.StartsClient client before.number before.text.items self.old
             self.new) }
     {
         let mut client = client;
-        let kept = client.features().len();
-        self.say_kept(&client)?;
         let places = self.places(&client)?;
-        if kept > 0 || self.order.confirm {
-            self.say_next(&client, places.as_slice())?;
-        }
-        let Before { number, told, text } = before;
-        let run = self.run()?;
-        let errors = self.errors(&client)?;
-        let begun = Begun::new(
-            self.alloc,
-            run,
-            &mut client,
-            number,
-            text,
-            &told,
-            errors,
-            places,
-        )?;
-        self.client = Some(client);
-        self.begun = Some(begun);
-        if self.said.is_empty() {
-            self.told();
-        } else {
-            self.stage = Stage::Telling;
-        }
+        self.say_first(&client, places.as_slice())?;
+        let begun = self.begun_of(&mut client, before, places)?;
+        self.hold_client(client, begun);
+        self.tell();
         Ok(())
     }
 
