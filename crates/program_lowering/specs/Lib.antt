@@ -1,3 +1,6 @@
+pub mod Ratios
+pub mod Values
+pub mod Rounds
 pub mod Words
 pub mod Reasons
 pub mod Flats
