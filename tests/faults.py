@@ -13,6 +13,7 @@ A short program is run with a record, a features file, a file of contacts and a 
 `releases.py` calls this; by itself: tests/faults.py [STEP], which takes each STEP-th call.
 """
 
+import os
 import pathlib
 import re
 import signal
@@ -59,7 +60,8 @@ class Room:
         words = [str(PROGRAM), *words]
         if name == self.disturbed:
             words = ["strace", "-o", "calls", *self.options, *words]
-        return subprocess.Popen(words, cwd=self.folder, stdout=subprocess.PIPE, stderr=subprocess.PIPE, text=True)
+        # In a group of its own, since `strace` leaves what it follows alone when it is ended.
+        return subprocess.Popen(words, cwd=self.folder, stdout=subprocess.PIPE, stderr=subprocess.PIPE, text=True, start_new_session=True)
 
     def listening(self, name, option, *words):
         port = free_port()
@@ -80,7 +82,7 @@ class Room:
             try:
                 results[name] = (process.returncode, *process.communicate(timeout=0.3 if results["run"][0] else SECONDS))
             except subprocess.TimeoutExpired:
-                process.send_signal(signal.SIGTERM)
+                os.killpg(process.pid, signal.SIGKILL)
                 process.communicate()
                 results[name] = (0, "", "")
             else:
