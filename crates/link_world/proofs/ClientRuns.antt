@@ -1,9 +1,9 @@
 -- A client's turns one after another: what comes in and goes out in all of them.
 use Rattle.link_world.proofs.Names.{[], ◌++◌, ◌+◌, ◌<◌, ◌≡◌, ◌≤◌, append-nil, append_assoc, Appends, Appends-nil, Appends-trans, arith, ClientEnd}
-use Rattle.link_world.proofs.Names.{ClientEnds, ClientFault, ClientMoved, ClientRan, ClientRun, ClientRunStopped, ClientRunWhy, ClientStopped}
-use Rattle.link_world.proofs.Names.{ClientTurn, ClientWhy, Consumes, Consumes-nil, Consumes-trans, end_left, Err, false, Framing, Fresh, Front}
-use Rattle.link_world.proofs.Names.{is_over, left_by, length, length-append, List, Moved, next_of, None, Ok, Option, Out, Phase, PumpFault, Reading}
-use Rattle.link_world.proofs.Names.{refl, Sending, sends, Some, Stage, steps_most, subst, sym, Taking, turns_most, Working, Writing, ℕ}
+use Rattle.link_world.proofs.Names.{ClientFault, ClientMoved, ClientRan, ClientRun, ClientRunStopped, ClientRunWhy, ClientStopped, ClientTurn}
+use Rattle.link_world.proofs.Names.{ClientWhy, Consumes, Consumes-nil, Consumes-trans, end_left, Err, false, Framing, Front, is_over, left_by, length}
+use Rattle.link_world.proofs.Names.{length-append, List, Moved, next_of, None, Ok, Option, PumpFault, Reading, refl, Sending, sends, Some, Stage}
+use Rattle.link_world.proofs.Names.{steps_most, subst, sym, Taking, turns_most, Working, Writing, ℕ}
 use Rattle.link_world.specs.Pumps.{begins, has, reads, takes, writes}
 use Rattle.link_world.specs.LinkRuns as run
 use Rattle.link_world.proofs.ClientPumps.{longer, two_less}
@@ -47,19 +47,19 @@ turn_enough least start _ _ _ _ (takes e read written t out may) = tt
 turn_enough least start _ _ _ _ (has e read written t enough) = enough
 turn_enough least start _ _ _ _ (reads e read written t may is) = turn_enough least start Reading read written e t
 
--- ---- rounds of a client
+-- ---- turns of a client
 
--- the run so far: each turn that asked for a byte had one, and no more is held than was held and came in
-pub record ClientSoFar (phase : Phase) (turns : ℕ) (old now : ClientEnd) (left left_now taken taken_now : Option (List ℕ)) : Type 0 where
+-- the run so far: each turn had a byte, and no more is held than was held and came in
+pub record ClientSoFar (turns : ℕ) (old now : ClientEnd) (left left_now taken taken_now : Option (List ℕ)) : Type 0 where
   pub read : List ℕ
   pub written : List ℕ
-  pub run : ClientRun old left taken phase turns read written now left_now taken_now
+  pub run : ClientRun old left taken turns read written now left_now taken_now
   pub consumed : Consumes left left_now read
   pub appended : Appends taken taken_now written
   pub many : turns ≤ length read
   pub held : length now.input.rest ≤ length old.input.rest + length read
 
-pub client_starts : (e : ClientEnd) (left taken : Option (List ℕ)) → ClientSoFar Fresh 0 e e left left taken taken
+pub client_starts : (e : ClientEnd) (left taken : Option (List ℕ)) → ClientSoFar 0 e e left left taken taken
 client_starts e left taken = record {
   read = [];
   written = [];
@@ -70,28 +70,9 @@ client_starts e left taken = record {
   held = omega arith;
 }
 
-pub client_gives : (turns : ℕ) (old mid new : ClientEnd) (left left_mid left_now taken taken_mid taken_now : Option (List ℕ))
-    (moved : Moved) → ClientSoFar Fresh turns old mid left left_mid taken taken_mid → is_over mid.client.state ≡ false
-    → ClientMoved 0 mid new left_mid left_now taken_mid taken_now moved
-    → ClientSoFar Out turns old new left left_now taken taken_now
-client_gives turns old mid new left left_mid left_now taken taken_mid taken_now moved h going m = record {
-  read = h.read ++ m.read;
-  written = h.written ++ m.written;
-  run = run.gives turns h.read h.written mid new left_mid left_now taken_mid taken_now moved h.run going m;
-  consumed = Consumes-trans left left_mid left_now h.read m.read h.consumed m.consumed;
-  appended = Appends-trans taken taken_mid taken_now h.written m.written h.appended m.appended;
-  many = let many = h.many in let total = length-append h.read m.read in omega (arith, many, total);
-  held = let then = turn_held 0 mid Reading m.read m.written new turn in
-      let before = h.held in let total = length-append h.read m.read in omega (arith, then, before, total);
-}
-  where
-    turn : ClientTurn 0 mid Reading m.read m.written new
-    turn = m.turn
-
-pub client_goes : (turns : ℕ) (old mid new : ClientEnd) (left left_mid left_now taken taken_mid taken_now : Option (List ℕ))
-    (moved : Moved) → ClientSoFar Out turns old mid left left_mid taken taken_mid → is_over mid.client.state ≡ false
-    → ClientMoved 1 mid new left_mid left_now taken_mid taken_now moved
-    → ClientSoFar Fresh (turns + 1) old new left left_now taken taken_now
+pub client_goes : (turns : ℕ) (old mid new : ClientEnd) (left left_mid left_now taken taken_mid taken_now : Option (List ℕ)) (moved : Moved)
+    → ClientSoFar turns old mid left left_mid taken taken_mid → is_over mid.client.state ≡ false
+    → ClientMoved 1 mid new left_mid left_now taken_mid taken_now moved → ClientSoFar (turns + 1) old new left left_now taken taken_now
 client_goes turns old mid new left left_mid left_now taken taken_mid taken_now moved h going m = record {
   read = h.read ++ m.read;
   written = h.written ++ m.written;
@@ -107,10 +88,9 @@ client_goes turns old mid new left left_mid left_now taken taken_mid taken_now m
     turn : ClientTurn 1 mid Reading m.read m.written new
     turn = m.turn
 
-pub client_ran : (phase : Phase) (turns : ℕ) (old new : ClientEnd) (left left_now taken taken_now : Option (List ℕ))
-    → ClientSoFar phase turns old new left left_now taken taken_now → turns ≤ turns_most → ClientRan old new left left_now taken taken_now
-client_ran phase turns old new left left_now taken taken_now h few = record {
-  phase = phase;
+pub client_ran : (turns : ℕ) (old new : ClientEnd) (left left_now taken taken_now : Option (List ℕ))
+    → ClientSoFar turns old new left left_now taken taken_now → turns ≤ turns_most → ClientRan old new left left_now taken taken_now
+client_ran turns old new left left_now taken taken_now h few = record {
   turns = turns;
   read = h.read;
   written = h.written;
@@ -121,29 +101,25 @@ client_ran phase turns old new left left_now taken taken_now h few = record {
 }
 
 -- the fault of a turn is one of the run
-why_of_run : (least read written held r w held_now : ℕ) (left_now : Option (List ℕ)) (e : ClientEnd) (f : PumpFault ClientFault)
-    → held_now ≤ held + read → ClientWhy least steps_most r w held_now left_now e f
-    → ClientRunWhy (read + r) (written + w) held left_now e f
-why_of_run least read written held r w held_now left_now e PumpFault.ReadFailed most why = tt
-why_of_run least read written held r w held_now left_now e PumpFault.WriteFailed most why = tt
-why_of_run least read written held r w held_now left_now e PumpFault.Ended most why = why.1
-why_of_run least read written held r w held_now left_now e PumpFault.TurnsSpent most why = omega (arith, most, why)
-why_of_run least read written held r w held_now left_now e (PumpFault.Core cause) most why = why
-why_of_run least read written held r w held_now left_now e PumpFault.Memory most why = tt
+why_of_run : (read written held r w held_now : ℕ) (left_now : Option (List ℕ)) (e : ClientEnd) (f : PumpFault ClientFault)
+    → held_now ≤ held + read → ClientWhy 1 steps_most r w held_now left_now e f → ClientRunWhy (read + r) (written + w) held left_now e f
+why_of_run read written held r w held_now left_now e PumpFault.ReadFailed most why = tt
+why_of_run read written held r w held_now left_now e PumpFault.WriteFailed most why = tt
+why_of_run read written held r w held_now left_now e PumpFault.Ended most why = why.1
+why_of_run read written held r w held_now left_now e PumpFault.TurnsSpent most why = omega (arith, most, why)
+why_of_run read written held r w held_now left_now e (PumpFault.Core cause) most why = why
+why_of_run read written held r w held_now left_now e PumpFault.Memory most why = tt
 
--- a turn that stops, in a run that ends so
-stopped_run : (phase : Phase) (turns least : ℕ) (old mid new : ClientEnd)
-    (left left_mid left_now taken taken_mid taken_now : Option (List ℕ)) (f : PumpFault ClientFault)
-    → (h : ClientSoFar phase turns old mid left left_mid taken taken_mid)
-    → (s : ClientStopped least steps_most mid new left_mid left_now taken_mid taken_now f)
-    → ClientEnds old new left left_now taken taken_now f (h.read ++ s.read) (h.written ++ s.written) s.lost s.last
+pub client_stops : (turns : ℕ) (old mid new : ClientEnd) (left left_mid left_now taken taken_mid taken_now : Option (List ℕ))
+    (f : PumpFault ClientFault) → ClientSoFar turns old mid left left_mid taken taken_mid → is_over mid.client.state ≡ false
+    → turns < turns_most → ClientStopped 1 steps_most mid new left_mid left_now taken_mid taken_now f
     → ClientRunStopped old new left left_now taken taken_now f
-stopped_run phase turns least old mid new left left_mid left_now taken taken_mid taken_now f h s ends = record {
+client_stops turns old mid new left left_mid left_now taken taken_mid taken_now f h going few s = record {
   read = h.read ++ s.read;
   written = h.written ++ s.written;
   lost = s.lost;
   last = s.last;
-  ends = ends;
+  ends = run.stops turns h.read h.written mid left_mid taken_mid f h.run going few s;
   leaves = s.leaves;
   consumed = subst (Consumes left left_now) (sym (append_assoc h.read s.read s.lost))
       (Consumes-trans left left_mid left_now h.read (s.read ++ s.lost) h.consumed s.consumed);
@@ -153,39 +129,20 @@ stopped_run phase turns least old mid new left left_mid left_now taken taken_mid
       (sym (length-append h.read s.read))
       (subst (λ (w : ℕ). ClientRunWhy (length h.read + length s.read) w (length old.input.rest) left_now s.last f)
       (sym (length-append h.written s.written))
-      (why_of_run least (length h.read) (length h.written) (length old.input.rest) (length s.read) (length s.written)
-      (length mid.input.rest) left_now s.last f h.held s.why));
+      (why_of_run (length h.read) (length h.written) (length old.input.rest) (length s.read) (length s.written) (length mid.input.rest)
+      left_now s.last f h.held s.why));
 }
 
-pub client_stops_giving : (turns : ℕ) (old mid new : ClientEnd)
-    (left left_mid left_now taken taken_mid taken_now : Option (List ℕ)) (f : PumpFault ClientFault)
-    → ClientSoFar Fresh turns old mid left left_mid taken taken_mid → is_over mid.client.state ≡ false
-    → turns < turns_most → ClientStopped 0 steps_most mid new left_mid left_now taken_mid taken_now f
-    → ClientRunStopped old new left left_now taken taken_now f
-client_stops_giving turns old mid new left left_mid left_now taken taken_mid taken_now f h going few s =
-    stopped_run Fresh turns 0 old mid new left left_mid left_now taken taken_mid taken_now f h s
-    (run.stops_giving turns h.read h.written mid left_mid taken_mid f h.run going few s)
-
-pub client_stops : (turns : ℕ) (old mid new : ClientEnd)
-    (left left_mid left_now taken taken_mid taken_now : Option (List ℕ)) (f : PumpFault ClientFault)
-    → ClientSoFar Out turns old mid left left_mid taken taken_mid → is_over mid.client.state ≡ false
-    → turns < turns_most → ClientStopped 1 steps_most mid new left_mid left_now taken_mid taken_now f
-    → ClientRunStopped old new left left_now taken taken_now f
-client_stops turns old mid new left left_mid left_now taken taken_mid taken_now f h going few s =
-    stopped_run Out turns 1 old mid new left left_mid left_now taken taken_mid taken_now f h s
-    (run.stops turns h.read h.written mid left_mid taken_mid f h.run going few s)
-
 pub client_spends : (turns : ℕ) (old last new : ClientEnd) (left left_now taken taken_now : Option (List ℕ))
-    → ClientSoFar Fresh turns old last left left_now taken taken_now
-    → is_over last.client.state ≡ false → turns ≡ turns_most → new ≡ end_left last
-    → ClientRunStopped old new left left_now taken taken_now PumpFault.TurnsSpent
+    → ClientSoFar turns old last left left_now taken taken_now → is_over last.client.state ≡ false → turns ≡ turns_most
+    → new ≡ end_left last → ClientRunStopped old new left left_now taken taken_now PumpFault.TurnsSpent
 client_spends turns old last new left left_now taken taken_now h going all is = record {
   read = h.read;
   written = h.written;
   lost = [];
   last = last;
   ends = run.spends h.read h.written last
-      (subst (λ (n : ℕ). ClientRun old left taken Fresh n h.read h.written last left_now taken_now) all h.run) going is;
+      (subst (λ (n : ℕ). ClientRun old left taken n h.read h.written last left_now taken_now) all h.run) going is;
   leaves = is;
   consumed = subst (Consumes left left_now) (sym (append-nil h.read)) h.consumed;
   is_lost = refl;

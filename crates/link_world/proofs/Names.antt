@@ -33,9 +33,9 @@ pub use Rattle.link_world.specs.Joined.{AreCalls, AreFit, AreOnWay, AreOwnCalls,
 pub use Rattle.link_world.specs.Joined.{EndPair, IsCall, IsClientTurn, IsOneWorld, IsServerTurn, IsWorldOf, moves, no_call, no_calls, no_event}
 pub use Rattle.link_world.specs.Joined.{not_called, one_more, PumpCalls, pumped_of, server_joined, server_left, server_moves, server_turn, steered}
 pub use Rattle.link_world.specs.Joined.{steering, stops, TurnLeads, with_client, with_server}
-pub use Rattle.link_world.specs.LinkRuns.{are_still, client_side, ClientEnds, ClientRan, ClientRun, ClientRunStopped, ClientRunWhy, ClientSide, Fresh}
-pub use Rattle.link_world.specs.LinkRuns.{is_over, LoopRan, LoopRun, LoopStopped, Out, PairMoved, PairStopped, Phase, server_leaves, server_side}
-pub use Rattle.link_world.specs.LinkRuns.{ServerRun, ServerRunStopped, ServerRunWhy, ServerSide, steps_most, turns_most}
+pub use Rattle.link_world.specs.LinkRuns.{are_still, client_side, ClientEnds, ClientRan, ClientRun, ClientRunStopped, ClientRunWhy, ClientSide}
+pub use Rattle.link_world.specs.LinkRuns.{is_over, LoopRan, LoopRun, LoopStopped, PairMoved, PairStopped, server_leaves, server_side, ServerRun}
+pub use Rattle.link_world.specs.LinkRuns.{ServerRunStopped, ServerRunWhy, ServerSide, steps_most, turns_most}
 pub use Rattle.link_world.specs.Links.{fewer_down, fewer_up, IsReached, link_of_connection, links_of, quiet_client, quiet_server, seen, StandsOn}
 pub use Rattle.link_world.specs.Links.{with_down, with_up, with_world, WorldValue}
 pub use Rattle.link_world.specs.Machines.{fits_job, simulated}

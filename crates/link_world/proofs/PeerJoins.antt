@@ -1,8 +1,8 @@
 -- Calls of a client's pump are calls of the client, whatever its peer sends.
 use Rattle.link_world.proofs.Names.{[], ◌++◌, ◌∙◌, ◌∷◌, ◌≡◌, ap, are_ours, AreOwnCalls, Bool, called, ClientCalls, ClientEnd, ClientEnds, ClientFault}
-use Rattle.link_world.proofs.Names.{ClientRan, ClientRun, ClientRunStopped, ClientTurn, cond, false, false≢true, Feature, Fresh, IsProgram, le-leb}
-use Rattle.link_world.proofs.Names.{List, Meaning, moves, new_client_end, not_called, Option, Out, Phase, PumpFault, Reading, refl, Send, Sending}
-use Rattle.link_world.proofs.Names.{sends, Stage, stops, subst, sym, Taking, true, Writing, ℕ}
+use Rattle.link_world.proofs.Names.{ClientRan, ClientRun, ClientRunStopped, ClientTurn, cond, false, false≢true, Feature, IsProgram, le-leb, List}
+use Rattle.link_world.proofs.Names.{Meaning, moves, new_client_end, not_called, Option, PumpFault, Reading, refl, Send, Sending, sends, Stage, stops}
+use Rattle.link_world.proofs.Names.{subst, sym, Taking, true, Writing, ℕ}
 use Rattle.client_core.specs.Calls.{behind_call, behind_calls, Call, done_by, Feed, Leave, possible, ReadOne, Sent}
 use Rattle.client_core.proofs.Runs.{features_are_ours}
 use Rattle.link_world.specs.Pumps.{begins, has, reads, takes, writes}
@@ -70,32 +70,26 @@ pumped_features program kept window e is ours t =
 
 -- ---- a run
 
-so_far : (first : ClientEnd) (left taken : Option (List ℕ)) (phase : Phase) (turns : ℕ) (read written : List ℕ)
-    (e : ClientEnd) (left_now taken_now : Option (List ℕ)) → ClientRun first left taken phase turns read written e left_now taken_now
+so_far : (first : ClientEnd) (left taken : Option (List ℕ)) (turns : ℕ) (read written : List ℕ)
+    (e : ClientEnd) (left_now taken_now : Option (List ℕ)) → ClientRun first left taken turns read written e left_now taken_now
     → ClientCalls first e
-so_far first left taken _ _ _ _ _ _ _ run.starts = not_called
-so_far first left taken _ _ _ _ _ _ _ (run.gives turns read written mid new left_mid left_now taken_mid taken_now moved t going turn) =
-    moves mid new 0 left_mid left_now taken_mid taken_now moved (so_far first left taken Fresh turns read written mid left_mid taken_mid t) turn
-so_far first left taken _ _ _ _ _ _ _ (run.goes turns read written mid new left_mid left_now taken_mid taken_now moved t going turn) =
-    moves mid new 1 left_mid left_now taken_mid taken_now moved (so_far first left taken Out turns read written mid left_mid taken_mid t) turn
+so_far first left taken _ _ _ _ _ _ run.starts = not_called
+so_far first left taken _ _ _ _ _ _ (run.goes turns read written mid new left_mid left_now taken_mid taken_now moved t going turn) =
+    moves mid new 1 left_mid left_now taken_mid taken_now moved (so_far first left taken turns read written mid left_mid taken_mid t) turn
 
 pub run_calls : (first e : ClientEnd) (left left_now taken taken_now : Option (List ℕ)) → ClientRan first e left left_now taken taken_now
     → ClientCalls first e
-run_calls first e left left_now taken taken_now h =
-    so_far first left taken h.phase h.turns h.read h.written e left_now taken_now h.run
+run_calls first e left left_now taken taken_now h = so_far first left taken h.turns h.read h.written e left_now taken_now h.run
 
 ends_so : (first e : ClientEnd) (left left_now taken taken_now : Option (List ℕ)) (fault : PumpFault ClientFault)
     (read written lost : List ℕ) (last : ClientEnd)
     → ClientEnds first e left left_now taken taken_now fault read written lost last → ClientCalls first e
-ends_so first e left left_now taken taken_now _ _ _ _ _ (run.stops_giving turns read written mid left_mid taken_mid fault t going few turn) =
-    stops mid e 0 1000000 left_mid left_now taken_mid taken_now fault
-    (so_far first left taken Fresh turns read written mid left_mid taken_mid t) turn
 ends_so first e left left_now taken taken_now _ _ _ _ _ (run.stops turns read written mid left_mid taken_mid fault t going few turn) =
     stops mid e 1 1000000 left_mid left_now taken_mid taken_now fault
-    (so_far first left taken Out turns read written mid left_mid taken_mid t) turn
+    (so_far first left taken turns read written mid left_mid taken_mid t) turn
 ends_so first e left left_now taken taken_now _ _ _ _ _ (run.spends read written last t going is) =
     subst (ClientCalls first) (sym is)
-    (called last Leave (so_far first left taken Fresh 1000000 read written last left_now taken_now t))
+    (called last Leave (so_far first left taken 1000000 read written last left_now taken_now t))
 
 pub broken_calls : (first e : ClientEnd) (left left_now taken taken_now : Option (List ℕ)) (fault : PumpFault ClientFault)
     → ClientRunStopped first e left left_now taken taken_now fault → ClientCalls first e

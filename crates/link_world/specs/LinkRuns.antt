@@ -34,56 +34,36 @@ is_over State.Done = true
 is_over State.Halted = true
 is_over _ = false
 
--- how many calls of ports a client's run makes: it gives out in a turn of its own before each turn in which it asks for bytes
-abbrev pub client_calls_most : ℕ
-client_calls_most = 2 * calls_most
-
--- how far a round of a client's run has come: it has not begun; or all that was due has gone out
-pub data Phase : Type 0 where
-  Fresh : Phase
-  Out : Phase
-
--- rounds of a client, one after another over the same ports, each turn begun while its run was not over: a turn that asks for no byte, and
--- one that asks for at least one. With the count of the latter, all the bytes that came in and all that went out, in order
+-- n turns of a client, one after another over the same ports, each made while its run was not over and asking for at least one byte; with
+-- all the bytes that came in and all that went out, in order
 pub data ClientRun (old : ClientEnd) (left taken : Option (List ℕ))
-    : Phase → ℕ → List ℕ → List ℕ → ClientEnd → Option (List ℕ) → Option (List ℕ) → Type 0 where
-  starts : ClientRun old left taken Fresh 0 [] [] old left taken
-  gives : (turns : ℕ) (read written : List ℕ) (mid new : ClientEnd) (left_mid left_now taken_mid taken_now : Option (List ℕ))
-      (moved : Moved) → ClientRun old left taken Fresh turns read written mid left_mid taken_mid → is_over mid.client.state ≡ false
-      → (turn : ClientMoved 0 mid new left_mid left_now taken_mid taken_now moved)
-      → ClientRun old left taken Out turns (read ++ turn.read) (written ++ turn.written) new left_now taken_now
-  goes : (turns : ℕ) (read written : List ℕ) (mid new : ClientEnd) (left_mid left_now taken_mid taken_now : Option (List ℕ))
-      (moved : Moved) → ClientRun old left taken Out turns read written mid left_mid taken_mid → is_over mid.client.state ≡ false
+    : ℕ → List ℕ → List ℕ → ClientEnd → Option (List ℕ) → Option (List ℕ) → Type 0 where
+  starts : ClientRun old left taken 0 [] [] old left taken
+  goes : (turns : ℕ) (read written : List ℕ) (mid new : ClientEnd) (left_mid left_now taken_mid taken_now : Option (List ℕ)) (moved : Moved)
+      → ClientRun old left taken turns read written mid left_mid taken_mid → is_over mid.client.state ≡ false
       → (turn : ClientMoved 1 mid new left_mid left_now taken_mid taken_now moved)
-      → ClientRun old left taken Fresh (turns + 1) (read ++ turn.read) (written ++ turn.written) new left_now taken_now
+      → ClientRun old left taken (turns + 1) (read ++ turn.read) (written ++ turn.written) new left_now taken_now
 
--- at most the allowed number of rounds of a client: the source has lost exactly the bytes that came in, and the sink has taken those that
+-- at most the allowed number of turns of a client: the source has lost exactly the bytes that came in, and the sink has taken those that
 -- went out
 pub record ClientRan (old new : ClientEnd) (left left_now taken taken_now : Option (List ℕ)) : Type 0 where
-  pub phase : Phase
   pub turns : ℕ
   pub read : List ℕ
   pub written : List ℕ
-  pub run : ClientRun old left taken phase turns read written new left_now taken_now
+  pub run : ClientRun old left taken turns read written new left_now taken_now
   pub few : turns ≤ turns_most
   pub consumed : Consumes left left_now read
   pub appended : Appends taken taken_now written
 
--- how rounds of a client end in a fault: one more turn stops, or the allowed number were made and the client leaves; with all bytes that
+-- how turns of a client end in a fault: one more turn stops, or the allowed number were made and the client leaves; with all bytes that
 -- came in and went out, those that were discarded, and the client's end before it left
 pub data ClientEnds (old new : ClientEnd) (left left_now taken taken_now : Option (List ℕ))
     : PumpFault ClientFault → List ℕ → List ℕ → List ℕ → ClientEnd → Type 0 where
-  stops_giving : (turns : ℕ) (read written : List ℕ) (mid : ClientEnd) (left_mid taken_mid : Option (List ℕ))
-      (fault : PumpFault ClientFault) → ClientRun old left taken Fresh turns read written mid left_mid taken_mid
-      → is_over mid.client.state ≡ false → turns < turns_most
-      → (turn : ClientStopped 0 steps_most mid new left_mid left_now taken_mid taken_now fault)
-      → ClientEnds old new left left_now taken taken_now fault (read ++ turn.read) (written ++ turn.written) turn.lost turn.last
-  stops : (turns : ℕ) (read written : List ℕ) (mid : ClientEnd) (left_mid taken_mid : Option (List ℕ))
-      (fault : PumpFault ClientFault) → ClientRun old left taken Out turns read written mid left_mid taken_mid
-      → is_over mid.client.state ≡ false → turns < turns_most
+  stops : (turns : ℕ) (read written : List ℕ) (mid : ClientEnd) (left_mid taken_mid : Option (List ℕ)) (fault : PumpFault ClientFault)
+      → ClientRun old left taken turns read written mid left_mid taken_mid → is_over mid.client.state ≡ false → turns < turns_most
       → (turn : ClientStopped 1 steps_most mid new left_mid left_now taken_mid taken_now fault)
       → ClientEnds old new left left_now taken taken_now fault (read ++ turn.read) (written ++ turn.written) turn.lost turn.last
-  spends : (read written : List ℕ) (last : ClientEnd) → ClientRun old left taken Fresh turns_most read written last left_now taken_now
+  spends : (read written : List ℕ) (last : ClientEnd) → ClientRun old left taken turns_most read written last left_now taken_now
       → is_over last.client.state ≡ false → new ≡ end_left last
       → ClientEnds old new left left_now taken taken_now fault.TurnsSpent read written [] last
 
@@ -98,8 +78,7 @@ ClientRunWhy read written held left_now last (fault.Core why) = HasRefused last 
 ClientRunWhy read written held left_now last fault.Memory = ⊤
 
 -- a client's run that has stopped in a fault: the client has left its connection, and all bytes are reported as those of one turn
-pub record ClientRunStopped (old new : ClientEnd) (left left_now taken taken_now : Option (List ℕ)) (fault : PumpFault ClientFault)
-    : Type 0
+pub record ClientRunStopped (old new : ClientEnd) (left left_now taken taken_now : Option (List ℕ)) (fault : PumpFault ClientFault) : Type 0
   where
     pub read : List ℕ
     pub written : List ℕ

@@ -6,7 +6,7 @@ ghost use Rattle.services.specs.Sessions as spec;
 
 use crate::sessions::Break;
 use crate::{Session, Stage};
-use byte_ports::{Pieces, Ports, Takes};
+use byte_ports::{Pieces, Takes};
 use effects::Answer;
 use link_world::{PumpFault, serve_turns};
 use server_core::ServerFault;
@@ -82,20 +82,18 @@ impl Session {
     {
         let mut source = Pieces::new(self.alloc);
         source.add(piece)?;
-        let mut ports = Ports {
-            source,
-            sink: Takes::new(self.alloc, usize::MAX),
-        };
+        let mut sink = Takes::new(self.alloc, usize::MAX);
         let turned = serve_turns(
             &mut self.server,
             &mut self.machine,
-            &mut ports,
+            &mut source,
+            &mut sink,
             piece.len(),
             u64::MAX,
         );
         match turned {
             Ok(_) => {
-                self.out.extend_from_slice(ports.sink.taken())?;
+                self.out.extend_from_slice(sink.taken())?;
                 Ok(None)
             }
             Err(PumpFault::Memory | PumpFault::WriteFailed) => Err(AllocError),

@@ -179,10 +179,16 @@ impl Side for Client {
         let asked = call.asked;
         let mut ports = asked.ports(*out.allocator(), call.script.replies)?;
         if asked.word == "turns" {
-            let answer = client_turns(self, &mut ports, asked.least, asked.bound);
+            let answer = client_turns(
+                self,
+                &mut ports.source,
+                &mut ports.sink,
+                asked.least,
+                asked.bound,
+            );
             push_answer(out, &answer)?;
         } else {
-            push_answer(out, &run_link(self, &mut ports))?;
+            push_answer(out, &run_link(self, &mut ports.source, &mut ports.sink))?;
         }
         Ok(push_left(out, self, &ports.sink)?)
     }
@@ -203,10 +209,20 @@ impl Side for Server {
         let mut ports = asked.ports(*out.allocator(), call.script.commands)?;
         let mut machine = Simulated::new(*out.allocator(), self.setup())?;
         if asked.word == "serves" {
-            let answer = serve_turns(self, &mut machine, &mut ports, asked.least, asked.bound);
+            let answer = serve_turns(
+                self,
+                &mut machine,
+                &mut ports.source,
+                &mut ports.sink,
+                asked.least,
+                asked.bound,
+            );
             push_answer(out, &answer)?;
         } else {
-            push_answer(out, &serve_link(self, &mut machine, &mut ports))?;
+            push_answer(
+                out,
+                &serve_link(self, &mut machine, &mut ports.source, &mut ports.sink),
+            )?;
         }
         Ok(push_served(out, self, &ports.sink)?)
     }

@@ -12,7 +12,7 @@ ghost use Rattle.protocol_model.specs.Ends.{end_left};
 use crate::connections::pumps::{
     Budget, Moved, PIECE, Piece, PumpFault, pull_counted, push_counted,
 };
-use byte_ports::{Ports, Sink, Source};
+use byte_ports::{Sink, Source};
 use client_core::{Client, ClientFault};
 
 fn send_due(client: &mut Client) -> Result<(), PumpFault<ClientFault>>
@@ -102,29 +102,30 @@ fn read_lines(client: &mut Client, budget: &mut Budget) -> Result<(), PumpFault<
 /// The client's turn, which does not leave.
 fn turn<R: Source, W: Sink>(
     client: &mut Client,
-    ports: &mut Ports<R, W>,
+    source: &mut R,
+    sink: &mut W,
     at_least: usize,
     bound: u64,
     piece: &mut Piece,
 ) -> Result<Moved, PumpFault<ClientFault>>
     ensures moved { IfOk result (λ moved. ClientMovedWithin bound
-        (R.calls ports.old.source + W.calls ports.old.sink) (R.calls ports.new.source + W.calls ports.new.sink)
-        at_least client.old client.new (R.left ports.old.source) (R.left ports.new.source)
-        (W.taken ports.old.sink) (W.taken ports.new.sink) moved) }
+        (R.calls source.old + W.calls sink.old) (R.calls source.new + W.calls sink.new)
+        at_least client.old client.new (R.left source.old) (R.left source.new)
+        (W.taken sink.old) (W.taken sink.new) moved) }
     ensures stopped { IfErr result (λ fault. ClientStoppedWithin bound
-        (R.calls ports.old.source + W.calls ports.old.sink) (R.calls ports.new.source + W.calls ports.new.sink)
-        at_least client.old (end_left client.new) (R.left ports.old.source) (R.left ports.new.source)
-        (W.taken ports.old.sink) (W.taken ports.new.sink) fault) }
+        (R.calls source.old + W.calls sink.old) (R.calls source.new + W.calls sink.new)
+        at_least client.old (end_left client.new) (R.left source.old) (R.left source.new)
+        (W.taken sink.old) (W.taken sink.new) fault) }
     ensures few { IfOk result (λ moved. moved.read < at_least + PIECE) }
-    ensures unasked { at_least ≡ 0 → ports.new.source ≡ ports.old.source }
+    ensures unasked { at_least ≡ 0 → source.new ≡ source.old }
     ensures blamed { BlamesPorts PumpFault.ReadFailed PumpFault.WriteFailed result
-        (R.has_failed ports.old.source) (R.has_failed ports.new.source)
-        (W.has_failed ports.old.sink) (W.has_failed ports.new.sink) }
+        (R.has_failed source.old) (R.has_failed source.new)
+        (W.has_failed sink.old) (W.has_failed sink.new) }
 {
     let mut budget = Budget { left: bound };
-    let written = give_out(client, &mut ports.sink, &mut budget)?;
+    let written = give_out(client, sink, &mut budget)?;
     client.feed(&[])?;
-    let read = take_in(client, &mut ports.source, at_least, &mut budget, piece)?;
+    let read = take_in(client, source, at_least, &mut budget, piece)?;
     read_lines(client, &mut budget)?;
     Ok(Moved { read, written })
 }
@@ -132,26 +133,27 @@ fn turn<R: Source, W: Sink>(
 /// One turn of a client over the ports of its connection, as `client_turns`, with room for the bytes of a pull.
 pub(crate) fn client_turns_with<R: Source, W: Sink>(
     client: &mut Client,
-    ports: &mut Ports<R, W>,
+    source: &mut R,
+    sink: &mut W,
     at_least: usize,
     bound: u64,
     piece: &mut Piece,
 ) -> Result<Moved, PumpFault<ClientFault>>
     ensures moved { IfOk result (λ moved. ClientMovedWithin bound
-        (R.calls ports.old.source + W.calls ports.old.sink) (R.calls ports.new.source + W.calls ports.new.sink)
-        at_least client.old client.new (R.left ports.old.source) (R.left ports.new.source)
-        (W.taken ports.old.sink) (W.taken ports.new.sink) moved) }
+        (R.calls source.old + W.calls sink.old) (R.calls source.new + W.calls sink.new)
+        at_least client.old client.new (R.left source.old) (R.left source.new)
+        (W.taken sink.old) (W.taken sink.new) moved) }
     ensures stopped { IfErr result (λ fault. ClientStoppedWithin bound
-        (R.calls ports.old.source + W.calls ports.old.sink) (R.calls ports.new.source + W.calls ports.new.sink)
-        at_least client.old client.new (R.left ports.old.source) (R.left ports.new.source)
-        (W.taken ports.old.sink) (W.taken ports.new.sink) fault) }
+        (R.calls source.old + W.calls sink.old) (R.calls source.new + W.calls sink.new)
+        at_least client.old client.new (R.left source.old) (R.left source.new)
+        (W.taken sink.old) (W.taken sink.new) fault) }
     ensures few { IfOk result (λ moved. moved.read < at_least + PIECE) }
-    ensures unasked { at_least ≡ 0 → ports.new.source ≡ ports.old.source }
+    ensures unasked { at_least ≡ 0 → source.new ≡ source.old }
     ensures blamed { BlamesPorts PumpFault.ReadFailed PumpFault.WriteFailed result
-        (R.has_failed ports.old.source) (R.has_failed ports.new.source)
-        (W.has_failed ports.old.sink) (W.has_failed ports.new.sink) }
+        (R.has_failed source.old) (R.has_failed source.new)
+        (W.has_failed sink.old) (W.has_failed sink.new) }
 {
-    let result = turn(client, ports, at_least, bound, piece);
+    let result = turn(client, source, sink, at_least, bound, piece);
     if result.is_err() {
         client.leave();
     }
@@ -168,23 +170,24 @@ pub(crate) fn client_turns_with<R: Source, W: Sink>(
 /// Faulted; `Memory`, and only then may bytes that had come be lost.
 pub fn client_turns<R: Source, W: Sink>(
     client: &mut Client,
-    ports: &mut Ports<R, W>,
+    source: &mut R,
+    sink: &mut W,
     at_least: usize,
     bound: u64,
 ) -> Result<Moved, PumpFault<ClientFault>>
     ensures moved { IfOk result (λ moved. ClientMovedWithin bound
-        (R.calls ports.old.source + W.calls ports.old.sink) (R.calls ports.new.source + W.calls ports.new.sink)
-        at_least client.old client.new (R.left ports.old.source) (R.left ports.new.source)
-        (W.taken ports.old.sink) (W.taken ports.new.sink) moved) }
+        (R.calls source.old + W.calls sink.old) (R.calls source.new + W.calls sink.new)
+        at_least client.old client.new (R.left source.old) (R.left source.new)
+        (W.taken sink.old) (W.taken sink.new) moved) }
     ensures stopped { IfErr result (λ fault. ClientStoppedWithin bound
-        (R.calls ports.old.source + W.calls ports.old.sink) (R.calls ports.new.source + W.calls ports.new.sink)
-        at_least client.old client.new (R.left ports.old.source) (R.left ports.new.source)
-        (W.taken ports.old.sink) (W.taken ports.new.sink) fault) }
+        (R.calls source.old + W.calls sink.old) (R.calls source.new + W.calls sink.new)
+        at_least client.old client.new (R.left source.old) (R.left source.new)
+        (W.taken sink.old) (W.taken sink.new) fault) }
     ensures few { IfOk result (λ moved. moved.read < at_least + PIECE) }
-    ensures unasked { at_least ≡ 0 → ports.new.source ≡ ports.old.source }
+    ensures unasked { at_least ≡ 0 → source.new ≡ source.old }
     ensures blamed { BlamesPorts PumpFault.ReadFailed PumpFault.WriteFailed result
-        (R.has_failed ports.old.source) (R.has_failed ports.new.source)
-        (W.has_failed ports.old.sink) (W.has_failed ports.new.sink) }
+        (R.has_failed source.old) (R.has_failed source.new)
+        (W.has_failed sink.old) (W.has_failed sink.new) }
 {
-    client_turns_with(client, ports, at_least, bound, &mut [0; PIECE])
+    client_turns_with(client, source, sink, at_least, bound, &mut [0; PIECE])
 }

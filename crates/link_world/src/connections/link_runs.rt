@@ -71,7 +71,14 @@ fn pair<M: Machine, CR: Source, CW: Sink, SR: Source, SW: Sink, N: Watcher>(
     ensures told { TellsRun client.old client.new (N.told watcher.old) (N.told watcher.new) }
     ensures shown { Shown N.shows client.old watcher.old client.new watcher.new }
 {
-    let by_client = match watched_turn(client, &mut ports.client, down, watcher, piece) {
+    let by_client = match watched_turn(
+        client,
+        &mut ports.client.source,
+        &mut ports.client.sink,
+        down,
+        watcher,
+        piece,
+    ) {
         Ok(moved) => moved,
         Err(fault) => {
             server.leave();
@@ -82,7 +89,14 @@ fn pair<M: Machine, CR: Source, CW: Sink, SR: Source, SW: Sink, N: Watcher>(
         at_least: by_client.written,
         bound: STEPS_MAX,
     };
-    match serve_turns_with(server, machine, &mut ports.server, limits, piece) {
+    match serve_turns_with(
+        server,
+        machine,
+        &mut ports.server.source,
+        &mut ports.server.sink,
+        limits,
+        piece,
+    ) {
         Ok(by_server) => Ok((by_client, by_server)),
         Err(fault) => {
             client.leave();

@@ -4,14 +4,14 @@ ghost use Rattle.std.specs.Prelude.{◌≡◌, ◌↔◌, ◌<◌, ◌≤◌, �
 ghost use Rattle.std.specs.Result.{IsErrOf};
 ghost use Rattle.link_world.specs.Pumps.{BlamesPorts, ClientMovedWithin, ClientStoppedWithin};
 ghost use Rattle.link_world.specs.Watching.{TellsRun};
-ghost use Rattle.link_world.specs.LinkRuns.{calls_most, client_calls_most, is_over, ClientRan, ClientRunStopped, ServerRunStopped};
+ghost use Rattle.link_world.specs.LinkRuns.{calls_most, is_over, ClientRan, ClientRunStopped, ServerRunStopped};
 
 use crate::connections::client_pump::client_turns_with;
 use crate::connections::machines::Machine;
 use crate::connections::pumps::{Moved, PIECE, Piece, PumpFault};
 use crate::connections::server_pump::{Limits, serve_turns_with};
 use crate::connections::watching::{Watcher, tell};
-use byte_ports::{Ports, Sink, Source};
+use byte_ports::{Sink, Source};
 use client_core::{Client, ClientFault, State};
 use server_core::{Server, ServerFault};
 
@@ -46,56 +46,57 @@ fn is_over(state: State) -> bool
 /// One turn of a client, whose features are reported to the watcher, and which is then shown to it, whether the turn stops or not.
 pub(crate) fn watched_turn<R: Source, W: Sink, N: Watcher>(
     client: &mut Client,
-    ports: &mut Ports<R, W>,
+    source: &mut R,
+    sink: &mut W,
     at_least: usize,
     watcher: &mut N,
     piece: &mut Piece,
 ) -> Result<Moved, PumpFault<ClientFault>>
     ensures moved { IfOk result (λ moved. ClientMovedWithin STEPS_MAX
-        (R.calls ports.old.source + W.calls ports.old.sink) (R.calls ports.new.source + W.calls ports.new.sink)
-        at_least client.old client.new (R.left ports.old.source) (R.left ports.new.source)
-        (W.taken ports.old.sink) (W.taken ports.new.sink) moved) }
+        (R.calls source.old + W.calls sink.old) (R.calls source.new + W.calls sink.new)
+        at_least client.old client.new (R.left source.old) (R.left source.new)
+        (W.taken sink.old) (W.taken sink.new) moved) }
     ensures stopped { IfErr result (λ fault. ClientStoppedWithin STEPS_MAX
-        (R.calls ports.old.source + W.calls ports.old.sink) (R.calls ports.new.source + W.calls ports.new.sink)
-        at_least client.old client.new (R.left ports.old.source) (R.left ports.new.source)
-        (W.taken ports.old.sink) (W.taken ports.new.sink) fault) }
+        (R.calls source.old + W.calls sink.old) (R.calls source.new + W.calls sink.new)
+        at_least client.old client.new (R.left source.old) (R.left source.new)
+        (W.taken sink.old) (W.taken sink.new) fault) }
     ensures few { IfOk result (λ moved. moved.read < at_least + PIECE) }
-    ensures unasked { at_least ≡ 0 → ports.new.source ≡ ports.old.source }
+    ensures unasked { at_least ≡ 0 → source.new ≡ source.old }
     ensures blamed { BlamesPorts PumpFault.ReadFailed PumpFault.WriteFailed result
-        (R.has_failed ports.old.source) (R.has_failed ports.new.source)
-        (W.has_failed ports.old.sink) (W.has_failed ports.new.sink) }
+        (R.has_failed source.old) (R.has_failed source.new)
+        (W.has_failed sink.old) (W.has_failed sink.new) }
     ensures told { TellsRun client.old client.new (N.told watcher.old) (N.told watcher.new) }
     ensures shown { N.shows client.new watcher.old watcher.new }
 {
     let held = client.features().len();
-    let result = client_turns_with(client, ports, at_least, STEPS_MAX, piece);
+    let result = client_turns_with(client, source, sink, at_least, STEPS_MAX, piece);
     tell(client, held, watcher);
     result
 }
 
-/// A whole run of a client over the ports of its connection (this profile): rounds, until it is Done or Halted. It makes none if it is so at
-/// first. In a round all that is due goes out, in a turn that asks for no byte; then, if the run is not over, a turn asks for at least one
-/// byte.
+/// A whole run of a client over the ports of its connection (this profile): turns in which at least one byte comes in, until it is Done or
+/// Halted. It makes no turn if it is so at first.
 ///
 /// A fault of a turn is the answer, and the client has then left its connection. A turn may make 1,000,000 steps, and a run may have
-/// 1,000,000 rounds; if the client is neither Done nor Halted after them, it leaves, and the answer is `TurnsSpent`. That comes only if
+/// 1,000,000 turns; if the client is neither Done nor Halted after them, it leaves, and the answer is `TurnsSpent`. That comes only if
 /// 1,000,000 is at most the count of the bytes that went out and of twice those that came in or were held unread at first.
 pub fn run_link<R: Source, W: Sink>(
     client: &mut Client,
-    ports: &mut Ports<R, W>,
+    source: &mut R,
+    sink: &mut W,
 ) -> Result<(), PumpFault<ClientFault>>
-    ensures ran { OnOk result (ClientRan client.old client.new (R.left ports.old.source)
-        (R.left ports.new.source) (W.taken ports.old.sink) (W.taken ports.new.sink)) }
+    ensures ran { OnOk result (ClientRan client.old client.new (R.left source.old)
+        (R.left source.new) (W.taken sink.old) (W.taken sink.new)) }
     ensures done { OnOk result (is_over client.new.client.state ≡ true) }
     ensures stopped { IfErr result (λ fault. ClientRunStopped client.old client.new
-        (R.left ports.old.source) (R.left ports.new.source) (W.taken ports.old.sink) (W.taken ports.new.sink)
+        (R.left source.old) (R.left source.new) (W.taken sink.old) (W.taken sink.new)
         fault) }
     ensures left { OnErr result (client.new.client.on ≡ false) }
-    ensures bounded { R.calls ports.new.source + W.calls ports.new.sink
-        ≤ R.calls ports.old.source + W.calls ports.old.sink + client_calls_most }
+    ensures bounded { R.calls source.new + W.calls sink.new
+        ≤ R.calls source.old + W.calls sink.old + calls_most }
     ensures blamed { BlamesPorts PumpFault.ReadFailed PumpFault.WriteFailed result
-        (R.has_failed ports.old.source) (R.has_failed ports.new.source)
-        (W.has_failed ports.old.sink) (W.has_failed ports.new.sink) }
+        (R.has_failed source.old) (R.has_failed source.new)
+        (W.has_failed sink.old) (W.has_failed sink.new) }
 {
     let mut piece = [0; PIECE];
     let mut turns = 0;
@@ -104,11 +105,7 @@ pub fn run_link<R: Source, W: Sink>(
             client.leave();
             return Err(PumpFault::TurnsSpent);
         }
-        client_turns_with(client, ports, 0, STEPS_MAX, &mut piece)?;
-        if is_over(client.state()) {
-            return Ok(());
-        }
-        client_turns_with(client, ports, 1, STEPS_MAX, &mut piece)?;
+        client_turns_with(client, source, sink, 1, STEPS_MAX, &mut piece)?;
         turns += 1;
     }
     Ok(())
@@ -134,27 +131,28 @@ fn end_of(fault: PumpFault<ServerFault>) -> Result<(), PumpFault<ServerFault>>
 pub fn serve_link<M: Machine, R: Source, W: Sink>(
     server: &mut Server,
     machine: &mut M,
-    ports: &mut Ports<R, W>,
+    source: &mut R,
+    sink: &mut W,
 ) -> Result<(), PumpFault<ServerFault>>
     ensures ended { OnOk result (ServerRunStopped (M.answers machine.old) server.old.end
-        server.new.end (R.left ports.old.source) (R.left ports.new.source) (W.taken ports.old.sink)
-        (W.taken ports.new.sink) PumpFault.Ended) }
+        server.new.end (R.left source.old) (R.left source.new) (W.taken sink.old)
+        (W.taken sink.new) PumpFault.Ended) }
     ensures stopped { IfErr result (λ fault. ServerRunStopped (M.answers machine.old)
-        server.old.end server.new.end (R.left ports.old.source) (R.left ports.new.source) (W.taken ports.old.sink)
-        (W.taken ports.new.sink) fault) }
+        server.old.end server.new.end (R.left source.old) (R.left source.new) (W.taken sink.old)
+        (W.taken sink.new) fault) }
     ensures normal { IsErrOf result PumpFault.Ended → ⊥ }
     ensures left { server.new.end.server.on ≡ false }
-    ensures bounded { R.calls ports.new.source + W.calls ports.new.sink
-        ≤ R.calls ports.old.source + W.calls ports.old.sink + calls_most }
+    ensures bounded { R.calls source.new + W.calls sink.new
+        ≤ R.calls source.old + W.calls sink.old + calls_most }
     ensures setup { server.new.setup ≡ server.old.setup }
     ensures keeps { M.answers machine.new ≡ M.answers machine.old }
     ensures blamed { BlamesPorts PumpFault.ReadFailed PumpFault.WriteFailed result
-        (R.has_failed ports.old.source) (R.has_failed ports.new.source)
-        (W.has_failed ports.old.sink) (W.has_failed ports.new.sink) }
+        (R.has_failed source.old) (R.has_failed source.new)
+        (W.has_failed sink.old) (W.has_failed sink.new) }
 {
     let mut piece = [0; PIECE];
     for _turn in 0..TURNS_MAX {
-        if let Err(fault) = serve_turns_with(server, machine, ports, LINK, &mut piece) {
+        if let Err(fault) = serve_turns_with(server, machine, source, sink, LINK, &mut piece) {
             return end_of(fault);
         }
     }

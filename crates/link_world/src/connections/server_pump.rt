@@ -19,7 +19,7 @@ use crate::connections::machines::Machine;
 use crate::connections::pumps::{
     Budget, Moved, PIECE, Piece, PumpFault, pull_counted, push_counted,
 };
-use byte_ports::{Ports, Sink, Source};
+use byte_ports::{Sink, Source};
 use protocol_model::Outcome;
 use server_core::{Server, ServerFault};
 
@@ -176,37 +176,32 @@ pub(crate) struct Limits {
 fn turn<M: Machine, R: Source, W: Sink>(
     server: &mut Server,
     machine: &mut M,
-    ports: &mut Ports<R, W>,
+    source: &mut R,
+    sink: &mut W,
     limits: Limits,
     piece: &mut Piece,
 ) -> Result<Moved, PumpFault<ServerFault>>
     ensures moved { IfOk result (λ moved. ServerMovedWithin (M.answers machine.old) limits.bound
-        (R.calls ports.old.source + W.calls ports.old.sink) (R.calls ports.new.source + W.calls ports.new.sink)
-        limits.at_least server.old.end server.new.end (R.left ports.old.source) (R.left ports.new.source)
-        (W.taken ports.old.sink) (W.taken ports.new.sink) moved) }
+        (R.calls source.old + W.calls sink.old) (R.calls source.new + W.calls sink.new)
+        limits.at_least server.old.end server.new.end (R.left source.old) (R.left source.new)
+        (W.taken sink.old) (W.taken sink.new) moved) }
     ensures stopped { IfErr result (λ fault. ServerStoppedWithin (M.answers machine.old) limits.bound
-        (R.calls ports.old.source + W.calls ports.old.sink) (R.calls ports.new.source + W.calls ports.new.sink)
-        limits.at_least server.old.end (serving_left server.new.end) (R.left ports.old.source)
-        (R.left ports.new.source) (W.taken ports.old.sink) (W.taken ports.new.sink) fault) }
+        (R.calls source.old + W.calls sink.old) (R.calls source.new + W.calls sink.new)
+        limits.at_least server.old.end (serving_left server.new.end) (R.left source.old)
+        (R.left source.new) (W.taken sink.old) (W.taken sink.new) fault) }
     ensures setup { server.new.setup ≡ server.old.setup }
     ensures keeps { M.answers machine.new ≡ M.answers machine.old }
     ensures few { IfOk result (λ moved. moved.read < limits.at_least + PIECE) }
-    ensures unasked { limits.at_least ≡ 0 → ports.new.source ≡ ports.old.source }
+    ensures unasked { limits.at_least ≡ 0 → source.new ≡ source.old }
     ensures blamed { BlamesPorts PumpFault.ReadFailed PumpFault.WriteFailed result
-        (R.has_failed ports.old.source) (R.has_failed ports.new.source)
-        (W.has_failed ports.old.sink) (W.has_failed ports.new.sink) }
+        (R.has_failed source.old) (R.has_failed source.new)
+        (W.has_failed sink.old) (W.has_failed sink.new) }
 {
     let mut budget = Budget { left: limits.bound };
-    let read = read_in(
-        server,
-        &mut ports.source,
-        limits.at_least,
-        &mut budget,
-        piece,
-    )?;
+    let read = read_in(server, source, limits.at_least, &mut budget, piece)?;
     work(server, machine, &mut budget)?;
     let written = server.out().len();
-    push_counted(&mut ports.sink, server.out(), &mut budget)?;
+    push_counted(sink, server.out(), &mut budget)?;
     server.sent(written);
     Ok(Moved { read, written })
 }
@@ -215,27 +210,28 @@ fn turn<M: Machine, R: Source, W: Sink>(
 pub(crate) fn serve_turns_with<M: Machine, R: Source, W: Sink>(
     server: &mut Server,
     machine: &mut M,
-    ports: &mut Ports<R, W>,
+    source: &mut R,
+    sink: &mut W,
     limits: Limits,
     piece: &mut Piece,
 ) -> Result<Moved, PumpFault<ServerFault>>
     ensures moved { IfOk result (λ moved. ServerMovedWithin (M.answers machine.old) limits.bound
-        (R.calls ports.old.source + W.calls ports.old.sink) (R.calls ports.new.source + W.calls ports.new.sink)
-        limits.at_least server.old.end server.new.end (R.left ports.old.source) (R.left ports.new.source)
-        (W.taken ports.old.sink) (W.taken ports.new.sink) moved) }
+        (R.calls source.old + W.calls sink.old) (R.calls source.new + W.calls sink.new)
+        limits.at_least server.old.end server.new.end (R.left source.old) (R.left source.new)
+        (W.taken sink.old) (W.taken sink.new) moved) }
     ensures stopped { IfErr result (λ fault. ServerStoppedWithin (M.answers machine.old) limits.bound
-        (R.calls ports.old.source + W.calls ports.old.sink) (R.calls ports.new.source + W.calls ports.new.sink)
-        limits.at_least server.old.end server.new.end (R.left ports.old.source)
-        (R.left ports.new.source) (W.taken ports.old.sink) (W.taken ports.new.sink) fault) }
+        (R.calls source.old + W.calls sink.old) (R.calls source.new + W.calls sink.new)
+        limits.at_least server.old.end server.new.end (R.left source.old)
+        (R.left source.new) (W.taken sink.old) (W.taken sink.new) fault) }
     ensures setup { server.new.setup ≡ server.old.setup }
     ensures keeps { M.answers machine.new ≡ M.answers machine.old }
     ensures few { IfOk result (λ moved. moved.read < limits.at_least + PIECE) }
-    ensures unasked { limits.at_least ≡ 0 → ports.new.source ≡ ports.old.source }
+    ensures unasked { limits.at_least ≡ 0 → source.new ≡ source.old }
     ensures blamed { BlamesPorts PumpFault.ReadFailed PumpFault.WriteFailed result
-        (R.has_failed ports.old.source) (R.has_failed ports.new.source)
-        (W.has_failed ports.old.sink) (W.has_failed ports.new.sink) }
+        (R.has_failed source.old) (R.has_failed source.new)
+        (W.has_failed sink.old) (W.has_failed sink.new) }
 {
-    let result = turn(server, machine, ports, limits, piece);
+    let result = turn(server, machine, source, sink, limits, piece);
     if result.is_err() {
         server.leave();
     }
@@ -253,30 +249,32 @@ pub(crate) fn serve_turns_with<M: Machine, R: Source, W: Sink>(
 pub fn serve_turns<M: Machine, R: Source, W: Sink>(
     server: &mut Server,
     machine: &mut M,
-    ports: &mut Ports<R, W>,
+    source: &mut R,
+    sink: &mut W,
     at_least: usize,
     bound: u64,
 ) -> Result<Moved, PumpFault<ServerFault>>
     ensures moved { IfOk result (λ moved. ServerMovedWithin (M.answers machine.old) bound
-        (R.calls ports.old.source + W.calls ports.old.sink) (R.calls ports.new.source + W.calls ports.new.sink)
-        at_least server.old.end server.new.end (R.left ports.old.source) (R.left ports.new.source)
-        (W.taken ports.old.sink) (W.taken ports.new.sink) moved) }
+        (R.calls source.old + W.calls sink.old) (R.calls source.new + W.calls sink.new)
+        at_least server.old.end server.new.end (R.left source.old) (R.left source.new)
+        (W.taken sink.old) (W.taken sink.new) moved) }
     ensures stopped { IfErr result (λ fault. ServerStoppedWithin (M.answers machine.old) bound
-        (R.calls ports.old.source + W.calls ports.old.sink) (R.calls ports.new.source + W.calls ports.new.sink)
-        at_least server.old.end server.new.end (R.left ports.old.source) (R.left ports.new.source)
-        (W.taken ports.old.sink) (W.taken ports.new.sink) fault) }
+        (R.calls source.old + W.calls sink.old) (R.calls source.new + W.calls sink.new)
+        at_least server.old.end server.new.end (R.left source.old) (R.left source.new)
+        (W.taken sink.old) (W.taken sink.new) fault) }
     ensures setup { server.new.setup ≡ server.old.setup }
     ensures keeps { M.answers machine.new ≡ M.answers machine.old }
     ensures few { IfOk result (λ moved. moved.read < at_least + PIECE) }
-    ensures unasked { at_least ≡ 0 → ports.new.source ≡ ports.old.source }
+    ensures unasked { at_least ≡ 0 → source.new ≡ source.old }
     ensures blamed { BlamesPorts PumpFault.ReadFailed PumpFault.WriteFailed result
-        (R.has_failed ports.old.source) (R.has_failed ports.new.source)
-        (W.has_failed ports.old.sink) (W.has_failed ports.new.sink) }
+        (R.has_failed source.old) (R.has_failed source.new)
+        (W.has_failed sink.old) (W.has_failed sink.new) }
 {
     serve_turns_with(
         server,
         machine,
-        ports,
+        source,
+        sink,
         Limits { at_least, bound },
         &mut [0; PIECE],
     )

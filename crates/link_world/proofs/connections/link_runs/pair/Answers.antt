@@ -12,11 +12,11 @@ returns-in-Err-clause-stopped g c = client_stops c.in-Err.fault c.in-Err.ensures
 
 pub returns-in-Err-serve_turns_with-clause-stopped : goal.returns-in-Err-serve_turns_with-clause-stopped
 returns-in-Err-serve_turns_with-clause-stopped g c = server_stops
-    (client_side c.watched_turn.new.client (g.CR.Source.left c.watched_turn.new.ports.source)
-    (g.CW.Sink.taken c.watched_turn.new.ports.sink))
+    (client_side c.watched_turn.new.client (g.CR.Source.left c.watched_turn.new.source)
+    (g.CW.Sink.taken c.watched_turn.new.sink))
     c.in-Ok.moved c.in-Err-serve_turns_with.fault c.in-Ok.ensures.moved.whole c.in-Err-serve_turns_with.ensures.stopped.front
-    (ap (λ (e : ClientEnd). client_side e (g.CR.Source.left c.watched_turn.new.ports.source)
-    (g.CW.Sink.taken c.watched_turn.new.ports.sink))
+    (ap (λ (e : ClientEnd). client_side e (g.CR.Source.left c.watched_turn.new.source)
+    (g.CW.Sink.taken c.watched_turn.new.sink))
     c.leave-in-Err-serve_turns_with.ensures)
 
 pub returns-in-Err-clause-client_bounded : goal.returns-in-Err-clause-client_bounded

@@ -7,20 +7,20 @@ use Rattle.link_world.proofs.connections.links.serve_link.Goals as goal
 -- a run that ends with a fault in this turn
 abbrev Stopped : (g : Over) (c : After-end_of g) → PumpFault ServerFault → Type 0
 Stopped g c f = ServerRunStopped (g.M.Machine.answers c.args.machine.now) c.args.server.now.end c.serve_turns_with.new.server.end
-    (g.R.Source.left c.args.ports.now.source) (g.R.Source.left c.serve_turns_with.new.ports.source) (g.W.Sink.taken c.args.ports.now.sink)
-    (g.W.Sink.taken c.serve_turns_with.new.ports.sink) f
+    (g.R.Source.left c.args.source.now) (g.R.Source.left c.serve_turns_with.new.source) (g.W.Sink.taken c.args.sink.now)
+    (g.W.Sink.taken c.serve_turns_with.new.sink) f
 
 stops : (g : Over) (c : After-end_of g) → Stopped g c c.in-Err.fault
 stops g c = server_stops (g.M.Machine.answers c.args.machine.now) (g.M.Machine.answers c.loop-turn.machine) c.loop-turn._turn
-    c.args.server.now.end c.loop-turn.server.end c.serve_turns_with.new.server.end (g.R.Source.left c.args.ports.now.source)
-    (g.R.Source.left c.loop-turn.ports.source) (g.R.Source.left c.serve_turns_with.new.ports.source) (g.W.Sink.taken c.args.ports.now.sink)
-    (g.W.Sink.taken c.loop-turn.ports.sink) (g.W.Sink.taken c.serve_turns_with.new.ports.sink) c.in-Err.fault c.loop-turn.invariant.0
+    c.args.server.now.end c.loop-turn.server.end c.serve_turns_with.new.server.end (g.R.Source.left c.args.source.now)
+    (g.R.Source.left c.loop-turn.source) (g.R.Source.left c.serve_turns_with.new.source) (g.W.Sink.taken c.args.sink.now)
+    (g.W.Sink.taken c.loop-turn.sink) (g.W.Sink.taken c.serve_turns_with.new.sink) c.in-Err.fault c.loop-turn.invariant.0
     c.loop-turn-test.true c.loop-turn.invariant.2 c.in-Err.ensures.stopped.front
 
 pub loop-turn-init : goal.loop-turn-init
 loop-turn-init g c = (
-  server_starts (g.M.Machine.answers c.args.machine.now) c.args.server.now.end (g.R.Source.left c.args.ports.now.source)
-      (g.W.Sink.taken c.args.ports.now.sink),
+  server_starts (g.M.Machine.answers c.args.machine.now) c.args.server.now.end (g.R.Source.left c.args.source.now)
+      (g.W.Sink.taken c.args.sink.now),
   refl,
   refl,
   omega arith,
@@ -43,9 +43,9 @@ returns-in-Err-clause-stopped g c = is_stopped c.end_of.result c.in-Err.fault (S
 pub loop-turn-preserved : goal.loop-turn-preserved
 loop-turn-preserved g c = (
   server_goes (g.M.Machine.answers c.args.machine.now) (g.M.Machine.answers c.loop-turn.machine) c.loop-turn._turn
-      c.args.server.now.end c.loop-turn.server.end c.serve_turns_with.new.server.end (g.R.Source.left c.args.ports.now.source)
-      (g.R.Source.left c.loop-turn.ports.source) (g.R.Source.left c.serve_turns_with.new.ports.source) (g.W.Sink.taken c.args.ports.now.sink)
-      (g.W.Sink.taken c.loop-turn.ports.sink) (g.W.Sink.taken c.serve_turns_with.new.ports.sink) c.in_default.field-0 c.loop-turn.invariant.0
+      c.args.server.now.end c.loop-turn.server.end c.serve_turns_with.new.server.end (g.R.Source.left c.args.source.now)
+      (g.R.Source.left c.loop-turn.source) (g.R.Source.left c.serve_turns_with.new.source) (g.W.Sink.taken c.args.sink.now)
+      (g.W.Sink.taken c.loop-turn.sink) (g.W.Sink.taken c.serve_turns_with.new.sink) c.in_default.field-0 c.loop-turn.invariant.0
       c.loop-turn.invariant.2 c.in_default.ensures.moved.whole,
   c.serve_turns_with.ensures.setup ∙ c.loop-turn.invariant.1,
   c.serve_turns_with.ensures.keeps ∙ c.loop-turn.invariant.2,
@@ -57,6 +57,6 @@ loop-turn-preserved g c = (
 
 pub returns-clause-stopped : goal.returns-clause-stopped
 returns-clause-stopped g c = server_spends (g.M.Machine.answers c.args.machine.now) c.loop-turn._turn c.args.server.now.end
-    c.loop-turn.server.end c.leave.new.self.end (g.R.Source.left c.args.ports.now.source) (g.R.Source.left c.loop-turn.ports.source)
-    (g.W.Sink.taken c.args.ports.now.sink) (g.W.Sink.taken c.loop-turn.ports.sink) c.loop-turn.invariant.0 (grind arith)
+    c.loop-turn.server.end c.leave.new.self.end (g.R.Source.left c.args.source.now) (g.R.Source.left c.loop-turn.source)
+    (g.W.Sink.taken c.args.sink.now) (g.W.Sink.taken c.loop-turn.sink) c.loop-turn.invariant.0 (grind arith)
     (ap (λ (s : ServerValue). s.end) c.leave.ensures)
