@@ -1,5 +1,5 @@
 -- What is found is the first line that breaks a rule.
-use Rattle.witness_judge.proofs.Names.{[], ◌++◌, ◌+◌, ◌-◌, ◌∙◌, ◌∷◌, ◌≡◌, ◌≤◌, ap, append-nil, append_assoc, arith, BreaksAt, first_break, Found}
+use Rattle.witness_judge.proofs.Names.{[], ◌++◌, ◌+◌, ◌-◌, ◌∙◌, ◌∷◌, ◌≡◌, ◌≤◌, ap, append-nil, append_assoc, arith, BreaksAt, first_break, Found, IsFirst}
 use Rattle.witness_judge.proofs.Names.{found_at, length, List, None, none-some, Option, refl, reverse, Rule, slice_get, Some, subst, suc, sym, take}
 use Rattle.witness_judge.proofs.Names.{zero, ℕ}
 use Rattle.std.proofs.lemmas.Grind.{reverse_onto}
@@ -109,20 +109,23 @@ alone {X = X} rule xs k r b = record {
   breaks = subst (λ (a : List X). rule a b.line ≡ Some r) (append-nil (reverse (take k xs))) b.breaks;
 }
 
-pub never : {X : Type 0} (rule : List X → X → Option Rule) (xs : List X) → first_break rule [] xs ≡ None → (k : ℕ) (r : Rule)
+never : {X : Type 0} (rule : List X → X → Option Rule) (xs : List X) → first_break rule [] xs ≡ None → (k : ℕ) (r : Rule)
     → BreaksAt rule xs k r → ⊥
 never rule xs e k r b = none_under rule [] xs e k r (under rule xs k r b)
 
-pub breaks_there : {X : Type 0} (rule : List X → X → Option Rule) (xs : List X) (found : Found) → first_break rule [] xs ≡ Some found
+breaks_there : {X : Type 0} (rule : List X → X → Option Rule) (xs : List X) (found : Found) → first_break rule [] xs ≡ Some found
     → BreaksAt rule xs (found.number - 1) found.rule
 breaks_there rule xs found e =
     let first = first_under rule [] xs found e in
     let same : first.at ≡ found.number - 1 = omega (arith, first.number) in
     subst (λ (k : ℕ). BreaksAt rule xs k found.rule) same (alone rule xs first.at found.rule first.breaks)
 
-pub breaks_first : {X : Type 0} (rule : List X → X → Option Rule) (xs : List X) (found : Found) → first_break rule [] xs ≡ Some found
+breaks_first : {X : Type 0} (rule : List X → X → Option Rule) (xs : List X) (found : Found) → first_break rule [] xs ≡ Some found
     → (k : ℕ) (r : Rule) → BreaksAt rule xs k r → found.number ≤ k + 1
 breaks_first rule xs found e k r b =
     let first = first_under rule [] xs found e in
     let least = first.first k r (under rule xs k r b) in
     omega (arith, first.number, least)
+
+pub is_first : {X : Type 0} (rule : List X → X → Option Rule) (xs : List X) → IsFirst rule xs (first_break rule [] xs)
+is_first rule xs = record { breaks = breaks_there rule xs; first = breaks_first rule xs; none = never rule xs }

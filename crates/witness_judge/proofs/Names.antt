@@ -10,7 +10,7 @@ pub use Rattle.std.proofs.lemmas.Bool.{false≢true}
 pub use Rattle.std.proofs.lemmas.List.{drop_all, drop_more, length-replicate, length-reverse, reverse-append, take_more}
 pub use Rattle.std.proofs.lemmas.Option.{get_or_from_slice_get, none-some}
 pub use Rattle.std.specs.Option.{option_or}
-pub use Rattle.witness_judge.specs.Judging.{BreaksAt, first_break, found_at}
+pub use Rattle.witness_judge.specs.Judging.{BreaksAt, first_break, found_at, IsFirst}
 pub use Rattle.witness_judge.specs.Orders.{bytes_of, IsAt, IsOn, seen_from, seen_lines, whole_in}
 pub use Rattle.witness_judge.specs.ServerRules.{asks_data, asks_under, bars, command_rule, complete_rule, end_rule, first_barred, first_from, front}
 pub use Rattle.witness_judge.specs.ServerRules.{halts, is_abort, is_barred, is_clear, is_doubtful, is_ended, is_halted, is_in_turn, is_open}

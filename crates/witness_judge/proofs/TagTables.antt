@@ -1,7 +1,8 @@
 -- Tables by tag.
 use Rattle.witness_judge.proofs.Names.{[], ◌+◌, ◌-◌, ◌<◌, ◌==◌, ◌∙◌, ◌∷◌, ◌≡◌, ◌≤◌, ap, AreFirst, AreNext, arith, Bool, code_of, drop, drop_all}
 use Rattle.witness_judge.proofs.Names.{drop_more, eq-eqb, eqb-true, Event, false, false≢true, found, get_or, if◌then◌else◌, is_under, is_use, length}
-use Rattle.witness_judge.proofs.Names.{List, None, none-some, Option, place_from, refl, Sent, Some, Std, subst, suc, sym, Tag, tag_is, tag_of, true}
+use Rattle.std.specs.Option.{option_flatten}
+use Rattle.witness_judge.proofs.Names.{slice_get, List, None, none-some, Option, place_from, refl, Sent, Some, Std, subst, suc, sym, Tag, tag_is, tag_of, true}
 use Rattle.witness_judge.proofs.Names.{zero, ℕ}
 
 pub same_tag : (t u : Tag) → tag_is t u ≡ true → t ≡ u
@@ -12,6 +13,12 @@ same_tag (Event n) (Event m) is = ap Event (eqb-true n m is)
 
 apart : (n m : ℕ) → (n == m) ≡ false → n ≡ m → ⊥
 apart n m is same = false≢true (sym is ∙ eq-eqb n m same)
+
+pub looked : (table : List (Option ℕ)) (at : ℕ) → option_flatten (slice_get table at) ≡ get_or table at None
+looked [] at = refl
+looked (None ∷ table) zero = refl
+looked (Some n ∷ table) zero = refl
+looked (o ∷ table) (suc at) = looked table at
 
 -- a number of a table is that of one tag
 other_code : (t u : Tag) → tag_is u t ≡ false → code_of t ≡ code_of u → ⊥

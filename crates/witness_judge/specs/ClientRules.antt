@@ -166,5 +166,5 @@ client_rule seen up all above s = rule_by (tag_of s) seen up all above (own_rule
 pub record AreAbove (up : List Sent) (all : List Heard) (above : List Sent) (a : Above) : Type 0 where
   pub previous : (t : Tag) → found a.previous.items t ≡ previous t above
   pub before : (t : Tag) → found a.before.items t ≡ before_previous t above
-  pub may : a.session.may ≡ may_be_open up all above
-  pub must : a.session.must ≡ must_be_open up all above
+  pub may : a.may ≡ may_be_open up all above
+  pub must : a.must ≡ must_be_open up all above

@@ -1,5 +1,7 @@
 -- How many lines of each sort are in a recording (this profile).
-use Rattle.std.specs.Prelude.{ℕ, ◌==◌, Bool, true, false, List, [], ◌∷◌, ◌++◌, map, count_by}
+use Rattle.std.specs.Prelude.{ℕ, Bool, true, false, List, [], ◌∷◌, ◌++◌, map, count_by}
+use denote.Enum.Bare.{sameb}
+use Rattle.dme_line.specs.contracts.Kind.{the_type}
 use Rattle.dme_line.specs.declared.commands.Kind.{Kind}
 use Rattle.dme_line.specs.declared.commands.Kind.TheVariants as kind
 use Rattle.witness_judge.specs.Uses.{has_mark}
@@ -15,25 +17,10 @@ abbrev pub kinds : List Kind
 kinds = kind.StartSession ∷ kind.EndSession ∷ kind.ClearAllErrors ∷ kind.IsHomed ∷ kind.Home ∷ kind.OnPtMeasReport ∷ kind.GoTo
     ∷ kind.PtMeas ∷ kind.ChangeTool ∷ kind.SetCsyTransformation ∷ kind.SetCoordSystem ∷ kind.AbortE ∷ []
 
--- the place of a command in this order
-abbrev pub order_of : Kind → ℕ
-order_of kind.StartSession = 0
-order_of kind.EndSession = 1
-order_of kind.ClearAllErrors = 2
-order_of kind.IsHomed = 3
-order_of kind.Home = 4
-order_of kind.OnPtMeasReport = 5
-order_of kind.GoTo = 6
-order_of kind.PtMeas = 7
-order_of kind.ChangeTool = 8
-order_of kind.SetCsyTransformation = 9
-order_of kind.SetCoordSystem = 10
-order_of kind.AbortE = 11
-
--- a line of the client has this command's name, whether its arguments read or not
+-- a line of the client has this command's name, whether its arguments read or not; `sameb` says that two commands are the same
 abbrev pub names : Kind → Sent → Bool
-names k (sent.Command t l) = order_of l == order_of k
-names k (sent.Unread t l) = order_of l == order_of k
+names k (sent.Command t l) = sameb the_type l k
+names k (sent.Unread t l) = sameb the_type l k
 names k _ = false
 
 -- it has none of them

@@ -1,5 +1,5 @@
 -- What two recordings of a connection say of either end (this profile).
-use Rattle.std.specs.Prelude.{◌≡◌, ℕ, ◌+◌, ◌-◌, List, [], ◌∷◌, length, take, reverse, map, get_or, slice_get, Option, Some, None}
+use Rattle.std.specs.Prelude.{◌≡◌, ◌≤◌, ℕ, ◌+◌, ◌-◌, List, [], ◌∷◌, length, take, reverse, map, get_or, slice_get, Option, Some, None}
 use Rattle.std.specs.Option.{option_map}
 use Rattle.line_framing.specs.Stream.{IsStream}
 use Rattle.line_framing.specs.declared.faults.FramingFault.{FramingFault}
@@ -32,6 +32,12 @@ pub record BreaksAt {X : Type 0} (rule : List X → X → Option Rule) (lines : 
   pub line : X
   pub there : slice_get lines at ≡ Some line
   pub breaks : rule (reverse (take at lines)) line ≡ Some broken
+
+-- what is found is the first line that breaks a rule: the one that is named
+pub record IsFirst {X : Type 0} (rule : List X → X → Option Rule) (lines : List X) (found : Option Found) : Type 0 where
+  pub breaks : (f : Found) → found ≡ Some f → BreaksAt rule lines (f.number - 1) f.rule
+  pub first : (f : Found) → found ≡ Some f → (at : ℕ) (broken : Rule) → BreaksAt rule lines at broken → f.number ≤ at + 1
+  pub none : found ≡ None → (at : ℕ) (broken : Rule) → BreaksAt rule lines at broken → ⊥
 
 -- bytes that are not lines
 abbrev pub framing_rule : FramingFault → Rule

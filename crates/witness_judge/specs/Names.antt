@@ -13,11 +13,9 @@ pub use Rattle.witness.specs.declared.lines.Side.TheVariants.{Client, Server}
 pub use Rattle.witness_judge.specs.ClientRules.{client_rule}
 pub use Rattle.witness_judge.specs.Counts.{kinds}
 pub use Rattle.witness_judge.specs.Examples.{ClientKeeps, ServerKeeps, abort, abort_complete, abort_received, again, all_received, asks, begun, breaks, cleared_end, client_breaks, complete, crowd, error, given, moves, received, refused, server_breaks, touch, warning}
-pub use Rattle.witness_judge.specs.Judging.{BreaksAt, client_found, first_break, found_at, server_found}
+pub use Rattle.witness_judge.specs.Judging.{client_found, first_break, found_at, IsFirst, server_found}
 pub use Rattle.witness_judge.specs.Orders.{bytes_of, seen_lines}
 pub use Rattle.witness_judge.specs.ServerRules.{server_rule}
 pub use Rattle.witness_judge.specs.Uses.{AreAllNoted, IsCourse, stage_of}
 pub use Rattle.witness_judge.specs.declared.lines.Heard.{Heard}
 pub use Rattle.witness_judge.specs.declared.lines.Sent.{Sent}
-pub use Rattle.witness_judge.specs.declared.rules.Found.{Found}
-pub use Rattle.witness_judge.specs.declared.rules.Rule.{Rule}

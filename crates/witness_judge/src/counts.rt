@@ -23,30 +23,11 @@ pub const KINDS: [Kind; 12] = [
     Kind::AbortE,
 ];
 
-fn order_of(kind: Kind) -> u8
-    ensures { result ≡ spec.order_of kind }
-{
-    match kind {
-        Kind::StartSession => 0,
-        Kind::EndSession => 1,
-        Kind::ClearAllErrors => 2,
-        Kind::IsHomed => 3,
-        Kind::Home => 4,
-        Kind::OnPtMeasReport => 5,
-        Kind::GoTo => 6,
-        Kind::PtMeas => 7,
-        Kind::ChangeTool => 8,
-        Kind::SetCsyTransformation => 9,
-        Kind::SetCoordSystem => 10,
-        Kind::AbortE => 11,
-    }
-}
-
 fn names(kind: Kind, sent: &Sent) -> bool
     ensures { result ≡ spec.names kind sent.now }
 {
     match sent {
-        Sent::Command(_, named) | Sent::Unread(_, named) => order_of(*named) == order_of(kind),
+        Sent::Command(_, named) | Sent::Unread(_, named) => *named == kind,
         _ => false,
     }
 }
@@ -90,26 +71,20 @@ const MARKS: [Mark; 4] = [Mark::Received, Mark::Data, Mark::Complete, Mark::Erro
 fn is_marked(mark: Mark, heard: &Heard) -> bool
     ensures { result ≡ spec.is_marked mark heard.now }
 {
-    let Heard::Response(_, reply) = heard else {
-        return false;
-    };
     matches!(
-        (mark, reply),
-        (Mark::Received, Reply::Received)
-            | (Mark::Data, Reply::Given(_))
-            | (Mark::Complete, Reply::Complete)
-            | (Mark::Error, Reply::Error(_))
+        (mark, heard),
+        (Mark::Received, Heard::Response(_, Reply::Received))
+            | (Mark::Data, Heard::Response(_, Reply::Given(_)))
+            | (Mark::Complete, Heard::Response(_, Reply::Complete))
+            | (Mark::Error, Heard::Response(_, Reply::Error(_)))
     )
-}
-
-fn marked(down: &[Heard], mark: Mark) -> usize
-    ensures { result ≡ spec.marked down.now mark }
-{
-    down.iter().filter(|heard| is_marked(mark, heard)).count()
 }
 
 pub(crate) fn server_counts(alloc: Global, down: &[Heard]) -> Result<Vec<usize>, AllocError>
     ensures { IfOk result (λ counts. counts.items ≡ spec.server_counts down.now) }
 {
-    MARKS.iter().map(|mark| marked(down, *mark)).collect(alloc)
+    MARKS
+        .iter()
+        .map(|mark| down.iter().filter(|heard| is_marked(*mark, heard)).count())
+        .collect(alloc)
 }

@@ -46,32 +46,6 @@ pub(crate) struct Course {
     pub(crate) is_unclear: bool,
 }
 
-fn is_refusal(heard: Heard) -> bool
-    ensures { result ≡ spec.refuses heard }
-{
-    matches!(heard, Heard::Response(Tag::Event(0), Reply::Error(_)))
-}
-
-fn busy_after(busy: usize, heard: Heard) -> usize
-    requires { busy < 2 ^ 63 }
-    ensures { result ≡ spec.busy_after busy heard }
-{
-    match heard {
-        Heard::Response(Tag::Std(_), Reply::Received) => busy + 1,
-        Heard::Response(Tag::Std(_), Reply::Complete) => busy.saturating_sub(1),
-        _ => busy,
-    }
-}
-
-fn farther(at: usize, place: Option<usize>) -> usize
-    ensures { result ≡ spec.farther at place }
-{
-    match place {
-        Some(place) if at < place => place,
-        _ => at,
-    }
-}
-
 #[tactic(auto, using(crate::proofs::Moments::few_busy, crate::proofs::Moments::few_refused, crate::proofs::Lists::above_count))]
 fn moment_after(
     up: &[Sent],
@@ -85,16 +59,22 @@ fn moment_after(
     requires place { place ≡ spec.use_under up.now (reverse above.now) heard }
     ensures { result ≡ spec.moment up.now (heard ∷ reverse above.now) }
 {
-    Moment {
-        number: before.number + 1,
-        refusals: if is_refusal(heard) {
-            before.refusals + 1
-        } else {
-            before.refusals
-        },
-        busy: busy_after(before.busy, heard),
-        farthest: farther(before.farthest, place),
+    let mut moment = before;
+    moment.number += 1;
+    match heard {
+        Heard::Response(Tag::Event(0), Reply::Error(_)) => moment.refusals += 1,
+        Heard::Response(Tag::Std(_), Reply::Received) => moment.busy += 1,
+        Heard::Response(Tag::Std(_), Reply::Complete) => {
+            moment.busy = moment.busy.saturating_sub(1);
+        }
+        _ => {}
     }
+    if let Some(at) = place
+        && moment.farthest < at
+    {
+        moment.farthest = at;
+    }
+    moment
 }
 
 fn note(notes: &mut [Option<Moment>], place: Option<usize>, moment: Moment)

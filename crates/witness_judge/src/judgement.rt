@@ -38,45 +38,31 @@ pub struct Judgement {
     pub marks: Vec<usize>,
 }
 
-fn framing_rule(fault: FramingFault) -> Rule
-    ensures { result ≡ spec.framing_rule fault }
-{
-    match fault {
-        FramingFault::LineTooLong => Rule::LineTooLong,
-        FramingFault::BadByte => Rule::BadByte,
-    }
-}
-
 /// The first break of an end: a line, or the bytes after all lines.
 fn end_break(found: Option<Found>, count: usize, fault: Option<FramingFault>) -> Option<Found>
     requires { count < 2 ^ 63 }
     ensures { result ≡ spec.end_break found count fault }
 {
-    if let Some(found) = found {
-        return Some(found);
-    }
-    let fault = fault?;
-    Some(Found {
+    found.or(fault.map(|fault| Found {
         number: count + 1,
-        rule: framing_rule(fault),
-    })
+        rule: match fault {
+            FramingFault::LineTooLong => Rule::LineTooLong,
+            FramingFault::BadByte => Rule::BadByte,
+        },
+    }))
 }
 
 fn shown(alloc: Global, lines: &[Line], found: Option<Found>) -> Result<Option<Break>, AllocError>
     ensures { IfOk result (λ shown. shown ≡ option_map (spec.shown lines.now) found) }
 {
-    let Some(found) = found else {
+    let Some(Found { number, rule }) = found else {
         return Ok(None);
     };
-    let line = match lines.get(found.number.saturating_sub(1)) {
-        Some(line) => Text::new(alloc, line.as_slice())?,
-        None => Text::new(alloc, b"".as_slice())?,
-    };
-    Ok(Some(Break {
-        number: found.number,
-        rule: found.rule,
-        line,
-    }))
+    let line = lines
+        .get(number.saturating_sub(1))
+        .map_or(b"".as_slice(), |line| line.as_slice());
+    let line = Text::new(alloc, line)?;
+    Ok(Some(Break { number, rule, line }))
 }
 
 /// What two recordings of one connection say of either end: the bytes that its client sent, and those that its server sent. The first line of

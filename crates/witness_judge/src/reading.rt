@@ -1,7 +1,7 @@
 // What each line is.
 
 ghost use Rattle.std.specs.Prelude.{◌≡◌, map, IfOk};
-ghost use Rattle.witness_judge.specs.Names.{Point, the_mark, command_of, response_of};
+ghost use Rattle.witness_judge.specs.Names.{Point, command_of, response_of};
 ghost use Rattle.witness_judge.specs.Lines as spec;
 
 use crate::lines::{Data, Heard, Reply, Sent, Severity};
@@ -18,11 +18,8 @@ fn sent_of(alloc: Global, line: &[u8]) -> Result<Sent, AllocError>
     match read_command(alloc, line)? {
         Ok((tag, command)) => Ok(Sent::Command(tag, command.kind())),
         Err(LineFault::NoTag) => Ok(Sent::Untagged),
-        Err(LineFault::UnknownCommand(tag)) => if only_asks(line) {
-            Ok(Sent::Standard(tag))
-        } else {
-            Ok(Sent::Unknown(tag))
-        }
+        Err(LineFault::UnknownCommand(tag)) if only_asks(line) => Ok(Sent::Standard(tag)),
+        Err(LineFault::UnknownCommand(tag)) => Ok(Sent::Unknown(tag)),
         Err(LineFault::BadArguments(tag, kind)) => Ok(Sent::Unread(tag, kind)),
     }
 }
@@ -31,32 +28,10 @@ fn sent_of(alloc: Global, line: &[u8]) -> Result<Sent, AllocError>
 fn data_of(text: &[u8]) -> Data
     ensures { result ≡ spec.data_of text.now }
 {
-    if read_point(text).is_ok() {
-        return Data::Point;
-    }
-    if read_homed(text).is_ok() {
-        return Data::Homed;
-    }
-    Data::Other
-}
-
-fn severity_of(text: &[u8]) -> Severity
-    ensures { result ≡ spec.severity_of text.now }
-{
-    if text.starts_with(b"Error(3,".as_slice()) {
-        return Severity::Three;
-    }
-    Severity::Other
-}
-
-fn reply_as(mark: MarkSlice<'_>) -> Reply
-    ensures { result ≡ spec.reply_as (the_mark mark.entry) }
-{
-    match mark {
-        MarkSlice::Ack => Reply::Received,
-        MarkSlice::Given(text) => Reply::Given(data_of(text)),
-        MarkSlice::Done => Reply::Complete,
-        MarkSlice::Error(text) => Reply::Error(severity_of(text)),
+    match (read_point(text), read_homed(text)) {
+        (Ok(_), _) => Data::Point,
+        (Err(_), Ok(_)) => Data::Homed,
+        (Err(_), Err(_)) => Data::Other,
     }
 }
 
@@ -65,10 +40,17 @@ fn reply_as(mark: MarkSlice<'_>) -> Reply
 fn heard_of(line: &[u8]) -> Heard
     ensures { result ≡ spec.heard_of line.now }
 {
-    match cut_response(line) {
-        Ok(response) => Heard::Response(response.tag, reply_as(response.mark)),
-        Err(_) => Heard::Other,
-    }
+    let Ok(response) = cut_response(line) else {
+        return Heard::Other;
+    };
+    let reply = match response.mark {
+        MarkSlice::Ack => Reply::Received,
+        MarkSlice::Given(text) => Reply::Given(data_of(text)),
+        MarkSlice::Done => Reply::Complete,
+        MarkSlice::Error(text) if text.starts_with(b"Error(3,") => Reply::Error(Severity::Three),
+        MarkSlice::Error(_) => Reply::Error(Severity::Other),
+    };
+    Heard::Response(response.tag, reply)
 }
 
 pub(crate) fn sent_lines(alloc: Global, lines: &[Line]) -> Result<Vec<Sent>, AllocError>

@@ -1,6 +1,6 @@
 // The first line of the server that breaks a rule.
 
-ghost use Rattle.std.specs.Prelude.{◌≡◌, ◌<◌, ◌≤◌, ◌+◌, ◌^◌, ◌∷◌, [], drop, length, reverse, slice_get, Some, None, IfOk};
+ghost use Rattle.std.specs.Prelude.{◌≡◌, ◌<◌, ◌≤◌, ◌+◌, ◌^◌, ◌∷◌, [], Bool, drop, length, reverse, slice_get, Some, None, IfOk};
 ghost use Rattle.witness_judge.specs.Names.{option_or, AreAllNoted, IsCourse, stage_of, first_break, found_at};
 ghost use Rattle.witness_judge.specs.ServerRules as spec;
 
@@ -21,43 +21,15 @@ fn asks_under(doubtful: bool, sent: Sent) -> Asks
     }
 }
 
-fn is_queued(sent: Sent) -> bool
-    ensures { result ≡ spec.is_queued sent }
-{
-    matches!(sent, Sent::Command(Tag::Std(_), _))
-}
-
-fn is_open(stage: Stage) -> bool
-    ensures { result ≡ spec.is_open stage }
-{
-    matches!(stage, Stage::Sent | Stage::Received | Stage::Given)
-}
-
-fn is_abort(sent: Sent) -> bool
-    ensures { result ≡ spec.is_abort sent }
-{
-    matches!(sent, Sent::Command(Tag::Event(_), Kind::AbortE))
-}
-
-fn is_clear(sent: Sent) -> bool
-    ensures { result ≡ spec.is_clear sent }
-{
-    matches!(sent, Sent::Command(_, Kind::ClearAllErrors))
-}
-
-fn is_session_end(sent: Sent) -> bool
-    ensures { result ≡ spec.is_session_end sent }
-{
-    matches!(sent, Sent::Command(_, Kind::EndSession))
-}
-
 fn is_sought(sought: Sought, sent: Sent, stage: Stage) -> bool
     ensures { result ≡ spec.is_sought sought sent stage }
 {
-    match sought {
-        Sought::Open => is_queued(sent) && is_open(stage),
-        Sought::Unended => is_queued(sent) && !matches!(stage, Stage::Ended),
-        Sought::Clearing => is_clear(sent) && is_open(stage),
+    let is_open = matches!(stage, Stage::Sent | Stage::Received | Stage::Given);
+    match (sought, sent) {
+        (Sought::Open, Sent::Command(Tag::Std(_), _)) => is_open,
+        (Sought::Unended, Sent::Command(Tag::Std(_), _)) => is_open || stage == Stage::Failed,
+        (Sought::Clearing, Sent::Command(_, Kind::ClearAllErrors)) => is_open,
+        _ => false,
     }
 }
 
@@ -66,19 +38,18 @@ fn stage_at(up: &[Sent], above: &[Heard], notes: &Notes, at: usize) -> Stage
     requires within { at < length up.now }
     ensures { result ≡ stage_of up.now (reverse above.now) at }
 {
-    if notes.complete[at].is_some() {
-        return Stage::Ended;
+    match (
+        notes.complete[at],
+        notes.error[at],
+        notes.given[at],
+        notes.received[at],
+    ) {
+        (Some(_), _, _, _) => Stage::Ended,
+        (None, Some(_), _, _) => Stage::Failed,
+        (None, None, Some(_), _) => Stage::Given,
+        (None, None, None, Some(_)) => Stage::Received,
+        (None, None, None, None) => Stage::Sent,
     }
-    if notes.error[at].is_some() {
-        return Stage::Failed;
-    }
-    if notes.given[at].is_some() {
-        return Stage::Given;
-    }
-    if notes.received[at].is_some() {
-        return Stage::Received;
-    }
-    Stage::Sent
 }
 
 /// The place of the first line that is, or the count of all; no line before a place is.
@@ -98,90 +69,25 @@ fn front(sought: Sought, up: &[Sent], above: &[Heard], notes: &Notes, from: usiz
     up.len()
 }
 
-fn is_halt(heard: Heard) -> bool
-    ensures { result ≡ spec.halts heard }
+fn mark_rule(stage: Stage, asks: Asks, ending: Option<Rule>, reply: Reply) -> Option<Rule>
+    ensures { (turn barred left : Bool) → ending ≡ spec.end_rule turn barred left
+        → result ≡ spec.mark_rule stage asks turn ending reply }
 {
-    matches!(
-        heard,
-        Heard::Response(Tag::Std(_), Reply::Error(Severity::Three))
-    )
-}
-
-fn in_turn_rule(turn: bool) -> Option<Rule>
-    ensures { result ≡ spec.in_turn_rule turn }
-{
-    if turn { None } else { Some(Rule::NotInTurn) }
-}
-
-fn fits(asks: Asks, given: Data) -> bool
-    ensures { result ≡ spec.fits asks given }
-{
-    matches!(
-        (asks, given),
-        (Asks::Point, Data::Point) | (Asks::Homed, Data::Homed)
-    )
-}
-
-fn data_rule(stage: Stage, asks: Asks, turn: bool, given: Data) -> Option<Rule>
-    ensures { result ≡ spec.data_rule stage asks turn given }
-{
-    match (stage, asks) {
-        (Stage::Received | Stage::Given, Asks::Anything) => None,
-        (Stage::Received, _) if fits(asks, given) => in_turn_rule(turn),
-        (Stage::Given, _) if fits(asks, given) => Some(Rule::SecondData),
-        (Stage::Received | Stage::Given, _) => Some(Rule::OtherData),
-        _ => Some(Rule::OutOfOrder),
-    }
-}
-
-fn end_rule(turn: bool, barred: bool, left: bool) -> Option<Rule>
-    ensures { result ≡ spec.end_rule turn barred left }
-{
-    match (turn, barred, left) {
-        (false, _, _) => Some(Rule::NotInTurn),
-        (true, true, _) => Some(Rule::NotCleared),
-        (true, false, true) => Some(Rule::NoEnd),
-        (true, false, false) => None,
-    }
-}
-
-fn complete_rule(stage: Stage, asks: Asks, ending: Option<Rule>) -> Option<Rule>
-    ensures { result ≡ spec.complete_rule stage asks ending }
-{
-    match (stage, asks) {
-        (Stage::Received, Asks::Point | Asks::Homed) => Some(Rule::NoData),
-        (Stage::Received | Stage::Given, _) => ending,
-        (Stage::Failed, _) => None,
-        _ => Some(Rule::OutOfOrder),
-    }
-}
-
-fn mark_rule(
-    stage: Stage,
-    asks: Asks,
-    turn: bool,
-    ending: Option<Rule>,
-    reply: Reply,
-) -> Option<Rule>
-    ensures { result ≡ spec.mark_rule stage asks turn ending reply }
-{
-    match reply {
-        Reply::Received => match stage {
-            Stage::Sent => None,
-            _ => Some(Rule::OutOfOrder),
+    match (stage, reply, asks) {
+        (Stage::Sent, Reply::Received, _) | (Stage::Failed, Reply::Complete, _) => None,
+        (_, Reply::Error(_), _) => None,
+        (Stage::Received | Stage::Given, Reply::Given(_), Asks::Anything) => None,
+        (Stage::Received, Reply::Given(Data::Point), Asks::Point)
+        | (Stage::Received, Reply::Given(Data::Homed), Asks::Homed) => match ending {
+            Some(Rule::NotInTurn) => ending,
+            _ => None,
         },
-        Reply::Given(data) => data_rule(stage, asks, turn, data),
-        Reply::Complete => complete_rule(stage, asks, ending),
-        Reply::Error(_) => None,
-    }
-}
-
-fn unasked_rule(tag: Tag) -> Option<Rule>
-    ensures { result ≡ spec.unasked_rule tag }
-{
-    match tag {
-        Tag::Event(0) => None,
-        _ => Some(Rule::UnknownTag),
+        (Stage::Given, Reply::Given(Data::Point), Asks::Point)
+        | (Stage::Given, Reply::Given(Data::Homed), Asks::Homed) => Some(Rule::SecondData),
+        (Stage::Received | Stage::Given, Reply::Given(_), _) => Some(Rule::OtherData),
+        (Stage::Received, Reply::Complete, Asks::Point | Asks::Homed) => Some(Rule::NoData),
+        (Stage::Received | Stage::Given, Reply::Complete, _) => ending,
+        _ => Some(Rule::OutOfOrder),
     }
 }
 
@@ -201,31 +107,27 @@ fn is_doubtful(so: SoFar<'_>, tag: Tag) -> bool
     so.course.has_end(so.up, so.above, tag) && so.course.moment.refusals > 0
 }
 
-fn is_in_turn(so: SoFar<'_>, at: usize, sent: Sent) -> bool
+/// The rule that the end of a command breaks.
+fn ending_rule(so: SoFar<'_>, at: usize, sent: Sent) -> Option<Rule>
     requires course { IsCourse so.up.now (reverse so.above.now) so.course.now }
     requires standing { spec.IsStanding so.up.now (reverse so.above.now) so.standing }
-    ensures { result ≡ spec.is_in_turn so.entry.up.now (reverse so.entry.above.now) at sent }
+    ensures { result ≡ spec.end_rule (spec.is_in_turn so.entry.up.now (reverse so.entry.above.now)
+        at sent) (spec.is_halted so.entry.up.now (reverse so.entry.above.now)
+        (spec.front Sought.Open so.entry.up.now (reverse so.entry.above.now)) sent)
+        (spec.leaves_some so.entry.up.now (reverse so.entry.above.now) at sent) }
 {
-    !(is_queued(sent) || is_abort(sent))
-        || so.course.moment.refusals > 0
-        || !(so.standing.waiting < at)
-}
-
-fn is_halted(so: SoFar<'_>, sent: Sent) -> bool
-    requires course { IsCourse so.up.now (reverse so.above.now) so.course.now }
-    requires standing { spec.IsStanding so.up.now (reverse so.above.now) so.standing }
-    ensures { result ≡ spec.is_halted so.entry.up.now (reverse so.entry.above.now)
-        (spec.front Sought.Open so.entry.up.now (reverse so.entry.above.now)) sent }
-{
-    is_queued(sent) && !is_clear(sent) && so.course.moment.refusals == 0 && so.standing.barred
-}
-
-fn leaves_some(so: SoFar<'_>, at: usize, sent: Sent) -> bool
-    requires course { IsCourse so.up.now (reverse so.above.now) so.course.now }
-    requires standing { spec.IsStanding so.up.now (reverse so.above.now) so.standing }
-    ensures { result ≡ spec.leaves_some so.entry.up.now (reverse so.entry.above.now) at sent }
-{
-    is_session_end(sent) && so.course.moment.refusals == 0 && so.standing.unended < at
+    let standing = so.standing;
+    if so.course.moment.refusals > 0 {
+        return None;
+    }
+    match sent {
+        Sent::Command(Tag::Std(_), _) | Sent::Command(Tag::Event(_), Kind::AbortE)
+            if standing.waiting < at => Some(Rule::NotInTurn),
+        Sent::Command(_, Kind::ClearAllErrors) => None,
+        Sent::Command(Tag::Std(_), _) if standing.barred => Some(Rule::NotCleared),
+        Sent::Command(_, Kind::EndSession) if standing.unended < at => Some(Rule::NoEnd),
+        _ => None,
+    }
 }
 
 #[tactic(auto, using(crate::proofs::Standings::first_ends))]
@@ -239,10 +141,7 @@ fn command_rule(so: SoFar<'_>, tag: Tag, reply: Reply, at: usize, sent: Sent) ->
 {
     let stage = stage_at(so.up, so.above, &so.course.notes, at);
     let asks = asks_under(is_doubtful(so, tag), sent);
-    let turn = is_in_turn(so, at, sent);
-    let barred = is_halted(so, sent);
-    let left = leaves_some(so, at, sent);
-    mark_rule(stage, asks, turn, end_rule(turn, barred, left), reply)
+    mark_rule(stage, asks, ending_rule(so, at, sent), reply)
 }
 
 fn was_later(count: Option<usize>, at: usize) -> bool
@@ -264,7 +163,10 @@ fn rule_of(seen: &[usize], so: SoFar<'_>, heard: Heard) -> Option<Rule>
         return Some(Rule::NotResponse);
     };
     let Some(at) = so.course.place(so.up, so.above, tag) else {
-        return unasked_rule(tag);
+        return match tag {
+            Tag::Event(0) => None,
+            _ => Some(Rule::UnknownTag),
+        };
     };
     if was_later(seen.get(so.above.len()).copied(), at) {
         return Some(Rule::NotSent);
@@ -273,6 +175,15 @@ fn rule_of(seen: &[usize], so: SoFar<'_>, heard: Heard) -> Option<Rule>
         Some(sent) => command_rule(so, tag, reply, at, *sent),
         None => None,
     }
+}
+
+fn is_halt(heard: Heard) -> bool
+    ensures { result ≡ spec.halts heard }
+{
+    matches!(
+        heard,
+        Heard::Response(Tag::Std(_), Reply::Error(Severity::Three))
+    )
 }
 
 fn reach_after(halts: bool, clearing: usize, reach: usize) -> usize

@@ -29,37 +29,11 @@ fn code_of(tag: Tag) -> usize
 }
 
 /// What a table has for a tag.
+#[tactic(auto, using(crate::proofs::TagTables::looked))]
 pub fn look(table: &[Option<usize>], tag: Tag) -> Option<usize>
     ensures { result ≡ spec.found table.now tag }
 {
-    let code = code_of(tag);
-    if code < table.len() {
-        table[code]
-    } else {
-        None
-    }
-}
-
-fn make_room(table: &mut Vec<Option<usize>>, code: usize) -> Result<(), AllocError>
-    requires { code < 2 ^ 40 }
-    ensures room { OnOk result (code < length table.new.items) }
-    ensures same { (at : ℕ) → OnOk result (get_or table.new.items at None
-        ≡ get_or table.old.items at None) }
-{
-    if table.len() <= code {
-        table.resize(code + 1, None)?;
-    }
-    Ok(())
-}
-
-fn change(table: &mut Vec<Option<usize>>, code: usize, place: Option<usize>)
-    requires { code < length table.old.items }
-    ensures count { length table.new.items ≡ length table.old.items }
-    ensures own { get_or table.new.items code None ≡ place }
-    ensures others { (at : ℕ) → (at ≡ code → ⊥)
-        → get_or table.new.items at None ≡ get_or table.old.items at None }
-{
-    table[code] = place;
+    table.get(code_of(tag)).copied().flatten()
 }
 
 /// Changes what a table has for a tag. Fails only if out of memory.
@@ -69,9 +43,19 @@ pub fn put(table: &mut Vec<Option<usize>>, tag: Tag, place: Option<usize>) -> Re
         ≡ (if tag_is tag t then place else spec.found table.old.items t)) }
 {
     let code = code_of(tag);
-    make_room(table, code)?;
-    change(table, code, place);
+    if table.len() <= code {
+        table.resize(code + 1, None)?;
+    }
+    table[code] = place;
     Ok(())
+}
+
+/// The place of the use after the one at a place.
+#[tactic(auto, using(crate::proofs::TagTables::looked))]
+pub(crate) fn next_of(next: &[Option<usize>], place: Option<usize>) -> Option<usize>
+    ensures { result ≡ spec.next_of next.now place }
+{
+    next.get(place?).copied().flatten()
 }
 
 /// The uses of each tag, from a place on.
@@ -83,14 +67,14 @@ pub(crate) struct Later {
     pub(crate) next: Vec<Option<usize>>,
 }
 
-/// The place of the use after the one at a place.
-pub(crate) fn next_of(next: &[Option<usize>], place: Option<usize>) -> Option<usize>
-    ensures { result ≡ spec.next_of next.now place }
+fn change(table: &mut Vec<Option<usize>>, code: usize, place: Option<usize>)
+    requires { code < length table.old.items }
+    ensures count { length table.new.items ≡ length table.old.items }
+    ensures own { get_or table.new.items code None ≡ place }
+    ensures others { (at : ℕ) → (at ≡ code → ⊥)
+        → get_or table.new.items at None ≡ get_or table.old.items at None }
 {
-    match place {
-        Some(at) if at < next.len() => next[at],
-        _ => None,
-    }
+    table[code] = place;
 }
 
 /// The line at a place, before those that are noted. Fails only if out of memory.

@@ -57,36 +57,19 @@ fn kind_word(kind: Kind) -> &'static str
     }
 }
 
-fn push_line(text: &mut String, line: &[u8]) -> Result<(), AllocError>
-    ensures { OnOk result (string_bytes text.new ≡ string_bytes text.old ++ spec.line_text line.now) }
-{
-    if line.is_empty() {
-        return Ok(());
-    }
-    let shown = visible(*text.allocator(), line)?;
-    text.push_str(" ")?;
-    text.push_str(shown.as_str())
-}
-
-fn push_break(text: &mut String, side: &str, broken: &Break) -> Result<(), AllocError>
-    ensures { OnOk result (string_bytes text.new ≡ string_bytes text.old
-        ++ spec.break_text side.now broken.now) }
-{
-    let number = broken.number;
-    let name = rule_name(broken.rule);
-    write!(text, "{side} LINE {number} {name}")?;
-    push_line(text, broken.line.as_slice())?;
-    text.push_str("\n")
-}
-
-fn push_end(text: &mut String, side: &str, broken: &Option<Break>) -> Result<(), AllocError>
+fn push_break(text: &mut String, side: &str, broken: &Option<Break>) -> Result<(), AllocError>
     ensures { OnOk result (string_bytes text.new ≡ string_bytes text.old
         ++ spec.end_text side.now broken.now) }
 {
-    match broken {
-        Some(broken) => push_break(text, side, broken),
-        None => Ok(()),
-    }
+    let Some(broken) = broken else {
+        return Ok(());
+    };
+    let number = broken.number;
+    let name = rule_name(broken.rule);
+    let line = broken.line.as_slice();
+    let space = if line.is_empty() { "" } else { " " };
+    let line = visible(*text.allocator(), line)?;
+    writeln!(text, "{side} LINE {number} {name}{space}{line}")
 }
 
 fn push_count(text: &mut String, word: &str, count: usize) -> Result<(), AllocError>
@@ -141,8 +124,8 @@ fn text_of(alloc: Global, judgement: &Judgement) -> Result<String, AllocError>
         push_marks(&mut text, judgement.marks.as_slice())?;
         return Ok(text);
     }
-    push_end(&mut text, "CLIENT", &judgement.client)?;
-    push_end(&mut text, "SERVER", &judgement.server)?;
+    push_break(&mut text, "CLIENT", &judgement.client)?;
+    push_break(&mut text, "SERVER", &judgement.server)?;
     Ok(text)
 }
 
