@@ -123,6 +123,6 @@ pub use Rattle.witness_laws.specs.Claims.{ClaimNoMore, ClaimsNoMore, contact, in
 pub use Rattle.witness_laws.specs.Claims.{unknown}
 pub use Rattle.witness_laws.specs.Courses.{are_whole_lines, AreLinesOf, completed, down_in, lines_came, lines_coming, lines_in, lines_of, lines_read}
 pub use Rattle.witness_laws.specs.Courses.{up_in, whole_lines}
-pub use Rattle.witness_laws.specs.Orders.{answers, AreAnswers, AreCounted, AreFresh, at_once_line, Down, downs, has_failed_under, is_error_signal}
-pub use Rattle.witness_laws.specs.Orders.{is_of, is_open, is_refusal, is_under, IsAnswer, IsBehind, IsCausal, IsClear, IsCounted, IsFresh, IsNew}
+pub use Rattle.witness_laws.specs.Orders.{answers, AreCounted, AreFresh, at_once_line, Down, downs, has_failed_under, is_error_signal}
+pub use Rattle.witness_laws.specs.Orders.{is_of, is_open, is_refusal, is_under, IsBehind, IsCausal, IsClear, IsCounted, IsFresh, IsNew}
 pub use Rattle.witness_laws.specs.Orders.{IsPrefix, IsSure, Line, refuses, said, said_all, sends, some_at_once, some_sends, two_send, Up, ups}

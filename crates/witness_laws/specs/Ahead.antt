@@ -9,9 +9,9 @@ use Rattle.protocol_model.specs.declared.lines.Line.{Line}
 use Rattle.witness.specs.Asking.{server_line}
 use Rattle.witness.specs.Dialogues.{Dialogue, silence, after}
 use Rattle.witness.specs.Watching.{client_lines}
-use Rattle.client_core.specs.Calls.{Call, Connected, Send, ReadOne, Abort, possible, behind_call}
+use Rattle.client_core.specs.Calls.{Call, Connected, Send, ReadOne, Abort, possible, behind_call, behind_calls}
 use Rattle.witness_laws.specs.Orders.{answers}
-use Rattle.witness_laws.specs.Lines.{unasked_call}
+use Rattle.witness_laws.specs.Lines.{IsOurClient, unasked_call}
 use Rattle.witness_laws.specs.Visits.{stays}
 
 -- a call of the client, or a line of the server that the witness reads before the client does
@@ -95,3 +95,8 @@ unasked_turns (turn ∷ turns) w came = unasked_turns turns (after_turn turn w) 
 -- a connection is begun, of which the witness has read nothing; the first argument: the order between the two ends is known to it
 abbrev pub begun_on : Bool → ℕ → ClientEnd → Watched
 begun_on ordered n e = record { client = behind_call (Connected n) e; dialogue = silence ordered; ahead = [] }
+
+-- it is so after any calls of a client of ours
+pub data IsBegun : Watched → Type 0 where
+  connected : (ordered : Bool) (n : ℕ) (calls : List Call) (e : ClientEnd) → IsOurClient e → possible (Connected n) (behind_calls calls e) ≡ true
+      → IsBegun (begun_on ordered n (behind_calls calls e))

@@ -40,3 +40,8 @@ pub record HadFrame (what : Option (Tag × Signal)) (h : List Entry) (frame : Fr
   pub touch : ℕ
   pub ends : mark_in what (lines h) ≡ Some (touch, heard.Complete)
   pub had : frame_at_contact touch h ≡ Some (Some frame)
+
+-- where the tool or the frame of a contact is known, a line of the server is the end of a touch that had it
+pub record HadKnown (what : Option (Tag × Signal)) (h : List Entry) (r : Reported) : Type 0 where
+  pub tool : (tool : List ℕ) → contact_tool r ≡ Some tool → HadTool what h tool
+  pub frame : (frame : Frame) → contact_frame r ≡ Some frame → HadFrame what h frame

@@ -1,18 +1,38 @@
 -- What a witness of a client's connection reports: it reads the lines that the client writes and the lines that the client reads, in the
 -- order in which it does so (this profile).
-use Rattle.std.specs.Prelude.{Bool, false, ◌||◌, List, [], ◌∷◌, if◌then◌else◌, Some, None, Result, Ok, Err}
+use Rattle.std.specs.Prelude.{◌≡◌, ℕ, Bool, true, false, ◌||◌, List, [], ◌∷◌, if◌then◌else◌, Some, None, Result, Ok, Err}
+use Rattle.contact_ledger.specs.declared.acts.Act.{Act}
+use Rattle.contact_ledger.specs.declared.features.Feature.{Feature}
+use Rattle.dmis_program.specs.Meaning.{Meaning}
+use Rattle.dmis_program.specs.Programs.{IsProgram}
 use Rattle.line_framing.specs.Next.{Front, next_of}
 use Rattle.dme_line.specs.declared.tags.Tag.TheVariants.{Event}
 use Rattle.dme_line.specs.declared.responses.Response.{Response}
 use Rattle.dme_line.specs.declared.responses.NotResponse.{NotResponse}
 use Rattle.protocol_model.specs.Client.{client_sent, client_aborted}
-use Rattle.protocol_model.specs.Ends.{ClientEnd}
+use Rattle.protocol_model.specs.Ends.{ClientEnd, new_client_end}
 use Rattle.protocol_model.specs.Lines.{command_texts}
 use Rattle.protocol_model.specs.Readings.{response_of}
 use Rattle.protocol_model.specs.Replies.{tag_is}
 use Rattle.witness.specs.Dialogues.{Dialogue, silence}
 use Rattle.witness.specs.Watching.{client_lines, server_front}
+use Rattle.client_core.specs.Clients.{are_ours}
 use Rattle.client_core.specs.Calls.{Call, Connected, Send, Feed, ReadOne, Abort, Resume, Leave, Restart, Sent, possible, behind_call}
+
+-- ---- a client of ours
+
+-- a client with any program, that was never on a connection
+pub data IsNewClient (program : Meaning) : ClientEnd → Type 0 where
+  never_on : (kept : List Feature) (window : ℕ) → IsProgram program → IsNewClient program (new_client_end program kept window)
+
+-- such a client, with kept features that are its own
+pub data IsOurClient : ClientEnd → Type 0 where
+  our_client : (program : Meaning) (kept : List Feature) (window : ℕ) → IsProgram program → are_ours program.features kept ≡ true
+      → IsOurClient (new_client_end program kept window)
+
+-- the acts that a client counted on its connection
+abbrev pub counted_by : ClientEnd → List Act
+counted_by e = e.client.table.tally.counted
 
 -- ---- the lines of a call
 

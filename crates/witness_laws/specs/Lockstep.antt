@@ -10,7 +10,7 @@ use Rattle.protocol_model.specs.Replies.{Reply}
 use Rattle.protocol_model.specs.Lines.{reading_of, reply_texts}
 use Rattle.protocol_model.specs.Server.{Server, runs_under, waits_under, server_read, server_turned, server_machined, may_end}
 use Rattle.protocol_model.specs.Ends.{ServerEnd, serving_accepted}
-use Rattle.server_core.specs.Serving.{may_turn}
+use Rattle.server_core.specs.Serving.{may_accept, may_turn}
 use Rattle.server_core.specs.Calls.{Call, ReadOne, Turn, Machine, Leave, Restart, Sent, behind_call, behind_calls, reached, gives_up}
 use Rattle.witness.specs.Dialogues.{Dialogue, silence}
 use Rattle.witness.specs.Watching.{client_lines, server_lines}
@@ -90,3 +90,8 @@ AreAnew s (line ∷ lines) = uses_again s (command_of line) ≡ false
 abbrev pub IsCourse : List Call → ServerEnd → Type 0
 IsCourse [] e = Unit {0}
 IsCourse (call ∷ calls) e = (gives_up call ≡ false) × AreAnew e.server (line_read call e) × IsCourse calls (behind_call call e)
+
+-- a server takes connection n after any calls, and these are a course of it
+pub data TakesCourse : ℕ → ServerEnd → List Call → Type 0 where
+  takes : (tools : List (List ℕ)) (before : List Call) (n : ℕ) (calls : List Call) → may_accept n (reached tools before).server ≡ true
+      → IsCourse calls (taking tools before n) → TakesCourse n (taking tools before n) calls

@@ -1,5 +1,5 @@
 -- Examples: histories that are written out, in the order in which things happen (this profile). No contract but theirs cites these definitions.
-use Rattle.std.specs.Prelude.{ℕ, true, List, [], ◌∷◌, ◌++◌, codes, map, reverse, Option, Some, None, pos, negsuc}
+use Rattle.std.specs.Prelude.{◌≡◌, ℕ, true, List, [], ◌∷◌, ◌++◌, codes, map, reverse, Option, Some, None, pos, negsuc}
 use Rattle.fixed_um.specs.declared.frames.Frame.{Frame}
 use Rattle.fixed_um.specs.declared.frames.Frame.TheVariants.{Machine, Part}
 use Rattle.fixed_um.specs.declared.lengths.Point.{Point}
@@ -24,6 +24,10 @@ tool_had n happened = tool_at_contact n (reverse happened)
 abbrev pub frame_had : ℕ → List Entry → Option (Option Frame)
 frame_had n happened = frame_at_contact n (reverse happened)
 
+-- a history is of this sort, this is known of its contacts, and this is the tool at the one of the touch at a place
+abbrev pub Shows : (List Entry → Type 0) → List Entry → List (Option (List ℕ) × Option Frame) → ℕ → Option (Option (List ℕ)) → Type 0
+Shows Sort happened of_contacts n tool = Sort (reverse happened) × (known happened ≡ of_contacts) × (tool_had n happened ≡ tool)
+
 -- ---- entries
 
 abbrev pub messages : List Line → List Entry
@@ -34,6 +38,13 @@ p1 = Some (codes "P1")
 
 abbrev pub p2 : Option (List ℕ)
 p2 = Some (codes "P2")
+
+-- the zero point of the part's frame in these histories, and that frame
+abbrev pub zero : Point
+zero = record { x = negsuc 0; y = pos 0; z = pos 0 }
+
+abbrev pub part_frame : Option Frame
+part_frame = Some (Part zero)
 
 abbrev pub takes : ℕ → Option (List ℕ) → List Entry
 takes n name = Does (InTurn n) (TakesTool name) ∷ []
@@ -70,8 +81,7 @@ plain = messages (tool 1 ++ (machine 2 ++ touch 3)) ++ (changed 0 1 ++ (selects 
 -- a part's frame, with the zero point that was stored before
 abbrev pub in_part : List Entry
 in_part = messages (zero_point 1 1 ++ (part 2 ++ touch 3))
-    ++ (stores 0 (record { x = negsuc 0; y = pos 0; z = pos 0 }) ++ (messages (done 1)
-    ++ (selects 1 (Some (Part (record { x = negsuc 0; y = pos 0; z = pos 0 }))) ++ (messages (done 2) ++ contact 2 3))))
+    ++ (stores 0 zero ++ (messages (done 1) ++ (selects 1 part_frame ++ (messages (done 2) ++ contact 2 3))))
 
 -- a server makes the second of two changes first, and its end says so
 abbrev pub crosswise : List Entry
@@ -123,7 +133,7 @@ touch_takes = messages (tool 1 ++ (touch 2 ++ touch 3)) ++ (changed 0 1 ++ (cont
 abbrev pub zero_selects : List Entry
 zero_selects = messages (machine 1 ++ (zero_point 2 1 ++ touch 3))
     ++ (selects 0 (Some Machine) ++ (messages (done 1) ++ (selects 1 None
-    ++ (stores 1 (record { x = negsuc 0; y = pos 0; z = pos 0 }) ++ (messages (done 2) ++ contact 2 3)))))
+    ++ (stores 1 zero ++ (messages (done 2) ++ contact 2 3)))))
 
 -- a change is made before the touch above it, and says nothing out of turn
 abbrev pub change_first : List Entry

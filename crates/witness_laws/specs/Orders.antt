@@ -7,7 +7,8 @@ use Rattle.dme_line.specs.declared.responses.NotResponse.{NotResponse}
 use Rattle.protocol_model.specs.Readings.{command_of, response_of}
 use Rattle.protocol_model.specs.Replies.{tag_is}
 use Rattle.witness.specs.Asking.{sent, client_line, server_line, Signal, Error, signal_of}
-use Rattle.witness.specs.Dialogues.{Dialogue, after, foreign_event}
+use Rattle.witness.specs.Dialogues.{Dialogue, after, foreign_event, silence}
+use Rattle.witness.specs.Known.{frame_of, tool_of}
 use Rattle.witness.specs.Marks.{is_end}
 use Rattle.witness.specs.Rules.{is_at_once}
 use Rattle.witness.specs.declared.lines.Reported.{Reported}
@@ -112,6 +113,9 @@ IsClear d (Up line ∷ lines) = IsClear (said d (Up line)) lines
 IsClear d (Down line ∷ lines) =
     (some_at_once (ups lines) ≡ false) × IsSure d.uses (ups lines) (response_of line) × IsClear (said d (Down line)) lines
 
+abbrev pub IsCausalAndClear : Bool → List Line → Type 0
+IsCausalAndClear ordered lines = IsCausal (silence ordered) lines × IsClear (silence ordered) lines
+
 -- whether a line of the server is an error
 abbrev pub is_error_signal : Signal → Bool
 is_error_signal Error = true
@@ -147,17 +151,13 @@ abbrev pub AreFresh : Dialogue → List (List ℕ) → Type 0
 AreFresh d [] = Unit {0}
 AreFresh d (line ∷ lines) = IsFresh d.uses line × AreFresh (said d (Up line)) lines
 
--- a response is under a tag under which a command is open
-abbrev pub IsAnswer : List Use → Result Response NotResponse → Type 0
-IsAnswer uses (Ok r) = is_open r.tag uses ≡ true
-IsAnswer uses (Err why) = Unit {0}
-
--- lines of the server that are such responses, one after another, or no responses
-abbrev pub AreAnswers : Dialogue → List (List ℕ) → Type 0
-AreAnswers d [] = Unit {0}
-AreAnswers d (line ∷ lines) = IsAnswer d.uses (response_of line) × AreAnswers (said d (Down line)) lines
-
 -- ---- what is reported
+
+-- two readings report the same, and know the same tool and frame
+pub record Same (d e : Dialogue) : Type 0 where
+  pub reported : d.reported ≡ e.reported
+  pub tool : tool_of d.known ≡ tool_of e.known
+  pub frame : frame_of d.known ≡ frame_of e.known
 
 -- one list of what was reported is a prefix of another
 pub record IsPrefix (first all : List Reported) : Type 0 where

@@ -83,3 +83,8 @@ abbrev pub frame_named : Reported → Option Frame
 frame_named (reports.Did a) = frame_of a
 frame_named (reports.Touched p d n f at) = f
 frame_named _ = None
+
+-- where a report names a tool or a frame, it is that of the act
+pub record NamesThoseOf (report : Reported) (a : Act) : Type 0 where
+  pub tool : (name : List ℕ) → tool_named report ≡ Some name → tool_of a ≡ Some name
+  pub frame : (name : Frame) → frame_named report ≡ Some name → frame_of a ≡ Some name

@@ -1,5 +1,5 @@
 -- Examples: acts, and servers and witnesses that are written out (this profile). No law cites these definitions.
-use Rattle.std.specs.Prelude.{ℕ, true, List, [], ◌∷◌, ◌++◌, codes, Option, Some, None, pos, false, Ok}
+use Rattle.std.specs.Prelude.{ℕ, true, List, [], ◌∷◌, ◌++◌, codes, Option, Some, None, pos, Ok}
 use Rattle.fixed_um.specs.declared.lengths.Point.{Point}
 use Rattle.fixed_um.specs.declared.frames.Frame.TheVariants.{Machine}
 use Rattle.contact_ledger.specs.declared.acts.Act.{Act}
@@ -10,10 +10,6 @@ use Rattle.protocol_model.specs.Ends.{ServerEnd}
 use Rattle.protocol_model.specs.Server.{new_server}
 use Rattle.protocol_model.specs.declared.lines.Line.{Line}
 use Rattle.protocol_model.specs.declared.lines.Waiting.{Waiting}
-use Rattle.witness.specs.Dialogues.{Dialogue, silence}
-use Rattle.witness.specs.Known.{nothing}
-use Rattle.witness.specs.declared.lines.SentCommand.TheVariants.{Known}
-use Rattle.witness.specs.declared.lines.Stage.{Stage}
 
 -- points of the examples
 abbrev pub at : ℕ → Point
@@ -41,18 +37,3 @@ waits c = record { tag = Std 7; reading = Ok c } ∷ []
 -- a line with its end
 abbrev pub line : List ℕ → List ℕ
 line text = text ++ 13 ∷ 10 ∷ []
-
--- a witness to which this command is received under the tag 00007
-abbrev pub heard : Command → Dialogue
-heard c = record (silence false) {
-  lines = 1;
-  uses = record {
-    tag = Std 7;
-    command = Known c;
-    line = 0;
-    stage = Stage.Received;
-    has_failed = false;
-    rival = None;
-    known = nothing;
-  } ∷ [];
-}

@@ -1,14 +1,16 @@
 -- The connections of a client, one after another, and what a witness writes of them all (this profile).
 use Rattle.std.specs.Prelude.{ℕ, Bool, true, false, ◌||◌, List, [], ◌∷◌, ◌++◌, map}
 use Rattle.std.specs.List.{list_all}
+use Rattle.dmis_program.specs.Meaning.{Meaning}
 use Rattle.protocol_model.specs.Ends.{ClientEnd}
 use Rattle.witness.specs.Dialogues.{silence}
 use Rattle.witness.specs.Texts.{numbered}
+use Rattle.told_files.specs.Runs.{SoundByTold}
 use Rattle.witness.specs.declared.lines.Reported.{Reported}
 use Rattle.client_core.specs.Calls.{Call, Connected, Send, Feed, ReadOne, Abort, Resume, Leave, Restart, Sent, behind_calls}
 use Rattle.witness_laws.specs.Acts.{BeginsWith}
 use Rattle.witness_laws.specs.Orders.{Line, said_all}
-use Rattle.witness_laws.specs.Lines.{witnessed, unasked}
+use Rattle.witness_laws.specs.Lines.{counted_by, witnessed, unasked}
 
 -- a call on the connection that a client is on: it neither connects nor leaves, and is no restart
 abbrev pub stays : Call → Bool
@@ -59,13 +61,17 @@ abbrev pub some_unasked : List Visit → ClientEnd → Bool
 some_unasked [] e = false
 some_unasked (v ∷ vs) e = unasked (calls_of v) e false || some_unasked vs (behind_calls (calls_of v) e)
 
+-- the features that a client holds are true of what was written
+abbrev pub HoldsTrue : Meaning → ClientEnd → List (ℕ × Reported) → Type 0
+HoldsTrue program e written = SoundByTold program.features e.client.table.tally.features written
+
 -- ---- any witness
 
 -- what was reported of each connection begins with the acts that the client counted there
 abbrev pub BeginSo : List Visit → List (List Reported) → ClientEnd → Type 0
 BeginSo [] [] e = Unit {0}
 BeginSo (v ∷ vs) (reported ∷ others) e =
-    BeginsWith (behind_calls (calls_of v) e).client.table.tally.counted reported × BeginSo vs others (behind_calls (calls_of v) e)
+    BeginsWith (counted_by (behind_calls (calls_of v) e)) reported × BeginSo vs others (behind_calls (calls_of v) e)
 BeginSo _ _ e = ⊥
 
 -- and what is written of it

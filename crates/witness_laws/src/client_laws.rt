@@ -1,7 +1,7 @@
 // What follows from the definitions. Each function has laws for its contract and does nothing.
 
 ghost use Rattle.std.specs.Prelude.{◌≡◌, ℕ, Bool, List, ◌++◌, false, true};
-ghost use Rattle.witness_laws.specs.Names.{list_all, Feature as OneFeature, Meaning, IsProgram, new_client_end, Call, Connected, possible, behind_calls, client_behind, are_ours, is_faulted, silence, Reported, SoundByTold, Line, said_all, all_done, BeginsWith, Claims, BeginsToClaim, Turn, after_turns, begun_on, AreCausal, unasked_turns, witnessed, unasked, Visit, is_visit, behind_visits, told_of_all, some_unasked, BeginSo, written_of};
+ghost use Rattle.witness_laws.specs.Names.{list_all, Meaning, ClientEnd, Call, behind_calls, may_read, silence, Reported, Line, said_all, all_done, BeginsWith, Claims, BeginsToClaim, IsNewClient, IsOurClient, counted_by, Turn, Watched, after_turns, IsBegun, AreCausal, unasked_turns, witnessed, unasked, Visit, is_visit, behind_visits, told_of_all, some_unasked, HoldsTrue, BeginSo, written_of};
 
 /// After every list of calls of a client with any program and kept features that are its own, whatever bytes are fed: a witness of its
 /// connection, which reads the lines that the client writes and those that it reads, and to which the order between the two ends is known or
@@ -15,30 +15,21 @@ ghost use Rattle.witness_laws.specs.Names.{list_all, Feature as OneFeature, Mean
 ///
 /// The server is not ours. No other fault of a server is passed over: at any other the client is Faulted.
 pub fn what_the_client_counts_is_reported()
-    ensures told { (ordered : Bool) (program : Meaning) (kept : List OneFeature) (window : ℕ)
-        (calls : List Call) → IsProgram program → are_ours program.features kept ≡ true
-        → (client_behind calls program kept window).on ≡ true
-        → is_faulted (client_behind calls program kept window).state ≡ false
-        → unasked calls (new_client_end program kept window) false ≡ false
-        → (witnessed calls (new_client_end program kept window) (silence ordered)).reported
-        ≡ all_done (client_behind calls program kept window).table.tally.counted }
-    ensures claims { (ordered : Bool) (program : Meaning) (kept : List OneFeature) (window : ℕ)
-        (calls : List Call) → IsProgram program → are_ours program.features kept ≡ true
-        → (client_behind calls program kept window).on ≡ true
-        → is_faulted (client_behind calls program kept window).state ≡ false
-        → Claims (client_behind calls program kept window).table.tally.counted
-        (witnessed calls (new_client_end program kept window) (silence ordered)).reported }
-    ensures begins { (ordered : Bool) (program : Meaning) (kept : List OneFeature) (window : ℕ)
-        (calls : List Call) (unread : List Line) → IsProgram program
-        → are_ours program.features kept ≡ true
-        → unasked calls (new_client_end program kept window) false ≡ false
-        → BeginsWith (client_behind calls program kept window).table.tally.counted (said_all
-        (witnessed calls (new_client_end program kept window) (silence ordered)) unread).reported }
-    ensures begins_to_claim { (ordered : Bool) (program : Meaning) (kept : List OneFeature)
-        (window : ℕ) (calls : List Call) (unread : List Line) → IsProgram program
-        → are_ours program.features kept ≡ true
-        → BeginsToClaim (client_behind calls program kept window).table.tally.counted (said_all
-        (witnessed calls (new_client_end program kept window) (silence ordered)) unread).reported }
+    ensures told { (ordered : Bool) (e : ClientEnd) (calls : List Call) → IsOurClient e
+        → may_read (behind_calls calls e).client ≡ true → unasked calls e false ≡ false
+        → (witnessed calls e (silence ordered)).reported
+        ≡ all_done (counted_by (behind_calls calls e)) }
+    ensures claims { (ordered : Bool) (e : ClientEnd) (calls : List Call) → IsOurClient e
+        → may_read (behind_calls calls e).client ≡ true
+        → Claims (counted_by (behind_calls calls e))
+        (witnessed calls e (silence ordered)).reported }
+    ensures begins { (ordered : Bool) (e : ClientEnd) (calls : List Call) (unread : List Line)
+        → IsOurClient e → unasked calls e false ≡ false
+        → BeginsWith (counted_by (behind_calls calls e))
+        (said_all (witnessed calls e (silence ordered)) unread).reported }
+    ensures begins_to_claim { (ordered : Bool) (e : ClientEnd) (calls : List Call)
+        (unread : List Line) → IsOurClient e → BeginsToClaim (counted_by (behind_calls calls e))
+        (said_all (witnessed calls e (silence ordered)) unread).reported }
 {}
 
 /// A witness may read lines of the server before the client does, as a relay does, while the client writes. On each connection, after any calls
@@ -51,28 +42,13 @@ pub fn what_the_client_counts_is_reported()
 /// So it is with each tool and frame if the client has read no line that belongs to no command (`exactly`), and else with some that are not
 /// known (`claims`).
 pub fn what_the_client_counts_was_reported_before()
-    ensures exactly { (ordered : Bool) (program : Meaning) (kept : List OneFeature)
-        (window n : ℕ) (calls : List Call) (turns : List Turn) → IsProgram program
-        → are_ours program.features kept ≡ true
-        → possible (Connected n) (behind_calls calls (new_client_end program kept window)) ≡ true
-        → AreCausal turns (begun_on ordered n
-        (behind_calls calls (new_client_end program kept window)))
-        → unasked_turns turns (begun_on ordered n
-        (behind_calls calls (new_client_end program kept window))) false ≡ false
-        → BeginsWith (after_turns turns (begun_on ordered n
-        (behind_calls calls (new_client_end program kept window)))).client.client.table.tally.counted
-        (after_turns turns (begun_on ordered n
-        (behind_calls calls (new_client_end program kept window)))).dialogue.reported }
-    ensures claims { (ordered : Bool) (program : Meaning) (kept : List OneFeature)
-        (window n : ℕ) (calls : List Call) (turns : List Turn) → IsProgram program
-        → are_ours program.features kept ≡ true
-        → possible (Connected n) (behind_calls calls (new_client_end program kept window)) ≡ true
-        → AreCausal turns (begun_on ordered n
-        (behind_calls calls (new_client_end program kept window)))
-        → BeginsToClaim (after_turns turns (begun_on ordered n
-        (behind_calls calls (new_client_end program kept window)))).client.client.table.tally.counted
-        (after_turns turns (begun_on ordered n
-        (behind_calls calls (new_client_end program kept window)))).dialogue.reported }
+    ensures exactly { (w : Watched) (turns : List Turn) → IsBegun w → AreCausal turns w
+        → unasked_turns turns w false ≡ false
+        → BeginsWith (counted_by (after_turns turns w).client)
+        (after_turns turns w).dialogue.reported }
+    ensures claims { (w : Watched) (turns : List Turn) → IsBegun w → AreCausal turns w
+        → BeginsToClaim (counted_by (after_turns turns w).client)
+        (after_turns turns w).dialogue.reported }
 {}
 
 /// A client with any program goes through connections one after another, whatever bytes are fed on each, and leaves each before the next. A
@@ -85,20 +61,13 @@ pub fn what_the_client_counts_was_reported_before()
 ///
 /// The server is not ours.
 pub fn held_features_are_true_of_what_was_reported()
-    ensures with { (ordered : Bool) (program : Meaning) (kept : List OneFeature) (window : ℕ)
-        (visits : List Visit) (earlier : List (ℕ × Reported)) → IsProgram program
-        → list_all is_visit visits ≡ true
-        → some_unasked visits (new_client_end program kept window) ≡ false
-        → SoundByTold program.features kept earlier
-        → SoundByTold program.features
-        (behind_visits visits (new_client_end program kept window)).client.table.tally.features
-        (earlier ++ told_of_all ordered visits (new_client_end program kept window)) }
-    ensures any { (program : Meaning) (kept : List OneFeature) (window : ℕ) (visits : List Visit)
-        (reports : List (List Reported)) (earlier : List (ℕ × Reported)) → IsProgram program
-        → list_all is_visit visits ≡ true
-        → BeginSo visits reports (new_client_end program kept window)
-        → SoundByTold program.features kept earlier
-        → SoundByTold program.features
-        (behind_visits visits (new_client_end program kept window)).client.table.tally.features
-        (earlier ++ written_of visits reports) }
+    ensures with { (ordered : Bool) (program : Meaning) (e : ClientEnd) (visits : List Visit)
+        (earlier : List (ℕ × Reported)) → IsNewClient program e
+        → list_all is_visit visits ≡ true → some_unasked visits e ≡ false
+        → HoldsTrue program e earlier
+        → HoldsTrue program (behind_visits visits e) (earlier ++ told_of_all ordered visits e) }
+    ensures any { (program : Meaning) (e : ClientEnd) (visits : List Visit)
+        (reports : List (List Reported)) (earlier : List (ℕ × Reported)) → IsNewClient program e
+        → list_all is_visit visits ≡ true → BeginSo visits reports e → HoldsTrue program e earlier
+        → HoldsTrue program (behind_visits visits e) (earlier ++ written_of visits reports) }
 {}

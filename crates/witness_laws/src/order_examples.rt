@@ -1,14 +1,12 @@
 // Examples: what lines report in orders that are written out.
 
 ghost use Rattle.std.specs.Prelude.{◌≡◌, true, false, [], ◌∷◌, ◌++◌, Some, None};
-ghost use Rattle.witness_laws.specs.Names.{list_any, Machine, Std, silence, frame_of, IsClientRead, ledger, client_read, Did, MovedSomewhere, FramedSomehow, Other, Unasked, Broken, OutOfOrder, Client, in_turn, ClaimNoMore, lines_of, lines_came, AreLinesOf, home, received, refused, ended, selected, home_2, ended_2, untagged, selecting, early, failed_before, crossing, with_end, asked_too, read_both, asked_course, course, Up, Down, said_all, ups, downs, answers, some_at_once, refuses, IsCausal, IsClear, AreFresh, AreAnswers, IsPrefix};
+ghost use Rattle.witness_laws.specs.Names.{list_any, Machine, Std, silence, frame_of, IsClientRead, ledger, client_read, Did, MovedSomewhere, FramedSomehow, Other, Unasked, Broken, OutOfOrder, Client, in_turn, ClaimNoMore, lines_of, lines_came, AreLinesOf, home, received, refused, ended, home_2, ended_2, untagged, selecting, early, failed_before, crossing, with_end, asked_too, read_both, asked_course, course, Up, Down, said_all, ups, downs, answers, some_at_once, refuses, IsCausal, IsClear, AreFresh, IsPrefix};
 ghost use Rattle.witness_laws.specs.OrderExamples.{origin, answered, homing};
 ghost use Rattle.contact_ledger.specs.declared.acts.Act.TheVariants as act;
 
 /// A reply that is read before its command reports something else. One to no command at all may be read at any time.
 pub fn replies_come_after_commands()
-    ensures causal { IsCausal (silence true) answered }
-    ensures told { (said_all (silence true) answered).reported ≡ Did act.Homed ∷ [] }
     ensures stray { IsCausal (silence true) (answered ++ Down ended ∷ []) }
     ensures early { IsCausal (silence true) early → ⊥ }
     ensures early_told { (said_all (silence true) early).reported
@@ -42,7 +40,6 @@ pub fn lines_at_once_are_reported_first()
 /// A witness that takes the order for known does not trust it once a tag was used while in use. Two recordings cannot see that.
 pub fn tags_in_use_are_noted()
     ensures causal { IsCausal (silence true) crossing }
-    ensures crossed { (said_all (silence true) crossing).crossed ≡ true }
     ensures order { (said_all (silence true) crossing).reported
         ≡ Did (act.Framed Machine) ∷ MovedSomewhere origin ∷ [] }
     ensures ledger { (ledger (ups crossing) (downs crossing)).reported
@@ -52,10 +49,8 @@ pub fn tags_in_use_are_noted()
     ensures less { ClaimNoMore (MovedSomewhere origin ∷ []) (Did (act.Moved origin Machine) ∷ []) }
 {}
 
-/// An answer is to a command that is open; a command is fresh under a tag under which none is.
-pub fn answers_are_to_open_commands()
-    ensures answer { AreAnswers homing (ended ∷ []) }
-    ensures twice { AreAnswers homing (ended ∷ ended ∷ []) → ⊥ }
+/// A command is fresh under a tag under which none is open; an answer is under its tag.
+pub fn commands_are_fresh()
     ensures fresh { AreFresh homing (home_2 ∷ []) }
     ensures in_use { AreFresh homing (home ∷ []) → ⊥ }
     ensures again { AreFresh (silence true) (home ∷ home ∷ []) → ⊥ }

@@ -1,8 +1,7 @@
 // What follows for each order of lines. Each function has laws for its contract and does nothing.
 
-ghost use Rattle.std.specs.Prelude.{◌≡◌, ℕ, Bool, true, false, List, [], ◌∷◌, ◌++◌, map, Some};
-ghost use Rattle.witness_laws.specs.Names.{list_any, Tag, response_of, Sends, Dialogue, silence, after, foreign_event, frame_of, Relaying, Course, Relays, IsAllTold, told_lines, Watching, AreAllRead, client_lines, server_lines, ledger, SentCommand, reported_first, in_turn, ClaimNoMore, lines_of, lines_came, AreLinesOf, Line, Up, Down, said, said_all, ups, downs, two_send, answers, some_at_once, refuses, is_open, IsBehind, IsCausal, IsClear, IsCounted, IsFresh, AreFresh, AreAnswers, IsPrefix};
-ghost use Rattle.witness.specs.Known.{tool_of};
+ghost use Rattle.std.specs.Prelude.{◌≡◌, ◌⊎◌, ℕ, Bool, true, false, List, ◌∷◌, ◌++◌, map, Some};
+ghost use Rattle.witness_laws.specs.Names.{list_any, Tag, Sends, Dialogue, silence, after, foreign_event, Relaying, Course, Relays, IsAllTold, told_lines, Watching, AreAllRead, client_lines, server_lines, ledger, SentCommand, reported_first, in_turn, ClaimNoMore, lines_of, lines_came, AreLinesOf, Line, Up, Down, said, said_all, ups, downs, two_send, answers, some_at_once, refuses, is_open, IsCausal, IsClear, IsCausalAndClear, IsCounted, AreFresh, IsPrefix, Same};
 
 use witness::laws::what_is_written_was_reported;
 
@@ -16,19 +15,11 @@ pub fn open_commands_are_in_order()
 /// A command that is not carried out at once may be read before lines of the server that came before it, with the same result to the last flag,
 /// if none is open under its tag:
 ///
-/// - `one`: one line of each end, where the server's is no response under that tag, or one for a command that is open;
 /// - `all`: lines of each end, where each response that is read has its command open, or the client sends none under its tag later;
-/// - `answers`: the same where each response has its command open;
 /// - `command`: a command, and lines that are no responses under its tag.
 pub fn commands_may_be_read_before_earlier_replies()
-    ensures one { (d : Dialogue) (up down : List ℕ) → IsCounted d → IsFresh d.uses up
-        → IsBehind d.uses (up ∷ []) (response_of down)
-        → said (said d (Down down)) (Up up) ≡ said (said d (Up up)) (Down down) }
     ensures all { (d : Dialogue) (up down : List (List ℕ)) → IsCounted d → AreFresh d up
         → IsCausal d (map Down down ++ map Up up)
-        → client_lines (server_lines d down) up ≡ server_lines (client_lines d up) down }
-    ensures answers { (d : Dialogue) (up down : List (List ℕ)) → IsCounted d → AreFresh d up
-        → AreAnswers d down
         → client_lines (server_lines d down) up ≡ server_lines (client_lines d up) down }
     ensures command { (d : Dialogue) (line : List ℕ) (tag : Tag) (what : SentCommand)
         (down : List (List ℕ)) → IsCounted d → is_open tag d.uses ≡ false
@@ -46,22 +37,8 @@ pub fn commands_may_be_read_before_earlier_replies()
 ///
 /// Neither reading takes the order for known: one that does knows nothing once a tag was used while in use.
 pub fn reports_need_no_order()
-    ensures told { (lines : List Line) → IsCausal (silence false) lines
-        → IsClear (silence false) lines
-        → (said_all (silence false) lines).reported ≡ (ledger (ups lines) (downs lines)).reported }
-    ensures tool { (lines : List Line) → IsCausal (silence false) lines
-        → IsClear (silence false) lines
-        → tool_of (said_all (silence false) lines).known
-        ≡ tool_of (ledger (ups lines) (downs lines)).known }
-    ensures frame { (lines : List Line) → IsCausal (silence false) lines
-        → IsClear (silence false) lines
-        → frame_of (said_all (silence false) lines).known
-        ≡ frame_of (ledger (ups lines) (downs lines)).known }
-    ensures orders { (lines others : List Line) → ups lines ≡ ups others
-        → downs lines ≡ downs others → IsCausal (silence false) lines
-        → IsClear (silence false) lines → IsCausal (silence false) others
-        → IsClear (silence false) others
-        → (said_all (silence false) lines).reported ≡ (said_all (silence false) others).reported }
+    ensures { (lines : List Line) → IsCausalAndClear false lines
+        → Same (said_all (silence false) lines) (ledger (ups lines) (downs lines)) }
 {}
 
 /// Whatever the lines are, two recordings claim no more than a witness that read them in any order in which each response comes after its command:
@@ -120,8 +97,7 @@ pub fn more_lines_report_more()
     ensures ledger { (up later down more : List (List ℕ)) → some_at_once later ≡ false
         → IsCausal (client_lines (silence false) up) (map Down down ++ map Up later)
         → IsPrefix (ledger up down).reported (ledger (up ++ later) (down ++ more)).reported }
-    ensures either { (lines more : List Line) → IsCausal (silence false) (lines ++ more)
-        → IsClear (silence false) (lines ++ more)
+    ensures either { (lines more : List Line) → IsCausalAndClear false (lines ++ more)
         → IsPrefix (said_all (silence false) lines).reported
         (ledger (ups (lines ++ more)) (downs (lines ++ more))).reported }
 {}
@@ -147,18 +123,12 @@ pub fn earlier_commands_keep_an_order()
 {}
 
 /// What a relay has written when it has told all is the text of two recordings of the same bytes, without its first line, if each response was read
-/// after its command, nothing was in doubt, and no line was read under a tag in use (`read`). So it is if the lines came to the relay in such an
-/// order, since it reads those of the client first (`came`). In any case the recordings claim no more than it reported (`no_more`).
+/// after its command, nothing was in doubt, and no line was read under a tag in use. So it is if the lines came to the relay in such an order,
+/// since it reads those of the client first. In any case the recordings claim no more than it reported (`no_more`).
 pub fn relays_write_what_recordings_report()
-    ensures read { (n : ℕ) (c : Course) (r : Relaying) (course : Relays n c r) (w : Watching)
-        → IsAllTold r → IsCausal (silence true) (lines_of n c r course)
-        → IsClear (silence true) (lines_of n c r course)
-        → (said_all (silence true) (lines_of n c r course)).crossed ≡ false
-        → AreAllRead false c.came_up c.came_down w
-        → c.written ≡ told_lines n w.dialogue.reported }
-    ensures came { (n : ℕ) (c : Course) (r : Relaying) (course : Relays n c r) (w : Watching)
-        → IsAllTold r → IsCausal (silence true) (lines_came n c r course)
-        → IsClear (silence true) (lines_came n c r course)
+    ensures same { (n : ℕ) (c : Course) (r : Relaying) (course : Relays n c r) (w : Watching)
+        → IsAllTold r → IsCausalAndClear true (lines_of n c r course)
+        ⊎ IsCausalAndClear true (lines_came n c r course)
         → (said_all (silence true) (lines_of n c r course)).crossed ≡ false
         → AreAllRead false c.came_up c.came_down w
         → c.written ≡ told_lines n w.dialogue.reported }

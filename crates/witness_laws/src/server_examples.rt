@@ -1,7 +1,7 @@
 // Examples: reports and acts, and lines that calls read and answer, that are written out.
 
 ghost use Rattle.std.specs.Prelude.{◌≡◌, [], ◌∷◌, ◌++◌, codes, reverse, Some, None, true, false, Ok, Err};
-ghost use Rattle.witness_laws.specs.Names.{Machine, Part, MachineCsy, Std, Event, Ack, Given, Done, Error as Refusal, silence, touched, hears_event, all_reported, Did, MovedSomewhere, FramedSomehow, Touched, Other, Unasked, Broken, Known, Asking, Foreign, Client, is_foreign_under, breaks_only, act_reports, IsReportOf, AreReportsOf, tool_of, tool_named, frame_named, line_read, all_read, answered, keeps_out, seen, all_seen, uses_again, taking, reported, acts_after, IsCourse, new_server_end, reply_text, Up, Down, lines_seen, fed_by, all_fed, all_written, AreReportsOfFirst, at, contact, serving, runs, waits, line, heard};
+ghost use Rattle.witness_laws.specs.Names.{list_any, Machine, Part, MachineCsy, Std, Ack, Given, Done, touched, hears_event, all_reported, Did, MovedSomewhere, FramedSomehow, Touched, Other, Unasked, Broken, Known, Asking, Foreign, Client, is_foreign_under, breaks_only, act_reports, IsReportOf, AreReportsOf, tool_of, tool_named, frame_named, line_read, all_read, answered, keeps_out, uses_again, taking, reported, acts_after, IsCourse, new_server_end, reply_text, Up, Down, lines_seen, fed_by, all_fed, all_written, AreReportsOfFirst, at, contact, serving, runs, waits, line};
 ghost use Rattle.server_core.specs.Calls.{ReadOne, Turn, Machine as Ends, Feed, Leave, Restart, Sent};
 ghost use Rattle.witness.specs.Asking.{Error as Refused};
 ghost use Rattle.witness.specs.Examples.{touch};
@@ -22,7 +22,6 @@ pub fn report_rows()
     ensures elsewhere { IsReportOf (MovedSomewhere (at 4)) (act.Moved (at 5) Machine) → ⊥ }
     ensures framed { IsReportOf FramedSomehow (act.Framed Machine) }
     ensures homed { IsReportOf FramedSomehow act.Homed → ⊥ }
-    ensures touched { IsReportOf (Touched (at 4) None None None (at 5)) contact }
     ensures tool { IsReportOf (Touched (at 4) None (Some (codes "P1")) None (at 5)) contact }
     ensures frame { IsReportOf (Touched (at 4) None None (Some Machine) (at 5)) contact }
     ensures other_tool { IsReportOf (Touched (at 4) None (Some (codes "P2")) None (at 5)) contact → ⊥ }
@@ -34,15 +33,13 @@ pub fn report_rows()
 
 /// Reports are those of acts one for one and in order, without other lines.
 pub fn list_rows()
-    ensures unknown { act_reports (Other Client (codes "x") ∷ Did act.Homed ∷ []) ≡ Did act.Homed ∷ [] }
-    ensures unasked { act_reports (Unasked (codes "x") ∷ Did act.Homed ∷ []) ≡ Did act.Homed ∷ [] }
-    ensures broken { act_reports (Broken rule.NotInTurn (Std 1) ∷ Did act.Homed ∷ []) ≡ Did act.Homed ∷ [] }
+    ensures others { act_reports (Other Client (codes "x") ∷ Unasked (codes "x")
+        ∷ Broken rule.NotInTurn (Std 1) ∷ Did act.Homed ∷ []) ≡ Did act.Homed ∷ [] }
     ensures each { AreReportsOf (Did act.Homed ∷ FramedSomehow ∷ []) (act.Homed ∷ act.Framed Machine ∷ []) }
     ensures order { AreReportsOf (Did act.Homed ∷ FramedSomehow ∷ []) (act.Framed Machine ∷ act.Homed ∷ []) → ⊥ }
     ensures missing { AreReportsOf [] (act.Homed ∷ []) → ⊥ }
     ensures more { AreReportsOf (Did act.Homed ∷ []) [] → ⊥ }
-    ensures tool { tool_named (Did contact) ≡ tool_of contact }
-    ensures tool_is { tool_of contact ≡ Some (codes "P1") }
+    ensures tool { tool_named (Did contact) ≡ Some (codes "P1") }
     ensures changed { tool_of (act.Changed (codes "P1")) ≡ Some (codes "P1") }
     ensures touched { tool_named (Touched (at 4) None (Some (codes "P1")) None (at 5)) ≡ Some (codes "P1") }
     ensures frame { frame_named (Did (act.Moved (at 4) Machine)) ≡ Some Machine }
@@ -66,8 +63,6 @@ pub fn rule_rows()
 
 /// A call reads the line at the start of the bytes, or none; it answers what the server then says.
 pub fn line_rows()
-    ensures read { line_read ReadOne (serving None [] (line (codes "00001 Home()")))
-        ≡ codes "00001 Home()" ∷ [] }
     ensures all { all_read (Turn ∷ ReadOne ∷ []) (serving None [] (line (codes "00001 Home()")))
         ≡ codes "00001 Home()" ∷ [] }
     ensures part { line_read ReadOne (serving None [] (codes "00001 Ho")) ≡ [] }
@@ -78,19 +73,12 @@ pub fn line_rows()
     ensures homed { answered (Ends outcome.Done) (serving (runs command.Home) [] []) ≡ Done (Std 7) ∷ [] }
     ensures idle { answered (Ends outcome.Done) (serving None [] []) ≡ [] }
     ensures fed { answered (Feed (line (codes "00001 Home()"))) (serving None [] []) ≡ [] }
-    ensures sent { keeps_out (Sent 1) ≡ false }
-    ensures left { keeps_out Leave ≡ false }
-    ensures restarted { keeps_out Restart ≡ false }
+    ensures taken { list_any keeps_out (Sent 1 ∷ Leave ∷ Restart ∷ []) ≡ false }
     ensures turned { keeps_out Turn ≡ true }
 {}
 
 /// The witness reads the client's line before the answers to it; a call sees the server as the calls before it have left it.
 pub fn seen_rows()
-    ensures received { (seen ReadOne (serving None [] (line (codes "00001 Home()"))) (silence true)).reported ≡ [] }
-    ensures framed { (seen Turn (serving None (waits (command.SetCoordSystem MachineCsy)) [])
-        (heard (command.SetCoordSystem MachineCsy))).reported ≡ Did (act.Framed Machine) ∷ [] }
-    ensures once { (all_seen (Turn ∷ Turn ∷ []) (serving None (waits (command.SetCoordSystem MachineCsy)) [])
-        (heard (command.SetCoordSystem MachineCsy))).reported ≡ Did (act.Framed Machine) ∷ [] }
     ensures taken { (taking [] [] 3).server.last ≡ 3 }
     ensures done { acts_after 1 (Turn ∷ []) (serving None (waits (command.SetCoordSystem MachineCsy)) [])
         ≡ act.Framed Machine ∷ [] }
@@ -131,7 +119,6 @@ pub fn transit_rows()
     ensures not_taken { fed_by (Feed (codes "00001 ")) (new_server_end []) ≡ [] }
     ensures written { all_written (Turn ∷ Turn ∷ []) (serving None (waits (command.SetCoordSystem MachineCsy)) [])
         ≡ line (codes "00007 %") }
-    ensures none { AreReportsOfFirst [] (act.Homed ∷ []) }
     ensures first { AreReportsOfFirst (Did act.Homed ∷ []) (act.Homed ∷ act.Homed ∷ []) }
     ensures other { AreReportsOfFirst (Did act.Homed ∷ []) (act.HomedIs true ∷ []) → ⊥ }
     ensures more { AreReportsOfFirst (Did act.Homed ∷ []) [] → ⊥ }

@@ -1,9 +1,8 @@
 // What follows from the definitions. Each function has laws for its contract and does nothing.
 
 ghost use Rattle.std.specs.Prelude.{◌≡◌, ℕ, Bool, List, ◌++◌, false, true, Some, slice_get};
-ghost use Rattle.witness_laws.specs.Names.{list_all, Frame as OneFrame, Act as OneAct, ServerEnd, reply_bytes, behind_call, reached, may_accept, Watching, AreAllRead, ledger, Reported as OneReport, ups, downs, all_read, answered, keeps_out, taking, reported, acts_after, IsCourse, some_foreign, breaks_only, act_reports, AreReportsOf, tool_of, tool_named, frame_named, lines_seen, all_fed, all_written, AreReportsOfFirst};
+ghost use Rattle.witness_laws.specs.Names.{list_all, Act as OneAct, ServerEnd, reply_bytes, behind_call, Watching, AreAllRead, ledger, Reported as OneReport, ups, downs, all_read, answered, keeps_out, reported, acts_after, TakesCourse, some_foreign, breaks_only, act_reports, AreReportsOf, NamesThoseOf, lines_seen, all_fed, all_written, AreReportsOfFirst};
 ghost use Rattle.server_core.specs.Calls.{Call};
-ghost use Rattle.witness_laws.specs.Reports.{frame_of};
 
 use crate::order_laws::{more_lines_report_more, recordings_claim_no_more};
 
@@ -16,38 +15,20 @@ use crate::order_laws::{more_lines_report_more, recordings_claim_no_more};
 /// - `turns`: no line that breaks a rule is reported but an error before its turn, under the tag of a line that this profile does not know. The
 /// server refuses such a line as soon as it has read it, under an event tag, or while it is in its error state or full.
 pub fn reports_are_what_was_done()
-    ensures acts { (ordered : Bool) (tools : List (List ℕ)) (before : List Call) (n : ℕ)
-        (calls : List Call) → may_accept n (reached tools before).server ≡ true
-        → IsCourse calls (taking tools before n)
-        → AreReportsOf
-        (act_reports (reported ordered calls (taking tools before n)))
-        (acts_after n calls (taking tools before n)) }
-    ensures turns { (ordered : Bool) (tools : List (List ℕ)) (before : List Call) (n : ℕ)
-        (calls : List Call) → may_accept n (reached tools before).server ≡ true
-        → IsCourse calls (taking tools before n)
-        → list_all (breaks_only (some_foreign (all_read calls (taking tools before n))))
-        (reported ordered calls (taking tools before n)) ≡ true }
+    ensures acts { (ordered : Bool) (n : ℕ) (e : ServerEnd) (calls : List Call)
+        → TakesCourse n e calls
+        → AreReportsOf (act_reports (reported ordered calls e)) (acts_after n calls e) }
+    ensures turns { (ordered : Bool) (n : ℕ) (e : ServerEnd) (calls : List Call)
+        → TakesCourse n e calls → list_all (breaks_only (some_foreign (all_read calls e)))
+        (reported ordered calls e) ≡ true }
 {}
 
-/// Where a report names a tool or a frame, it is that of the act that is in its place.
-#[tactic(auto, using(crate::proofs::server::Courses::named_tool, crate::proofs::server::Courses::named_frame))]
+/// Where reports are those of acts, one that names a tool or a frame names that of the act in its place.
+#[tactic(auto, using(crate::proofs::server::Courses::named))]
 pub fn known_tools_are_right()
-    ensures tool { (ordered : Bool) (tools : List (List ℕ)) (before : List Call) (n : ℕ)
-        (calls : List Call) → may_accept n (reached tools before).server ≡ true
-        → IsCourse calls (taking tools before n)
-        → (i : ℕ) (x : OneReport) (a : OneAct) (name : List ℕ)
-        → slice_get (act_reports (reported ordered calls (taking tools before n))) i
-        ≡ Some x
-        → slice_get (acts_after n calls (taking tools before n)) i
-        ≡ Some a → tool_named x ≡ Some name → tool_of a ≡ Some name }
-    ensures frame { (ordered : Bool) (tools : List (List ℕ)) (before : List Call) (n : ℕ)
-        (calls : List Call) → may_accept n (reached tools before).server ≡ true
-        → IsCourse calls (taking tools before n)
-        → (i : ℕ) (x : OneReport) (a : OneAct) (name : OneFrame)
-        → slice_get (act_reports (reported ordered calls (taking tools before n))) i
-        ≡ Some x
-        → slice_get (acts_after n calls (taking tools before n)) i
-        ≡ Some a → frame_named x ≡ Some name → frame_of a ≡ Some name }
+    ensures { (reports : List OneReport) (acts : List OneAct) → AreReportsOf reports acts
+        → (i : ℕ) (x : OneReport) (a : OneAct) → slice_get reports i ≡ Some x
+        → slice_get acts i ≡ Some a → NamesThoseOf x a }
 {}
 
 /// A witness that has read the lines of such a course in another order, all of the client's before the server's, as from two recordings, still
@@ -59,30 +40,20 @@ pub fn known_tools_are_right()
 /// - `first`: with the first of them, they are the first of those acts.
 /// - `recordings`: so it is of two recordings: the bytes that the server was fed, and any more, and a prefix of those that it has written.
 pub fn lines_on_their_way_change_nothing()
-    ensures all { (tools : List (List ℕ)) (before : List Call) (n : ℕ) (calls : List Call)
-        (later : List (List ℕ)) → may_accept n (reached tools before).server ≡ true
-        → IsCourse calls (taking tools before n)
-        → AreReportsOf
-        (act_reports (ledger (ups (lines_seen calls (taking tools before n)) ++ later)
-        (downs (lines_seen calls (taking tools before n)))).reported)
-        (acts_after n calls (taking tools before n)) }
-    ensures first { (tools : List (List ℕ)) (before : List Call) (n : ℕ) (calls : List Call)
-        (later read unread : List (List ℕ)) → may_accept n (reached tools before).server ≡ true
-        → IsCourse calls (taking tools before n)
-        → downs (lines_seen calls (taking tools before n)) ≡ read ++ unread
-        → AreReportsOfFirst
-        (act_reports (ledger (ups (lines_seen calls (taking tools before n)) ++ later)
-        read).reported)
-        (acts_after n calls (taking tools before n)) }
-    ensures recordings { (tools : List (List ℕ)) (before : List Call) (n : ℕ) (calls : List Call)
-        (up down more unsent : List ℕ) (w : Watching)
-        → may_accept n (reached tools before).server ≡ true
-        → IsCourse calls (taking tools before n)
-        → up ≡ all_fed calls (taking tools before n) ++ more
-        → down ++ unsent ≡ all_written calls (taking tools before n)
+    ensures all { (n : ℕ) (e : ServerEnd) (calls : List Call) (later : List (List ℕ))
+        → TakesCourse n e calls
+        → AreReportsOf (act_reports (ledger (ups (lines_seen calls e) ++ later)
+        (downs (lines_seen calls e))).reported) (acts_after n calls e) }
+    ensures first { (n : ℕ) (e : ServerEnd) (calls : List Call)
+        (later read unread : List (List ℕ)) → TakesCourse n e calls
+        → downs (lines_seen calls e) ≡ read ++ unread
+        → AreReportsOfFirst (act_reports (ledger (ups (lines_seen calls e) ++ later)
+        read).reported) (acts_after n calls e) }
+    ensures recordings { (n : ℕ) (e : ServerEnd) (calls : List Call) (up down : List ℕ)
+        (more unsent : List ℕ) (w : Watching) → TakesCourse n e calls
+        → up ≡ all_fed calls e ++ more → down ++ unsent ≡ all_written calls e
         → AreAllRead false up down w
-        → AreReportsOfFirst (act_reports w.dialogue.reported)
-        (acts_after n calls (taking tools before n)) }
+        → AreReportsOfFirst (act_reports w.dialogue.reported) (acts_after n calls e) }
 {
     more_lines_report_more();
     recordings_claim_no_more();

@@ -14,8 +14,10 @@ use Rattle.client_core.proofs.Runs.{Holds, behind_holds}
 use Rattle.witness_laws.proofs.orders.Commands.{swap_command}
 use Rattle.witness_laws.specs.Acts.{BeginsWith, BeginsToClaim}
 use Rattle.witness_laws.specs.Ahead.{Turn, Calls, Comes, Watched, written_by, line_at, read_by, called, after_turn, after_turns, AreUnanswered, IsCausalCall}
-use Rattle.witness_laws.specs.Ahead.{IsCausalTurn, AreCausal, unasked_turn, unasked_turns, begun_on}
-use Rattle.witness_laws.specs.Lines.{witnessed_by, unasked_by}
+use Rattle.witness_laws.specs.Ahead.{IsBegun, IsCausalTurn, AreCausal, unasked_turn, unasked_turns, begun_on}
+use Rattle.witness_laws.specs.Ahead.IsBegun.{connected}
+use Rattle.witness_laws.specs.Lines.IsOurClient.{our_client}
+use Rattle.witness_laws.specs.Lines.{IsOurClient, counted_by, witnessed_by, unasked_by}
 use Rattle.witness_laws.proofs.client.Agreeing.{AgreesOn}
 use Rattle.witness_laws.proofs.client.Claiming.{Begins, begins_with, begins_to_claim}
 use Rattle.witness_laws.proofs.client.Growing.{answer_grows, begins_still}
@@ -181,24 +183,23 @@ before ordered p kept window n calls turns program ours may causal =
         subst (λ (d : Dialogue). Begins lossy w.client.client.table.tally.counted d.reported) (sym (IsAhead.dialogue a))
         (begins_lines lossy w.client.client.table.tally.counted (IsAhead.with_client a) w.ahead (IsSeen.begins (IsAhead.seen a)))
 
-pub reported_before : (ordered : Bool) (p : Meaning) (kept : List Feature) (window n : ℕ) (calls : List Call) (turns : List Turn) → IsProgram p
-    → are_ours p.features kept ≡ true
-    → possible (Connected n) (behind_calls calls (new_client_end p kept window)) ≡ true
-    → AreCausal turns (begun_on ordered n (behind_calls calls (new_client_end p kept window)))
-    → unasked_turns turns (begun_on ordered n (behind_calls calls (new_client_end p kept window))) false ≡ false
-    → BeginsWith (after_turns turns (begun_on ordered n (behind_calls calls (new_client_end p kept window)))).client.client.table.tally.counted
-    (after_turns turns (begun_on ordered n (behind_calls calls (new_client_end p kept window)))).dialogue.reported
-reported_before ordered p kept window n calls turns program ours may causal none =
-    begins_with _ _ (subst (λ (b : Bool). Begins b
-    (after_turns turns (begun_on ordered n (behind_calls calls (new_client_end p kept window)))).client.client.table.tally.counted
-    (after_turns turns (begun_on ordered n (behind_calls calls (new_client_end p kept window)))).dialogue.reported) none
-    (before ordered p kept window n calls turns program ours may causal))
+before_of : (ordered : Bool) (n : ℕ) (calls : List Call) (turns : List Turn) (e : ClientEnd) → IsOurClient e
+    → possible (Connected n) (behind_calls calls e) ≡ true → AreCausal turns (begun_on ordered n (behind_calls calls e))
+    → Begins (unasked_turns turns (begun_on ordered n (behind_calls calls e)) false)
+    (counted_by (after_turns turns (begun_on ordered n (behind_calls calls e))).client)
+    (after_turns turns (begun_on ordered n (behind_calls calls e))).dialogue.reported
+before_of ordered n calls turns _ (our_client p kept window program ours) = before ordered p kept window n calls turns program ours
 
-pub claimed_before : (ordered : Bool) (p : Meaning) (kept : List Feature) (window n : ℕ) (calls : List Call) (turns : List Turn) → IsProgram p
-    → are_ours p.features kept ≡ true
-    → possible (Connected n) (behind_calls calls (new_client_end p kept window)) ≡ true
-    → AreCausal turns (begun_on ordered n (behind_calls calls (new_client_end p kept window)))
-    → BeginsToClaim (after_turns turns (begun_on ordered n (behind_calls calls (new_client_end p kept window)))).client.client.table.tally.counted
-    (after_turns turns (begun_on ordered n (behind_calls calls (new_client_end p kept window)))).dialogue.reported
-claimed_before ordered p kept window n calls turns program ours may causal =
-    begins_to_claim _ _ _ (before ordered p kept window n calls turns program ours may causal)
+begins_before : (w : Watched) (turns : List Turn) → IsBegun w → AreCausal turns w
+    → Begins (unasked_turns turns w false) (counted_by (after_turns turns w).client) (after_turns turns w).dialogue.reported
+begins_before _ turns (connected ordered n calls e ours may) causal = before_of ordered n calls turns e ours may causal
+
+pub reported_before : (w : Watched) (turns : List Turn) → IsBegun w → AreCausal turns w → unasked_turns turns w false ≡ false
+    → BeginsWith (counted_by (after_turns turns w).client) (after_turns turns w).dialogue.reported
+reported_before w turns begun causal none =
+    begins_with _ _ (subst (λ (b : Bool). Begins b (counted_by (after_turns turns w).client) (after_turns turns w).dialogue.reported) none
+    (begins_before w turns begun causal))
+
+pub claimed_before : (w : Watched) (turns : List Turn) → IsBegun w → AreCausal turns w
+    → BeginsToClaim (counted_by (after_turns turns w).client) (after_turns turns w).dialogue.reported
+claimed_before w turns begun causal = begins_to_claim _ _ _ (begins_before w turns begun causal)

@@ -16,8 +16,5 @@ zero_reads = one_mark zero (37 ∷ []) (Event 0) Mark.Done (omega arith) refl ([
 pub home_one : IsWritable (Std 1) Command.Home
 home_one = record { tagged = record { numbered = (omega arith, omega arith); sort = refl }; arguments = tt }
 
-pub home_seven : IsWritable (Std 7) Command.Home
-home_seven = record { tagged = record { numbered = (omega arith, omega arith); sort = refl }; arguments = tt }
-
 pub abort_one : IsWritable (Event 1) Command.AbortE
 abort_one = record { tagged = record { numbered = (omega arith, omega arith); sort = refl }; arguments = tt }

@@ -1,5 +1,5 @@
 -- What a witness reports after every list of calls of a client.
-use Rattle.witness_laws.proofs.Names.{◌&&◌, ◌++◌, ◌+◌, ◌==◌, ◌||◌, ◌∙◌, ◌∷◌, ◌≡◌, ◌≤◌, [], Ack, all_renewed, answered, ap, append-nil, append_assoc}
+use Rattle.witness_laws.proofs.Names.{◌&&◌, ◌++◌, ◌+◌, ◌==◌, ◌||◌, ◌∙◌, ◌∷◌, ◌≡◌, ◌≤◌, [], Ack, all_renewed, and_parts, answered, ap, append-nil, append_assoc}
 use Rattle.witness_laws.proofs.Names.{AreCounted, arith, asks_data, at_once, below_command, Bool, Cause, client_connected, client_hears, client_left}
 use Rattle.witness_laws.proofs.Names.{client_lines, client_restarted, client_resumed, client_sent, ClientEnd, Command, command_read, command_texts}
 use Rattle.witness_laws.proofs.Names.{cond, count_open, Datum, Dialogue, due, Err, false, false≢true, Fault, faulting, Feature, foreign_event}
@@ -34,6 +34,8 @@ use Rattle.witness.specs.Marks as marks
 use Rattle.witness_laws.specs.Acts.{all_done, BeginsWith, Claims, BeginsToClaim}
 use Rattle.witness_laws.specs.Lines.{witnessed_by, witnessed_call, witnessed, is_unasked, unasked_front, unasked_by, unasked_call}
 use Rattle.witness_laws.specs.Lines as lines
+use Rattle.witness_laws.specs.Lines.{IsOurClient}
+use Rattle.witness_laws.specs.Lines.IsOurClient.{our_client}
 use Rattle.witness_laws.proofs.client.Cuts.{entry, picks, picks_in, picks_out, picks_more, has_tag}
 use Rattle.witness_laws.proofs.client.Knowing.{Selected, none_selected, selected_after, plan_agrees}
 use Rattle.witness_laws.proofs.client.Marks.{heard_of, ends}
@@ -735,22 +737,17 @@ calls_seen ordered p kept window calls program ours =
 
 -- ---- the law
 
-pub told_is_counted : (ordered : Bool) (p : Meaning) (kept : List Feature) (window : ℕ) (calls : List Call) → IsProgram p
-    → are_ours p.features kept ≡ true → (client_behind calls p kept window).on ≡ true
-    → is_faulted (client_behind calls p kept window).state ≡ false
-    → lines.unasked calls (new_client_end p kept window) false ≡ false
-    → (witnessed calls (new_client_end p kept window) (silence ordered)).reported
-    ≡ all_done (client_behind calls p kept window).table.tally.counted
-told_is_counted ordered p kept window calls program ours on fine none =
-    AgreesOn.exact (IsSeen.agrees (calls_seen ordered p kept window calls program ours) on fine) none
+pub told_is_counted : (ordered : Bool) (e : ClientEnd) (calls : List Call) → IsOurClient e → may_read (behind_calls calls e).client ≡ true
+    → lines.unasked calls e false ≡ false → (witnessed calls e (silence ordered)).reported ≡ all_done (lines.counted_by (behind_calls calls e))
+told_is_counted ordered _ calls (our_client p kept window program ours) may none =
+    let on = and_parts _ _ may in
+    AgreesOn.exact (IsSeen.agrees (calls_seen ordered p kept window calls program ours) on.0 (not-true _ on.1)) none
 
-pub told_is_claimed : (ordered : Bool) (p : Meaning) (kept : List Feature) (window : ℕ) (calls : List Call) → IsProgram p
-    → are_ours p.features kept ≡ true → (client_behind calls p kept window).on ≡ true
-    → is_faulted (client_behind calls p kept window).state ≡ false
-    → Claims (client_behind calls p kept window).table.tally.counted
-    (witnessed calls (new_client_end p kept window) (silence ordered)).reported
-told_is_claimed ordered p kept window calls program ours on fine =
-    AgreesOn.claims (IsSeen.agrees (calls_seen ordered p kept window calls program ours) on fine)
+pub told_is_claimed : (ordered : Bool) (e : ClientEnd) (calls : List Call) → IsOurClient e → may_read (behind_calls calls e).client ≡ true
+    → Claims (lines.counted_by (behind_calls calls e)) (witnessed calls e (silence ordered)).reported
+told_is_claimed ordered _ calls (our_client p kept window program ours) may =
+    let on = and_parts _ _ may in
+    AgreesOn.claims (IsSeen.agrees (calls_seen ordered p kept window calls program ours) on.0 (not-true _ on.1))
 
 begun : (ordered : Bool) (p : Meaning) (kept : List Feature) (window : ℕ) (calls : List Call) (unread : List Line) → IsProgram p
     → are_ours p.features kept ≡ true
@@ -761,22 +758,19 @@ begun ordered p kept window calls unread program ours =
     (witnessed calls (new_client_end p kept window) (silence ordered)) unread
     (IsSeen.begins (calls_seen ordered p kept window calls program ours))
 
-pub told_begins : (ordered : Bool) (p : Meaning) (kept : List Feature) (window : ℕ) (calls : List Call) (unread : List Line) → IsProgram p
-    → are_ours p.features kept ≡ true → lines.unasked calls (new_client_end p kept window) false ≡ false
-    → BeginsWith (client_behind calls p kept window).table.tally.counted
-    (said_all (witnessed calls (new_client_end p kept window) (silence ordered)) unread).reported
-told_begins ordered p kept window calls unread program ours none =
+pub told_begins : (ordered : Bool) (e : ClientEnd) (calls : List Call) (unread : List Line) → IsOurClient e
+    → lines.unasked calls e false ≡ false
+    → BeginsWith (lines.counted_by (behind_calls calls e)) (said_all (witnessed calls e (silence ordered)) unread).reported
+told_begins ordered _ calls unread (our_client p kept window program ours) none =
     begins_with (client_behind calls p kept window).table.tally.counted
     (said_all (witnessed calls (new_client_end p kept window) (silence ordered)) unread).reported
     (subst (λ (b : Bool). Begins b (client_behind calls p kept window).table.tally.counted
     (said_all (witnessed calls (new_client_end p kept window) (silence ordered)) unread).reported) none
     (begun ordered p kept window calls unread program ours))
 
-pub told_begins_to_claim : (ordered : Bool) (p : Meaning) (kept : List Feature) (window : ℕ) (calls : List Call) (unread : List Line)
-    → IsProgram p → are_ours p.features kept ≡ true
-    → BeginsToClaim (client_behind calls p kept window).table.tally.counted
-    (said_all (witnessed calls (new_client_end p kept window) (silence ordered)) unread).reported
-told_begins_to_claim ordered p kept window calls unread program ours =
+pub told_begins_to_claim : (ordered : Bool) (e : ClientEnd) (calls : List Call) (unread : List Line) → IsOurClient e
+    → BeginsToClaim (lines.counted_by (behind_calls calls e)) (said_all (witnessed calls e (silence ordered)) unread).reported
+told_begins_to_claim ordered _ calls unread (our_client p kept window program ours) =
     begins_to_claim (lines.unasked calls (new_client_end p kept window) false) (client_behind calls p kept window).table.tally.counted
     (said_all (witnessed calls (new_client_end p kept window) (silence ordered)) unread).reported
     (begun ordered p kept window calls unread program ours)

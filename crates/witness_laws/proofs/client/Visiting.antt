@@ -22,8 +22,10 @@ use Rattle.told_files.specs.Runs.{parts_of, SoundByTold}
 use Rattle.told_files.proofs.NextContacts.{numbered_all}
 use Rattle.told_files.proofs.SameRuns.{told_sound}
 use Rattle.witness_laws.specs.Acts.{all_done, BeginsWith}
-use Rattle.witness_laws.specs.Lines.{witnessed, unasked}
-use Rattle.witness_laws.specs.Visits.{stays, Visit, is_visit, calls_of, told_of, behind_visits, told_of_all, some_unasked, BeginSo, written_of}
+use Rattle.witness_laws.specs.Lines.{IsNewClient, witnessed, unasked}
+use Rattle.witness_laws.specs.Lines.IsNewClient.{never_on}
+use Rattle.witness_laws.specs.Lines.IsOurClient.{our_client}
+use Rattle.witness_laws.specs.Visits.{stays, Visit, is_visit, calls_of, told_of, behind_visits, told_of_all, some_unasked, HoldsTrue, BeginSo, written_of}
 use Rattle.witness_laws.proofs.client.Entries.{entries_of}
 use Rattle.witness_laws.proofs.client.Ledgers.{still_true, true_longer}
 use Rattle.witness_laws.proofs.client.Seeing.{told_begins}
@@ -225,7 +227,7 @@ begins_connected ordered n c calls unread program ours may none =
     subst (λ (b : Bool). unasked calls (cond b (end_connected n (anew c)) (anew c)) (cond b false false) ≡ false
     → BeginsWith (behind_calls calls (cond b (end_connected n (anew c)) (anew c))).client.table.tally.counted
     (said_all (witnessed calls (cond b (end_connected n (anew c)) (anew c)) (cond b (silence ordered) (silence ordered))) unread).reported) may
-    (told_begins ordered c.program c.table.tally.features c.window (Connected n ∷ calls) unread program ours) none
+    (told_begins ordered (anew c) (Connected n ∷ calls) unread (our_client c.program c.table.tally.features c.window program ours)) none
 
 left_visit : (n : ℕ) (c d : Client) (es : List (ℕ × Reported)) (reported : List Reported) → d ≡ client_left c
     → SoundByTold c.program.features c.table.tally.features es → IsVisited c.program es n d reported
@@ -282,12 +284,10 @@ visits_true ordered p program (v ∷ vs) e es same on none sound =
     (subst (λ (q : Meaning). SoundByTold q.features (behind_calls (calls_of v) e).client.table.tally.features (es ++ told_of ordered v e)) same
     now))
 
-pub held_are_true : (ordered : Bool) (p : Meaning) (kept : List Feature) (window : ℕ) (visits : List Visit) (earlier : List (ℕ × Reported))
-    → IsProgram p → list_all is_visit visits ≡ true → some_unasked visits (new_client_end p kept window) ≡ false
-    → SoundByTold p.features kept earlier
-    → SoundByTold p.features (behind_visits visits (new_client_end p kept window)).client.table.tally.features
-    (earlier ++ told_of_all ordered visits (new_client_end p kept window))
-held_are_true ordered p kept window visits earlier program on none sound =
+pub held_are_true : (ordered : Bool) (p : Meaning) (e : ClientEnd) (visits : List Visit) (earlier : List (ℕ × Reported))
+    → IsNewClient p e → list_all is_visit visits ≡ true → some_unasked visits e ≡ false → HoldsTrue p e earlier
+    → HoldsTrue p (behind_visits visits e) (earlier ++ told_of_all ordered visits e)
+held_are_true ordered p _ visits earlier (never_on kept window program) on none sound =
     visits_true ordered p program visits (new_client_end p kept window) earlier refl on none sound
 
 -- ---- any witness
@@ -330,10 +330,8 @@ any_true p program (v ∷ vs) (r ∷ rs) e es same on begin sound =
     (any_true p program vs rs (behind_calls (calls_of v) e) (es ++ written) (IsVisited.program one ∙ same) parts.1 begin.1
     (subst (λ (q : Meaning). SoundByTold q.features (behind_calls (calls_of v) e).client.table.tally.features (es ++ written)) same now))
 
-pub held_are_true_so : (p : Meaning) (kept : List Feature) (window : ℕ) (visits : List Visit) (reports : List (List Reported))
-    (earlier : List (ℕ × Reported)) → IsProgram p → list_all is_visit visits ≡ true → BeginSo visits reports (new_client_end p kept window)
-    → SoundByTold p.features kept earlier
-    → SoundByTold p.features (behind_visits visits (new_client_end p kept window)).client.table.tally.features
-    (earlier ++ written_of visits reports)
-held_are_true_so p kept window visits reports earlier program on begin sound =
+pub held_are_true_so : (p : Meaning) (e : ClientEnd) (visits : List Visit) (reports : List (List Reported)) (earlier : List (ℕ × Reported))
+    → IsNewClient p e → list_all is_visit visits ≡ true → BeginSo visits reports e → HoldsTrue p e earlier
+    → HoldsTrue p (behind_visits visits e) (earlier ++ written_of visits reports)
+held_are_true_so p _ visits reports earlier (never_on kept window program) on begin sound =
     any_true p program visits reports (new_client_end p kept window) earlier refl on begin sound

@@ -1,10 +1,10 @@
 -- A command may be read before the replies to others, with the same result.
-use Rattle.witness_laws.proofs.Names.{◌&&◌, ◌++◌, ◌∙◌, ◌∷◌, ◌≡◌, [], after, answered, answers, ap, AreAnswers, AreFresh, at_once, Bool, client_lines}
+use Rattle.witness_laws.proofs.Names.{◌&&◌, ◌++◌, ◌∙◌, ◌∷◌, ◌≡◌, [], after, answered, answers, ap, AreFresh, at_once, Bool, client_lines}
 use Rattle.witness_laws.proofs.Names.{client_sent, command_of, Dialogue, Down, Err, false, false≢true, foreign_event, if◌then◌else◌, is_of, is_open}
-use Rattle.witness_laws.proofs.Names.{is_some, IsAnswer, IsBehind, IsCausal, IsCounted, IsFresh, IsNew, last_under, left_over, Line, line_of, List}
+use Rattle.witness_laws.proofs.Names.{is_some, IsBehind, IsCausal, IsCounted, IsFresh, IsNew, last_under, left_over, line_of, List}
 use Rattle.witness_laws.proofs.Names.{list_any, map, None, NotResponse, Ok, Option, or_from, or_parts, refl, remove, Response, response_of, Result}
 use Rattle.witness_laws.proofs.Names.{said, sending, sending_after, Sends, sent, sent_tagged, SentCommand, server_answered, server_lines, Signal}
-use Rattle.witness_laws.proofs.Names.{Some, subst, suc, sym, Tag, tag_is, true, Up, ups, Use, use_heard, zero, ℕ}
+use Rattle.witness_laws.proofs.Names.{Some, subst, suc, sym, Tag, tag_is, true, Up, Use, use_heard, zero, ℕ}
 use Rattle.witness_laws.proofs.orders.Counts.{answered_keeps, said_counted}
 use Rattle.witness_laws.proofs.orders.More.{ups_after, open_heard}
 use Rattle.witness_laws.proofs.orders.Sends.{AfterSend, after_send, Agrees, alike, ended, IsEndOf, NotEarly, open_fault}
@@ -115,23 +115,6 @@ swap_all d up (line ∷ down) c fresh causal =
 pub ups_are_causal : (d : Dialogue) (up : List (List ℕ)) → IsCausal d (map Up up)
 ups_are_causal d [] = tt
 ups_are_causal d (line ∷ up) = ups_are_causal (said d (Up line)) up
-
-behind_answer : (uses : List Use) (later : List (List ℕ)) (r : Result Response NotResponse) → IsAnswer uses r → IsBehind uses later r
-behind_answer uses later (Ok r) answer = λ none. absurd (cc (answer, none))
-behind_answer uses later (Err why) answer = tt
-
-pub answers_are_causal : (d : Dialogue) (down : List (List ℕ)) (rest : List Line) → AreAnswers d down → IsCausal (server_lines d down) rest
-    → IsCausal d (map Down down ++ rest)
-answers_are_causal d [] rest are causal = causal
-answers_are_causal d (line ∷ down) rest are causal = (
-  behind_answer d.uses (ups (map Down down ++ rest)) (response_of line) are.0,
-  answers_are_causal (said d (Down line)) down rest are.1 causal,
-)
-
-pub swap_answers : (d : Dialogue) (up down : List (List ℕ)) → IsCounted d → AreFresh d up → AreAnswers d down
-    → client_lines (server_lines d down) up ≡ server_lines (client_lines d up) down
-swap_answers d up down c fresh are =
-    swap_all d up down c fresh (answers_are_causal d down (map Up up) are (ups_are_causal (server_lines d down) up))
 
 -- a command, and lines that are no responses under its tag
 early_other : (uses : List Use) (tag : Tag) (r : Result Response NotResponse) → is_of tag r ≡ false → NotEarly uses tag (answered r)

@@ -5,6 +5,7 @@ use Rattle.witness_laws.proofs.Names.{if◌then◌else◌, is_open, IsBehind, Is
 use Rattle.witness_laws.proofs.Names.{list_any-append, map, None, NotResponse, Ok, Option, or_from, or_parts, refl, Reported, Response, response_of}
 use Rattle.witness_laws.proofs.Names.{Result, said, said_all, sending, sends, sent, SentCommand, server_lines, silence, Some, some_at_once}
 use Rattle.witness_laws.proofs.Names.{some_sends, subst, sym, Tag, tag_is, tool_of, true, unknowing, Up, ups, Use, ℕ}
+use Rattle.witness_laws.specs.Orders.{Same}
 use Rattle.witness_laws.proofs.orders.Claiming.{IsFair, all_fair, all_of, claims_both, part_both}
 use Rattle.witness_laws.proofs.orders.Counts.{said_counted, ordered_answered, silence_counted}
 use Rattle.witness_laws.proofs.orders.Swaps.{new_use}
@@ -198,11 +199,6 @@ sort_clear d (Down line ∷ lines) c free causal clear =
     (sink_below (λ x. true) all_fair d (ups lines) line c free causal.0 (none_drops (λ x. true) (ups lines) clear.0)))
     (sort_clear (said d (Down line)) lines (said_counted d (Down line) c) (said_ordered d (Down line) ∙ free) causal.1 clear.2)
 
-pub record Same (d e : Dialogue) : Type 0 where
-  pub reported : d.reported ≡ e.reported
-  pub tool : tool_of d.known ≡ tool_of e.known
-  pub frame : frame_of d.known ≡ frame_of e.known
-
 both_claim : (d e : Dialogue) → Claims (λ x. true) d e → Claims (λ x. true) e d → Same d e
 both_claim d e p q = record {
   reported = sym (all_of d.reported)
@@ -222,20 +218,3 @@ same_sorted lines causal clear =
 pub same_told : (lines : List Line) → IsCausal (silence false) lines → IsClear (silence false) lines
     → (said_all (silence false) lines).reported ≡ (ledger (ups lines) (downs lines)).reported
 same_told lines causal clear = (same_sorted lines causal clear).reported
-
-pub same_tool : (lines : List Line) → IsCausal (silence false) lines → IsClear (silence false) lines
-    → tool_of (said_all (silence false) lines).known ≡ tool_of (ledger (ups lines) (downs lines)).known
-same_tool lines causal clear = (same_sorted lines causal clear).tool
-
-pub same_frame : (lines : List Line) → IsCausal (silence false) lines → IsClear (silence false) lines
-    → frame_of (said_all (silence false) lines).known ≡ frame_of (ledger (ups lines) (downs lines)).known
-same_frame lines causal clear = (same_sorted lines causal clear).frame
-
-pub same_reports : (lines others : List Line) → ups lines ≡ ups others → downs lines ≡ downs others → IsCausal (silence false) lines
-    → IsClear (silence false) lines → IsCausal (silence false) others → IsClear (silence false) others
-    → (said_all (silence false) lines).reported ≡ (said_all (silence false) others).reported
-same_reports lines others above below causal clear other_causal other_clear =
-    same_told lines causal clear
-    ∙ ap (λ (l : List (List ℕ)). (ledger l (downs lines)).reported) above
-    ∙ ap (λ (l : List (List ℕ)). (ledger (ups others) l).reported) below
-    ∙ sym (same_told others other_causal other_clear)

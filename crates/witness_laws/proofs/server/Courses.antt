@@ -18,7 +18,7 @@ use Rattle.server_core.proofs.Reached.{reached_steady}
 use Rattle.server_core.proofs.Steadies.{nothing_runs}
 use Rattle.witness_laws.specs.Lockstep.{line_read, all_read, replies, answered, seen, all_seen, keeps_out, AreAnew, IsCourse}
 use Rattle.witness_laws.specs.Reports.{is_foreign_under, some_foreign, breaks_only, act_reports, NamesNoOther, IsReportOf, AreReportsOf, tool_of, frame_of}
-use Rattle.witness_laws.specs.Reports.{tool_named, frame_named}
+use Rattle.witness_laws.specs.Reports.{tool_named, frame_named, NamesThoseOf}
 use Rattle.witness_laws.proofs.server.Knowing.{nothing_within}
 use Rattle.witness_laws.proofs.server.Selected.{nothing_so}
 use Rattle.witness_laws.proofs.server.Opening.{running_one, AreOpen, AreApart}
@@ -302,25 +302,12 @@ pair_at (y ∷ ys) (b ∷ acts) zero x a h p q =
     subst (λ (z : Reported). IsReportOf z a) (some_is y x p) (subst (IsReportOf y) (some_is b a q) h.0)
 pair_at (y ∷ ys) (b ∷ acts) (suc i) x a h p q = pair_at ys acts i x a h.1 p q
 
--- a tool that is named is that of the act
-pub named_tool : (ordered : Bool) (tools : List (List ℕ)) (before : List Call) (n : ℕ) (calls : List Call)
-    → may_accept n (reached tools before).server ≡ true → IsCourse calls (serving_accepted n (reached tools before))
-    → (i : ℕ) (x : Reported) (a : Act) (name : List ℕ)
-    → slice_get (act_reports (all_seen calls (serving_accepted n (reached tools before)) (silence ordered)).reported) i ≡ Some x
-    → slice_get (acts_on n (behind_calls calls (serving_accepted n (reached tools before))).server.ledger) i ≡ Some a
-    → tool_named x ≡ Some name → tool_of a ≡ Some name
-named_tool ordered tools before n calls may course i x a name p q e =
-    tool_is x a name (pair_at _ _ i x a (reports_of_acts ordered tools before n calls may course) p q) e
-
--- and so is a frame
-pub named_frame : (ordered : Bool) (tools : List (List ℕ)) (before : List Call) (n : ℕ) (calls : List Call)
-    → may_accept n (reached tools before).server ≡ true → IsCourse calls (serving_accepted n (reached tools before))
-    → (i : ℕ) (x : Reported) (a : Act) (name : Frame)
-    → slice_get (act_reports (all_seen calls (serving_accepted n (reached tools before)) (silence ordered)).reported) i ≡ Some x
-    → slice_get (acts_on n (behind_calls calls (serving_accepted n (reached tools before))).server.ledger) i ≡ Some a
-    → frame_named x ≡ Some name → frame_of a ≡ Some name
-named_frame ordered tools before n calls may course i x a name p q e =
-    frame_is x a name (pair_at _ _ i x a (reports_of_acts ordered tools before n calls may course) p q) e
+-- a tool that is named is that of the act, and so is a frame
+pub named : (reports : List Reported) (acts : List Act) → AreReportsOf reports acts → (i : ℕ) (x : Reported) (a : Act)
+    → slice_get reports i ≡ Some x → slice_get acts i ≡ Some a → NamesThoseOf x a
+named reports acts are i x a p q =
+    let is : IsReportOf x a = pair_at reports acts i x a are p q in
+    record { tool = λ name e. tool_is x a name is e; frame = λ name e. frame_is x a name is e }
 
 -- ---- the bytes of the lines
 

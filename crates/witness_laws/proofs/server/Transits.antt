@@ -17,7 +17,8 @@ use Rattle.server_core.proofs.Steadies.{nothing_runs}
 use Rattle.witness_laws.proofs.orders.Arrivals.{whole_after, whole_none}
 use Rattle.witness_laws.proofs.orders.Claimed.{ups_append, downs_append, only_ups, no_downs}
 use Rattle.witness_laws.proofs.orders.Courses.{recorded_told}
-use Rattle.witness_laws.specs.Lockstep.{line_read, all_read, replies, answered, seen, all_seen, AreAnew, IsCourse}
+use Rattle.witness_laws.specs.Lockstep.{line_read, all_read, replies, answered, seen, all_seen, acts_after, AreAnew, IsCourse, TakesCourse}
+use Rattle.witness_laws.specs.Lockstep.TakesCourse.{takes}
 use Rattle.witness_laws.specs.Reports.{is_other, act_reports, some_foreign, NamesNoOther, IsReportOf, AreReportsOf}
 use Rattle.witness_laws.specs.Transit.{lines_seen, AreReportsOfFirst, fed_by, all_fed, all_written}
 use Rattle.witness_laws.proofs.server.Answering.{IsHeard, AreHeard}
@@ -281,13 +282,9 @@ course_acts tools before n calls may course =
     subst (λ (d : Dialogue). AreReportsOf (act_reports d.reported) (acts_on n (behind_calls calls e).server.ledger))
     (sym (lines_are_seen calls e (silence false))) (reports_of_acts false tools before n calls may course)
 
-pub all_reported : Recorded → (tools : List (List ℕ)) (before : List Call) (n : ℕ) (calls : List Call) (later : List (List ℕ))
-    → may_accept n (reached tools before).server ≡ true → IsCourse calls (serving_accepted n (reached tools before))
-    → AreReportsOf
-    (act_reports (ledger (ups (lines_seen calls (serving_accepted n (reached tools before))) ++ later)
-    (downs (lines_seen calls (serving_accepted n (reached tools before))))).reported)
-    (acts_on n (behind_calls calls (serving_accepted n (reached tools before))).server.ledger)
-all_reported recorded tools before n calls later may course =
+pub all_reported : Recorded → (n : ℕ) (e : ServerEnd) (calls : List Call) (later : List (List ℕ)) → TakesCourse n e calls
+    → AreReportsOf (act_reports (ledger (ups (lines_seen calls e) ++ later) (downs (lines_seen calls e))).reported) (acts_after n calls e)
+all_reported recorded _ _ _ later (takes tools before n calls may course) =
     let lines : List Line = lines_seen calls (serving_accepted n (reached tools before)) in
     turns_of_acts _ (said_all (silence false) lines).reported _ (recorded lines later (course_causal tools before n calls later may course))
     (course_acts tools before n calls may course)
@@ -330,19 +327,14 @@ downs_prefix prefixes d read unread =
     (subst (λ (s : Dialogue). IsPrefix s.reported (said_all d (map Down read ++ map Down unread)).reported) (all_downs d read)
     (prefixes d (map Down read) (map Down unread)))
 
-pub first_reported : Recorded → Prefixes → (tools : List (List ℕ)) (before : List Call) (n : ℕ) (calls : List Call)
-    (later read unread : List (List ℕ)) → may_accept n (reached tools before).server ≡ true
-    → IsCourse calls (serving_accepted n (reached tools before))
-    → downs (lines_seen calls (serving_accepted n (reached tools before))) ≡ read ++ unread
-    → AreReportsOfFirst
-    (act_reports (ledger (ups (lines_seen calls (serving_accepted n (reached tools before))) ++ later) read).reported)
-    (acts_on n (behind_calls calls (serving_accepted n (reached tools before))).server.ledger)
-first_reported recorded prefixes tools before n calls later read unread may course parts =
-    let d : Dialogue = client_lines (silence false) (ups (lines_seen calls (serving_accepted n (reached tools before))) ++ later) in
+pub first_reported : Recorded → Prefixes → (n : ℕ) (e : ServerEnd) (calls : List Call) (later read unread : List (List ℕ))
+    → TakesCourse n e calls → downs (lines_seen calls e) ≡ read ++ unread
+    → AreReportsOfFirst (act_reports (ledger (ups (lines_seen calls e) ++ later) read).reported) (acts_after n calls e)
+first_reported recorded prefixes n e calls later read unread course parts =
+    let d : Dialogue = client_lines (silence false) (ups (lines_seen calls e) ++ later) in
     prefix_of (server_lines d read).reported (server_lines d (read ++ unread)).reported _ (downs_prefix prefixes d read unread)
-    (subst (λ (down : List (List ℕ)). AreReportsOf (act_reports (server_lines d down).reported)
-    (acts_on n (behind_calls calls (serving_accepted n (reached tools before))).server.ledger)) parts
-    (all_reported recorded tools before n calls later may course))
+    (subst (λ (down : List (List ℕ)). AreReportsOf (act_reports (server_lines d down).reported) (acts_after n calls e)) parts
+    (all_reported recorded n e calls later course))
 
 -- ---- two recordings
 
@@ -380,18 +372,14 @@ recorded_is up down w all =
     (both_ups (whole_lines up) (whole_lines down))
     ∙ ap (λ (l : List (List ℕ)). (ledger (whole_lines up) l).reported) (both_downs (whole_lines up) (whole_lines down)))
 
-recorded_lines : Recorded → Prefixes → (tools : List (List ℕ)) (before : List Call) (n : ℕ) (calls : List Call)
-    (later unread : List (List ℕ)) (up down : List ℕ) (w : Watching)
-    → may_accept n (reached tools before).server ≡ true → IsCourse calls (serving_accepted n (reached tools before))
-    → whole_lines up ≡ ups (lines_seen calls (serving_accepted n (reached tools before))) ++ later
-    → downs (lines_seen calls (serving_accepted n (reached tools before))) ≡ whole_lines down ++ unread → AreAllRead false up down w
-    → AreReportsOfFirst (act_reports w.dialogue.reported)
-    (acts_on n (behind_calls calls (serving_accepted n (reached tools before))).server.ledger)
-recorded_lines recorded prefixes tools before n calls later unread up down w may course up_is down_is all =
-    subst (λ (so_far : List Reported). AreReportsOfFirst (act_reports so_far)
-    (acts_on n (behind_calls calls (serving_accepted n (reached tools before))).server.ledger))
+recorded_lines : Recorded → Prefixes → (n : ℕ) (e : ServerEnd) (calls : List Call) (later unread : List (List ℕ)) (up down : List ℕ) (w : Watching)
+    → TakesCourse n e calls → whole_lines up ≡ ups (lines_seen calls e) ++ later
+    → downs (lines_seen calls e) ≡ whole_lines down ++ unread → AreAllRead false up down w
+    → AreReportsOfFirst (act_reports w.dialogue.reported) (acts_after n calls e)
+recorded_lines recorded prefixes n e calls later unread up down w course up_is down_is all =
+    subst (λ (so_far : List Reported). AreReportsOfFirst (act_reports so_far) (acts_after n calls e))
     (ap (λ (l : List (List ℕ)). (ledger l (whole_lines down)).reported) (sym up_is) ∙ sym (recorded_is up down w all))
-    (first_reported recorded prefixes tools before n calls later (whole_lines down) unread may course down_is)
+    (first_reported recorded prefixes n e calls later (whole_lines down) unread course down_is)
 
 -- ---- the bytes of the client
 
@@ -563,14 +551,10 @@ accepted_rest tools before n may =
     ap (λ (f : Framing). f.rest)
     ((reached_steady tools before).off (not-true (reached tools before).server.on ((and_parts _ _ may).0))).input
 
-pub recorded_reported : Recorded → Prefixes → (tools : List (List ℕ)) (before : List Call) (n : ℕ) (calls : List Call)
-    (up down more unsent : List ℕ) (w : Watching)
-    → may_accept n (reached tools before).server ≡ true → IsCourse calls (serving_accepted n (reached tools before))
-    → up ≡ all_fed calls (serving_accepted n (reached tools before)) ++ more
-    → down ++ unsent ≡ all_written calls (serving_accepted n (reached tools before)) → AreAllRead false up down w
-    → AreReportsOfFirst (act_reports w.dialogue.reported)
-    (acts_on n (behind_calls calls (serving_accepted n (reached tools before))).server.ledger)
-recorded_reported recorded prefixes tools before n calls up down more unsent w may course up_is down_is all =
+pub recorded_reported : Recorded → Prefixes → (n : ℕ) (e : ServerEnd) (calls : List Call) (up down more unsent : List ℕ) (w : Watching)
+    → TakesCourse n e calls → up ≡ all_fed calls e ++ more → down ++ unsent ≡ all_written calls e → AreAllRead false up down w
+    → AreReportsOfFirst (act_reports w.dialogue.reported) (acts_after n calls e)
+recorded_reported recorded prefixes _ _ _ up down more unsent w (takes tools before n calls may course) up_is down_is all =
     let e : ServerEnd = serving_accepted n (reached tools before) in
     let P : Tag → Bool = some_foreign (all_read calls e) in
     let cut : IsCut e.input.rest (behind_calls calls e).input.rest (all_fed calls e) (ups (lines_seen calls e)) = calls_cut calls e course in
@@ -578,7 +562,7 @@ recorded_reported recorded prefixes tools before n calls up down more unsent w m
     calls_written P n calls e (silence false) course (count_own (all_read calls e)) (begun_on P false tools before n may) in
     let fed_is : all_fed calls e ≡ line_bytes (ups (lines_seen calls e)) ++ (behind_calls calls e).input.rest =
     ap (λ (l : List ℕ). l ++ all_fed calls e) (sym (accepted_rest tools before n may)) ∙ IsCut.parts cut in
-    recorded_lines recorded prefixes tools before n calls _ _ up down w may course
+    recorded_lines recorded prefixes n e calls _ _ up down w (takes tools before n calls may course)
     (ap whole_lines up_is
     ∙ whole_after (all_fed calls e) more (ups (lines_seen calls e)) (behind_calls calls e).input.rest fed_is (IsCut.whole cut))
     (whole_prefix down unsent (downs (lines_seen calls e)) (AreWritten.whole written) (down_is ∙ AreWritten.bytes written)) all

@@ -2,12 +2,6 @@ use Rattle.witness_laws.proofs.Names.{refl}
 use Rattle.witness_laws.proofs.orders.Readings.{received_reads, ended_reads, home_reads}
 use Rattle.witness_laws.proofs.order_examples.replies_come_after_commands.Goals as goal
 
-pub returns-clause-causal : goal.returns-clause-causal
-returns-clause-causal c = rw (received_reads, ended_reads, home_reads) (λ e. refl, (λ e. refl, tt))
-
-pub returns-clause-told : goal.returns-clause-told
-returns-clause-told c = rw (received_reads, ended_reads, home_reads) refl
-
 pub returns-clause-stray : goal.returns-clause-stray
 returns-clause-stray c = rw (received_reads, ended_reads, home_reads) (λ e. refl, (λ e. refl, (λ e. refl, tt)))
 

@@ -9,9 +9,6 @@ pub returns-clause-causal : goal.returns-clause-causal
 returns-clause-causal c = rw (received_reads, ended_reads, selected_reads, moves_reads)
     (λ e. absurd (cc), (λ e. absurd (cc), (λ e. refl, (λ e. refl, tt))))
 
-pub returns-clause-crossed : goal.returns-clause-crossed
-returns-clause-crossed c = rw (received_reads, ended_reads, selected_reads, moves_reads) refl
-
 pub returns-clause-order : goal.returns-clause-order
 returns-clause-order c = rw (received_reads, ended_reads, selected_reads, moves_reads) refl
 

@@ -1,44 +1,20 @@
 use Rattle.witness_laws.proofs.Names.{◌∙◌, ◌≡◌, [], Ack, after, ap, arith, Bool, client_sent, codes, Command, command_of, command_read, cond}
 use Rattle.witness_laws.proofs.Names.{Dialogue, false, first_under, heard_under, IsWritable, LineFault, List, MachineCsy, None, Ok, reading_of, refl}
 use Rattle.witness_laws.proofs.Names.{Reply, reply_text, reply_texts, Reported, Result, sent, server_line, server_lines, server_read, server_turned}
-use Rattle.witness_laws.proofs.Names.{silence, Std, Tag, true, ℕ}
+use Rattle.witness_laws.proofs.Names.{silence, Std, Tag, ℕ}
 use Rattle.protocol_model.specs.Server.{Answer}
 use Rattle.dme_line.specs.Written.{written_command}
 use Rattle.server_core.specs.Serving.{may_turn}
-use Rattle.witness_laws.specs.ServerExamples.{serving, heard}
+use Rattle.witness_laws.specs.ServerExamples.{serving}
 use Rattle.witness_laws.proofs.server.Places.{said_is}
 use Rattle.witness_laws.proofs.server_examples.seen_rows.Goals as goal
-
-writable : IsWritable (Std 1) Command.Home
-writable = record { tagged = record { numbered = (omega arith, omega arith); sort = refl }; arguments = tt }
-
-home_read : command_of (codes "00001 Home()") ≡ Ok (Std 1, Command.Home)
-unfolding written_command
-home_read = command_read (Std 1) Command.Home writable
 
 -- the witness after a line that reads so
 abbrev sent_as : Bool → List ℕ → Result (Tag × Command) LineFault → Dialogue
 sent_as ordered line r = client_sent (silence ordered) line (sent line r)
 
--- what is reported after such a line, and the answers to it
-abbrev reported_as : Result (Tag × Command) LineFault → List Reported
-reported_as r = (server_lines (sent_as true (codes "00001 Home()") r)
-    (reply_texts (server_read (serving None [] []).server (reading_of r)).said)).reported
-
 abbrev framing : Command
 framing = Command.SetCoordSystem MachineCsy
-
-pub returns-clause-received : goal.returns-clause-received
-returns-clause-received c =
-    ap reported_as home_read
-    ∙ ap (λ (d : Dialogue). d.reported)
-    (said_is (sent_as true (codes "00001 Home()") (Ok (Std 1, Command.Home))) (Reply.Ack (Std 1)) (omega arith))
-
-pub returns-clause-framed : goal.returns-clause-framed
-returns-clause-framed c = ap (λ (d : Dialogue). d.reported) (said_is (heard framing) (Reply.Done (Std 7)) (omega arith))
-
-pub returns-clause-once : goal.returns-clause-once
-returns-clause-once c = ap (λ (d : Dialogue). d.reported) (said_is (heard framing) (Reply.Done (Std 7)) (omega arith))
 
 framing_writable : IsWritable (Std 7) framing
 framing_writable = record { tagged = record { numbered = (omega arith, omega arith); sort = refl }; arguments = tt }

@@ -1,12 +1,6 @@
 use Rattle.witness_laws.proofs.Names.{refl}
 use Rattle.witness_laws.proofs.orders.Readings.{received_reads, ended_reads, home_reads, home_2_reads, untagged_reads, ended_2_reads}
-use Rattle.witness_laws.proofs.order_examples.answers_are_to_open_commands.Goals as goal
-
-pub returns-clause-answer : goal.returns-clause-answer
-returns-clause-answer c = rw (received_reads, ended_reads, home_reads) (refl, tt)
-
-pub returns-clause-twice : goal.returns-clause-twice
-returns-clause-twice c = rw (received_reads, ended_reads, home_reads) (λ are. absurd (cc (are.1.0)))
+use Rattle.witness_laws.proofs.order_examples.commands_are_fresh.Goals as goal
 
 pub returns-clause-fresh : goal.returns-clause-fresh
 returns-clause-fresh c = rw (received_reads, home_2_reads, home_reads) ((refl, refl), tt)
