@@ -1,13 +1,13 @@
 -- What one more line at the front adds to what the lines after it say.
-use Rattle.std.proofs.Common.{◌≡◌, ◌++◌, ◌∙◌, ℕ, suc, ◌+◌, ◌==◌, arith, Bool, true, false, not, cond, ltb, inl, inr, List, [], ◌∷◌, length, take}
+use Rattle.std.proofs.Common.{◌≡◌, ◌++◌, ◌∙◌, ℕ, suc, ◌+◌, ◌==◌, arith, Bool, true, false, not, cond, ltb, List, [], ◌∷◌, length, take}
 use Rattle.std.proofs.Common.{Option, Some, None, drop, get_or, ap, sym, subst, refl, append_assoc, append-nil}
 use Rattle.std.specs.List.{list_any, position, position_or_len}
 use Rattle.std.proofs.lemmas.Bool.{eqb-true, ltb-false}
 use Rattle.std.proofs.lemmas.Option.{cond_some}
 use Rattle.std.proofs.lemmas.List.{take_all, take_more, take-append-drop}
 use Rattle.std.proofs.lemmas.List.Quantifiers.{position-Some}
-use Rattle.session_telling.specs.Sessions.{Adds}
-use Rattle.session_telling.specs.Dialogues.{AreCut, IsUnended, Reported, ReportsLine, ReportsLines, SendsLines, content, ended}
+use Rattle.session_telling.specs.Sessions.{Adds, Reports, ReportsNothing}
+use Rattle.session_telling.specs.Dialogues.{AllAdd, AllReport, AreCut, Dialogue, Hears, IsUnended, Reported, ReportsLines, Sends, SendsLines, content, ended}
 use Rattle.session_telling.specs.Dialogues.AllReport.{ends, passes, reports}
 use Rattle.session_telling.specs.declared.sessions.Sent.{Sent}
 
@@ -76,17 +76,20 @@ sends_one bytes line after before mid final rest is unended adds more = record {
 pub sends_none : (bytes : List ℕ) (sent : List Sent) → IsUnended bytes → SendsLines bytes sent sent bytes
 sends_none bytes sent unended = record { lines = []; cut = cut_none bytes unended; added = refl }
 
-pub reports_one : (sent : List Sent) (bytes line after : List ℕ) (before mid final : List Reported) (rest : List ℕ)
-    → bytes ≡ line ++ 10 ∷ after → IsUnended line → ReportsLine sent (content line) before mid
-    → ReportsLines sent after mid final rest → ReportsLines sent bytes before final rest
-reports_one sent bytes line after before mid final rest is unended (inl (nothing, same)) more = record {
+pub passes_one : (sent : List Sent) (bytes line after : List ℕ) (before final : List Reported) (rest : List ℕ) → bytes ≡ line ++ 10 ∷ after
+    → IsUnended line → ReportsNothing (content line) → ReportsLines sent after before final rest → ReportsLines sent bytes before final rest
+passes_one sent bytes line after before final rest is unended nothing more = record {
   lines = line ∷ more.lines;
   reports = more.reports;
   cut = cut_one bytes line after more.lines rest is unended more.cut;
   reported = passes line more.lines more.reports nothing more.reported;
-  joined = more.joined ∙ ap (λ (r : List Reported). r ++ more.reports) same;
+  joined = more.joined;
 }
-reports_one sent bytes line after before mid final rest is unended (inr (report, told, same)) more = record {
+
+pub reports_one : (sent : List Sent) (bytes line after : List ℕ) (before mid final : List Reported) (report : Reported) (rest : List ℕ)
+    → bytes ≡ line ++ 10 ∷ after → IsUnended line → Reports sent (content line) report.tag report.about report.text
+    → mid ≡ before ++ report ∷ [] → ReportsLines sent after mid final rest → ReportsLines sent bytes before final rest
+reports_one sent bytes line after before mid final report rest is unended told same more = record {
   lines = line ∷ more.lines;
   reports = report ∷ more.reports;
   cut = cut_one bytes line after more.lines rest is unended more.cut;
@@ -102,4 +105,25 @@ reports_none sent bytes before unended = record {
   cut = cut_none bytes unended;
   reported = ends;
   joined = sym (append-nil before);
+}
+
+-- ---- all that came
+
+pub sends_all : (bytes : List ℕ) (old new : Dialogue) (after : List Sent) (rest : List ℕ) → SendsLines (old.sending ++ bytes) old.sent after rest
+    → new.sent ≡ after → new.sending ≡ rest → new.hearing ≡ old.hearing → Sends bytes old new
+sends_all bytes old new after rest s sent sending other = record {
+  lines = s.lines;
+  cut = subst (AreCut (old.sending ++ bytes) s.lines) (sym sending) s.cut;
+  added = subst (AllAdd s.lines old.sent) (sym sent) s.added;
+  other = other;
+}
+
+pub hears_all : (bytes : List ℕ) (old new : Dialogue) (all : List Reported) (rest : List ℕ) → ReportsLines old.sent (old.hearing ++ bytes) [] all rest
+    → new.hearing ≡ rest → new.sent ≡ old.sent → new.sending ≡ old.sending → Hears bytes old new all
+hears_all bytes old new all rest s hearing same other = record {
+  lines = s.lines;
+  cut = subst (AreCut (old.hearing ++ bytes) s.lines) (sym hearing) s.cut;
+  reported = subst (AllReport old.sent s.lines) (sym s.joined) s.reported;
+  same = same;
+  other = other;
 }

@@ -1,5 +1,5 @@
 -- What a server reports of the commands that were sent, as the bytes of both sides go by (this profile).
-use Rattle.std.specs.Prelude.{◌≡◌, ◌⊎◌, ℕ, ◌-◌, ◌==◌, Bool, false, List, [], ◌∷◌, ◌++◌, length, take, get_or, Option, if◌then◌else◌}
+use Rattle.std.specs.Prelude.{◌≡◌, ℕ, ◌-◌, ◌==◌, Bool, false, List, [], ◌∷◌, ◌++◌, length, take, get_or, Option, if◌then◌else◌}
 use Rattle.std.specs.List.{AllByRecursion, list_any}
 use Rattle.dme_line.specs.declared.tags.Tag.{Tag}
 use Rattle.session_telling.specs.Sessions.{Adds, Reports, ReportsNothing}
@@ -50,12 +50,7 @@ pub record SendsLines (bytes : List ℕ) (before after : List Sent) (rest : List
   pub cut : AreCut bytes lines rest
   pub added : AllAdd lines before after
 
--- what one line reports joins what was reported before
-abbrev pub ReportsLine : List Sent → List ℕ → List Reported → List Reported → Type 0
-ReportsLine sent line before after = (ReportsNothing line × (after ≡ before))
-    ⊎ ((report : Reported) × Reports sent line report.tag report.about report.text × (after ≡ before ++ report ∷ []))
-
--- likewise for the lines that bytes end
+-- what the lines that bytes end report joins what was reported before
 pub record ReportsLines (sent : List Sent) (bytes : List ℕ) (before after : List Reported) (rest : List ℕ) : Type 0 where
   pub lines : List (List ℕ)
   pub reports : List Reported

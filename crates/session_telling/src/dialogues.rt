@@ -2,7 +2,7 @@
 
 ghost use Rattle.std.specs.Prelude.{◌≡◌, ◌∷◌, ◌++◌, ◌<◌, ◌==◌, [], length, OnOk, IfOk, IfSome, IfNone};
 ghost use Rattle.std.specs.List.{position};
-ghost use Rattle.session_telling.specs.Dialogues.{Hears, IsUnended, ReportsLine, ReportsLines, Sends, SendsLines, content};
+ghost use Rattle.session_telling.specs.Dialogues.{Hears, IsUnended, Sends, content};
 
 use crate::sessions::{Sent, Session};
 use dme_line::Tag;
@@ -82,60 +82,6 @@ fn cut(bytes: &[u8]) -> Option<(&[u8], &[u8])>
     Some((line, rest))
 }
 
-/// The commands of the lines that bytes end are sent; what follows the last of these lines is the answer. Fails only if out of memory.
-fn send_lines<'a>(
-    alloc: Global,
-    session: &mut Session,
-    bytes: &'a [u8],
-) -> Result<&'a [u8], AllocError>
-    ensures { IfOk result (λ rest. SendsLines bytes.now session.old session.new rest.now) }
-{
-    let mut rest = bytes;
-    while let Some((line, after)) = cut(rest) {
-        session.send(alloc, content(line))?;
-        rest = after;
-    }
-    Ok(rest)
-}
-
-fn report_line(
-    alloc: Global,
-    session: &Session,
-    line: &[u8],
-    reports: &mut Vec<Report>,
-) -> Result<(), AllocError>
-    ensures { OnOk result (ReportsLine session.now line.now reports.old.items reports.new.items) }
-{
-    let Some(refusal) = session.refusal(line) else {
-        return Ok(());
-    };
-    let text = Vec::from_slice(alloc, refusal.text)?;
-    let report = Report {
-        tag: refusal.tag,
-        about: refusal.about,
-        text,
-    };
-    reports.push(report)?;
-    Ok(())
-}
-
-/// What the lines that bytes end report is added; what follows the last of these lines is the answer. Fails only if out of memory.
-fn report_lines<'a>(
-    alloc: Global,
-    session: &Session,
-    bytes: &'a [u8],
-    reports: &mut Vec<Report>,
-) -> Result<&'a [u8], AllocError>
-    ensures { IfOk result (λ rest. ReportsLines session.now bytes.now reports.old.items reports.new.items rest.now) }
-{
-    let mut rest = bytes;
-    while let Some((line, after)) = cut(rest) {
-        report_line(alloc, session, content(line), reports)?;
-        rest = after;
-    }
-    Ok(rest)
-}
-
 /// The bytes of both sides of a connection, as they go by, whatever the pieces in which they come. Contracts see the commands that were
 /// sent, and the line of each side that has not ended.
 ///
@@ -172,7 +118,11 @@ impl Dialogue {
         ensures { OnOk result (Sends bytes.now self.old self.new) }
     {
         self.sending.extend_from_slice(bytes)?;
-        let rest = send_lines(alloc, &mut self.session, self.sending.as_slice())?;
+        let mut rest = self.sending.as_slice();
+        while let Some((line, after)) = cut(rest) {
+            self.session.send(alloc, content(line))?;
+            rest = after;
+        }
         self.sending = Vec::from_slice(alloc, rest)?;
         Ok(())
     }
@@ -183,7 +133,18 @@ impl Dialogue {
     {
         self.hearing.extend_from_slice(bytes)?;
         let mut reports = Vec::new(alloc);
-        let rest = report_lines(alloc, &self.session, self.hearing.as_slice(), &mut reports)?;
+        let mut rest = self.hearing.as_slice();
+        while let Some((line, after)) = cut(rest) {
+            if let Some(refusal) = self.session.refusal(content(line)) {
+                let text = Vec::from_slice(alloc, refusal.text)?;
+                reports.push(Report {
+                    tag: refusal.tag,
+                    about: refusal.about,
+                    text,
+                })?;
+            }
+            rest = after;
+        }
         self.hearing = Vec::from_slice(alloc, rest)?;
         Ok(reports)
     }

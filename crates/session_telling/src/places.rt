@@ -15,13 +15,11 @@ pub fn place_of(touches: &[usize], number: usize) -> Option<(usize, usize)>
         return None;
     }
     let mut left = number;
-    let mut at = 0;
-    while at < touches.len() {
+    for at in 0..touches.len() {
         if left <= touches[at] {
             return Some((at, left));
         }
         left -= touches[at];
-        at += 1;
     }
     None
 }
@@ -34,11 +32,5 @@ pub fn line_of(lines: &[Option<u64>], sent: Sent) -> Option<u64>
     if !is_task(sent.kind) || sent.tasks == 0 {
         return None;
     }
-    let Ok(at) = usize::try_from(sent.tasks - 1) else {
-        return None;
-    };
-    match lines.get(at) {
-        Some(line) => *line,
-        None => None,
-    }
+    *lines.get((sent.tasks - 1) as usize)?
 }

@@ -1,7 +1,7 @@
 // The commands that were sent on a connection, and the errors that are about them.
 
-ghost use Rattle.std.specs.Prelude.{◌≡◌, ◌-◌, ◌^◌, ◌+◌, min, [], OnOk, OnErr, IfOk, MatchOption, option_copied};
-ghost use Rattle.session_telling.specs.Sessions.{is_task, touches_of, touches_with, tasks_of, tasks_with, with_command, last_under};
+ghost use Rattle.std.specs.Prelude.{◌≡◌, ◌-◌, [], OnOk, OnErr, MatchOption};
+ghost use Rattle.session_telling.specs.Sessions.{is_task, with_command, last_under};
 ghost use Rattle.session_telling.specs.Sessions.{Adds, Reports, ReportsNothing};
 
 use dme_line::{Kind, MarkSlice, Tag, cut_response, read_command};
@@ -59,25 +59,6 @@ pub fn is_task(kind: Kind) -> bool
     )
 }
 
-/// One more for a command that carries out a statement.
-fn tasks_with(count: u64, kind: Kind) -> u64
-    ensures { result ≡ tasks_with count kind }
-{
-    if is_task(kind) {
-        return count.saturating_add(1);
-    }
-    count
-}
-
-fn touches_with(count: u64, kind: Kind) -> u64
-    ensures { result ≡ touches_with count kind }
-{
-    match kind {
-        Kind::PtMeas => count.saturating_add(1),
-        _ => count,
-    }
-}
-
 impl Session {
     /// Nothing was sent. Does not allocate.
     pub fn new(alloc: Global) -> Session
@@ -88,38 +69,24 @@ impl Session {
         }
     }
 
-    fn touches(&self) -> u64
-        ensures { result ≡ touches_of self.now }
-    {
-        match self.sent.last() {
-            Some(sent) => sent.touches,
-            None => 0,
-        }
-    }
-
-    /// How many commands that carry out statements were sent.
-    fn tasks(&self) -> u64
-        ensures { result ≡ tasks_of self.now }
-    {
-        match self.sent.last() {
-            Some(sent) => sent.tasks,
-            None => 0,
-        }
-    }
-
     fn add(&mut self, tag: Tag, kind: Kind) -> Result<(), AllocError>
         ensures ok { OnOk result (self.new ≡ with_command self.old tag kind) }
         ensures err { OnErr result (self.new ≡ self.old) }
     {
-        let touches = touches_with(self.touches(), kind);
-        let tasks = tasks_with(self.tasks(), kind);
-        let sent = Sent {
+        let mut touches = self.sent.last().map_or(0, |sent| sent.touches);
+        let mut tasks = self.sent.last().map_or(0, |sent| sent.tasks);
+        if let Kind::PtMeas = kind {
+            touches = touches.saturating_add(1);
+        }
+        if is_task(kind) {
+            tasks = tasks.saturating_add(1);
+        }
+        self.sent.push(Sent {
             tag,
             kind,
             touches,
             tasks,
-        };
-        self.sent.push(sent)?;
+        })?;
         Ok(())
     }
 

@@ -1,10 +1,7 @@
-use Rattle.std.proofs.Common.{◌≡◌, ◌+◌, ◌-◌, ◌≤◌, length, take}
+use Rattle.std.proofs.Common.{◌≡◌, ◌+◌, ◌≤◌, take}
 use Rattle.std.specs.List.{sum}
 use Rattle.session_telling.proofs.places.place_of.Given as goal
 
 -- the touches of the features before this one and those that are left
 abbrev pub invariant-loop-at : goal.invariant-loop-at
-invariant-loop-at l = (l.fn.number ≡ sum (take l.at l.touches) + l.left) × (l.at ≤ length l.touches) × (1 ≤ l.left)
-
-abbrev pub decreases-loop-at : goal.decreases-loop-at
-decreases-loop-at l = length l.touches - l.at
+invariant-loop-at l = (l.fn.number ≡ sum (take l.at l.touches) + l.left) × (1 ≤ l.left)
